@@ -1,6 +1,8 @@
 // How a command ends.
-use cc_outside::WriteEnd;
-use spv_words::{Fault, Limit, Refusal};
+ghost use Rattle.std.specs.Prelude.{◌≡◌};
+ghost use Rattle.cross_core.specs.Endings.{status_of};
+
+use spv_words::{Limit, Refusal};
 
 /// How a command ended.
 #[derive(Clone, Copy, Debug, PartialEq, Eq)]
@@ -16,7 +18,9 @@ pub enum Ending {
 
 impl Ending {
     /// The exit status.
-    pub fn status(&self) -> u8 {
+    pub fn status(&self) -> u8
+        ensures { result ≡ status_of self.now }
+    {
         match self {
             Ending::Done => 0,
             Ending::Usage => 1,
@@ -25,25 +29,6 @@ impl Ending {
             Ending::ReadFault => 4,
             Ending::WriteFault => 5,
             Ending::Memory => 6,
-        }
-    }
-}
-
-impl From<Fault> for Ending {
-    fn from(fault: Fault) -> Ending {
-        match fault {
-            Fault::Refused(refusal) => Ending::Refused(refusal),
-            Fault::Limit(limit) => Ending::Limit(limit),
-            Fault::Memory => Ending::Memory,
-        }
-    }
-}
-
-impl From<WriteEnd> for Ending {
-    fn from(end: WriteEnd) -> Ending {
-        match end {
-            WriteEnd::Fault => Ending::WriteFault,
-            WriteEnd::Memory => Ending::Memory,
         }
     }
 }

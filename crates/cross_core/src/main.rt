@@ -3,13 +3,19 @@
 
 mod commands;
 mod endings;
+mod expressions;
 mod forms;
+mod judge;
 mod maker;
 mod notes;
-mod text;
+mod plan;
+mod statements;
+#[cfg(test)]
+mod tests;
 mod top;
 
 use cc_outside::{StdSink, StdSource};
+use endings::Ending;
 use std::process::ExitCode;
 use std::{env, io};
 
@@ -34,7 +40,7 @@ fn main(rt: HostRuntime) -> ExitCode {
         Ok(status) => ExitCode::from(status),
         Err(_) => {
             let mut notes = StdSink::new(rt.stderr());
-            let _ = notes::usage(&mut notes);
+            notes::say(Ending::Usage, &mut notes);
             ExitCode::from(1)
         }
     }

@@ -1,54 +1,113 @@
-// The line in notes that says how a command ended.
+// The line in notes that says how a command ended. It takes no memory.
+ghost use Rattle.std.specs.Prelude.{◌≡◌, ◌∷◌, []};
+ghost use Rattle.std.specs.Fmt.{decimal};
+ghost use Rattle.spv_words.specs.Rule.{letter_of, number_of};
+ghost use Rattle.cross_core.specs.Wrote.{Wrote, Goes, Said};
+ghost use Rattle.cross_core.specs.Lines.{refusal_line, limit_line, plain_line, line_of};
+ghost use Rattle.cross_core.specs.declared.endings.Ending.TheVariants.{Done};
+
 use crate::endings::Ending;
 use cc_outside::{Sink, WriteEnd, write_all};
 use itoa::Buffer;
-use spv_words::{Limit, Refusal};
+use spv_words::{Limit, Refusal, Rule};
 
 type Status = Result<(), WriteEnd>;
 
-/// The line on a faulty command line.
-pub fn usage<N: Sink>(notes: &mut N) -> Status {
-    write_all(
-        notes,
-        b"usage: cross glsl|check|report [--entry NAME] [ID=VALUE]... or cross gen NUMBER\n",
-    )
-}
-
-fn number<N: Sink>(notes: &mut N, n: u32) -> Status {
-    let mut buffer = Buffer::new();
-    write_all(notes, buffer.format(n).as_bytes())
-}
-
-fn refused<N: Sink>(notes: &mut N, refusal: Refusal) -> Status {
-    write_all(notes, b"refused ")?;
-    write_all(notes, &[refusal.rule.letter()])?;
-    number(notes, u32::from(refusal.rule.number()))?;
-    write_all(notes, b" at ")?;
-    number(notes, refusal.at)?;
-    write_all(notes, b"\n")
-}
-
-fn limit<N: Sink>(notes: &mut N, limit: Limit) -> Status {
-    match limit {
-        Limit::Bytes => write_all(notes, b"limit bytes 1048576\n"),
-        Limit::Bound => write_all(notes, b"limit bound 262144\n"),
-        Limit::Depth => write_all(notes, b"limit depth 127\n"),
-        Limit::Types => write_all(notes, b"limit types 15\n"),
-        Limit::Parts => write_all(notes, b"limit parts 16384\n"),
-        Limit::Calls => write_all(notes, b"limit calls 64\n"),
-        Limit::Leaves => write_all(notes, b"limit leaves 262144\n"),
+/// Writes bytes, where nothing ended the writing before.
+fn put<N: Sink>(bytes: &[u8], notes: &mut N, status: Status) -> Status
+    ensures { Goes N.written N.faults N.wants notes.old status bytes.now notes.new result }
+{
+    match status {
+        Ok(()) => write_all(notes, bytes),
+        Err(end) => Err(end),
     }
 }
 
-/// Says how a command ended. Nothing is said where it was done.
-pub fn say<N: Sink>(notes: &mut N, ending: Ending) -> Status {
+fn put_number<N: Sink>(number: u32, notes: &mut N, status: Status) -> Status
+    ensures { Goes N.written N.faults N.wants notes.old status (decimal number) notes.new result }
+{
+    let mut buffer = Buffer::new();
+    put(buffer.format(number).as_bytes(), notes, status)
+}
+
+fn say_bytes<N: Sink>(line: &[u8], notes: &mut N) -> Status
+    ensures { Wrote N.written N.faults N.wants notes.old notes.new line.now result }
+{
+    write_all(notes, line)
+}
+
+fn put_letter<N: Sink>(rule: Rule, notes: &mut N, status: Status) -> Status
+    ensures { Goes N.written N.faults N.wants notes.old status (letter_of rule ∷ []) notes.new result }
+{
+    put(&[rule.letter()], notes, status)
+}
+
+fn put_rule_number<N: Sink>(rule: Rule, notes: &mut N, status: Status) -> Status
+    ensures { Goes N.written N.faults N.wants notes.old status (decimal (number_of rule)) notes.new result }
+{
+    put_number(u32::from(rule.number()), notes, status)
+}
+
+fn say_refusal<N: Sink>(refusal: Refusal, notes: &mut N) -> Status
+    ensures { Wrote N.written N.faults N.wants notes.old notes.new (refusal_line refusal.rule refusal.at) result }
+{
+    let refused = put(b"refused ", notes, Ok(()));
+    let letter = put_letter(refusal.rule, notes, refused);
+    let number = put_rule_number(refusal.rule, notes, letter);
+    let at = put(b" at ", notes, number);
+    let word = put_number(refusal.at, notes, at);
+    put(b"\n", notes, word)
+}
+
+/// The line on a limit.
+#[tactic(auto, unfolding(crate::specs::Lines::limit_line))]
+fn limit_bytes(limit: Limit) -> &'static [u8]
+    ensures { result.now ≡ limit_line limit }
+{
+    match limit {
+        Limit::Bytes => b"limit bytes 1048576\n",
+        Limit::Bound => b"limit bound 262144\n",
+        Limit::Depth => b"limit depth 127\n",
+        Limit::Types => b"limit types 15\n",
+        Limit::Parts => b"limit parts 16384\n",
+        Limit::Calls => b"limit calls 64\n",
+        Limit::Leaves => b"limit leaves 262144\n",
+    }
+}
+
+/// The line of an ending that is no refusal.
+#[tactic(auto, unfolding(crate::specs::Lines::plain_line))]
+fn plain_bytes(ending: Ending) -> &'static [u8]
+    ensures { result.now ≡ plain_line ending }
+{
+    match ending {
+        Ending::Done | Ending::Refused(_) => b"",
+        Ending::Usage => {
+            b"usage: cross glsl|check|report [--entry NAME] [ID=VALUE]... or cross gen NUMBER\n"
+        }
+        Ending::Limit(exceeded) => limit_bytes(exceeded),
+        Ending::ReadFault => b"read fault\n",
+        Ending::WriteFault => b"write fault\n",
+        Ending::Memory => b"memory\n",
+    }
+}
+
+fn say_line<N: Sink>(ending: Ending, notes: &mut N) -> Status
+    ensures line { Wrote N.written N.faults N.wants notes.old notes.new (line_of ending) result }
+    ensures quiet { ending ≡ Done → notes.new ≡ notes.old }
+{
     match ending {
         Ending::Done => Ok(()),
-        Ending::Usage => usage(notes),
-        Ending::Refused(refusal) => refused(notes, refusal),
-        Ending::Limit(passed) => limit(notes, passed),
-        Ending::ReadFault => write_all(notes, b"read fault\n"),
-        Ending::WriteFault => write_all(notes, b"write fault\n"),
-        Ending::Memory => write_all(notes, b"memory\n"),
+        Ending::Refused(refusal) => say_refusal(refusal, notes),
+        _ => say_bytes(plain_bytes(ending), notes),
     }
+}
+
+/// Says in a line how a command ended, and nothing where all was done. Whether that fails changes nothing else.
+#[tactic(auto, using(crate::proofs::Writes::said))]
+pub fn say<N: Sink>(ending: Ending, notes: &mut N)
+    ensures line { Said N.written N.faults N.wants notes.old notes.new (line_of ending) }
+    ensures quiet { ending ≡ Done → notes.new ≡ notes.old }
+{
+    let _ = say_line(ending, notes);
 }

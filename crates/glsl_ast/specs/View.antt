@@ -1,5 +1,5 @@
 -- The plain tree that a value of the code's types stands for.
-use Rattle.std.specs.Prelude.{List, [], ◌∷◌, Option, Some, None, map, option_map, string_bytes}
+use Rattle.std.specs.Prelude.{List, Some, None, map, option_map, string_bytes}
 use Rattle.glsl_ast.specs.Tree as tree
 use Rattle.glsl_ast.specs.declared.types.Base.{Base}
 use Rattle.glsl_ast.specs.declared.types.Base.TheVariants as base
@@ -88,6 +88,9 @@ arm_of = fold-Arm tree.Stmt tree.Arm stmt_step arm_step
 
 abbrev pub stmts_of : List Stmt → tree.Stmts
 stmts_of l = tree.stmts_in (map stmt_of l)
+
+abbrev pub arms_of : List Arm → tree.Arms
+arms_of l = tree.arms_in (map arm_of l)
 
 abbrev pub field_of : Field → tree.Field
 field_of f = tree.field (type_of f.ty) (string_bytes f.name)

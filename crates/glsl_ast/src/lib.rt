@@ -1,9 +1,12 @@
 // The trees of a GLSL text: one type for each production of the grammar, one variant for each alternative.
 #![tactic(auto)]
 
+mod copying;
 mod expressions;
 mod items;
 mod statements;
+#[cfg(test)]
+mod tests;
 mod types;
 
 pub use expressions::{BinOp, Expr, Literal};

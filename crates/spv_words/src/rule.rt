@@ -1,11 +1,16 @@
-// A rule that a module may break, the place where it does, and the limits.
+// Why a module is not translated: a rule that it breaks, a limit that it passes, or memory.
 ghost use Rattle.std.specs.Prelude.{◌≡◌};
 ghost use Rattle.spv_words.specs.declared.rule.Fault.TheVariants.{Memory};
-ghost use Rattle.spv_words.specs.Rule.{letter_of, number_of};
+ghost use Rattle.spv_words.specs.Rule.{letter_of, number_of, name_of};
+ghost use Rattle.spv_words.specs.Limit.{limit_number, limit_name};
 
 use std::alloc::{AllocError, AllocFailed};
 
 /// A rule of the profile.
+///
+/// W: the words; X: the entry point and the overrides; P: the module's instructions, and what it
+/// declares; T: the types of operands; L: the layout of blocks; M: memory; A: atomics and barriers;
+/// K: structured control flow. P0 stands for what is not built yet.
 #[derive(Clone, Copy, Debug, PartialEq, Eq)]
 pub enum Rule {
     W1,
@@ -17,11 +22,11 @@ pub enum Rule {
     W7,
     W8,
     W9,
-    P0,
     X1,
     X2,
     X3,
     X4,
+    P0,
     P1,
     P2,
     P3,
@@ -94,6 +99,119 @@ pub enum Rule {
     K7,
     K8,
     K9,
+    K10,
+    K11,
+}
+
+impl Rule {
+    /// The letter of the rule's group.
+    pub fn letter(&self) -> u8
+        ensures { result ≡ letter_of self.now }
+    {
+        self.name().0
+    }
+
+    /// The rule's number in its group.
+    pub fn number(&self) -> u8
+        ensures { result ≡ number_of self.now }
+    {
+        self.name().1
+    }
+
+    fn name(&self) -> (u8, u8)
+        ensures { result ≡ name_of self.now }
+    {
+        match self {
+            Rule::W1 => (b'W', 1),
+            Rule::W2 => (b'W', 2),
+            Rule::W3 => (b'W', 3),
+            Rule::W4 => (b'W', 4),
+            Rule::W5 => (b'W', 5),
+            Rule::W6 => (b'W', 6),
+            Rule::W7 => (b'W', 7),
+            Rule::W8 => (b'W', 8),
+            Rule::W9 => (b'W', 9),
+            Rule::X1 => (b'X', 1),
+            Rule::X2 => (b'X', 2),
+            Rule::X3 => (b'X', 3),
+            Rule::X4 => (b'X', 4),
+            Rule::P0 => (b'P', 0),
+            Rule::P1 => (b'P', 1),
+            Rule::P2 => (b'P', 2),
+            Rule::P3 => (b'P', 3),
+            Rule::P4 => (b'P', 4),
+            Rule::P5 => (b'P', 5),
+            Rule::P6 => (b'P', 6),
+            Rule::P7 => (b'P', 7),
+            Rule::P8 => (b'P', 8),
+            Rule::P9 => (b'P', 9),
+            Rule::P10 => (b'P', 10),
+            Rule::P11 => (b'P', 11),
+            Rule::P12 => (b'P', 12),
+            Rule::P13 => (b'P', 13),
+            Rule::P14 => (b'P', 14),
+            Rule::P15 => (b'P', 15),
+            Rule::P16 => (b'P', 16),
+            Rule::P17 => (b'P', 17),
+            Rule::P18 => (b'P', 18),
+            Rule::P19 => (b'P', 19),
+            Rule::P20 => (b'P', 20),
+            Rule::T1 => (b'T', 1),
+            Rule::T2 => (b'T', 2),
+            Rule::T3 => (b'T', 3),
+            Rule::T4 => (b'T', 4),
+            Rule::T5 => (b'T', 5),
+            Rule::T6 => (b'T', 6),
+            Rule::T7 => (b'T', 7),
+            Rule::T8 => (b'T', 8),
+            Rule::T9 => (b'T', 9),
+            Rule::T10 => (b'T', 10),
+            Rule::T11 => (b'T', 11),
+            Rule::T12 => (b'T', 12),
+            Rule::T13 => (b'T', 13),
+            Rule::T14 => (b'T', 14),
+            Rule::T15 => (b'T', 15),
+            Rule::T16 => (b'T', 16),
+            Rule::T17 => (b'T', 17),
+            Rule::T18 => (b'T', 18),
+            Rule::T19 => (b'T', 19),
+            Rule::T20 => (b'T', 20),
+            Rule::T21 => (b'T', 21),
+            Rule::T22 => (b'T', 22),
+            Rule::T23 => (b'T', 23),
+            Rule::T24 => (b'T', 24),
+            Rule::T25 => (b'T', 25),
+            Rule::L1 => (b'L', 1),
+            Rule::L2 => (b'L', 2),
+            Rule::L3 => (b'L', 3),
+            Rule::L4 => (b'L', 4),
+            Rule::L5 => (b'L', 5),
+            Rule::L6 => (b'L', 6),
+            Rule::L7 => (b'L', 7),
+            Rule::M1 => (b'M', 1),
+            Rule::M2 => (b'M', 2),
+            Rule::M3 => (b'M', 3),
+            Rule::M4 => (b'M', 4),
+            Rule::M5 => (b'M', 5),
+            Rule::M6 => (b'M', 6),
+            Rule::A1 => (b'A', 1),
+            Rule::A2 => (b'A', 2),
+            Rule::A3 => (b'A', 3),
+            Rule::A4 => (b'A', 4),
+            Rule::A5 => (b'A', 5),
+            Rule::K1 => (b'K', 1),
+            Rule::K2 => (b'K', 2),
+            Rule::K3 => (b'K', 3),
+            Rule::K4 => (b'K', 4),
+            Rule::K5 => (b'K', 5),
+            Rule::K6 => (b'K', 6),
+            Rule::K7 => (b'K', 7),
+            Rule::K8 => (b'K', 8),
+            Rule::K9 => (b'K', 9),
+            Rule::K10 => (b'K', 10),
+            Rule::K11 => (b'K', 11),
+        }
+    }
 }
 
 /// A rule, and the word at which it is broken.
@@ -103,7 +221,7 @@ pub struct Refusal {
     pub at: u32,
 }
 
-/// A number that a module may pass.
+/// A quantity that has a largest number.
 #[derive(Clone, Copy, Debug, PartialEq, Eq)]
 pub enum Limit {
     Bytes,
@@ -113,6 +231,54 @@ pub enum Limit {
     Parts,
     Calls,
     Leaves,
+}
+
+impl Limit {
+    /// The largest number that is taken.
+    pub fn number(&self) -> u32
+        ensures { result ≡ limit_number self.now }
+    {
+        match self {
+            Limit::Bytes => 1048576,
+            Limit::Bound => 262144,
+            Limit::Depth => 127,
+            Limit::Types => 15,
+            Limit::Parts => 16384,
+            Limit::Calls => 64,
+            Limit::Leaves => 262144,
+        }
+    }
+
+    /// The quantity's name.
+    pub fn name(&self) -> &'static str
+        ensures { result.now ≡ limit_name self.now }
+    {
+        match self {
+            Limit::Bytes => "bytes",
+            Limit::Bound => "bound",
+            Limit::Depth => "depth",
+            Limit::Types => "types",
+            Limit::Parts => "parts",
+            Limit::Calls => "calls",
+            Limit::Leaves => "leaves",
+        }
+    }
+}
+
+/// There was no memory.
+#[derive(Clone, Copy, Debug, PartialEq, Eq)]
+pub struct Memory;
+
+impl From<AllocError> for Memory {
+    fn from(_: AllocError) -> Memory {
+        Memory
+    }
+}
+
+impl<T: Drop> From<AllocFailed<T>> for Memory {
+    fn from(_: AllocFailed<T>) -> Memory {
+        Memory
+    }
 }
 
 /// Why there is no answer.
@@ -139,118 +305,10 @@ impl<T: Drop> From<AllocFailed<T>> for Fault {
     }
 }
 
-impl Rule {
-    /// The letter of the rule's group.
-    pub fn letter(&self) -> u8
-        ensures { result ≡ letter_of self.now }
-    {
-        match self {
-            Rule::W1
-            | Rule::W2
-            | Rule::W3
-            | Rule::W4
-            | Rule::W5
-            | Rule::W6
-            | Rule::W7
-            | Rule::W8
-            | Rule::W9 => b'W',
-            Rule::X1 | Rule::X2 | Rule::X3 | Rule::X4 => b'X',
-            Rule::P0
-            | Rule::P1
-            | Rule::P2
-            | Rule::P3
-            | Rule::P4
-            | Rule::P5
-            | Rule::P6
-            | Rule::P7
-            | Rule::P8
-            | Rule::P9
-            | Rule::P10
-            | Rule::P11
-            | Rule::P12
-            | Rule::P13
-            | Rule::P14
-            | Rule::P15
-            | Rule::P16
-            | Rule::P17
-            | Rule::P18
-            | Rule::P19
-            | Rule::P20 => b'P',
-            Rule::T1
-            | Rule::T2
-            | Rule::T3
-            | Rule::T4
-            | Rule::T5
-            | Rule::T6
-            | Rule::T7
-            | Rule::T8
-            | Rule::T9
-            | Rule::T10
-            | Rule::T11
-            | Rule::T12
-            | Rule::T13
-            | Rule::T14
-            | Rule::T15
-            | Rule::T16
-            | Rule::T17
-            | Rule::T18
-            | Rule::T19
-            | Rule::T20
-            | Rule::T21
-            | Rule::T22
-            | Rule::T23
-            | Rule::T24
-            | Rule::T25 => b'T',
-            Rule::L1 | Rule::L2 | Rule::L3 | Rule::L4 | Rule::L5 | Rule::L6 | Rule::L7 => b'L',
-            Rule::M1 | Rule::M2 | Rule::M3 | Rule::M4 | Rule::M5 | Rule::M6 => b'M',
-            Rule::A1 | Rule::A2 | Rule::A3 | Rule::A4 | Rule::A5 => b'A',
-            Rule::K1
-            | Rule::K2
-            | Rule::K3
-            | Rule::K4
-            | Rule::K5
-            | Rule::K6
-            | Rule::K7
-            | Rule::K8
-            | Rule::K9 => b'K',
-        }
-    }
+impl From<Memory> for Fault {
+    ghost from_gives = { λ _ e. e ≡ Memory };
 
-    /// The rule's number in its group.
-    pub fn number(&self) -> u8
-        ensures { result ≡ number_of self.now }
-    {
-        match self {
-            Rule::P0 => 0,
-            Rule::W1 | Rule::X1 | Rule::P1 | Rule::T1 | Rule::L1 | Rule::M1 | Rule::A1 | Rule::K1 =>
-                1,
-            Rule::W2 | Rule::X2 | Rule::P2 | Rule::T2 | Rule::L2 | Rule::M2 | Rule::A2 | Rule::K2 =>
-                2,
-            Rule::W3 | Rule::X3 | Rule::P3 | Rule::T3 | Rule::L3 | Rule::M3 | Rule::A3 | Rule::K3 =>
-                3,
-            Rule::W4 | Rule::X4 | Rule::P4 | Rule::T4 | Rule::L4 | Rule::M4 | Rule::A4 | Rule::K4 =>
-                4,
-            Rule::W5 | Rule::P5 | Rule::T5 | Rule::L5 | Rule::M5 | Rule::A5 | Rule::K5 => 5,
-            Rule::W6 | Rule::P6 | Rule::T6 | Rule::L6 | Rule::M6 | Rule::K6 => 6,
-            Rule::W7 | Rule::P7 | Rule::T7 | Rule::L7 | Rule::K7 => 7,
-            Rule::W8 | Rule::P8 | Rule::T8 | Rule::K8 => 8,
-            Rule::W9 | Rule::P9 | Rule::T9 | Rule::K9 => 9,
-            Rule::P10 | Rule::T10 => 10,
-            Rule::P11 | Rule::T11 => 11,
-            Rule::P12 | Rule::T12 => 12,
-            Rule::P13 | Rule::T13 => 13,
-            Rule::P14 | Rule::T14 => 14,
-            Rule::P15 | Rule::T15 => 15,
-            Rule::P16 | Rule::T16 => 16,
-            Rule::P17 | Rule::T17 => 17,
-            Rule::P18 | Rule::T18 => 18,
-            Rule::P19 | Rule::T19 => 19,
-            Rule::P20 | Rule::T20 => 20,
-            Rule::T21 => 21,
-            Rule::T22 => 22,
-            Rule::T23 => 23,
-            Rule::T24 => 24,
-            Rule::T25 => 25,
-        }
+    fn from(_: Memory) -> Fault {
+        Fault::Memory
     }
 }

@@ -1,0 +1,4 @@
+pub mod Bodies
+pub mod Ends
+pub mod Grammar
+pub mod Writes

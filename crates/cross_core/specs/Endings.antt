@@ -1,0 +1,83 @@
+-- Why a command ended so, and what it did to its input and output.
+use Rattle.std.specs.Prelude.{ℕ, ◌≡◌, ◌≤◌, ◌⊎◌, List, Option, IfSome}
+use Rattle.std.specs.Io.KnownBytes.{Appends, IsAtEnd}
+use Rattle.cc_outside.specs.Causes.{Rose, AppendsPrefix}
+use Rattle.spv_words.specs.Words.{words}
+use Rattle.spv_words.specs.declared.rule.Rule.TheVariants.{P0}
+use Rattle.profile_rules.specs.Rules.{Exceeds, IsWithinLimits}
+use Rattle.cross_core.specs.declared.commands.Command.{Command}
+use Rattle.cross_core.specs.declared.endings.Ending.{Ending}
+use Rattle.cross_core.specs.declared.endings.Ending.TheVariants.{Done, Usage, Refused, Limit, ReadFault, WriteFault, Memory}
+use Rattle.cross_core.specs.Commands.{Meets, BreaksFor, IsAnswer}
+use Rattle.cross_core.specs.FirstForm.{IsFirstForm}
+
+-- the exit status
+abbrev pub status_of : Ending → ℕ
+status_of Done = 0
+status_of Usage = 1
+status_of (Refused r) = 2
+status_of (Limit l) = 3
+status_of ReadFault = 4
+status_of WriteFault = 5
+status_of Memory = 6
+
+-- what the bytes of the module are, where a command ended so over them
+abbrev pub IsCause : Command → List ℕ → Ending → Type 0
+IsCause command bytes Done = Meets command bytes × IsWithinLimits bytes
+IsCause command bytes Usage = ⊥
+IsCause command bytes (Refused r) = BreaksFor command bytes r.rule r.at
+IsCause command bytes (Limit l) = Exceeds bytes l
+IsCause command bytes ReadFault = ⊥
+IsCause command bytes WriteFault = Meets command bytes × IsWithinLimits bytes
+IsCause command bytes Memory = Unit {0}
+
+-- what the words are, where their translation ended so
+abbrev pub IsGlslCause : List ℕ → Ending → Type 0
+IsGlslCause ws Done = IsFirstForm ws
+IsGlslCause ws Usage = ⊥
+IsGlslCause ws (Refused r) = (r ≡ record { rule = P0; at = 0 }) × (IsFirstForm ws → ⊥)
+IsGlslCause ws (Limit l) = ⊥
+IsGlslCause ws ReadFault = ⊥
+IsGlslCause ws WriteFault = IsFirstForm ws
+IsGlslCause ws Memory = Unit {0}
+
+-- all was written, or the writing ended
+abbrev pub IsEndOfWriting : Ending → Type 0
+IsEndOfWriting Done = Unit {0}
+IsEndOfWriting Usage = ⊥
+IsEndOfWriting (Refused r) = ⊥
+IsEndOfWriting (Limit l) = ⊥
+IsEndOfWriting ReadFault = ⊥
+IsEndOfWriting WriteFault = Unit {0}
+IsEndOfWriting Memory = Unit {0}
+
+-- over a source: why a command ended so, where the source tells what was left
+abbrev pub HasCause : Command → Option (List ℕ) → (before now : ℕ) → Ending → Type 0
+HasCause command left before now Usage = ⊥
+HasCause command left before now ReadFault = Rose before now
+HasCause command left before now ending = IfSome left (λ bytes. IsCause command bytes ending)
+
+-- the source was read to its end
+abbrev pub IsRead : Option (List ℕ) → Ending → Type 0
+IsRead left Done = IsAtEnd left
+IsRead left (Refused r) = IsAtEnd left
+IsRead left WriteFault = IsAtEnd left
+IsRead left _ = Unit {0}
+
+-- the front of an answer was appended
+abbrev pub AppendsFront : (List ℕ → Type 0) → Option (List ℕ) → Option (List ℕ) → Type 0
+AppendsFront IsText old new = (text : List ℕ) × IsText text × AppendsPrefix old new text
+
+-- all of an answer was appended
+abbrev pub AppendsAll : (List ℕ → Type 0) → Option (List ℕ) → Option (List ℕ) → Type 0
+AppendsAll IsText old new = (text : List ℕ) × IsText text × Appends old new text
+
+-- what stands in the sink: an answer at the end, a front of one after a fault or want of memory, and else what stood there
+abbrev pub IsOutput : {K : Type 0} → (K → Option (List ℕ)) → (K → ℕ) → (List ℕ → Type 0) → K → K → Ending → Type 0
+IsOutput written faults IsText old new Done = AppendsAll IsText (written old) (written new)
+IsOutput written faults IsText old new Usage = new ≡ old
+IsOutput written faults IsText old new (Refused r) = new ≡ old
+IsOutput written faults IsText old new (Limit l) = new ≡ old
+IsOutput written faults IsText old new ReadFault = new ≡ old
+IsOutput written faults IsText old new WriteFault = Rose (faults old) (faults new) × AppendsFront IsText (written old) (written new)
+IsOutput written faults IsText old new Memory = (new ≡ old) ⊎ AppendsFront IsText (written old) (written new)

@@ -1,0 +1,15 @@
+pub mod Words
+pub mod Hexadecimal
+pub mod Names
+pub mod Pieces
+pub mod MarkTokens
+pub mod ExprTokens
+pub mod StmtTokens
+pub mod LexBack
+pub mod LexExamples
+pub mod ReadExprs
+pub mod ReadStmts
+pub mod ReadItems
+pub mod ReadBack
+pub mod ReadsBack
+pub mod ReadingExample

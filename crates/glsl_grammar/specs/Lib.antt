@@ -1,0 +1,10 @@
+pub mod Marks
+pub mod Token
+pub mod Lex
+pub mod Parsers
+pub mod Read
+pub mod Reading
+pub mod Layout
+pub mod Spelled
+pub mod Scopes
+pub mod InGrammar

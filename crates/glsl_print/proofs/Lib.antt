@@ -1,0 +1,4 @@
+pub mod Levels
+pub mod Parts
+pub mod Steps
+pub mod Reading

@@ -1,0 +1,4 @@
+pub mod Printed
+pub mod Level
+pub mod Parts
+pub mod Reads

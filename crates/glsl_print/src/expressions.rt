@@ -1,0 +1,119 @@
+// Expressions.
+ghost use Rattle.std.specs.Prelude.{◌≡◌, ◌++◌};
+ghost use Rattle.glsl_ast.specs.View.{expr_of, exprs_of};
+ghost use Rattle.glsl_grammar.specs.Layout.{op_mark as mark_of, expr_text, args_text};
+ghost use Rattle.glsl_grammar.specs.Marks.{mark_text};
+ghost use Rattle.glsl_print.specs.Parts.{separator_text};
+ghost use Rattle.glsl_print.specs.Printed.{Goes};
+
+use crate::page::Page;
+use crate::types::{print_literal, print_type};
+use cc_outside::Sink;
+use glsl_ast::{BinOp, Expr};
+use glsl_grammar::Mark;
+
+fn op_mark(op: BinOp) -> Mark
+    ensures { result ≡ mark_of op }
+{
+    match op {
+        BinOp::Add => Mark::Add,
+        BinOp::Sub => Mark::Sub,
+        BinOp::Mul => Mark::Mul,
+        BinOp::Div => Mark::Div,
+        BinOp::Rem => Mark::Rem,
+        BinOp::Shl => Mark::Shl,
+        BinOp::Shr => Mark::Shr,
+        BinOp::And => Mark::And,
+        BinOp::Or => Mark::Or,
+        BinOp::Xor => Mark::Xor,
+        BinOp::Less => Mark::Less,
+        BinOp::LessEqual => Mark::LessEqual,
+        BinOp::Greater => Mark::Greater,
+        BinOp::GreaterEqual => Mark::GreaterEqual,
+        BinOp::Equal => Mark::Equal,
+        BinOp::NotEqual => Mark::NotEqual,
+        BinOp::Both => Mark::Both,
+        BinOp::Either => Mark::Either,
+    }
+}
+
+/// Prints an expression. Each operation stands in parentheses.
+#[cycle(expression)]
+#[tactic(auto, using(glsl_ast::proofs::Views::expr_rows))]
+pub fn print_expr<K: Sink>(expr: &Expr, sink: &mut K, page: &mut Page)
+    ensures { Goes K.written K.faults K.wants sink.old page.old (expr_text (expr_of expr.now)) sink.new page.new }
+{
+    match expr {
+        Expr::Literal(literal) => print_literal(*literal, sink, page),
+        Expr::Name(name) => page.put(name.as_bytes(), sink),
+        Expr::Build(ty, args) => {
+            print_type(ty, sink, page);
+            print_args(args, sink, page);
+        }
+        Expr::Call(name, args) => {
+            page.put(name.as_bytes(), sink);
+            print_args(args, sink, page);
+        }
+        Expr::Not(of) => print_unary(Mark::Not, of, sink, page),
+        Expr::Flip(of) => print_unary(Mark::Flip, of, sink, page),
+        Expr::Binary(op, left, right) => {
+            page.put_mark(Mark::Open, sink);
+            print_part(left, op_mark(*op), sink, page);
+            print_part(right, Mark::Close, sink, page);
+        }
+        Expr::Choose(test, yes, no) => {
+            page.put_mark(Mark::Open, sink);
+            print_part(test, Mark::Question, sink, page);
+            print_part(yes, Mark::Otherwise, sink, page);
+            print_part(no, Mark::Close, sink, page);
+        }
+        Expr::Member(of, name) => {
+            print_part(of, Mark::Dot, sink, page);
+            page.put(name.as_bytes(), sink);
+        }
+        Expr::Index(of, at) => {
+            print_part(of, Mark::BracketOpen, sink, page);
+            print_part(at, Mark::BracketClose, sink, page);
+        }
+        Expr::Length(of) => print_part(of, Mark::Length, sink, page),
+    }
+}
+
+/// Prints an expression, and what follows it.
+#[cycle(expression)]
+pub fn print_part<K: Sink>(expr: &Expr, after: Mark, sink: &mut K, page: &mut Page)
+    ensures { Goes K.written K.faults K.wants sink.old page.old (expr_text (expr_of expr.now) ++ mark_text after) sink.new page.new }
+{
+    print_expr(expr, sink, page);
+    page.put_mark(after, sink);
+}
+
+#[cycle(expression)]
+fn print_unary<K: Sink>(sign: Mark, of: &Expr, sink: &mut K, page: &mut Page)
+    ensures { Goes K.written K.faults K.wants sink.old page.old (mark_text sign ++ (expr_text (expr_of of.now) ++ mark_text Mark.Close)) sink.new page.new }
+{
+    page.put_mark(sign, sink);
+    print_part(of, Mark::Close, sink, page);
+}
+
+/// Prints arguments in parentheses.
+#[cycle(expression)]
+pub fn print_args<K: Sink>(args: &[Expr], sink: &mut K, page: &mut Page)
+    ensures { Goes K.written K.faults K.wants sink.old page.old (mark_text Mark.Open ++ args_text (exprs_of args.now)) sink.new page.new }
+{
+    page.put_mark(Mark::Open, sink);
+    for (i, arg) in args.iter().enumerate() {
+        print_separator(i, sink, page);
+        print_expr(arg, sink, page);
+    }
+    page.put_mark(Mark::Close, sink);
+}
+
+// Prints what stands before the part at this index of a list.
+pub fn print_separator<K: Sink>(i: usize, sink: &mut K, page: &mut Page)
+    ensures { Goes K.written K.faults K.wants sink.old page.old (separator_text i) sink.new page.new }
+{
+    if i > 0 {
+        page.put_mark(Mark::Comma, sink);
+    }
+}

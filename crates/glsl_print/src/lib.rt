@@ -1,0 +1,16 @@
+// The text of a unit, handed to a sink in pieces.
+#![tactic(auto)]
+
+mod end;
+mod expressions;
+mod items;
+mod level;
+mod page;
+mod printing;
+mod statements;
+#[cfg(test)]
+mod tests;
+mod types;
+
+pub use end::PrintEnd;
+pub use printing::print;

@@ -1,0 +1,109 @@
+// The piece of a text that is not yet handed to the sink.
+ghost use Rattle.std.specs.Prelude.{◌≡◌, ◌+◌, ◌++◌, ◌≤◌, [], Ok, length};
+ghost use Rattle.glsl_grammar.specs.Marks.{mark_text};
+ghost use Rattle.glsl_print.specs.Printed.{Goes};
+
+use crate::PrintEnd;
+use cc_outside::{Sink, WriteEnd, write_all};
+use glsl_grammar::Mark;
+use std::marker::Model;
+
+/// The number of bytes that the sink is handed at once.
+const PIECE: usize = 4096;
+
+/// The bytes that the sink was not handed yet, and how the printing stands. After an end it hands the sink nothing.
+#[derive(Drop)]
+pub struct Page {
+    bytes: [u8; PIECE],
+    len: usize,
+    status: Status,
+}
+
+type Status = Result<(), PrintEnd>;
+
+// Hands the sink bytes, unless the printing has ended.
+fn hand<K: Sink>(bytes: &[u8], sink: &mut K, status: Status) -> Status
+    ensures { Goes K.written K.faults K.wants sink.old (record { held = bytes.now; status = status }) [] sink.new (record { held = []; status = result }) }
+{
+    status?;
+    match write_all(sink, bytes) {
+        Ok(()) => Ok(()),
+        Err(WriteEnd::Fault) => Err(PrintEnd::Fault),
+        Err(WriteEnd::Memory) => Err(PrintEnd::Memory),
+    }
+}
+
+impl Model for Page {
+    ghost use Rattle.std.specs.Prelude.{◌≤◌, take};
+    ghost use Rattle.glsl_print.specs.Printed.{PageState};
+
+    ghost Value = { PageState };
+
+    ghost view = { λ p. record { held = take p.len p.bytes; status = p.status } };
+
+    ghost invariant = { λ p. p.len ≤ 4096 };
+}
+
+impl Page {
+    pub fn new() -> Page
+        ensures { result ≡ record { held = []; status = Ok tt } }
+    {
+        Page {
+            bytes: [0; PIECE],
+            len: 0,
+            status: Ok(()),
+        }
+    }
+
+    pub fn status(&self) -> Status
+        ensures { result ≡ self.now.status }
+    {
+        self.status
+    }
+
+    fn room(&self) -> usize
+        ensures { result + length self.now.held ≡ 4096 }
+    {
+        PIECE - self.len
+    }
+
+    // Holds these bytes too.
+    fn hold(&mut self, bytes: &[u8])
+        requires { length self.old.held + length bytes.now ≤ 4096 }
+        ensures { self.new ≡ record { held = self.old.held ++ bytes.now; status = self.old.status } }
+    {
+        let end = self.len + bytes.len();
+        self.bytes[self.len..end].copy_from_slice(bytes);
+        self.len = end;
+    }
+
+    /// Hands the sink what is held.
+    pub fn hand_on<K: Sink>(&mut self, sink: &mut K)
+        ensures empty { self.new.held ≡ [] }
+        ensures goes { Goes K.written K.faults K.wants sink.old self.old [] sink.new self.new }
+    {
+        self.status = hand(&self.bytes[..self.len], sink, self.status);
+        self.len = 0;
+    }
+
+    /// Prints bytes.
+    pub fn put<K: Sink>(&mut self, bytes: &[u8], sink: &mut K)
+        ensures { Goes K.written K.faults K.wants sink.old self.old bytes.now sink.new self.new }
+    {
+        let mut rest = bytes;
+        while rest.len() > self.room() {
+            let (front, after) = rest.split_at(self.room());
+            self.hold(front);
+            self.hand_on(sink);
+            rest = after;
+        }
+        self.hold(rest);
+    }
+
+    /// Prints a fixed piece.
+    pub fn put_mark<K: Sink>(&mut self, mark: Mark, sink: &mut K)
+        ensures { Goes K.written K.faults K.wants sink.old self.old (mark_text mark) sink.new self.new }
+    {
+        self.put(mark.bytes(), sink);
+    }
+}

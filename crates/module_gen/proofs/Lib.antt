@@ -1,0 +1,3 @@
+pub mod Cuts
+pub mod Octets
+pub mod Assembled

@@ -1,0 +1,12 @@
+// The names and decorations of a module, and the rules on decorations.
+#![tactic(auto)]
+
+mod decor;
+mod rows;
+mod target;
+mod variables;
+
+pub use decor::Decor;
+
+#[cfg(test)]
+mod tests;

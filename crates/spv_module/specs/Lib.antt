@@ -1,0 +1,9 @@
+pub mod State
+pub mod Held
+pub mod Inst
+pub mod Kinds
+pub mod Counts
+pub mod Ids
+pub mod Form
+pub mod Lists
+pub mod Broken
