@@ -3,7 +3,7 @@
 
     bench/check.py MODULE.spv ..        each module is measured with both, in turn, several times; the least time counts
 
-It skips, with status 0, where spirv-dis (Debian's spirv-tools) or the built program is missing. Where a module `NAME-10.spv`
+Memory below that of this script itself, some 10 MB, is not told apart. It skips, with status 0, where spirv-dis (Debian's spirv-tools) or the built program is missing. Where a module `NAME-10.spv`
 stands beside `NAME.spv` the ratio of their times is printed too: ten times the input is to cost at most twelve times the time.
 """
 import os

@@ -1,5 +1,5 @@
 -- Why commands end as they do.
-use Rattle.std.proofs.Common.{◌≡◌, ◌<◌, ◌≤◌, ◌⊎◌, inl, inr, ℕ, List, [], ◌∷◌, length, Option, None, Some, IfSome, IsSome, refl, sym, ap, ◌∙◌, subst, arith}
+use Rattle.std.proofs.Common.{◌≡◌, ◌⊎◌, inl, inr, ℕ, List, [], ◌∷◌, Option, None, Some, IfSome, IsSome, refl, ap, ◌∙◌, subst, arith}
 use Rattle.spv_words.specs.declared.rule.Rule.{Rule}
 use Rattle.spv_words.specs.declared.rule.Rule.TheVariants.{P0, P11, P12}
 use Rattle.spv_words.specs.declared.rule.Fault.{Fault}
@@ -7,6 +7,7 @@ use Rattle.spv_words.specs.declared.rule.Fault.TheVariants.{Refused as RefusedFa
 use Rattle.spv_words.specs.declared.rule.Limit.{Limit as AnyLimit}
 use Rattle.spv_words.specs.declared.rule.Limit.TheVariants as limit
 use Rattle.spv_words.specs.Words.{words}
+use Rattle.std.specs.Io.KnownBytes.{IsAtEnd}
 use Rattle.cc_outside.specs.Causes.{Rose}
 use Rattle.profile_rules.specs.Rules.{Breaks, Conforms, Exceeds, IsRight, IsWithinLimits}
 use Rattle.spv_words.specs.Breaks.{NoRuleBroken, AreWords}
@@ -26,7 +27,7 @@ use Rattle.cross_core.specs.declared.endings.Ending.{Ending}
 use Rattle.cross_core.specs.declared.endings.Ending.TheVariants.{Done, Usage, Refused, Limit, ReadFault, WriteFault, Memory}
 use Rattle.cross_core.specs.FirstForm.{IsFirstForm}
 use Rattle.cross_core.specs.Commands.{Meets, BreaksFor}
-use Rattle.cross_core.specs.Endings.{status_of, IsCause, IsGlslCause, IsEndOfWriting, HasCause, IsOutput}
+use Rattle.cross_core.specs.Endings.{status_of, IsCause, IsGlslCause, IsEndOfWriting, HasCause, IsRead, IsOutput}
 use Rattle.cross_core.specs.Carried.{IsComplete, BreaksSome}
 
 -- a rule that is broken is broken for each command
@@ -169,3 +170,13 @@ reads_as_tree u h = rw (reads_back u h) refl
 -- at a write fault the count rose
 pub write_rose : {K : Type 0} (written : K → Option (List ℕ)) (faults : K → ℕ) (IsText : List ℕ → Type 0) (old new : K) (ending : Ending) → ending ≡ WriteFault → IsOutput written faults IsText old new ending → Rose (faults old) (faults new)
 write_rose written faults IsText old new ending is out = (subst (λ (e : Ending). IsOutput written faults IsText old new e) is out).0
+
+-- a source that was read to its end
+pub read_to_end : (left rest : Option (List ℕ)) (ending : Ending) → IsAtEnd rest → IsRead left rest ending
+read_to_end left rest Done h = h
+read_to_end left rest Usage h = h
+read_to_end left rest (Refused r) h = h
+read_to_end left rest (Limit l) h = inl h
+read_to_end left rest ReadFault h = tt
+read_to_end left rest WriteFault h = h
+read_to_end left rest Memory h = tt

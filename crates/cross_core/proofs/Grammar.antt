@@ -2,7 +2,6 @@
 use Rattle.std.proofs.Common.{◌≡◌, ◌<◌, ◌≤◌, ◌^◌, ◌++◌, ℕ, List, [], ◌∷◌, length, map, refl, sym, subst, arith}
 use Rattle.std.specs.Prelude.{codes}
 use Rattle.std.specs.Fmt.{decimal}
-use Rattle.glsl_grammar.specs.Spelled.{IsName}
 use Rattle.glsl_grammar.specs.Lex.{is_word, is_digit}
 use Rattle.glsl_grammar.proofs.Names.{variable_is_name, name_by_test, is_name, x_is_name, y_is_name, z_is_name, main_is_name, global_id_is_name}
 use Rattle.glsl_ast.specs.Tree as tree

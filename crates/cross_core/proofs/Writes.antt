@@ -1,10 +1,10 @@
 -- Calls that write, one after the other.
-use Rattle.std.proofs.Common.{subst, ◌≡◌, ◌+◌, ◌++◌, ℕ, List, [], ◌∷◌, length, take, Option, Result, Ok, Err, refl, sym, ◌∙◌, arith}
+use Rattle.std.proofs.Common.{subst, ◌+◌, ◌++◌, ℕ, List, length, take, Option, Result, Ok, Err, refl, sym, ◌∙◌, arith}
 use Rattle.std.specs.Io.KnownBytes.{Appends}
 use Rattle.std.proofs.KnownBytes.{Appends-trans}
 use Rattle.std.proofs.lemmas.List.{take-append-le, length-append}
 use Rattle.std.proofs.Math.Seq.{take-append-add}
-use Rattle.cc_outside.specs.Causes.{AppendsPrefix, Rose}
+use Rattle.cc_outside.specs.Causes.{AppendsPrefix}
 use Rattle.cc_outside.specs.declared.all.WriteEnd.{WriteEnd}
 use Rattle.cc_outside.specs.declared.all.WriteEnd.TheVariants.{Fault, Memory}
 use Rattle.cross_core.specs.Wrote.{Wrote, Goes, Said}

@@ -17,7 +17,7 @@ pub record Carried (command : Command) (left rest : Option (List ℕ)) (before a
   pub ending : Ending
   pub is : status ≡ status_of ending
   pub cause : HasCause command left before after ending
-  pub read : IsRead rest ending
+  pub read : IsRead left rest ending
   pub kept : output ending
   pub line : said (line_of ending)
   pub none : ending ≡ Done → quiet

@@ -1,14 +1,15 @@
 -- Why a command ended so, and what it did to its input and output.
-use Rattle.std.specs.Prelude.{ℕ, ◌≡◌, ◌≤◌, ◌⊎◌, List, Option, IfSome}
-use Rattle.std.specs.Io.KnownBytes.{Appends, IsAtEnd}
+use Rattle.std.specs.Prelude.{ℕ, ◌≡◌, ◌<◌, ◌⊎◌, List, length, Option, IfSome}
+use Rattle.std.specs.Io.KnownBytes.{Appends, Consumes, IsAtEnd}
 use Rattle.cc_outside.specs.Causes.{Rose, AppendsPrefix}
-use Rattle.spv_words.specs.Words.{words}
+use Rattle.spv_words.specs.Limit.{limit_number}
+use Rattle.spv_words.specs.declared.rule.Limit.TheVariants.{Bytes}
 use Rattle.spv_words.specs.declared.rule.Rule.TheVariants.{P0}
 use Rattle.profile_rules.specs.Rules.{Exceeds, IsWithinLimits}
 use Rattle.cross_core.specs.declared.commands.Command.{Command}
 use Rattle.cross_core.specs.declared.endings.Ending.{Ending}
 use Rattle.cross_core.specs.declared.endings.Ending.TheVariants.{Done, Usage, Refused, Limit, ReadFault, WriteFault, Memory}
-use Rattle.cross_core.specs.Commands.{Meets, BreaksFor, IsAnswer}
+use Rattle.cross_core.specs.Commands.{Meets, BreaksFor}
 use Rattle.cross_core.specs.FirstForm.{IsFirstForm}
 
 -- the exit status
@@ -57,12 +58,19 @@ HasCause command left before now Usage = ⊥
 HasCause command left before now ReadFault = Rose before now
 HasCause command left before now ending = IfSome left (λ bytes. IsCause command bytes ending)
 
--- the source was read to its end
-abbrev pub IsRead : Option (List ℕ) → Ending → Type 0
-IsRead left Done = IsAtEnd left
-IsRead left (Refused r) = IsAtEnd left
-IsRead left WriteFault = IsAtEnd left
-IsRead left _ = Unit {0}
+-- more bytes than the limit were taken from the source
+abbrev pub TakesMore : Option (List ℕ) → Option (List ℕ) → Type 0
+TakesMore left rest = (bytes : List ℕ) × Consumes left rest bytes × (limit_number Bytes < length bytes)
+
+-- the source was read to its end, or past the limit; of a read that failed and of want of memory nothing is said
+abbrev pub IsRead : Option (List ℕ) → Option (List ℕ) → Ending → Type 0
+IsRead left rest Done = IsAtEnd rest
+IsRead left rest Usage = IsAtEnd rest
+IsRead left rest (Refused r) = IsAtEnd rest
+IsRead left rest (Limit l) = IsAtEnd rest ⊎ TakesMore left rest
+IsRead left rest ReadFault = Unit {0}
+IsRead left rest WriteFault = IsAtEnd rest
+IsRead left rest Memory = Unit {0}
 
 -- the front of an answer was appended
 abbrev pub AppendsFront : (List ℕ → Type 0) → Option (List ℕ) → Option (List ℕ) → Type 0

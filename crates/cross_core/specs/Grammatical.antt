@@ -1,6 +1,5 @@
 -- The parts of a text that declares no struct, as the grammar asks.
-use Rattle.std.specs.Prelude.{◌≡◌, ◌≤◌, List, [], ◌∷◌, length}
-use Rattle.glsl_ast.specs.Tree as tree
+use Rattle.std.specs.Prelude.{◌≤◌, List, [], ◌∷◌, length}
 use Rattle.glsl_ast.specs.Tree.{Text, Expr, LValue, Stmt, Stmts, Decl, Member}
 use Rattle.glsl_grammar.specs.Spelled.{IsName, IsSpelledExpr, IsSpelledLValue, IsSpelledStmt, AreSpelledStmts, IsSpelledDecl, AreSpelledDecls, AreSpelledMembers}
 use Rattle.glsl_grammar.specs.Scopes.{IsFree, IsDeclaredExpr, IsDeclaredLValue, IsDeclaredStmt, AreDeclaredStmts, IsDeclaredDecl, AreDeclaredDecls, AreDeclaredMembers}

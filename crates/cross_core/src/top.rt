@@ -96,7 +96,7 @@ fn answer<K: Sink>(alloc: Global, command: Command, bytes: &[u8], output: &mut K
 /// Carries out a command on the input.
 fn run<S: Source, K: Sink>(alloc: Global, command: Command, input: &mut S, output: &mut K) -> Ending
     ensures cause { HasCause command (S.left input.old) (S.faults input.old) (S.faults input.new) result }
-    ensures read { IsRead (S.left input.new) result }
+    ensures read { IsRead (S.left input.old) (S.left input.new) result }
     ensures output { IsOutput K.written K.faults (IsAnswer command) output.old output.new result }
 {
     match read_all(alloc, input, MOST_BYTES) {

@@ -1,16 +1,15 @@
 -- What the crates that read a module say of its rules, said of its bytes.
-use Rattle.std.proofs.Common.{◌≡◌, ℕ, List, [], ◌∷◌, ◌++◌, refl}
+use Rattle.std.proofs.Common.{ℕ, List, [], ◌∷◌, ◌++◌}
 use Rattle.spv_words.specs.declared.rule.Rule.{Rule}
 use Rattle.spv_words.specs.declared.rule.Rule.TheVariants.{W1, W2, W3, W4, W5, W6, W7, W8, W9, P1, P2, P3, P4, P11, P12}
 use Rattle.spv_words.specs.declared.rule.Fault.{Fault}
 use Rattle.spv_words.specs.declared.rule.Fault.TheVariants.{Refused, Limit, Memory}
-use Rattle.spv_words.specs.declared.rule.Limit.TheVariants.{Bound}
 use Rattle.spv_words.specs.Words.{words}
 use Rattle.spv_words.specs.Breaks.{NoRuleBroken, AreWords, Breaks as BreaksWords, IsRight as IsRightOfWords}
 use Rattle.spv_module.specs.Broken.{Broken as BrokenForm, Breaks as BreaksForm, IsRight as IsRightOfForm, form_rules}
 use Rattle.spv_module.specs.Lists.{module_of}
 use Rattle.spv_decor.specs.Broken.{Broken as BrokenDecorations, IsRight as IsRightOfDecorations}
-use Rattle.profile_rules.specs.Rules.{Broken, Breaks, Conforms, Exceeds, IsRight, word_rules, text_rules}
+use Rattle.profile_rules.specs.Rules.{Broken, Breaks, Conforms, IsRight, word_rules, text_rules}
 
 words_break : (bytes : List ℕ) (rule : Rule) (at : ℕ) → BreaksWords bytes rule at → Breaks bytes rule at
 words_break bytes W1 at h = h

@@ -1,5 +1,5 @@
 -- Which rules of the profile the bytes of a module break, which of these are considered, and which limits are exceeded.
-use Rattle.std.specs.Prelude.{ℕ, ◌<◌, ◌≤◌, List, [], ◌∷◌, ◌++◌, length}
+use Rattle.std.specs.Prelude.{ℕ, ◌<◌, ◌≤◌, List, [], ◌∷◌, length}
 use Rattle.spv_words.specs.declared.rule.Rule.{Rule}
 use Rattle.spv_words.specs.declared.rule.Rule.TheVariants.{W1, W2, W3, W4, W5, W6, W7, W8, W9, P1, P2, P3, P4, P11, P12}
 use Rattle.spv_words.specs.declared.rule.Fault.{Fault}

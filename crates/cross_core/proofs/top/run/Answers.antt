@@ -1,5 +1,14 @@
-use Rattle.cross_core.proofs.Ends.{has_cause}
+use Rattle.std.proofs.Common.{inr, refl}
+use Rattle.cross_core.proofs.Ends.{has_cause, read_to_end}
 use Rattle.cross_core.proofs.top.run.Goals as goal
 
 pub returns-in-Ok-clause-cause : goal.returns-in-Ok-clause-cause
 returns-in-Ok-clause-cause g c = has_cause _ _ _ _ _ _ c.in-Ok.ensures.all (rw c.deref.ensures.value at c.answer.ensures.cause)
+
+pub returns-in-Ok-clause-read : goal.returns-in-Ok-clause-read
+returns-in-Ok-clause-read g c = read_to_end _ _ _ c.in-Ok.ensures.end
+
+pub returns-in-Err-TooLong-clause-read : goal.returns-in-Err-TooLong-clause-read
+returns-in-Err-TooLong-clause-read g c =
+    let took = c.in-Err-TooLong.ensures.too_long in
+    inr (took.bytes, took.taken, took.count.0 (rw c.in-Err-TooLong.field-0-is refl))
