@@ -19,7 +19,8 @@ use endings::Ending;
 use std::process::ExitCode;
 use std::{env, io};
 
-/// The words of the command line without the program's name, or none where one is not UTF-8.
+/// Carries out the process's command line over its standard streams. It fails where a word is not UTF-8, and for want of
+/// memory.
 fn status_of(rt: &HostRuntime) -> Result<u8, io::Error> {
     let mut all = Vec::new(rt.alloc());
     for word in env::args(rt)? {
@@ -35,13 +36,21 @@ fn status_of(rt: &HostRuntime) -> Result<u8, io::Error> {
     Ok(top::cross(rt.alloc(), &words, &mut input, &mut output, &mut notes))
 }
 
+/// How a process ends whose words could not be had.
+fn ending_of(error: &io::Error) -> Ending {
+    match error.kind() {
+        io::ErrorKind::OutOfMemory => Ending::Memory,
+        _ => Ending::Usage,
+    }
+}
+
 fn main(rt: HostRuntime) -> ExitCode {
     match status_of(&rt) {
         Ok(status) => ExitCode::from(status),
-        Err(_) => {
-            let mut notes = StdSink::new(rt.stderr());
-            notes::say(Ending::Usage, &mut notes);
-            ExitCode::from(1)
+        Err(error) => {
+            let ending = ending_of(&error);
+            notes::say(ending, &mut StdSink::new(rt.stderr()));
+            ExitCode::from(ending.status())
         }
     }
 }
