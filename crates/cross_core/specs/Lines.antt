@@ -3,7 +3,7 @@ use Rattle.std.specs.Prelude.{ℕ, List, [], ◌∷◌, ◌++◌, codes}
 use Rattle.std.specs.Fmt.{decimal}
 use Rattle.spv_words.specs.declared.rule.Rule.{Rule}
 use Rattle.spv_words.specs.declared.rule.Limit.{Limit}
-use Rattle.spv_words.specs.declared.rule.Limit.TheVariants as limit
+use Rattle.spv_words.specs.Limit.{limit_name, limit_number}
 use Rattle.spv_words.specs.Rule.{letter_of, number_of}
 use Rattle.cross_core.specs.declared.endings.Ending.{Ending}
 use Rattle.cross_core.specs.declared.endings.Ending.TheVariants.{Done, Usage, Refused, Limit as Exceeded, ReadFault, WriteFault, Memory}
@@ -11,21 +11,15 @@ use Rattle.cross_core.specs.declared.endings.Ending.TheVariants.{Done, Usage, Re
 abbrev pub refusal_line : Rule → ℕ → List ℕ
 refusal_line rule at = codes "refused " ++ (letter_of rule ∷ []) ++ decimal (number_of rule) ++ codes " at " ++ decimal at ++ codes "\n"
 
-unfoldable pub limit_line : Limit → List ℕ
-limit_line limit.Bytes = codes "limit bytes 1048576\n"
-limit_line limit.Bound = codes "limit bound 262144\n"
-limit_line limit.Depth = codes "limit depth 127\n"
-limit_line limit.Types = codes "limit types 15\n"
-limit_line limit.Parts = codes "limit parts 16384\n"
-limit_line limit.Calls = codes "limit calls 64\n"
-limit_line limit.Leaves = codes "limit leaves 262144\n"
+abbrev pub limit_line : Limit → List ℕ
+limit_line limit = codes "limit " ++ limit_name limit ++ codes " " ++ decimal (limit_number limit) ++ codes "\n"
 
--- the line of an ending that is no refusal; nothing is said where all was done
+-- the line of an ending that names neither a rule nor a limit; nothing is said where all was done
 unfoldable pub plain_line : Ending → List ℕ
 plain_line Done = []
 plain_line Usage = codes "usage: cross glsl|check|report [--entry NAME] [ID=VALUE]... or cross gen NUMBER\n"
 plain_line (Refused r) = []
-plain_line (Exceeded l) = limit_line l
+plain_line (Exceeded l) = []
 plain_line ReadFault = codes "read fault\n"
 plain_line WriteFault = codes "write fault\n"
 plain_line Memory = codes "memory\n"
@@ -34,7 +28,7 @@ abbrev pub line_of : Ending → List ℕ
 line_of Done = []
 line_of Usage = plain_line Usage
 line_of (Refused r) = refusal_line r.rule r.at
-line_of (Exceeded l) = plain_line (Exceeded l)
+line_of (Exceeded l) = limit_line l
 line_of ReadFault = plain_line ReadFault
 line_of WriteFault = plain_line WriteFault
 line_of Memory = plain_line Memory

@@ -12,6 +12,7 @@ use spv_words::{Fault, Words};
 use std::alloc::Global;
 
 /// The words of a module, where these bytes break no rule and exceed no limit.
+#[tactic(auto, using(crate::proofs::Ends::form_fault))]
 pub fn conforming(alloc: Global, bytes: &[u8]) -> Result<Words, Fault>
     requires { length bytes.now < 2 ^ 34 }
     ensures words { IfOk result (λ w. w ≡ words bytes.now) }
@@ -19,11 +20,7 @@ pub fn conforming(alloc: Global, bytes: &[u8]) -> Result<Words, Fault>
     ensures refused { IfErr result (IsRight bytes.now) }
 {
     let words = Words::of(alloc, bytes)?;
-    match Module::read(alloc, &words) {
-        Err(fault) => Err(fault),
-        Ok(module) => match Decor::read(alloc, &module) {
-            Err(fault) => Err(fault),
-            Ok(_) => Ok(words),
-        },
-    }
+    let module = Module::read(alloc, &words)?;
+    let _decor = Decor::read(alloc, &module)?;
+    Ok(words)
 }

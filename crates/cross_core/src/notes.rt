@@ -2,6 +2,7 @@
 ghost use Rattle.std.specs.Prelude.{◌≡◌, ◌∷◌, []};
 ghost use Rattle.std.specs.Fmt.{decimal};
 ghost use Rattle.spv_words.specs.Rule.{letter_of, number_of};
+ghost use Rattle.spv_words.specs.Limit.{limit_name, limit_number};
 ghost use Rattle.cross_core.specs.Wrote.{Wrote, Goes, Said};
 ghost use Rattle.cross_core.specs.Lines.{refusal_line, limit_line, plain_line, line_of};
 ghost use Rattle.cross_core.specs.declared.endings.Ending.TheVariants.{Done};
@@ -59,33 +60,38 @@ fn say_refusal<N: Sink>(refusal: Refusal, notes: &mut N) -> Status
     put(b"\n", notes, word)
 }
 
-/// The line on a limit.
-#[tactic(auto, unfolding(crate::specs::Lines::limit_line))]
-fn limit_bytes(limit: Limit) -> &'static [u8]
-    ensures { result.now ≡ limit_line limit }
+fn put_limit_name<N: Sink>(limit: Limit, notes: &mut N, status: Status) -> Status
+    ensures { Goes N.written N.faults N.wants notes.old status (limit_name limit) notes.new result }
 {
-    match limit {
-        Limit::Bytes => b"limit bytes 1048576\n",
-        Limit::Bound => b"limit bound 262144\n",
-        Limit::Depth => b"limit depth 127\n",
-        Limit::Types => b"limit types 15\n",
-        Limit::Parts => b"limit parts 16384\n",
-        Limit::Calls => b"limit calls 64\n",
-        Limit::Leaves => b"limit leaves 262144\n",
-    }
+    put(limit.name().as_bytes(), notes, status)
 }
 
-/// The line of an ending that is no refusal.
+fn put_limit_number<N: Sink>(limit: Limit, notes: &mut N, status: Status) -> Status
+    ensures { Goes N.written N.faults N.wants notes.old status (decimal (limit_number limit)) notes.new result }
+{
+    put_number(limit.number(), notes, status)
+}
+
+fn say_limit<N: Sink>(limit: Limit, notes: &mut N) -> Status
+    ensures { Wrote N.written N.faults N.wants notes.old notes.new (limit_line limit) result }
+{
+    let start = put(b"limit ", notes, Ok(()));
+    let name = put_limit_name(limit, notes, start);
+    let blank = put(b" ", notes, name);
+    let number = put_limit_number(limit, notes, blank);
+    put(b"\n", notes, number)
+}
+
+/// The line of an ending that names neither a rule nor a limit.
 #[tactic(auto, unfolding(crate::specs::Lines::plain_line))]
 fn plain_bytes(ending: Ending) -> &'static [u8]
     ensures { result.now ≡ plain_line ending }
 {
     match ending {
-        Ending::Done | Ending::Refused(_) => b"",
+        Ending::Done | Ending::Refused(_) | Ending::Limit(_) => b"",
         Ending::Usage => {
             b"usage: cross glsl|check|report [--entry NAME] [ID=VALUE]... or cross gen NUMBER\n"
         }
-        Ending::Limit(exceeded) => limit_bytes(exceeded),
         Ending::ReadFault => b"read fault\n",
         Ending::WriteFault => b"write fault\n",
         Ending::Memory => b"memory\n",
@@ -99,6 +105,7 @@ fn say_line<N: Sink>(ending: Ending, notes: &mut N) -> Status
     match ending {
         Ending::Done => Ok(()),
         Ending::Refused(refusal) => say_refusal(refusal, notes),
+        Ending::Limit(limit) => say_limit(limit, notes),
         _ => say_bytes(plain_bytes(ending), notes),
     }
 }

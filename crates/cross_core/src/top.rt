@@ -22,8 +22,6 @@ use glsl_print::{PrintEnd, print};
 use spv_words::{Fault, Limit, Refusal, Rule, Words};
 use std::alloc::{AllocError, Global};
 
-const MOST_BYTES: usize = 1048576;
-
 /// Writes the line of a module that breaks no rule.
 fn put_ok<K: Sink>(output: &mut K) -> Ending
     ensures end { IsEndOfWriting result }
@@ -99,7 +97,7 @@ fn run<S: Source, K: Sink>(alloc: Global, command: Command, input: &mut S, outpu
     ensures read { IsRead (S.left input.old) (S.left input.new) result }
     ensures output { IsOutput K.written K.faults (IsAnswer command) output.old output.new result }
 {
-    match read_all(alloc, input, MOST_BYTES) {
+    match read_all(alloc, input, Limit::Bytes.number() as usize) {
         Ok(bytes) => answer(alloc, command, &bytes, output),
         Err(ReadEnd::Fault) => Ending::ReadFault,
         Err(ReadEnd::TooLong) => Ending::Limit(Limit::Bytes),

@@ -5,28 +5,11 @@ use Rattle.spv_words.specs.declared.rule.Rule.TheVariants.{W1, W2, W3, W4, W5, W
 use Rattle.spv_words.specs.declared.rule.Fault.{Fault}
 use Rattle.spv_words.specs.declared.rule.Fault.TheVariants.{Refused, Limit, Memory}
 use Rattle.spv_words.specs.Words.{words}
-use Rattle.spv_words.specs.Breaks.{NoRuleBroken, AreWords, Breaks as BreaksWords, IsRight as IsRightOfWords}
+use Rattle.spv_words.specs.Breaks.{NoRuleBroken, AreWords}
 use Rattle.spv_module.specs.Broken.{Broken as BrokenForm, Breaks as BreaksForm, IsRight as IsRightOfForm, form_rules}
 use Rattle.spv_module.specs.Lists.{module_of}
 use Rattle.spv_decor.specs.Broken.{Broken as BrokenDecorations, IsRight as IsRightOfDecorations}
 use Rattle.profile_rules.specs.Rules.{Broken, Breaks, Conforms, IsRight, word_rules, text_rules}
-
-words_break : (bytes : List ℕ) (rule : Rule) (at : ℕ) → BreaksWords bytes rule at → Breaks bytes rule at
-words_break bytes W1 at h = h
-words_break bytes W2 at h = h
-words_break bytes W3 at h = h
-words_break bytes W4 at h = h
-words_break bytes W5 at h = h
-words_break bytes W6 at h = h
-words_break bytes W7 at h = h
-words_break bytes W8 at h = h
-words_break bytes _ at h = absurd h.1
-
--- a fault that the words of the bytes have
-pub words_right : (bytes : List ℕ) (fault : Fault) → IsRightOfWords bytes fault → IsRight bytes fault
-words_right bytes (Refused r) h = words_break bytes r.rule r.at h
-words_right bytes (Limit l) h = rw h.0 (h.1, h.2)
-words_right bytes Memory h = tt
 
 -- rules that are not broken, and others
 none_broken : (broken : Rule → ℕ → Type 0) (first second : List Rule) → NoRuleBroken broken first → NoRuleBroken broken second → NoRuleBroken broken (first ++ second)

@@ -7,7 +7,8 @@ use Rattle.spv_words.specs.declared.rule.Fault.TheVariants.{Refused, Limit, Memo
 use Rattle.spv_module.specs.State.{ModuleState}
 use Rattle.spv_module.specs.declared.inst.Inst.{Inst}
 use Rattle.spv_decor.specs.Rows.{Key, key_of, has_key}
-use Rattle.spv_decor.specs.Decorations.{is_misplaced, has_literal}
+use Rattle.spv_ops.specs.Decorations.{has_literal}
+use Rattle.spv_decor.specs.Decorations.{is_misplaced}
 
 -- row k, or one without words where there is none
 abbrev pub nth_row : List Inst → ℕ → Inst

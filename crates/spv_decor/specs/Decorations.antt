@@ -19,10 +19,6 @@ targets =
 abbrev pub target_of : ℕ → Option Target
 target_of decoration = option_map_or (λ (row : ℕ × Target). Some row.1) (find (λ (row : ℕ × Target). row.0 == decoration) targets) None
 
--- SpecId, ArrayStride, BuiltIn, Binding, DescriptorSet and Offset have a literal
-abbrev pub has_literal : ℕ → Bool
-has_literal decoration = list_any (λ d. d == decoration) (1 ∷ 6 ∷ 11 ∷ 33 ∷ 34 ∷ 35 ∷ [])
-
 -- the global instruction with this result passes the test
 abbrev pub is_global : ModuleState → ℕ → (Inst → Bool) → Bool
 is_global m id test = option_map_or test (find (λ (g : Inst). g.result == id) m.globals) false

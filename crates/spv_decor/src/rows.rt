@@ -1,5 +1,5 @@
 // The rows of names and decorations, by what they are about.
-ghost use Rattle.std.specs.Prelude.{◌≡◌, ◌<◌, ◌≤◌, ◌==◌, not, ℕ, length, map, true, IfOk, IfErr, OnOk, position};
+ghost use Rattle.std.specs.Prelude.{◌≡◌, ◌<◌, ◌≤◌, ◌==◌, not, ℕ, length, map, true, IfOk, IfErr, OnOk};
 ghost use Rattle.std.specs.List.{prefix_len};
 ghost use Rattle.std.specs.BTreeMap.{get};
 ghost use Rattle.spv_words.specs.declared.rule.Rule.TheVariants.{P12};
@@ -7,9 +7,9 @@ ghost use Rattle.spv_decor.specs.Rows.{key_of as key_of_row, has_key, text_of as
 ghost use Rattle.spv_decor.specs.Held.{key_cmp, ArePlaces, row_text};
 ghost use Rattle.spv_decor.specs.Broken.{is_counted as is_counted_key, IsTwice, IsRepeat};
 
-use crate::target::{has_literal, word};
 use spv_module::Inst;
-use spv_words::{Fault, Refusal, Rule, octets};
+use spv_ops::has_literal;
+use spv_words::{Fault, Refusal, Rule, first_zero, octets};
 use std::alloc::{AllocError, Global};
 use std::collections::BTreeMap;
 
@@ -22,10 +22,10 @@ fn key_of(inst: &Inst) -> Option<Key>
     ensures { result ≡ key_of_row inst.now }
 {
     match inst.op {
-        5 => Some((5, word(inst, 0), 0, 0)),
-        6 => Some((6, word(inst, 0), word(inst, 1), 0)),
-        71 => Some((71, word(inst, 0), 0, word(inst, 1))),
-        72 => Some((72, word(inst, 0), word(inst, 1), word(inst, 2))),
+        5 => Some((5, inst.operand(0), 0, 0)),
+        6 => Some((6, inst.operand(0), inst.operand(1), 0)),
+        71 => Some((71, inst.operand(0), 0, inst.operand(1))),
+        72 => Some((72, inst.operand(0), inst.operand(1), inst.operand(2))),
         _ => None,
     }
 }
@@ -58,13 +58,6 @@ pub fn places_of(alloc: Global, heads: &[Inst]) -> Result<BTreeMap<Key, usize>, 
         }
     }
     Ok(places)
-}
-
-/// The place of the first zero octet.
-fn first_zero(octets: &[u8]) -> Option<usize>
-    ensures { result ≡ position (λ b. b == 0) octets.now }
-{
-    octets.iter().position(|b| *b == 0)
 }
 
 /// How many octets stand before the first that is zero.

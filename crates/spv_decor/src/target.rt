@@ -1,8 +1,7 @@
 // What each decoration goes on, and the rule on it.
 ghost use Rattle.std.specs.Prelude.{◌≡◌, ◌==◌, ◌&&◌, nat_lt, length, find};
 ghost use Rattle.std.specs.Option.{option_map_or, option_copied};
-ghost use Rattle.spv_decor.specs.Decorations.{target_of as target_in_list, has_literal as is_with_literal, is_target as is_target_in, is_member_target as is_member_target_in, is_misplaced as is_misplaced_in};
-ghost use Rattle.spv_decor.specs.Rows.{word as word_of};
+ghost use Rattle.spv_decor.specs.Decorations.{target_of as target_in_list, is_target as is_target_in, is_member_target as is_member_target_in, is_misplaced as is_misplaced_in};
 ghost use Rattle.spv_decor.specs.Variables.{AreVariables};
 
 use crate::variables::{INPUT, Variables, is_variable_of};
@@ -19,13 +18,6 @@ pub enum Target {
     InputOrComposite,
     Variable,
     Member,
-}
-
-/// Operand word k, or 0 where there is none.
-pub fn word(inst: &Inst, k: usize) -> u32
-    ensures { result ≡ word_of inst.now k }
-{
-    inst.args.as_slice().get(k).copied().unwrap_or(0)
 }
 
 /// What a decoration goes on, or none where it is not one of the profile's.
@@ -45,13 +37,6 @@ fn target_of(decoration: u32) -> Option<Target>
         35 => Some(Target::Member),
         _ => None,
     }
-}
-
-/// Whether a decoration has a literal: SpecId, ArrayStride, BuiltIn, Binding, DescriptorSet, Offset.
-pub fn has_literal(decoration: u32) -> bool
-    ensures { result ≡ is_with_literal decoration }
-{
-    matches!(decoration, 1 | 6 | 11 | 33 | 34 | 35)
 }
 
 /// Whether an id is what decorations go on.
@@ -101,12 +86,12 @@ fn is_misplaced(module: &Module, variables: &Variables, inst: &Inst) -> bool
     ensures { result ≡ is_misplaced_in «module».now inst.now }
 {
     match inst.op {
-        71 => match target_of(word(inst, 1)) {
-            Some(target) => !is_target(module, variables, target, word(inst, 0)),
+        71 => match target_of(inst.operand(1)) {
+            Some(target) => !is_target(module, variables, target, inst.operand(0)),
             None => true,
         },
-        72 => match target_of(word(inst, 2)) {
-            Some(target) => !is_member_target(module, target, word(inst, 0), word(inst, 1)),
+        72 => match target_of(inst.operand(2)) {
+            Some(target) => !is_member_target(module, target, inst.operand(0), inst.operand(1)),
             None => true,
         },
         _ => false,

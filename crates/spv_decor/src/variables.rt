@@ -6,7 +6,6 @@ ghost use Rattle.std.specs.Ordering.{nat_cmp};
 ghost use Rattle.spv_decor.specs.Decorations.{is_variable_of as is_variable_row, is_local_variable};
 ghost use Rattle.spv_decor.specs.Variables.{AreVariables};
 
-use crate::target::word;
 use spv_module::{Block, Inst, Module};
 use std::alloc::{AllocError, Global};
 use std::collections::BTreeSet;
@@ -27,7 +26,7 @@ pub fn is_variable_of(class: Option<u32>, inst: &Inst) -> bool
 {
     match class {
         None => inst.op == 59,
-        Some(class) => inst.op == 59 && word(inst, 0) == class,
+        Some(class) => inst.op == 59 && inst.operand(0) == class,
     }
 }
 

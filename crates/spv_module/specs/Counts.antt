@@ -1,10 +1,10 @@
 -- The rules on opcodes and on numbers of words.
-use Rattle.std.specs.Prelude.{ℕ, ◌+◌, ◌%◌, ◌==◌, ◌&&◌, ◌||◌, not, List, [], ◌∷◌, Bool, true, false, if◌then◌else◌, nat_le, nat_lt, is_none}
+use Rattle.std.specs.Prelude.{ℕ, ◌+◌, ◌%◌, ◌==◌, ◌&&◌, ◌||◌, not, List, Bool, true, false, if◌then◌else◌, nat_le, nat_lt, is_none}
 use Rattle.std.specs.Option.{option_map_or}
-use Rattle.std.specs.List.{list_any}
 use Rattle.spv_words.specs.declared.words.Inst1.{Inst1}
 use Rattle.spv_ops.specs.Table.{shape_of}
 use Rattle.spv_ops.specs.Operands.{is_inner_op}
+use Rattle.spv_ops.specs.Decorations.{literals_of}
 use Rattle.spv_ops.specs.declared.class.OpShape.{OpShape}
 use Rattle.spv_module.specs.Inst.{word}
 
@@ -12,17 +12,9 @@ use Rattle.spv_module.specs.Inst.{word}
 abbrev pub is_unknown : List ℕ → Inst1 → Bool
 is_unknown ws i = is_none (shape_of i.opcode) || ((i.opcode == 52) && nat_lt 3 i.len && not (is_inner_op (word ws i 3)))
 
--- SpecId, ArrayStride, BuiltIn, Binding, DescriptorSet and Offset have one literal
-abbrev pub has_literal : ℕ → Bool
-has_literal d = list_any (λ x. x == d) (1 ∷ 6 ∷ 11 ∷ 33 ∷ 34 ∷ 35 ∷ [])
-
--- RelaxedPrecision, Block, Restrict, Aliased, Volatile, Coherent, NonWritable and NonReadable have none
-abbrev pub has_no_literal : ℕ → Bool
-has_no_literal d = list_any (λ x. x == d) (0 ∷ 2 ∷ 19 ∷ 20 ∷ 21 ∷ 23 ∷ 24 ∷ 25 ∷ [])
-
 -- the number of words that a decoration asks for, of which `plain` stand before its literal
 abbrev pub fits_decoration : ℕ → ℕ → ℕ → Bool
-fits_decoration d plain len = if has_literal d then len == plain + 1 else (if has_no_literal d then len == plain else true)
+fits_decoration d plain len = option_map_or (λ n. len == plain + n) (literals_of d) true
 
 -- within what the table allows, with so many words more
 abbrev pub is_within : ℕ → OpShape → ℕ → Bool

@@ -3,11 +3,11 @@ ghost use Rattle.std.specs.Prelude.{◌≡◌, ◌<◌, ℕ, length, IfErr, OnOk
 ghost use Rattle.spv_words.specs.Words.{insts, nth_inst};
 ghost use Rattle.spv_words.specs.declared.rule.Rule.TheVariants.{W9, P1, P2};
 ghost use Rattle.spv_ops.specs.Operands.{is_inner_op as is_inner};
-ghost use Rattle.spv_module.specs.Counts.{is_unknown as is_unknown_inst, is_misfit as is_misfit_inst, is_within as is_within_counts, has_literal, has_no_literal, fits_decoration as fits_literals, fits_opcode as fits_its_opcode};
+ghost use Rattle.spv_module.specs.Counts.{is_unknown as is_unknown_inst, is_misfit as is_misfit_inst, is_within as is_within_counts, fits_decoration as fits_literals, fits_opcode as fits_its_opcode};
 ghost use Rattle.spv_module.specs.Broken.{IsCause, IsRight, IsUnbroken, LacksText, text_place as place_of_text};
 
 use crate::decode::{refused, word};
-use spv_ops::{OpShape, is_inner_op, shape_of};
+use spv_ops::{OpShape, is_inner_op, literals_of, shape_of};
 use spv_words::{Fault, Rule, Words};
 
 // OpName, OpMemberName, OpExtInstImport and OpEntryPoint, and where their strings begin.
@@ -85,13 +85,7 @@ fn fits_decoration(decoration: u32, plain: u16, len: u16) -> bool
     requires { plain < 5 }
     ensures { result ≡ fits_literals decoration plain len }
 {
-    match decoration {
-        // SpecId, ArrayStride, BuiltIn, Binding, DescriptorSet and Offset
-        1 | 6 | 11 | 33 | 34 | 35 => len == plain + 1,
-        // RelaxedPrecision, Block, Restrict, Aliased, Volatile, Coherent, NonWritable, NonReadable
-        0 | 2 | 19 | 20 | 21 | 23 | 24 | 25 => len == plain,
-        _ => true,
-    }
+    literals_of(decoration).map_or(true, |literals| len == plain + literals)
 }
 
 /// Whether the number of words is right for the opcode inside OpSpecConstantOp.

@@ -1,4 +1,6 @@
 // Instructions, blocks and functions.
+ghost use Rattle.std.specs.Prelude.{◌≡◌, slice_index};
+
 use crate::Seq;
 
 /// An id of the module (SPIR-V 1.6, section 2.2).
@@ -14,6 +16,15 @@ pub struct Inst {
     pub ty: u32,
     pub result: u32,
     pub args: Seq<u32>,
+}
+
+impl Inst {
+    /// Operand word k, of those behind the type and the result, or 0 where there are fewer.
+    pub fn operand(&self, k: usize) -> u32
+        ensures { result ≡ slice_index self.now.args k }
+    {
+        self.args.as_slice().get(k).copied().unwrap_or(0)
+    }
 }
 
 /// A block: its label, the word of its OpLabel, and its instructions without debug instructions,

@@ -5,7 +5,7 @@ ghost use Rattle.spv_types.specs.View.{tree_of, trees_of};
 ghost use Rattle.spv_types.specs.Types.{IsWithin, IsRight, type_tree, tree_at, tree_before, int_tree, vector_tree, elem_of, length_by, all_trees, array_tree};
 
 use crate::count::{find_earlier, measure};
-use crate::kind::{TypeKind, kind_of, operand};
+use crate::kind::{TypeKind, kind_of};
 use spv_module::{Elem, Id, Inst, Length, Module, Shape};
 use spv_words::{Fault, Limit, Memory};
 use std::alloc::Global;
@@ -38,13 +38,13 @@ fn build(alloc: Global, module: &Module, inst: &Inst) -> Result<Option<Shape>, M
 {
     match kind_of(inst.op) {
         TypeKind::Bool => Ok(Some(Shape::Bool)),
-        TypeKind::Int => Ok(int_shape(operand(inst, 0), operand(inst, 1))),
+        TypeKind::Int => Ok(int_shape(inst.operand(0), inst.operand(1))),
         TypeKind::Vector => {
-            let part = build_earlier(alloc, module, inst.at, operand(inst, 0))?;
-            Ok(vector_shape(part, operand(inst, 1)))
+            let part = build_earlier(alloc, module, inst.at, inst.operand(0))?;
+            Ok(vector_shape(part, inst.operand(1)))
         }
         TypeKind::Array => array_shape(alloc, module, inst),
-        TypeKind::Runtime => match build_earlier(alloc, module, inst.at, operand(inst, 0))? {
+        TypeKind::Runtime => match build_earlier(alloc, module, inst.at, inst.operand(0))? {
             None => Ok(None),
             Some(part) => Ok(Some(Shape::Runtime(Box::new(alloc, part)?))),
         },
@@ -77,10 +77,10 @@ fn build_earlier(
 fn array_shape(alloc: Global, module: &Module, inst: &Inst) -> Result<Option<Shape>, Memory>
     ensures { IfOk result (λ s. option_map tree_of s ≡ array_tree (tree_before «module».now.globals inst.now.at (slice_index inst.now.args 0)) (length_by (slice_index inst.now.args 1) (global «module».now.globals (slice_index inst.now.args 1)))) }
 {
-    let Some(part) = build_earlier(alloc, module, inst.at, operand(inst, 0))? else {
+    let Some(part) = build_earlier(alloc, module, inst.at, inst.operand(0))? else {
         return Ok(None);
     };
-    match array_length(module, operand(inst, 1)) {
+    match array_length(module, inst.operand(1)) {
         None => Ok(None),
         Some(length) => Ok(Some(Shape::Array(Box::new(alloc, part)?, length))),
     }
@@ -147,7 +147,9 @@ fn array_length(module: &Module, id: u32) -> Option<Length>
 {
     let inst = module.global(Id(id))?;
     match inst.op {
-        43 => Some(Length::Fixed(operand(inst, 0))),
+        // OpConstant
+        43 => Some(Length::Fixed(inst.operand(0))),
+        // OpSpecConstantTrue, OpSpecConstantFalse, OpSpecConstant, OpSpecConstantComposite, OpSpecConstantOp
         48..=52 => Some(Length::Spec(Id(id))),
         _ => None,
     }

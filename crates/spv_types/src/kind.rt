@@ -22,6 +22,7 @@ pub enum TypeKind {
 pub fn kind_of(op: u16) -> TypeKind
     ensures { result ≡ kind op }
 {
+    // OpTypeBool, OpTypeInt, OpTypeVector, OpTypeArray, OpTypeRuntimeArray, OpTypeStruct
     match op {
         20 => TypeKind::Bool,
         21 => TypeKind::Int,
@@ -31,13 +32,6 @@ pub fn kind_of(op: u16) -> TypeKind
         30 => TypeKind::Struct,
         _ => TypeKind::Other,
     }
-}
-
-/// An operand of an instruction, or 0 where it has fewer.
-pub fn operand(inst: &Inst, k: usize) -> u32
-    ensures { result ≡ slice_index inst.now.args k }
-{
-    inst.args.as_slice().get(k).copied().unwrap_or(0)
 }
 
 fn first(ids: &[u32]) -> &[u32]

@@ -1,11 +1,12 @@
-use Rattle.cross_core.proofs.Ends.{form_fault, decorations_fault, all_fine}
+use Rattle.std.proofs.Common.{rules}
+use Rattle.profile_rules.specs.Rules.{IsRight}
+use Rattle.cross_core.proofs.Ends.{all_fine, decorations_fault}
 use Rattle.cross_core.proofs.judge.conforming.Goals as goal
 
-pub returns-in-Err-clause-refused : goal.returns-in-Err-clause-refused
-returns-in-Err-clause-refused c = form_fault c.args.bytes.now c.in_ok-words.words c.in-Err.fault c.in_ok-words.ensures.words c.in_ok-words.ensures.passes.0 c.in-Err.ensures.refused
+pub returns-in_err-_decor-clause-refused : goal.returns-in_err-_decor-clause-refused
+returns-in_err-_decor-clause-refused c =
+    let cause : IsRight c.args.bytes.now c.in_err-_decor.field-0.0 = decorations_fault c.args.bytes.now c.in_ok-words.words c.in_ok-module.module c.in_err-_decor.field-0.0 c.in_ok-words.ensures.words c.in_ok-module.ensures.module c.in_ok-words.ensures.passes.0 c.in_ok-module.ensures.passes c.in_err-_decor.ensures.refused in
+    search rules
 
-pub returns-in-Err-read-clause-refused : goal.returns-in-Err-read-clause-refused
-returns-in-Err-read-clause-refused c = decorations_fault c.args.bytes.now c.in_ok-words.words c.in-Ok.module c.in-Err-read.fault c.in_ok-words.ensures.words c.in-Ok.ensures.module c.in_ok-words.ensures.passes.0 c.in-Ok.ensures.passes c.in-Err-read.ensures.refused
-
-pub returns-in-Ok-read-clause-passes : goal.returns-in-Ok-read-clause-passes
-returns-in-Ok-read-clause-passes c = (all_fine c.args.bytes.now c.in_ok-words.words c.in-Ok.module c.in_ok-words.ensures.words c.in-Ok.ensures.module c.in_ok-words.ensures.passes.0 c.in-Ok.ensures.passes c.in-Ok-read.ensures.passes, c.in_ok-words.ensures.passes.1)
+pub returns-clause-passes : goal.returns-clause-passes
+returns-clause-passes c = (all_fine c.args.bytes.now c.in_ok-words.words c.in_ok-module.module c.in_ok-words.ensures.words c.in_ok-module.ensures.module c.in_ok-words.ensures.passes.0 c.in_ok-module.ensures.passes c.in_ok-_decor.ensures.passes, c.in_ok-words.ensures.passes.1)

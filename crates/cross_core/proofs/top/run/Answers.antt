@@ -11,4 +11,4 @@ returns-in-Ok-clause-read g c = read_to_end _ _ _ c.in-Ok.ensures.end
 pub returns-in-Err-TooLong-clause-read : goal.returns-in-Err-TooLong-clause-read
 returns-in-Err-TooLong-clause-read g c =
     let took = c.in-Err-TooLong.ensures.too_long in
-    inr (took.bytes, took.taken, took.count.0 (rw c.in-Err-TooLong.field-0-is refl))
+    inr (took.bytes, took.taken, rw c.number.ensures at took.count.0 (rw c.in-Err-TooLong.field-0-is refl))
