@@ -7,6 +7,7 @@ mod target;
 mod variables;
 
 pub use decor::Decor;
+pub use rows::text_of;
 
 #[cfg(test)]
 mod tests;

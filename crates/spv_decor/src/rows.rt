@@ -68,8 +68,9 @@ fn text_len(octets: &[u8]) -> usize
     first_zero(octets).unwrap_or(octets.len())
 }
 
-/// The text with which these words begin.
-fn text_of(alloc: Global, words: &[u32]) -> Result<Vec<u8>, AllocError>
+/// The text with which these words begin: their octets, the lowest-order of a word first, up to the
+/// first that is zero (SPIR-V 1.6, section 2.2.1).
+pub fn text_of(alloc: Global, words: &[u32]) -> Result<Vec<u8>, AllocError>
     ensures { IfOk result (λ text. text.items ≡ text_of_words words.now) }
 {
     let mut text = octets(alloc, words)?;

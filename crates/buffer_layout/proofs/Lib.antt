@@ -1,0 +1,5 @@
+pub mod Bytes
+pub mod Steps
+pub mod Rows
+pub mod Fits
+pub mod Taken

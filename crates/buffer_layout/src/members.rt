@@ -1,0 +1,201 @@
+// The members of a block, and the rules on layout that they break.
+ghost use Rattle.std.specs.Prelude.{◌≡◌, ◌+◌, ℕ, IfOk, IfErr, map, min, nat_lt, option_map};
+ghost use Rattle.std.specs.List.{list_any};
+ghost use Rattle.spv_types.specs.View.{tree_of};
+ghost use Rattle.spv_types.specs.Types.{tree_before, IsRight as IsRightType};
+ghost use Rattle.layout_rules.specs.Sizes.{size_of};
+ghost use Rattle.layout_rules.specs.Rules.{is_past};
+ghost use Rattle.layout_rules.specs.Blocks.{members_of as members_in, breaks_inside as breaks_inside_in, is_misaligned as is_misaligned_in, end_of, begins_below as begins_below_in, any_overlap as any_overlap_in, member_breaks as member_breaks_in, members_break as members_break_in, first_broken as first_broken_in, IsLimit};
+ghost use Rattle.buffer_layout.specs.Members.{member_of};
+
+use crate::breaks::offset_of;
+use crate::parts::any_part_breaks;
+use crate::sizes::{CAP, alignment, size};
+use layout_rules::Kind;
+use spv_decor::Decor;
+use spv_module::{Id, Inst, Module, Shape};
+use spv_types::shape;
+use spv_words::{Fault, Rule};
+use std::alloc::Global;
+
+/// A member of a block: the id of its type, its Offset where it has one, and its shape where its
+/// type has one and stands before the block.
+#[derive(Drop)]
+pub struct Member {
+    pub id: u32,
+    pub offset: Option<u32>,
+    pub shape: Option<Shape>,
+}
+
+/// The shape of a type that stands before a word.
+#[tactic(auto, using(spv_types::proofs::Below::tree_before_is))]
+fn shape_before(
+    alloc: Global,
+    module: &Module,
+    before: u32,
+    id: u32,
+) -> Result<Option<Shape>, Fault>
+    ensures shape { IfOk result (λ s. option_map tree_of s ≡ tree_before «module».now.globals before id) }
+    ensures limit { IfErr result (IsRightType «module».now.globals id) }
+{
+    match module.global(Id(id)) {
+        Some(inst) if inst.at < before => shape(alloc, module, Id(id)),
+        _ => Ok(None),
+    }
+}
+
+/// The members of a block.
+#[tactic(auto, using(crate::proofs::Rows::member_rows))]
+pub fn members_of(
+    alloc: Global,
+    module: &Module,
+    decor: &Decor,
+    block: &Inst,
+) -> Result<Vec<Member>, Fault>
+    ensures members { IfOk result (λ v. map member_of v.items ≡ members_in decor.now «module».now.globals block.now) }
+    ensures limit { IfErr result (IsLimit «module».now.globals) }
+{
+    let mut members = Vec::new(alloc);
+    for (k, id) in block.args.as_slice().iter().enumerate() {
+        members.push(Member {
+            id: *id,
+            offset: offset_of(decor, block.result, k),
+            shape: shape_before(alloc, module, block.at, *id)?,
+        })?;
+    }
+    Ok(members)
+}
+
+/// The type of a member, or a part of it, breaks a rule by itself.
+fn breaks_inside(module: &Module, decor: &Decor, kind: Kind, rule: Rule, member: &Member) -> bool
+    ensures { result ≡ breaks_inside_in decor.now «module».now.globals kind rule (member_of member.now) }
+{
+    match &member.shape {
+        Some(shape) => any_part_breaks(module, decor, kind, rule, member.id, shape),
+        None => false,
+    }
+}
+
+/// The Offset of a member is no multiple of its alignment.
+fn is_misaligned(kind: Kind, member: &Member) -> bool
+    ensures { result ≡ is_misaligned_in kind (member_of member.now) }
+{
+    match (member.offset, &member.shape) {
+        (Some(offset), Some(shape)) => u64::from(offset) % alignment(shape, kind) != 0,
+        _ => false,
+    }
+}
+
+/// Where a shape ends that stands at an offset; its size is counted up to `CAP`.
+fn end_behind(offset: u32, shape: &Shape, kind: Kind) -> u64
+    ensures { min CAP result ≡ min CAP (offset + size_of kind (tree_of shape.now)) }
+{
+    u64::from(offset) + size(shape, kind)
+}
+
+/// Where a member ends; its size is counted up to `CAP`.
+fn end_capped(kind: Kind, member: &Member) -> u64
+    ensures { min CAP result ≡ min CAP (end_of kind (member_of member.now)) }
+{
+    match (member.offset, &member.shape) {
+        (Some(offset), Some(shape)) => end_behind(offset, shape, kind),
+        _ => 0,
+    }
+}
+
+/// The end of a member is past the last byte.
+#[tactic(auto, using(crate::proofs::Steps::past_of_capped))]
+fn is_end_past(kind: Kind, member: &Member) -> bool
+    ensures { result ≡ is_past (end_of kind (member_of member.now)) }
+{
+    end_capped(kind, member) >= CAP
+}
+
+/// An offset is below an end that is counted up to `CAP`.
+#[tactic(auto, using(crate::proofs::Steps::capped_below))]
+fn is_below(offset: u32, end: u64) -> bool
+    ensures { (n : ℕ) → min CAP end ≡ min CAP n → result ≡ nat_lt offset n }
+{
+    u64::from(offset) < end
+}
+
+/// A member begins below the end of another.
+fn begins_below(kind: Kind, other: &Member, member: &Member) -> bool
+    ensures { result ≡ begins_below_in kind (member_of other.now) (member_of member.now) }
+{
+    match (member.offset, &member.shape) {
+        (Some(offset), Some(_)) => is_below(offset, end_capped(kind, other)),
+        _ => false,
+    }
+}
+
+/// A member begins below the end of the one directly before it.
+#[tactic(auto, using(crate::proofs::Rows::overlap_rows))]
+fn any_overlap(kind: Kind, members: &[Member]) -> bool
+    ensures { result ≡ any_overlap_in kind None (map member_of members.now) }
+{
+    let mut before: Option<&Member> = None;
+    for member in members {
+        if before.map_or(false, |other| begins_below(kind, other, member)) {
+            return true;
+        }
+        before = Some(member);
+    }
+    false
+}
+
+/// A member breaks a rule.
+#[tactic(auto, unfolding(layout_rules::specs::Blocks::member_breaks))]
+fn member_breaks(module: &Module, decor: &Decor, kind: Kind, rule: Rule, member: &Member) -> bool
+    ensures { result ≡ member_breaks_in decor.now «module».now.globals kind rule (member_of member.now) }
+{
+    match rule {
+        Rule::L1 => member.offset.is_none() || breaks_inside(module, decor, kind, rule, member),
+        Rule::L2 | Rule::L3 | Rule::L6 => breaks_inside(module, decor, kind, rule, member),
+        Rule::L4 => is_misaligned(kind, member),
+        Rule::L7 => is_end_past(kind, member) || breaks_inside(module, decor, kind, rule, member),
+        _ => false,
+    }
+}
+
+/// Some member does.
+#[tactic(auto, using(crate::proofs::Rows::any_rows))]
+fn some_breaks(module: &Module, decor: &Decor, kind: Kind, rule: Rule, members: &[Member]) -> bool
+    ensures { result ≡ list_any (member_breaks_in decor.now «module».now.globals kind rule) (map member_of members.now) }
+{
+    for member in members {
+        if member_breaks(module, decor, kind, rule, member) {
+            return true;
+        }
+    }
+    false
+}
+
+/// A block with these members breaks a rule.
+#[tactic(auto, unfolding(layout_rules::specs::Blocks::members_break))]
+fn members_break(module: &Module, decor: &Decor, kind: Kind, rule: Rule, members: &[Member]) -> bool
+    ensures { result ≡ members_break_in decor.now «module».now.globals kind (map member_of members.now) rule }
+{
+    match rule {
+        Rule::L5 => any_overlap(kind, members),
+        _ => some_breaks(module, decor, kind, rule, members),
+    }
+}
+
+/// The first rule that a block with these members breaks.
+pub fn first_broken(module: &Module, decor: &Decor, kind: Kind, members: &[Member]) -> Option<Rule>
+    ensures { result ≡ first_broken_in decor.now «module».now.globals kind (map member_of members.now) }
+{
+    [
+        Rule::L1,
+        Rule::L2,
+        Rule::L3,
+        Rule::L4,
+        Rule::L5,
+        Rule::L6,
+        Rule::L7,
+    ]
+    .iter()
+    .copied()
+    .find(|rule| members_break(module, decor, kind, *rule, members))
+}

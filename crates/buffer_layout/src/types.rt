@@ -1,0 +1,67 @@
+// The layout of a type.
+ghost use Rattle.std.specs.Prelude.{◌≡◌, IfOk, IfErr, OnOk, find};
+ghost use Rattle.spv_types.specs.View.{tree_of};
+ghost use Rattle.spv_types.specs.Types.{IsWithin, type_tree};
+ghost use Rattle.layout_rules.specs.Sizes.{layout_or_zeros};
+ghost use Rattle.layout_rules.specs.Parts.{any_part};
+ghost use Rattle.layout_rules.specs.Rules.{breaks as breaks_in};
+ghost use Rattle.layout_rules.specs.Blocks.{place_of as place_in, type_rules, type_breaks, IsRightOfType};
+ghost use Rattle.buffer_layout.specs.Plan.{type_layout};
+
+use crate::layouts::{layout_of, zeros};
+use crate::parts::any_part_breaks;
+use crate::plan::Layout;
+use layout_rules::Kind;
+use spv_decor::Decor;
+use spv_module::{Id, Module, Shape};
+use spv_types::shape;
+use spv_words::{Fault, Refusal, Rule};
+use std::alloc::Global;
+
+/// Where a global stands, or 0.
+fn place_of(module: &Module, id: Id) -> u32
+    ensures { result ≡ place_in «module».now.globals id.0 }
+{
+    module.global(id).map_or(0, |inst| inst.at)
+}
+
+/// The first rule that the type with this id and this shape, or a part of it, breaks by itself.
+fn first_broken(module: &Module, decor: &Decor, kind: Kind, id: u32, shape: &Shape) -> Option<Rule>
+    ensures { result ≡ find (λ rule. any_part (breaks_in decor.now kind rule) «module».now.globals id (tree_of shape.now)) type_rules }
+{
+    [Rule::L2, Rule::L3, Rule::L7].iter().copied().find(|rule| any_part_breaks(
+        module, decor, kind, *rule, id, shape,
+    ))
+}
+
+/// The layout of a type by std430 or std140, or zeros where the type has no shape. A length that is
+/// a specialization constant counts 0 (SPIR-V 1.6, section 2.16.2; OpenGL 4.6, section 7.6.2.2).
+///
+/// It refuses, at the variable, by L2: an ArrayStride that is missing or not the layout's; L3: a
+/// bool; L7: an end past the last byte that 32 bits can number. An end is that of an array, of one
+/// of its elements or of a struct. It refuses by the limits on types where the type passes one.
+#[tactic(auto, using(crate::proofs::Taken::type_fits))]
+pub fn layout(
+    alloc: Global,
+    module: &Module,
+    decor: &Decor,
+    variable: Id,
+    ty: Id,
+    kind: Kind,
+) -> Result<Layout, Fault>
+    ensures layout { IfOk result (λ l. type_layout l ≡ layout_or_zeros kind (type_tree «module».now.globals ty.0)) }
+    ensures within { OnOk result (IsWithin «module».now.globals ty.0) }
+    ensures passes { OnOk result (find (type_breaks decor.now «module».now.globals kind ty.0) type_rules ≡ None) }
+    ensures refused { IfErr result (IsRightOfType decor.now «module».now.globals kind variable.0 ty.0) }
+{
+    let Some(shape) = shape(alloc, module, ty)? else {
+        return Ok(zeros(alloc));
+    };
+    match first_broken(module, decor, kind, ty.0, &shape) {
+        Some(rule) => Err(Fault::Refused(Refusal {
+            rule,
+            at: place_of(module, variable),
+        })),
+        None => Ok(layout_of(alloc, kind, &shape)?),
+    }
+}

@@ -1,0 +1,14 @@
+pub mod Release
+pub mod Counts
+pub mod Steps
+pub mod Unlisted
+pub mod CallCounts
+pub mod Trail
+pub mod Waits
+pub mod Walks
+pub mod Listed
+pub mod Deep
+pub mod Numbers
+pub mod Transfer
+pub mod Ordered
+pub mod Told

@@ -1,0 +1,2 @@
+mod LayoutExamples
+mod BlockExamples

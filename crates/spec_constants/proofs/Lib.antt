@@ -1,0 +1,5 @@
+pub mod Digits
+pub mod Repeats
+pub mod Givens
+pub mod Sets
+pub mod Counts

@@ -1,0 +1,3 @@
+pub mod Unparsed
+pub mod Fit
+pub mod Counted

@@ -1,0 +1,15 @@
+// The values of a module's constants, where specialization constants may be overridden.
+#![tactic(auto)]
+
+mod fit;
+mod given_words;
+mod leaves;
+mod numerals;
+mod overrides;
+#[cfg(test)]
+mod tests;
+
+pub use fit::check_overrides;
+pub use leaves::check_leaves;
+pub use overrides::{Overrides, Unparsed};
+pub use profile_rules::Given;
