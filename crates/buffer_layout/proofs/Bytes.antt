@@ -29,16 +29,6 @@ pub end_above : (kind : Kind) (end : ℕ) (ts : Trees) → end ≤ end_from kind
 end_above kind end no_trees = omega arith
 end_above kind end (tree t ts) = omega (arith, aligned_above end (alignment_of kind t), end_above kind (aligned end (alignment_of kind t) + size_of kind t) ts)
 
--- where members end that stand behind an end that was cut at the cap, cut at the cap
-pub capped_end : (kind : Kind) (end size cap : ℕ) (ts : Trees) → min cap (end_from kind (min cap (end + min cap size)) ts) ≡ min cap (end_from kind (end + size) ts)
-capped_end kind end size cap ts =
-    elim (cases_lt (end + size) cap) [
-      | inl w ↦ let whole : min cap (end + min cap size) ≡ end + size = omega (arith, w) in rw whole refl
-      | inr w ↦
-          let cut : min cap (end + min cap size) ≡ cap = omega (arith, w) in
-          rw cut (omega (arith, w, end_above kind cap ts, end_above kind (end + size) ts))
-    ]
-
 pub end_next : (kind : Kind) (end : ℕ) (l : List Shape) (i : ℕ) (d : Shape) → i < length l → end_from kind end (trees_of (drop i l)) ≡ end_from kind (aligned end (alignment_of kind (tree_of (get_or l i d))) + size_of kind (tree_of (get_or l i d))) (trees_of (drop (i + 1) l))
 end_next kind end l i d inside = ap (end_from kind end) (rest_next l i d inside)
 
@@ -48,13 +38,6 @@ end_last kind end l i past = ap (end_from kind end) (rest_end l i past)
 pub greatest_next : (kind : Kind) (l : List Shape) (i : ℕ) (d : Shape) → i < length l → greatest_alignment kind (trees_of (drop i l)) ≡ max (alignment_of kind (tree_of (get_or l i d))) (greatest_alignment kind (trees_of (drop (i + 1) l)))
 greatest_next kind l i d inside = ap (greatest_alignment kind) (rest_next l i d inside)
 
-pub greatest_last : (kind : Kind) (l : List Shape) (i : ℕ) → length l ≤ i → greatest_alignment kind (trees_of (drop i l)) ≡ 1
-greatest_last kind l i past = ap (greatest_alignment kind) (rest_end l i past)
-
 pub greatest_positive : (kind : Kind) (ts : Trees) → 0 < greatest_alignment kind ts
 greatest_positive kind no_trees = omega arith
 greatest_positive kind (tree t ts) = omega (arith, greatest_positive kind ts)
-
-pub ruleset alignment_rules = (greatest_next, greatest_last, greatest_positive)
-
-pub ruleset end_rules = (capped_end, end_next, end_last)

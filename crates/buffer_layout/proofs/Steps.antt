@@ -29,11 +29,6 @@ past_of_capped m n same = grind (arith, nat_tests)
 pub lacks_next : (heads : List Inst) (id k : ℕ) (l : List Shape) (i : ℕ) (d : Shape) → i < length l → lacks_from heads id k (trees_of (drop i l)) ≡ (is_none (offset_of heads id k) || lacks_from heads id (k + 1) (trees_of (drop (i + 1) l)))
 lacks_next heads id k l i d inside = ap (lacks_from heads id k) (rest_next l i d inside)
 
-pub lacks_end : (heads : List Inst) (id k : ℕ) (l : List Shape) (i : ℕ) → length l ≤ i → lacks_from heads id k (trees_of (drop i l)) ≡ false
-lacks_end heads id k l i past = ap (lacks_from heads id k) (rest_end l i past)
-
-pub ruleset lacks_rules = (lacks_next, lacks_end)
-
 -- where the first i members end
 abbrev pub end_before : Kind → List Shape → ℕ → ℕ
 end_before kind l i = end_from kind 0 (trees_of (take i l))
@@ -49,33 +44,21 @@ end_before_next kind l i d inside = let more : i + 1 ≡ suc i = omega arith in 
 pub others_next : (heads : List Inst) (kind : Kind) (id k end : ℕ) (l : List Shape) (i : ℕ) (d : Shape) → i < length l → others_from heads kind id k end (trees_of (drop i l)) ≡ (is_other (offset_of heads id k) (aligned end (alignment_of kind (tree_of (get_or l i d)))) || others_from heads kind id (k + 1) (aligned end (alignment_of kind (tree_of (get_or l i d))) + size_of kind (tree_of (get_or l i d))) (trees_of (drop (i + 1) l)))
 others_next heads kind id k end l i d inside = ap (others_from heads kind id k end) (rest_next l i d inside)
 
--- the next member is the one
-pub others_found : (heads : List Inst) (kind : Kind) (id end : ℕ) (l : List Shape) (i : ℕ) (d : Shape) → i < length l → is_other (offset_of heads id i) (aligned end (alignment_of kind (tree_of (get_or l i d)))) ≡ true → others_from heads kind id i end (trees_of (drop i l)) ≡ true
-others_found heads kind id end l i d inside found = others_next heads kind id i end l i d inside ∙ rw found refl
-
--- the next member is not the one
-pub others_passed : (heads : List Inst) (kind : Kind) (id end : ℕ) (l : List Shape) (i : ℕ) (d : Shape) → i < length l → is_other (offset_of heads id i) (aligned end (alignment_of kind (tree_of (get_or l i d)))) ≡ false → others_from heads kind id i end (trees_of (drop i l)) ≡ others_from heads kind id (i + 1) (aligned end (alignment_of kind (tree_of (get_or l i d))) + size_of kind (tree_of (get_or l i d))) (trees_of (drop (i + 1) l))
-others_passed heads kind id end l i d inside other = others_next heads kind id i end l i d inside ∙ rw other refl
-
-pub others_end : (heads : List Inst) (kind : Kind) (id k end : ℕ) (l : List Shape) (i : ℕ) → length l ≤ i → others_from heads kind id k end (trees_of (drop i l)) ≡ false
-others_end heads kind id k end l i past = ap (others_from heads kind id k end) (rest_end l i past)
-
--- what a test says of an offset behind an end that was cut at the cap, it says of the offset
-pub other_test : (literal : Option ℕ) (tested : Bool) (offset end cut alignment cap : ℕ) → ((n : ℕ) → min cap offset ≡ min cap n → tested ≡ is_other literal n) → offset ≡ aligned cut alignment → cut ≡ min cap end → tested ≡ is_other literal (aligned end alignment)
-other_test literal tested offset end cut alignment cap test here behind =
-    test (aligned end alignment) (ap (min cap) (here ∙ ap (λ n. aligned n alignment) behind) ∙ capped_aligned end alignment cap)
-
 pub end_step : (offset end cut alignment size cap : ℕ) → offset ≡ aligned cut alignment → cut ≡ min cap end → min cap (offset + min cap size) ≡ min cap (aligned end alignment + size)
 end_step offset end cut alignment size cap here behind =
     let same : min cap offset ≡ min cap (aligned end alignment) = ap (min cap) (here ∙ ap (λ n. aligned n alignment) behind) ∙ capped_aligned end alignment cap in
     omega arith
 
-pub ruleset other_rules = (end_before_next, others_end)
-
 pub member_next : (test : ℕ → Tree → Bool) (gs : List Inst) (id k : ℕ) (l : List Shape) (i : ℕ) (d : Shape) → i < length l → any_member test gs id k (trees_of (drop i l)) ≡ (any_part test gs (part_id gs id k) (tree_of (get_or l i d)) || any_member test gs id (k + 1) (trees_of (drop (i + 1) l)))
 member_next test gs id k l i d inside = ap (any_member test gs id k) (rest_next l i d inside)
 
-pub member_end : (test : ℕ → Tree → Bool) (gs : List Inst) (id k : ℕ) (l : List Shape) (i : ℕ) → length l ≤ i → any_member test gs id k (trees_of (drop i l)) ≡ false
-member_end test gs id k l i past = ap (any_member test gs id k) (rest_end l i past)
+pub one_more : (a f r : Bool) → ((a || f) || r) ≡ (a || (f || r))
+one_more true f r = refl
+one_more false f r = refl
 
-pub ruleset member_rules = (member_next, member_end)
+pub two_more : (a o f s r : Bool) → ((a || (o || f)) || (s || r)) ≡ (a || ((o || s) || (f || r)))
+two_more true o f s r = refl
+two_more false true f s r = refl
+two_more false false false s r = refl
+two_more false false true true r = refl
+two_more false false true false r = refl

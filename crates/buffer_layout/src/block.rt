@@ -1,7 +1,6 @@
 // The plan of a block variable.
 ghost use Rattle.std.specs.Prelude.{◌≡◌, ◌↔◌, IfOk, IfErr, IsTrue, OnOk, OnErr, true, map};
 ghost use Rattle.std.specs.Option.{option_copied};
-ghost use Rattle.spv_index.specs.Pointers.{pointee as pointee_in};
 ghost use Rattle.spv_types.specs.Types.{IsWithin};
 ghost use Rattle.layout_rules.specs.Blocks.{first_kind as first_kind_of, kind_of_members, members_break, first_broken as first_broken_in, is_block_class as is_block_class_number, block_of as block_in, IsBlockVariable, IsRightAt, IsRight};
 ghost use Rattle.buffer_layout.specs.Members.{member_of};
@@ -12,6 +11,7 @@ use crate::members::{Member, first_broken, members_of};
 use crate::plan::BlockPlan;
 use layout_rules::Kind;
 use spv_decor::Decor;
+use spv_index::pointer;
 use spv_module::{Id, Inst, Module};
 use spv_types::shape;
 use spv_words::{Fault, Refusal, Rule};
@@ -30,24 +30,16 @@ fn is_block_class(class: u32) -> bool
     matches!(class, UNIFORM | PUSH_CONSTANT | STORAGE_BUFFER)
 }
 
-/// The type that a pointer type (OpTypePointer) points to.
-fn pointee(module: &Module, ty: u32) -> Option<u32>
-    ensures { result ≡ pointee_in «module».now.globals ty }
+/// The struct (OpTypeStruct) that a block variable points to, and `None` exactly where the
+/// instruction is no OpVariable of class Uniform, PushConstant or StorageBuffer whose type is a
+/// pointer to a struct (SPIR-V 1.6, sections 3.7 and 3.49.8).
+pub fn block_of<'a>(module: &'a Module, inst: &Inst) -> Option<&'a Inst>
+    ensures { option_copied result ≡ block_in «module».now.globals inst.now }
 {
-    match module.global(Id(ty)) {
-        Some(inst) if inst.op == 32 => Some(inst.operand(1)),
-        _ => None,
-    }
-}
-
-/// The struct (OpTypeStruct) of a block variable (OpVariable).
-fn block_of<'a>(module: &'a Module, variable: &Inst) -> Option<&'a Inst>
-    ensures { option_copied result ≡ block_in «module».now.globals variable.now }
-{
-    if variable.op != 59 || !is_block_class(variable.operand(0)) {
+    if inst.op != 59 || !is_block_class(inst.operand(0)) {
         return None;
     }
-    let block = module.global(Id(pointee(module, variable.ty)?))?;
+    let block = module.global(pointer(module, Id(inst.ty))?.pointee)?;
     if block.op == 30 { Some(block) } else { None }
 }
 
@@ -107,7 +99,7 @@ fn plan_of(
     let _ = shape(alloc, module, Id(block.result))?;
     let members = members_of(alloc, module, decor, block)?;
     match taken_kind(module, decor, variable.operand(0), &members) {
-        Ok(kind) => Ok(plan(alloc, kind, &members)?),
+        Ok(kind) => Ok(plan(alloc, module, decor, kind, &members)?),
         Err(rule) => Err(Fault::Refused(Refusal {
             rule,
             at: variable.at,

@@ -2,17 +2,17 @@
 #![tactic(auto)]
 
 mod block;
-mod breaks;
+mod decorations;
 mod layouts;
+mod measure;
 mod members;
-mod parts;
 mod plan;
 mod sizes;
 #[cfg(test)]
 mod tests;
 mod types;
 
-pub use block::{check_block, is_block_variable};
+pub use block::{block_of, check_block, is_block_variable};
 pub use layout_rules::Kind;
 pub use plan::{BlockPlan, Layout};
 pub use types::layout;

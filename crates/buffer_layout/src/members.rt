@@ -1,16 +1,18 @@
 // The members of a block, and the rules on layout that they break.
-ghost use Rattle.std.specs.Prelude.{◌≡◌, ◌+◌, ℕ, IfOk, IfErr, map, min, nat_lt, option_map};
+ghost use Rattle.std.specs.Prelude.{◌≡◌, ◌+◌, ◌≤◌, ℕ, IfOk, IfErr, map, min, nat_lt, option_map, false};
 ghost use Rattle.std.specs.List.{list_any};
+ghost use Rattle.std.specs.Option.{option_map_or};
 ghost use Rattle.spv_types.specs.View.{tree_of};
 ghost use Rattle.spv_types.specs.Types.{tree_before, IsRight as IsRightType};
 ghost use Rattle.layout_rules.specs.Sizes.{size_of};
 ghost use Rattle.layout_rules.specs.Rules.{is_past};
-ghost use Rattle.layout_rules.specs.Blocks.{members_of as members_in, breaks_inside as breaks_inside_in, is_misaligned as is_misaligned_in, end_of, begins_below as begins_below_in, any_overlap as any_overlap_in, member_breaks as member_breaks_in, members_break as members_break_in, first_broken as first_broken_in, IsLimit};
+ghost use Rattle.layout_rules.specs.Blocks.{members_of as members_in, is_misaligned as is_misaligned_in, end_of, begins_below as begins_below_in, any_overlap as any_overlap_in, member_breaks as member_breaks_in, members_break as members_break_in, first_broken as first_broken_in, IsLimit};
 ghost use Rattle.buffer_layout.specs.Members.{member_of};
+ghost use Rattle.buffer_layout.specs.Measures.{IsMeasureOfMember};
 
-use crate::breaks::offset_of;
-use crate::parts::any_part_breaks;
-use crate::sizes::{CAP, alignment, size};
+use crate::decorations::offset_of;
+use crate::measure::{Measured, either, leaf, measure};
+use crate::sizes::CAP;
 use layout_rules::Kind;
 use spv_decor::Decor;
 use spv_module::{Id, Inst, Module, Shape};
@@ -66,49 +68,54 @@ pub fn members_of(
     Ok(members)
 }
 
-/// The type of a member, or a part of it, breaks a rule by itself.
-fn breaks_inside(module: &Module, decor: &Decor, kind: Kind, rule: Rule, member: &Member) -> bool
-    ensures { result ≡ breaks_inside_in decor.now «module».now.globals kind rule (member_of member.now) }
+/// The measure of a member's type, in which nothing is wrong where it has no shape.
+fn measure_inside(module: &Module, decor: &Decor, kind: Kind, member: &Member) -> Measured
+    ensures { IsMeasureOfMember decor.now «module».now.globals kind (member_of member.now) result }
 {
     match &member.shape {
-        Some(shape) => any_part_breaks(module, decor, kind, rule, member.id, shape),
-        None => false,
+        Some(shape) => measure(module, decor, kind, member.id, shape),
+        None => leaf(0, 1, false),
     }
 }
 
 /// The Offset of a member is no multiple of its alignment.
-fn is_misaligned(kind: Kind, member: &Member) -> bool
+fn is_misaligned(module: &Module, decor: &Decor, kind: Kind, member: &Member) -> bool
     ensures { result ≡ is_misaligned_in kind (member_of member.now) }
 {
     match (member.offset, &member.shape) {
-        (Some(offset), Some(shape)) => u64::from(offset) % alignment(shape, kind) != 0,
+        (Some(offset), Some(shape)) => {
+            u64::from(offset) % measure(module, decor, kind, member.id, shape).alignment != 0
+        }
         _ => false,
     }
 }
 
-/// Where a shape ends that stands at an offset; its size is counted up to `CAP`.
-fn end_behind(offset: u32, shape: &Shape, kind: Kind) -> u64
-    ensures { min CAP result ≡ min CAP (offset + size_of kind (tree_of shape.now)) }
+/// Where something ends that stands at an offset; its size is counted up to `CAP`.
+fn end_behind(offset: u32, size: u64) -> u64
+    requires { size ≤ CAP }
+    ensures { (n : ℕ) → size ≡ min CAP n → min CAP result ≡ min CAP (offset + n) }
 {
-    u64::from(offset) + size(shape, kind)
+    u64::from(offset) + size
 }
 
 /// Where a member ends; its size is counted up to `CAP`.
-fn end_capped(kind: Kind, member: &Member) -> u64
+fn end_capped(module: &Module, decor: &Decor, kind: Kind, member: &Member) -> u64
     ensures { min CAP result ≡ min CAP (end_of kind (member_of member.now)) }
 {
     match (member.offset, &member.shape) {
-        (Some(offset), Some(shape)) => end_behind(offset, shape, kind),
+        (Some(offset), Some(shape)) => {
+            end_behind(offset, measure(module, decor, kind, member.id, shape).size)
+        }
         _ => 0,
     }
 }
 
 /// The end of a member is past the last byte.
 #[tactic(auto, using(crate::proofs::Steps::past_of_capped))]
-fn is_end_past(kind: Kind, member: &Member) -> bool
+fn is_end_past(module: &Module, decor: &Decor, kind: Kind, member: &Member) -> bool
     ensures { result ≡ is_past (end_of kind (member_of member.now)) }
 {
-    end_capped(kind, member) >= CAP
+    end_capped(module, decor, kind, member) >= CAP
 }
 
 /// An offset is below an end that is counted up to `CAP`.
@@ -120,23 +127,39 @@ fn is_below(offset: u32, end: u64) -> bool
 }
 
 /// A member begins below the end of another.
-fn begins_below(kind: Kind, other: &Member, member: &Member) -> bool
+fn begins_below(module: &Module, decor: &Decor, kind: Kind, other: &Member, member: &Member) -> bool
     ensures { result ≡ begins_below_in kind (member_of other.now) (member_of member.now) }
 {
     match (member.offset, &member.shape) {
-        (Some(offset), Some(_)) => is_below(offset, end_capped(kind, other)),
+        (Some(offset), Some(_)) => is_below(offset, end_capped(module, decor, kind, other)),
         _ => false,
     }
 }
 
-/// A member begins below the end of the one directly before it.
+/// A member begins below the end of the one directly before it, where there is one.
+fn overlaps(
+    module: &Module,
+    decor: &Decor,
+    kind: Kind,
+    before: Option<&Member>,
+    member: &Member,
+) -> bool
+    ensures { result ≡ option_map_or (λ other. begins_below_in kind other (member_of member.now)) (option_map (λ b. member_of b.now) before.entry) false }
+{
+    match before {
+        Some(other) => begins_below(module, decor, kind, other, member),
+        None => false,
+    }
+}
+
+/// Some member does.
 #[tactic(auto, using(crate::proofs::Rows::overlap_rows))]
-fn any_overlap(kind: Kind, members: &[Member]) -> bool
+fn any_overlap(module: &Module, decor: &Decor, kind: Kind, members: &[Member]) -> bool
     ensures { result ≡ any_overlap_in kind None (map member_of members.now) }
 {
     let mut before: Option<&Member> = None;
     for member in members {
-        if before.map_or(false, |other| begins_below(kind, other, member)) {
+        if overlaps(module, decor, kind, before, member) {
             return true;
         }
         before = Some(member);
@@ -150,10 +173,18 @@ fn member_breaks(module: &Module, decor: &Decor, kind: Kind, rule: Rule, member:
     ensures { result ≡ member_breaks_in decor.now «module».now.globals kind rule (member_of member.now) }
 {
     match rule {
-        Rule::L1 => member.offset.is_none() || breaks_inside(module, decor, kind, rule, member),
-        Rule::L2 | Rule::L3 | Rule::L6 => breaks_inside(module, decor, kind, rule, member),
-        Rule::L4 => is_misaligned(kind, member),
-        Rule::L7 => is_end_past(kind, member) || breaks_inside(module, decor, kind, rule, member),
+        Rule::L1 => either(
+            member.offset.is_none(),
+            measure_inside(module, decor, kind, member).lacks_offset,
+        ),
+        Rule::L2 => measure_inside(module, decor, kind, member).other_stride,
+        Rule::L3 => measure_inside(module, decor, kind, member).has_bool,
+        Rule::L4 => is_misaligned(module, decor, kind, member),
+        Rule::L6 => measure_inside(module, decor, kind, member).other_offset,
+        Rule::L7 => either(
+            is_end_past(module, decor, kind, member),
+            measure_inside(module, decor, kind, member).ends_past,
+        ),
         _ => false,
     }
 }
@@ -177,7 +208,7 @@ fn members_break(module: &Module, decor: &Decor, kind: Kind, rule: Rule, members
     ensures { result ≡ members_break_in decor.now «module».now.globals kind (map member_of members.now) rule }
 {
     match rule {
-        Rule::L5 => any_overlap(kind, members),
+        Rule::L5 => any_overlap(module, decor, kind, members),
         _ => some_breaks(module, decor, kind, rule, members),
     }
 }

@@ -9,7 +9,7 @@ ghost use Rattle.layout_rules.specs.Blocks.{place_of as place_in, type_rules, ty
 ghost use Rattle.buffer_layout.specs.Plan.{type_layout};
 
 use crate::layouts::{layout_of, zeros};
-use crate::parts::any_part_breaks;
+use crate::measure::measure;
 use crate::plan::Layout;
 use layout_rules::Kind;
 use spv_decor::Decor;
@@ -29,9 +29,17 @@ fn place_of(module: &Module, id: Id) -> u32
 fn first_broken(module: &Module, decor: &Decor, kind: Kind, id: u32, shape: &Shape) -> Option<Rule>
     ensures { result ≡ find (λ rule. any_part (breaks_in decor.now kind rule) «module».now.globals id (tree_of shape.now)) type_rules }
 {
-    [Rule::L2, Rule::L3, Rule::L7].iter().copied().find(|rule| any_part_breaks(
-        module, decor, kind, *rule, id, shape,
-    ))
+    let found = measure(module, decor, kind, id, shape);
+    if found.other_stride {
+        return Some(Rule::L2);
+    }
+    if found.has_bool {
+        return Some(Rule::L3);
+    }
+    if found.ends_past {
+        return Some(Rule::L7);
+    }
+    None
 }
 
 /// The layout of a type by std430 or std140, or zeros where the type has no shape. A length that is
@@ -62,6 +70,6 @@ pub fn layout(
             rule,
             at: place_of(module, variable),
         })),
-        None => Ok(layout_of(alloc, kind, &shape)?),
+        None => Ok(layout_of(alloc, module, decor, kind, ty.0, &shape)?),
     }
 }

@@ -66,6 +66,15 @@ fn put(bytes: &mut Vec<u8>, words: &[u32]) -> Result<(), AllocError> {
     Ok(())
 }
 
+// The module with these bytes.
+fn read(alloc: Global, bytes: &[u8]) -> Result<Module, Fault> {
+    if bytes.len() > 1048576 {
+        return Err(Fault::Limit(Limit::Bytes));
+    }
+    let words = Words::of(alloc, bytes)?;
+    Module::read(alloc, &words)
+}
+
 // A module of functions: each its id and the ids of those that it calls, with 7 words and 4 for each
 // call, from word 10 on.
 fn module_of(alloc: Global, functions: &[(u32, &[u32])]) -> Result<Module, Fault> {
@@ -82,11 +91,7 @@ fn module_of(alloc: Global, functions: &[(u32, &[u32])]) -> Result<Module, Fault
         }
         put(&mut bytes, &[0x100fd, 0x10038])?;
     }
-    if bytes.len() > 1048576 {
-        return Err(Fault::Limit(Limit::Bytes));
-    }
-    let words = Words::of(alloc, &bytes)?;
-    Module::read(alloc, &words)
+    read(alloc, &bytes)
 }
 
 #[test]
@@ -143,11 +148,7 @@ fn chain(alloc: Global, count: u32) -> Result<Module, Fault> {
     }
     put(&mut bytes, &[0x50036, 1, count, 0, 2, 0x200f8, 3000])?;
     put(&mut bytes, &[0x100fd, 0x10038])?;
-    if bytes.len() > 1048576 {
-        return Err(Fault::Limit(Limit::Bytes));
-    }
-    let words = Words::of(alloc, &bytes)?;
-    Module::read(alloc, &words)
+    read(alloc, &bytes)
 }
 
 #[test]

@@ -1,12 +1,14 @@
 -- Why a command ended so, and what it did to its input and output.
-use Rattle.std.specs.Prelude.{ℕ, ◌≡◌, ◌<◌, ◌⊎◌, List, length, Option, IfSome}
+use Rattle.std.specs.Prelude.{ℕ, ◌≡◌, ◌<◌, ◌≤◌, ◌⊎◌, List, length, Option, IfSome}
 use Rattle.std.specs.Io.KnownBytes.{Appends, Consumes, IsAtEnd}
 use Rattle.cc_outside.specs.Causes.{Rose, AppendsPrefix}
 use Rattle.spv_words.specs.Limit.{limit_number}
 use Rattle.spv_words.specs.declared.rule.Limit.TheVariants.{Bytes}
 use Rattle.spv_words.specs.declared.rule.Rule.TheVariants.{P0}
-use Rattle.profile_rules.specs.Rules.{Exceeds, IsWithinLimits}
-use Rattle.cross_core.specs.declared.commands.Command.{Command}
+use Rattle.spv_words.specs.declared.rule.Fault.{Fault}
+use Rattle.spv_words.specs.declared.rule.Fault.TheVariants.{Refused as RefusedFault, Limit as LimitFault, Memory as NoMemory}
+use Rattle.conformance.specs.Rules.{Exceeds, IsWithinLimits}
+use Rattle.cross_core.specs.State.{CommandState}
 use Rattle.cross_core.specs.declared.endings.Ending.{Ending}
 use Rattle.cross_core.specs.declared.endings.Ending.TheVariants.{Done, Usage, Refused, Limit, ReadFault, WriteFault, Memory}
 use Rattle.cross_core.specs.Commands.{Meets, BreaksFor}
@@ -22,14 +24,20 @@ status_of ReadFault = 4
 status_of WriteFault = 5
 status_of Memory = 6
 
--- what the bytes of the module are, where a command ended so over them
-abbrev pub IsCause : Command → List ℕ → Ending → Type 0
-IsCause command bytes Done = Meets command bytes × IsWithinLimits bytes
+-- the ending that a fault of a module is
+abbrev pub ending_of : Fault → Ending
+ending_of (RefusedFault r) = Refused r
+ending_of (LimitFault l) = Limit l
+ending_of NoMemory = Memory
+
+-- what the bytes of the module are, where a command ended so over them; a rule is named only where there are no more of them than the limit
+abbrev pub IsCause : CommandState → List ℕ → Ending → Type 0
+IsCause command bytes Done = Meets command bytes × IsWithinLimits bytes command.options
 IsCause command bytes Usage = ⊥
-IsCause command bytes (Refused r) = BreaksFor command bytes r.rule r.at
-IsCause command bytes (Limit l) = Exceeds bytes l
+IsCause command bytes (Refused r) = (length bytes ≤ limit_number Bytes) × BreaksFor command bytes r.rule r.at
+IsCause command bytes (Limit l) = Exceeds bytes command.options l
 IsCause command bytes ReadFault = ⊥
-IsCause command bytes WriteFault = Meets command bytes × IsWithinLimits bytes
+IsCause command bytes WriteFault = Meets command bytes × IsWithinLimits bytes command.options
 IsCause command bytes Memory = Unit {0}
 
 -- what the words are, where their translation ended so
@@ -53,7 +61,7 @@ IsEndOfWriting WriteFault = Unit {0}
 IsEndOfWriting Memory = Unit {0}
 
 -- over a source: why a command ended so, where the source tells what was left
-abbrev pub HasCause : Command → Option (List ℕ) → (before now : ℕ) → Ending → Type 0
+abbrev pub HasCause : CommandState → Option (List ℕ) → (before now : ℕ) → Ending → Type 0
 HasCause command left before now Usage = ⊥
 HasCause command left before now ReadFault = Rose before now
 HasCause command left before now ending = IfSome left (λ bytes. IsCause command bytes ending)

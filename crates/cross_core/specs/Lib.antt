@@ -1,3 +1,4 @@
+pub mod State
 pub mod FirstForm
 pub mod Commands
 pub mod Lines
@@ -5,3 +6,4 @@ pub mod Wrote
 pub mod Endings
 pub mod Carried
 pub mod Grammatical
+pub mod Unread

@@ -1,8 +1,8 @@
 // How a command ends.
 ghost use Rattle.std.specs.Prelude.{◌≡◌};
-ghost use Rattle.cross_core.specs.Endings.{status_of};
+ghost use Rattle.cross_core.specs.Endings.{ending_of as ending_of_fault, status_of};
 
-use spv_words::{Limit, Refusal};
+use spv_words::{Fault, Limit, Refusal};
 
 /// How a command ended.
 #[derive(Clone, Copy, Debug, PartialEq, Eq)]
@@ -30,5 +30,16 @@ impl Ending {
             Ending::WriteFault => 5,
             Ending::Memory => 6,
         }
+    }
+}
+
+/// How a command ends over a module with a fault.
+pub fn ending_of(fault: Fault) -> Ending
+    ensures { result ≡ ending_of_fault fault }
+{
+    match fault {
+        Fault::Refused(refusal) => Ending::Refused(refusal),
+        Fault::Limit(limit) => Ending::Limit(limit),
+        Fault::Memory => Ending::Memory,
     }
 }

@@ -5,7 +5,6 @@ mod commands;
 mod endings;
 mod expressions;
 mod forms;
-mod judge;
 mod maker;
 mod notes;
 mod plan;

@@ -7,6 +7,7 @@ use std::alloc::{AllocError, Global};
 use std::test::Fail;
 
 mod modules;
+mod profile;
 
 use modules::{INCREMENT, PREFIX_SUMS};
 
@@ -75,16 +76,23 @@ fn changed(alloc: Global, at: usize, word: u32) -> Result<Vec<u8>, AllocError> {
     little(alloc, &words)
 }
 
-/// The first module with words put in.
-fn with_words(alloc: Global, at: usize, more: &[u32]) -> Result<Vec<u8>, AllocError> {
+/// The first module with the words from one on up to another replaced.
+fn replaced(alloc: Global, from: usize, end: usize, more: &[u32]) -> Result<Vec<u8>, AllocError> {
     let mut words = Vec::new(alloc);
     for (k, word) in INCREMENT.iter().enumerate() {
-        if k == at {
+        if k == from {
             words.extend_from_slice(more)?;
         }
-        words.push(*word)?;
+        if k < from || end <= k {
+            words.push(*word)?;
+        }
     }
     little(alloc, &words)
+}
+
+/// The first module with words put in.
+fn with_words(alloc: Global, at: usize, more: &[u32]) -> Result<Vec<u8>, AllocError> {
+    replaced(alloc, at, at, more)
 }
 
 #[test]
@@ -110,6 +118,7 @@ fn refuses_at_the_word(rt: HostRuntime) -> Result<(), Fail> {
     let alloc = rt.alloc();
     let check: &[&str] = &["check"];
     let glsl: &[&str] = &["glsl"];
+    let nope: &[&str] = &["check", "--entry", "nope"];
     for (command, bytes, status, line) in [
         (check, Vec::new(alloc), 2, "refused W2 at 0\n"),
         (check, [3, 2, 35].to_vec(alloc)?, 2, "refused W1 at 0\n"),
@@ -142,16 +151,23 @@ fn refuses_at_the_word(rt: HostRuntime) -> Result<(), Fail> {
             3,
             "limit bytes 1048576\n",
         ),
-        (glsl, changed(alloc, 18, 0)?, 2, "refused P0 at 0\n"),
+        (check, changed(alloc, 6, 10)?, 2, "refused P5 at 5\n"),
+        (glsl, changed(alloc, 18, 0)?, 2, "refused P9 at 16\n"),
+        (check, changed(alloc, 126, 5)?, 2, "refused T13 at 123\n"),
+        (check, changed(alloc, 126, 0x15)?, 2, "refused T1 at 123\n"),
+        (nope, little(alloc, &INCREMENT)?, 2, "refused X1 at 0\n"),
+        (glsl, little(alloc, &PREFIX_SUMS)?, 2, "refused P0 at 0\n"),
     ] {
         let ended = run(alloc, command, bytes, [&[], &[], &[]])?;
         assert_eq!(rt; ended.status, status, "{line}");
         assert_eq!(rt; ended.notes.as_slice(), line.as_bytes(), "{line}");
         assert_eq!(rt; ended.output.len(), 0, "{line}");
     }
-    let named = with_words(alloc, 22, &[0x30005, 0x12, 0x69])?;
-    let named = run(alloc, check, named, [&[], &[], &[]])?;
-    assert_eq!(rt; named.output.as_slice(), b"ok\n".as_slice());
+    for command in [check, &["check", "--entry", "main"]] {
+        let named = with_words(alloc, 22, &[0x30005, 0x12, 0x69])?;
+        let named = run(alloc, command, named, [&[], &[], &[]])?;
+        assert_eq!(rt; named.output.as_slice(), b"ok\n".as_slice());
+    }
     Ok(())
 }
 
@@ -184,8 +200,14 @@ fn ends_at_faults_and_usage(rt: HostRuntime) -> Result<(), Fail> {
         none,
         &["glsl", "--entry"],
         &["glsl", "--entry=main"],
+        &["check", "--entry", ""],
+        &["check", "--entry", "-x"],
+        &["--entry", "main", "check"],
         &["glsl", "03=1"],
         &["glsl", "3=-0"],
+        &["check", "3=1", "3=2"],
+        &["check", "--"],
+        &["check", "--help"],
         &["gen", "0"],
     ] {
         let usage = run(alloc, words, Vec::new(alloc), [&[0], &[], &[]])?;

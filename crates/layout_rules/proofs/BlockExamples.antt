@@ -2,7 +2,7 @@
 use Rattle.std.proofs.Common.{◌≡◌, ℕ, List, [], ◌∷◌, Some, None, true, false, refl}
 use Rattle.spv_words.specs.declared.rule.Rule.TheVariants.{L1, L2, L3, L4, L5, L6, L7}
 use Rattle.spv_module.specs.declared.inst.Inst.{Inst}
-use Rattle.spv_module.specs.declared.tree.Elem.TheVariants.{Uint}
+use Rattle.spv_module.specs.declared.tree.Elem.TheVariants.{Bool, Uint}
 use Rattle.spv_module.specs.declared.tree.Length.TheVariants.{Fixed}
 use Rattle.spv_types.specs.Tree.{Tree, boolean, uint, vector, array, runtime, struct, trees_in}
 use Rattle.spv_types.specs.Types.{kind, below}
@@ -109,6 +109,10 @@ behind = refl
 bools : (first_broken [] types Std430 (member 7 0 boolean ∷ []) ≡ Some L3) × (members_break [] types Std430 (member 8 0 (array boolean (Fixed 2)) ∷ []) L3 ≡ true)
 unfolding opened
 bools = (refl, refl)
+
+bool_vectors : (first_broken [] types Std430 (member 7 0 (vector Bool 2) ∷ []) ≡ Some L3) × (members_break (stride 8 8 ∷ []) types Std430 (member 8 0 (runtime (vector Bool 2)) ∷ []) L3 ≡ true)
+unfolding opened
+bool_vectors = (refl, refl)
 
 -- the last byte: a uint that ends at it, one that ends past it, and an array without an end of its own, of elements that have one
 abbrev last : ℕ

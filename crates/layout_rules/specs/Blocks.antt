@@ -83,11 +83,11 @@ block_rules = L1 ∷ L2 ∷ L3 ∷ L4 ∷ L5 ∷ L6 ∷ L7 ∷ []
 abbrev pub first_broken : List Inst → List Inst → Kind → List Member → Option Rule
 first_broken heads gs kind ms = find (members_break heads gs kind ms) block_rules
 
--- the layouts that a block of a storage class may take, the first that fits: of Uniform std140, of StorageBuffer and PushConstant std430, else std140
+-- the layout that a block of a storage class takes where it fits: of Uniform std140, of StorageBuffer and PushConstant std430
 abbrev pub first_kind : ℕ → Kind
 first_kind class = if class == 2 then Std140 else Std430
 
--- the layout that the block takes, where one fits: that is, where it breaks no rule
+-- the layout that the block takes: that of its class where it fits, that is, breaks no rule, else std140 where that fits
 abbrev pub kind_of_members : List Inst → List Inst → ℕ → List Member → Option Kind
 kind_of_members heads gs class ms =
     if is_none (first_broken heads gs (first_kind class) ms) then Some (first_kind class) else

@@ -1,5 +1,2 @@
-pub mod Repeats
-pub mod Members
-pub mod Folded
-pub mod Faults
-pub mod Faulty
+pub mod Plans
+pub mod Causes

@@ -1,14 +1,10 @@
-// The rules on memory, atomics and barriers.
+// The rules on the data of a module, and what is known of a module that breaks none of them.
 #![tactic(auto)]
 
-mod accesses;
-mod atomics;
-mod calls;
-mod memory_operands;
-mod pointer_way;
-mod stray_pointers;
+mod blocks;
+mod checks;
 #[cfg(test)]
 mod tests;
-mod values;
 
-pub use accesses::check_accesses;
+pub use checks::{Options, Profile, check_data, check_rest};
+pub use declaration_check::{Entry, check_declarations};

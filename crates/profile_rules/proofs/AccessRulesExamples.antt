@@ -1,6 +1,7 @@
 -- The rules on memory, atomics and barriers, computed on small modules.
 use Rattle.std.proofs.Common.{◌≡◌, ℕ, ◌++◌, List, [], ◌∷◌, map, take, drop, refl}
-use Rattle.spv_words.specs.declared.rule.Rule.TheVariants.{M1, M3, A2, A3}
+use Rattle.std.specs.Prelude.{slice_set}
+use Rattle.spv_words.specs.declared.rule.Rule.TheVariants.{M1, M2, M3, M4, M5, A1, A2, A3, A4, A5}
 use Rattle.spv_ops.specs.Table.{shape_of, row_of, operands_of}
 use Rattle.spv_ops.specs.Operands.{is_id, is_inner_op}
 use Rattle.spv_module.specs.Lists.{module_of}
@@ -91,6 +92,11 @@ non_readable_input = refl
 store_to_input : all_broken (ending (0x3003E ∷ 0x11 ∷ 0xF ∷ [])) ≡ [] ∷ (119 ∷ []) ∷ [] ∷ [] ∷ [] ∷ [] ∷ [] ∷ [] ∷ [] ∷ [] ∷ []
 unfolding opened
 store_to_input = refl
+
+-- the class of the pointer's type is Uniform
+store_to_uniform : all_broken (slice_set adds_one 87 2) ≡ [] ∷ (128 ∷ []) ∷ [] ∷ [] ∷ [] ∷ [] ∷ [] ∷ [] ∷ [] ∷ [] ∷ []
+unfolding opened
+store_to_uniform = refl
 
 -- pointers as the object of a store, and copied
 stored_pointer : all_broken (ending (0x3003E ∷ 0x13 ∷ 0x11 ∷ 0x40053 ∷ 0xD ∷ 0x15 ∷ 0x13 ∷ [])) ≡ [] ∷ [] ∷ [] ∷ [] ∷ (119 ∷ 122 ∷ []) ∷ [] ∷ [] ∷ [] ∷ [] ∷ [] ∷ []

@@ -59,6 +59,10 @@ capability_float64 : broken_at (module_of (slice_set adds_one 6 10)) None P5 ≡
 unfolding opened
 capability_float64 = refl
 
+capability_matrix : broken_at (module_of (slice_set adds_one 6 0)) None P5 ≡ []
+unfolding opened
+capability_matrix = refl
+
 invocations_mode : broken_at (module_of (slice_set adds_one 18 0)) None P9 ≡ 16 ∷ 10 ∷ []
 unfolding opened
 invocations_mode = refl

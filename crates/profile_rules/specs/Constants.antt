@@ -1,5 +1,5 @@
 -- The values of a module's constants, and the overrides that no constant takes.
-use Rattle.std.specs.Prelude.{ℕ, ◌-◌, ◌%◌, ◌^◌, ◌==◌, ◌&&◌, ◌||◌, not, Bool, true, false, List, [], drop, take, find, Option, Some, None, option_map, option_and_then, unwrap_or, if◌then◌else◌, nat_le, nat_lt, slice_index}
+use Rattle.std.specs.Prelude.{fold, ℕ, ◌-◌, ◌%◌, ◌^◌, ◌==◌, ◌&&◌, ◌||◌, not, Bool, true, false, List, [], drop, take, find, Option, Some, None, option_map, option_and_then, unwrap_or, if◌then◌else◌, nat_le, nat_lt, slice_index}
 use Rattle.std.specs.Option.{option_map_or, option_or}
 use Rattle.std.specs.List.{list_any}
 use Rattle.spv_module.specs.Held.{global}
@@ -7,18 +7,18 @@ use Rattle.spv_module.specs.State.{ModuleState}
 use Rattle.spv_module.specs.declared.inst.Inst.{Inst}
 use Rattle.spv_ops.specs.Operands.{is_inner_op}
 use Rattle.spv_decor.specs.Rows.{value_of}
-use Rattle.spv_types.specs.Tree.{Tree, ValueTree, truth, word}
+use Rattle.spv_types.specs.Tree.{Tree, boolean, int, uint, vector, ValueTree, truth, word}
 use Rattle.spv_types.specs.Leaves.{zero_of}
 use Rattle.spv_types.specs.Types.{type_tree}
 use Rattle.op_semantics.specs.Component.{each_one, composite}
 use Rattle.op_semantics.specs.Fits.{fits}
-use Rattle.op_semantics.specs.Value.{op_value}
+use Rattle.op_semantics.specs.declared.operation.Operation.{Operation}
+use Rattle.op_semantics.specs.Value.{value_of_operation, operation_in, opcodes}
 use Rattle.profile_rules.specs.declared.constant.ConstantKind.{ConstantKind}
-use Rattle.profile_rules.specs.declared.constant.ConstantKind.TheVariants.{True, False, Word, Composite, Zero, SpecTrue, SpecFalse, SpecWord, Operation, Other}
+use Rattle.profile_rules.specs.declared.constant.ConstantKind.TheVariants.{True, False, Word, Composite, Zero, SpecTrue, SpecFalse, SpecWord, Operation as Calculated, Other}
 use Rattle.profile_rules.specs.declared.given.Given.{Given}
-use Rattle.profile_rules.specs.declared.given.Given.TheVariants.{Decimal, Negative, Hex}
-use Rattle.profile_rules.specs.Leaves.{said}
 pub use Rattle.profile_rules.specs.Entry.{is_size_composite}
+use Rattle.profile_rules.specs.declared.given.Given.TheVariants.{Decimal, Negative, Hex}
 
 -- the kind of constant that an opcode defines; a global OpUndef is a constant
 unfoldable pub constant_kind : ℕ → ConstantKind
@@ -26,7 +26,7 @@ constant_kind op =
     if op == 41 then True else (if op == 42 then False else (if op == 43 then Word else
     (if (op == 44) || (op == 51) then Composite else (if (op == 46) || (op == 1) then Zero else
     (if op == 48 then SpecTrue else (if op == 49 then SpecFalse else (if op == 50 then SpecWord else
-    (if op == 52 then Operation else Other))))))))
+    (if op == 52 then Calculated else Other))))))))
 
 -- the word of an override
 abbrev pub word_given : Given → ℕ
@@ -59,10 +59,26 @@ inner_operands op args = if op == 79 then take 2 args else (if op == 81 then tak
 abbrev pub inner_literals : ℕ → List ℕ → List ℕ
 inner_literals op args = if op == 79 then drop 2 args else (if op == 81 then drop 1 args else [])
 
+-- scalars and vectors
+abbrev pub is_flat : Tree → Bool
+is_flat boolean = true
+is_flat int = true
+is_flat uint = true
+is_flat (vector e n) = true
+is_flat _ = false
+
+-- an opcode may stand inside an OpSpecConstantOp of this shape: an array or a struct is the result of an OpCompositeExtract or an OpSelect alone
+abbrev pub may_give : Tree → ℕ → Bool
+may_give t op = is_inner_op op && (is_flat t || ((op == 81) || (op == 169)))
+
+abbrev pub value_by_operation : Tree → List ℕ → Option (List ValueTree) → Option Operation → Option ValueTree
+value_by_operation t literals (Some vs) (Some o) = value_of_operation o t literals vs
+value_by_operation t literals _ _ = None
+
 -- the value of an OpSpecConstantOp, where each operand has one
 abbrev pub operation_value : Tree → (ℕ → Option ValueTree) → ℕ → List ℕ → Option ValueTree
 operation_value t f op args =
-    if is_inner_op op then option_and_then (op_value op t (inner_literals op args)) (each_one f (inner_operands op args)) else None
+    if may_give t op then value_by_operation t (inner_literals op args) (each_one f (inner_operands op args)) (operation_in opcodes op) else None
 
 -- the value of a constant of this kind and shape, from its operand words, the word that it takes in place of its default, and the values of the constants before it
 abbrev pub value_by_kind : (ℕ → Option ValueTree) → Option ℕ → Tree → List ℕ → ConstantKind → Option ValueTree
@@ -74,7 +90,7 @@ value_by_kind f chosen t args Zero = Some (zero_of t)
 value_by_kind f chosen t args SpecTrue = Some (truth (chosen_truth chosen true))
 value_by_kind f chosen t args SpecFalse = Some (truth (chosen_truth chosen false))
 value_by_kind f chosen t args SpecWord = Some (word (unwrap_or chosen (slice_index args 0)))
-value_by_kind f chosen t args Operation = operation_value t f (slice_index args 0) (drop 1 args)
+value_by_kind f chosen t args Calculated = operation_value t f (slice_index args 0) (drop 1 args)
 value_by_kind f chosen t args Other = None
 
 -- the value, where it has the shape
@@ -89,9 +105,13 @@ shaped_value f chosen g t = option_and_then (if_fits t) (value_by_kind f chosen 
 abbrev pub value_step : List Inst → (ℕ → Option ℕ) → (ℕ → Option ValueTree) → Inst → Option ValueTree
 value_step gs chosen f g = option_and_then (shaped_value f (chosen g.result) g) (type_tree gs g.ty)
 
+-- the values so far, with that of one more constant
+abbrev pub with_value : ((ℕ → Option ValueTree) → Inst → Option ValueTree) → (ℕ → Option ValueTree) → Inst → ℕ → Option ValueTree
+with_value step f g id = elim (g.result == id) [ true ↦ option_or (step f g) (f id) | false ↦ f id ]
+
 -- the value of the constant with this id, from the words that constants take in place of their defaults; none of an id that is no constant, or whose value is undefined
 abbrev pub constant_value : List Inst → (ℕ → Option ℕ) → ℕ → Option ValueTree
-constant_value gs chosen = said (value_step gs chosen) None gs
+constant_value gs chosen = fold (with_value (value_step gs chosen)) (λ id. None) gs
 
 -- the constants of a module under these overrides and this specialization
 abbrev pub constants : ModuleState → List (ℕ × Given) → (ℕ → Option ℕ) → ℕ → Option ValueTree

@@ -76,11 +76,15 @@ are_no_predecessors f label labels =
 abbrev pub are_labels : Function → List ℕ → Bool
 are_labels f labels = list_all (λ l. is_some (block_in f l)) labels
 
+-- the labels of a phi in the block with this label are labels, but not the predecessors, each once
+abbrev pub is_from_elsewhere : Function → ℕ → Inst → Bool
+is_from_elsewhere f label i = are_labels f (every_second 1 i.args) && are_no_predecessors f label (every_second 1 i.args)
+
 -- a Phi is no value type, a value is of another type, or the pairs' blocks are not the predecessors, each once
 abbrev pub breaks_t22 : List Inst → List Inst → (ℕ → Option ℕ) → Function → Block → Inst → Bool
 breaks_t22 heads gs t f b i =
     is_no_value_type heads gs i.ty || list_any (is_other gs t i.ty) (every_second 0 i.args)
-    || (are_labels f (every_second 1 i.args) && are_no_predecessors f b.label.0 (every_second 1 i.args))
+    || is_from_elsewhere f b.label.0 i
 
 -- a condition is not bool, a selector no int scalar, or a Switch literal repeats
 abbrev pub breaks_t23_branch : List Inst → (ℕ → Option ℕ) → Inst → Bool

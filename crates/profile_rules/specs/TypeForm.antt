@@ -1,5 +1,5 @@
 -- The rules on types and on specialization constants.
-use Rattle.std.specs.Prelude.{ℕ, ◌-◌, ◌==◌, ◌&&◌, ◌||◌, not, nat_le, nat_lt, List, [], ◌∷◌, ◌++◌, Bool, true, false, length, take, drop, map, filter, flat_map, count_by, Option, None, if◌then◌else◌}
+use Rattle.std.specs.Prelude.{ℕ, ◌-◌, ◌==◌, ◌&&◌, ◌||◌, not, nat_le, nat_lt, List, [], ◌∷◌, ◌++◌, Bool, true, false, length, take, drop, map, flat_map, count_by, Option, Some, None, if◌then◌else◌}
 use Rattle.std.specs.Option.{option_map_or}
 use Rattle.std.specs.List.{list_any, filter_map}
 use Rattle.spv_module.specs.Held.{global}
@@ -25,13 +25,19 @@ pointee_by gs is_class i = if is_variable i && is_class (word i 0) then pointee 
 abbrev pub pointees : ModuleState → (ℕ → Bool) → List ℕ
 pointees m is_class = filter_map (pointee_by m.globals is_class) (body_insts m)
 
--- the types of the constants, and of the values that are computed in functions
+-- the type of a constant, or of a value that is computed in a function; a variable has a pointer's
+abbrev pub value_type : Inst → Option ℕ
+value_type i = if is_variable i then None else Some i.ty
+
 abbrev pub value_types : ModuleState → List ℕ
-value_types m = map (λ (i : Inst). i.ty) (filter (λ i. not (is_variable i)) (body_insts m))
+value_types m = filter_map value_type (body_insts m)
 
 -- the types of parameters and of the results of functions
+abbrev pub signature : Function → List ℕ
+signature f = f.result.0 ∷ map (λ (p : Id × Id). p.1.0) f.params
+
 abbrev pub signature_types : ModuleState → List ℕ
-signature_types m = flat_map (λ (f : Function). f.result.0 ∷ map (λ (p : Id × Id). p.1.0) f.params) m.functions
+signature_types m = flat_map signature m.functions
 
 -- what stands in the way of a Block struct: all uses but as the type that a Uniform, StorageBuffer or PushConstant variable points to
 abbrev pub is_other_than_block : ℕ → Bool

@@ -48,7 +48,7 @@ leaves_same gs f g args Runtime h = refl
 leaves_same gs f g args Struct h = sum_same f g args h
 leaves_same gs f g args Other h = refl
 
-at_is : (a b : ℕ) → is_at (nat_cmp a) b ≡ (a == b)
+pub at_is : (a b : ℕ) → is_at (nat_cmp a) b ≡ (a == b)
 at_is a b = grind (arith, nat_tests)
 
 at_result : (g : Inst) (q v : ℕ) (old : Option ℕ) (counted leaves : ℕ → ℕ) (all : List Inst) → min cap v ≡ min cap (leaves_step all leaves g) → min cap (unwrap_or old 0) ≡ min cap (leaves q) → min cap (unwrap_or (cond (is_at (nat_cmp g.result) q) (Some v) old) 0) ≡ min cap (said_with (leaves_step all) leaves g q)

@@ -1,5 +1,5 @@
 pub mod Digits
 pub mod Repeats
-pub mod Givens
+pub mod FirstGiven
 pub mod Sets
 pub mod Counts

@@ -10,6 +10,7 @@ mod overrides;
 mod tests;
 
 pub use fit::check_overrides;
+pub use given_words::{givens, word_given};
 pub use leaves::check_leaves;
 pub use overrides::{Overrides, Unparsed};
 pub use profile_rules::Given;

@@ -5,6 +5,7 @@ mod compare;
 mod count;
 mod find;
 mod kind;
+mod limits;
 mod scalars;
 #[cfg(test)]
 mod tests;
@@ -12,5 +13,6 @@ mod zeros;
 
 pub use compare::same;
 pub use find::shape;
+pub use limits::check_limits;
 pub use scalars::leaves;
 pub use zeros::zero;

@@ -1,5 +1,5 @@
 // The shapes of a workgroup sum's types, of small modules, and at the limits.
-use crate::{leaves, same, shape, zero};
+use crate::{check_limits, leaves, same, shape, zero};
 use spv_module::{Elem, Id, Length, Module, Shape, Value};
 use spv_words::{Fault, Limit, Words};
 use std::alloc::{AllocError, Global};
@@ -90,6 +90,7 @@ fn array(alloc: Global, part: Shape, length: Length) -> Result<Shape, Fault> {
 fn a_workgroup_sum(rt: HostRuntime) -> Result<(), Fail> {
     let alloc = rt.alloc();
     let module = module_of(alloc, &PREFIX_SUMS)?;
+    check_limits(alloc, &module)?;
     let runtime = Shape::Runtime(Box::new(alloc, pair(alloc, 3)?)?);
     let expected = [
         (3, pair(alloc, 3)?, 2),

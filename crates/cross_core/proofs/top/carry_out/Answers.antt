@@ -7,4 +7,4 @@ pub returns-clause-no_usage : goal.returns-clause-no_usage
 returns-clause-no_usage g c = λ is. no_usage _ _ _ _ c.run-ending.result c.run-ending.ensures.cause (sym c.status.ensures ∙ is)
 
 pub returns-clause-complete : goal.returns-clause-complete
-returns-clause-complete g c = complete _ _ _ _ c.run-ending.result _ _ c.run-ending.ensures.cause (λ e. write_rose g.K.Sink.written g.K.Sink.faults (IsAnswer c.args.command) c.args.output.now c.run-ending.new.output c.run-ending.result e c.run-ending.ensures.output) c.status.ensures
+returns-clause-complete g c = complete _ _ _ _ c.run-ending.result _ _ c.run-ending.ensures.cause (λ e. write_rose g.K.Sink.written g.K.Sink.faults (IsAnswer c.args.command.now.action) c.args.output.now c.run-ending.new.output c.run-ending.result e c.run-ending.ensures.output) c.status.ensures

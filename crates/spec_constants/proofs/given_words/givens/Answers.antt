@@ -2,7 +2,7 @@ use Rattle.std.proofs.Common.{◌≡◌, rules, ℕ, true, false, is_some, arith
 use Rattle.std.specs.BTreeMap.{get}
 use Rattle.std.specs.Ordering.{nat_cmp}
 use Rattle.profile_rules.specs.declared.given.Given.TheVariants.{Decimal}
-use Rattle.spec_constants.proofs.Givens.{given_new, given_old}
+use Rattle.spec_constants.proofs.FirstGiven.{given_new, given_old}
 use Rattle.spec_constants.proofs.given_words.givens.Goals as goal
 use Rattle.spec_constants.proofs.given_words.givens.Goals.{then-not-contains_key+in_ok-insert, else-not-contains_key}
 

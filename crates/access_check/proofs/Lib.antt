@@ -1,0 +1,5 @@
+pub mod Repeats
+pub mod Members
+pub mod Folded
+pub mod Faults
+pub mod Faulty

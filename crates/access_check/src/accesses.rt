@@ -1,0 +1,221 @@
+// The rules on memory, atomics and barriers.
+ghost use Rattle.std.specs.Prelude.{◌≡◌, false, List, find, IfOk, IfErr, OnOk};
+ghost use Rattle.std.specs.List.{list_any};
+ghost use Rattle.std.specs.BTreeSet.{contains};
+ghost use Rattle.std.specs.Ordering.{nat_cmp};
+ghost use Rattle.spv_words.specs.Breaks.{NoRuleBroken};
+ghost use Rattle.spv_module.specs.declared.inst.Inst.{Inst};
+ghost use Rattle.spv_index.specs.Locals.{insts_of};
+ghost use Rattle.profile_rules.specs.MemoryRules.{breaks_m2, breaks_m3, is_read_only as is_read_only_class};
+ghost use Rattle.profile_rules.specs.AccessRules.{breaks, access_rules, Broken, IsRight};
+ghost use Rattle.access_check.specs.Accesses.{memory_rules, atomic_rules, AreAllWays, is_at_fault, IsFaultIn};
+
+use crate::atomics::{
+    has_ordering, has_other_execution_scope, has_other_place, has_other_scope, has_other_semantics,
+    is_atomic,
+};
+use crate::calls::has_other_argument;
+use crate::memory_operands::has_other_mask;
+use crate::pointer_way::{is_known, ways_through};
+use crate::stray_pointers::has_stray_pointer;
+use crate::values::class_of;
+use spv_decor::Decor;
+use spv_index::Locals;
+use spv_module::{Function, Inst, Module};
+use spv_words::{Fault, Refusal, Rule};
+use std::alloc::{AllocError, Global};
+use std::collections::BTreeSet;
+
+/// The decorations NonWritable and NonReadable (SPIR-V 1.6, section 3.20).
+const NON_WRITABLE: u32 = 24;
+
+const NON_READABLE: u32 = 25;
+
+/// The pointers of a function that lead through a NonWritable or NonReadable variable or member.
+#[derive(Drop)]
+pub struct Ways {
+    pub non_writable: BTreeSet<u32>,
+    pub non_readable: BTreeSet<u32>,
+}
+
+fn ways_of(
+    alloc: Global,
+    module: &Module,
+    decor: &Decor,
+    locals: &Locals,
+) -> Result<Ways, AllocError>
+    ensures { IfOk result (AreAllWays decor.now «module».now.globals locals.now) }
+{
+    Ok(Ways {
+        non_writable: ways_through(alloc, module, decor, locals, NON_WRITABLE)?,
+        non_readable: ways_through(alloc, module, decor, locals, NON_READABLE)?,
+    })
+}
+
+/// Input, Uniform, PushConstant.
+fn is_read_only(class: u32) -> bool
+    ensures { result ≡ is_read_only_class class }
+{
+    matches!(class, 1 | 2 | 9)
+}
+
+/// M2: an OpStore or atomic to a class that is only read, or through something NonWritable.
+fn writes_elsewhere(
+    module: &Module,
+    decor: &Decor,
+    locals: &Locals,
+    ways: &Ways,
+    inst: &Inst,
+) -> bool
+    requires { AreAllWays decor.now «module».now.globals locals.now ways.now }
+    ensures { result ≡ breaks_m2 decor.now «module».now.globals locals.now inst.now }
+{
+    let pointer = inst.operand(0);
+    (inst.op == 62 || is_atomic(inst))
+        && (class_of(module, locals, pointer).map_or(false, |class| is_read_only(class))
+            || is_known(module, decor, NON_WRITABLE, &ways.non_writable, pointer))
+}
+
+/// M3: an OpLoad or atomic through something NonReadable.
+fn reads_elsewhere(
+    module: &Module,
+    decor: &Decor,
+    locals: &Locals,
+    ways: &Ways,
+    inst: &Inst,
+) -> bool
+    requires { AreAllWays decor.now «module».now.globals locals.now ways.now }
+    ensures { result ≡ breaks_m3 decor.now «module».now.globals locals.now inst.now }
+{
+    (inst.op == 61 || is_atomic(inst))
+        && is_known(
+            module,
+            decor,
+            NON_READABLE,
+            &ways.non_readable,
+            inst.operand(0),
+        )
+}
+
+/// The first of M1 to M5 that an instruction breaks.
+fn memory_rule(
+    alloc: Global,
+    module: &Module,
+    decor: &Decor,
+    locals: &Locals,
+    ways: &Ways,
+    inst: &Inst,
+) -> Result<Option<Rule>, AllocError>
+    requires { AreAllWays decor.now «module».now.globals locals.now ways.now }
+    ensures { IfOk result (λ rule. rule ≡ find (λ r. breaks decor.now «module».now.globals locals.now r inst.now) memory_rules) }
+{
+    if has_other_mask(inst) {
+        return Ok(Some(Rule::M1));
+    }
+    if writes_elsewhere(module, decor, locals, ways, inst) {
+        return Ok(Some(Rule::M2));
+    }
+    if reads_elsewhere(module, decor, locals, ways, inst) {
+        return Ok(Some(Rule::M3));
+    }
+    if has_other_argument(alloc, module, locals, inst)? {
+        return Ok(Some(Rule::M4));
+    }
+    if has_stray_pointer(module, locals, inst) {
+        return Ok(Some(Rule::M5));
+    }
+    Ok(None)
+}
+
+/// The first of A1 to A5 that an instruction breaks.
+fn atomic_rule(module: &Module, locals: &Locals, inst: &Inst) -> Option<Rule>
+    ensures { (heads : List Inst) → result ≡ find (λ r. breaks heads «module».now.globals locals.now r inst.now) atomic_rules }
+{
+    if has_other_scope(module, locals, inst) {
+        return Some(Rule::A1);
+    }
+    if has_ordering(module, locals, inst) {
+        return Some(Rule::A2);
+    }
+    if has_other_place(module, locals, inst) {
+        return Some(Rule::A3);
+    }
+    if has_other_execution_scope(module, inst) {
+        return Some(Rule::A4);
+    }
+    if has_other_semantics(module, locals, inst) {
+        return Some(Rule::A5);
+    }
+    None
+}
+
+/// The first rule that an instruction breaks.
+fn broken_rule(
+    alloc: Global,
+    module: &Module,
+    decor: &Decor,
+    locals: &Locals,
+    ways: &Ways,
+    inst: &Inst,
+) -> Result<Option<Rule>, AllocError>
+    requires { AreAllWays decor.now «module».now.globals locals.now ways.now }
+    ensures { IfOk result (λ rule. rule ≡ find (λ r. breaks decor.now «module».now.globals locals.now r inst.now) access_rules) }
+{
+    match memory_rule(alloc, module, decor, locals, ways, inst)? {
+        Some(rule) => Ok(Some(rule)),
+        None => Ok(atomic_rule(module, locals, inst)),
+    }
+}
+
+fn check_insts(
+    alloc: Global,
+    module: &Module,
+    decor: &Decor,
+    locals: &Locals,
+    ways: &Ways,
+    insts: &[Inst],
+) -> Result<(), Fault>
+    requires { AreAllWays decor.now «module».now.globals locals.now ways.now }
+    ensures passes { OnOk result (list_any (is_at_fault decor.now «module».now.globals locals.now) insts.now ≡ false) }
+    ensures refused { IfErr result (IsFaultIn decor.now «module».now.globals locals.now insts.now) }
+{
+    for inst in insts {
+        if let Some(rule) = broken_rule(alloc, module, decor, locals, ways, inst)? {
+            return Err(Fault::Refused(Refusal { rule, at: inst.at }));
+        }
+    }
+    Ok(())
+}
+
+fn check_function(
+    alloc: Global,
+    module: &Module,
+    decor: &Decor,
+    function: &Function,
+) -> Result<(), Fault>
+    ensures passes { OnOk result (list_any (is_at_fault decor.now «module».now.globals function.now) (insts_of function.now) ≡ false) }
+    ensures refused { IfErr result (IsFaultIn decor.now «module».now.globals function.now (insts_of function.now)) }
+{
+    let locals = Locals::of(alloc, function)?;
+    let ways = ways_of(alloc, module, decor, &locals)?;
+    for block in function.blocks.as_slice() {
+        check_insts(alloc, module, decor, &locals, &ways, block.insts.as_slice())?;
+    }
+    Ok(())
+}
+
+/// Refuses by M1, other memory operands than Aligned and Nontemporal; M2 and M3, a store, load or
+/// atomic where its class or a decoration on the way of its pointer forbids it; M4, a pointer argument
+/// that is no whole variable of the caller, or stands twice; M5, a pointer elsewhere than where memory
+/// is reached; A1 to A5, scopes, semantics and places of atomics and barriers (SPIR-V 1.6, "Memory
+/// Instructions", "Atomic Instructions", "Barrier Instructions"). `decor` has the module's decorations.
+pub fn check_accesses(alloc: Global, module: &Module, decor: &Decor) -> Result<(), Fault>
+    requires { decor.now ≡ «module».now.heads }
+    ensures passes { OnOk result (NoRuleBroken (Broken «module».now) access_rules) }
+    ensures refused { IfErr result (IsRight «module».now) }
+{
+    for function in module.functions() {
+        check_function(alloc, module, decor, function)?;
+    }
+    Ok(())
+}

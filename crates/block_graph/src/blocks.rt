@@ -1,0 +1,159 @@
+// The nodes of a function's blocks.
+ghost use Rattle.std.specs.Prelude.{◌≡◌, ◌==◌, IfOk, find, map, slice_index};
+ghost use Rattle.std.specs.Option.{option_copied};
+ghost use Rattle.structure_rules.specs.Graph.{is_merge as is_merge_inst, is_terminator as is_terminator_inst, merge_inst as merge_inst_of, terminator as terminator_of, word_of as word_of_inst, index_of, seconds, exit_by, labels_by, target_labels, merge_by, node_by, nodes as nodes_of};
+
+use crate::labels::Labels;
+use spv_module::{Block, Function, Inst, Seq};
+use std::alloc::{AllocError, Global};
+use structure_rules::{Exit, Merge, Node};
+
+/// Whether this is OpLoopMerge or OpSelectionMerge.
+fn is_merge(inst: &Inst) -> bool
+    ensures { result ≡ is_merge_inst inst.now }
+{
+    matches!(inst.op, 246 | 247)
+}
+
+/// Whether this is OpBranch, OpBranchConditional, OpSwitch, OpReturn, OpReturnValue or
+/// OpUnreachable.
+fn is_terminator(inst: &Inst) -> bool
+    ensures { result ≡ is_terminator_inst inst.now }
+{
+    matches!(inst.op, 249 | 250 | 251 | 253 | 254 | 255)
+}
+
+fn merge_inst(block: &Block) -> Option<&Inst>
+    ensures { option_copied result ≡ merge_inst_of block.now }
+{
+    block.insts.as_slice().iter().find(|inst| is_merge(inst))
+}
+
+fn terminator(block: &Block) -> Option<&Inst>
+    ensures { option_copied result ≡ terminator_of block.now }
+{
+    block
+        .insts
+        .as_slice()
+        .iter()
+        .find(|inst| is_terminator(inst))
+}
+
+/// The word at which an instruction stands, or 0 where there is none.
+fn word_of(inst: Option<&Inst>) -> u32
+    ensures { result ≡ word_of_inst (option_copied inst.entry) }
+{
+    inst.map_or(0, |inst| inst.at)
+}
+
+/// Operand word k, or 0 where there is none.
+fn operand(inst: &Inst, k: usize) -> u32
+    ensures { result ≡ slice_index inst.now.args k }
+{
+    inst.args.as_slice().get(k).copied().unwrap_or(0)
+}
+
+/// What a merge instruction names.
+fn merge_of(labels: &Labels, inst: Option<&Inst>) -> Merge
+    ensures { result ≡ merge_by (index_of labels.now) (option_copied inst.entry) }
+{
+    let Some(inst) = inst else {
+        return Merge::Absent;
+    };
+    let merge = labels.index(operand(inst, 0));
+    // OpLoopMerge, or else OpSelectionMerge
+    if inst.op == 246 {
+        Merge::Loop(merge, labels.index(operand(inst, 1)))
+    } else {
+        Merge::Selection(merge)
+    }
+}
+
+/// The kind of a terminator.
+fn exit_of(inst: Option<&Inst>) -> Exit
+    ensures { result ≡ exit_by (option_copied inst.entry) }
+{
+    let Some(inst) = inst else {
+        return Exit::Leave;
+    };
+    match inst.op {
+        249 => Exit::Branch,
+        250 => Exit::Conditional,
+        251 => Exit::Switch,
+        _ => Exit::Leave,
+    }
+}
+
+/// The second of each two words.
+fn second_words(alloc: Global, words: &[u32]) -> Result<Vec<u32>, AllocError>
+    ensures { IfOk result (λ labels. labels.items ≡ seconds words.now) }
+{
+    let mut rest = words;
+    let mut labels = Vec::with_capacity(alloc, words.len() / 2)?;
+    while let [_, label, after @ ..] = rest {
+        labels.push(*label)?;
+        rest = after;
+    }
+    Ok(labels)
+}
+
+/// The labels to which a terminator leads.
+fn labels_of(alloc: Global, exit: Exit, args: &[u32]) -> Result<Vec<u32>, AllocError>
+    ensures { IfOk result (λ labels. labels.items ≡ labels_by exit args.now) }
+{
+    match exit {
+        Exit::Branch => args.iter().copied().take(1).collect(alloc),
+        Exit::Conditional => match args {
+            [_, labels @ ..] => labels.iter().copied().take(2).collect(alloc),
+            [] => Ok(Vec::new(alloc)),
+        },
+        Exit::Switch => second_words(alloc, args),
+        Exit::Leave => Ok(Vec::new(alloc)),
+    }
+}
+
+/// The blocks to which a terminator leads.
+fn targets_of(alloc: Global, labels: &Labels, inst: Option<&Inst>) -> Result<Seq<usize>, AllocError>
+    ensures { IfOk result (λ targets. targets ≡ map (index_of labels.now) (target_labels (option_copied inst.entry))) }
+{
+    let mut targets = Seq::new(alloc);
+    let Some(terminator) = inst else {
+        return Ok(targets);
+    };
+    let named = labels_of(alloc, exit_of(inst), terminator.args.as_slice())?;
+    for label in &named {
+        targets.push(labels.index(*label))?;
+    }
+    Ok(targets)
+}
+
+/// The node of a block.
+fn node_of(alloc: Global, labels: &Labels, block: &Block) -> Result<Node, AllocError>
+    ensures { IfOk result (λ node. node ≡ node_by (index_of labels.now) block.now) }
+{
+    let merge = merge_inst(block);
+    let terminator = terminator(block);
+    Ok(Node {
+        at: block.at,
+        merge: merge_of(labels, merge),
+        merge_at: word_of(merge),
+        exit: exit_of(terminator),
+        exit_at: word_of(terminator),
+        targets: targets_of(alloc, labels, terminator)?,
+        reached: false,
+    })
+}
+
+/// The nodes of a function's blocks, none of them known to be reached.
+#[tactic(auto, unfolding(structure_rules::specs::Graph::nodes))]
+pub fn nodes(alloc: Global, function: &Function) -> Result<Vec<Node>, AllocError>
+    ensures { IfOk result (λ nodes. nodes.items ≡ nodes_of function.now) }
+{
+    let labels = Labels::of(alloc, function)?;
+    let blocks = function.blocks.as_slice();
+    let mut nodes = Vec::with_capacity(alloc, blocks.len())?;
+    for block in blocks {
+        nodes.push(node_of(alloc, &labels, block)?)?;
+    }
+    Ok(nodes)
+}

@@ -1,0 +1,40 @@
+// The graph of a function.
+ghost use Rattle.std.specs.Prelude.{◌≡◌, length, IfOk};
+ghost use Rattle.structure_rules.specs.Graph.{told, graph as graph_of};
+ghost use Rattle.block_graph.specs.Within.{AreWithin, AreReached};
+
+use crate::blocks::nodes;
+use crate::reach::reached;
+use spv_module::Function;
+use std::alloc::{AllocError, Global};
+use structure_rules::Node;
+
+/// The nodes, told which of them are reached.
+fn tell(alloc: Global, nodes: Vec<Node>, marks: &[bool]) -> Result<Vec<Node>, AllocError>
+    ensures { IfOk result (λ graph. graph.items ≡ told marks.now nodes.items) }
+{
+    marks
+        .iter()
+        .zip(nodes)
+        .map(|(mark, node)| Node {
+            reached: *mark,
+            ..node
+        })
+        .collect(alloc)
+}
+
+/// The control-flow graph of a function: a node for each of its blocks, which tells whether the block
+/// is reached from the first one (SPIR-V 1.6, section 2.11).
+///
+/// A label that no block has counts as that of the first block.
+#[tactic(auto, using(crate::proofs::Within::graph_rules), unfolding(structure_rules::specs::Graph::graph))]
+pub fn control_flow(alloc: Global, function: &Function) -> Result<Vec<Node>, AllocError>
+    ensures graph { IfOk result (λ graph. graph.items ≡ graph_of function.now) }
+    ensures sized { IfOk result (λ graph. length graph.items ≡ length function.now.blocks) }
+    ensures within { IfOk result (λ graph. AreWithin graph.items) }
+    ensures reached { IfOk result (λ graph. AreReached graph.items) }
+{
+    let nodes = nodes(alloc, function)?;
+    let marks = reached(alloc, &nodes)?;
+    tell(alloc, nodes, &marks)
+}

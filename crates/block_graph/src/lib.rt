@@ -1,0 +1,12 @@
+// The control-flow graph of a function.
+#![tactic(auto)]
+
+mod blocks;
+mod graph;
+mod labels;
+mod reach;
+
+pub use graph::control_flow;
+
+#[cfg(test)]
+mod tests;

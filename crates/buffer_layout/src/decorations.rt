@@ -1,0 +1,52 @@
+// The decorations Offset and ArrayStride, and how they compare with a layout's numbers.
+ghost use Rattle.std.specs.Prelude.{◌≡◌, ℕ, min};
+ghost use Rattle.spv_decor.specs.Rows.{value_of};
+ghost use Rattle.layout_rules.specs.Rules.{is_not as is_not_number, is_other as is_other_number, offset_of as offset_in};
+
+use crate::sizes::CAP;
+use spv_decor::Decor;
+use spv_module::Id;
+
+/// The decorations ArrayStride and Offset (SPIR-V 1.6, section 3.20).
+const ARRAY_STRIDE: u32 = 6;
+
+const OFFSET: u32 = 35;
+
+/// The Offset of a struct's member.
+pub fn offset_of(decor: &Decor, id: u32, member: usize) -> Option<u32>
+    ensures { result ≡ offset_in decor.now id member }
+{
+    match u32::try_from(member) {
+        Ok(member) => decor.member_value(Id(id), member, OFFSET),
+        Err(_) => None,
+    }
+}
+
+/// The ArrayStride of an array.
+pub fn stride_of(decor: &Decor, id: u32) -> Option<u32>
+    ensures { result ≡ value_of decor.now id 6 }
+{
+    decor.value(Id(id), ARRAY_STRIDE)
+}
+
+/// A literal is missing, or is another number than that of which this is the least with `CAP`.
+#[tactic(auto, using(crate::proofs::Steps::capped_test))]
+pub fn is_not(literal: Option<u32>, capped: u64) -> bool
+    ensures { (n : ℕ) → min CAP capped ≡ min CAP n → result ≡ is_not_number literal n }
+{
+    match literal {
+        Some(literal) => u64::from(literal) != capped,
+        None => true,
+    }
+}
+
+/// A literal is there, and is another number.
+#[tactic(auto, using(crate::proofs::Steps::capped_test))]
+pub fn is_other(literal: Option<u32>, capped: u64) -> bool
+    ensures { (n : ℕ) → min CAP capped ≡ min CAP n → result ≡ is_other_number literal n }
+{
+    match literal {
+        Some(literal) => u64::from(literal) != capped,
+        None => false,
+    }
+}

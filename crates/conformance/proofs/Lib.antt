@@ -1,0 +1,6 @@
+mod LaterRules
+mod TypeRefusals
+pub mod Callees
+pub mod Considered
+pub mod OwnIds
+pub mod TypeLimits

@@ -1,0 +1,150 @@
+-- Where no id is a result twice, no two functions have the same id.
+use Rattle.std.proofs.Common.{◌≡◌, ◌<◌, ◌+◌, ◌==◌, ◌&&◌, ◌||◌, ℕ, zero, suc, Bool, true, false, cond, List, [], ◌∷◌, Option, None, Some, length, get_or, map, find, slice_index, refl, ap, sym, ◌∙◌, inl, inr, arith}
+use Rattle.std.specs.Option.{option_map_or}
+use Rattle.std.proofs.lemmas.List.{get_or_default}
+use Rattle.std.proofs.lemmas.Bool.Decides.{eqb_tells}
+use Rattle.spv_words.specs.Words.{insts, nth_inst}
+use Rattle.spv_words.specs.declared.words.Inst1.{Inst1}
+use Rattle.spv_words.specs.declared.rule.Rule.TheVariants.{P3}
+use Rattle.spv_ops.specs.Table.{shape_of, row_of, count_of}
+use Rattle.spv_ops.specs.declared.class.OpShape.{OpShape}
+use Rattle.spv_ops.specs.declared.class.OpClass.{OpClass}
+use Rattle.spv_ops.specs.declared.class.OpClass.TheVariants.{Debug as DebugClass, Head as HeadClass, Global as GlobalClass}
+use Rattle.spv_module.specs.declared.kind.Kind.{Kind}
+use Rattle.spv_module.specs.declared.kind.Kind.TheVariants.{Debug, Function, Other}
+use Rattle.spv_module.specs.Inst.{word, inst_of, has_type, has_result}
+use Rattle.spv_module.specs.Kinds.{kind_of, kind_of_opcode, class_kind, named_kinds, is_import}
+use Rattle.spv_module.specs.Ids.{result_of, result_by, is_out, HasIdOut, HasBadId}
+use Rattle.spv_module.specs.Lists.{functions_from, functions, function, with_function}
+use Rattle.spv_module.specs.Broken.{IsUnbroken}
+use Rattle.profile_rules.specs.Calls.{ids_of, HaveOwnIds}
+
+-- no row of another opcode is a function's
+AreFunctionRows : List (ℕ × Kind) → Type 0
+AreFunctionRows [] = Unit {0}
+AreFunctionRows (r ∷ rows) = (r.1 ≡ Function → r.0 ≡ 54) × AreFunctionRows rows
+
+named : (rows : List (ℕ × Kind)) (op : ℕ) (otherwise : Kind) → AreFunctionRows rows → (otherwise ≡ Function → ⊥) → option_map_or (λ (r : ℕ × Kind). r.1) (find (λ (r : ℕ × Kind). r.0 == op) rows) otherwise ≡ Function → op ≡ 54
+unfolding AreFunctionRows
+named [] op otherwise all never h = absurd (never h)
+named (r ∷ rows) op otherwise all never h =
+    elim (eqb_tells r.0 op) [
+      | inl w ↦
+          let is : r.1 ≡ Function = rw w.0 at h in
+          sym w.1 ∙ all.0 is
+      | inr w ↦ named rows op otherwise all.1 never (rw w.0 at h)
+    ]
+
+class_no_function : (c : OpClass) → class_kind c ≡ Function → ⊥
+class_no_function DebugClass h = cc
+class_no_function HeadClass h = cc
+class_no_function GlobalClass h = cc
+class_no_function _ h = cc
+
+shape_no_function : (o : Option OpShape) → option_map_or (λ (s : OpShape). class_kind s.class) o Other ≡ Function → ⊥
+shape_no_function None h = cc
+shape_no_function (Some s) h = class_no_function s.class h
+
+all_rows : AreFunctionRows named_kinds
+unfolding AreFunctionRows
+all_rows = (λ h. cc, (λ h. refl, (λ h. cc, (λ h. cc, (λ h. cc, (λ h. cc, (λ h. cc, (λ h. cc, (λ h. cc, (λ h. cc, (λ h. cc, (λ h. cc, (λ h. cc, (λ h. cc, (λ h. cc, tt)))))))))))))))
+
+opcode_of : (op : ℕ) → kind_of_opcode op ≡ Function → op ≡ 54
+unfolding kind_of_opcode
+opcode_of op h = named named_kinds op (option_map_or (λ (s : OpShape). class_kind s.class) (shape_of op) Other) all_rows (shape_no_function (shape_of op)) h
+
+-- a function's instruction is OpFunction
+function_opcode : (ws : List ℕ) (i : Inst1) → kind_of ws i ≡ Function → i.opcode ≡ 54
+function_opcode ws i h =
+    (elim ((i.opcode == 12) && is_import ws (word ws i 3)) as (λ b. cond b Debug (kind_of_opcode i.opcode) ≡ Function → i.opcode ≡ 54) [
+      | true ↦ λ e. cc
+      | false ↦ λ e. opcode_of i.opcode e
+    ]) h
+
+function_row : (has_type 54 ≡ true) × (has_result 54 ≡ true)
+unfolding shape_of row_of
+function_row = (refl, refl)
+
+-- its result is the function's id
+result_is : (ws : List ℕ) (i : Inst1) → kind_of ws i ≡ Function → result_of ws i ≡ word ws i 2
+result_is ws i h =
+    let op = function_opcode ws i h in
+    let with_type : has_type i.opcode ≡ true = ap has_type op ∙ function_row.0 in
+    let with_result : has_result i.opcode ≡ true = ap has_result op ∙ function_row.1 in
+    ap (λ k. result_by k (inst_of ws i)) h
+    ∙ ap (λ b. cond b (word ws i (1 + count_of (has_type i.opcode))) 0) with_result
+    ∙ ap (λ b. word ws i (1 + count_of b)) with_type
+
+or_true : (x y : Bool) → y ≡ true → (x || y) ≡ true
+or_true true y h = refl
+or_true false y h = h
+
+and_true : (x y : Bool) → x ≡ true → y ≡ true → (x && y) ≡ true
+and_true true y e h = h
+and_true false y e h = cc
+
+-- and it is not 0, where its ids are in order
+positive : (ws : List ℕ) (i : Inst1) → kind_of ws i ≡ Function → (HasIdOut ws i → ⊥) → 0 < result_of ws i
+positive ws i h fine =
+    let with_result : has_result i.opcode ≡ true = ap has_result (function_opcode ws i h) ∙ function_row.1 in
+    let is : result_of ws i ≡ (inst_of ws i).result = ap (λ k. result_by k (inst_of ws i)) h in
+    elim (eqb_tells (inst_of ws i).result 0) [
+      | inl w ↦
+          let out : is_out (slice_index ws 3) (inst_of ws i).result ≡ true = ap (is_out (slice_index ws 3)) w.1 in
+          absurd (fine (λ e. cc, inl (or_true (has_type i.opcode && is_out (slice_index ws 3) (inst_of ws i).ty) (has_result i.opcode && is_out (slice_index ws 3) (inst_of ws i).result) (and_true (has_result i.opcode) (is_out (slice_index ws 3) (inst_of ws i).result) with_result out))))
+      | inr w ↦ omega (arith, is, w.1)
+    ]
+
+-- each function among these instructions has a result
+abbrev HaveResults : List ℕ → List Inst1 → Type 0
+HaveResults ws is = (k : ℕ) (d : Inst1) → k < length is → kind_of ws (get_or is k d) ≡ Function → 0 < result_of ws (get_or is k d)
+
+-- no result stands twice among those of these instructions
+abbrev AreOnce : List ℕ → List Inst1 → Type 0
+AreOnce ws is = (j k : ℕ) → j < k → k < length is → 0 < get_or (map (result_of ws) is) k 0 → get_or (map (result_of ws) is) j 0 ≡ get_or (map (result_of ws) is) k 0 → ⊥
+
+-- the id of a function is the result of an instruction
+abbrev IsResult : List ℕ → List Inst1 → ℕ → Type 0
+IsResult ws is x = (k : ℕ) × (k < length is) × (x ≡ get_or (map (result_of ws) is) k 0) × (0 < x)
+
+result_later : (ws : List ℕ) (i : Inst1) (is : List Inst1) (x : ℕ) → IsResult ws is x → IsResult ws (i ∷ is) x
+result_later ws i is x from = (suc from.0, omega (arith, from.1), from.2, from.3)
+
+found_step : (ws : List ℕ) (i : Inst1) (is : List Inst1) (kind : Kind) → kind_of ws i ≡ kind → HaveResults ws (i ∷ is) → ((q : ℕ) → q < length (functions_from ws is) → IsResult ws is (get_or (ids_of (functions_from ws is)) q 0))
+    → (q : ℕ) → q < length (with_function kind (function ws i is) (functions_from ws is)) → IsResult ws (i ∷ is) (get_or (ids_of (with_function kind (function ws i is) (functions_from ws is))) q 0)
+found_step ws i is Function e has later zero inside =
+    let own = result_is ws i e in
+    let above = has 0 i (omega arith) e in
+    (0, omega arith, sym own, omega (arith, above, own))
+found_step ws i is Function e has later (suc q) inside = result_later ws i is _ (later q (omega (arith, inside)))
+found_step ws i is _ e has later q inside = result_later ws i is _ (later q inside)
+
+found : (ws : List ℕ) (is : List Inst1) → HaveResults ws is → (q : ℕ) → q < length (functions_from ws is) → IsResult ws is (get_or (ids_of (functions_from ws is)) q 0)
+found ws [] has q inside = absurd (omega (arith, inside))
+found ws (i ∷ is) has q inside = found_step ws i is (kind_of ws i) refl has (λ p h. found ws is (λ k d small. has (suc k) d (omega (arith, small))) p h) q inside
+
+own_step : (ws : List ℕ) (i : Inst1) (is : List Inst1) (kind : Kind) → kind_of ws i ≡ kind → HaveResults ws (i ∷ is) → AreOnce ws (i ∷ is) → HaveOwnIds (functions_from ws is) → HaveOwnIds (with_function kind (function ws i is) (functions_from ws is))
+own_step ws i is Function e has once rest zero zero before inside same = absurd (omega (arith, before))
+own_step ws i is Function e has once rest (suc p) zero before inside same = absurd (omega (arith, before))
+own_step ws i is Function e has once rest zero (suc q) before inside same =
+    let from = found ws is (λ k d small. has (suc k) d (omega (arith, small))) q (omega (arith, inside)) in
+    let own = result_is ws i e in
+    once 0 (suc from.0) (omega arith) (omega (arith, from.1)) (omega (arith, from.2, from.3)) (own ∙ same ∙ from.2)
+own_step ws i is Function e has once rest (suc p) (suc q) before inside same = rest p q (omega (arith, before)) (omega (arith, inside)) same
+own_step ws i is _ e has once rest p q before inside same = rest p q before inside same
+
+own : (ws : List ℕ) (is : List Inst1) → HaveResults ws is → AreOnce ws is → HaveOwnIds (functions_from ws is)
+own ws [] has once = λ p q before inside same. absurd (omega (arith, inside))
+own ws (i ∷ is) has once =
+    own_step ws i is (kind_of ws i) refl has once
+    (own ws is (λ k d small. has (suc k) d (omega (arith, small))) (λ j k before small. once (suc j) (suc k) (omega (arith, before)) (omega (arith, small))))
+
+-- where the rule on ids is not broken, each function of the module has an id of its own
+pub own_ids : (ws : List ℕ) → IsUnbroken ws P3 → HaveOwnIds (functions ws)
+own_ids ws fine =
+    let good : (k : ℕ) → k < length (insts ws) → HasBadId ws k → ⊥ = λ k inside bad. fine (nth_inst ws k).start (k, inside, refl, bad) in
+    own ws (insts ws)
+    (λ k d inside is.
+    let same : nth_inst ws k ≡ get_or (insts ws) k d = get_or_default (insts ws) k (record { opcode = 0; start = 0; len = 0 }) d inside in
+    positive ws (get_or (insts ws) k d) is (λ out. good k inside (rw same (inl out))))
+    (λ j k before inside above same. good k inside (inr (above, (j, before, same))))

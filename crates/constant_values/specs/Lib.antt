@@ -1,0 +1,6 @@
+pub mod Operating
+pub mod Parts
+pub mod Calculated
+pub mod Zeros
+pub mod Held
+pub mod Refused

@@ -1,0 +1,63 @@
+-- Parts of composites.
+use Rattle.std.specs.Prelude.{ℕ, zero, suc, ◌+◌, ◌==◌, ◌&&◌, Bool, false, List, ◌++◌, map, nat_lt, Option, Some, None, option_map, Vec}
+use Rattle.std.specs.declared.alloc.Global.{Global}
+use Rattle.std.specs.Option.{option_map_or}
+use Rattle.std.specs.Borrow.{Bor}
+use Rattle.spv_module.specs.declared.tree.Elem.{Elem}
+use Rattle.spv_module.specs.declared.tree.Length.{Length}
+use Rattle.spv_module.specs.declared.tree.Length.TheVariants.{Fixed, Spec}
+use Rattle.spv_module.specs.declared.tree.Value.{Value}
+use Rattle.spv_types.specs.Tree.{Tree, vector, array, struct, Trees, no_trees, tree, ValueTree, many}
+use Rattle.spv_types.specs.View.{value_of}
+use Rattle.spv_types.specs.Leaves.{zero_elem}
+use Rattle.op_semantics.specs.Component.{listed, composite, each_one}
+use Rattle.op_semantics.specs.Composite.{picked}
+use Rattle.op_semantics.specs.Fits.{fits, elem_tree}
+
+-- member i, where there is one
+abbrev pub nth_tree : Trees → ℕ → Option Tree
+nth_tree no_trees i = None
+nth_tree (tree t ts) zero = Some t
+nth_tree (tree t ts) (suc i) = nth_tree ts i
+
+abbrev pub array_part_fits : Tree → Length → ℕ → ValueTree → Bool
+array_part_fits t (Fixed n) i v = nat_lt i n && fits t v
+array_part_fits t (Spec id) i v = false
+
+abbrev pub member_fits : Trees → ℕ → ValueTree → Bool
+member_fits ts i v = option_map_or (λ t. fits t v) (nth_tree ts i) false
+
+-- a value has the shape of part i
+abbrev pub part_fits : Tree → ℕ → ValueTree → Bool
+part_fits (vector e n) i v = nat_lt i n && fits (elem_tree e) v
+part_fits (array t l) i v = array_part_fits t l i v
+part_fits (struct id ts) i v = member_fits ts i v
+part_fits _ i v = false
+
+-- what the values are that are referred to
+abbrev pub referred : List (Bor Value) → List ValueTree
+referred rs = map (λ (r : Bor Value). value_of r.now) rs
+
+abbrev pub plain_references : Vec (Bor Value) Global → List ValueTree
+plain_references rs = referred rs.items
+
+-- so many
+abbrev pub is_length : Length → ℕ → Bool
+is_length (Fixed n) k = n == k
+is_length (Spec id) k = false
+
+abbrev pub tree_count : Trees → ℕ
+tree_count no_trees = 0
+tree_count (tree t ts) = 1 + tree_count ts
+
+-- the values of a shape have so many parts
+abbrev pub has_count : Tree → ℕ → Bool
+has_count (vector e n) k = n == k
+has_count (array t l) k = is_length l k
+has_count (struct id ts) k = tree_count ts == k
+has_count _ k = false
+
+-- the components that these literals pick from two vectors
+abbrev pub shuffled_by : Elem → List ℕ → ValueTree → ValueTree → Option ValueTree
+shuffled_by e picks (many xs) (many ys) = option_map composite (each_one (picked (zero_elem e) (listed xs ++ listed ys)) picks)
+shuffled_by e picks _ _ = None

@@ -1,0 +1,16 @@
+// The values of a module's constants, under overrides and a specialization.
+#![tactic(auto)]
+
+mod assemble;
+mod choose;
+mod copies;
+mod evaluate;
+mod fitting;
+mod inner_ops;
+mod operate;
+mod scalars;
+#[cfg(test)]
+mod tests;
+mod zeros;
+
+pub use evaluate::{Constants, Special, resolve};

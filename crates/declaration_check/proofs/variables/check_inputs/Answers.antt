@@ -1,0 +1,6 @@
+use Rattle.std.proofs.Common.{rules}
+use Rattle.declaration_check.proofs.Listed.{checked_found}
+use Rattle.declaration_check.proofs.variables.check_inputs.Goals as goal
+
+pub returns : goal.returns
+returns c = search (rules, checked_found)

@@ -1,0 +1,4 @@
+pub mod Checked
+pub mod Classes
+pub mod Context
+pub mod Grouped

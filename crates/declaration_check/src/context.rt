@@ -1,0 +1,149 @@
+// A module with what is kept beside it so that questions about it are answered quickly.
+ghost use Rattle.std.specs.Prelude.{◌≡◌, IfOk, map};
+ghost use Rattle.std.specs.Option.{option_copied};
+ghost use Rattle.spv_module.specs.Held.{global};
+ghost use Rattle.spv_decor.specs.Rows.{value_of};
+ghost use Rattle.spv_decor.specs.Decorations.{local_insts};
+ghost use Rattle.spv_index.specs.ValueTypes.{is_block, is_no_value_type};
+ghost use Rattle.spv_index.specs.Pointers.{storage_class, pointee};
+ghost use Rattle.profile_rules.specs.Places.{is_defined_elsewhere, body_insts};
+
+use crate::elsewhere::defined_elsewhere;
+use crate::rows::{behind, body_rows};
+use spv_decor::Decor;
+use spv_index::{Pointer, ValueTypes, pointer};
+use spv_module::{Function, Id, Inst, Module};
+use spv_words::Memory;
+use std::alloc::Global;
+use std::collections::BTreeSet;
+use std::marker::Model;
+
+/// A module with what is kept beside it. Contracts see the module.
+#[derive(Drop)]
+pub struct Context<'a> {
+    module: &'a Module,
+    decor: &'a Decor<'a>,
+    body: Vec<&'a Inst>,
+    elsewhere: BTreeSet<u32>,
+    value_types: ValueTypes<'a>,
+}
+
+impl<'a> Model for Context<'a> {
+    ghost use Rattle.std.specs.Prelude.{map};
+    ghost use Rattle.std.specs.BTreeSet.{contains};
+    ghost use Rattle.std.specs.Ordering.{nat_cmp};
+    ghost use Rattle.spv_module.specs.State.{ModuleState};
+
+    ghost Value = { ModuleState };
+
+    ghost use Rattle.declaration_check.specs.Context.{IsContext};
+
+    ghost view = { λ c. c.«module».now };
+
+    ghost invariant = { λ c. IsContext c.«module».now c.decor.now (map (λ i. i.now) c.body.items) (contains nat_cmp c.elsewhere) c.value_types };
+}
+
+impl<'a> Context<'a> {
+    /// What is asked of a module and its decorations. There is an error only for want of memory.
+    pub fn of(
+        alloc: Global,
+        module: &'a Module,
+        decor: &'a Decor<'a>,
+    ) -> Result<Context<'a>, Memory>
+        requires { decor.now ≡ «module».now.heads }
+        ensures { IfOk result (λ context. context ≡ «module».now) }
+    {
+        Ok(Context {
+            module,
+            decor,
+            body: body_rows(alloc, module)?,
+            elsewhere: defined_elsewhere(alloc, module)?,
+            value_types: ValueTypes::of(alloc, module)?,
+        })
+    }
+
+    /// The head instructions and names.
+    pub fn heads(&self) -> &'a [Inst]
+        ensures { result.now ≡ self.now.heads }
+    {
+        self.module.heads()
+    }
+
+    /// The types, constants, global variables and undefined values.
+    pub fn globals(&self) -> &'a [Inst]
+        ensures { result.now ≡ self.now.globals }
+    {
+        self.module.globals()
+    }
+
+    /// The functions.
+    pub fn functions(&self) -> &'a [Function]
+        ensures { result.now ≡ self.now.functions }
+    {
+        self.module.functions()
+    }
+
+    /// The global instructions, and then those of the functions.
+    pub fn body(&self) -> &[&'a Inst]
+        ensures { map (λ i. i.now) result.now ≡ body_insts self.now }
+    {
+        &self.body
+    }
+
+    /// The instructions of the functions.
+    #[tactic(auto, using(crate::proofs::Finds::behind_front))]
+    pub fn locals(&self) -> &[&'a Inst]
+        ensures { map (λ i. i.now) result.now ≡ local_insts self.now }
+    {
+        behind(&self.body, self.module.globals().len())
+    }
+
+    /// The global instruction with this result.
+    pub fn global(&self, id: u32) -> Option<&'a Inst>
+        ensures { option_copied result ≡ global self.now.globals id }
+    {
+        self.module.global(Id(id))
+    }
+
+    /// The literal of an id's decoration, or 0 where the decoration has none.
+    pub fn value(&self, id: u32, decoration: u32) -> Option<u32>
+        ensures { result ≡ value_of self.now.heads id decoration }
+    {
+        self.decor.value(Id(id), decoration)
+    }
+
+    /// Whether the id is decorated Block.
+    pub fn is_block(&self, id: u32) -> bool
+        ensures { result ≡ is_block self.now.heads id }
+    {
+        self.decor.value(Id(id), 2).is_some()
+    }
+
+    /// Whether the id is that of an import, or is defined in or by a function.
+    pub fn is_defined_elsewhere(&self, id: u32) -> bool
+        ensures { result ≡ is_defined_elsewhere self.now id }
+    {
+        self.elsewhere.contains(&id)
+    }
+
+    /// Whether the id is that of a type that is no value type.
+    pub fn is_no_value_type(&self, id: u32) -> bool
+        ensures { result ≡ is_no_value_type self.now.heads self.now.globals id }
+    {
+        self.value_types.is_other(id)
+    }
+
+    /// The storage class of a pointer type.
+    pub fn storage_class(&self, ty: u32) -> Option<u32>
+        ensures { result ≡ storage_class self.now.globals ty }
+    {
+        Some(pointer(self.module, Id(ty))?.class)
+    }
+
+    /// The type that a pointer type points to.
+    pub fn pointee(&self, ty: u32) -> Option<u32>
+        ensures { result ≡ pointee self.now.globals ty }
+    {
+        Some(pointer(self.module, Id(ty))?.pointee.0)
+    }
+}

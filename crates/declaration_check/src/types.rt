@@ -1,0 +1,275 @@
+// The rules on types, and on specialization constants.
+ghost use Rattle.std.specs.Prelude.{◌≡◌, ◌==◌, ◌||◌, not, false, find, drop};
+ghost use Rattle.std.specs.Option.{option_copied, option_map_or};
+ghost use Rattle.std.specs.List.{list_any};
+ghost use Rattle.std.specs.BTreeSet.{contains};
+ghost use Rattle.std.specs.Ordering.{nat_cmp};
+ghost use Rattle.spv_module.specs.Held.{global};
+ghost use Rattle.spv_words.specs.declared.rule.Rule.TheVariants.{P17, P18, P19};
+ghost use Rattle.profile_rules.specs.TypeForm.{is_misused as is_misused_in, is_other_int as is_other_int_row, is_no_scalar as is_no_scalar_in, is_other_vector as is_other_vector_in, is_signed as is_signed_in, is_above_zero as is_above_zero_in, is_no_int as is_no_int_in, is_workgroup_length as is_workgroup_length_in, is_length as is_length_in, is_other_array as is_other_array_in, is_empty_struct as is_empty_struct_row, is_no_data as is_no_data_in, parts_of as parts_in, is_misformed as is_misformed_in, is_other_pointer as is_other_pointer_in, is_no_variable as is_no_variable_in, is_other_parameter as is_other_parameter_in, is_other_result as is_other_result_in, is_other_function as is_other_function_in, p17, p18, p19};
+ghost use Rattle.profile_rules.specs.Places.{is_defined_elsewhere};
+ghost use Rattle.declaration_check.specs.Checked.{IsChecked};
+ghost use Rattle.declaration_check.specs.Classes.{AreMisuses, AreHolders};
+
+use crate::context::Context;
+use crate::refusal::refuse_at;
+use crate::rows::word;
+use crate::uses::{Holders, Misuses, find_holders, find_misuses, parts_of};
+use spv_module::Inst;
+use spv_words::{Fault, Rule};
+use std::alloc::Global;
+
+/// Whether this is a struct decorated Block, or OpTypeRuntimeArray, that is used otherwise.
+fn is_misused(context: &Context, uses: &Misuses, inst: &Inst) -> bool
+    requires { AreMisuses context.now (contains nat_cmp uses.now.blocks) (contains nat_cmp uses.now.runtimes) }
+    ensures { result ≡ is_misused_in context.now inst.now }
+{
+    inst.op == 30 && context.is_block(inst.result) && uses.blocks.contains(&inst.result)
+        || inst.op == 29 && uses.runtimes.contains(&inst.result)
+}
+
+fn first_misused<'a>(context: &Context<'a>, uses: &Misuses) -> Option<&'a Inst>
+    requires { AreMisuses context.now (contains nat_cmp uses.now.blocks) (contains nat_cmp uses.now.runtimes) }
+    ensures { option_copied result ≡ find (is_misused_in context.now) context.now.globals }
+{
+    context
+        .globals()
+        .iter()
+        .find(|inst| is_misused(context, uses, *inst))
+}
+
+/// P17: a struct decorated Block is anything but what a Uniform, StorageBuffer or PushConstant variable
+/// points to; or a runtime array is anything but the last member of a StorageBuffer's (SPIR-V 1.6,
+/// section 3.20, and "Type-Declaration Instructions", OpTypeRuntimeArray).
+pub fn check_uses(alloc: Global, context: &Context) -> Result<(), Fault>
+    ensures { IsChecked P17 (p17 context.now) result }
+{
+    let uses = find_misuses(alloc, context)?;
+    refuse_at(Rule::P17, first_misused(context, &uses))
+}
+
+/// OpTypeInt that is not 32 bits wide, or of a signedness above 1.
+fn is_other_int(inst: &Inst) -> bool
+    ensures { result ≡ is_other_int_row inst.now }
+{
+    inst.op == 21 && !(word(inst, 0) == 32 && word(inst, 1) <= 1)
+}
+
+/// Whether an id is that of something else than OpTypeBool or OpTypeInt.
+fn is_no_scalar(context: &Context, id: u32) -> bool
+    ensures { result ≡ is_no_scalar_in context.now id }
+{
+    match context.global(id) {
+        None => context.is_defined_elsewhere(id),
+        Some(inst) => !(inst.op == 20 || inst.op == 21),
+    }
+}
+
+/// OpTypeVector without two to four bool or int components.
+fn is_other_vector(context: &Context, inst: &Inst) -> bool
+    ensures { result ≡ is_other_vector_in context.now inst.now }
+{
+    inst.op == 23
+        && (!(2 <= word(inst, 1) && word(inst, 1) <= 4) || is_no_scalar(context, word(inst, 0)))
+}
+
+/// Whether a type is OpTypeInt with a sign.
+fn is_signed(context: &Context, id: u32) -> bool
+    ensures { result ≡ is_signed_in context.now.globals id }
+{
+    context
+        .global(id)
+        .map_or(false, |inst| inst.op == 21 && word(inst, 1) == 1)
+}
+
+/// Whether OpConstant is above 0.
+fn is_above_zero(context: &Context, constant: &Inst) -> bool
+    ensures { result ≡ is_above_zero_in context.now.globals constant.now }
+{
+    0 < word(constant, 0) && !(is_signed(context, constant.ty) && 0x8000_0000 <= word(constant, 0))
+}
+
+/// Whether a constant is of another type than int and uint.
+fn is_no_int(context: &Context, constant: &Inst) -> bool
+    ensures { result ≡ is_no_int_in context.now.globals constant.now }
+{
+    context
+        .global(constant.ty)
+        .map_or(false, |inst| inst.op != 21)
+}
+
+/// Whether a specialization constant may be the length of an array: it is an int, a Workgroup variable
+/// is or holds the array, and nothing else does.
+fn is_workgroup_length(context: &Context, holders: &Holders, constant: &Inst, array: u32) -> bool
+    requires { AreHolders context.now (contains nat_cmp holders.now.workgroup) (contains nat_cmp holders.now.others) }
+    ensures { result ≡ is_workgroup_length_in context.now constant.now array }
+{
+    !is_no_int(context, constant)
+        && holders.workgroup.contains(&array)
+        && !holders.others.contains(&array)
+}
+
+/// Whether a global instruction may be the length of an array.
+fn is_length(context: &Context, holders: &Holders, array: u32, constant: &Inst) -> bool
+    requires { AreHolders context.now (contains nat_cmp holders.now.workgroup) (contains nat_cmp holders.now.others) }
+    ensures { result ≡ is_length_in context.now array constant.now }
+{
+    if constant.op == 43 {
+        is_above_zero(context, constant)
+    } else {
+        matches!(constant.op, 48..=52) && is_workgroup_length(context, holders, constant, array)
+    }
+}
+
+/// Whether an id is that of no length of an array.
+fn is_no_length(context: &Context, holders: &Holders, array: u32, id: u32) -> bool
+    requires { AreHolders context.now (contains nat_cmp holders.now.workgroup) (contains nat_cmp holders.now.others) }
+    ensures { result ≡ option_map_or (λ c. not (is_length_in context.now array c)) (global context.now.globals id) (is_defined_elsewhere context.now id) }
+{
+    match context.global(id) {
+        None => context.is_defined_elsewhere(id),
+        Some(inst) => !is_length(context, holders, array, inst),
+    }
+}
+
+/// OpTypeArray of another length.
+fn is_other_array(context: &Context, holders: &Holders, inst: &Inst) -> bool
+    requires { AreHolders context.now (contains nat_cmp holders.now.workgroup) (contains nat_cmp holders.now.others) }
+    ensures { result ≡ is_other_array_in context.now inst.now }
+{
+    inst.op == 28 && is_no_length(context, holders, inst.result, word(inst, 1))
+}
+
+/// OpTypeStruct without members.
+fn is_empty_struct(inst: &Inst) -> bool
+    ensures { result ≡ is_empty_struct_row inst.now }
+{
+    inst.op == 30 && inst.args.is_empty()
+}
+
+/// Whether a type is void, a pointer or a function.
+fn is_no_data(context: &Context, id: u32) -> bool
+    ensures { result ≡ is_no_data_in context.now.globals id }
+{
+    context
+        .global(id)
+        .map_or(false, |inst| matches!(inst.op, 19 | 32 | 33))
+}
+
+/// Whether a part of an array or struct is void, a pointer or a function.
+fn holds_no_data(context: &Context, inst: &Inst) -> bool
+    ensures { result ≡ list_any (is_no_data_in context.now.globals) (parts_in inst.now) }
+{
+    parts_of(inst).iter().any(|id| is_no_data(context, *id))
+}
+
+/// Whether an int, vector, array or struct is not formed as it has to be.
+fn is_misformed(context: &Context, holders: &Holders, inst: &Inst) -> bool
+    requires { AreHolders context.now (contains nat_cmp holders.now.workgroup) (contains nat_cmp holders.now.others) }
+    ensures { result ≡ is_misformed_in context.now inst.now }
+{
+    is_other_int(inst)
+        || is_other_vector(context, inst)
+        || is_other_array(context, holders, inst)
+        || is_empty_struct(inst)
+        || holds_no_data(context, inst)
+}
+
+fn first_misformed<'a>(context: &Context<'a>, holders: &Holders) -> Option<&'a Inst>
+    requires { AreHolders context.now (contains nat_cmp holders.now.workgroup) (contains nat_cmp holders.now.others) }
+    ensures { option_copied result ≡ find (is_misformed_in context.now) context.now.globals }
+{
+    context
+        .globals()
+        .iter()
+        .find(|inst| is_misformed(context, holders, *inst))
+}
+
+/// P18: an int is not 32 bits wide or its signedness is above 1; a vector has not two to four bool or
+/// int components; the length of an array is neither an OpConstant above 0 nor a specialization
+/// constant that may be one; a struct has no member; or a part of an array or struct is void, a pointer
+/// or a function (SPIR-V 1.6, "Type-Declaration Instructions").
+pub fn check_form(alloc: Global, context: &Context) -> Result<(), Fault>
+    ensures { IsChecked P18 (p18 context.now) result }
+{
+    let holders = find_holders(alloc, context)?;
+    refuse_at(Rule::P18, first_misformed(context, &holders))
+}
+
+/// OpTypePointer to a pointer, void or a function.
+fn is_other_pointer(context: &Context, inst: &Inst) -> bool
+    ensures { result ≡ is_other_pointer_in context.now.globals inst.now }
+{
+    inst.op == 32 && is_no_data(context, word(inst, 1))
+}
+
+/// Whether a pointer type is of another class than Function, or to no value type.
+fn is_no_variable(context: &Context, inst: &Inst) -> bool
+    ensures { result ≡ is_no_variable_in context.now.heads context.now.globals inst.now }
+{
+    word(inst, 0) != 7 || context.is_no_value_type(word(inst, 1))
+}
+
+/// Whether a parameter is neither of a value type nor a Function pointer to one.
+fn is_other_parameter(context: &Context, id: u32) -> bool
+    ensures { result ≡ is_other_parameter_in context.now.heads context.now.globals id }
+{
+    match context.global(id) {
+        None => false,
+        Some(inst) => {
+            if inst.op == 32 {
+                is_no_variable(context, inst)
+            } else {
+                context.is_no_value_type(id)
+            }
+        }
+    }
+}
+
+/// Whether a result is neither void nor of a value type.
+fn is_other_result(context: &Context, id: u32) -> bool
+    ensures { result ≡ is_other_result_in context.now.heads context.now.globals id }
+{
+    match context.global(id) {
+        None => false,
+        Some(inst) => inst.op != 19 && context.is_no_value_type(id),
+    }
+}
+
+/// The parameters of a function type.
+fn parameters(inst: &Inst) -> &[u32]
+    ensures { result.now ≡ drop 1 inst.now.args }
+{
+    inst.args.as_slice().get(1..).unwrap_or(&[])
+}
+
+fn has_other_parameter(context: &Context, inst: &Inst) -> bool
+    ensures { result ≡ list_any (is_other_parameter_in context.now.heads context.now.globals) (drop 1 inst.now.args) }
+{
+    parameters(inst)
+        .iter()
+        .any(|id| is_other_parameter(context, *id))
+}
+
+/// OpTypeFunction with another result or another parameter.
+fn is_other_function(context: &Context, inst: &Inst) -> bool
+    ensures { result ≡ is_other_function_in context.now.heads context.now.globals inst.now }
+{
+    inst.op == 33 && (is_other_result(context, word(inst, 0)) || has_other_parameter(context, inst))
+}
+
+fn first_other_signature<'a>(context: &Context<'a>) -> Option<&'a Inst>
+    ensures { option_copied result ≡ find (λ t. is_other_pointer_in context.now.globals t || is_other_function_in context.now.heads context.now.globals t) context.now.globals }
+{
+    context.globals().iter().find(|inst| is_other_pointer(context, *inst)
+        || is_other_function(context, *inst))
+}
+
+/// P19: a pointer points to a pointer, void or a function; or a function type has a parameter that is
+/// neither of a value type nor a Function pointer to one, or a result that is neither void nor of a
+/// value type (SPIR-V 1.6, "Type-Declaration Instructions").
+pub fn check_signatures(context: &Context) -> Result<(), Fault>
+    ensures { IsChecked P19 (p19 context.now) result }
+{
+    refuse_at(Rule::P19, first_other_signature(context))
+}

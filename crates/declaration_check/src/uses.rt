@@ -1,0 +1,312 @@
+// What the types of a module are used for.
+ghost use Rattle.std.specs.Prelude.{◌≡◌, ◌++◌, ◌∷◌, ◌||◌, ℕ, ◌-◌, ◌&&◌, length, take, map, flat_map, IfOk, OnOk};
+ghost use Rattle.std.specs.BTreeSet.{contains};
+ghost use Rattle.std.specs.Ordering.{nat_cmp};
+ghost use Rattle.profile_rules.specs.Places.{is_among};
+ghost use Rattle.profile_rules.specs.TypeForm.{parts_of as parts_in, pointee_by as pointee_of, pointees as pointees_in, value_type as value_type_of, value_types as value_types_in, signature, signature_types as signature_types_in, block_misuses as block_misuses_in, is_storage_block as is_storage_block_in, fixed_parts as fixed_parts_in, runtime_misuses as runtime_misuses_in, other_types as other_types_in, is_held};
+ghost use Rattle.declaration_check.specs.Classes.{is_in, AreMisuses, AreHolders};
+
+use crate::context::Context;
+use crate::rows::word;
+use crate::variables::is_variable;
+use spv_module::{Function, Id, Inst};
+use std::alloc::{AllocError, Global};
+use std::collections::BTreeSet;
+
+/// Sets of storage classes: all; Workgroup; all but Workgroup; all but StorageBuffer; all but Uniform,
+/// StorageBuffer and PushConstant.
+#[derive(Clone, Copy)]
+pub enum Classes {
+    Any,
+    Workgroup,
+    OtherThanWorkgroup,
+    OtherThanStorage,
+    OtherThanBlock,
+}
+
+fn includes(classes: Classes, class: u32) -> bool
+    ensures { result ≡ is_in classes class }
+{
+    match classes {
+        Classes::Any => true,
+        Classes::Workgroup => class == 4,
+        Classes::OtherThanWorkgroup => class != 4,
+        Classes::OtherThanStorage => class != 12,
+        Classes::OtherThanBlock => !matches!(class, 2 | 9 | 12),
+    }
+}
+
+/// The type that a variable of such a class points to.
+fn pointee_by(context: &Context, classes: Classes, inst: &Inst) -> Option<u32>
+    ensures { result ≡ pointee_of context.now.globals (is_in classes) inst.now }
+{
+    if is_variable(inst) && includes(classes, word(inst, 0)) {
+        context.pointee(inst.ty)
+    } else {
+        None
+    }
+}
+
+/// The types that variables of such classes point to.
+#[tactic(auto, using(crate::proofs::Finds::chosen_rules))]
+fn pointees(alloc: Global, context: &Context, classes: Classes) -> Result<Vec<u32>, AllocError>
+    ensures { IfOk result (λ ids. ids.items ≡ pointees_in context.now (is_in classes)) }
+{
+    let mut ids = Vec::new(alloc);
+    for inst in context.body() {
+        if let Some(id) = pointee_by(context, classes, *inst) {
+            ids.push(id)?;
+        }
+    }
+    Ok(ids)
+}
+
+/// The type of a constant, or of a value that is computed in a function.
+fn value_type(inst: &Inst) -> Option<u32>
+    ensures { result ≡ value_type_of inst.now }
+{
+    if is_variable(inst) {
+        None
+    } else {
+        Some(inst.ty)
+    }
+}
+
+/// The types of the constants, and of the values that are computed in functions.
+#[tactic(auto, using(crate::proofs::Finds::chosen_rules))]
+fn value_types(alloc: Global, context: &Context) -> Result<Vec<u32>, AllocError>
+    ensures { IfOk result (λ ids. ids.items ≡ value_types_in context.now) }
+{
+    let mut ids = Vec::new(alloc);
+    for inst in context.body() {
+        if let Some(id) = value_type(*inst) {
+            ids.push(id)?;
+        }
+    }
+    Ok(ids)
+}
+
+fn type_of_parameter(param: &(Id, Id)) -> u32
+    ensures { result ≡ param.now.1.0 }
+{
+    param.1.0
+}
+
+fn add_parameters(ids: &mut Vec<u32>, params: &[(Id, Id)]) -> Result<(), AllocError>
+    ensures { OnOk result (ids.new.items ≡ ids.old.items ++ map (λ p. p.1.0) params.now) }
+{
+    for param in params {
+        ids.push(type_of_parameter(param))?;
+    }
+    Ok(())
+}
+
+fn add_signature(ids: &mut Vec<u32>, function: &Function) -> Result<(), AllocError>
+    ensures { OnOk result (ids.new.items ≡ ids.old.items ++ signature function.now) }
+{
+    ids.push(function.result.0)?;
+    add_parameters(ids, function.params.as_slice())?;
+    Ok(())
+}
+
+/// The types of parameters and of the results of functions.
+fn signature_types(alloc: Global, context: &Context) -> Result<Vec<u32>, AllocError>
+    ensures { IfOk result (λ ids. ids.items ≡ signature_types_in context.now) }
+{
+    let mut ids = Vec::new(alloc);
+    for function in context.functions() {
+        add_signature(&mut ids, function)?;
+    }
+    Ok(ids)
+}
+
+/// The parts of an array or a struct.
+#[tactic(auto, unfolding(spv_types::specs::Types::kind))]
+pub fn parts_of(inst: &Inst) -> &[u32]
+    ensures { result.now ≡ parts_in inst.now }
+{
+    let args = inst.args.as_slice();
+    match inst.op {
+        // OpTypeArray, OpTypeRuntimeArray
+        28 | 29 => first(args),
+        // OpTypeStruct
+        30 => args,
+        _ => &[],
+    }
+}
+
+fn first(ids: &[u32]) -> &[u32]
+    ensures { result.now ≡ take 1 ids.now }
+{
+    if ids.is_empty() { ids } else { &ids[..1] }
+}
+
+/// The parts of all arrays and structs.
+fn all_parts(alloc: Global, context: &Context) -> Result<Vec<u32>, AllocError>
+    ensures { IfOk result (λ ids. ids.items ≡ flat_map parts_in context.now.globals) }
+{
+    let mut ids = Vec::new(alloc);
+    for inst in context.globals() {
+        ids.extend_from_slice(parts_of(inst))?;
+    }
+    Ok(ids)
+}
+
+/// Adds ids to a set.
+fn add_ids(set: &mut BTreeSet<u32>, ids: &[u32]) -> Result<(), AllocError>
+    ensures { OnOk result ((id : ℕ) → contains nat_cmp set.new id ≡ (contains nat_cmp set.old id || is_among ids.now id)) }
+{
+    for id in ids {
+        set.insert(*id)?;
+    }
+    Ok(())
+}
+
+fn set_of(alloc: Global, ids: &[u32]) -> Result<BTreeSet<u32>, AllocError>
+    ensures { IfOk result (λ set. (id : ℕ) → contains nat_cmp set id ≡ is_among ids.now id) }
+{
+    let mut set = BTreeSet::new(alloc);
+    add_ids(&mut set, ids)?;
+    Ok(set)
+}
+
+/// All that is no use of a Block struct.
+fn block_misuses(alloc: Global, context: &Context) -> Result<Vec<u32>, AllocError>
+    ensures { IfOk result (λ ids. ids.items ≡ block_misuses_in context.now) }
+{
+    let mut ids = all_parts(alloc, context)?;
+    ids.extend_from_slice(&pointees(alloc, context, Classes::OtherThanBlock)?)?;
+    ids.extend_from_slice(&value_types(alloc, context)?)?;
+    ids.extend_from_slice(&signature_types(alloc, context)?)?;
+    Ok(ids)
+}
+
+/// Whether a struct is a Block that no variable of another class than StorageBuffer points to, where
+/// `others` are the types that such variables point to.
+fn is_storage_block(context: &Context, others: &BTreeSet<u32>, inst: &Inst) -> bool
+    requires { (id : ℕ) → contains nat_cmp others.now id ≡ is_among (pointees_in context.now (is_in Classes.OtherThanStorage)) id }
+    ensures { result ≡ is_storage_block_in context.now inst.now }
+{
+    context.is_block(inst.result) && !others.contains(&inst.result)
+}
+
+/// The parts of a type that may be no runtime array.
+fn fixed_parts<'a>(context: &Context, others: &BTreeSet<u32>, inst: &'a Inst) -> &'a [u32]
+    requires { (id : ℕ) → contains nat_cmp others.now id ≡ is_among (pointees_in context.now (is_in Classes.OtherThanStorage)) id }
+    ensures { result.now ≡ fixed_parts_in context.now inst.now }
+{
+    if inst.op == 30 && is_storage_block(context, others, inst) {
+        all_but_last(inst.args.as_slice())
+    } else {
+        parts_of(inst)
+    }
+}
+
+fn all_but_last(ids: &[u32]) -> &[u32]
+    ensures { result.now ≡ take (length ids.now - 1) ids.now }
+{
+    if ids.is_empty() {
+        ids
+    } else {
+        &ids[..ids.len() - 1]
+    }
+}
+
+/// The parts of all types that may be no runtime array.
+fn all_fixed_parts(
+    alloc: Global,
+    context: &Context,
+    others: &BTreeSet<u32>,
+) -> Result<Vec<u32>, AllocError>
+    requires { (id : ℕ) → contains nat_cmp others.now id ≡ is_among (pointees_in context.now (is_in Classes.OtherThanStorage)) id }
+    ensures { IfOk result (λ ids. ids.items ≡ flat_map (fixed_parts_in context.now) context.now.globals) }
+{
+    let mut ids = Vec::new(alloc);
+    for inst in context.globals() {
+        ids.extend_from_slice(fixed_parts(context, others, inst))?;
+    }
+    Ok(ids)
+}
+
+/// All that is no use of a runtime array.
+fn runtime_misuses(alloc: Global, context: &Context) -> Result<Vec<u32>, AllocError>
+    ensures { IfOk result (λ ids. ids.items ≡ runtime_misuses_in context.now) }
+{
+    let others = set_of(alloc, &pointees(alloc, context, Classes::OtherThanStorage)?)?;
+    let mut ids = all_fixed_parts(alloc, context, &others)?;
+    ids.extend_from_slice(&pointees(alloc, context, Classes::Any)?)?;
+    ids.extend_from_slice(&value_types(alloc, context)?)?;
+    ids.extend_from_slice(&signature_types(alloc, context)?)?;
+    Ok(ids)
+}
+
+/// The ids of the types that are used as no Block struct may be, and as no runtime array may be.
+#[derive(Drop)]
+pub struct Misuses {
+    pub blocks: BTreeSet<u32>,
+    pub runtimes: BTreeSet<u32>,
+}
+
+/// How types are used that may be Block structs or runtime arrays.
+pub fn find_misuses(alloc: Global, context: &Context) -> Result<Misuses, AllocError>
+    ensures { IfOk result (λ uses. AreMisuses context.now (contains nat_cmp uses.blocks) (contains nat_cmp uses.runtimes)) }
+{
+    Ok(Misuses {
+        blocks: set_of(alloc, &block_misuses(alloc, context)?)?,
+        runtimes: set_of(alloc, &runtime_misuses(alloc, context)?)?,
+    })
+}
+
+/// Adds the parts of a type that is in the set.
+fn add_parts(set: &mut BTreeSet<u32>, inst: &Inst) -> Result<(), AllocError>
+    ensures { OnOk result ((id : ℕ) → contains nat_cmp set.new id ≡ (contains nat_cmp set.old id || ((contains nat_cmp set.old inst.now.result) && is_among (parts_in inst.now) id))) }
+{
+    if set.contains(&inst.result) {
+        add_ids(set, parts_of(inst))?;
+    }
+    Ok(())
+}
+
+/// These types and all that they hold, from the last to the first, as what holds a type stands after
+/// it.
+fn held(alloc: Global, context: &Context, types: &[u32]) -> Result<BTreeSet<u32>, AllocError>
+    ensures { IfOk result (λ set. (id : ℕ) → contains nat_cmp set id ≡ is_held context.now.globals types.now id) }
+{
+    let globals = context.globals();
+    let mut set = set_of(alloc, types)?;
+    let mut left = globals.len();
+    while left > 0 {
+        left -= 1;
+        add_parts(&mut set, &globals[left])?;
+    }
+    Ok(set)
+}
+
+/// The types of what may not hold an array whose length is a specialization constant.
+fn other_types(alloc: Global, context: &Context) -> Result<Vec<u32>, AllocError>
+    ensures { IfOk result (λ ids. ids.items ≡ other_types_in context.now) }
+{
+    let mut ids = pointees(alloc, context, Classes::OtherThanWorkgroup)?;
+    ids.extend_from_slice(&value_types(alloc, context)?)?;
+    Ok(ids)
+}
+
+/// The ids of the types that Workgroup variables are or hold, and that other variables, constants and
+/// values of functions are or hold.
+#[derive(Drop)]
+pub struct Holders {
+    pub workgroup: BTreeSet<u32>,
+    pub others: BTreeSet<u32>,
+}
+
+/// What holds types that may be arrays whose length is a specialization constant.
+pub fn find_holders(alloc: Global, context: &Context) -> Result<Holders, AllocError>
+    ensures { IfOk result (λ h. AreHolders context.now (contains nat_cmp h.workgroup) (contains nat_cmp h.others)) }
+{
+    let workgroup = pointees(alloc, context, Classes::Workgroup)?;
+    let others = other_types(alloc, context)?;
+    Ok(Holders {
+        workgroup: held(alloc, context, &workgroup)?,
+        others: held(alloc, context, &others)?,
+    })
+}

@@ -1,0 +1,305 @@
+// The rules on variables.
+ghost use Rattle.std.specs.Prelude.{◌≡◌, ◌==◌, ◌||◌, not, false, true, find, map, count_by};
+ghost use Rattle.std.specs.Option.{option_copied, option_map_or};
+ghost use Rattle.spv_module.specs.Held.{global};
+ghost use Rattle.spv_index.specs.Pointers.{storage_class};
+ghost use Rattle.spv_decor.specs.Rows.{value_of};
+ghost use Rattle.spv_decor.specs.Decorations.{local_insts};
+ghost use Rattle.spv_words.specs.declared.rule.Rule.TheVariants.{P13, P14, P15, P16};
+ghost use Rattle.profile_rules.specs.Places.{body_insts, is_among, is_constant as is_constant_op, is_variable as is_variable_row};
+ghost use Rattle.profile_rules.specs.Variables.{classes, is_other_class as is_other_class_in, is_misclassed as is_misclassed_in, is_pointee, pointed_type as pointed_type_in, inputs, is_other_input_type as is_other_input_type_in, is_other_input as is_other_input_in, is_buffer as is_buffer_row, is_push as is_push_row, is_no_block as is_no_block_in, is_unbound as is_unbound_in, is_other_block as is_other_block_in, is_of_other_type as is_of_other_type_in, is_other_value as is_other_value_in, is_other_initializer as is_other_initializer_in, p13, p14, p15, p16};
+ghost use Rattle.declaration_check.specs.Checked.{IsChecked};
+
+use crate::context::Context;
+use crate::kernel::is_type;
+use crate::refusal::refuse_at;
+use crate::rows::word;
+use crate::size::{is_no_uvec3, is_uint};
+use spv_module::Inst;
+use spv_words::{Fault, Rule};
+
+/// OpVariable.
+pub fn is_variable(inst: &Inst) -> bool
+    ensures { result ≡ is_variable_row inst.now }
+{
+    inst.op == 59
+}
+
+/// Input, Uniform, Workgroup, Private, Function, PushConstant and StorageBuffer (SPIR-V 1.6, section
+/// 3.7).
+fn is_class(class: u32) -> bool
+    ensures { result ≡ is_among classes class }
+{
+    matches!(class, 1 | 2 | 4 | 6 | 7 | 9 | 12)
+}
+
+/// Whether a type is a pointer of another class.
+fn is_of_other_class(context: &Context, ty: u32, class: u32) -> bool
+    ensures { result ≡ option_map_or (λ c. not (c == class)) (storage_class context.now.globals ty) false }
+{
+    context
+        .storage_class(ty)
+        .map_or(false, |other| other != class)
+}
+
+/// Whether the class of a variable is none of the profile's, or not its pointer's.
+fn is_other_class(context: &Context, variable: &Inst) -> bool
+    ensures { result ≡ is_other_class_in context.now.globals variable.now }
+{
+    !is_class(word(variable, 0)) || is_of_other_class(context, variable.ty, word(variable, 0))
+}
+
+/// Whether a variable is of such a class, or of class Function where it stands outside a function, or
+/// of another class in one.
+fn is_misclassed(context: &Context, inside: bool, inst: &Inst) -> bool
+    ensures { result ≡ is_misclassed_in inside context.now.globals inst.now }
+{
+    let is_function = word(inst, 0) == 7;
+    is_variable(inst)
+        && (is_other_class(context, inst) || if inside { !is_function } else { is_function })
+}
+
+fn first_misclassed_outside<'a>(context: &Context<'a>) -> Option<&'a Inst>
+    ensures { option_copied result ≡ find (is_misclassed_in false context.now.globals) context.now.globals }
+{
+    context
+        .globals()
+        .iter()
+        .find(|inst| is_misclassed(context, false, *inst))
+}
+
+#[tactic(auto, using(crate::proofs::Finds::behind_rules))]
+fn first_misclassed_inside<'a>(context: &Context<'a>) -> Option<&'a Inst>
+    ensures { option_copied result ≡ find (is_misclassed_in true context.now.globals) (local_insts context.now) }
+{
+    for inst in context.locals() {
+        if is_misclassed(context, true, *inst) {
+            return Some(*inst);
+        }
+    }
+    None
+}
+
+/// P13: the storage class of a variable is none of the profile's, or not its pointer's, or is Function
+/// exactly where the variable stands outside a function (SPIR-V 1.6, section 3.7).
+pub fn check_classes(context: &Context) -> Result<(), Fault>
+    ensures { IsChecked P13 (p13 context.now) result }
+{
+    refuse_at(Rule::P13, first_misclassed_outside(context))?;
+    refuse_at(Rule::P13, first_misclassed_inside(context))
+}
+
+/// NumWorkgroups, WorkgroupId, LocalInvocationId, GlobalInvocationId and LocalInvocationIndex (SPIR-V
+/// 1.6, section 3.21).
+fn is_input(built_in: u32) -> bool
+    ensures { result ≡ is_among inputs built_in }
+{
+    matches!(built_in, 24 | 26..=29)
+}
+
+/// Whether a type is no uvec3, or for LocalInvocationIndex no uint.
+fn is_other_input_type(context: &Context, built_in: u32, inst: &Inst) -> bool
+    ensures { result ≡ is_other_input_type_in context.now.globals built_in inst.now }
+{
+    if built_in == 29 {
+        !is_uint(inst)
+    } else {
+        is_no_uvec3(context, inst)
+    }
+}
+
+/// The type that a pointer type points to.
+fn pointed_type<'a>(context: &Context<'a>, ty: u32) -> Option<&'a Inst>
+    ensures { option_copied result ≡ pointed_type_in context.now.globals ty }
+{
+    let inst = context.global(context.pointee(ty)?)?;
+    if is_type(inst.op) { Some(inst) } else { None }
+}
+
+/// Whether an Input variable of a built-in points to another type.
+fn is_mistyped_input(context: &Context, built_in: u32, variable: &Inst) -> bool
+    ensures { result ≡ is_pointee context.now.globals (is_other_input_type_in context.now.globals built_in) variable.now }
+{
+    match pointed_type(context, variable.ty) {
+        None => false,
+        Some(inst) => is_other_input_type(context, built_in, inst),
+    }
+}
+
+/// Whether an Input variable is of none of these built-ins.
+fn is_no_input(context: &Context, variable: &Inst) -> bool
+    ensures { result ≡ option_map_or (λ b. not (is_among inputs b) || is_pointee context.now.globals (is_other_input_type_in context.now.globals b) variable.now) (value_of context.now.heads variable.now.result 11) true }
+{
+    match context.value(variable.result, 11) {
+        None => true,
+        Some(built_in) => !is_input(built_in) || is_mistyped_input(context, built_in, variable),
+    }
+}
+
+/// Whether this is an Input variable without a built-in, or of another type.
+fn is_other_input(context: &Context, inst: &Inst) -> bool
+    ensures { result ≡ is_other_input_in context.now.heads context.now.globals inst.now }
+{
+    is_variable(inst) && word(inst, 0) == 1 && is_no_input(context, inst)
+}
+
+#[tactic(auto, using(crate::proofs::Finds::behind_rules))]
+fn first_other_input<'a>(context: &Context<'a>) -> Option<&'a Inst>
+    ensures { option_copied result ≡ find (is_other_input_in context.now.heads context.now.globals) (body_insts context.now) }
+{
+    for inst in context.body() {
+        if is_other_input(context, *inst) {
+            return Some(*inst);
+        }
+    }
+    None
+}
+
+/// P14: an Input variable lacks a BuiltIn of the profile other than WorkgroupSize, or its type is not
+/// uvec3, or uint for LocalInvocationIndex (SPIR-V 1.6, section 3.21).
+pub fn check_inputs(context: &Context) -> Result<(), Fault>
+    ensures { IsChecked P14 (p14 context.now) result }
+{
+    refuse_at(Rule::P14, first_other_input(context))
+}
+
+/// Whether a variable is of class Uniform or StorageBuffer.
+fn is_buffer(variable: &Inst) -> bool
+    ensures { result ≡ is_buffer_row variable.now }
+{
+    matches!(word(variable, 0), 2 | 12)
+}
+
+/// A variable of class PushConstant.
+fn is_push(inst: &Inst) -> bool
+    ensures { result ≡ is_push_row inst.now }
+{
+    is_variable(inst) && word(inst, 0) == 9
+}
+
+/// Whether a variable points to another type than a struct decorated Block.
+fn points_to_no_block(context: &Context, variable: &Inst) -> bool
+    ensures { result ≡ is_pointee context.now.globals (is_no_block_in context.now.heads) variable.now }
+{
+    match pointed_type(context, variable.ty) {
+        None => false,
+        Some(inst) => !(inst.op == 30 && context.is_block(inst.result)),
+    }
+}
+
+/// Whether a variable lacks DescriptorSet or Binding.
+fn is_unbound(context: &Context, variable: &Inst) -> bool
+    ensures { result ≡ is_unbound_in context.now.heads variable.now }
+{
+    !(context.value(variable.result, 34).is_some() && context.value(variable.result, 33).is_some())
+}
+
+/// Whether this is a Uniform, StorageBuffer or PushConstant variable that points to no Block struct, or
+/// lacks a set or binding, or is one of several PushConstant variables.
+#[tactic(auto, unfolding(profile_rules::specs::Variables::is_other_block))]
+fn is_other_block(context: &Context, pushes: usize, inst: &Inst) -> bool
+    ensures { result ≡ is_other_block_in context.now.heads context.now.globals pushes inst.now }
+{
+    is_variable(inst)
+        && ((is_buffer(inst) || is_push(inst)) && points_to_no_block(context, inst)
+            || is_buffer(inst) && is_unbound(context, inst)
+            || is_push(inst) && pushes >= 2)
+}
+
+/// How many PushConstant variables there are.
+#[tactic(auto, using(crate::proofs::Finds::count_rules))]
+fn count_pushes(context: &Context) -> usize
+    ensures { result ≡ count_by is_push_row (body_insts context.now) }
+{
+    let mut count = 0;
+    for inst in context.body() {
+        if is_push(*inst) {
+            count += 1;
+        }
+    }
+    count
+}
+
+#[tactic(auto, using(crate::proofs::Finds::behind_rules))]
+fn first_other_block<'a>(context: &Context<'a>, pushes: usize) -> Option<&'a Inst>
+    ensures { option_copied result ≡ find (is_other_block_in context.now.heads context.now.globals pushes) (body_insts context.now) }
+{
+    for inst in context.body() {
+        if is_other_block(context, pushes, *inst) {
+            return Some(*inst);
+        }
+    }
+    None
+}
+
+fn block_fault<'a>(context: &Context<'a>) -> Option<&'a Inst>
+    ensures { option_copied result ≡ find (is_other_block_in context.now.heads context.now.globals (count_by is_push_row (body_insts context.now))) (body_insts context.now) }
+{
+    let pushes = count_pushes(context);
+    first_other_block(context, pushes)
+}
+
+/// P15: a Uniform, StorageBuffer or PushConstant variable does not point to a struct decorated Block;
+/// or one of the first two lacks DescriptorSet or Binding; or there are two of the last (SPIR-V 1.6,
+/// section 3.20).
+pub fn check_blocks(context: &Context) -> Result<(), Fault>
+    ensures { IsChecked P15 (p15 context.now) result }
+{
+    refuse_at(Rule::P15, block_fault(context))
+}
+
+/// Whether an opcode makes a constant; OpUndef outside functions counts as one.
+fn is_constant(op: u16) -> bool
+    ensures { result ≡ is_constant_op op }
+{
+    matches!(op, 1 | 41..=52)
+}
+
+/// Whether a constant is of another type than a variable points to.
+fn is_of_other_type(context: &Context, variable: &Inst, constant: &Inst) -> bool
+    ensures { result ≡ is_of_other_type_in context.now.globals variable.now constant.now }
+{
+    context
+        .pointee(variable.ty)
+        .map_or(false, |ty| constant.ty != ty)
+}
+
+/// Whether an initializer is no constant, or of another type.
+fn is_other_value(context: &Context, variable: &Inst, id: u32) -> bool
+    ensures { result ≡ is_other_value_in context.now variable.now id }
+{
+    match context.global(id) {
+        None => context.is_defined_elsewhere(id),
+        Some(inst) => !is_constant(inst.op) || is_of_other_type(context, variable, inst),
+    }
+}
+
+/// Whether this is a variable with an initializer that is another value, or stands on another class
+/// than Function or Private.
+fn is_other_initializer(context: &Context, inst: &Inst) -> bool
+    ensures { result ≡ is_other_initializer_in context.now inst.now }
+{
+    is_variable(inst)
+        && 1 < inst.args.len()
+        && (!matches!(word(inst, 0), 6 | 7) || is_other_value(context, inst, word(inst, 1)))
+}
+
+#[tactic(auto, using(crate::proofs::Finds::behind_rules))]
+fn first_other_initializer<'a>(context: &Context<'a>) -> Option<&'a Inst>
+    ensures { option_copied result ≡ find (is_other_initializer_in context.now) (body_insts context.now) }
+{
+    for inst in context.body() {
+        if is_other_initializer(context, *inst) {
+            return Some(*inst);
+        }
+    }
+    None
+}
+
+/// P16: an initializer stands on another class than Function or Private, or is no constant of the type
+/// that the variable points to (SPIR-V 1.6, "Memory Instructions", OpVariable).
+pub fn check_initializers(context: &Context) -> Result<(), Fault>
+    ensures { IsChecked P16 (p16 context.now) result }
+{
+    refuse_at(Rule::P16, first_other_initializer(context))
+}

@@ -1,0 +1,50 @@
+use Rattle.std.proofs.Common.{◌≡◌, Err, Result, IfErr, rules, subst, sym}
+use Rattle.spv_words.specs.declared.rule.Fault.{Fault}
+use Rattle.spv_module.specs.State.{ModuleState}
+use Rattle.conformance.specs.Rules.{Options}
+use Rattle.module_check.specs.Asked.{asked}
+use Rattle.module_check.specs.Judged.{IsFineLater, IsLaterFault, IsFine, IsFault, by_types, by_later}
+use Rattle.module_check.proofs.Causes.{declared_by, chosen_by, entry_is_function, typed_by, on_ok, if_err}
+use Rattle.module_check.proofs.judges.check_module.Goals as goal
+
+pub returns-in_err-check_types-clause-refused : goal.returns-in_err-check_types-clause-refused
+returns-in_err-check_types-clause-refused c =
+    let m : ModuleState = c.args.module.now in
+    let o : Options = asked c.args.options.now in
+    let is : c.from_residual-in_err-check_types.result ≡ Err c.in_err-check_types.field-0.0 = search rules in
+    let P : Result (Unit {0}) Fault → Type 0 = λ r. IfErr r (IsFault m o) in
+    subst P (sym is) (by_types (declared_by m o _ c.entry_name.ensures c.in_ok-entry.ensures.passes) c.in_err-check_types.ensures.refused)
+
+pub check_later-requires-clause-callees : goal.check_later-requires-clause-callees
+check_later-requires-clause-callees c = c.requires.read.callees c.in_ok-check_types.ensures.unbroken
+
+pub check_later-requires-clause-entry : goal.check_later-requires-clause-entry
+check_later-requires-clause-entry c =
+    let m : ModuleState = c.args.module.now in
+    let o : Options = asked c.args.options.now in
+    entry_is_function m o c.in_ok-entry.entry.function.0 (declared_by m o _ c.entry_name.ensures c.in_ok-entry.ensures.passes) (chosen_by m o _ c.in_ok-entry.entry.function.0 c.entry_name.ensures c.in_ok-entry.ensures.chosen)
+
+pub returns-clause-passes : goal.returns-clause-passes
+returns-clause-passes c =
+    let m : ModuleState = c.args.module.now in
+    let o : Options = asked c.args.options.now in
+    let id = c.in_ok-entry.entry.function.0 in
+    on_ok (IsFineLater m o.overrides id) (IsFine m o) c.check_later.result
+    (λ later.
+    record {
+      declared = declared_by m o _ c.entry_name.ensures c.in_ok-entry.ensures.passes;
+      typed = typed_by m c.in_ok-check_types.ensures.passes c.in_ok-check_types.ensures.unbroken c.in_ok-check_types.ensures.within;
+      entry = id;
+      is = chosen_by m o _ id c.entry_name.ensures c.in_ok-entry.ensures.chosen;
+      later = later;
+    }) c.check_later.ensures.passes
+
+pub returns-clause-refused : goal.returns-clause-refused
+returns-clause-refused c =
+    let m : ModuleState = c.args.module.now in
+    let o : Options = asked c.args.options.now in
+    let id = c.in_ok-entry.entry.function.0 in
+    if_err (IsLaterFault m o.overrides id) (IsFault m o) c.check_later.result
+    (λ fault h.
+    by_later (declared_by m o _ c.entry_name.ensures c.in_ok-entry.ensures.passes) (typed_by m c.in_ok-check_types.ensures.passes c.in_ok-check_types.ensures.unbroken c.in_ok-check_types.ensures.within) id
+    (chosen_by m o _ id c.entry_name.ensures c.in_ok-entry.ensures.chosen) h) c.check_later.ensures.refused

@@ -1,0 +1,14 @@
+pub mod LinkLemmas
+pub mod Each
+pub mod Reading
+pub mod Naming
+pub mod Parenthood
+pub mod Outward
+pub mod Placing
+pub mod Origins
+pub mod Nested
+pub mod Around
+pub mod Falling
+pub mod Turning
+pub mod Verdict
+pub mod OneKind

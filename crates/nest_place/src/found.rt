@@ -1,0 +1,86 @@
+// What is known of a function that breaks no rule of structured control flow.
+ghost use Rattle.std.specs.Prelude.{◌≡◌, ◌<◌, length, true};
+ghost use Rattle.structure_rules.specs.declared.graph.EdgeKind.{EdgeKind as EdgeKindOf};
+ghost use Rattle.structure_rules.specs.Graph.{nth, leads_to as leads_to_block};
+ghost use Rattle.structure_rules.specs.Nesting.{place};
+ghost use Rattle.structure_rules.specs.EdgeKinds.{has_kind};
+ghost use Rattle.nest_place.specs.Nests.{IsSound as IsSoundGraph};
+
+use crate::nest::Nest;
+use std::marker::Model;
+use structure_rules::{EdgeKind, Node, Part};
+
+/// The constructs round the reached blocks of a function, and the kinds of its edges, where the rules
+/// of structured control flow are unbroken. Contracts see the control-flow graph of the function; all
+/// numbers of blocks are their indexes in the function.
+#[derive(Drop)]
+pub struct Places {
+    nest: Nest,
+}
+
+impl Model for Places {
+    ghost use Rattle.std.specs.Prelude.{List};
+    ghost use Rattle.structure_rules.specs.declared.graph.Node.{Node};
+
+    ghost Value = { List Node };
+
+    ghost use Rattle.nest_place.specs.Nests.{IsSound};
+
+    ghost view = { λ p. p.nest };
+
+    ghost invariant = { λ p. IsSound p.nest };
+}
+
+/// Whether an edge leads from this block to the other.
+fn leads_to(node: &Node, to: usize) -> bool
+    ensures { result ≡ leads_to_block to node.now }
+{
+    node.targets.as_slice().iter().any(|target| *target == to)
+}
+
+impl Places {
+    /// The places of a graph that is sound.
+    pub fn sound(nest: Nest) -> Places
+        requires { IsSoundGraph nest }
+        ensures { result ≡ nest }
+    {
+        Places { nest }
+    }
+
+    /// Whether edges lead to the block from the first one.
+    pub fn reached(&self, block: usize) -> bool
+        requires { block < length self.now }
+        ensures { result ≡ (nth self.now block).reached }
+    {
+        self.nest.nodes()[block].reached
+    }
+
+    /// The constructs round a reached block, from inside out.
+    #[tactic(auto, using(crate::proofs::Outward::reached_inside))]
+    pub fn of(&self, block: usize) -> &[Part]
+        requires { (nth self.now block).reached ≡ true }
+        ensures { result.now ≡ place self.now block }
+    {
+        self.nest.place(block)
+    }
+
+    /// Whether an edge leads from one block to the other.
+    pub fn has_edge(&self, from: usize, to: usize) -> bool
+        requires { from < length self.now }
+        ensures { result ≡ leads_to_block to (nth self.now from) }
+    {
+        leads_to(&self.nest.nodes()[from], to)
+    }
+
+    /// What an edge of a reached block does (SPIR-V 1.6, section 2.11). It has this kind and no other.
+    #[tactic(auto, using(crate::proofs::Verdict::kind_rules))]
+    pub fn edge(&self, from: usize, to: usize) -> EdgeKind
+        requires reached { (nth self.now from).reached ≡ true }
+        requires leads { leads_to_block to (nth self.now from) ≡ true }
+        ensures kind { has_kind self.now from to result ≡ true }
+        ensures only { (k : EdgeKindOf) → has_kind self.now from to k ≡ true → k ≡ result }
+    {
+        let origin = self.nest.origin(from);
+        self.nest.kind(&origin, to).unwrap()
+    }
+}

@@ -1,0 +1,59 @@
+// Relations between blocks, as lists of links.
+ghost use Rattle.std.specs.Prelude.{◌≡◌, ◌<◌, length, None, IfOk, OnOk, IfErr};
+ghost use Rattle.nest_place.specs.Links.{AreWithin, IsTable, IsSingle, IsRightEnd};
+
+use std::alloc::{AllocError, Global};
+
+/// A block, and another to which it is related.
+pub type Link = (usize, usize);
+
+/// One block is related to two others.
+#[derive(Clone, Copy, Debug, PartialEq, Eq)]
+pub struct Clash {
+    pub block: usize,
+    pub first: usize,
+    pub second: usize,
+}
+
+/// Why links make no table.
+#[derive(Clone, Copy, Debug, PartialEq, Eq)]
+pub enum NoTable {
+    Clash(Clash),
+    Memory,
+}
+
+impl From<AllocError> for NoTable {
+    ghost use Rattle.nest_place.specs.declared.links.NoTable.TheVariants.{Memory};
+
+    ghost from_gives = { λ _ e. e ≡ Memory };
+
+    fn from(_: AllocError) -> Self {
+        NoTable::Memory
+    }
+}
+
+/// For each of `count` blocks the one to which the links relate it, where no block is related to two.
+#[tactic(auto, using(crate::proofs::LinkLemmas::table_rules))]
+pub fn table_of(alloc: Global, count: usize, links: &[Link]) -> Result<Vec<Option<usize>>, NoTable>
+    requires { AreWithin count links.now }
+    ensures table { IfOk result (λ table. IsTable links.now table.items) }
+    ensures sized { IfOk result (λ table. length table.items ≡ count) }
+    ensures single { OnOk result (IsSingle links.now) }
+    ensures clash { IfErr result (IsRightEnd links.now) }
+{
+    let mut table = vec![in alloc; None; count]?;
+    for (block, other) in links {
+        match table[*block] {
+            None => table[*block] = Some(*other),
+            Some(first) if first == *other => {}
+            Some(first) => {
+                return Err(NoTable::Clash(Clash {
+                    block: *block,
+                    first,
+                    second: *other,
+                }));
+            }
+        }
+    }
+    Ok(table)
+}

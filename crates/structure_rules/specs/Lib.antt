@@ -1,0 +1,4 @@
+pub mod Graph
+pub mod Nesting
+pub mod EdgeKinds
+pub mod Structure

@@ -1,0 +1,6 @@
+mod Imports
+mod Totals
+mod Counted
+mod Repeats
+mod Matched
+mod Refused

@@ -1,0 +1,18 @@
+use Rattle.std.proofs.Common.{◌≡◌, ◌++◌, Bool, ap, ◌∙◌, subst}
+use Rattle.std.proofs.lemmas.Result.{err_from_is_err_and}
+use Rattle.spv_words.specs.declared.rule.Rule.TheVariants.{T1}
+use Rattle.profile_rules.specs.Operands.{breaks_t1, lacks}
+use Rattle.profile_rules.specs.TypeRules.{broken_if, broken_as, broken_inside, IsRefusedBy}
+use Rattle.type_rules.specs.Scopes.{Scoped, there}
+use Rattle.type_rules.proofs.Refused.{by_left}
+use Rattle.type_rules.proofs.check.check_global.Goals as goal
+
+pub returns-in_err-refuse_if-clause-refused : goal.returns-in_err-refuse_if-clause-refused
+returns-in_err-refuse_if-clause-refused c =
+    let p = err_from_is_err_and c.from_residual.result c.from_residual.ensures.1 in
+    let m = c.args.scope.now.m in
+    let i = c.args.inst.now in
+    let fault = c.in_err-refuse_if.field-0.0 in
+    let lacking : c.is_lacking.result ≡ breaks_t1 m.globals i = c.is_lacking.ensures ∙ ap (λ (s : Scoped). lacks (there s i.at) i) c.requires.scope in
+    let P : Bool → Type 0 = λ b. IsRefusedBy (broken_if b T1 i.at) fault in
+    rw (p.1, p.2) (by_left (broken_if (breaks_t1 m.globals i) T1 i.at) (broken_as m i i.op ++ broken_inside m i) fault (subst P lacking c.in_err-refuse_if.ensures.refused))

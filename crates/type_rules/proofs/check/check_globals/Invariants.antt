@@ -1,0 +1,10 @@
+use Rattle.std.proofs.Common.{◌≡◌, [], take}
+use Rattle.std.specs.List.{flat_map}
+use Rattle.profile_rules.specs.TypeRules.{broken_by_global}
+use Rattle.type_rules.proofs.check.check_globals.Given as goal
+
+abbrev pub invariant-loop-inst : goal.invariant-loop-inst
+invariant-loop-inst l = record {
+  same : l.matching ≡ l.initial.matching;
+  none : flat_map (broken_by_global l.scope.m) (take l.inst-index l.globals) ≡ [];
+}

@@ -1,0 +1,4 @@
+pub mod Scopes
+pub mod Indexed
+pub mod Edges
+pub mod Matches

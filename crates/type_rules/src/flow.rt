@@ -1,0 +1,214 @@
+// The types of calls, phis, branches and returns.
+ghost use Rattle.std.specs.Prelude.{◌≡◌, IfOk, not, option_and_then};
+ghost use Rattle.std.specs.List.{list_any, zip};
+ghost use Rattle.std.specs.Option.{option_copied};
+ghost use Rattle.spv_decor.specs.Rows.{word as word_of};
+ghost use Rattle.profile_rules.specs.TypeRows.{differ, is_other};
+ghost use Rattle.profile_rules.specs.FlowRules.{callee, is_from_elsewhere as is_elsewhere, function_type as function_type_of, is_miscalled as is_call_other, is_misdeclared as is_function_other, is_predecessor, are_no_predecessors as are_others, are_labels as are_all_labels, every_second as every_second_of, has_repeat as has_a_repeat, breaks_t21, breaks_t21_of, breaks_t22, breaks_t23_branch, breaks_t23_switch, breaks_t24_return, breaks_t24_value};
+ghost use Rattle.type_rules.specs.Scopes.{types};
+
+use crate::composites::{are_other_members, has_other};
+use crate::edges::Edges;
+use crate::numbers::behind;
+use crate::scope::{BOOL, INT, Scope, VOID};
+use spv_index::Locals;
+use spv_module::{Block, Function, Id, Inst};
+use spv_words::Memory;
+use std::alloc::{AllocError, Global};
+use std::collections::BTreeSet;
+
+/// The OpTypeFunction of a function.
+fn function_type<'a>(scope: &Scope<'a, '_>, function: &Function) -> Option<&'a Inst>
+    ensures { option_copied result ≡ function_type_of scope.now.m.globals function.now }
+{
+    let row = scope.global(function.ty.0)?;
+    if row.op == 33 { Some(row) } else { None }
+}
+
+/// Whether a call does not match a function type.
+fn is_miscalled(scope: &Scope, inst: &Inst, row: &Inst) -> bool
+    ensures { result ≡ is_call_other scope.now.m.globals (types scope.now) inst.now row.now }
+{
+    scope.differ(row.operand(0), inst.ty)
+        || are_other_members(scope, behind(row, 1), behind(inst, 1))
+}
+
+/// The function type of the function that is called.
+fn callee_type<'a>(scope: &Scope<'a, '_>, inst: &Inst) -> Option<&'a Inst>
+    ensures { option_copied result ≡ option_and_then (function_type_of scope.now.m.globals) (callee scope.now.m.functions (word_of inst.now 0)) }
+{
+    function_type(scope, scope.index().callee(inst.operand(0))?)
+}
+
+/// T21: OpFunctionCall.
+pub fn is_call_broken(scope: &Scope, inst: &Inst) -> bool
+    ensures { result ≡ breaks_t21 scope.now.m.functions scope.now.m.globals (types scope.now) inst.now }
+{
+    match callee_type(scope, inst) {
+        Some(row) => is_miscalled(scope, inst, row),
+        None => false,
+    }
+}
+
+/// Whether a parameter is not of its type in the function type.
+fn has_other_parameter(scope: &Scope, tys: &[u32], params: &[(Id, Id)]) -> bool
+    ensures { result ≡ list_any (λ p. differ scope.now.m.globals p.0 p.1.1.0) (zip tys.now params.now) }
+{
+    tys.iter()
+        .zip(params)
+        .any(|(ty, param)| scope.differ(*ty, param.1.0))
+}
+
+/// Whether a function does not match a function type.
+fn is_misdeclared(scope: &Scope, function: &Function, row: &Inst) -> bool
+    ensures { result ≡ is_function_other scope.now.m.globals function.now row.now }
+{
+    let tys = behind(row, 1);
+    scope.differ(row.operand(0), function.result.0)
+        || function.params.len() != tys.len()
+        || has_other_parameter(scope, tys, function.params.as_slice())
+}
+
+/// T21: a function and its function type.
+pub fn is_function_broken(scope: &Scope, function: &Function) -> bool
+    ensures { result ≡ breaks_t21_of scope.now.m.globals function.now }
+{
+    match function_type(scope, function) {
+        Some(row) => is_misdeclared(scope, function, row),
+        None => false,
+    }
+}
+
+/// Every second word, from the first (0) or the second (1) on.
+fn every_second(alloc: Global, from: usize, words: &[u32]) -> Result<Vec<u32>, AllocError>
+    ensures { IfOk result (λ v. v.items ≡ every_second_of from words.now) }
+{
+    words
+        .iter()
+        .enumerate()
+        .filter(|(k, _)| *k % 2 == from)
+        .map(|(_, word)| *word)
+        .collect(alloc)
+}
+
+/// Whether a word stands twice in a list.
+fn has_repeat(alloc: Global, words: &[u32]) -> Result<bool, AllocError>
+    ensures { IfOk result (λ b. b ≡ has_a_repeat words.now) }
+{
+    let mut seen = BTreeSet::new(alloc);
+    for word in words {
+        if seen.contains(word) {
+            return Ok(true);
+        }
+        seen.insert(*word)?;
+    }
+    Ok(false)
+}
+
+/// Whether these are all labels of the function.
+fn are_labels(locals: &Locals, labels: &[u32]) -> bool
+    ensures { result ≡ are_all_labels locals.now labels.now }
+{
+    labels.iter().all(|label| locals.block(*label).is_some())
+}
+
+/// Whether one of these is no predecessor of a block.
+fn has_no_predecessor(edges: &Edges, label: u32, labels: &[u32]) -> bool
+    ensures { result ≡ list_any (λ l. not (is_predecessor edges.now label l)) labels.now }
+{
+    labels.iter().any(|l| !edges.has(*l, label))
+}
+
+/// Whether these are not the predecessors of a block, each once.
+fn are_no_predecessors(
+    alloc: Global,
+    edges: &Edges,
+    label: u32,
+    labels: &[u32],
+) -> Result<bool, AllocError>
+    ensures { IfOk result (λ b. b ≡ are_others edges.now label labels.now) }
+{
+    if !edges.is_count(label, labels.len()) {
+        return Ok(true);
+    }
+    Ok(has_repeat(alloc, labels)? || has_no_predecessor(edges, label, labels))
+}
+
+/// Whether the labels of a phi are labels, but not the predecessors of its block, each once.
+fn is_from_elsewhere(
+    alloc: Global,
+    locals: &Locals,
+    edges: &Edges,
+    label: u32,
+    inst: &Inst,
+) -> Result<bool, AllocError>
+    requires { edges.now ≡ locals.now }
+    ensures { IfOk result (λ b. b ≡ is_elsewhere locals.now label inst.now) }
+{
+    let labels = every_second(alloc, 1, inst.args.as_slice())?;
+    if !are_labels(locals, &labels) {
+        return Ok(false);
+    }
+    are_no_predecessors(alloc, edges, label, &labels)
+}
+
+/// Whether a value of a phi is of another type.
+fn has_other_value(alloc: Global, scope: &Scope, inst: &Inst) -> Result<bool, AllocError>
+    ensures { IfOk result (λ b. b ≡ list_any (is_other scope.now.m.globals (types scope.now) inst.now.ty) (every_second_of 0 inst.now.args)) }
+{
+    let values = every_second(alloc, 0, inst.args.as_slice())?;
+    Ok(has_other(scope, inst.ty, &values))
+}
+
+/// T22: OpPhi.
+pub fn is_phi_broken(
+    alloc: Global,
+    scope: &Scope,
+    locals: &Locals,
+    edges: &Edges,
+    block: &Block,
+    inst: &Inst,
+) -> Result<bool, Memory>
+    requires { edges.now ≡ locals.now }
+    ensures { IfOk result (λ b. b ≡ breaks_t22 scope.now.m.heads scope.now.m.globals (types scope.now) locals.now block.now inst.now) }
+{
+    if scope.is_no_value_type(inst.ty) {
+        return Ok(true);
+    }
+    if has_other_value(alloc, scope, inst)? {
+        return Ok(true);
+    }
+    Ok(is_from_elsewhere(alloc, locals, edges, block.label.0, inst)?)
+}
+
+/// T23: OpBranchConditional.
+pub fn is_branch_broken(scope: &Scope, inst: &Inst) -> bool
+    ensures { result ≡ breaks_t23_branch scope.now.m.globals (types scope.now) inst.now }
+{
+    scope.value_fails(BOOL, inst.operand(0))
+}
+
+/// T23: OpSwitch.
+pub fn is_switch_broken(alloc: Global, scope: &Scope, inst: &Inst) -> Result<bool, Memory>
+    ensures { IfOk result (λ b. b ≡ breaks_t23_switch scope.now.m.globals (types scope.now) inst.now) }
+{
+    if scope.value_fails(INT, inst.operand(0)) {
+        return Ok(true);
+    }
+    let literals = every_second(alloc, 0, behind(inst, 2))?;
+    Ok(has_repeat(alloc, &literals)?)
+}
+
+/// T24: OpReturn.
+pub fn is_return_broken(scope: &Scope, function: &Function) -> bool
+    ensures { result ≡ breaks_t24_return scope.now.m.globals function.now }
+{
+    scope.fails(VOID, function.result.0)
+}
+
+/// T24: OpReturnValue.
+pub fn is_return_value_broken(scope: &Scope, function: &Function, inst: &Inst) -> bool
+    ensures { result ≡ breaks_t24_value scope.now.m.globals (types scope.now) function.now inst.now }
+{
+    scope.is_void(function.result.0) || scope.is_other(function.result.0, inst.operand(0))
+}

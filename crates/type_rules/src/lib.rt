@@ -1,0 +1,23 @@
+// The rules on the types of operands and results.
+#![tactic(auto)]
+
+mod atomics;
+mod check;
+mod composites;
+mod dispatch;
+mod edges;
+mod flow;
+mod groups;
+mod index;
+mod matching;
+mod memory;
+mod numbers;
+mod operands;
+mod parts;
+mod scope;
+mod select;
+#[cfg(test)]
+mod tests;
+mod vectors;
+
+pub use check::check_types;

@@ -1,0 +1,201 @@
+// What the operand ids of an instruction have to be, and where they have to stand.
+ghost use Rattle.std.specs.Prelude.{◌≡◌, ◌==◌, ℕ, find, option_map, is_some};
+ghost use Rattle.std.specs.List.{list_any, enumerate_from};
+ghost use Rattle.spv_ops.specs.Operands.{has_id, is_id};
+ghost use Rattle.spv_module.specs.Inst.{has_type as has_type_by};
+ghost use Rattle.spv_index.specs.Locals.{typed};
+ghost use Rattle.profile_rules.specs.Operands.{needs_of as needs_by, need as need_by, type_need as type_need_by, suits as suits_need, is_global as is_global_before, is_local as is_local_value, is_local_before as is_local_value_before, is_in_function as is_there_in_function, lacks_operand as lacks_operand_by, lacks};
+ghost use Rattle.type_rules.specs.Scopes.{there};
+
+use crate::scope::Scope;
+use profile_rules::Need;
+use spv_index::Locals;
+use spv_module::Inst;
+use spv_ops::{IdWords, id_words, shape_of};
+
+// What the first operand id has to be, and the others: OpExtInst; OpTypeVector, OpTypeArray,
+// OpTypeRuntimeArray, OpTypeStruct, OpTypePointer, OpTypeFunction; OpConstantComposite,
+// OpSpecConstantComposite, OpSpecConstantOp; OpFunctionCall; OpVariable; OpLoopMerge,
+// OpSelectionMerge, OpBranch, OpBranchConditional, OpSwitch.
+static NEEDS: [(u16, Need, Need); 17] = [
+    (12, Need::Import, Need::Value),
+    (23, Need::AnyType, Need::AnyType),
+    (28, Need::AnyType, Need::Constant),
+    (29, Need::AnyType, Need::AnyType),
+    (30, Need::AnyType, Need::AnyType),
+    (32, Need::AnyType, Need::AnyType),
+    (33, Need::AnyType, Need::AnyType),
+    (44, Need::Constant, Need::Constant),
+    (51, Need::Constant, Need::Constant),
+    (52, Need::Constant, Need::Constant),
+    (57, Need::Callee, Need::Value),
+    (59, Need::Constant, Need::Constant),
+    (246, Need::Label, Need::Label),
+    (247, Need::Label, Need::Label),
+    (249, Need::Label, Need::Label),
+    (250, Need::Value, Need::Label),
+    (251, Need::Value, Need::Label),
+];
+
+fn find_needs(rows: &[(u16, Need, Need)], op: u16) -> Option<(Need, Need)>
+    ensures { result ≡ option_map (λ r. (r.1, r.2)) (find (λ r. r.0 == op) rows.now) }
+{
+    rows.iter()
+        .find(|row| row.0 == op)
+        .map(|row| (row.1, row.2))
+}
+
+#[tactic(auto, unfolding(profile_rules::specs::Operands::needs_of))]
+fn needs_of(op: u16) -> Option<(Need, Need)>
+    ensures { result ≡ needs_by op }
+{
+    find_needs(&NEEDS, op)
+}
+
+/// What operand k has to be where it is an id. Values and labels of OpPhi alternate.
+fn need(op: u16, k: usize) -> Need
+    ensures { result ≡ need_by op k }
+{
+    if op == 245 {
+        return if k % 2 == 0 {
+            Need::PhiValue
+        } else {
+            Need::Label
+        };
+    }
+    match needs_of(op) {
+        Some((first, rest)) => if k == 0 { first } else { rest },
+        None => Need::Value,
+    }
+}
+
+/// What the result type has to be: of OpVariable a pointer.
+fn type_need(op: u16) -> Need
+    ensures { result ≡ type_need_by op }
+{
+    if op == 59 {
+        Need::PointerType
+    } else {
+        Need::AnyType
+    }
+}
+
+/// Whether the table gives an opcode a result type.
+fn has_type(op: u16) -> bool
+    ensures { result ≡ has_type_by op }
+{
+    match shape_of(op) {
+        Some(shape) => shape.has_type,
+        None => false,
+    }
+}
+
+/// Whether an instruction has a result type.
+fn is_typed(inst: &Inst) -> bool
+    ensures { result ≡ is_some (typed inst.now) }
+{
+    inst.ty != 0
+}
+
+/// Whether a global is what is needed.
+fn suits(need: Need, inst: &Inst) -> bool
+    ensures { result ≡ suits_need need inst.now }
+{
+    match need {
+        Need::AnyType => inst.op >= 19 && inst.op <= 33,
+        Need::PointerType => inst.op == 32,
+        Need::FunctionType => inst.op == 33,
+        Need::Constant => inst.op == 1 || (inst.op >= 41 && inst.op <= 52),
+        Need::Value | Need::PhiValue => is_typed(inst),
+        Need::Label | Need::Callee | Need::Import => false,
+    }
+}
+
+/// Whether a global before a word is what is needed.
+pub fn is_global(scope: &Scope, before: u32, need: Need, id: u32) -> bool
+    ensures { result ≡ is_global_before scope.now.m.globals before need id }
+{
+    match scope.global(id) {
+        Some(inst) => inst.at < before && suits(need, inst),
+        None => false,
+    }
+}
+
+/// Whether a parameter or an instruction of the function is a value.
+fn is_local(locals: &Locals, id: u32) -> bool
+    ensures { result ≡ is_local_value locals.now id }
+{
+    match locals.parameter(id) {
+        Some(_) => true,
+        None => match locals.inst(id) {
+            Some(inst) => is_typed(inst),
+            None => false,
+        },
+    }
+}
+
+/// Whether a parameter, or an instruction before a word, is a value.
+fn is_local_before(locals: &Locals, before: u32, id: u32) -> bool
+    ensures { result ≡ is_local_value_before locals.now before id }
+{
+    match locals.parameter(id) {
+        Some(_) => true,
+        None => match locals.inst(id) {
+            Some(inst) => is_typed(inst) && inst.at < before,
+            None => false,
+        },
+    }
+}
+
+/// Whether a function has, for an instruction at a word, what is needed.
+fn is_in_function(scope: &Scope, locals: &Locals, before: u32, need: Need, id: u32) -> bool
+    ensures { result ≡ is_there_in_function scope.now.m locals.now before need id }
+{
+    match need {
+        Need::Value => is_local_before(locals, before, id),
+        Need::PhiValue => is_local(locals, id),
+        Need::Label => locals.block(id).is_some(),
+        Need::Callee => scope.index().has_function(id),
+        Need::Import => scope.index().is_import(before, id),
+        Need::AnyType | Need::PointerType | Need::FunctionType | Need::Constant => false,
+    }
+}
+
+/// Whether what is needed is there.
+fn is_there(scope: &Scope, before: u32, need: Need, id: u32) -> bool
+    ensures { result ≡ there scope.now before need id }
+{
+    match scope.locals() {
+        Some(locals) => {
+            is_global(scope, before, need, id) || is_in_function(scope, locals, before, need, id)
+        }
+        None => is_global(scope, before, need, id),
+    }
+}
+
+/// Whether operand k is an id of what is not there.
+fn lacks_operand(scope: &Scope, inst: &Inst, ids: IdWords, k: usize, id: u32) -> bool
+    requires { (j : ℕ) → has_id ids j ≡ is_id inst.now.op inst.now.args j }
+    ensures { result ≡ lacks_operand_by (there scope.now inst.now.at) inst.now (k, id) }
+{
+    ids.has(k) && !is_there(scope, inst.at, need(inst.op, k), id)
+}
+
+/// Whether an operand is not there.
+fn lacks_operands(scope: &Scope, inst: &Inst) -> bool
+    ensures { result ≡ list_any (lacks_operand_by (there scope.now inst.now.at) inst.now) (enumerate_from 0 inst.now.args) }
+{
+    let args = inst.args.as_slice();
+    let ids = id_words(inst.op, args);
+    args.iter()
+        .enumerate()
+        .any(|(k, id)| lacks_operand(scope, inst, ids, k, *id))
+}
+
+/// T1: whether the result type or an operand of an instruction is not there.
+pub fn is_lacking(scope: &Scope, inst: &Inst) -> bool
+    ensures { result ≡ lacks (there scope.now inst.now.at) inst.now }
+{
+    (has_type(inst.op) && !is_there(scope, inst.at, type_need(inst.op), inst.ty))
+        || lacks_operands(scope, inst)
+}

@@ -1,0 +1,249 @@
+// Types, and the types of values, as an instruction sees them.
+ghost use Rattle.std.specs.Prelude.{◌≡◌, ◌==◌, not};
+ghost use Rattle.std.specs.Option.{option_copied};
+ghost use Rattle.spv_module.specs.Held.{global};
+ghost use Rattle.spv_index.specs.Pointers.{pointee, storage_class};
+ghost use Rattle.spv_index.specs.ValueTypes.{is_no_value_type};
+ghost use Rattle.profile_rules.specs.NumberRules.{pointee_of};
+ghost use Rattle.profile_rules.specs.TypeRows.{type_row, fails, is_uint, differ, value_fails, is_other, component, size, constant_word};
+ghost use Rattle.type_rules.specs.Scopes.{types, scalars, scalars_of, outside, inside};
+
+use crate::index::ModuleIndex;
+use spv_index::{Locals, global_type, pointer, type_in};
+use spv_module::{Id, Inst};
+use std::marker::Model;
+
+/// OpTypeVoid, OpTypeBool, OpTypeInt, OpTypeVector, OpTypeRuntimeArray, OpTypePointer.
+pub const VOID: u16 = 19;
+
+pub const BOOL: u16 = 20;
+
+pub const INT: u16 = 21;
+
+pub const VECTOR: u16 = 23;
+
+pub const RUNTIME_ARRAY: u16 = 29;
+
+pub const POINTER: u16 = 32;
+
+/// A module, and the function in which ids are looked up, if any. Contracts see both.
+#[derive(Drop)]
+pub struct Scope<'a, 'b> {
+    index: &'a ModuleIndex<'a>,
+    locals: Option<&'a Locals<'b>>,
+}
+
+impl<'a, 'b> Model for Scope<'a, 'b> {
+    ghost use Rattle.std.specs.Option.{option_copied};
+    ghost use Rattle.type_rules.specs.Scopes.{Scoped};
+
+    ghost Value = { Scoped };
+
+    ghost view = { λ s. record { m = s.index.now; function = option_copied s.locals } };
+}
+
+impl<'a, 'b> Scope<'a, 'b> {
+    /// Outside functions.
+    pub fn outside(index: &'a ModuleIndex<'a>) -> Scope<'a, 'b>
+        ensures { result ≡ outside index.now }
+    {
+        Scope {
+            index,
+            locals: None,
+        }
+    }
+
+    /// In a function.
+    pub fn inside(index: &'a ModuleIndex<'a>, locals: &'a Locals<'b>) -> Scope<'a, 'b>
+        ensures { result ≡ inside index.now locals.now }
+    {
+        Scope {
+            index,
+            locals: Some(locals),
+        }
+    }
+
+    /// The module.
+    pub fn index(&self) -> &'a ModuleIndex<'a>
+        ensures { result.now ≡ self.now.m }
+    {
+        self.index
+    }
+
+    /// What the function defines.
+    pub fn locals(&self) -> Option<&'a Locals<'b>>
+        ensures { option_copied result ≡ self.now.function }
+    {
+        self.locals
+    }
+
+    /// The global with this id.
+    pub fn global(&self, id: u32) -> Option<&'a Inst>
+        ensures { option_copied result ≡ global self.now.m.globals id }
+    {
+        self.index.module().global(Id(id))
+    }
+
+    /// Whether this is a type, but no value type.
+    pub fn is_no_value_type(&self, ty: u32) -> bool
+        ensures { result ≡ is_no_value_type self.now.m.heads self.now.m.globals ty }
+    {
+        self.index.is_no_value_type(ty)
+    }
+
+    /// The type with this id.
+    pub fn type_row(&self, id: u32) -> Option<&'a Inst>
+        ensures { option_copied result ≡ type_row self.now.m.globals id }
+    {
+        let inst = self.global(id)?;
+        if inst.op >= 19 && inst.op <= 33 {
+            Some(inst)
+        } else {
+            None
+        }
+    }
+
+    /// The type of the value with this id.
+    pub fn type_of(&self, id: u32) -> Option<u32>
+        ensures { result ≡ types self.now id }
+    {
+        match self.locals {
+            None => global_type(self.index.module(), id),
+            Some(locals) => type_in(self.index.module(), locals, id),
+        }
+    }
+
+    /// Whether a type is not declared by this opcode.
+    pub fn fails(&self, op: u16, ty: u32) -> bool
+        ensures { result ≡ fails (λ g. g.op == op) self.now.m.globals ty }
+    {
+        self.type_row(ty).map_or(false, |row| row.op != op)
+    }
+
+    /// Whether a type is OpTypeVoid.
+    pub fn is_void(&self, ty: u32) -> bool
+        ensures { result ≡ fails (λ g. not (g.op == 19)) self.now.m.globals ty }
+    {
+        self.type_row(ty).map_or(false, |row| row.op == VOID)
+    }
+
+    /// Whether a type is not a 32-bit integer without a sign.
+    pub fn is_no_uint(&self, ty: u32) -> bool
+        ensures { result ≡ fails is_uint self.now.m.globals ty }
+    {
+        match self.type_row(ty) {
+            Some(row) => row.op != INT || row.operand(0) != 32 || row.operand(1) != 0,
+            None => false,
+        }
+    }
+
+    /// Whether these are two types, and not the same.
+    pub fn differ(&self, a: u32, b: u32) -> bool
+        ensures { result ≡ differ self.now.m.globals a b }
+    {
+        self.type_row(a).is_some() && self.type_row(b).is_some() && a != b
+    }
+
+    /// Whether a value's type is not declared by this opcode.
+    pub fn value_fails(&self, op: u16, id: u32) -> bool
+        ensures { result ≡ value_fails (λ g. g.op == op) self.now.m.globals (types self.now) id }
+    {
+        match self.type_of(id) {
+            Some(ty) => self.fails(op, ty),
+            None => false,
+        }
+    }
+
+    /// Whether a value is of another type than this.
+    pub fn is_other(&self, ty: u32, id: u32) -> bool
+        ensures { result ≡ is_other self.now.m.globals (types self.now) ty id }
+    {
+        match self.type_of(id) {
+            Some(other) => self.differ(ty, other),
+            None => false,
+        }
+    }
+
+    /// The component type of a vector type.
+    pub fn component(&self, ty: u32) -> Option<u32>
+        ensures { result ≡ component self.now.m.globals ty }
+    {
+        let row = self.type_row(ty)?;
+        if row.op == VECTOR {
+            Some(row.operand(0))
+        } else {
+            None
+        }
+    }
+
+    /// The number of components of a vector type.
+    pub fn size(&self, ty: u32) -> Option<u32>
+        ensures { result ≡ size self.now.m.globals ty }
+    {
+        let row = self.type_row(ty)?;
+        if row.op == VECTOR {
+            Some(row.operand(1))
+        } else {
+            None
+        }
+    }
+
+    /// How many scalars that this opcode declares a scalar or vector type is made of, and 0 of every
+    /// other type.
+    pub fn count(&self, op: u16, ty: u32) -> Option<u32>
+        ensures { result ≡ scalars op self.now ty }
+    {
+        let row = self.type_row(ty)?;
+        if row.op != VECTOR {
+            return Some(u32::from(row.op == op));
+        }
+        let part = self.type_row(row.operand(0))?;
+        Some(if part.op == op { row.operand(1) } else { 0 })
+    }
+
+    /// The same of a value's type.
+    pub fn count_of(&self, op: u16, id: u32) -> Option<u32>
+        ensures { result ≡ scalars_of op self.now id }
+    {
+        self.count(op, self.type_of(id)?)
+    }
+
+    /// The type to which a pointer type points.
+    pub fn pointee(&self, ty: u32) -> Option<u32>
+        ensures { result ≡ pointee self.now.m.globals ty }
+    {
+        match pointer(self.index.module(), Id(ty)) {
+            Some(pointer) => Some(pointer.pointee.0),
+            None => None,
+        }
+    }
+
+    /// The storage class of a pointer type.
+    pub fn storage_class(&self, ty: u32) -> Option<u32>
+        ensures { result ≡ storage_class self.now.m.globals ty }
+    {
+        match pointer(self.index.module(), Id(ty)) {
+            Some(pointer) => Some(pointer.class),
+            None => None,
+        }
+    }
+
+    /// The type to which a value points.
+    pub fn pointee_of(&self, id: u32) -> Option<u32>
+        ensures { result ≡ pointee_of self.now.m.globals (types self.now) id }
+    {
+        self.pointee(self.type_of(id)?)
+    }
+
+    /// The word of an OpConstant.
+    pub fn constant_word(&self, id: u32) -> Option<u32>
+        ensures { result ≡ constant_word self.now.m.globals id }
+    {
+        let inst = self.global(id)?;
+        if inst.op == 43 {
+            Some(inst.operand(0))
+        } else {
+            None
+        }
+    }
+}
