@@ -1,65 +1,152 @@
 #!/usr/bin/env python3
-"""Wall time and peak memory of `cross check` beside `spirv-dis -o /dev/null` on the same modules, side by side in one run.
+"""Wall time and peak memory of `cross check` beside spirv-val on the same modules, side by side in one run.
 
-    bench/check.py MODULE.spv ..        each module is measured with both, in turn, several times; the least time counts
+    bench/check.py [--runs N] [--every N] MODULE.spv|FOLDER ..
 
-Memory below that of this script itself, some 10 MB, is not told apart. It skips, with status 0, where spirv-dis (Debian's spirv-tools) or the built program is missing. Where a module `NAME-10.spv`
-stands beside `NAME.spv` the ratio of their times is printed too: ten times the input is to cost at most twelve times the time.
+Each module is measured with both, in turn, N times (5); the least time and the least memory count. A folder stands for
+all modules below it, or every N-th of them, of which the sums over those that both take are told. Where a module
+`NAME-10.spv` stands beside `NAME.spv` the ratio of their times is printed too: ten times the input is to cost at most
+thirteen times the time.
+
+A command that takes more than 5 seconds in all is not run again, and one that takes 20 seconds is ended, which its status
+tells. Peak memory is told by GNU time where it is installed; without it, memory below that of this script itself, some
+10 MB, is not told apart. The script skips, with status 0, where spirv-val (Debian's spirv-tools) or the built program is missing.
 """
+import argparse
 import os
 import resource
 import shutil
-import sys
+import statistics
 import time
 
 TOP = os.path.dirname(os.path.dirname(os.path.abspath(__file__)))
-CROSS = os.path.join(TOP, "crates", "cross_core", "out", "cross_core")
-RUNS = 7
+CROSS = os.environ.get("CROSS", os.path.join(TOP, "crates", "cross_core", "out", "cross_core"))
+PEER = "spirv-val"
+GNU_TIME = "/usr/bin/time"
+MOST_SECONDS = 20
+ENOUGH_SECONDS = 5
 
 
-def once(command, module):
-    """Seconds and peak kilobytes of one run with the module as its input."""
-    start = time.monotonic()
+class Cost:
+    """The least seconds and peak kilobytes of the runs so far, the seconds of all, and the status of the last."""
+
+    def __init__(self):
+        self.seconds, self.kilobytes, self.all_seconds, self.status = float("inf"), float("inf"), 0.0, 0
+
+    def add(self, seconds, kilobytes, status):
+        self.seconds, self.kilobytes = min(self.seconds, seconds), min(self.kilobytes, kilobytes)
+        self.all_seconds, self.status = self.all_seconds + seconds, status
+
+
+def started(command, module, err):
+    """The process of a command with the module as its input, and its number."""
+    source, sink = os.open(module, os.O_RDONLY), os.open("/dev/null", os.O_WRONLY)
     pid = os.fork()
     if pid == 0:
-        source = os.open(module, os.O_RDONLY)
-        sink = os.open("/dev/null", os.O_WRONLY)
-        os.dup2(source, 0)
-        os.dup2(sink, 1)
-        os.dup2(sink, 2)
-        os.execvp(command[0], command)
-    _, status, usage = os.wait4(pid, 0)
+        try:
+            os.dup2(source, 0)
+            os.dup2(sink, 1)
+            os.dup2(sink if err is None else err, 2)
+            resource.setrlimit(resource.RLIMIT_CPU, (MOST_SECONDS, MOST_SECONDS))
+            os.execvp(command[0], command)
+        finally:
+            os._exit(127)
+    os.close(source)
+    os.close(sink)
+    return pid
+
+
+def timed(command, module):
+    """Seconds, peak kilobytes and status of one run, as the system tells them."""
+    start = time.monotonic()
+    _, status, usage = os.wait4(started(command, module, None), 0)
     return time.monotonic() - start, usage.ru_maxrss, os.waitstatus_to_exitcode(status)
 
 
-def measured(commands, module):
-    """The least time and memory of each command, run in turn."""
-    best = [(float("inf"), float("inf"), 0)] * len(commands)
-    for _ in range(RUNS):
-        for k, command in enumerate(commands):
-            seconds, kilobytes, status = once(command, module)
-            best[k] = (min(best[k][0], seconds), min(best[k][1], kilobytes), status)
-    return best
+def peak(command, module):
+    """Peak kilobytes of one run, as GNU time tells them from a process that is small itself."""
+    read, write = os.pipe()
+    pid = started([GNU_TIME, "-q", "-f", "%M", *command], module, write)
+    os.close(write)
+    with os.fdopen(read) as told:
+        lines = told.read().split("\n")
+    os.waitpid(pid, 0)
+    numbers = [line for line in lines if line.isdigit()]
+    return int(numbers[-1]) if numbers else float("inf")
+
+
+def measured(module, runs):
+    """The costs of `cross check` and of the peer, run in turn."""
+    commands = [[CROSS, "check"], [PEER, "--target-env", "vulkan1.3", module]]
+    costs = [Cost() for _ in commands]
+    for _ in range(runs):
+        for command, cost in zip(commands, costs):
+            if cost.all_seconds < ENOUGH_SECONDS:
+                cost.add(*timed(command, module))
+    if os.access(GNU_TIME, os.X_OK):
+        for command, cost in zip(commands, costs):
+            if cost.seconds < ENOUGH_SECONDS:
+                cost.kilobytes = peak(command, module)
+    return costs
+
+
+def told(name, cross, peer):
+    """A line on the costs of one module."""
+    return (
+        f"{name}: cross {cross.seconds * 1000:.1f} ms {cross.kilobytes} kB status {cross.status},"
+        f" {PEER} {peer.seconds * 1000:.1f} ms {peer.kilobytes} kB status {peer.status},"
+        f" time x{cross.seconds / peer.seconds:.2f}, memory x{cross.kilobytes / peer.kilobytes:.2f}"
+    )
+
+
+def modules_below(folder, every):
+    """The modules below a folder, in order of their names, or every n-th of them."""
+    paths = [os.path.join(top, name) for top, _, names in os.walk(folder) for name in names if name.endswith(".spv")]
+    return sorted(paths)[::every]
+
+
+def sums(folder, every, runs):
+    """Prints the sums over the modules below a folder that both take."""
+    modules = modules_below(folder, every)
+    costs = [measured(module, runs) for module in modules]
+    both = [pair for pair in costs if pair[0].status == 0 and pair[1].status == 0]
+    refused = sum(pair[0].status == 2 for pair in costs)
+    size = sum(os.path.getsize(module) for module in modules)
+    print(f"{folder}: {len(modules)} modules, {size} bytes, {len(both)} taken by both, {refused} refused by cross")
+    if not both:
+        return
+    seconds = [sum(pair[side].seconds for pair in both) for side in (0, 1)]
+    for name, whole in (("median", statistics.median), ("largest", max)):
+        memory = [whole(pair[side].kilobytes for pair in both) for side in (0, 1)]
+        print(f"  {name} memory: cross {memory[0]:.0f} kB, {PEER} {memory[1]:.0f} kB, x{memory[0] / memory[1]:.2f}")
+    print(f"  least times summed: cross {seconds[0]:.3f} s, {PEER} {seconds[1]:.3f} s, x{seconds[0] / seconds[1]:.2f}")
+    worst = sorted(zip(costs, modules), key=lambda row: row[0][1].seconds / row[0][0].seconds)[:3]
+    for pair, module in worst:
+        print("  slowest beside it: " + told(os.path.relpath(module, folder), *pair))
 
 
 def main():
-    if not os.access(CROSS, os.X_OK) or shutil.which("spirv-dis") is None:
-        print("skipped: the built program or spirv-dis is missing")
+    words = argparse.ArgumentParser(description="cross check beside spirv-val")
+    words.add_argument("paths", nargs="+", metavar="MODULE.spv|FOLDER")
+    words.add_argument("--runs", type=int, default=5)
+    words.add_argument("--every", type=int, default=1)
+    given = words.parse_args()
+    if not os.access(CROSS, os.X_OK) or shutil.which(PEER) is None:
+        print(f"skipped: the built program or {PEER} is missing")
         return
     times = {}
-    for module in sys.argv[1:]:
-        cross, peer = measured([[CROSS, "check"], ["spirv-dis", "-o", "/dev/null", module]], module)
-        times[module] = cross[0]
-        print(
-            f"{os.path.basename(module)}: {os.path.getsize(module)} bytes,"
-            f" cross {cross[0] * 1000:.1f} ms {cross[1]} kB status {cross[2]},"
-            f" spirv-dis {peer[0] * 1000:.1f} ms {peer[1]} kB,"
-            f" time x{cross[0] / peer[0]:.2f}, memory x{cross[1] / peer[1]:.2f}"
-        )
-    for module, seconds in times.items():
-        longer = module[: -len(".spv")] + "-10.spv"
+    for path in given.paths:
+        if os.path.isdir(path):
+            sums(path, given.every, given.runs)
+            continue
+        cross, peer = measured(path, given.runs)
+        times[path] = (cross.seconds, peer.seconds)
+        print(f"{os.path.getsize(path):8} bytes  " + told(os.path.basename(path), cross, peer), flush=True)
+    for path, (cross, peer) in times.items():
+        longer = path[: -len(".spv")] + "-10.spv"
         if longer in times:
-            print(f"{os.path.basename(module)}: ten times the input costs x{times[longer] / seconds:.1f}")
+            ratios = f"cross x{times[longer][0] / cross:.1f}, {PEER} x{times[longer][1] / peer:.1f}"
+            print(f"{os.path.basename(path)}: ten times the input costs {ratios}")
 
 
 main()
