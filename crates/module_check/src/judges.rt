@@ -30,7 +30,7 @@ fn check_later(
     ensures passes { OnOk result (IsFineLater «module».now overrides.now.pairs.items entry.0) }
     ensures refused { IfErr result (IsLaterFault «module».now overrides.now.pairs.items entry.0) }
 {
-    let _ = check_rest(alloc, module, decor, overrides)?;
+    check_rest(alloc, module, decor, overrides)?;
     check_structure(alloc, module.functions())?;
     let _ = order(alloc, module, entry)?;
     Ok(())

@@ -14,6 +14,7 @@ ghost use Rattle.profile_rules.specs.Constants.{breaks_x3, breaks_x4};
 ghost use Rattle.profile_check.specs.Data.{block_variables, ArePlans, IsRestRight, IsRight};
 
 use crate::blocks::plans;
+use crate::layouts::check_layouts;
 use access_check::check_accesses;
 use buffer_layout::BlockPlan;
 use declaration_check::{Entry, check_declarations};
@@ -54,7 +55,28 @@ pub struct Profile {
     pub blocks: Vec<BlockPlan>,
 }
 
-/// Judges what the rules on declarations leave open, and plans the block variables.
+/// Judges accesses, overrides and the number of scalars.
+#[tactic(auto, using(crate::proofs::Causes::rest_causes))]
+fn check_uses(
+    alloc: Global,
+    module: &Module,
+    decor: &Decor,
+    overrides: &Overrides,
+) -> Result<(), Fault>
+    requires { decor.now ≡ «module».now.heads }
+    ensures within { OnOk result (leaves_of_module «module».now ≤ limit_number Leaves) }
+    ensures accessed { OnOk result (NoRuleBroken (BreaksAccess «module».now) access_rules) }
+    ensures known { OnOk result (breaks_x3 «module».now overrides.now.pairs.items ≡ false) }
+    ensures fits { OnOk result (breaks_x4 «module».now overrides.now.pairs.items ≡ false) }
+    ensures refused { IfErr result (IsRestRight «module».now overrides.now.pairs.items) }
+{
+    check_leaves(alloc, module)?;
+    check_accesses(alloc, module, decor)?;
+    check_overrides(alloc, module, decor, &overrides.pairs)?;
+    Ok(())
+}
+
+/// Judges what the rules on declarations leave open; a block that many variables have is laid out once.
 ///
 /// It refuses by the limits on leaves and on types; by L1 to L7, the layout of blocks (SPIR-V 1.6,
 /// section 2.16.2); by M1 to M5 and A1 to A5, memory, atomics and barriers ("Memory Instructions",
@@ -67,21 +89,18 @@ pub fn check_rest(
     module: &Module,
     decor: &Decor,
     overrides: &Overrides,
-) -> Result<Vec<BlockPlan>, Fault>
+) -> Result<(), Fault>
     requires { decor.now ≡ «module».now.heads }
     ensures within { OnOk result (leaves_of_module «module».now ≤ limit_number Leaves) }
     ensures laid_out { OnOk result ((rule : Rule) (at : ℕ) → BreaksLayout «module».now rule at → ⊥) }
     ensures accessed { OnOk result (NoRuleBroken (BreaksAccess «module».now) access_rules) }
     ensures known { OnOk result (breaks_x3 «module».now overrides.now.pairs.items ≡ false) }
     ensures fits { OnOk result (breaks_x4 «module».now overrides.now.pairs.items ≡ false) }
-    ensures blocks { IfOk result (λ blocks. ArePlans «module».now (block_variables «module».now.globals) blocks.items) }
     ensures refused { IfErr result (IsRestRight «module».now overrides.now.pairs.items) }
 {
-    check_leaves(alloc, module)?;
-    let blocks = plans(alloc, module, decor)?;
-    check_accesses(alloc, module, decor)?;
-    check_overrides(alloc, module, decor, &overrides.pairs)?;
-    Ok(blocks)
+    check_uses(alloc, module, decor, overrides)?;
+    check_layouts(alloc, module, decor)?;
+    Ok(())
 }
 
 /// Judges the data of a module, and finds its entry point, the size of its workgroups and the plans
@@ -89,7 +108,7 @@ pub fn check_rest(
 ///
 /// First come the rules on what it declares, X1 and X2, P5 to P10 and P13 to P20 (SPIR-V 1.6, sections
 /// 2.4 and 3); where none of these is broken, the limits on leaves and on types, and the rules L1 to
-/// L7, M1 to M5, A1 to A5, X3 and X4, in this order. A rule is named only where it is broken at that
+/// L7, M1 to M5, A1 to A5, X3 and X4. A rule is named only where it is broken at that
 /// word, and a limit only where it is passed. The only other error is want of memory.
 #[tactic(auto, using(crate::proofs::Causes::causes))]
 pub fn check_data(
@@ -111,7 +130,8 @@ pub fn check_data(
     ensures refused { IfErr result (IsRight «module».now (option_map string_bytes options.now.entry) options.now.overrides.pairs.items) }
 {
     let Entry { function, size } = check_declarations(alloc, module, decor, options.entry_name())?;
-    let blocks = check_rest(alloc, module, decor, &options.overrides)?;
+    check_uses(alloc, module, decor, &options.overrides)?;
+    let blocks = plans(alloc, module, decor)?;
     Ok(Profile {
         entry: function,
         size,

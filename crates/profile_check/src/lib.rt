@@ -3,6 +3,7 @@
 
 mod blocks;
 mod checks;
+mod layouts;
 #[cfg(test)]
 mod tests;
 

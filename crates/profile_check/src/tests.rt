@@ -1,6 +1,5 @@
 // A small module that is judged, and what it is refused by.
 use crate::{Options, Profile, check_data, check_rest};
-use buffer_layout::BlockPlan;
 use layout_rules::Kind;
 use profile_rules::{Given, SizePart};
 use spec_constants::Overrides;
@@ -59,7 +58,7 @@ fn judged(alloc: Global, place: usize, other: u32, id: u32) -> Result<Profile, F
     check_data(alloc, &module, &decor, &options)
 }
 
-fn planned(alloc: Global, id: u32) -> Result<Vec<BlockPlan>, Fault> {
+fn rest_of(alloc: Global, id: u32) -> Result<(), Fault> {
     let module = module_with(alloc, 133, 0)?;
     let decor = Decor::read(alloc, &module)?;
     check_rest(alloc, &module, &decor, &overrides_of(alloc, id)?)
@@ -84,12 +83,13 @@ fn a_profile(rt: HostRuntime) -> Result<(), Fail> {
 
 #[test]
 fn plans_of_blocks(rt: HostRuntime) -> Result<(), Fail> {
-    let plans = planned(rt.alloc(), 0)?;
+    let plans = judged(rt.alloc(), 133, 0, 0)?.blocks;
     assert_eq!(rt; plans.len(), 1);
     let plan = &plans[0];
     assert_eq!(rt; plan.kind, Kind::Std430);
     assert_eq!(rt; plan.offsets.as_slice(), [0].as_slice());
-    assert_eq!(rt; refusal(planned(rt.alloc(), 3)), Some((Rule::X3, 0)));
+    assert_eq!(rt; refusal(rest_of(rt.alloc(), 0)), None);
+    assert_eq!(rt; refusal(rest_of(rt.alloc(), 3)), Some((Rule::X3, 0)));
     Ok(())
 }
 
