@@ -14,8 +14,8 @@ tells. Peak memory is told by GNU time where it is installed; without it, memory
 """
 import argparse
 import os
-import resource
 import shutil
+import signal
 import statistics
 import time
 
@@ -39,28 +39,31 @@ class Cost:
 
 
 def started(command, module, err):
-    """The process of a command with the module as its input, and its number."""
+    """The process of a command with the module as its input. It is spawned and not forked, so that this script's own size counts little."""
     source, sink = os.open(module, os.O_RDONLY), os.open("/dev/null", os.O_WRONLY)
-    pid = os.fork()
-    if pid == 0:
-        try:
-            os.dup2(source, 0)
-            os.dup2(sink, 1)
-            os.dup2(sink if err is None else err, 2)
-            resource.setrlimit(resource.RLIMIT_CPU, (MOST_SECONDS, MOST_SECONDS))
-            os.execvp(command[0], command)
-        finally:
-            os._exit(127)
-    os.close(source)
-    os.close(sink)
-    return pid
+    streams = ((source, 0), (sink, 1), (sink if err is None else err, 2))
+    actions = [(os.POSIX_SPAWN_DUP2, old, new) for old, new in streams]
+    try:
+        return os.posix_spawnp(command[0], command, os.environ, file_actions=actions)
+    finally:
+        os.close(source)
+        os.close(sink)
+
+
+def ended(pid):
+    """Status and usage of a process, which is ended where it takes too long."""
+    signal.signal(signal.SIGALRM, lambda *_: os.kill(pid, signal.SIGKILL))
+    signal.alarm(MOST_SECONDS)
+    _, status, usage = os.wait4(pid, 0)
+    signal.alarm(0)
+    return os.waitstatus_to_exitcode(status), usage
 
 
 def timed(command, module):
     """Seconds, peak kilobytes and status of one run, as the system tells them."""
     start = time.monotonic()
-    _, status, usage = os.wait4(started(command, module, None), 0)
-    return time.monotonic() - start, usage.ru_maxrss, os.waitstatus_to_exitcode(status)
+    status, usage = ended(started(command, module, None))
+    return time.monotonic() - start, usage.ru_maxrss, status
 
 
 def peak(command, module):
@@ -70,7 +73,7 @@ def peak(command, module):
     os.close(write)
     with os.fdopen(read) as told:
         lines = told.read().split("\n")
-    os.waitpid(pid, 0)
+    ended(pid)
     numbers = [line for line in lines if line.isdigit()]
     return int(numbers[-1]) if numbers else float("inf")
 
