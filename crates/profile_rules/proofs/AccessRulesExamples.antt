@@ -1,7 +1,7 @@
 -- The rules on memory, atomics and barriers, computed on small modules.
 use Rattle.std.proofs.Common.{◌≡◌, ℕ, ◌++◌, List, [], ◌∷◌, map, take, drop, refl}
 use Rattle.std.specs.Prelude.{slice_set}
-use Rattle.spv_words.specs.declared.rule.Rule.TheVariants.{M1, M2, M3, M4, M5, A1, A2, A3, A4, A5}
+use Rattle.spv_words.specs.declared.rule.Rule.TheVariants.{M1, M3, A2, A3}
 use Rattle.spv_ops.specs.Table.{shape_of, row_of, operands_of}
 use Rattle.spv_ops.specs.Operands.{is_id, is_inner_op}
 use Rattle.spv_module.specs.Lists.{module_of}

@@ -1,5 +1,5 @@
 -- The rules on atomics and barriers.
-use Rattle.std.specs.Prelude.{ℕ, ◌==◌, ◌&&◌, ◌||◌, not, bit_and, Bool, false, List, [], ◌∷◌, Option, is_some, if◌then◌else◌}
+use Rattle.std.specs.Prelude.{ℕ, ◌==◌, ◌&&◌, ◌||◌, not, bit_and, Bool, false, List, [], ◌∷◌, is_some, if◌then◌else◌}
 use Rattle.std.specs.Option.{option_map_or}
 use Rattle.std.specs.List.{list_any}
 use Rattle.spv_module.specs.Held.{global}

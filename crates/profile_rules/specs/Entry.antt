@@ -11,6 +11,7 @@ use Rattle.spv_decor.specs.Rows.{word, text_of, value_of}
 use Rattle.profile_rules.specs.declared.size.SizePart.{SizePart}
 use Rattle.profile_rules.specs.declared.size.SizePart.TheVariants.{Fixed, Spec}
 pub use Rattle.profile_rules.specs.TypeRows.{is_uint}
+use Rattle.profile_rules.specs.TypeRows.{type_row, fails}
 use Rattle.profile_rules.specs.Places.{places, when, is_defined_elsewhere, is_type}
 
 -- OpEntryPoint, of the name that is asked for, where one is
@@ -95,11 +96,11 @@ has_no_size m f = not (list_any (λ i. is_local_size f i || is_local_size_id f i
 abbrev pub is_same_spec : List Inst → ℕ → ℕ → Bool
 is_same_spec heads a b = option_map_or (λ s. option_map_or (λ t. s == t) (value_of heads b 1) false) (value_of heads a 1) false
 
--- the id is that of something else than this type; an id that nothing global has is another rule's
+-- the id is that of another type than uint; an id of no type is another rule's
 abbrev pub is_no_uint : List Inst → ℕ → Bool
-is_no_uint gs id = option_map_or (λ t. not (is_uint t)) (global gs id) false
+is_no_uint gs id = fails is_uint gs id
 
--- the global instruction is no vector of three uints
+-- the type is no vector of three uints
 abbrev pub is_no_uvec3 : List Inst → Inst → Bool
 is_no_uvec3 gs t = not ((t.op == 23) && (word t 1 == 3)) || is_no_uint gs (word t 0)
 
@@ -118,10 +119,10 @@ are_no_sizes m none (a ∷ b ∷ c ∷ []) =
     || (is_same_spec m.heads a b || is_same_spec m.heads a c || is_same_spec m.heads b c)
 are_no_sizes m none ids = true
 
--- the composite is no uvec3 of three such constants; a part that no instruction defines is another rule's
+-- the composite is no uvec3 of three such constants; a type id of no type, and a part that no instruction defines, are another rule's
 abbrev pub is_bad_composite : ModuleState → Inst → Bool
 is_bad_composite m g =
-    option_map_or (is_no_uvec3 m.globals) (global m.globals g.ty) false || are_no_sizes m (is_defined_elsewhere m) g.args
+    option_map_or (is_no_uvec3 m.globals) (type_row m.globals g.ty) false || are_no_sizes m (is_defined_elsewhere m) g.args
 
 -- OpExecutionModeId LocalSizeId of a function, not with three such constants
 abbrev pub is_bad_size_id : ModuleState → ℕ → Inst → Bool

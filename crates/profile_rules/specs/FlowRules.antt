@@ -1,5 +1,5 @@
 -- T21 to T24: calls, phis, branches and returns.
-use Rattle.std.specs.Prelude.{ℕ, ◌==◌, ◌%◌, ◌&&◌, ◌||◌, Bool, false, not, List, [], ◌∷◌, Option, Some, None, drop, length, map, filter, option_and_then, slice_get, count_by, nat_le, is_some, if◌then◌else◌}
+use Rattle.std.specs.Prelude.{ℕ, ◌==◌, ◌%◌, ◌&&◌, ◌||◌, Bool, false, not, List, Option, Some, None, drop, length, map, filter, option_and_then, slice_get, count_by, nat_le, is_some, if◌then◌else◌}
 use Rattle.std.specs.Option.{option_map_or}
 use Rattle.std.specs.List.{list_any, list_all, zip, enumerate_from}
 use Rattle.spv_module.specs.Held.{global}

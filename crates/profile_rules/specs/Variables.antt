@@ -1,5 +1,5 @@
 -- The rules on variables.
-use Rattle.std.specs.Prelude.{ℕ, ◌==◌, ◌&&◌, ◌||◌, not, nat_le, nat_lt, List, [], ◌∷◌, ◌++◌, Bool, true, false, length, count_by, is_some, Option, Some, None, option_and_then, if◌then◌else◌}
+use Rattle.std.specs.Prelude.{ℕ, ◌==◌, ◌&&◌, ◌||◌, not, nat_le, nat_lt, List, [], ◌∷◌, ◌++◌, Bool, true, false, length, count_by, is_some, Option, option_and_then, if◌then◌else◌}
 use Rattle.std.specs.Option.{option_map_or}
 use Rattle.spv_module.specs.Held.{global}
 use Rattle.spv_module.specs.State.{ModuleState}
@@ -8,8 +8,9 @@ use Rattle.spv_decor.specs.Rows.{word, value_of}
 use Rattle.spv_decor.specs.Decorations.{local_insts}
 use Rattle.spv_index.specs.Pointers.{storage_class, pointee}
 use Rattle.spv_index.specs.ValueTypes.{is_block}
-use Rattle.profile_rules.specs.Places.{places, is_among, is_defined_elsewhere, is_type, is_constant, is_variable, body_insts}
-use Rattle.profile_rules.specs.Entry.{is_uint, is_no_uvec3}
+use Rattle.profile_rules.specs.Places.{places, is_among, is_defined_elsewhere, is_constant, is_variable, body_insts}
+use Rattle.profile_rules.specs.TypeRows.{type_row, is_uint}
+use Rattle.profile_rules.specs.Entry.{is_no_uvec3}
 
 -- Input, Uniform, Workgroup, Private, Function, PushConstant, StorageBuffer
 abbrev pub classes : List ℕ
@@ -27,11 +28,8 @@ abbrev pub p13 : ModuleState → List ℕ
 p13 m = places (is_misclassed false m.globals) m.globals ++ places (is_misclassed true m.globals) (local_insts m)
 
 -- the type that a pointer type points to
-abbrev pub if_type : Inst → Option Inst
-if_type t = if is_type t.op then Some t else None
-
 abbrev pub pointed_type : List Inst → ℕ → Option Inst
-pointed_type gs id = option_and_then if_type (option_and_then (global gs) (pointee gs id))
+pointed_type gs id = option_and_then (type_row gs) (pointee gs id)
 
 -- the type that a variable points to passes a test
 abbrev pub is_pointee : List Inst → (Inst → Bool) → Inst → Bool
