@@ -4,6 +4,7 @@ use Rattle.std.specs.List.{count_by, slice_index, list_any}
 use Rattle.std.proofs.Math.ListN.{set}
 use Rattle.std.proofs.lemmas.List.{get_or-set_same, get_or-set_other, get_or_append_left, get_or_push, length-set, length_push, ext_get_or, get_or-replicate, length-replicate, get_or_default}
 use Rattle.std.proofs.lemmas.List.Sums.{count_by-le-length, sum_by-set}
+use Rattle.std.proofs.lemmas.Bool.{or_right}
 use Rattle.std.proofs.lemmas.Bool.Decides.{eqb_tells, nat_tests}
 use Rattle.structure_rules.specs.declared.graph.Node.{Node}
 use Rattle.structure_rules.specs.Graph.{nth, is_marked, leads_to, reach, reached, no_node}
@@ -13,10 +14,6 @@ use Rattle.block_graph.proofs.Walks.{marked_within, length-reach, reach_start, r
 
 same_nat : (x : ℕ) → (x == x) ≡ true
 same_nat x = grind (arith, nat_tests)
-
-or_true : (a b : Bool) → b ≡ true → (a || b) ≡ true
-or_true true b e = refl
-or_true false b e = e
 
 -- a mark more
 mark_kept : (marks : List Bool) (t q : ℕ) → t < length marks → is_marked marks q ≡ true → is_marked (set marks t true) q ≡ true
@@ -163,7 +160,7 @@ pub record IsVisit (ns : List Node) (marks : List Bool) (order : List ℕ) (plac
 leads : (targets : List ℕ) (i : ℕ) → i < length targets → list_any (λ x. x == slice_index targets i) targets ≡ true
 leads [] i h = absurd (omega arith)
 leads (t ∷ targets) zero h = rw (same_nat t) refl
-leads (t ∷ targets) (suc i) h = or_true (t == slice_index targets i) (list_any (λ x. x == slice_index targets i) targets) (leads targets i (omega arith))
+leads (t ∷ targets) (suc i) h = or_right (t == slice_index targets i) (list_any (λ x. x == slice_index targets i) targets) (leads targets i (omega arith))
 
 pub found_target : (targets : List ℕ) (t : ℕ) → list_any (λ x. x == t) targets ≡ true → (k : ℕ) × (k < length targets) × (slice_index targets k ≡ t)
 found_target [] t e = cc

@@ -1,34 +1,15 @@
 -- Which blocks edges reach.
-use Rattle.std.proofs.Common.{◌≡◌, ◌<◌, ◌≤◌, ◌+◌, ◌-◌, ◌==◌, ◌&&◌, ◌||◌, ◌⊎◌, ℕ, zero, suc, Bool, true, false, List, [], ◌∷◌, length, refl, sym, ◌∙◌, subst, inl, inr, arith}
+use Rattle.std.proofs.Common.{◌≡◌, ◌<◌, ◌≤◌, ◌+◌, ◌-◌, ◌==◌, ◌&&◌, ◌||◌, ℕ, zero, suc, Bool, true, false, List, [], ◌∷◌, length, sym, ◌∙◌, subst, inl, inr, arith}
+use Rattle.std.proofs.lemmas.Bool.{or_cases, and_parts, or_left, or_right, and_from}
 use Rattle.std.proofs.lemmas.List.FromFn.{get_or-map-range_with_len, length-map-range_with_len}
 use Rattle.structure_rules.specs.declared.graph.Node.{Node}
 use Rattle.structure_rules.specs.Graph.{nth, is_marked, is_entered, leads_to, grown, reach}
-
-or_cases : (a b : Bool) → (a || b) ≡ true → (a ≡ true) ⊎ (b ≡ true)
-or_cases true b e = inl refl
-or_cases false b e = inr e
-
-and_parts : (a b : Bool) → (a && b) ≡ true → (a ≡ true) × (b ≡ true)
-and_parts true b e = (refl, e)
-and_parts false b e = cc
-
-or_left : (a b : Bool) → a ≡ true → (a || b) ≡ true
-or_left true b e = refl
-or_left false b e = cc
-
-or_right : (a b : Bool) → b ≡ true → (a || b) ≡ true
-or_right true b e = refl
-or_right false b e = e
-
-both : (a b : Bool) → a ≡ true → b ≡ true → (a && b) ≡ true
-both true b e f = f
-both false b e f = cc
 
 -- a block to which an edge leads from a marked one
 pub entered : (marks : List Bool) (ns : List Node) (p t : ℕ) → is_marked marks p ≡ true → p < length ns → leads_to t (nth ns p) ≡ true → is_entered marks ns t ≡ true
 entered [] ns p t marked within edge = cc
 entered (m ∷ marks) [] p t marked within edge = absurd (omega arith)
-entered (m ∷ marks) (n ∷ ns) zero t marked within edge = or_left _ _ (both m (leads_to t n) marked edge)
+entered (m ∷ marks) (n ∷ ns) zero t marked within edge = or_left _ _ (and_from m (leads_to t n) marked edge)
 entered (m ∷ marks) (n ∷ ns) (suc p) t marked within edge = or_right _ _ (entered marks ns p t marked (omega arith) edge)
 
 pub entry : (marks : List Bool) (ns : List Node) (t : ℕ) → is_entered marks ns t ≡ true → (p : ℕ) × (is_marked marks p ≡ true) × (leads_to t (nth ns p) ≡ true)

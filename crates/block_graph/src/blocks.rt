@@ -1,5 +1,5 @@
 // The nodes of a function's blocks.
-ghost use Rattle.std.specs.Prelude.{◌≡◌, ◌==◌, IfOk, find, map, slice_index};
+ghost use Rattle.std.specs.Prelude.{◌≡◌, ◌==◌, IfOk, find, map};
 ghost use Rattle.std.specs.Option.{option_copied};
 ghost use Rattle.structure_rules.specs.Graph.{is_merge as is_merge_inst, is_terminator as is_terminator_inst, merge_inst as merge_inst_of, terminator as terminator_of, word_of as word_of_inst, index_of, seconds, exit_by, labels_by, target_labels, merge_by, node_by, nodes as nodes_of};
 
@@ -46,13 +46,6 @@ fn word_of(inst: Option<&Inst>) -> u32
     inst.map_or(0, |inst| inst.at)
 }
 
-/// Operand word k, or 0 where there is none.
-fn operand(inst: &Inst, k: usize) -> u32
-    ensures { result ≡ slice_index inst.now.args k }
-{
-    inst.args.as_slice().get(k).copied().unwrap_or(0)
-}
-
 /// What a merge instruction names.
 fn merge_of(labels: &Labels, inst: Option<&Inst>) -> Merge
     ensures { result ≡ merge_by (index_of labels.now) (option_copied inst.entry) }
@@ -60,10 +53,10 @@ fn merge_of(labels: &Labels, inst: Option<&Inst>) -> Merge
     let Some(inst) = inst else {
         return Merge::Absent;
     };
-    let merge = labels.index(operand(inst, 0));
+    let merge = labels.index(inst.operand(0));
     // OpLoopMerge, or else OpSelectionMerge
     if inst.op == 246 {
-        Merge::Loop(merge, labels.index(operand(inst, 1)))
+        Merge::Loop(merge, labels.index(inst.operand(1)))
     } else {
         Merge::Selection(merge)
     }
