@@ -5,6 +5,7 @@ use Rattle.std.proofs.lemmas.List.Elements.{Contains-push_cases, Contains-append
 use Rattle.std.proofs.lemmas.List.Sums.{sum_by-cons, get_or-le-sum_by}
 use Rattle.std.proofs.lemmas.List.Folds.{list_any-append}
 use Rattle.std.proofs.lemmas.Bool.Decides.{nat_tests, eqb_tells}
+use Rattle.std.proofs.lemmas.Bool.{and_parts}
 use Rattle.call_order.specs.declared.graph.Call.{Call}
 use Rattle.call_order.specs.Graph.{is_in, is_to, is_open, open_calls, callers}
 use Rattle.call_order.specs.Released.{times}
@@ -70,10 +71,6 @@ open_push (c ∷ cs) order p q new =
           let more : times p (callers (c ∷ cs) q) ≡ times p (callers cs q) = ap (times p) list in
           omega (arith, later, before_is, after_is, one, more)
     ]
-
-and_parts : (a b : Bool) → (a && b) ≡ true → (a ≡ true) × (b ≡ true)
-and_parts true b h = (refl, h)
-and_parts false b h = cc
 
 -- a function with an open call
 pub open_some : (calls : List Call) (order : List ℕ) (p : ℕ) → 0 < open_calls calls order p → (c : Call) × Contains calls c × (c.caller ≡ p) × (is_in order c.callee ≡ false)

@@ -2,6 +2,7 @@
 use Rattle.std.proofs.Common.{◌≡◌, ◌<◌, ◌≤◌, ℕ, zero, suc, Bool, true, false, cond, List, [], ◌∷◌, length, take, get_or, map, filter, refl, ap, sym, ◌∙◌, inl, inr, arith, Contains}
 use Rattle.std.proofs.lemmas.List.{get_or-map, length-map, take-map, get_or_default}
 use Rattle.std.proofs.lemmas.Bool.Decides.{nat_tests, eqb_tells}
+use Rattle.std.proofs.lemmas.Bool.{false_from_ne_true}
 use Rattle.spv_module.specs.declared.inst.Function.{Function}
 use Rattle.profile_rules.specs.Calls.{ids_of, place, Calls, Reaches, IsReady, IsNext, IsCallOrder}
 use Rattle.call_order.specs.Graph.{number, calls_of, Edge, is_in, open_calls}
@@ -108,7 +109,7 @@ ready_at fs entry order depths j g known inside ready =
     let own = reached_has fs entry order depths g known ready.reached in
     record {
       below = own.0;
-      unlisted = not_true (is_in (take j order) (place fs g)) (λ e. ready.unlisted (rw own.1 at (ids_have fs depths (take j order) (place fs g) e own.2)));
+      unlisted = false_from_ne_true (is_in (take j order) (place fs g)) (λ e. ready.unlisted (rw own.1 at (ids_have fs depths (take j order) (place fs g) e own.2)));
       closed = none_left (open_calls (calls_of fs) (take j order) (place fs g)) (λ some.
           let call = open_some (calls_of fs) (take j order) (place fs g) some in
           let edge : Edge (calls_of fs) (place fs g) call.0.callee = (call.0, call.1, call.2, refl) in
@@ -119,10 +120,6 @@ ready_at fs entry order depths j g known inside ready =
           cc);
     }
   where
-    not_true : (b : Bool) → (b ≡ true → ⊥) → b ≡ false
-    not_true true h = absurd (h refl)
-    not_true false h = refl
-
     none_left : (n : ℕ) → (0 < n → ⊥) → n ≡ 0
     none_left zero h = refl
     none_left (suc n) h = absurd (h (omega arith))

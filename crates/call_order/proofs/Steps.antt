@@ -6,6 +6,7 @@ use Rattle.std.proofs.lemmas.List.{get_or_append_left, get_or_push, take-append-
 use Rattle.std.proofs.lemmas.List.Sums.{sum_by-cons}
 use Rattle.std.proofs.lemmas.List.Elements.{All-map, All-filter, All-contains}
 use Rattle.std.proofs.lemmas.Bool.Decides.{nat_tests, eqb_tells, leb_tells}
+use Rattle.std.proofs.lemmas.Bool.{false_from_ne_true}
 use Rattle.call_order.specs.declared.graph.Call.{Call}
 use Rattle.call_order.specs.Graph.{is_in, is_to, callers, AreBelow}
 use Rattle.call_order.specs.Released.{times, IsReleased}
@@ -54,11 +55,6 @@ rest_stays c p is now e h apart =
 pub least_is : (q p : ℕ) → is_gt (nat_cmp q p) ≡ false → q ≤ p
 least_is q p h = grind (arith, nat_tests, h)
 
--- what is not true is false
-not_true : (b : Bool) → (b ≡ true → ⊥) → b ≡ false
-not_true true h = absurd (h refl)
-not_true false h = refl
-
 abbrev as_number : Bool → ℕ
 as_number b = cond b 1 0
 
@@ -94,7 +90,7 @@ state_push calls n order missing ready q rest after then state here least popped
                 let known = state.sound p was.0 in
                 (known.0, in_push_other order q p was.1 ∙ known.1, omega (arith, released.left p, known.2))
             | inr new ↦
-                let free = not_true (is_in (order ++ q ∷ []) p) (λ e.
+                let free = false_from_ne_true (is_in (order ++ q ∷ []) p) (λ e.
                 elim (in_push_cases order q p e) [
                   | inl old ↦ omega (arith, released.left p, state.listed p old, new.0)
                   | inr same ↦
