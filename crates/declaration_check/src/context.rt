@@ -6,9 +6,11 @@ ghost use Rattle.spv_decor.specs.Rows.{value_of};
 ghost use Rattle.spv_decor.specs.Decorations.{local_insts};
 ghost use Rattle.spv_index.specs.ValueTypes.{is_block, is_no_value_type};
 ghost use Rattle.spv_index.specs.Pointers.{storage_class, pointee};
+ghost use Rattle.profile_rules.specs.TypeRows.{type_row};
 ghost use Rattle.profile_rules.specs.Places.{is_defined_elsewhere, body_insts};
 
 use crate::elsewhere::defined_elsewhere;
+use crate::kernel::is_type;
 use crate::rows::{behind, body_rows};
 use spv_decor::Decor;
 use spv_index::{Pointer, ValueTypes, pointer};
@@ -103,6 +105,14 @@ impl<'a> Context<'a> {
         ensures { option_copied result ≡ global self.now.globals id }
     {
         self.module.global(Id(id))
+    }
+
+    /// The type with this id.
+    pub fn type_row(&self, id: u32) -> Option<&'a Inst>
+        ensures { option_copied result ≡ type_row self.now.globals id }
+    {
+        let inst = self.global(id)?;
+        if is_type(inst.op) { Some(inst) } else { None }
     }
 
     /// The literal of an id's decoration, or 0 where the decoration has none.

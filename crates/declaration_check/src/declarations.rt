@@ -12,7 +12,6 @@ use crate::choice::chosen_entry;
 use crate::context::Context;
 use crate::heads::{check_capabilities, check_imports, check_memory_model};
 use crate::kernel::{check_kernel, check_modes};
-use crate::rows::word;
 use crate::size::{check_size, group_size};
 use crate::spec_ids::check_spec_ids;
 use crate::types::{check_form, check_signatures, check_uses};
@@ -99,7 +98,7 @@ pub fn check_declarations(
     let context = Context::of(alloc, module, decor)?;
     let inst = chosen_entry(alloc, &context, entry)?;
     check_all(alloc, &context, inst)?;
-    let function = word(inst, 1);
+    let function = inst.operand(1);
     Ok(Entry {
         function: Id(function),
         size: group_size(alloc, &context, function)?,

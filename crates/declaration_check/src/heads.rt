@@ -7,7 +7,6 @@ ghost use Rattle.declaration_check.specs.Checked.{IsChecked};
 
 use crate::context::Context;
 use crate::refusal::{refuse_at, refuse_if};
-use crate::rows::word;
 use spv_decor::text_of;
 use spv_module::Inst;
 use spv_words::{Fault, Rule};
@@ -17,7 +16,7 @@ use std::alloc::{AllocError, Global};
 fn is_other_capability(inst: &Inst) -> bool
     ensures { result ≡ is_other_capability_row inst.now }
 {
-    inst.op == 17 && !matches!(word(inst, 0), 0 | 1)
+    inst.op == 17 && !matches!(inst.operand(0), 0 | 1)
 }
 
 fn first_other_capability<'a>(context: &Context<'a>) -> Option<&'a Inst>
@@ -87,7 +86,7 @@ fn is_memory_model(inst: &Inst) -> bool
 fn is_other_model(inst: &Inst) -> bool
     ensures { result ≡ is_other_model_row inst.now }
 {
-    is_memory_model(inst) && !(word(inst, 0) == 0 && word(inst, 1) == 1)
+    is_memory_model(inst) && !(inst.operand(0) == 0 && inst.operand(1) == 1)
 }
 
 fn has_memory_model(context: &Context) -> bool

@@ -10,7 +10,6 @@ ghost use Rattle.declaration_check.specs.Checked.{IsChecked};
 
 use crate::context::Context;
 use crate::refusal::{refuse_at, refuse_if};
-use crate::rows::word;
 use spv_module::{Function, Inst};
 use spv_words::{Fault, Rule};
 
@@ -60,7 +59,7 @@ fn is_no_entry(context: &Context, id: u32) -> bool
 fn is_no_kernel(context: &Context, entry: &Inst) -> bool
     ensures { result ≡ is_no_kernel_row context.now entry.now }
 {
-    word(entry, 0) != 5 || is_no_entry(context, word(entry, 1))
+    entry.operand(0) != 5 || is_no_entry(context, entry.operand(1))
 }
 
 /// P8: the entry point is of another execution model than GLCompute, or its function is none or has
@@ -75,21 +74,21 @@ pub fn check_kernel(context: &Context, entry: &Inst) -> Result<(), Fault>
 fn is_mode_of(function: u32, inst: &Inst) -> bool
     ensures { result ≡ is_mode_of_row function inst.now }
 {
-    (inst.op == 16 || inst.op == 331) && word(inst, 0) == function
+    (inst.op == 16 || inst.op == 331) && inst.operand(0) == function
 }
 
 /// OpExecutionMode LocalSize of a function.
 pub fn is_local_size(function: u32, inst: &Inst) -> bool
     ensures { result ≡ is_local_size_row function inst.now }
 {
-    inst.op == 16 && word(inst, 0) == function && word(inst, 1) == 17
+    inst.op == 16 && inst.operand(0) == function && inst.operand(1) == 17
 }
 
 /// OpExecutionModeId LocalSizeId of a function.
 pub fn is_local_size_id(function: u32, inst: &Inst) -> bool
     ensures { result ≡ is_local_size_id_row function inst.now }
 {
-    inst.op == 331 && word(inst, 0) == function && word(inst, 1) == 38
+    inst.op == 331 && inst.operand(0) == function && inst.operand(1) == 38
 }
 
 /// The operands of a mode.
@@ -212,7 +211,7 @@ fn mode_fault<'a>(context: &Context<'a>, function: u32) -> Option<&'a Inst>
 pub fn check_modes(context: &Context, entry: &Inst) -> Result<(), Fault>
     ensures { IsChecked P9 (p9_of context.now entry.now) result }
 {
-    let function = word(entry, 1);
+    let function = entry.operand(1);
     refuse_at(Rule::P9, mode_fault(context, function))?;
     refuse_if(Rule::P9, has_no_size(context, function), entry.at)
 }

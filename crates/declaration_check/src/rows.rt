@@ -1,7 +1,6 @@
 // The instructions of a module but its head, in one list.
 ghost use Rattle.std.specs.Prelude.{◌≡◌, ◌++◌, ◌≤◌, length, drop, map, flat_map, OnOk, IfOk};
 ghost use Rattle.spv_decor.specs.Decorations.{local_insts};
-ghost use Rattle.spv_decor.specs.Rows.{word as word_of};
 ghost use Rattle.profile_rules.specs.Places.{body_insts};
 
 use spv_module::{Block, Function, Inst, Module};
@@ -42,13 +41,6 @@ pub fn body_rows(alloc: Global, module: &Module) -> Result<Vec<&Inst>, AllocErro
     add_insts(&mut list, module.globals())?;
     add_functions(&mut list, module.functions())?;
     Ok(list)
-}
-
-/// Operand word k, or 0 where there is none.
-pub fn word(inst: &Inst, k: usize) -> u32
-    ensures { result ≡ word_of inst.now k }
-{
-    inst.args.as_slice().get(k).copied().unwrap_or(0)
 }
 
 /// What stands behind the first n of these.

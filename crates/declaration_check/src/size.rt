@@ -4,6 +4,7 @@ ghost use Rattle.std.specs.Option.{option_copied, option_map_or};
 ghost use Rattle.spv_module.specs.Held.{global};
 ghost use Rattle.spv_words.specs.declared.rule.Rule.TheVariants.{P10};
 ghost use Rattle.profile_rules.specs.declared.size.SizePart.TheVariants.{Fixed};
+ghost use Rattle.profile_rules.specs.TypeRows.{type_row};
 ghost use Rattle.profile_rules.specs.Places.{is_defined_elsewhere};
 ghost use Rattle.profile_rules.specs.Entry.{is_same_spec as is_same_spec_in, is_uint as is_uint_row, is_no_uint as is_no_uint_in, is_no_uvec3 as is_no_uvec3_in, is_no_size as is_no_size_in, is_no_part as is_no_part_in, are_no_sizes as are_no_sizes_in, is_bad_composite as is_bad_composite_in, is_bad_size as is_bad_size_in, is_bad_size_id as is_bad_size_id_in, is_size_composite as is_size_composite_row, is_local_size as is_local_size_row, is_local_size_id as is_local_size_id_row, size_part as size_part_in, size_by_literals, size_by_ids, group_size as group_size_in, p10_of, composite_faults};
 ghost use Rattle.declaration_check.specs.Checked.{IsChecked};
@@ -11,7 +12,6 @@ ghost use Rattle.declaration_check.specs.Checked.{IsChecked};
 use crate::context::Context;
 use crate::kernel::{is_local_size, is_local_size_id, is_size_composite, mode_operands};
 use crate::refusal::refuse_at;
-use crate::rows::word;
 use profile_rules::SizePart;
 use spv_module::Inst;
 use spv_words::{Fault, Memory, Rule};
@@ -31,28 +31,28 @@ fn is_same_spec(context: &Context, a: u32, b: u32) -> bool
 pub fn is_uint(inst: &Inst) -> bool
     ensures { result ≡ is_uint_row inst.now }
 {
-    inst.op == 21 && word(inst, 0) == 32 && word(inst, 1) == 0
+    inst.op == 21 && inst.operand(0) == 32 && inst.operand(1) == 0
 }
 
-/// Whether an id is that of something global that is no uint type.
+/// Whether an id is that of another type than uint.
 fn is_no_uint(context: &Context, id: u32) -> bool
     ensures { result ≡ is_no_uint_in context.now.globals id }
 {
-    context.global(id).map_or(false, |inst| !is_uint(inst))
+    context.type_row(id).map_or(false, |inst| !is_uint(inst))
 }
 
 /// Whether a type is no vector of three uints.
 pub fn is_no_uvec3(context: &Context, inst: &Inst) -> bool
     ensures { result ≡ is_no_uvec3_in context.now.globals inst.now }
 {
-    !(inst.op == 23 && word(inst, 1) == 3) || is_no_uint(context, word(inst, 0))
+    !(inst.op == 23 && inst.operand(1) == 3) || is_no_uint(context, inst.operand(0))
 }
 
 /// Whether a global instruction is no OpConstant or OpSpecConstant of a uint above 0.
 fn is_no_size(context: &Context, inst: &Inst) -> bool
     ensures { result ≡ is_no_size_in context.now.globals inst.now }
 {
-    !((inst.op == 43 || inst.op == 50) && 0 < word(inst, 0)) || is_no_uint(context, inst.ty)
+    !((inst.op == 43 || inst.op == 50) && 0 < inst.operand(0)) || is_no_uint(context, inst.ty)
 }
 
 /// Whether an id is that of no such constant, where `missing` says so of one that nothing global has.
@@ -105,11 +105,11 @@ fn is_bad_composite(context: &Context, inst: &Inst) -> bool
     is_no_uvec3_of(context, inst.ty) || are_no_sizes(context, true, inst.args.as_slice())
 }
 
-/// Whether an id is that of something global that is no uvec3.
+/// Whether an id is that of a type that is no uvec3.
 fn is_no_uvec3_of(context: &Context, id: u32) -> bool
-    ensures { result ≡ option_map_or (is_no_uvec3_in context.now.globals) (global context.now.globals id) false }
+    ensures { result ≡ option_map_or (is_no_uvec3_in context.now.globals) (type_row context.now.globals id) false }
 {
-    match context.global(id) {
+    match context.type_row(id) {
         None => false,
         Some(inst) => is_no_uvec3(context, inst),
     }
@@ -173,14 +173,14 @@ pub fn check_size(context: &Context, entry: &Inst) -> Result<(), Fault>
     ensures { IsChecked P10 (p10_of context.now entry.now) result }
 {
     refuse_at(Rule::P10, composite_fault(context))?;
-    refuse_at(Rule::P10, first_bad_size_id(context, word(entry, 1)))
+    refuse_at(Rule::P10, first_bad_size_id(context, entry.operand(1)))
 }
 
 /// A part of the size, by the constant with this id.
 fn size_part(context: &Context, id: u32) -> SizePart
     ensures { result ≡ size_part_in context.now id }
 {
-    let default = context.global(id).map_or(0, |inst| word(inst, 0));
+    let default = context.global(id).map_or(0, |inst| inst.operand(0));
     match context.value(id, 1) {
         None => SizePart::Fixed(default),
         Some(id) => SizePart::Spec { id, default },

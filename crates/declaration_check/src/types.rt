@@ -13,7 +13,6 @@ ghost use Rattle.declaration_check.specs.Classes.{AreMisuses, AreHolders};
 
 use crate::context::Context;
 use crate::refusal::refuse_at;
-use crate::rows::word;
 use crate::uses::{Holders, Misuses, find_holders, find_misuses, parts_of};
 use spv_module::Inst;
 use spv_words::{Fault, Rule};
@@ -52,7 +51,7 @@ pub fn check_uses(alloc: Global, context: &Context) -> Result<(), Fault>
 fn is_other_int(inst: &Inst) -> bool
     ensures { result ≡ is_other_int_row inst.now }
 {
-    inst.op == 21 && !(word(inst, 0) == 32 && word(inst, 1) <= 1)
+    inst.op == 21 && !(inst.operand(0) == 32 && inst.operand(1) <= 1)
 }
 
 /// Whether an id is that of something else than OpTypeBool or OpTypeInt.
@@ -70,7 +69,8 @@ fn is_other_vector(context: &Context, inst: &Inst) -> bool
     ensures { result ≡ is_other_vector_in context.now inst.now }
 {
     inst.op == 23
-        && (!(2 <= word(inst, 1) && word(inst, 1) <= 4) || is_no_scalar(context, word(inst, 0)))
+        && (!(2 <= inst.operand(1) && inst.operand(1) <= 4)
+            || is_no_scalar(context, inst.operand(0)))
 }
 
 /// Whether a type is OpTypeInt with a sign.
@@ -79,14 +79,15 @@ fn is_signed(context: &Context, id: u32) -> bool
 {
     context
         .global(id)
-        .map_or(false, |inst| inst.op == 21 && word(inst, 1) == 1)
+        .map_or(false, |inst| inst.op == 21 && inst.operand(1) == 1)
 }
 
 /// Whether OpConstant is above 0.
 fn is_above_zero(context: &Context, constant: &Inst) -> bool
     ensures { result ≡ is_above_zero_in context.now.globals constant.now }
 {
-    0 < word(constant, 0) && !(is_signed(context, constant.ty) && 0x8000_0000 <= word(constant, 0))
+    0 < constant.operand(0)
+        && !(is_signed(context, constant.ty) && 0x8000_0000 <= constant.operand(0))
 }
 
 /// Whether a constant is of another type than int and uint.
@@ -137,7 +138,7 @@ fn is_other_array(context: &Context, holders: &Holders, inst: &Inst) -> bool
     requires { AreHolders context.now (contains nat_cmp holders.now.workgroup) (contains nat_cmp holders.now.others) }
     ensures { result ≡ is_other_array_in context.now inst.now }
 {
-    inst.op == 28 && is_no_length(context, holders, inst.result, word(inst, 1))
+    inst.op == 28 && is_no_length(context, holders, inst.result, inst.operand(1))
 }
 
 /// OpTypeStruct without members.
@@ -200,14 +201,14 @@ pub fn check_form(alloc: Global, context: &Context) -> Result<(), Fault>
 fn is_other_pointer(context: &Context, inst: &Inst) -> bool
     ensures { result ≡ is_other_pointer_in context.now.globals inst.now }
 {
-    inst.op == 32 && is_no_data(context, word(inst, 1))
+    inst.op == 32 && is_no_data(context, inst.operand(1))
 }
 
 /// Whether a pointer type is of another class than Function, or to no value type.
 fn is_no_variable(context: &Context, inst: &Inst) -> bool
     ensures { result ≡ is_no_variable_in context.now.heads context.now.globals inst.now }
 {
-    word(inst, 0) != 7 || context.is_no_value_type(word(inst, 1))
+    inst.operand(0) != 7 || context.is_no_value_type(inst.operand(1))
 }
 
 /// Whether a parameter is neither of a value type nor a Function pointer to one.
@@ -255,7 +256,8 @@ fn has_other_parameter(context: &Context, inst: &Inst) -> bool
 fn is_other_function(context: &Context, inst: &Inst) -> bool
     ensures { result ≡ is_other_function_in context.now.heads context.now.globals inst.now }
 {
-    inst.op == 33 && (is_other_result(context, word(inst, 0)) || has_other_parameter(context, inst))
+    inst.op == 33
+        && (is_other_result(context, inst.operand(0)) || has_other_parameter(context, inst))
 }
 
 fn first_other_signature<'a>(context: &Context<'a>) -> Option<&'a Inst>

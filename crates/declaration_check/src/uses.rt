@@ -7,7 +7,6 @@ ghost use Rattle.profile_rules.specs.TypeForm.{parts_of as parts_in, pointee_by 
 ghost use Rattle.declaration_check.specs.Classes.{is_in, AreMisuses, AreHolders};
 
 use crate::context::Context;
-use crate::rows::word;
 use crate::variables::is_variable;
 use spv_module::{Function, Id, Inst};
 use std::alloc::{AllocError, Global};
@@ -40,7 +39,7 @@ fn includes(classes: Classes, class: u32) -> bool
 fn pointee_by(context: &Context, classes: Classes, inst: &Inst) -> Option<u32>
     ensures { result ≡ pointee_of context.now.globals (is_in classes) inst.now }
 {
-    if is_variable(inst) && includes(classes, word(inst, 0)) {
+    if is_variable(inst) && includes(classes, inst.operand(0)) {
         context.pointee(inst.ty)
     } else {
         None

@@ -11,9 +11,7 @@ ghost use Rattle.profile_rules.specs.Variables.{classes, is_other_class as is_ot
 ghost use Rattle.declaration_check.specs.Checked.{IsChecked};
 
 use crate::context::Context;
-use crate::kernel::is_type;
 use crate::refusal::refuse_at;
-use crate::rows::word;
 use crate::size::{is_no_uvec3, is_uint};
 use spv_module::Inst;
 use spv_words::{Fault, Rule};
@@ -46,7 +44,7 @@ fn is_of_other_class(context: &Context, ty: u32, class: u32) -> bool
 fn is_other_class(context: &Context, variable: &Inst) -> bool
     ensures { result ≡ is_other_class_in context.now.globals variable.now }
 {
-    !is_class(word(variable, 0)) || is_of_other_class(context, variable.ty, word(variable, 0))
+    !is_class(variable.operand(0)) || is_of_other_class(context, variable.ty, variable.operand(0))
 }
 
 /// Whether a variable is of such a class, or of class Function where it stands outside a function, or
@@ -54,7 +52,7 @@ fn is_other_class(context: &Context, variable: &Inst) -> bool
 fn is_misclassed(context: &Context, inside: bool, inst: &Inst) -> bool
     ensures { result ≡ is_misclassed_in inside context.now.globals inst.now }
 {
-    let is_function = word(inst, 0) == 7;
+    let is_function = inst.operand(0) == 7;
     is_variable(inst)
         && (is_other_class(context, inst) || if inside { !is_function } else { is_function })
 }
@@ -112,8 +110,7 @@ fn is_other_input_type(context: &Context, built_in: u32, inst: &Inst) -> bool
 fn pointed_type<'a>(context: &Context<'a>, ty: u32) -> Option<&'a Inst>
     ensures { option_copied result ≡ pointed_type_in context.now.globals ty }
 {
-    let inst = context.global(context.pointee(ty)?)?;
-    if is_type(inst.op) { Some(inst) } else { None }
+    context.type_row(context.pointee(ty)?)
 }
 
 /// Whether an Input variable of a built-in points to another type.
@@ -140,7 +137,7 @@ fn is_no_input(context: &Context, variable: &Inst) -> bool
 fn is_other_input(context: &Context, inst: &Inst) -> bool
     ensures { result ≡ is_other_input_in context.now.heads context.now.globals inst.now }
 {
-    is_variable(inst) && word(inst, 0) == 1 && is_no_input(context, inst)
+    is_variable(inst) && inst.operand(0) == 1 && is_no_input(context, inst)
 }
 
 #[tactic(auto, using(crate::proofs::Finds::behind_rules))]
@@ -167,14 +164,14 @@ pub fn check_inputs(context: &Context) -> Result<(), Fault>
 fn is_buffer(variable: &Inst) -> bool
     ensures { result ≡ is_buffer_row variable.now }
 {
-    matches!(word(variable, 0), 2 | 12)
+    matches!(variable.operand(0), 2 | 12)
 }
 
 /// A variable of class PushConstant.
 fn is_push(inst: &Inst) -> bool
     ensures { result ≡ is_push_row inst.now }
 {
-    is_variable(inst) && word(inst, 0) == 9
+    is_variable(inst) && inst.operand(0) == 9
 }
 
 /// Whether a variable points to another type than a struct decorated Block.
@@ -281,7 +278,7 @@ fn is_other_initializer(context: &Context, inst: &Inst) -> bool
 {
     is_variable(inst)
         && 1 < inst.args.len()
-        && (!matches!(word(inst, 0), 6 | 7) || is_other_value(context, inst, word(inst, 1)))
+        && (!matches!(inst.operand(0), 6 | 7) || is_other_value(context, inst, inst.operand(1)))
 }
 
 #[tactic(auto, using(crate::proofs::Finds::behind_rules))]

@@ -17,8 +17,8 @@ returns-in_err-refuse_at c =
 pub returns : goal.returns
 returns c =
     let m : ModuleState = c.args.context.now in
-    let f : ℕ = c.word.result in
+    let f : ℕ = c.operand.result in
     let first : IsChecked P10 (composite_faults m) (Ok c.in_ok-refuse_at.field-0) = checked_found P10 _ (Ok c.in_ok-refuse_at.field-0) _ m.globals c.in_ok-refuse_at.ensures c.composite_fault.ensures in
     let second : IsChecked P10 (places (is_bad_size_id m f) m.heads) c.refuse_at-2.result = checked_found P10 _ c.refuse_at-2.result _ m.heads c.refuse_at-2.ensures c.first_bad_size_id.ensures in
     let P : ℕ → Type 0 = λ n. IsChecked P10 (composite_faults m ++ places (is_bad_size_id m n) m.heads) c.refuse_at-2.result in
-    subst P c.word.ensures (checked_after P10 (composite_faults m) _ c.refuse_at-2.result first.passes second)
+    subst P c.operand.ensures (checked_after P10 (composite_faults m) _ c.refuse_at-2.result first.passes second)
