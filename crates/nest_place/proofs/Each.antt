@@ -3,11 +3,12 @@ use Rattle.std.proofs.Common.{◌≡◌, ◌<◌, ◌≤◌, ◌+◌, ◌==◌, 
 use Rattle.std.specs.List.{list_any}
 use Rattle.std.proofs.lemmas.List.{drop_more, drop_all, append-nil}
 use Rattle.std.proofs.lemmas.List.Folds.{list_any-append}
+use Rattle.std.proofs.lemmas.Bool.{or_cases, and_parts, or_left, or_right, and_from}
 use Rattle.structure_rules.specs.declared.graph.Node.{Node}
 use Rattle.structure_rules.specs.Graph.{nth}
 use Rattle.structure_rules.specs.Nesting.{Links, has_link, each, linked}
 use Rattle.nest_place.specs.Links.{AreWithin}
-use Rattle.nest_place.proofs.LinkLemmas.{or_cases, and_parts, or_left, or_right, both_true, same_nat, equal_nat}
+use Rattle.nest_place.proofs.LinkLemmas.{same_nat, equal_nat}
 
 -- one node more
 pub each_next : {A : Type 0} (f : ℕ → Node → List A) (g : List Node) (i : ℕ) (d : Node) (done : List A) → i < length g → done ++ each f i (drop i g) ≡ (done ++ f i (get_or g i d)) ++ each f (i + 1) (drop (i + 1) g)
@@ -56,7 +57,7 @@ has_linked : (ts : List ℕ) (p t : ℕ) → list_any (λ x. x == t) ts ≡ true
 has_linked [] p t e = cc
 has_linked (x ∷ ts) p t e =
     elim (or_cases (x == t) (list_any (λ y. y == t) ts) e) [
-      | inl here ↦ or_left _ _ (both_true (x == t) (p == p) here (same_nat p))
+      | inl here ↦ or_left _ _ (and_from (x == t) (p == p) here (same_nat p))
       | inr there ↦ or_right ((x == t) && (p == p)) _ (has_linked ts p t there)
     ]
 
@@ -105,7 +106,7 @@ has_filter q (x ∷ ts) t e passes = by_test (λ there. has_filter q ts t there 
 -- links whose blocks are among the first n
 pub links_within : (n : ℕ) (links : Links) → ((a b : ℕ) → has_link links a b ≡ true → a < n) → AreWithin n links
 links_within n [] all k inside = absurd (omega (arith, inside))
-links_within n (l ∷ links) all zero inside = all l.0 l.1 (or_left _ _ (both_true (l.0 == l.0) (l.1 == l.1) (same_nat l.0) (same_nat l.1)))
+links_within n (l ∷ links) all zero inside = all l.0 l.1 (or_left _ _ (and_from (l.0 == l.0) (l.1 == l.1) (same_nat l.0) (same_nat l.1)))
 links_within n (l ∷ links) all (suc k) inside = links_within n links (λ a b e. all a b (or_right ((l.0 == a) && (l.1 == b)) _ e)) k (omega (arith, inside))
 
 -- a member of a list stands somewhere in it

@@ -4,6 +4,7 @@ use Rattle.std.specs.List.{list_any, filter_map, slice_get, cons_option}
 use Rattle.std.specs.Option.{option_map, option_and_then}
 use Rattle.std.proofs.lemmas.List.{drop_more, drop_all, append-nil}
 use Rattle.spv_words.specs.declared.rule.Rule.TheVariants.{K9, K10}
+use Rattle.std.proofs.lemmas.Bool.{or_cases, and_parts, or_left, or_right}
 use Rattle.structure_rules.specs.declared.graph.Node.{Node}
 use Rattle.structure_rules.specs.declared.graph.Part.{Part}
 use Rattle.structure_rules.specs.declared.graph.Part.TheVariants.{If, Loop, Cont, Case}
@@ -16,7 +17,7 @@ use Rattle.nest_place.specs.declared.links.Clash.{Clash}
 use Rattle.nest_place.specs.Checks.{IsUnbroken}
 use Rattle.nest_place.specs.Links.{IsSingle, IsClash, IsTable, turned_links, AreWithin as LinksWithin}
 use Rattle.nest_place.specs.Spots.{IsGrounded}
-use Rattle.nest_place.proofs.LinkLemmas.{or_cases, and_parts, or_left, or_right, equal_nat}
+use Rattle.nest_place.proofs.LinkLemmas.{equal_nat}
 use Rattle.nest_place.proofs.Each.{each_has, links_within, member_at}
 use Rattle.nest_place.proofs.Parenthood.{edge_if}
 use Rattle.nest_place.proofs.Outward.{reached_inside}

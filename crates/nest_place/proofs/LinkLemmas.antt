@@ -5,6 +5,7 @@ use Rattle.std.specs.Option.{option_or, option_map}
 use Rattle.std.proofs.Math.ListN.{set}
 use Rattle.std.proofs.lemmas.List.{take_more, get_or-set_same, get_or-set_other, length-set, length-replicate, take_all}
 use Rattle.std.proofs.lemmas.List.Folds.{find-append, list_any-append}
+use Rattle.std.proofs.lemmas.Bool.{or_cases, and_parts, or_left, or_right, and_from}
 use Rattle.std.proofs.lemmas.Bool.Decides.{eqb_tells, nat_tests}
 use Rattle.structure_rules.specs.Nesting.{Links, has_link, first_of}
 use Rattle.nest_place.specs.Links.{IsTable, IsSingle}
@@ -23,26 +24,6 @@ first_push links l a = ap (option_map (λ (l : ℕ × ℕ). l.1)) (find-append (
 
 has_push : (links : Links) (l : ℕ × ℕ) (a b : ℕ) → has_link (links ++ l ∷ []) a b ≡ (has_link links a b || (((l.0 == a) && (l.1 == b)) || false))
 has_push links l a b = list_any-append (λ (m : ℕ × ℕ). (m.0 == a) && (m.1 == b)) links (l ∷ [])
-
-pub or_cases : (a b : Bool) → (a || b) ≡ true → (a ≡ true) ⊎ (b ≡ true)
-or_cases true b e = inl refl
-or_cases false b e = inr e
-
-pub and_parts : (a b : Bool) → (a && b) ≡ true → (a ≡ true) × (b ≡ true)
-and_parts true b e = (refl, e)
-and_parts false b e = cc
-
-pub or_left : (a b : Bool) → a ≡ true → (a || b) ≡ true
-or_left true b e = refl
-or_left false b e = cc
-
-pub or_right : (a b : Bool) → b ≡ true → (a || b) ≡ true
-or_right true b e = refl
-or_right false b e = e
-
-pub both_true : (a b : Bool) → a ≡ true → b ≡ true → (a && b) ≡ true
-both_true true b e f = f
-both_true false b e f = cc
 
 pub same_nat : (x : ℕ) → (x == x) ≡ true
 same_nat x = grind (arith, nat_tests)
@@ -108,7 +89,7 @@ module _ (links : Links) (i n : ℕ) (table : List (Option ℕ)) (d : ℕ × ℕ
   has_here =
       let l : ℕ × ℕ = get_or links i d in
       ap (λ ls. has_link ls l.0 l.1) (take_more links i d inside) ∙ has_push (take i links) l l.0 l.1
-      ∙ or_right (has_link (take i links) l.0 l.1) _ (or_left ((l.0 == l.0) && (l.1 == l.1)) false (both_true (l.0 == l.0) (l.1 == l.1) (same_nat l.0) (same_nat l.1)))
+      ∙ or_right (has_link (take i links) l.0 l.1) _ (or_left ((l.0 == l.0) && (l.1 == l.1)) false (and_from (l.0 == l.0) (l.1 == l.1) (same_nat l.0) (same_nat l.1)))
 
   -- the first link of a block
   new_first : (a : ℕ) → (get_or links i d).0 < length table → get_or table (get_or links i d).0 None ≡ None → get_or (set table (get_or links i d).0 (Some (get_or links i d).1)) a None ≡ first_of (take (i + 1) links) a

@@ -3,6 +3,7 @@ use Rattle.std.proofs.Common.{◌≡◌, ◌≢◌, ◌<◌, ◌≤◌, ◌==◌
 use Rattle.std.specs.List.{list_any}
 use Rattle.std.proofs.lemmas.Bool.Decides.{eqb_tells}
 use Rattle.spv_words.specs.declared.rule.Rule.TheVariants.{K3}
+use Rattle.std.proofs.lemmas.Bool.{or_cases, and_parts, or_left, or_right, and_from}
 use Rattle.structure_rules.specs.declared.graph.Node.{Node}
 use Rattle.structure_rules.specs.Graph.{nth, named, names, is_value, merge_named}
 use Rattle.structure_rules.specs.Nesting.{Links, has_link, first_of, name_links}
@@ -12,7 +13,7 @@ use Rattle.nest_place.specs.Links.{IsSingle, IsClash, AreWithin as LinksWithin}
 use Rattle.nest_place.specs.declared.links.Clash.{Clash}
 use Rattle.nest_place.specs.Steps.{names_itself, NoneNamesItself}
 use Rattle.nest_place.specs.Checks.{IsUnbroken}
-use Rattle.nest_place.proofs.LinkLemmas.{or_cases, and_parts, or_left, or_right, both_true, same_nat, equal_nat}
+use Rattle.nest_place.proofs.LinkLemmas.{same_nat, equal_nat}
 use Rattle.nest_place.proofs.Each.{link_from, link_to, links_within, member_at}
 use Rattle.nest_place.proofs.Reading.{NoneBelow, none_start}
 
@@ -72,7 +73,7 @@ other_link t h (l ∷ links) k e apart =
             | inl w ↦ absurd (apart (sym (equal_nat l.1 k parts.1) ∙ w.1))
             | inr w ↦ ap not w.0
           ] in
-          or_left _ _ (both_true (l.0 == t) (not (l.1 == h)) parts.0 differs)
+          or_left _ _ (and_from (l.0 == t) (not (l.1 == h)) parts.0 differs)
       | inr there ↦ or_right ((l.0 == t) && not (l.1 == h)) _ (other_link t h links k there apart)
     ]
 
@@ -82,7 +83,7 @@ link_other t h (l ∷ links) e =
     elim (or_cases ((l.0 == t) && not (l.1 == h)) (list_any (λ (m : ℕ × ℕ). (m.0 == t) && not (m.1 == h)) links) e) [
       | inl here ↦
           let parts = and_parts (l.0 == t) (not (l.1 == h)) here in
-          (l.1, or_left _ _ (both_true (l.0 == t) (l.1 == l.1) parts.0 (same_nat l.1)), (λ same. let yes : (l.1 == h) ≡ true = ap (λ q. q == h) same ∙ same_nat h in let no : not true ≡ true = ap not (sym yes) ∙ parts.1 in cc))
+          (l.1, or_left _ _ (and_from (l.0 == t) (l.1 == l.1) parts.0 (same_nat l.1)), (λ same. let yes : (l.1 == h) ≡ true = ap (λ q. q == h) same ∙ same_nat h in let no : not true ≡ true = ap not (sym yes) ∙ parts.1 in cc))
       | inr there ↦ let later = link_other t h links there in (later.0, or_right ((l.0 == t) && (l.1 == later.0)) _ later.1, later.2)
     ]
 

@@ -3,6 +3,7 @@ use Rattle.std.proofs.Common.{◌≡◌, ◌≢◌, ◌<◌, ◌==◌, ◌&&◌,
 use Rattle.std.specs.List.{list_any, find, slice_get}
 use Rattle.std.specs.Option.{option_and_then}
 use Rattle.std.proofs.lemmas.Bool.Decides.{eqb_tells}
+use Rattle.std.proofs.lemmas.Bool.{and_parts, or_left, or_right, false_from_ne_true}
 use Rattle.structure_rules.specs.declared.graph.Merge.{Merge}
 use Rattle.structure_rules.specs.declared.graph.Merge.TheVariants.{Absent, Selection, Loop as LoopMerge}
 use Rattle.structure_rules.specs.declared.graph.Exit.{Exit}
@@ -19,7 +20,7 @@ use Rattle.structure_rules.specs.Nesting.{name_links, has_link, first_of, header
 use Rattle.structure_rules.specs.EdgeKinds.{is_if, is_loop, loop_header, body_header, continue_header, if_header, case_switch, case_target, nearest_loop, innermost, innermost_switch, merges_to, continues_to, is_back, is_continue, is_break, is_switch_break, is_merge_edge, is_fall, is_enter, case_of, entered_from, are_same, has_kind, has_some_kind}
 use Rattle.structure_rules.specs.Structure.{names_twice, names_badly, is_shared}
 use Rattle.nest_place.specs.Nests.{IsSound}
-use Rattle.nest_place.proofs.LinkLemmas.{and_parts, or_left, or_right, same_nat, equal_nat, has_first}
+use Rattle.nest_place.proofs.LinkLemmas.{same_nat, equal_nat, has_first}
 use Rattle.nest_place.proofs.Naming.{name_from, name_to, other_link, shared_any}
 use Rattle.nest_place.proofs.Parenthood.{no_link}
 use Rattle.nest_place.proofs.Outward.{place_is, reached_inside}
@@ -61,12 +62,8 @@ selection_by : (b : Bool) → not b ≡ false → b ≡ true
 selection_by true e = refl
 selection_by false e = cc
 
-not_true : (b : Bool) → (b ≡ true → ⊥) → b ≡ false
-not_true true never = absurd (never refl)
-not_true false never = refl
-
 both_false : (a b : Bool) → a ≡ true → ((a && b) ≡ true → ⊥) → b ≡ false
-both_false true b e never = not_true b never
+both_false true b e never = false_from_ne_true b never
 both_false false b e never = cc
 
 -- a switch has a selection

@@ -4,6 +4,7 @@ use Rattle.std.specs.List.{list_any, find}
 use Rattle.std.specs.Option.{option_map}
 use Rattle.std.proofs.lemmas.Bool.Decides.{nat_tests}
 use Rattle.spv_words.specs.declared.rule.Rule.TheVariants.{K4, K5}
+use Rattle.std.proofs.lemmas.Bool.{or_cases, and_parts, or_left, or_right}
 use Rattle.structure_rules.specs.declared.graph.Node.{Node}
 use Rattle.structure_rules.specs.declared.graph.Role.TheVariants.{First, Merge as MergeOf, Continue}
 use Rattle.structure_rules.specs.Graph.{nth, edges, is_value, is_switch, merge_block}
@@ -13,7 +14,7 @@ use Rattle.nest_place.specs.Links.{IsSingle, IsClash, AreWithin as LinksWithin}
 use Rattle.nest_place.specs.declared.links.Clash.{Clash}
 use Rattle.nest_place.specs.Steps.{IsFormed, AreParentLinks, NoneIsOrphan}
 use Rattle.nest_place.specs.Checks.{IsUnbroken}
-use Rattle.nest_place.proofs.LinkLemmas.{or_cases, and_parts, or_left, or_right, same_nat, equal_nat, has_first as has_first_link}
+use Rattle.nest_place.proofs.LinkLemmas.{same_nat, equal_nat, has_first as has_first_link}
 use Rattle.nest_place.proofs.Each.{link_from, links_within, member_at, filter_has}
 use Rattle.nest_place.proofs.Reading.{NoneBelow, none_start}
 
