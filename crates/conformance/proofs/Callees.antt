@@ -4,8 +4,9 @@ use Rattle.std.specs.Option.{option_map_or}
 use Rattle.std.specs.List.{All, Contains, flat_map, list_any, enumerate_from, position_from}
 use Rattle.std.proofs.lemmas.List.{length-drop, length-take-le}
 use Rattle.std.proofs.lemmas.List.Concat.{flat_map-cons}
-use Rattle.std.proofs.lemmas.List.Elements.{All-nil, All-cons, All-head, All-tail, All-append, All-contains, All-filter, All-from_get_or, filter_passes}
+use Rattle.std.proofs.lemmas.List.Elements.{All-nil, All-cons, All-head, All-tail, All-append, All-contains, All-filter, All-weaker, All-from_get_or, filter_passes}
 use Rattle.std.proofs.lemmas.Bool.Decides.{eqb_tells, nat_tests}
+use Rattle.std.proofs.lemmas.Bool.{false_from_ne_true, or_parts}
 use Rattle.spv_words.specs.Words.{words, insts, slice, first_fault}
 use Rattle.spv_words.specs.Breaks.{AreWords}
 use Rattle.spv_words.specs.declared.words.Inst1.{Inst1}
@@ -130,15 +131,11 @@ functions_full ws (i ∷ is) h =
 abbrev none_inst : Inst1
 none_inst = record { opcode = 0; start = 0; len = 0 }
 
-is_false : (b : Bool) → (b ≡ true → ⊥) → b ≡ false
-is_false true h = absurd (h refl)
-is_false false h = refl
-
 -- the instructions of words that break no rule on words and on numbers of words
 all_full : (ws : List ℕ) → first_fault ws ≡ None → IsUnbroken ws P2 → AreFull ws (insts ws)
 all_full ws whole fine = All-from_get_or (λ (i : Inst1). IsFull (inst_of ws i)) (insts ws) none_inst
     (λ k inside. full_inst ws (get_or (insts ws) k none_inst) (whole_at (length ws) (insts ws) k none_inst whole inside)
-    (is_false (is_misfit ws (get_or (insts ws) k none_inst)) (λ bad. fine (get_or (insts ws) k none_inst).start (k, inside, refl, bad))))
+    (false_from_ne_true (is_misfit ws (get_or (insts ws) k none_inst)) (λ bad. fine (get_or (insts ws) k none_inst).start (k, inside, refl, bad))))
 
 -- what breaks nothing has parts that break nothing
 append_nil : {X : Type 0} (xs ys : List X) → xs ++ ys ≡ [] → (xs ≡ []) × (ys ≡ [])
@@ -155,17 +152,9 @@ all_parts : {X Y : Type 0} (P : Y → Type 0) (f : X → List Y) (xs : List X) �
 all_parts P f [] h = All-nil P
 all_parts P f (x ∷ xs) h = rw (flat_map-cons f x xs) (All-append P (f x) (flat_map f xs) (All-head (λ x. All P (f x)) x xs h) (all_parts P f xs (All-tail (λ x. All P (f x)) x xs h)))
 
-all_weaker : {X : Type 0} (P Q : X → Type 0) → ((x : X) → P x → Q x) → (xs : List X) → All P xs → All Q xs
-all_weaker P Q h [] all = All-nil Q
-all_weaker P Q h (x ∷ xs) all = All-cons Q x xs (h x (All-head P x xs all)) (all_weaker P Q h xs (All-tail P x xs all))
-
 unbroken_if : (b : Bool) (rule : Rule) (at : ℕ) → broken_if b rule at ≡ [] → b ≡ false
 unbroken_if true rule at h = cc
 unbroken_if false rule at h = refl
-
-or_false : (a b : Bool) → (a || b) ≡ false → (a ≡ false) × (b ≡ false)
-or_false true b h = cc
-or_false false b h = (refl, h)
 
 and_not_false : (a b : Bool) → a ≡ true → (a && not b) ≡ false → b ≡ true
 and_not_false true true e h = refl
@@ -184,7 +173,7 @@ call_need = refl
 operand_there : (there : Need → ℕ → Bool) (i : Inst) (args : List ℕ) → i.op ≡ 57 → 0 < length args → list_any (lacks_operand there i) (enumerate_from 0 args) ≡ false → there Callee (slice_index args 0) ≡ true
 operand_there there i [] op full fine = absurd (omega (arith, full))
 operand_there there i (a ∷ others) op full fine =
-    let first = (or_false (lacks_operand there i (0, a)) (list_any (lacks_operand there i) (enumerate_from 1 others)) fine).0 in
+    let first = (or_parts (lacks_operand there i (0, a)) (list_any (lacks_operand there i) (enumerate_from 1 others)) fine).0 in
     let id : is_id i.op i.args 0 ≡ true = ap (λ o. is_id o i.args 0) op ∙ call_id i.args in
     let needed : need i.op 0 ≡ Callee = ap (λ o. need o 0) op ∙ call_need in
     ap (λ n. there n a) (sym needed) ∙ and_not_false (is_id i.op i.args 0) (there (need i.op 0) a) id first
@@ -219,14 +208,14 @@ IsFine m f i = breaks_t1_in m f i ≡ false
 
 fine_block : (m : ModuleState) (f : Function) (b : Block) → broken_by_block m f b ≡ [] → All (IsFine m f) b.insts
 fine_block m f b h =
-    all_weaker (λ (i : Inst). broken_by_local m f b i ≡ []) (IsFine m f)
+    All-weaker (λ (i : Inst). broken_by_local m f b i ≡ []) (IsFine m f)
     (λ i e. unbroken_if (breaks_t1_in m f i) T1 i.at (append_nil (broken_if (breaks_t1_in m f i) T1 i.at) _ e).0) b.insts (each_nil (broken_by_local m f b) b.insts h)
 
 fine_function : (m : ModuleState) (f : Function) → broken_by_function m f ≡ [] → All (IsFine m f) (insts_of f)
 fine_function m f h =
     let more = append_nil _ (flat_map (broken_by_block m f) f.blocks) (append_nil _ _ h).1 in
     all_parts (IsFine m f) (λ (b : Block). b.insts) f.blocks
-    (all_weaker (λ (b : Block). broken_by_block m f b ≡ []) (λ (b : Block). All (IsFine m f) b.insts) (fine_block m f) f.blocks (each_nil (broken_by_block m f) f.blocks more.1))
+    (All-weaker (λ (b : Block). broken_by_block m f b ≡ []) (λ (b : Block). All (IsFine m f) b.insts) (fine_block m f) f.blocks (each_nil (broken_by_block m f) f.blocks more.1))
 
 is_opcode : (i : Inst) → is_call i ≡ true → i.op ≡ 57
 is_opcode i h =
@@ -238,7 +227,7 @@ is_opcode i h =
 call_known : (m : ModuleState) (f : Function) (call : Inst) → IsFull call → IsFine m f call → call.op ≡ 57 → Contains (ids_of m.functions) (callee call)
 call_known m f call full fine op =
     is_function m f call.at (callee call)
-    (operand_there (is_there_in m f call.at) call call.args op (full op) (or_false _ (list_any (lacks_operand (is_there_in m f call.at) call) (enumerate_from 0 call.args)) fine).1)
+    (operand_there (is_there_in m f call.at) call call.args op (full op) (or_parts _ (list_any (lacks_operand (is_there_in m f call.at) call) (enumerate_from 0 call.args)) fine).1)
 
 -- each function that is called is one of the module's
 pub callees_known : (bytes : List ℕ) → AreWords bytes → IsUnbroken (words bytes) P2 → broken (module_of (words bytes)) ≡ [] → AreCalleesFunctions (module_of (words bytes)).functions
@@ -269,8 +258,8 @@ found_function m id (f ∷ fs) h =
 chosen_known : (m : ModuleState) (entry : Option Inst) (id : ℕ) → ((at : ℕ) → Contains (option_map_or (λ (i : Inst). cond (is_no_kernel m i) (i.at ∷ []) []) entry []) at → ⊥) → IsSomeAnd entry (λ (i : Inst). id ≡ word i 1) → Contains (ids_of m.functions) id
 chosen_known m None id fine is = absurd is
 chosen_known m (Some i) id fine is =
-    let kernel : is_no_kernel m i ≡ false = is_false (is_no_kernel m i) (λ bad. fine i.at (rw bad (contains_first i.at i.at [] refl))) in
-    let there : option_map_or (is_called m.globals) (function_of m.functions (word i 1)) true ≡ false = (or_false _ _ kernel).1 in
+    let kernel : is_no_kernel m i ≡ false = false_from_ne_true (is_no_kernel m i) (λ bad. fine i.at (rw bad (contains_first i.at i.at [] refl))) in
+    let there : option_map_or (is_called m.globals) (function_of m.functions (word i 1)) true ≡ false = (or_parts _ _ kernel).1 in
     rw is (found_function m (word i 1) m.functions there)
 
 -- the function of the chosen entry point is one of the module's

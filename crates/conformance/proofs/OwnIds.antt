@@ -1,8 +1,9 @@
 -- Where no id is a result twice, no two functions have the same id.
-use Rattle.std.proofs.Common.{◌≡◌, ◌<◌, ◌+◌, ◌==◌, ◌&&◌, ◌||◌, ℕ, zero, suc, Bool, true, false, cond, List, [], ◌∷◌, Option, None, Some, length, get_or, map, find, slice_index, refl, ap, sym, ◌∙◌, inl, inr, arith}
+use Rattle.std.proofs.Common.{◌≡◌, ◌<◌, ◌+◌, ◌==◌, ◌&&◌, ℕ, zero, suc, true, false, cond, List, [], ◌∷◌, Option, None, Some, length, get_or, map, find, slice_index, refl, ap, sym, ◌∙◌, inl, inr, arith}
 use Rattle.std.specs.Option.{option_map_or}
 use Rattle.std.proofs.lemmas.List.{get_or_default}
 use Rattle.std.proofs.lemmas.Bool.Decides.{eqb_tells}
+use Rattle.std.proofs.lemmas.Bool.{or_right, and_from}
 use Rattle.spv_words.specs.Words.{insts, nth_inst}
 use Rattle.spv_words.specs.declared.words.Inst1.{Inst1}
 use Rattle.spv_words.specs.declared.rule.Rule.TheVariants.{P3}
@@ -75,14 +76,6 @@ result_is ws i h =
     ∙ ap (λ b. cond b (word ws i (1 + count_of (has_type i.opcode))) 0) with_result
     ∙ ap (λ b. word ws i (1 + count_of b)) with_type
 
-or_true : (x y : Bool) → y ≡ true → (x || y) ≡ true
-or_true true y h = refl
-or_true false y h = h
-
-and_true : (x y : Bool) → x ≡ true → y ≡ true → (x && y) ≡ true
-and_true true y e h = h
-and_true false y e h = cc
-
 -- and it is not 0, where its ids are in order
 positive : (ws : List ℕ) (i : Inst1) → kind_of ws i ≡ Function → (HasIdOut ws i → ⊥) → 0 < result_of ws i
 positive ws i h fine =
@@ -91,7 +84,7 @@ positive ws i h fine =
     elim (eqb_tells (inst_of ws i).result 0) [
       | inl w ↦
           let out : is_out (slice_index ws 3) (inst_of ws i).result ≡ true = ap (is_out (slice_index ws 3)) w.1 in
-          absurd (fine (λ e. cc, inl (or_true (has_type i.opcode && is_out (slice_index ws 3) (inst_of ws i).ty) (has_result i.opcode && is_out (slice_index ws 3) (inst_of ws i).result) (and_true (has_result i.opcode) (is_out (slice_index ws 3) (inst_of ws i).result) with_result out))))
+          absurd (fine (λ e. cc, inl (or_right (has_type i.opcode && is_out (slice_index ws 3) (inst_of ws i).ty) (has_result i.opcode && is_out (slice_index ws 3) (inst_of ws i).result) (and_from (has_result i.opcode) (is_out (slice_index ws 3) (inst_of ws i).result) with_result out))))
       | inr w ↦ omega (arith, is, w.1)
     ]
 
