@@ -50,18 +50,18 @@ length_told [] (n ∷ ns) e = absurd (omega (arith, e))
 length_told (m ∷ marks) [] e = absurd (omega (arith, e))
 length_told (m ∷ marks) (n ∷ ns) e = ap suc (length_told marks ns (omega (arith, e)))
 
-nth_told : (marks : List Bool) (ns : List Node) (b : ℕ) → length marks ≡ length ns → b < length ns → nth (told marks ns) b ≡ record (nth ns b) { reached = is_marked marks b }
+pub nth_told : (marks : List Bool) (ns : List Node) (b : ℕ) → length marks ≡ length ns → b < length ns → nth (told marks ns) b ≡ record (nth ns b) { reached = is_marked marks b }
 nth_told [] [] b e inside = absurd (omega (arith, inside))
 nth_told [] (n ∷ ns) b e inside = absurd (omega (arith, e))
 nth_told (m ∷ marks) [] b e inside = absurd (omega (arith, e))
 nth_told (m ∷ marks) (n ∷ ns) zero e inside = refl
 nth_told (m ∷ marks) (n ∷ ns) (suc b) e inside = nth_told marks ns b (omega (arith, e)) (omega (arith, inside))
 
-length_reached : (ns : List Node) → length (reached ns) ≡ length ns
+pub length_reached : (ns : List Node) → length (reached ns) ≡ length ns
 unfolding reached
 length_reached ns = length-reach ns (length ns)
 
-length_nodes : (f : Function) → length (nodes f) ≡ length f.blocks
+pub length_nodes : (f : Function) → length (nodes f) ≡ length f.blocks
 unfolding nodes
 length_nodes f = length-map f.blocks (node_by (index_of f))
 
@@ -90,7 +90,7 @@ graph_within f b inside =
     let is = nth_told (reached (nodes f)) (nodes f) b sizes (omega (arith, inside, size)) in
     subst (λ (n : Node). IsNodeWithin (length (told (reached (nodes f)) (nodes f))) n) (sym is) (subst (λ m. IsNodeWithin m (record (nth (nodes f) b) { reached = is_marked (reached (nodes f)) b })) (sym size) (record { leads = old.leads; tells = old.tells }))
 
-past_told : (marks : List Bool) (ns : List Node) (b : ℕ) → length marks ≡ length ns → (nth (told marks ns) b).reached ≡ is_marked marks b
+pub past_told : (marks : List Bool) (ns : List Node) (b : ℕ) → length marks ≡ length ns → (nth (told marks ns) b).reached ≡ is_marked marks b
 past_told [] [] b e = refl
 past_told [] (n ∷ ns) b e = absurd (omega (arith, e))
 past_told (m ∷ marks) [] b e = absurd (omega (arith, e))

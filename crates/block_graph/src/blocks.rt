@@ -29,7 +29,8 @@ fn merge_inst(block: &Block) -> Option<&Inst>
     block.insts.as_slice().iter().find(|inst| is_merge(inst))
 }
 
-fn terminator(block: &Block) -> Option<&Inst>
+/// The terminator of a block (SPIR-V 1.6, section 2.2).
+pub fn terminator(block: &Block) -> Option<&Inst>
     ensures { option_copied result ≡ terminator_of block.now }
 {
     block

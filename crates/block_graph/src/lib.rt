@@ -6,6 +6,7 @@ mod graph;
 mod labels;
 mod reach;
 
+pub use blocks::terminator;
 pub use graph::control_flow;
 
 #[cfg(test)]

@@ -27,12 +27,12 @@ use Rattle.nest_place.proofs.Outward.{place_is, reached_inside}
 use Rattle.nest_place.proofs.Around.{header, IsLoopMerge, IsNested, role_facts, case_switch_is, inner_nested, place_nested}
 use Rattle.nest_place.proofs.Falling.{innermost_is}
 
-value_some : (x : ℕ) (o : Option ℕ) → is_value x o ≡ true → o ≡ Some x
+pub value_some : (x : ℕ) (o : Option ℕ) → is_value x o ≡ true → o ≡ Some x
 value_some x None e = cc
 value_some x (Some y) e = ap (λ q. Some q) (equal_nat y x e)
 
 -- a block has one header
-one_header : (g : List Node) → IsSound g → (t h k : ℕ) → has_link (name_links g) t h ≡ true → has_link (name_links g) t k ≡ true → h ≡ k
+pub one_header : (g : List Node) → IsSound g → (t h k : ℕ) → has_link (name_links g) t h ≡ true → has_link (name_links g) t k ≡ true → h ≡ k
 one_header g sound t h k one two =
     elim (eqb_tells h k) [
       | inl w ↦ w.1
@@ -44,7 +44,7 @@ one_header g sound t h k one two =
     ]
 
 -- a header is not its own merge block
-not_own : (g : List Node) → IsSound g → (h : ℕ) → (nth g h).reached ≡ true → merge_block g h ≡ Some h → ⊥
+pub not_own : (g : List Node) → IsSound g → (h : ℕ) → (nth g h).reached ≡ true → merge_block g h ≡ Some h → ⊥
 not_own g sound h here own =
     sound.fine.1.1.0 (nth g h).merge_at (h, reached_inside g h here, here, (or_left _ _ (ap (is_value h) own ∙ same_nat h), refl))
 
@@ -54,7 +54,7 @@ twice_by (Selection m) t a b = cc
 twice_by (LoopMerge m c) t a b = let one : m ≡ t = cc in let two : c ≡ t = cc in ap (λ q. q == c) (one ∙ sym two) ∙ same_nat c
 
 -- the merge block of a loop is not its continue target
-not_twice : (g : List Node) → IsSound g → (h t : ℕ) → (nth g h).reached ≡ true → merge_block g h ≡ Some t → continue_target g h ≡ Some t → ⊥
+pub not_twice : (g : List Node) → IsSound g → (h t : ℕ) → (nth g h).reached ≡ true → merge_block g h ≡ Some t → continue_target g h ≡ Some t → ⊥
 not_twice g sound h t here merge target =
     sound.fine.1.1.0 (nth g h).merge_at (h, reached_inside g h here, here, (or_right (is_value h (merge_named (nth g h).merge)) _ (or_left (names_twice (nth g h).merge) _ (twice_by (nth g h).merge t merge target)), refl))
 
@@ -67,29 +67,29 @@ both_false true b e never = false_from_ne_true b never
 both_false false b e never = cc
 
 -- a switch has a selection
-switch_selects : (g : List Node) → IsSound g → (s : ℕ) → (nth g s).reached ≡ true → is_switch (nth g s).exit ≡ true → is_selection (nth g s).merge ≡ true
+pub switch_selects : (g : List Node) → IsSound g → (s : ℕ) → (nth g s).reached ≡ true → is_switch (nth g s).exit ≡ true → is_selection (nth g s).merge ≡ true
 switch_selects g sound s here switch =
     selection_by (is_selection (nth g s).merge) (both_false (is_switch (nth g s).exit) (not (is_selection (nth g s).merge)) switch (λ bad.
     sound.fine.0 (nth g s).exit_at (s, reached_inside g s here, here, inr (bad, refl))))
 
-selection_names : (m : Merge) (t : ℕ) → merge_named m ≡ Some t → list_any (λ x. x == t) (named m) ≡ true
+pub selection_names : (m : Merge) (t : ℕ) → merge_named m ≡ Some t → list_any (λ x. x == t) (named m) ≡ true
 selection_names Absent t e = cc
 selection_names (Selection m) t e = let same : m ≡ t = cc in or_left _ _ (ap (λ q. q == t) same ∙ same_nat t)
 selection_names (LoopMerge m c) t e = let same : m ≡ t = cc in or_left _ _ (ap (λ q. q == t) same ∙ same_nat t)
 
-target_names : (m : Merge) (t : ℕ) → continue_named m ≡ Some t → list_any (λ x. x == t) (named m) ≡ true
+pub target_names : (m : Merge) (t : ℕ) → continue_named m ≡ Some t → list_any (λ x. x == t) (named m) ≡ true
 target_names Absent t e = cc
 target_names (Selection m) t e = cc
 target_names (LoopMerge m c) t e = let same : c ≡ t = cc in or_right (m == t) _ (or_left _ _ (ap (λ q. q == t) same ∙ same_nat t))
 
-merge_link : (g : List Node) (t h : ℕ) → (nth g h).reached ≡ true → merge_block g h ≡ Some t → has_link (name_links g) t h ≡ true
+pub merge_link : (g : List Node) (t h : ℕ) → (nth g h).reached ≡ true → merge_block g h ≡ Some t → has_link (name_links g) t h ≡ true
 merge_link g t h here e = name_to g t h (reached_inside g h here) here (selection_names (nth g h).merge t e)
 
-target_link : (g : List Node) (t h : ℕ) → (nth g h).reached ≡ true → continue_target g h ≡ Some t → has_link (name_links g) t h ≡ true
+pub target_link : (g : List Node) (t h : ℕ) → (nth g h).reached ≡ true → continue_target g h ≡ Some t → has_link (name_links g) t h ≡ true
 target_link g t h here e = name_to g t h (reached_inside g h here) here (target_names (nth g h).merge t e)
 
 -- another block that a header names has that header
-header_is : (g : List Node) → IsSound g → (t h : ℕ) → has_link (name_links g) t h ≡ true → h ≢ t → header_of g t ≡ Some h
+pub header_is : (g : List Node) → IsSound g → (t h : ℕ) → has_link (name_links g) t h ≡ true → h ≢ t → header_of g t ≡ Some h
 header_is g sound t h link apart = by_first (first_of (name_links g) t) refl
   where
     by_apart : (k : ℕ) → k ≢ t → other_than t (Some k) ≡ Some k
@@ -166,7 +166,7 @@ module _ (g : List Node) (sound : IsSound g) (b : ℕ) (here : (nth g b).reached
       by_exit false is e = cc
 
   module _ (t : ℕ) where
-    break_view : is_break g b t ≡ true → (p : Part) × (find is_loop (inner g b) ≡ Some p) × (merge_block g (header p) ≡ Some t)
+    pub break_view : is_break g b t ≡ true → (p : Part) × (find is_loop (inner g b) ≡ Some p) × (merge_block g (header p) ≡ Some t)
     break_view e = by_part (find is_loop (inner g b)) refl e
       where
         by_part : (o : Option Part) → find is_loop (inner g b) ≡ o → merges_to g t (option_and_then loop_header o) ≡ true → (p : Part) × (find is_loop (inner g b) ≡ Some p) × (merge_block g (header p) ≡ Some t)
@@ -240,7 +240,7 @@ module _ (g : List Node) (sound : IsSound g) (b : ℕ) (here : (nth g b).reached
     enter_by (CaseOf s) e = inl (ap (λ q. CaseOf q) (equal_nat s b e))
     enter_by (Inside p) e = inr (ap (λ q. Inside q) (equal_nat p b e))
 
-    enter_view : is_enter g b t ≡ true → (role g t ≡ CaseOf b) ⊎ (role g t ≡ Inside b)
+    pub enter_view : is_enter g b t ≡ true → (role g t ≡ CaseOf b) ⊎ (role g t ≡ Inside b)
     enter_view e = enter_by (role g t) e
 
     merge_facts : (h : ℕ) → innermost g b ≡ Some (If h) → ((nth g h).reached ≡ true) × (is_selection (nth g h).merge ≡ true) × (is_conditional (nth g h).exit ≡ true) × ((p : Part) → find is_loop (inner g b) ≡ Some p → find is_loop (place g h) ≡ Some p)
@@ -373,7 +373,7 @@ module _ (g : List Node) (sound : IsSound g) (b : ℕ) (here : (nth g b).reached
         let less : header p < t = l.0 in
         absurd (omega (arith, less, own))
 
-    role_merge : (s : ℕ) → header_of g t ≡ Some s → merge_block g s ≡ Some t → role g t ≡ MergeOf s
+    pub role_merge : (s : ℕ) → header_of g t ≡ Some s → merge_block g s ≡ Some t → role g t ≡ MergeOf s
     unfolding role
     role_merge s named merges =
         let test : is_value t (merge_block g s) ≡ true = ap (is_value t) merges ∙ same_nat t in

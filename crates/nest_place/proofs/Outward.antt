@@ -42,7 +42,7 @@ outward_same step none g local grounded (suc n) (suc m) b here bn bm =
     let less : p < b = up.0 in
     outward_same step none g local grounded n m p up.1 (omega (arith, less, bn)) (omega (arith, less, bm)))
 
-outward_is : {A : Type 0} (step : ℕ → Role → (ℕ → A) → A) (none : A) (g : List Node) → IsLocal step → IsGrounded g → (b : ℕ) → (nth g b).reached ≡ true → outward step none g (suc b) b ≡ step b (role g b) (λ p. outward step none g (suc p) p)
+pub outward_is : {A : Type 0} (step : ℕ → Role → (ℕ → A) → A) (none : A) (g : List Node) → IsLocal step → IsGrounded g → (b : ℕ) → (nth g b).reached ≡ true → outward step none g (suc b) b ≡ step b (role g b) (λ p. outward step none g (suc p) p)
 unfolding outward
 outward_is step none g local grounded b here =
     local b (role g b) (outward step none g b) (λ p. outward step none g (suc p) p) (λ p is.
@@ -58,7 +58,7 @@ place_is g b grounded here = outward_is (place_step g) [] g (place_local g) grou
 pub nesting_is : (g : List Node) (b : ℕ) → IsGrounded g → (nth g b).reached ≡ true → nesting g b ≡ nesting_step g b (role g b) (nesting g)
 nesting_is g b grounded here = outward_is (nesting_step g) 0 g (nesting_local g) grounded b here
 
-named_parent : (g : List Node) (t h : ℕ) → parent_of (named_role g t h) ≡ Some h
+pub named_parent : (g : List Node) (t h : ℕ) → parent_of (named_role g t h) ≡ Some h
 named_parent g t h = by_test (is_value t (merge_block g h))
   where
     by_test : (b : Bool) → parent_of (if b then MergeOf h else Continue h) ≡ Some h

@@ -123,12 +123,13 @@ fn last_table(alloc: Global, nest: &Nest, links: &[Link]) -> Result<Vec<Option<u
     }
 }
 
-/// Rules K9 to K11: a case target falls into one other at most, one case at most falls into it, and
-/// falls form no cycle.
-pub fn check_falls(alloc: Global, nest: &Nest) -> Result<(), Fault>
+/// For each case target the one into which it falls. It refuses by rules K9 to K11: a case target falls
+/// into two others, is fallen into from two cases, or falls form a cycle.
+pub fn check_falls(alloc: Global, nest: &Nest) -> Result<Vec<Option<usize>>, Fault>
     requires within { AreWithin nest.now }
     requires grounded { IsGrounded nest.now }
     requires earlier { IsFineBefore nest.now K9 }
+    ensures table { IfOk result (λ table. IsTable (fall_links_of nest.now) table.items) }
     ensures passes { OnOk result (NoRuleBroken (BrokenIn nest.now) structure_rules) }
     ensures refused { IfErr result (IsRightIn nest.now) }
 {
@@ -136,5 +137,6 @@ pub fn check_falls(alloc: Global, nest: &Nest) -> Result<(), Fault>
     let next = next_table(alloc, nest, &links)?;
     let last = last_table(alloc, nest, &links)?;
     let heights = heights(alloc, &next, &last)?;
-    check_cycles(nest, &next, &heights)
+    check_cycles(nest, &next, &heights)?;
+    Ok(next)
 }

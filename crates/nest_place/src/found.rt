@@ -2,8 +2,10 @@
 ghost use Rattle.std.specs.Prelude.{◌≡◌, ◌<◌, length, true};
 ghost use Rattle.structure_rules.specs.declared.graph.EdgeKind.{EdgeKind as EdgeKindOf};
 ghost use Rattle.structure_rules.specs.Graph.{nth, leads_to as leads_to_block};
-ghost use Rattle.structure_rules.specs.Nesting.{place};
+ghost use Rattle.structure_rules.specs.Nesting.{first_of, place};
 ghost use Rattle.structure_rules.specs.EdgeKinds.{has_kind};
+ghost use Rattle.structure_rules.specs.Structure.{fall_links};
+ghost use Rattle.nest_place.specs.Links.{IsTable};
 ghost use Rattle.nest_place.specs.Nests.{IsSound as IsSoundGraph};
 
 use crate::nest::Nest;
@@ -16,6 +18,7 @@ use structure_rules::{EdgeKind, Node, Part};
 #[derive(Drop)]
 pub struct Places {
     nest: Nest,
+    falls: Vec<Option<usize>>,
 }
 
 impl Model for Places {
@@ -24,11 +27,13 @@ impl Model for Places {
 
     ghost Value = { List Node };
 
+    ghost use Rattle.structure_rules.specs.Structure.{fall_links};
+    ghost use Rattle.nest_place.specs.Links.{IsTable};
     ghost use Rattle.nest_place.specs.Nests.{IsSound};
 
     ghost view = { λ p. p.nest };
 
-    ghost invariant = { λ p. IsSound p.nest };
+    ghost invariant = { λ p. IsSound p.nest × IsTable (fall_links p.nest) p.falls.items };
 }
 
 /// Whether an edge leads from this block to the other.
@@ -39,12 +44,29 @@ fn leads_to(node: &Node, to: usize) -> bool
 }
 
 impl Places {
-    /// The places of a graph that is sound.
-    pub fn sound(nest: Nest) -> Places
-        requires { IsSoundGraph nest }
+    /// The places of a graph that is sound, with the case target into which each falls.
+    pub fn sound(nest: Nest, falls: Vec<Option<usize>>) -> Places
+        requires sound { IsSoundGraph nest }
+        requires falls { IsTable (fall_links nest) falls.items }
         ensures { result ≡ nest }
     {
-        Places { nest }
+        Places { nest, falls }
+    }
+
+    /// The control-flow graph of the function: a node for each of its blocks.
+    pub fn nodes(&self) -> &[Node]
+        ensures nodes { result.now ≡ self.now }
+        ensures sound { IsSoundGraph self.now }
+    {
+        self.nest.nodes()
+    }
+
+    /// The case target into which the construct of this one falls through, where there is one (GLSL
+    /// 4.60, section 6.2). It is one at most.
+    pub fn falls_into(&self, target: usize) -> Option<usize>
+        ensures { result ≡ first_of (fall_links self.now) target }
+    {
+        self.falls.get(target).copied().flatten()
     }
 
     /// Whether edges lead to the block from the first one.

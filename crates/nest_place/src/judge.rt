@@ -3,9 +3,10 @@ ghost use Rattle.std.specs.Prelude.{◌≡◌, length, IfOk, OnOk, IfErr};
 ghost use Rattle.spv_words.specs.declared.rule.Rule.TheVariants.{K6};
 ghost use Rattle.spv_words.specs.Breaks.{NoRuleBroken};
 ghost use Rattle.structure_rules.specs.Graph.{graph};
-ghost use Rattle.structure_rules.specs.Structure.{BrokenIn, BrokenStructure, IsRightIn, IsRightStructure, IsTooDeep, structure_rules};
+ghost use Rattle.structure_rules.specs.Structure.{BrokenIn, BrokenStructure, IsRightIn, IsRightStructure, IsTooDeep, fall_links, structure_rules};
 ghost use Rattle.block_graph.specs.Within.{AreWithin, AreReached};
 ghost use Rattle.nest_place.specs.Checks.{IsFineBefore};
+ghost use Rattle.nest_place.specs.Links.{IsTable};
 ghost use Rattle.nest_place.specs.Spots.{IsGrounded, IsShallow};
 ghost use Rattle.nest_place.specs.Steps.{AreRoles};
 
@@ -53,11 +54,12 @@ fn nest_of(alloc: Global, nodes: Vec<Node>) -> Result<Nest, Fault>
     Nest::of(alloc, nodes, roles)
 }
 
-/// Rules K6 to K11.
-fn check_edges(alloc: Global, nest: &Nest) -> Result<(), Fault>
+/// For each case target the one into which it falls, where rules K6 to K11 are unbroken.
+fn check_edges(alloc: Global, nest: &Nest) -> Result<Vec<Option<usize>>, Fault>
     requires within { AreWithin nest.now }
     requires grounded { IsGrounded nest.now }
     requires earlier { IsFineBefore nest.now K6 }
+    ensures table { IfOk result (λ table. IsTable (fall_links nest.now) table.items) }
     ensures passes { OnOk result (NoRuleBroken (BrokenIn nest.now) structure_rules) }
     ensures refused { IfErr result (IsRightIn nest.now) }
 {
@@ -83,6 +85,6 @@ pub fn places(alloc: Global, f: &Function) -> Result<Places, Fault>
 {
     let nodes = control_flow(alloc, f)?;
     let nest = nest_of(alloc, nodes)?;
-    check_edges(alloc, &nest)?;
-    Ok(Places::sound(nest))
+    let falls = check_edges(alloc, &nest)?;
+    Ok(Places::sound(nest, falls))
 }
