@@ -6,6 +6,7 @@ use Rattle.std.specs.Option.{option_or}
 use Rattle.std.proofs.lemmas.List.Folds.{find-append}
 use Rattle.std.proofs.lemmas.List.Elements.{Contains-append_left, Contains-append_right}
 use Rattle.std.proofs.lemmas.List.Concat.{flat_map-cons}
+use Rattle.std.proofs.lemmas.Bool.{or_parts}
 use Rattle.spv_words.specs.declared.rule.Rule.{Rule}
 use Rattle.spv_words.specs.Breaks.{NoRuleBroken}
 use Rattle.spv_module.specs.declared.inst.Inst.{Inst}
@@ -68,27 +69,23 @@ pub place_in_part : {X : Type 0} (p : Inst → Bool) (f : X → List Inst) (xs :
 place_in_part p f xs k x v inside is here =
     rw (places_parts p f xs) (in_part (λ y. places p (f y)) xs k x v inside is here)
 
-or_false : (b c : Bool) → (b || c) ≡ false → (b ≡ false) × (c ≡ false)
-or_false true c e = cc
-or_false false c e = (refl, e)
-
 any_weaker : {X : Type 0} (p q : X → Bool) → ((x : X) → q x ≡ false → p x ≡ false) → (xs : List X) → list_any q xs ≡ false → list_any p xs ≡ false
 any_weaker p q weaker [] none = refl
 any_weaker p q weaker (x ∷ xs) none =
-    let parts = or_false (q x) (list_any q xs) none in
+    let parts = or_parts (q x) (list_any q xs) none in
     ap (λ b. b || list_any p xs) (weaker x parts.0) ∙ any_weaker p q weaker xs parts.1
 
 -- where none passes, there is no place
 no_place : (p : Inst → Bool) (insts : List Inst) → list_any p insts ≡ false → places p insts ≡ []
 no_place p [] none = refl
 no_place p (x ∷ insts) none =
-    let parts = or_false (p x) (list_any p insts) none in
+    let parts = or_parts (p x) (list_any p insts) none in
     ap (λ b. map (λ (j : Inst). j.at) (cond b (x ∷ filter p insts) (filter p insts))) parts.0 ∙ no_place p insts parts.1
 
 no_places : {X : Type 0} (t : X → Inst → Bool) (f : X → List Inst) (xs : List X) → list_any (λ x. list_any (t x) (f x)) xs ≡ false → flat_map (λ x. places (t x) (f x)) xs ≡ []
 no_places t f [] none = refl
 no_places t f (x ∷ xs) none =
-    let parts = or_false (list_any (t x) (f x)) (list_any (λ y. list_any (t y) (f y)) xs) none in
+    let parts = or_parts (list_any (t x) (f x)) (list_any (λ y. list_any (t y) (f y)) xs) none in
     flat_map-cons (λ y. places (t y) (f y)) x xs
     ∙ ap (λ vs. vs ++ flat_map (λ y. places (t y) (f y)) xs) (no_place (t x) (f x) parts.0)
     ∙ no_places t f xs parts.1

@@ -3,15 +3,9 @@ use Rattle.std.proofs.Common.{◌≡◌, ◌==◌, ◌&&◌, ◌||◌, ◌<◌, 
 use Rattle.std.specs.List.{list_any}
 use Rattle.std.proofs.lemmas.List.{take_more, take-append-drop, append-nil}
 use Rattle.std.proofs.lemmas.Bool.Decides.{nat_tests, eqb_tells}
+use Rattle.std.proofs.lemmas.Bool.{or_left}
+use Rattle.std.proofs.lemmas.List.Folds.{list_any-append}
 use Rattle.profile_rules.specs.MemoryRules.{repeats}
-
-any_append : (p : ℕ → Bool) (xs ys : List ℕ) → list_any p (xs ++ ys) ≡ (list_any p xs || list_any p ys)
-any_append p [] ys = refl
-any_append p (x ∷ xs) ys = ap (λ b. p x || b) (any_append p xs ys) ∙ or_assoc (p x) (list_any p xs) (list_any p ys)
-  where
-    or_assoc : (a b c : Bool) → (a || (b || c)) ≡ ((a || b) || c)
-    or_assoc true b c = refl
-    or_assoc false b c = refl
 
 same_one : (p a r : Bool) → ((p && (a || true)) || (r || (p && a))) ≡ (((p && a) || r) || (p && (true || a)))
 same_one true true r = refl
@@ -28,7 +22,7 @@ other_one false a r q b = refl
 push : (test : ℕ → Bool) (xs : List ℕ) (y : ℕ) → repeats test (xs ++ y ∷ []) ≡ (repeats test xs || (test y && list_any (λ other. other == y) xs))
 push test [] y = elim (test y) as (λ b. ((b && false) || false) ≡ (b && false)) [ true ↦ refl | false ↦ refl ]
 push test (x ∷ xs) y =
-    let front : list_any (λ other. other == x) (xs ++ y ∷ []) ≡ (list_any (λ other. other == x) xs || ((y == x) || false)) = any_append (λ other. other == x) xs (y ∷ []) in
+    let front : list_any (λ other. other == x) (xs ++ y ∷ []) ≡ (list_any (λ other. other == x) xs || ((y == x) || false)) = list_any-append (λ other. other == x) xs (y ∷ []) in
     let later = push test xs y in
     let all : repeats test ((x ∷ xs) ++ y ∷ []) ≡ ((test x && (list_any (λ other. other == x) xs || ((y == x) || false))) || (repeats test xs || (test y && list_any (λ other. other == y) xs))) =
     ap (λ b. (test x && b) || repeats test (xs ++ y ∷ [])) front
@@ -53,15 +47,11 @@ push test (x ∷ xs) y =
 pub repeats_more : (test : ℕ → Bool) (xs : List ℕ) (i : ℕ) → i < length xs → repeats test (take (i + 1) xs) ≡ (repeats test (take i xs) || (test (get_or xs i 0) && list_any (λ other. other == get_or xs i 0) (take i xs)))
 repeats_more test xs i inside = ap (repeats test) (take_more xs i 0 inside) ∙ push test (take i xs) (get_or xs i 0)
 
-or_true : (b c : Bool) → b ≡ true → (b || c) ≡ true
-or_true true c e = refl
-or_true false c e = cc
-
 front : (test : ℕ → Bool) (xs ys : List ℕ) → repeats test xs ≡ true → repeats test (xs ++ ys) ≡ true
 front test xs [] e = ap (repeats test) (append-nil xs) ∙ e
 front test xs (y ∷ ys) e =
     ap (repeats test) (sym (append_assoc xs (y ∷ []) ys))
-    ∙ front test (xs ++ y ∷ []) ys (push test xs y ∙ or_true (repeats test xs) (test y && list_any (λ other. other == y) xs) e)
+    ∙ front test (xs ++ y ∷ []) ys (push test xs y ∙ or_left (repeats test xs) (test y && list_any (λ other. other == y) xs) e)
 
 -- what stands twice in a front does in all
 pub repeats_front : (test : ℕ → Bool) (xs : List ℕ) (n : ℕ) → repeats test (take n xs) ≡ true → repeats test xs ≡ true
