@@ -1,11 +1,11 @@
 -- Tests of a struct's members, one by one.
-use Rattle.std.proofs.Common.{◌≡◌, ◌≤◌, ◌<◌, ◌==◌, ◌||◌, ℕ, zero, suc, ◌+◌, Bool, true, false, List, Option, [], ◌∷◌, refl, ap, ◌∙◌, arith, drop, take, length, get_or, min, is_none, nat_lt}
+use Rattle.std.proofs.Common.{◌≡◌, ◌<◌, ◌==◌, ◌||◌, ℕ, zero, suc, ◌+◌, Bool, true, false, List, [], ◌∷◌, refl, ap, ◌∙◌, arith, drop, take, length, get_or, min, is_none, nat_lt}
 use Rattle.std.proofs.lemmas.Bool.Decides.{nat_tests}
 use Rattle.spv_module.specs.declared.inst.Inst.{Inst}
 use Rattle.spv_module.specs.declared.tree.Shape.{Shape}
 use Rattle.spv_types.specs.Tree.{Tree}
 use Rattle.spv_types.specs.View.{tree_of, trees_of}
-use Rattle.spv_types.proofs.Heads.{rest_next, rest_end}
+use Rattle.spv_types.proofs.Heads.{rest_next}
 use Rattle.layout_rules.specs.declared.Kind.{Kind}
 use Rattle.layout_rules.specs.Sizes.{aligned, alignment_of, size_of, end_from}
 use Rattle.layout_rules.specs.Parts.{part_id, any_part, any_member}

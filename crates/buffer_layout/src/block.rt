@@ -17,12 +17,14 @@ use spv_types::shape;
 use spv_words::{Fault, Refusal, Rule};
 use std::alloc::Global;
 
-/// The storage classes of blocks (SPIR-V 1.6, section 3.7).
-const UNIFORM: u32 = 2;
+/// The storage class Uniform (SPIR-V 1.6, section 3.7).
+pub const UNIFORM: u32 = 2;
 
-const PUSH_CONSTANT: u32 = 9;
+/// The storage class PushConstant (SPIR-V 1.6, section 3.7).
+pub const PUSH_CONSTANT: u32 = 9;
 
-const STORAGE_BUFFER: u32 = 12;
+/// The storage class StorageBuffer (SPIR-V 1.6, section 3.7).
+pub const STORAGE_BUFFER: u32 = 12;
 
 fn is_block_class(class: u32) -> bool
     ensures { result ≡ is_block_class_number class }

@@ -12,7 +12,7 @@ mod sizes;
 mod tests;
 mod types;
 
-pub use block::{block_of, check_block, is_block_variable};
+pub use block::{PUSH_CONSTANT, STORAGE_BUFFER, UNIFORM, block_of, check_block, is_block_variable};
 pub use layout_rules::Kind;
 pub use plan::{BlockPlan, Layout};
 pub use types::layout;
