@@ -1,0 +1,4 @@
+pub mod Pushes
+pub mod Folded
+pub mod Laws
+mod Examples

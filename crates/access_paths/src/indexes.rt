@@ -1,0 +1,165 @@
+// The indexes of a chain, and the steps that they make.
+ghost use Rattle.std.specs.Prelude.{◌≡◌, ◌++◌, IfOk, OnOk, drop, map, option_and_then};
+ghost use Rattle.profile_rules.specs.TypeRows.{constant_word as constant_word_of};
+ghost use Rattle.profile_rules.specs.MemoryRules.{is_struct as is_struct_in, step_type as step_type_in};
+ghost use Rattle.access_paths.specs.Ways.{is_constant_index as is_constant_index_of, captured_indexes as captured_indexes_of, member as member_of, step as step_of};
+ghost use Rattle.access_paths.specs.Links.{spot, link_steps};
+
+use crate::Step;
+use crate::links::Link;
+use spv_module::{Id, Inst, Module};
+use spv_words::Memory;
+use std::alloc::Global;
+
+/// Whether an index is a constant of the module, and so the same wherever it is read (SPIR-V 1.6,
+/// section 2.2.1): a constant, a specialization constant, or an OpUndef outside functions.
+pub fn is_constant_index(module: &Module, index: Id) -> bool
+    ensures { result ≡ is_constant_index_of «module».now.globals index.0 }
+{
+    match module.global(index) {
+        // OpUndef, OpConstantTrue to OpSpecConstantOp
+        Some(inst) => inst.op == 1 || (41 <= inst.op && inst.op <= 52),
+        None => false,
+    }
+}
+
+/// The indexes of a chain: what stands behind its base.
+pub fn indexes(inst: &Inst) -> &[u32]
+    ensures { result.now ≡ drop 1 inst.now.args }
+{
+    inst.args.as_slice().get(1..).unwrap_or(&[])
+}
+
+/// The indexes of a chain that are no constants, each with its number among the indexes, counted
+/// from 0. There is an error only for want of memory, or for more indexes than a `u32` counts.
+pub fn captured_indexes(
+    alloc: Global,
+    module: &Module,
+    chain: &Inst,
+) -> Result<Vec<(u32, Id)>, Memory>
+    ensures { IfOk result (λ list. map (λ n. (n.0, n.1.0)) list.items ≡ captured_indexes_of «module».now.globals chain.now) }
+{
+    let mut list = Vec::new(alloc);
+    for (number, index) in indexes(chain).iter().enumerate() {
+        if !is_constant_index(module, Id(*index)) {
+            list.push((counted(number)?, Id(*index)))?;
+        }
+    }
+    Ok(list)
+}
+
+fn counted(number: usize) -> Result<u32, Memory>
+    ensures { IfOk result (λ n. n ≡ number) }
+{
+    match u32::try_from(number) {
+        Ok(number) => Ok(number),
+        Err(_) => Err(Memory),
+    }
+}
+
+/// The word of the OpConstant with this id.
+fn constant_word(module: &Module, id: u32) -> Option<u32>
+    ensures { result ≡ constant_word_of «module».now.globals id }
+{
+    let inst = module.global(Id(id))?;
+    // OpConstant
+    if inst.op == 43 {
+        Some(inst.operand(0))
+    } else {
+        None
+    }
+}
+
+fn is_struct(module: &Module, ty: u32) -> bool
+    ensures { result ≡ is_struct_in «module».now.globals ty }
+{
+    // OpTypeStruct
+    module.global(Id(ty)).map_or(false, |inst| inst.op == 30)
+}
+
+/// The type to which an index into a type leads.
+fn step_type(module: &Module, index: u32, ty: u32) -> Option<u32>
+    ensures { result ≡ step_type_in «module».now.globals index ty }
+{
+    let inst = module.global(Id(ty))?;
+    match inst.op {
+        // OpTypeStruct
+        30 => {
+            let member = constant_word(module, index)?;
+            inst.args.as_slice().get(member as usize).copied()
+        }
+        // OpTypeVector, OpTypeArray, OpTypeRuntimeArray
+        23 | 28 | 29 => Some(inst.operand(0)),
+        _ => None,
+    }
+}
+
+fn next_type(module: &Module, index: u32, ty: Option<u32>) -> Option<u32>
+    ensures { result ≡ option_and_then (step_type_in «module».now.globals index) ty }
+{
+    match ty {
+        None => None,
+        Some(ty) => step_type(module, index, ty),
+    }
+}
+
+/// The member of a struct type that an index names by an OpConstant.
+fn member(module: &Module, index: u32, ty: u32) -> Option<u32>
+    ensures { result ≡ member_of «module».now.globals index ty }
+{
+    if is_struct(module, ty) {
+        constant_word(module, index)
+    } else {
+        None
+    }
+}
+
+fn member_in(module: &Module, index: u32, ty: Option<u32>) -> Option<u32>
+    ensures { result ≡ option_and_then (member_of «module».now.globals index) ty }
+{
+    match ty {
+        None => None,
+        Some(ty) => member(module, index, ty),
+    }
+}
+
+/// The step that an index of a link makes from a type, where the path is printed in the block at a
+/// place.
+fn step(
+    module: &Module,
+    link: &Link,
+    printed: usize,
+    number: u32,
+    index: u32,
+    ty: Option<u32>,
+) -> Step
+    ensures { result ≡ step_of «module».now.globals (spot printed link.now) number index ty }
+{
+    match member_in(module, index, ty) {
+        Some(member) => Step::Member(member),
+        None => {
+            if is_constant_index(module, Id(index)) || link.stands == printed {
+                Step::Index(Id(index))
+            } else {
+                Step::Captured(Id(link.chain), number)
+            }
+        }
+    }
+}
+
+/// Adds the steps of a link, where the path is printed in the block at a place.
+pub fn add_steps(
+    steps: &mut Vec<Step>,
+    module: &Module,
+    link: &Link,
+    printed: usize,
+) -> Result<(), Memory>
+    ensures { OnOk result (steps.new.items ≡ steps.old.items ++ link_steps «module».now.globals printed link.now) }
+{
+    let mut ty = link.from;
+    for (number, index) in link.indexes.iter().enumerate() {
+        steps.push(step(module, link, printed, counted(number)?, *index, ty))?;
+        ty = next_type(module, *index, ty);
+    }
+    Ok(())
+}

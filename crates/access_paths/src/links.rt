@@ -1,0 +1,146 @@
+// The chains of a function that have indexes, each with the one before it on its way.
+ghost use Rattle.std.specs.Prelude.{◌≡◌, ◌<◌, ◌∷◌, [], true, IfOk, OnOk, length};
+ghost use Rattle.profile_rules.specs.MemoryRules.{is_chain as is_chain_of, pointee_of as pointee_in};
+ghost use Rattle.access_paths.specs.Links.{AreBack, AreLinked, AreWays, HaveMore, IsExtended, IsIn, known_in};
+
+use crate::indexes::indexes;
+use spv_index::{Locals, pointer, type_in};
+use spv_module::{Id, Inst, Module};
+use spv_words::Memory;
+use std::alloc::{AllocError, Global};
+use std::collections::BTreeMap;
+
+/// A chain with indexes.
+#[derive(Clone, Copy)]
+pub struct Link<'a> {
+    /// Its result.
+    pub chain: u32,
+    /// The place of its block.
+    pub stands: usize,
+    pub indexes: &'a [u32],
+    /// The type to which the first index applies.
+    pub from: Option<u32>,
+    /// The place, among the links, of the one before it on its way.
+    pub before: Option<usize>,
+}
+
+/// A pointer: from what it leads, and the last link on its way.
+#[derive(Clone, Copy)]
+pub struct Known {
+    pub base: u32,
+    pub last: Option<usize>,
+}
+
+/// The links of a function, and what is known of the pointers that chains make.
+#[derive(Drop)]
+pub struct Links<'a> {
+    pub links: Vec<Link<'a>>,
+    pub known: BTreeMap<u32, Known>,
+}
+
+fn is_chain(inst: &Inst) -> bool
+    ensures { result ≡ is_chain_of inst.now }
+{
+    // OpAccessChain, OpInBoundsAccessChain
+    inst.op == 65 || inst.op == 66
+}
+
+/// The type of what a value points to, where it is a pointer.
+fn pointee_of(module: &Module, locals: &Locals, id: u32) -> Option<u32>
+    ensures { result ≡ pointee_in «module».now.globals locals.now id }
+{
+    let ty = type_in(module, locals, id)?;
+    pointer(module, Id(ty)).map(|p| p.pointee.0)
+}
+
+/// The pointer to which a link leads from a known one. A link without indexes leads nowhere further,
+/// and is not kept, so that no way is longer than its steps.
+fn extend<'a>(links: &mut Vec<Link<'a>>, link: Link<'a>, base: u32) -> Result<Known, AllocError>
+    requires back { AreBack links.old.items }
+    requires before { IsIn (length links.old.items) link.before }
+    ensures { IfOk result (IsExtended link.entry base links.old.items links.new.items) }
+{
+    if link.indexes.is_empty() {
+        return Ok(Known {
+            base,
+            last: link.before,
+        });
+    }
+    let last = Some(links.len());
+    links.push(link)?;
+    Ok(Known { base, last })
+}
+
+impl<'a> Links<'a> {
+    /// What is known of a pointer: it is where its path begins if no chain makes it.
+    pub fn get(&self, pointer: u32) -> Known
+        ensures { result ≡ known_in self.now pointer }
+    {
+        match self.known.get(&pointer) {
+            Some(known) => *known,
+            None => Known {
+                base: pointer,
+                last: None,
+            },
+        }
+    }
+
+    /// Adds a chain that stands in the block at a place.
+    fn add(
+        &mut self,
+        module: &Module,
+        locals: &Locals,
+        stands: usize,
+        inst: &'a Inst,
+    ) -> Result<(), AllocError>
+        requires linked { AreLinked self.old }
+        requires chain { is_chain_of inst.now ≡ true }
+        ensures { OnOk result (HaveMore «module».now.globals locals.now stands (inst.now ∷ []) self.old self.new) }
+    {
+        let base = inst.operand(0);
+        let known = self.get(base);
+        let link = Link {
+            chain: inst.result,
+            stands,
+            indexes: indexes(inst),
+            from: pointee_of(module, locals, base),
+            before: known.last,
+        };
+        let reached = extend(&mut self.links, link, known.base)?;
+        self.known.insert(inst.result, reached)?;
+        Ok(())
+    }
+
+    /// Adds the chains among the instructions of the block at a place.
+    fn add_block(
+        &mut self,
+        module: &Module,
+        locals: &Locals,
+        stands: usize,
+        insts: &'a [Inst],
+    ) -> Result<(), AllocError>
+        requires { AreLinked self.old }
+        ensures { OnOk result (HaveMore «module».now.globals locals.now stands insts.now self.old self.new) }
+    {
+        for inst in insts {
+            if is_chain(inst) {
+                self.add(module, locals, stands, inst)?;
+            }
+        }
+        Ok(())
+    }
+
+    /// The links of a function.
+    pub fn of(alloc: Global, module: &Module, locals: &Locals<'a>) -> Result<Links<'a>, Memory>
+        ensures { IfOk result (AreWays «module».now.globals locals.now) }
+    {
+        let mut links = Links {
+            links: Vec::new(alloc),
+            known: BTreeMap::new(alloc),
+        };
+        for (stands, block) in locals.function().blocks.as_slice().iter().enumerate() {
+            links.add_block(module, locals, stands, block.insts.as_slice())?;
+        }
+        Ok(links)
+    }
+}
