@@ -3,7 +3,13 @@
 
 mod builder;
 mod encode;
+mod generated;
+mod ids;
+mod opcodes;
+mod pieces;
+mod rows;
 #[cfg(test)]
 mod tests;
 
 pub use builder::Builder;
+pub use generated::generate;

@@ -1,4 +1,5 @@
-use crate::Builder;
+use crate::{Builder, generate};
+use std::alloc::{AllocError, Global};
 use std::test::Fail;
 
 // A shader that adds 1 to each number of a storage buffer.
@@ -52,6 +53,16 @@ const WORDS: [u32; 133] = [
     0x10038,
 ];
 
+fn little(alloc: Global, parts: &[&[u32]]) -> Result<Vec<u8>, AllocError> {
+    let mut bytes = Vec::new(alloc);
+    for words in parts {
+        for word in *words {
+            bytes.extend_from_slice(&word.to_le_bytes())?;
+        }
+    }
+    Ok(bytes)
+}
+
 #[test]
 fn builds_a_module(rt: HostRuntime) -> Result<(), Fail> {
     let alloc = rt.alloc();
@@ -61,11 +72,53 @@ fn builds_a_module(rt: HostRuntime) -> Result<(), Fail> {
         assert!(rt; builder.put(opcode, words).is_ok());
     }
     let bytes = builder.finish(0x16).ok().ok_or("no memory")?;
-    let mut wanted = Vec::new(alloc);
-    for word in WORDS {
-        wanted.extend_from_slice(&word.to_le_bytes())?;
-    }
     assert_eq!(rt; bytes.len(), 532);
-    assert_eq!(rt; bytes, wanted);
+    assert_eq!(rt; bytes, little(alloc, &[&WORDS])?);
+    Ok(())
+}
+
+const FIRST_PIECE: [u32; 18] = [
+    0x60041, 0xd, 0x20, 0x5, 0xe, 0x12, 0x4003d, 0x8, 0x21, 0x20, 0x50080, 0x8, 0x22, 0x21, 0xf,
+    0x3003e, 0x20, 0x22,
+];
+
+const SECOND_PIECE: [u32; 49] = [
+    0x60041, 0xd, 0x30, 0x5, 0xe, 0x12, 0x4003d, 0x8, 0x31, 0x30, 0x500b0, 0x13, 0x32, 0x31, 0x14,
+    0x300f7, 0x34, 0x0, 0x400fa, 0x32, 0x33, 0x34, 0x200f8, 0x33, 0x50080, 0x8, 0x35, 0x31, 0xf,
+    0x200f9, 0x34, 0x200f8, 0x34, 0x700f5, 0x8, 0x36, 0x31, 0x10, 0x35, 0x33, 0x60041, 0xd, 0x37,
+    0x5, 0xe, 0x12, 0x3003e, 0x37, 0x36,
+];
+
+const THIRD_PIECE: [u32; 61] = [
+    0x200f9, 0x40, 0x200f8, 0x40, 0x700f5, 0x8, 0x41, 0xe, 0x34, 0x47, 0x44, 0x400f6, 0x45, 0x44,
+    0x0, 0x200f9, 0x42, 0x200f8, 0x42, 0x500b0, 0x13, 0x46, 0x41, 0x14, 0x400fa, 0x46, 0x43, 0x45,
+    0x200f8, 0x43, 0x60041, 0xd, 0x48, 0x5, 0xe, 0x12, 0x4003d, 0x8, 0x49, 0x48, 0x50080, 0x8,
+    0x4a, 0x49, 0x41, 0x3003e, 0x48, 0x4a, 0x200f9, 0x44, 0x200f8, 0x44, 0x50080, 0x8, 0x47, 0x41,
+    0xf, 0x200f9, 0x40, 0x200f8, 0x45,
+];
+
+#[test]
+fn generates_modules(rt: HostRuntime) -> Result<(), Fail> {
+    let alloc = rt.alloc();
+    let cases: [(u32, u32, &[&[u32]]); 2] = [
+        (1, 0x30, &[&FIRST_PIECE]),
+        (3, 0x50, &[&FIRST_PIECE, &SECOND_PIECE, &THIRD_PIECE]),
+    ];
+    for (n, bound, pieces) in cases {
+        // The frame is that of the module above, with a truth type and the number 8 more.
+        let mut wanted = little(
+            alloc,
+            &[
+                &[0x7230203, 0x10300, 0, bound, 0],
+                &WORDS[5..97],
+                &[0x20014, 0x13, 0x4002b, 8, 0x14, 8],
+                &WORDS[97..113],
+            ],
+        )?;
+        wanted.extend_from_slice(&little(alloc, pieces)?)?;
+        wanted.extend_from_slice(&little(alloc, &[&WORDS[131..]])?)?;
+        let made = generate(alloc, n).ok().ok_or("no memory")?;
+        assert_eq!(rt; made, wanted);
+    }
     Ok(())
 }
