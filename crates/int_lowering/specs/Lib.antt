@@ -1,0 +1,4 @@
+pub mod Operand
+pub mod Term
+pub mod Division
+pub mod Lowered

@@ -1,0 +1,110 @@
+// The expression of an instruction, by its opcode.
+ghost use Rattle.std.specs.Prelude.{◌≡◌, ◌+◌, ◌≤◌, ◌∷◌, [], IfOk, map};
+ghost use Rattle.glsl_ast.specs.View.{expr_of};
+ghost use Rattle.op_semantics.specs.Value.{operation_of as operation_by};
+ghost use Rattle.int_lowering.specs.Operand.{operand_of, plain};
+ghost use Rattle.int_lowering.specs.Lowered as lowered;
+
+use crate::basic::BasicType;
+use crate::built_ins::BuiltIn;
+use crate::operands::{Arg, Operands};
+use crate::operations::{binary_operation, clamp, comparison, extract, insert, logical, unary};
+use crate::terms::{call_one, choose, convert, literal, not};
+use glsl_ast::Expr;
+use op_semantics::{Operation, extended_operation_of, operation_of};
+use spv_module::Elem;
+use spv_words::Memory;
+use std::alloc::Global;
+
+// OpExtInst
+const EXT_INST: u16 = 12;
+
+/// The operation of an opcode and, of OpExtInst, of its number in GLSL.std.450.
+#[tactic(auto, unfolding(op_semantics::specs::Value::operation_of))]
+fn operation(op: u16, ext: u32) -> Option<Operation>
+    ensures { result ≡ operation_by op (ext ∷ []) }
+{
+    if op == EXT_INST {
+        extended_operation_of(ext)
+    } else {
+        operation_of(op)
+    }
+}
+
+/// The expression of an operation, from the type of its result and its operands.
+fn write_operation(
+    alloc: Global,
+    operation: Operation,
+    ty: BasicType,
+    operands: Operands,
+) -> Result<Expr, Memory>
+    ensures { IfOk result (λ e. expr_of e ≡ lowered.written operation ty (plain operands.first) (plain operands.second) (plain operands.third) (plain operands.fourth)) }
+{
+    let Operands {
+        first: a,
+        second: b,
+        third: c,
+        fourth: d,
+    } = operands;
+    match operation {
+        Operation::Unary(op) => unary(alloc, op, ty, a),
+        Operation::Binary(op) => binary_operation(alloc, op, ty, a, b),
+        Operation::Comparison(op) => comparison(alloc, op, a, b),
+        Operation::Logical(op) => logical(alloc, op, a, b),
+        Operation::LogicalNot => not(alloc, a.expr),
+        Operation::Clamp(op) => clamp(alloc, op, ty, a, b, c),
+        Operation::BitFieldInsert => insert(alloc, ty.elem, a, b, c, d),
+        Operation::BitFieldSExtract => extract(alloc, Elem::Int, ty, a, b, c),
+        Operation::BitFieldUExtract => extract(alloc, Elem::Uint, ty, a, b, c),
+        Operation::Any => call_one(alloc, BuiltIn::Any, a.expr),
+        Operation::All => call_one(alloc, BuiltIn::All, a.expr),
+        Operation::Select => choose(alloc, a.expr, b.expr, c.expr),
+        Operation::Copy => convert(alloc, ty, a.ty.elem, a.expr),
+        Operation::Undef
+        | Operation::VectorExtractDynamic
+        | Operation::VectorInsertDynamic
+        | Operation::VectorShuffle
+        | Operation::CompositeConstruct
+        | Operation::CompositeExtract
+        | Operation::CompositeInsert => Ok(literal(ty.elem, 0)),
+    }
+}
+
+/// The expression of an operation whose result is of this type, where GLSL writes it on vectors as on scalars: all operations
+/// with a scalar result, and of those on vectors OpIAdd to OpIMul, OpUDiv, OpUMod, OpSNegate, the shifts, the bitwise
+/// operations, OpNot, OpBitcast, OpCopyObject and OpSelect by one bool (GLSL 4.60, sections 5.9 and 8.8).
+///
+/// `op` is the opcode and `ext`, of OpExtInst, the number in GLSL.std.450. An operand that is not there counts as `0u`, and of
+/// an opcode that is no operation on scalars the expression is a zero. There is an error only for want of memory.
+pub fn lower_basic(
+    alloc: Global,
+    op: u16,
+    ext: u32,
+    ty: BasicType,
+    operands: Vec<Arg>,
+) -> Result<Expr, Memory>
+    ensures { IfOk result (λ e. expr_of e ≡ lowered.lowered_basic op ext ty (map operand_of operands.items)) }
+{
+    match operation(op, ext) {
+        None => Ok(literal(ty.elem, 0)),
+        Some(operation) => write_operation(alloc, operation, ty, Operands::new(operands)),
+    }
+}
+
+/// The expression of an operation with a scalar result of this type: arithmetic, divisions, shifts, bitwise and bit field
+/// operations, comparisons and logical operations, OpSelect, OpBitcast and OpCopyObject on scalars, OpAny and OpAll of a vector,
+/// and the integer operations of GLSL.std.450 (SPIR-V 1.6, section "Instructions").
+///
+/// `op` is the opcode and `ext`, of OpExtInst, the number in GLSL.std.450. An operand that is not there counts as `0u`, and of
+/// an opcode that is none of these operations the expression is a zero. There is an error only for want of memory.
+pub fn lower(
+    alloc: Global,
+    op: u16,
+    ext: u32,
+    elem: Elem,
+    operands: Vec<Arg>,
+) -> Result<Expr, Memory>
+    ensures { IfOk result (λ e. expr_of e ≡ lowered.lowered op ext elem (map operand_of operands.items)) }
+{
+    lower_basic(alloc, op, ext, BasicType { elem, size: None }, operands)
+}

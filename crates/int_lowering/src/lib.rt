@@ -1,0 +1,16 @@
+//! The expression of each operation on scalars: GLSL's operators and functions, on operands that are converted to the type
+//! that the operation reads them as.
+#![tactic(auto)]
+
+mod basic;
+mod built_ins;
+mod division;
+mod instructions;
+mod operands;
+mod operations;
+mod terms;
+
+pub use basic::{BasicType, basic_type, type_name};
+pub use built_ins::BuiltIn;
+pub use instructions::{lower, lower_basic};
+pub use operands::Arg;

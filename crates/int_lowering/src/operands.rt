@@ -1,0 +1,116 @@
+// Operands, and how they are written where they are wanted as components of another type.
+ghost use Rattle.std.specs.Prelude.{◌≡◌, IfOk, map};
+ghost use Rattle.std.specs.Vec.Iter.{into_iter_items};
+ghost use Rattle.glsl_ast.specs.View.{expr_of};
+ghost use Rattle.int_lowering.specs.Operand.{operand_of, plain, as_elem, first, rest, second, third, fourth};
+
+use crate::basic::{BasicType, basic_type};
+use crate::terms::{convert, literal};
+use glsl_ast::{Expr, Literal};
+use spv_module::{Elem, Shape};
+use spv_words::Memory;
+use std::alloc::Global;
+use std::vec::IntoIter;
+
+/// An operand of an operation: its expression, the shape of its value, and its word where it is a scalar integer constant
+/// that prints as a literal.
+#[derive(Drop)]
+pub struct Arg {
+    pub expr: Expr,
+    pub shape: Shape,
+    pub word: Option<u32>,
+}
+
+/// The same of an operand that is a scalar or a vector.
+#[derive(Drop)]
+pub struct Operand {
+    pub expr: Expr,
+    pub ty: BasicType,
+    pub word: Option<u32>,
+}
+
+impl Operand {
+    fn new(arg: Arg) -> Operand
+        ensures { plain result ≡ operand_of arg }
+    {
+        Operand {
+            ty: basic_type(&arg.shape),
+            expr: arg.expr,
+            word: arg.word,
+        }
+    }
+
+    fn copy(&self, alloc: Global) -> Result<Operand, Memory>
+        ensures { IfOk result (λ x. plain x ≡ plain self.now) }
+    {
+        Ok(Operand {
+            expr: self.expr.clone_in(alloc)?,
+            ty: self.ty,
+            word: self.word,
+        })
+    }
+
+    /// The operand as components of a type: the literal of a constant, else itself or a constructor.
+    pub fn into_elem(self, alloc: Global, elem: Elem) -> Result<Expr, Memory>
+        ensures { IfOk result (λ e. expr_of e ≡ as_elem elem (plain self)) }
+    {
+        match self.word {
+            Some(word) => Ok(literal(elem, word)),
+            None => {
+                let size = self.ty.size;
+                convert(alloc, BasicType { elem, size }, self.ty.elem, self.expr)
+            }
+        }
+    }
+
+    /// The same of an operand that is mentioned again.
+    pub fn to_elem(&self, alloc: Global, elem: Elem) -> Result<Expr, Memory>
+        ensures { IfOk result (λ e. expr_of e ≡ as_elem elem (plain self.now)) }
+    {
+        self.copy(alloc)?.into_elem(alloc, elem)
+    }
+}
+
+/// The next operand, or `0u` where none is left.
+fn next_operand(args: &mut IntoIter<Arg>) -> Operand
+    ensures operand { plain result ≡ first (map operand_of (into_iter_items args.old)) }
+    ensures rest { map operand_of (into_iter_items args.new) ≡ rest (map operand_of (into_iter_items args.old)) }
+{
+    match args.next() {
+        Some(arg) => Operand::new(arg),
+        None => Operand {
+            expr: Expr::Literal(Literal::Uint(0)),
+            ty: BasicType {
+                elem: Elem::Uint,
+                size: None,
+            },
+            word: None,
+        },
+    }
+}
+
+/// The operands of an operation, which has at most four.
+#[derive(Drop)]
+pub struct Operands {
+    pub first: Operand,
+    pub second: Operand,
+    pub third: Operand,
+    pub fourth: Operand,
+}
+
+impl Operands {
+    pub fn new(args: Vec<Arg>) -> Operands
+        ensures first { plain result.first ≡ first (map operand_of args.items) }
+        ensures second { plain result.second ≡ second (map operand_of args.items) }
+        ensures third { plain result.third ≡ third (map operand_of args.items) }
+        ensures fourth { plain result.fourth ≡ fourth (map operand_of args.items) }
+    {
+        let mut args = args.into_iter();
+        Operands {
+            first: next_operand(&mut args),
+            second: next_operand(&mut args),
+            third: next_operand(&mut args),
+            fourth: next_operand(&mut args),
+        }
+    }
+}

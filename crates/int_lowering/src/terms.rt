@@ -1,0 +1,80 @@
+// Expressions, over expressions that are at hand.
+ghost use Rattle.std.specs.Prelude.{◌≡◌, ◌∷◌, [], IfOk};
+ghost use Rattle.glsl_ast.specs.View.{expr_of};
+ghost use Rattle.glsl_ast.specs.Tree as tree;
+ghost use Rattle.int_lowering.specs.Operand.{literal_of, converted};
+ghost use Rattle.int_lowering.specs.Term.{call_built_in as built_in_called};
+
+use crate::basic::{BasicType, same_elem, type_name};
+use crate::built_ins::{BuiltIn, call_built_in};
+use glsl_ast::{BinOp, Expr, Literal};
+use spv_module::Elem;
+use spv_words::Memory;
+use std::alloc::Global;
+
+/// The literal of a word. An int with its top bit set is hexadecimal.
+#[tactic(auto, using(glsl_ast::proofs::Views::expr_rows))]
+pub fn literal(elem: Elem, word: u32) -> Expr
+    ensures { expr_of result ≡ tree.literal (literal_of elem word) }
+{
+    Expr::Literal(match elem {
+        Elem::Bool => Literal::Truth(word != 0),
+        Elem::Int if word < 1 << 31 => Literal::Int(word),
+        Elem::Int => Literal::Hex(word),
+        Elem::Uint => Literal::Uint(word),
+    })
+}
+
+#[tactic(auto, using(glsl_ast::proofs::Views::expr_rows))]
+pub fn binary(alloc: Global, op: BinOp, left: Expr, right: Expr) -> Result<Expr, Memory>
+    ensures { IfOk result (λ e. expr_of e ≡ tree.binary op (expr_of left) (expr_of right)) }
+{
+    let left = Box::new(alloc, left)?;
+    Ok(Expr::Binary(op, left, Box::new(alloc, right)?))
+}
+
+#[tactic(auto, using(glsl_ast::proofs::Views::expr_rows))]
+pub fn not(alloc: Global, of: Expr) -> Result<Expr, Memory>
+    ensures { IfOk result (λ e. expr_of e ≡ tree.not (expr_of of)) }
+{
+    Ok(Expr::Not(Box::new(alloc, of)?))
+}
+
+#[tactic(auto, using(glsl_ast::proofs::Views::expr_rows))]
+pub fn flip(alloc: Global, of: Expr) -> Result<Expr, Memory>
+    ensures { IfOk result (λ e. expr_of e ≡ tree.flip (expr_of of)) }
+{
+    Ok(Expr::Flip(Box::new(alloc, of)?))
+}
+
+#[tactic(auto, using(glsl_ast::proofs::Views::expr_rows))]
+pub fn choose(alloc: Global, test: Expr, yes: Expr, no: Expr) -> Result<Expr, Memory>
+    ensures { IfOk result (λ e. expr_of e ≡ tree.choose (expr_of test) (expr_of yes) (expr_of no)) }
+{
+    let test = Box::new(alloc, test)?;
+    let yes = Box::new(alloc, yes)?;
+    Ok(Expr::Choose(test, yes, Box::new(alloc, no)?))
+}
+
+pub fn call_one(alloc: Global, function: BuiltIn, arg: Expr) -> Result<Expr, Memory>
+    ensures { IfOk result (λ e. expr_of e ≡ built_in_called function (expr_of arg ∷ [])) }
+{
+    call_built_in(alloc, function, vec![in alloc; arg]?)
+}
+
+pub fn call_two(alloc: Global, function: BuiltIn, a: Expr, b: Expr) -> Result<Expr, Memory>
+    ensures { IfOk result (λ e. expr_of e ≡ built_in_called function (expr_of a ∷ expr_of b ∷ [])) }
+{
+    call_built_in(alloc, function, vec![in alloc; a, b]?)
+}
+
+/// An expression whose components are of one type, as a value of another type.
+#[tactic(auto, using(glsl_ast::proofs::Views::expr_rows))]
+pub fn convert(alloc: Global, ty: BasicType, from: Elem, of: Expr) -> Result<Expr, Memory>
+    ensures { IfOk result (λ e. expr_of e ≡ converted ty from (expr_of of)) }
+{
+    if same_elem(ty.elem, from) {
+        return Ok(of);
+    }
+    Ok(Expr::Build(type_name(alloc, ty), vec![in alloc; of]?))
+}
