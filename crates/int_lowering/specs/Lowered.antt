@@ -1,5 +1,5 @@
 -- The expression of each operation on scalars, which stands for vectors too where GLSL's operators do (GLSL 4.60, section 5.9).
-use Rattle.std.specs.Prelude.{ℕ, nat_lt, List, [], ◌∷◌, Some, None, if◌then◌else◌}
+use Rattle.std.specs.Prelude.{ℕ, nat_lt, List, [], ◌∷◌, Option, Some, None, if◌then◌else◌}
 use Rattle.spv_module.specs.declared.tree.Elem.{Elem}
 use Rattle.spv_module.specs.declared.tree.Elem.TheVariants as elem
 use Rattle.glsl_ast.specs.Tree.{Expr, literal, not, flip, choose}
@@ -137,10 +137,14 @@ written op.Select ty a b c d = choose a.expr b.expr c.expr
 written op.Copy ty a b c d = converted ty a.ty.elem a.expr
 written _ ty a b c d = zero ty
 
--- the same of an opcode and, of OpExtInst, of the number in GLSL.std.450; where the opcode is none of these operations a zero
+-- the same where there is an operation, and else a zero
+abbrev pub written_if_any : Option Operation → BasicType → List Operand → Expr
+written_if_any (Some o) ty xs = written o ty (first xs) (second xs) (third xs) (fourth xs)
+written_if_any None ty xs = zero ty
+
+-- the same by opcode and, of OpExtInst, by the number in GLSL.std.450
 abbrev pub lowered_basic : ℕ → ℕ → BasicType → List Operand → Expr
-lowered_basic op ext ty xs =
-    elim (operation_of op (ext ∷ [])) [ Some o ↦ written o ty (first xs) (second xs) (third xs) (fourth xs) | None ↦ zero ty ]
+lowered_basic op ext ty xs = written_if_any (operation_of op (ext ∷ [])) ty xs
 
 abbrev pub lowered : ℕ → ℕ → Elem → List Operand → Expr
 lowered op ext e xs = lowered_basic op ext (scalar e) xs

@@ -6,6 +6,7 @@ use Rattle.spv_types.specs.Tree.{Tree, boolean, int, uint, vector}
 use Rattle.spv_types.specs.View.{tree_of}
 use Rattle.glsl_ast.specs.Tree as tree
 use Rattle.glsl_ast.specs.View.{expr_of}
+use Rattle.glsl_ast.specs.Height.{height, highest}
 use Rattle.glsl_ast.specs.declared.expressions.Literal.{Literal}
 use Rattle.glsl_ast.specs.declared.expressions.Literal.TheVariants as literal
 use Rattle.int_lowering.specs.declared.basic.BasicType.{BasicType}
@@ -99,3 +100,7 @@ third xs = second (rest xs)
 
 abbrev pub fourth : List Operand → Operand
 fourth xs = third (rest xs)
+
+-- the height of the highest operand
+abbrev pub highest_operand : List Operand → ℕ
+highest_operand xs = highest (λ x. height x.expr) xs

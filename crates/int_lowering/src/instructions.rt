@@ -1,8 +1,9 @@
 // The expression of an instruction, by its opcode.
 ghost use Rattle.std.specs.Prelude.{◌≡◌, ◌+◌, ◌≤◌, ◌∷◌, [], IfOk, map};
 ghost use Rattle.glsl_ast.specs.View.{expr_of};
+ghost use Rattle.glsl_ast.specs.Height.{height};
 ghost use Rattle.op_semantics.specs.Value.{operation_of as operation_by};
-ghost use Rattle.int_lowering.specs.Operand.{operand_of, plain};
+ghost use Rattle.int_lowering.specs.Operand.{operand_of, plain, highest_operand};
 ghost use Rattle.int_lowering.specs.Lowered as lowered;
 
 use crate::basic::BasicType;
@@ -70,6 +71,22 @@ fn write_operation(
     }
 }
 
+/// The expression of an opcode's operation, or a zero where it has none.
+fn write_opcode(
+    alloc: Global,
+    op: u16,
+    ext: u32,
+    ty: BasicType,
+    operands: Vec<Arg>,
+) -> Result<Expr, Memory>
+    ensures { IfOk result (λ e. expr_of e ≡ lowered.lowered_basic op ext ty (map operand_of operands.items)) }
+{
+    match operation(op, ext) {
+        None => Ok(literal(ty.elem, 0)),
+        Some(operation) => write_operation(alloc, operation, ty, Operands::new(operands)),
+    }
+}
+
 /// The expression of an operation whose result is of this type, where GLSL writes it on vectors as on scalars: all operations
 /// with a scalar result, and of those on vectors OpIAdd to OpIMul, OpUDiv, OpUMod, OpSNegate, the shifts, the bitwise
 /// operations, OpNot, OpBitcast, OpCopyObject and OpSelect by one bool (GLSL 4.60, sections 5.9 and 8.8).
@@ -83,12 +100,10 @@ pub fn lower_basic(
     ty: BasicType,
     operands: Vec<Arg>,
 ) -> Result<Expr, Memory>
-    ensures { IfOk result (λ e. expr_of e ≡ lowered.lowered_basic op ext ty (map operand_of operands.items)) }
+    ensures lowered { IfOk result (λ e. expr_of e ≡ lowered.lowered_basic op ext ty (map operand_of operands.items)) }
+    ensures height { IfOk result (λ e. height (expr_of e) ≤ 40 + highest_operand (map operand_of operands.items)) }
 {
-    match operation(op, ext) {
-        None => Ok(literal(ty.elem, 0)),
-        Some(operation) => write_operation(alloc, operation, ty, Operands::new(operands)),
-    }
+    write_opcode(alloc, op, ext, ty, operands)
 }
 
 /// The expression of an operation with a scalar result of this type: arithmetic, divisions, shifts, bitwise and bit field
@@ -104,7 +119,8 @@ pub fn lower(
     elem: Elem,
     operands: Vec<Arg>,
 ) -> Result<Expr, Memory>
-    ensures { IfOk result (λ e. expr_of e ≡ lowered.lowered op ext elem (map operand_of operands.items)) }
+    ensures lowered { IfOk result (λ e. expr_of e ≡ lowered.lowered op ext elem (map operand_of operands.items)) }
+    ensures height { IfOk result (λ e. height (expr_of e) ≤ 40 + highest_operand (map operand_of operands.items)) }
 {
     lower_basic(alloc, op, ext, BasicType { elem, size: None }, operands)
 }

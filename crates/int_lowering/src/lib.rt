@@ -14,3 +14,6 @@ pub use basic::{BasicType, basic_type, type_name};
 pub use built_ins::BuiltIn;
 pub use instructions::{lower, lower_basic};
 pub use operands::Arg;
+
+#[cfg(test)]
+mod tests;
