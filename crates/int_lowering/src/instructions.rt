@@ -20,9 +20,9 @@ use std::alloc::Global;
 // OpExtInst
 const EXT_INST: u16 = 12;
 
-/// The operation of an opcode and, of OpExtInst, of its number in GLSL.std.450.
+/// The operation of an opcode and, of OpExtInst, of its number in GLSL.std.450. There is none exactly where neither table has it.
 #[tactic(auto, unfolding(op_semantics::specs::Value::operation_of))]
-fn operation(op: u16, ext: u32) -> Option<Operation>
+pub fn operation(op: u16, ext: u32) -> Option<Operation>
     ensures { result ≡ operation_by op (ext ∷ []) }
 {
     if op == EXT_INST {

@@ -12,8 +12,9 @@ mod terms;
 
 pub use basic::{BasicType, basic_type, type_name};
 pub use built_ins::BuiltIn;
-pub use instructions::{lower, lower_basic};
+pub use instructions::{lower, lower_basic, operation};
 pub use operands::Arg;
+pub use terms::literal;
 
 #[cfg(test)]
 mod tests;

@@ -12,7 +12,8 @@ use spv_module::Elem;
 use spv_words::Memory;
 use std::alloc::Global;
 
-/// The literal of a word. An int with its top bit set is hexadecimal.
+/// The literal of a word (GLSL 4.60, section 4.1.3): decimal, of an int with its top bit set hexadecimal, and of a bool `true`
+/// where the word is not 0.
 #[tactic(auto, using(glsl_ast::proofs::Views::expr_rows))]
 pub fn literal(elem: Elem, word: u32) -> Expr
     ensures { expr_of result ≡ tree.literal (literal_of elem word) }
