@@ -1,0 +1,62 @@
+-- The names of keys, and what is taken, as maps hold them.
+use Rattle.std.specs.Prelude.{ℕ, ◌≡◌, Option, Some, None, true, false, string_bytes, option_map, if◌then◌else◌}
+use Rattle.std.specs.Option.{option_map_or}
+use Rattle.std.specs.BTreeMap.{BTreeMap, get}
+use Rattle.std.specs.Ordering.{is_eq, nat_cmp}
+use Rattle.std.specs.Option.{option_cmp}
+use Rattle.std.specs.declared.string.String.{String}
+use Rattle.std.specs.declared.alloc.Global.{Global}
+use Rattle.std.specs.declared.hash.BuildHasherDefault.{BuildHasherDefault}
+use Rattle.std.specs.declared.hash.FoldHasher.{FoldHasher}
+use Rattle.indexmap.specs.IndexMap.{IndexMap, get as get_key}
+use Rattle.name_alloc.specs.Keys.{same_key}
+use Rattle.name_alloc.specs.Law.{IsNameFor, AreNames}
+use Rattle.name_alloc.specs.declared.claims.Claim.{Claim}
+use Rattle.name_alloc.specs.declared.claims.Key.{Key}
+use Rattle.name_alloc.specs.Base.{Text}
+use Rattle.name_alloc.specs.Naming.{Taken as AllTaken, space_of, claim_name, with_name}
+use Rattle.name_alloc.specs.Taken.{Held, is_held, held_count, IsSkipping}
+
+abbrev pub Spaces : Type 0
+Spaces = BTreeMap (Option ℕ) Held
+
+abbrev pub held_at : Spaces → Option ℕ → Option Held
+held_at spaces space = get (option_cmp nat_cmp) spaces space
+
+-- what the spaces hold
+abbrev pub taken_of : Spaces → AllTaken
+taken_of spaces = record {
+  has = λ space text. option_map_or (λ held. is_held held text) (held_at spaces space) false;
+  count = λ space. option_map_or held_count (held_at spaces space) 0;
+}
+
+-- in each space the numbers that are skipped are taken
+pub record AreSkipping (spaces : Spaces) : Type 0 where
+  pub each : (space : Option ℕ) (held : Held) → held_at spaces space ≡ Some held → IsSkipping held
+
+-- the space is taken out: what it held, or an empty one
+pub record IsHeldOut (old : Spaces) (space : Option ℕ) (held : Held) (rest : Spaces) : Type 0 where
+  pub has : (text : Text) → is_held held text ≡ (taken_of old).has space text
+  pub count : held_count held ≡ (taken_of old).count space
+  pub others : (other : Option ℕ) → held_at rest other ≡ (if is_eq (option_cmp nat_cmp space other) then None else held_at old other)
+  pub skipping : AreSkipping old → IsSkipping held
+
+-- the claim took this name
+pub record IsNamed (old new : Spaces) (c : Claim) (name : Text) : Type 0 where
+  pub name_is : name ≡ claim_name (taken_of old) c
+  pub taken : taken_of new ≡ with_name (taken_of old) (space_of c.key) name
+  pub skipping : AreSkipping new
+  pub fresh : (taken_of old).has (space_of c.key) name ≡ false
+  pub law : IsNameFor c.key name
+
+-- the name that is kept for a key
+abbrev pub Kept : Type 0
+Kept = IndexMap Key (String Global) (BuildHasherDefault FoldHasher)
+
+abbrev pub name_at : Kept → Key → Option Text
+name_at names key = option_map string_bytes (get_key same_key names key)
+
+-- the names that were given are held, and are as the law asks
+pub record AreGiven (spaces : Spaces) (names : Kept) : Type 0 where
+  pub held : (key : Key) (name : Text) → name_at names key ≡ Some name → (taken_of spaces).has (space_of key) name ≡ true
+  pub laws : AreNames (name_at names)

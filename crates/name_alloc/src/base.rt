@@ -1,0 +1,125 @@
+// The base of a claim's name.
+ghost use Rattle.std.specs.Prelude.{◌≡◌, false, map, option_map, IfOk, string_bytes};
+ghost use Rattle.name_alloc.specs.Base.{worded as as_word, single as as_single, ends_low as as_ends_low, trimmed as as_trimmed, cleaned as as_cleaned, given_base, guarded as as_guarded, is_barred as barred, base_of};
+
+use crate::claims::Key;
+use crate::reserved::{begins_reserved, is_reserved};
+use spv_words::Memory;
+use std::alloc::{AllocError, Global};
+
+/// As many bytes of a given name are kept.
+const KEPT: usize = 64;
+
+/// The byte, or `_` where it is no letter, digit or `_`.
+fn worded(byte: u8) -> u8
+    ensures { result ≡ as_word byte }
+{
+    if byte.is_ascii_alphanumeric() {
+        byte
+    } else {
+        b'_'
+    }
+}
+
+/// The text in letters, digits and `_`, of which none stands behind another.
+fn single(alloc: Global, given: &[u8]) -> Result<Vec<u8>, AllocError>
+    ensures { IfOk result (λ kept. kept.items ≡ as_single false (map as_word given.now)) }
+{
+    let mut kept = Vec::new(alloc);
+    let mut after = false;
+    for byte in given {
+        let word = worded(*byte);
+        if !(after && word == b'_') {
+            kept.push(word)?;
+        }
+        after = word == b'_';
+    }
+    Ok(kept)
+}
+
+/// Whether the last byte is `_`.
+fn ends_low(text: &[u8]) -> bool
+    ensures { result ≡ as_ends_low text.now }
+{
+    match text.last() {
+        None => false,
+        Some(byte) => *byte == b'_',
+    }
+}
+
+/// The text without a `_` at its end.
+fn trimmed(mut text: Vec<u8>) -> Vec<u8>
+    ensures { result.items ≡ as_trimmed text.items }
+{
+    if ends_low(text.as_slice()) {
+        text.pop();
+    }
+    text
+}
+
+/// The text as a part of a name: one `_` for each run of bytes that are no letter or digit, 64 bytes,
+/// and no `_` at the end.
+#[tactic(auto, unfolding(crate::specs::Base::cleaned))]
+fn cleaned(alloc: Global, given: &[u8]) -> Result<String, AllocError>
+    ensures { IfOk result (λ text. string_bytes text ≡ as_cleaned given.now) }
+{
+    let mut kept = single(alloc, given)?;
+    kept.truncate(KEPT);
+    Ok(String::from_utf8(trimmed(kept)).unwrap())
+}
+
+/// Whether the text is no name: it begins with a digit or with a reserved prefix, or is a reserved
+/// word.
+fn is_barred(text: &str) -> bool
+    ensures { result ≡ barred text.now }
+{
+    let digit = match text.as_bytes().first() {
+        None => false,
+        Some(byte) => byte.is_ascii_digit(),
+    };
+    digit || begins_reserved(text) || is_reserved(text)
+}
+
+/// The text, with `n_` before it where it is no name.
+fn guarded(alloc: Global, text: String) -> Result<String, AllocError>
+    ensures { IfOk result (λ base. string_bytes base ≡ as_guarded (string_bytes text)) }
+{
+    if is_barred(text.as_str()) {
+        return format!(in alloc; "n_{text}");
+    }
+    Ok(text)
+}
+
+/// The given name cleaned, or the word with the number where nothing is left of it.
+fn named(alloc: Global, given: &Option<Vec<u8>>, word: &str, number: u32) -> Result<String, Memory>
+    ensures { IfOk result (λ base. string_bytes base ≡ given_base (option_map (λ v. v.items) given.now) word.now number) }
+{
+    let text = match given {
+        None => String::new(alloc),
+        Some(bytes) => cleaned(alloc, bytes.as_slice())?,
+    };
+    if text.is_empty() {
+        let own = format!(in alloc; "{word}{number}")?;
+        return Ok(guarded(alloc, own)?);
+    }
+    Ok(guarded(alloc, text)?)
+}
+
+/// The base of a key: the name that the module gives to an id or a member, and a word for what has
+/// none.
+#[tactic(auto, unfolding(crate::specs::Base::base_of))]
+pub fn base(alloc: Global, key: Key, given: &Option<Vec<u8>>) -> Result<String, Memory>
+    ensures { IfOk result (λ base. string_bytes base ≡ base_of key (option_map (λ v. v.items) given.now)) }
+{
+    match key {
+        Key::Main => Ok(String::from_str(alloc, "main")?),
+        Key::Id(id) => named(alloc, given, "v", id.0),
+        Key::Block(_, block) => named(alloc, given, "v", block.0),
+        Key::Member(_, member) => named(alloc, given, "m", member),
+        Key::Again(_) => Ok(String::from_str(alloc, "again")?),
+        Key::Leave(_) => Ok(String::from_str(alloc, "leave")?),
+        Key::Fell(_) => Ok(String::from_str(alloc, "fell")?),
+        Key::Captured(_, _) => Ok(String::from_str(alloc, "at")?),
+        Key::Spare(_, _, _) => Ok(String::from_str(alloc, "spare")?),
+    }
+}

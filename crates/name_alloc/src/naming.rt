@@ -1,0 +1,68 @@
+// The names of claims in their order.
+ghost use Rattle.std.specs.Prelude.{◌≡◌, IfOk, is_some, string_bytes};
+ghost use Rattle.name_alloc.specs.declared.claims.Key.{Key};
+ghost use Rattle.name_alloc.specs.Naming.{name_of, is_claimed, space_of as space_of_key};
+ghost use Rattle.name_alloc.specs.Law.{AreNames};
+ghost use Rattle.name_alloc.specs.Given.{AreSkipping, IsHeldOut, IsNamed};
+ghost use Rattle.name_alloc.specs.Lookup.{name_in};
+
+use crate::base::base;
+use crate::claims::{Claim, Key, Names};
+use crate::space::{Space, claim};
+use indexmap::IndexMap;
+use spv_words::Memory;
+use std::alloc::Global;
+use std::collections::BTreeMap;
+
+/// The names that are taken: in the whole text, and of the members of each struct.
+type Spaces = BTreeMap<Option<u32>, Space>;
+
+/// The struct in whose space the name of a key is, where it is that of a member.
+fn space_of(key: Key) -> Option<u32>
+    ensures { result ≡ space_of_key key }
+{
+    match key {
+        Key::Member(block, _) => Some(block.0),
+        _ => None,
+    }
+}
+
+/// The space of a struct's members, or of the whole text.
+fn held_in(alloc: Global, spaces: &mut Spaces, space: Option<u32>) -> Space
+    ensures { IsHeldOut spaces.old space result spaces.new }
+{
+    match spaces.remove(&space) {
+        None => Space::new(alloc),
+        Some(held) => held,
+    }
+}
+
+/// Takes the name of a claim in its space.
+fn name_claim(alloc: Global, spaces: &mut Spaces, claimed: &Claim) -> Result<String, Memory>
+    requires { AreSkipping spaces.old }
+    ensures { IfOk result (λ name. IsNamed spaces.old spaces.new claimed.now (string_bytes name)) }
+{
+    let base = base(alloc, claimed.key, &claimed.given)?;
+    let space = space_of(claimed.key);
+    let mut held = held_in(alloc, spaces, space);
+    let name = claim(alloc, &mut held, base)?;
+    spaces.insert(space, held)?;
+    Ok(name)
+}
+
+/// Names the claims in their order. A name that is taken in its space gets `_` and the least number
+/// from 2 on that is free; where a key is claimed twice, it has the later name. (GLSL 4.60, section
+/// 3.7.)
+pub fn names(alloc: Global, claims: &[Claim]) -> Result<Names, Memory>
+    ensures names { IfOk result (λ names. (key : Key) → name_in names key ≡ name_of claims.now key) }
+    ensures claimed { IfOk result (λ names. (key : Key) → is_some (name_in names key) ≡ is_claimed claims.now key) }
+    ensures laws { IfOk result (λ names. AreNames (name_in names)) }
+{
+    let mut spaces = BTreeMap::new(alloc);
+    let mut names = IndexMap::new(alloc);
+    for claimed in claims {
+        let name = name_claim(alloc, &mut spaces, claimed)?;
+        names.insert(claimed.key, name)?;
+    }
+    Ok(Names { names })
+}

@@ -1,0 +1,11 @@
+pub mod Reading
+pub mod Moved
+pub mod Law
+pub mod Counted
+pub mod Saved
+pub mod Copied
+pub mod Started
+pub mod Twice
+pub mod Walks
+pub mod Stuck
+pub mod Spared

@@ -1,0 +1,7 @@
+use Rattle.std.specs.BTreeSet.{contains}
+use Rattle.std.specs.Ordering.{nat_cmp}
+use Rattle.phi_copies.specs.Kept.{AreBelow}
+use Rattle.phi_copies.proofs.counts.all_places.Given as goal
+
+abbrev pub invariant-loop-i : goal.invariant-loop-i
+invariant-loop-i l = AreBelow l.i (contains nat_cmp l.left)

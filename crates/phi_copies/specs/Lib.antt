@@ -1,0 +1,5 @@
+pub mod Sequence
+pub mod Meaning
+pub mod Kept
+pub mod Listed
+pub mod Cycles
