@@ -1,5 +1,5 @@
 -- Each name is one that its key may have, and keys of one space have names of their own.
-use Rattle.std.proofs.Common.{◌≡◌, ◌||◌, ◌⊎◌, ℕ, Bool, true, false, List, [], ◌∷◌, Option, None, Some, is_some, refl, ap, sym, ◌∙◌, inl, inr, subst, bytes_eq, eq-eqb}
+use Rattle.std.proofs.Common.{◌≡◌, ◌||◌, ◌⊎◌, ℕ, Bool, true, false, List, [], ◌∷◌, ◌++◌, Option, None, Some, is_some, refl, ap, sym, ◌∙◌, inl, inr, subst, bytes_eq, eq-eqb}
 use Rattle.std.proofs.lemmas.Bool.{cases_Bool, false≢true}
 use Rattle.std.proofs.lemmas.Slice.Eq.{bytes_eq-Decides}
 use Rattle.name_alloc.specs.declared.claims.Claim.{Claim}
@@ -11,7 +11,7 @@ use Rattle.name_alloc.specs.Naming.{Taken as AllTaken, space_of, same_space, cla
 use Rattle.name_alloc.specs.Given.{Spaces, Kept, taken_of, name_at, IsNamed, AreGiven}
 use Rattle.name_alloc.proofs.Keyed.{key_tells}
 use Rattle.name_alloc.proofs.Words.{base_word, numbered_word}
-use Rattle.name_alloc.proofs.Free.{base_free, numbered_free, main_free}
+use Rattle.name_alloc.proofs.Free.{or_parts, base_free, numbered_free, main_free}
 
 -- the name of a claim: its base, or with a number
 number_free : (key : Key) (given : Option Text) (n : ℕ) → IsFree (numbered (base_of key given) n)
@@ -142,3 +142,18 @@ claimed_from taken found (c ∷ cs) key =
 
 pub claimed_is : (claims : List Claim) (key : Key) → is_some (name_of claims key) ≡ is_claimed claims key
 claimed_is claims key = claimed_from none_taken (λ k. None) claims key
+
+-- later claims of other keys change no name
+names_kept : (taken : AllTaken) (found : Key → Option Text) (claims : List Claim) (key : Key) → is_claimed claims key ≡ false → names_from taken found claims key ≡ found key
+names_kept taken found [] key h = refl
+names_kept taken found (c ∷ cs) key h =
+    let name = claim_name taken c in
+    let parts = or_parts (same_key c.key key) (is_claimed cs key) h in
+    names_kept (with_name taken (space_of c.key) name) (with_key found c.key name) cs key parts.1 ∙ rw parts.0 refl
+
+names_before : (taken : AllTaken) (found : Key → Option Text) (done more : List Claim) (key : Key) → is_claimed more key ≡ false → names_from taken found (done ++ more) key ≡ names_from taken found done key
+names_before taken found [] more key h = names_kept taken found more key h
+names_before taken found (c ∷ cs) more key h = names_before (with_name taken (space_of c.key) (claim_name taken c)) (with_key found c.key (claim_name taken c)) cs more key h
+
+pub name_before : (done more : List Claim) (key : Key) → is_claimed more key ≡ false → name_of (done ++ more) key ≡ name_of done key
+name_before done more key h = names_before none_taken (λ k. None) done more key h

@@ -1,5 +1,6 @@
 // The names of claims in their order.
-ghost use Rattle.std.specs.Prelude.{◌≡◌, IfOk, is_some, string_bytes};
+ghost use Rattle.std.specs.Prelude.{◌≡◌, ◌++◌, false, List, IfOk, is_some, string_bytes};
+ghost use Rattle.name_alloc.specs.declared.claims.Claim.{Claim};
 ghost use Rattle.name_alloc.specs.declared.claims.Key.{Key};
 ghost use Rattle.name_alloc.specs.Naming.{name_of, is_claimed, space_of as space_of_key};
 ghost use Rattle.name_alloc.specs.Law.{AreNames};
@@ -53,10 +54,15 @@ fn name_claim(alloc: Global, spaces: &mut Spaces, claimed: &Claim) -> Result<Str
 /// Names the claims in their order. A name that is taken in its space gets `_` and the least number
 /// from 2 on that is free; where a key is claimed twice, it has the later name. (GLSL 4.60, section
 /// 3.7.)
+///
+/// A key has a name exactly where it is claimed, and later claims of other keys do not change it. No
+/// two names of one space are the same. Each is a word that GLSL leaves free, but for the `main` of
+/// `Key::Main`. It fails by want of memory alone.
 pub fn names(alloc: Global, claims: &[Claim]) -> Result<Names, Memory>
     ensures names { IfOk result (λ names. (key : Key) → name_in names key ≡ name_of claims.now key) }
     ensures claimed { IfOk result (λ names. (key : Key) → is_some (name_in names key) ≡ is_claimed claims.now key) }
     ensures laws { IfOk result (λ names. AreNames (name_in names)) }
+    ensures kept { IfOk result (λ names. (done more : List Claim) (key : Key) → claims.now ≡ done ++ more → is_claimed more key ≡ false → name_in names key ≡ name_of done key) }
 {
     let mut spaces = BTreeMap::new(alloc);
     let mut names = IndexMap::new(alloc);

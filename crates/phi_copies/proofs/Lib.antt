@@ -9,3 +9,4 @@ pub mod Twice
 pub mod Walks
 pub mod Stuck
 pub mod Spared
+pub mod Few

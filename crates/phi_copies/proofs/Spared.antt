@@ -1,12 +1,11 @@
 -- One spare for each cycle.
-use Rattle.std.proofs.Common.{◌≡◌, ◌≢◌, ◌<◌, ◌≤◌, ◌+◌, ◌-◌, ◌==◌, ◌&&◌, ◌||◌, not, ◌⊎◌, ℕ, zero, suc, Bool, true, false, cond, Option, None, Some, is_some, List, [], ◌∷◌, length, count_by, refl, ap, sym, ◌∙◌, inl, inr, arith, subst, eq-eqb}
+use Rattle.std.proofs.Common.{◌≡◌, ◌<◌, ◌+◌, ◌==◌, ◌⊎◌, ℕ, suc, Bool, true, false, cond, Option, None, Some, is_some, List, [], ◌∷◌, length, count_by, refl, ap, sym, ◌∙◌, inl, inr, arith, subst, eq-eqb}
 use Rattle.std.proofs.lemmas.Bool.{cases_Bool, false≢true}
 use Rattle.std.proofs.lemmas.Bool.Decides.{eqb_tells}
 use Rattle.phi_copies.specs.declared.moves.Move.{Move}
-use Rattle.phi_copies.specs.declared.moves.Move.TheVariants.{Save}
-use Rattle.phi_copies.specs.Sequence.{Pair, target, no_pair, pair_at, HaveOwnTargets, is_var, sets, is_set, spare_of, is_save, saves, reads, readers, IsLeft, IsReady, AreNext, IsCopyNext, IsSaveNext, move_of}
-use Rattle.phi_copies.specs.Cycles.{IsRead, Leads, IsOnCycle, is_spared, HasSpare, IsSpared, HasSpares}
-use Rattle.phi_copies.proofs.Reading.{as_number, or_cases, not_true, not_both, sets_move, after_move, save_move, saves_cons, same_place, some_reader, reads_of}
+use Rattle.phi_copies.specs.Sequence.{Pair, target, no_pair, pair_at, HaveOwnTargets, is_var, sets, is_set, spare_of, is_save, saves, reads, readers, IsLeft, AreNext, IsCopyNext, IsSaveNext}
+use Rattle.phi_copies.specs.Cycles.{Leads, IsOnCycle, is_spared, HasSpare, IsSpared, HasSpares}
+use Rattle.phi_copies.proofs.Reading.{as_number, or_cases, not_both, sets_move, after_move, save_move, saves_cons, same_place, some_reader, reads_of}
 use Rattle.phi_copies.proofs.Counted.{count_except}
 use Rattle.phi_copies.proofs.Walks.{leads_back, leads_last, leads_join}
 use Rattle.phi_copies.proofs.Stuck.{stuck_cycle, stuck_left, stuck_unspared}

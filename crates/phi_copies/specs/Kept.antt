@@ -1,5 +1,5 @@
 -- What is kept while the moves are listed.
-use Rattle.std.specs.Prelude.{ℕ, ◌≡◌, ◌<◌, ◌+◌, ◌==◌, ◌&&◌, ◌||◌, List, [], Bool, true, false, cond, Option, None, Some, is_some, length, count_by, take, slice_index}
+use Rattle.std.specs.Prelude.{ℕ, ◌≡◌, ◌<◌, ◌+◌, ◌^◌, ◌==◌, ◌&&◌, ◌||◌, List, [], Bool, true, false, cond, Option, None, Some, is_some, length, count_by, take, slice_index}
 use Rattle.phi_copies.specs.declared.moves.Src.{Src}
 use Rattle.phi_copies.specs.declared.moves.Src.TheVariants.{Var as Variable, Constant}
 use Rattle.phi_copies.specs.declared.moves.Move.{Move}
@@ -9,6 +9,10 @@ use Rattle.phi_copies.specs.Sequence.{Pair, target, pair_at, reads, readers, spa
 pub record ArePlaces (ps : List Pair) (n : ℕ) (places : ℕ → Option ℕ) : Type 0 where
   pub sound : (v i : ℕ) → places v ≡ Some i → (i < n) × (target (pair_at ps i) ≡ v)
   pub complete : (i : ℕ) → i < n → is_some (places (target (pair_at ps i))) ≡ true
+
+-- the targets of the first n pairs are numbers of 32 bits
+abbrev pub AreNarrow : List Pair → ℕ → Type 0
+AreNarrow ps n = (i : ℕ) → i < n → target (pair_at ps i) < 2 ^ 32
 
 -- the place of the pair that gives the source its value, unless a spare stands for it
 abbrev pub unless_saved : Option ℕ → Option ℕ → Option ℕ

@@ -1,5 +1,5 @@
 -- What is kept in a `Work`.
-use Rattle.std.specs.Prelude.{List, length, reverse}
+use Rattle.std.specs.Prelude.{◌≤◌, ◌^◌, List, length, reverse}
 use Rattle.std.specs.BTreeMap.{get}
 use Rattle.std.specs.BTreeSet.{contains}
 use Rattle.std.specs.Ordering.{nat_cmp}
@@ -11,3 +11,4 @@ use Rattle.phi_copies.specs.Kept.{ArePlaces, IsState}
 pub record IsWork (ps : List Pair) (w : Work) : Type 0 where
   pub are : ArePlaces ps (length ps) (get nat_cmp w.places)
   pub state : IsState ps (reverse w.moves.items) w.counts.items (contains nat_cmp w.left) (contains nat_cmp w.ready) (get nat_cmp w.spares) w.saves
+  pub few : length ps ≤ 2 ^ 32

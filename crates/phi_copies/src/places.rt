@@ -1,9 +1,9 @@
 // Which pair gives a variable its value, and which variables have spares.
-ghost use Rattle.std.specs.Prelude.{◌≡◌, IfOk, length};
+ghost use Rattle.std.specs.Prelude.{◌≡◌, IfOk, OnOk, length};
 ghost use Rattle.std.specs.BTreeMap.{get};
 ghost use Rattle.std.specs.Ordering.{nat_cmp};
 ghost use Rattle.phi_copies.specs.Sequence.{move_of as move_by};
-ghost use Rattle.phi_copies.specs.Kept.{ArePlaces, source_place as source_place_by};
+ghost use Rattle.phi_copies.specs.Kept.{ArePlaces, AreNarrow, source_place as source_place_by};
 
 use crate::moves::{Move, Src, Var};
 use spv_words::Memory;
@@ -12,7 +12,8 @@ use std::collections::BTreeMap;
 
 /// The places of the pairs, by the numbers of their targets.
 pub fn places(alloc: Global, pairs: &[(Var, Src)]) -> Result<BTreeMap<u32, usize>, Memory>
-    ensures { IfOk result (λ m. ArePlaces pairs.now (length pairs.now) (get nat_cmp m)) }
+    ensures places { IfOk result (λ m. ArePlaces pairs.now (length pairs.now) (get nat_cmp m)) }
+    ensures narrow { OnOk result (AreNarrow pairs.now (length pairs.now)) }
 {
     let mut places = BTreeMap::new(alloc);
     for (i, pair) in pairs.iter().enumerate() {

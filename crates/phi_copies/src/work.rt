@@ -21,15 +21,8 @@ pub struct Work {
     left: BTreeSet<usize>,
     ready: BTreeSet<usize>,
     spares: BTreeMap<u32, u32>,
-    saves: u32,
+    saves: usize,
     pub moves: Vec<Move>,
-}
-
-/// The number of the next spare.
-fn next_spare(saves: u32) -> Result<u32, Memory>
-    ensures { IfOk result (λ n. n ≡ saves + 1) }
-{
-    saves.checked_add(1).ok_or(Memory)
 }
 
 impl Work {
@@ -64,9 +57,10 @@ impl Work {
         ensures ready { OnOk result (btree_set_len self.new.ready ≡ 1) }
     {
         let target = pairs[first].0;
-        self.moves.push(Move::Save(self.saves, target))?;
-        self.spares.insert(target.0, self.saves)?;
-        self.saves = next_spare(self.saves)?;
+        let spare = self.saves as u32;
+        self.moves.push(Move::Save(spare, target))?;
+        self.spares.insert(target.0, spare)?;
+        self.saves += 1;
         self.counts[first] = 0;
         self.ready.insert(first)?;
         Ok(())

@@ -4,10 +4,10 @@ use Rattle.std.proofs.Math.ListN.{drop_of_length-le}
 use Rattle.indexmap.specs.IndexMap.{get}
 use Rattle.name_alloc.specs.declared.claims.Key.{Key}
 use Rattle.name_alloc.specs.Keys.{same_key}
-use Rattle.name_alloc.specs.Naming.{names_from, with_key}
+use Rattle.name_alloc.specs.Naming.{names_from, name_of, with_key}
 use Rattle.name_alloc.specs.Given.{taken_of, name_at}
 use Rattle.name_alloc.proofs.Keyed.{eq_same}
-use Rattle.name_alloc.proofs.Lawful.{given_step, claimed_is}
+use Rattle.name_alloc.proofs.Lawful.{given_step, claimed_is, name_before}
 use Rattle.name_alloc.proofs.Named.{found_put, names_step}
 use Rattle.name_alloc.proofs.naming.names.Goals as goal
 
@@ -40,3 +40,10 @@ returns-clause-claimed c =
     let claims = c.args.claims.now in
     let none : drop c.loop-claimed.claimed-index claims ≡ [] = drop_of_length-le claims c.loop-claimed-test.false in
     λ key. ap is_some (ap (λ l. names_from (taken_of c.loop-claimed.spaces) (name_at c.loop-claimed.names) l key) (sym none) ∙ c.loop-claimed.invariant.2 key) ∙ claimed_is claims key
+
+pub returns-clause-kept : goal.returns-clause-kept
+returns-clause-kept c =
+    let claims = c.args.claims.now in
+    let none : drop c.loop-claimed.claimed-index claims ≡ [] = drop_of_length-le claims c.loop-claimed-test.false in
+    λ done more key parts free. ap (λ l. names_from (taken_of c.loop-claimed.spaces) (name_at c.loop-claimed.names) l key) (sym none)
+        ∙ (c.loop-claimed.invariant.2 key ∙ (ap (λ l. name_of l key) parts ∙ name_before done more key free))

@@ -22,6 +22,7 @@ returns-clause-work c =
     let released = rw (c.deref_mut.ensures.value, c.source_place-place.ensures) at c.in_ok-release.ensures in
     record {
       are = c.requires.work.are;
+      few = c.requires.work.few;
       state = rw (c.in_ok-push.ensures.items, reverse_push, c.move_of.ensures, items)
           (state_copied c.args.pairs.now (reverse w.moves.items) w.counts.items (contains nat_cmp w.left) (contains nat_cmp w.ready) (get nat_cmp w.places) (get nat_cmp w.spares) w.saves c.in-Some.next (contains nat_cmp c.remove.new.self) (contains nat_cmp c.pop_first.new.self) c.release.new.counts (contains nat_cmp c.release.new.ready)
           c.requires.own c.requires.work.are c.requires.work.state c.in-Some.ensures.member
