@@ -1,12 +1,12 @@
 -- Where the struct of each block variable is laid out, no rule on layout is broken.
-use Rattle.std.proofs.Common.{◌≡◌, ◌<◌, ◌≤◌, ◌+◌, ◌==◌, ◌&&◌, ℕ, suc, Bool, true, false, cond, List, [], ◌∷◌, Option, Some, None, IfSome, is_some, length, get_or, take, slice_index, refl, sym, ap, subst, ◌∙◌, inl, inr, arith}
+use Rattle.std.proofs.Common.{◌≡◌, ◌<◌, ◌≤◌, ◌+◌, ◌==◌, ◌&&◌, ℕ, Bool, true, false, cond, List, Option, Some, None, IfSome, is_some, length, get_or, take, slice_index, refl, sym, ap, subst, ◌∙◌, inl, inr, arith}
 use Rattle.std.specs.Prelude.{IsSome, IsSomeAnd, option_and_then}
-use Rattle.std.specs.List.{All, Contains}
-use Rattle.std.specs.BTreeSet.{BTreeSet, contains}
+use Rattle.std.specs.List.{All}
 use Rattle.std.specs.Ordering.{nat_cmp, is_eq}
 use Rattle.std.proofs.lemmas.List.{take_all}
 use Rattle.std.proofs.lemmas.List.Elements.{All-contains, All-more}
 use Rattle.std.proofs.lemmas.Bool.Decides.{eqb_tells, nat_tests}
+use Rattle.std.proofs.lemmas.Bool.{and_parts}
 use Rattle.spv_words.specs.declared.rule.Rule.{Rule}
 use Rattle.spv_module.specs.Held.{global}
 use Rattle.spv_module.specs.State.{ModuleState}
@@ -14,6 +14,7 @@ use Rattle.spv_module.specs.declared.inst.Inst.{Inst}
 use Rattle.spv_index.specs.Pointers.{pointee}
 use Rattle.layout_rules.specs.Blocks.{Broken as BreaksLayout, is_block_class, as_struct, block_of, BreaksAt, IsBrokenBy, IsBlockVariable}
 use Rattle.buffer_layout.specs.Plan.{IsUnbroken}
+use Rattle.profile_rules.proofs.Globals.{found_global}
 use Rattle.profile_check.specs.Layouts.{struct_by, struct_in, BlockBreaks, IsLaidOut, AreJudged, IsLaidOutAt, AreLaidOut}
 
 -- the struct that a block variable points to
@@ -21,10 +22,6 @@ pointed : (b : Bool) (o : Option ℕ) (gs : List Inst) (block : Inst) → cond b
 pointed true None gs block e = cc
 pointed true (Some p) gs block e = (refl, (p, refl, e))
 pointed false o gs block e = cc
-
-and_second : (a b : Bool) → (a && b) ≡ true → b ≡ true
-and_second true b e = e
-and_second false b e = cc
 
 -- a variable of a class, with its block
 struct_at : (gs : List Inst) (class : ℕ) (v block : Inst) → block_of gs v ≡ Some block → slice_index v.args 0 ≡ class → (p : ℕ) × (struct_by gs class v ≡ Some p) × (option_and_then as_struct (global gs p) ≡ Some block)
@@ -115,22 +112,6 @@ laid_more m class gs i g inside own before here = All-more (IsLaidOutAt m class)
 pub laid_all : (m : ModuleState) (class : ℕ) (gs : List Inst) (i : ℕ) → length gs ≤ i → All (IsLaidOutAt m class) (take i gs) → AreLaidOut m class gs
 laid_all m class gs i past before = subst (λ (l : List Inst). All (IsLaidOutAt m class) l) (take_all i gs past) before
 
--- a global that is found is one of them, with this id
-found_among : (gs : List Inst) (id : ℕ) (g : Inst) → global gs id ≡ Some g → Contains gs g × (g.result ≡ id)
-found_among [] id g e = cc
-found_among (h ∷ gs) id g e =
-    elim (eqb_tells h.result id) [
-      | inl w ↦
-          let is : Some h ≡ Some g = rw w.0 at e in
-          let same : h ≡ g = cc in
-          let inside : 0 < suc (length gs) = omega arith in
-          ((0, inside, same), ap (λ (i : Inst). i.result) (sym same) ∙ w.1)
-      | inr w ↦
-          let later = found_among gs id g (rw w.0 at e) in
-          let inside : suc later.0.0 < suc (length gs) = omega (arith, later.0.1) in
-          ((suc later.0.0, inside, later.0.2), later.1)
-    ]
-
 -- the classes of blocks
 by_class : (class : ℕ) (P : ℕ → Type 0) → is_block_class class ≡ true → P 2 → P 9 → P 12 → P class
 by_class class P is two nine twelve =
@@ -153,7 +134,7 @@ broken_at m v rule (Some block) has b all own =
     let class : ℕ = slice_index v.args 0 in
     let by = struct_at m.globals class v block has refl in
     let test = pointed ((v.op == 59) && is_block_class class) (pointee m.globals v.ty) m.globals block has in
-    let is_class : is_block_class class ≡ true = and_second (v.op == 59) (is_block_class class) test.0 in
+    let is_class : is_block_class class ≡ true = (and_parts (v.op == 59) (is_block_class class) test.0).1 in
     let struct : struct_in m.globals class v.result ≡ Some by.0 = ap (option_and_then (struct_by m.globals class)) own ∙ by.1 in
     let laid : IsLaidOut m class by.0 = subst (λ (o : Option ℕ). IfSome o (IsLaidOut m class)) struct (all class is_class) in
     let B : Option Inst → Type 0 = λ o. IsSomeAnd o (BlockBreaks m class rule) in
@@ -162,7 +143,7 @@ broken_at m v rule (Some block) has b all own =
 broken_variable : (m : ModuleState) (id at : ℕ) (rule : Rule) (o : Option Inst) → global m.globals id ≡ o → IsSomeAnd o (λ v. (at ≡ v.at) × BreaksAt m.heads m.globals v rule) → ((class : ℕ) → is_block_class class ≡ true → AreLaidOut m class m.globals) → ⊥
 broken_variable m id at rule None is b all = b
 broken_variable m id at rule (Some v) is b all =
-    let among = found_among m.globals id v is in
+    let among = found_global m.globals id v is in
     broken_at m v rule (block_of m.globals v) refl b.1
     (λ class c. All-contains (IsLaidOutAt m class) m.globals v (all class c) among.0) (ap (global m.globals) among.1 ∙ is)
 

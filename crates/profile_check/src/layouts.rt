@@ -7,20 +7,13 @@ ghost use Rattle.layout_rules.specs.Blocks.{Broken as BreaksLayout};
 ghost use Rattle.profile_check.specs.Data.{IsLayoutRight};
 ghost use Rattle.profile_check.specs.Layouts.{struct_in, IsLaidOut, AreJudged, AreLaidOut};
 
-use buffer_layout::{block_of, check_block};
+use buffer_layout::{PUSH_CONSTANT, STORAGE_BUFFER, UNIFORM, block_of, check_block};
 use spv_decor::Decor;
 use spv_index::pointer;
 use spv_module::{Id, Module};
 use spv_words::Fault;
 use std::alloc::Global;
 use std::collections::BTreeSet;
-
-/// The storage classes of blocks (SPIR-V 1.6, section 3.7).
-const UNIFORM: u32 = 2;
-
-const PUSH_CONSTANT: u32 = 9;
-
-const STORAGE_BUFFER: u32 = 12;
 
 /// The struct that a block variable of a storage class points to.
 fn struct_of(module: &Module, id: Id, class: u32) -> Option<u32>
