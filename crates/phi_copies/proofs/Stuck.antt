@@ -45,12 +45,14 @@ some_reads ps h j inside some =
     let v = target (pair_at ps j) in
     let found = one_passes (reads h v) ps no_pair some in
     let p : Pair = pair_at ps found.at in
-    let parts = reads_parts (is_set h (target p)) (is_var v p.1) (is_some (spare_of h v)) found.passes in
-    (found.at, record {
-      still = record { below = found.below; unset = parts.0 };
-      read = record { from = found.below; to = inside; source = parts.1.0 };
-      unspared = parts.1.1;
-    })
+    let parts = reads_parts (is_set h (target p)) (is_var v p.1) (is_some (spare_of h v)) found.passes in (
+      found.at,
+      record {
+        still = record { below = found.below; unset = parts.0 };
+        read = record { from = found.below; to = inside; source = parts.1.0 };
+        unspared = parts.1.1;
+      },
+    )
 
 some_or_none : (n : ℕ) → (n ≡ 0 → ⊥) → 0 < n
 some_or_none n h = omega (arith, h)
@@ -99,7 +101,9 @@ module _ (ps : List Pair) (h : List Move) (own : HaveOwnTargets ps) (stuck : (i 
     stays (suc d) m zero e = absurd (omega (arith, e))
     stays (suc d) m (suc n) e =
         let next = reader (before n).0 (before n).1 in (
-        next.1.still, ((before n).0, (next.1.read, stays d m n (omega (arith, e)))))
+          next.1.still,
+          ((before n).0, (next.1.read, stays d m n (omega (arith, e)))),
+        )
 
     -- two of them are one
     pub record IsRound : Type 0 where
