@@ -1,0 +1,7 @@
+// What of a module is written into its text, in which order, under which names and by which expressions:
+// definitions, and the plain types that they speak of.
+#![tactic(auto)]
+
+mod readings;
+
+pub use readings::Reading;
