@@ -13,7 +13,8 @@ use crate::nest::Nest;
 use spv_words::{Fault, Refusal, Rule};
 use std::alloc::{AllocError, Global};
 
-fn entry(table: &[Option<usize>], block: usize) -> Option<usize>
+/// What the table has for a block.
+pub fn entry(table: &[Option<usize>], block: usize) -> Option<usize>
     ensures { result ≡ entry_of table.now block }
 {
     table.get(block).copied().flatten()

@@ -123,13 +123,21 @@ fn last_table(alloc: Global, nest: &Nest, links: &[Link]) -> Result<Vec<Option<u
     }
 }
 
-/// For each case target the one into which it falls. It refuses by rules K9 to K11: a case target falls
-/// into two others, is fallen into from two cases, or falls form a cycle.
-pub fn check_falls(alloc: Global, nest: &Nest) -> Result<Vec<Option<usize>>, Fault>
+/// For each case target the one into which it falls, and the one that falls into it.
+#[derive(Drop)]
+pub struct Falls {
+    pub next: Vec<Option<usize>>,
+    pub last: Vec<Option<usize>>,
+}
+
+/// The falls between case targets. It refuses by rules K9 to K11: a case target falls into two others,
+/// is fallen into from two cases, or falls form a cycle.
+pub fn check_falls(alloc: Global, nest: &Nest) -> Result<Falls, Fault>
     requires within { AreWithin nest.now }
     requires grounded { IsGrounded nest.now }
     requires earlier { IsFineBefore nest.now K9 }
-    ensures table { IfOk result (λ table. IsTable (fall_links_of nest.now) table.items) }
+    ensures next { IfOk result (λ falls. IsTable (fall_links_of nest.now) falls.next.items) }
+    ensures last { IfOk result (λ falls. IsTable (turned_links (fall_links_of nest.now)) falls.last.items) }
     ensures passes { OnOk result (NoRuleBroken (BrokenIn nest.now) structure_rules) }
     ensures refused { IfErr result (IsRightIn nest.now) }
 {
@@ -138,5 +146,5 @@ pub fn check_falls(alloc: Global, nest: &Nest) -> Result<Vec<Option<usize>>, Fau
     let last = last_table(alloc, nest, &links)?;
     let heights = heights(alloc, &next, &last)?;
     check_cycles(nest, &next, &heights)?;
-    Ok(next)
+    Ok(Falls { next, last })
 }

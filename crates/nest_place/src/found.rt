@@ -3,11 +3,13 @@ ghost use Rattle.std.specs.Prelude.{◌≡◌, ◌<◌, length, true};
 ghost use Rattle.structure_rules.specs.declared.graph.EdgeKind.{EdgeKind as EdgeKindOf};
 ghost use Rattle.structure_rules.specs.Graph.{nth, leads_to as leads_to_block};
 ghost use Rattle.structure_rules.specs.Nesting.{first_of, place};
-ghost use Rattle.structure_rules.specs.EdgeKinds.{has_kind};
+ghost use Rattle.structure_rules.specs.EdgeKinds.{has_kind, nearest_loop as nearest_loop_at, innermost_switch as innermost_switch_at};
 ghost use Rattle.structure_rules.specs.Structure.{fall_links};
-ghost use Rattle.nest_place.specs.Links.{IsTable};
+ghost use Rattle.nest_place.specs.Links.{IsTable, turned_links};
 ghost use Rattle.nest_place.specs.Nests.{IsSound as IsSoundGraph};
 
+use crate::cycles::entry;
+use crate::falls::Falls;
 use crate::nest::Nest;
 use std::marker::Model;
 use structure_rules::{EdgeKind, Node, Part};
@@ -18,7 +20,7 @@ use structure_rules::{EdgeKind, Node, Part};
 #[derive(Drop)]
 pub struct Places {
     nest: Nest,
-    falls: Vec<Option<usize>>,
+    falls: Falls,
 }
 
 impl Model for Places {
@@ -28,12 +30,12 @@ impl Model for Places {
     ghost Value = { List Node };
 
     ghost use Rattle.structure_rules.specs.Structure.{fall_links};
-    ghost use Rattle.nest_place.specs.Links.{IsTable};
+    ghost use Rattle.nest_place.specs.Links.{IsTable, turned_links};
     ghost use Rattle.nest_place.specs.Nests.{IsSound};
 
     ghost view = { λ p. p.nest };
 
-    ghost invariant = { λ p. IsSound p.nest × IsTable (fall_links p.nest) p.falls.items };
+    ghost invariant = { λ p. IsSound p.nest × IsTable (fall_links p.nest) p.falls.next.items × IsTable (turned_links (fall_links p.nest)) p.falls.last.items };
 }
 
 /// Whether an edge leads from this block to the other.
@@ -44,10 +46,11 @@ fn leads_to(node: &Node, to: usize) -> bool
 }
 
 impl Places {
-    /// The places of a graph that is sound, with the case target into which each falls.
-    pub fn sound(nest: Nest, falls: Vec<Option<usize>>) -> Places
+    /// The places of a graph that is sound, with the falls between its case targets.
+    pub fn sound(nest: Nest, falls: Falls) -> Places
         requires sound { IsSoundGraph nest }
-        requires falls { IsTable (fall_links nest) falls.items }
+        requires next { IsTable (fall_links nest) falls.next.items }
+        requires last { IsTable (turned_links (fall_links nest)) falls.last.items }
         ensures { result ≡ nest }
     {
         Places { nest, falls }
@@ -61,12 +64,38 @@ impl Places {
         self.nest.nodes()
     }
 
+    /// The nearest loop round the edges of a reached block: its body, or its continue construct.
+    #[tactic(auto, using(crate::proofs::Origins::origin_rules, crate::proofs::Outward::reached_inside))]
+    pub fn nearest_loop(&self, block: usize) -> Option<Part>
+        requires { (nth self.now block).reached ≡ true }
+        ensures { result ≡ nearest_loop_at self.now block }
+    {
+        self.nest.origin(block).nearest
+    }
+
+    /// The innermost switch round the edges of a reached block, with no loop between.
+    #[tactic(auto, using(crate::proofs::Origins::origin_rules, crate::proofs::Outward::reached_inside))]
+    pub fn innermost_switch(&self, block: usize) -> Option<usize>
+        requires { (nth self.now block).reached ≡ true }
+        ensures { result ≡ innermost_switch_at self.now block }
+    {
+        self.nest.origin(block).switch
+    }
+
     /// The case target into which the construct of this one falls through, where there is one (GLSL
     /// 4.60, section 6.2). It is one at most.
     pub fn falls_into(&self, target: usize) -> Option<usize>
         ensures { result ≡ first_of (fall_links self.now) target }
     {
-        self.falls.get(target).copied().flatten()
+        entry(&self.falls.next, target)
+    }
+
+    /// The case target whose construct falls through into that of this one, where there is one. It is
+    /// one at most.
+    pub fn fallen_from(&self, target: usize) -> Option<usize>
+        ensures { result ≡ first_of (turned_links (fall_links self.now)) target }
+    {
+        entry(&self.falls.last, target)
     }
 
     /// Whether edges lead to the block from the first one.

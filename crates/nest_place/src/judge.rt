@@ -6,12 +6,12 @@ ghost use Rattle.structure_rules.specs.Graph.{graph};
 ghost use Rattle.structure_rules.specs.Structure.{BrokenIn, BrokenStructure, IsRightIn, IsRightStructure, IsTooDeep, fall_links, structure_rules};
 ghost use Rattle.block_graph.specs.Within.{AreWithin, AreReached};
 ghost use Rattle.nest_place.specs.Checks.{IsFineBefore};
-ghost use Rattle.nest_place.specs.Links.{IsTable};
+ghost use Rattle.nest_place.specs.Links.{IsTable, turned_links};
 ghost use Rattle.nest_place.specs.Spots.{IsGrounded, IsShallow};
 ghost use Rattle.nest_place.specs.Steps.{AreRoles};
 
 use crate::edges::{check_kinds, check_loose};
-use crate::falls::check_falls;
+use crate::falls::{Falls, check_falls};
 use crate::forms::{check_first, check_merges, check_targets};
 use crate::found::Places;
 use crate::headers::Headers;
@@ -54,12 +54,13 @@ fn nest_of(alloc: Global, nodes: Vec<Node>) -> Result<Nest, Fault>
     Nest::of(alloc, nodes, roles)
 }
 
-/// For each case target the one into which it falls, where rules K6 to K11 are unbroken.
-fn check_edges(alloc: Global, nest: &Nest) -> Result<Vec<Option<usize>>, Fault>
+/// The falls between case targets, where rules K6 to K11 are unbroken.
+fn check_edges(alloc: Global, nest: &Nest) -> Result<Falls, Fault>
     requires within { AreWithin nest.now }
     requires grounded { IsGrounded nest.now }
     requires earlier { IsFineBefore nest.now K6 }
-    ensures table { IfOk result (λ table. IsTable (fall_links nest.now) table.items) }
+    ensures next { IfOk result (λ falls. IsTable (fall_links nest.now) falls.next.items) }
+    ensures last { IfOk result (λ falls. IsTable (turned_links (fall_links nest.now)) falls.last.items) }
     ensures passes { OnOk result (NoRuleBroken (BrokenIn nest.now) structure_rules) }
     ensures refused { IfErr result (IsRightIn nest.now) }
 {
