@@ -1,0 +1,9 @@
+pub mod Views
+pub mod Onward
+pub mod Grouped
+pub mod Shape
+pub mod Rounds
+pub mod Counting
+pub mod Kids
+pub mod Standing
+pub mod Armed

@@ -1,0 +1,114 @@
+// The trees of small functions.
+use crate::{Exit, Group, Item, Region, recover};
+use nest_place::{EdgeKind, places};
+use spv_module::Module;
+use spv_words::{Fault, Limit, Words};
+use std::alloc::{AllocError, Global};
+use std::test::Fail;
+
+// The header of a module, and a function up to its first label, %16.
+static FRONT: [u32; 12] = [
+    0x7230203, 0x10300, 0, 0x400, 0, 0x50036, 6, 1, 0, 7, 0x200f8, 16,
+];
+
+fn put(bytes: &mut Vec<u8>, words: &[u32]) -> Result<(), AllocError> {
+    for word in words {
+        bytes.extend_from_slice(&word.to_le_bytes())?;
+    }
+    Ok(())
+}
+
+// The module of a function with this body behind its first label.
+fn module_of(alloc: Global, body: &[u32]) -> Result<Module, Fault> {
+    let mut bytes = Vec::new(alloc);
+    put(&mut bytes, &FRONT)?;
+    put(&mut bytes, body)?;
+    put(&mut bytes, &[0x10038])?;
+    if bytes.len() > 1048576 {
+        return Err(Fault::Limit(Limit::Bytes));
+    }
+    let words = Words::of(alloc, &bytes)?;
+    Module::read(alloc, &words)
+}
+
+fn head(item: &Item) -> usize {
+    match item {
+        Item::Plain(block) => *block,
+        Item::If { head, .. } => *head,
+        Item::Loose { head, .. } => *head,
+        Item::Loop { head, .. } => *head,
+        Item::Switch { head, .. } => *head,
+    }
+}
+
+// The region has items for these blocks, and this exit.
+fn holds(region: &Region, blocks: &[usize], exit: Exit) -> bool {
+    if region.exit != exit || region.items.len() != blocks.len() {
+        return false;
+    }
+    for (item, block) in region.items.iter().zip(blocks) {
+        if head(item) != *block {
+            return false;
+        }
+    }
+    true
+}
+
+// The group is that of this target, with these labels.
+fn is_group(group: &Group, target: usize, labels: &[u32], default: bool) -> bool {
+    group.target == target && group.labels.as_slice() == labels && group.default == default
+}
+
+// A loop with a switch inside, the first case of which falls into the second.
+static SWITCH_IN_LOOP: [u32; 45] = [
+    0x200f9, 31, 0x200f8, 31, 0x400f6, 35, 34, 0, 0x200f9, 32, 0x200f8, 32, 0x300f7, 37, 0,
+    0xb00fb, 40, 37, 1, 51, 2, 52, 3, 35, 5, 34, 0x200f8, 51, 0x200f9, 52, 0x200f8, 52, 0x200f9,
+    37, 0x200f8, 37, 0x200f9, 34, 0x200f8, 34, 0x200f9, 31, 0x200f8, 35, 0x100fd,
+];
+
+#[test]
+fn recovers_a_loop(rt: HostRuntime) -> Result<(), Fail> {
+    let alloc = rt.alloc();
+    let module = module_of(alloc, &SWITCH_IN_LOOP)?;
+    let function = module.functions().first().expect(&rt, "one function");
+    let places = places(alloc, function)?;
+    let tree = recover(alloc, function, &places)?;
+    assert!(rt; holds(&tree, &[0, 1, 7], Exit::Return(7)));
+    let Item::Loop {
+        head: 1,
+        cont: Some(cont),
+        body,
+    } = &tree.items[1]
+    else {
+        panic!(rt; "no loop");
+    };
+    assert!(rt; holds(cont, &[6], Exit::Edge(6, 1, EdgeKind::Back)));
+    assert!(rt; holds(body, &[1, 2, 5], Exit::Edge(5, 6, EdgeKind::Continue)));
+    let Item::Switch { head: 2, groups } = &body.items[1] else {
+        panic!(rt; "no switch");
+    };
+    assert!(rt; groups.len() == 5);
+    assert!(rt; is_group(&groups[0], 3, &[1], false));
+    assert!(rt; holds(&groups[0].body, &[3], Exit::Edge(3, 4, EdgeKind::Fall)));
+    assert!(rt; is_group(&groups[1], 4, &[2], false));
+    assert!(rt;
+        holds(
+            &groups[1].body,
+            &[4],
+            Exit::Edge(4, 5, EdgeKind::SwitchBreak)
+        )
+    );
+    assert!(rt; is_group(&groups[2], 5, &[], true));
+    assert!(rt;
+        holds(
+            &groups[2].body,
+            &[],
+            Exit::Edge(2, 5, EdgeKind::SwitchBreak)
+        )
+    );
+    assert!(rt; is_group(&groups[3], 6, &[5], false));
+    assert!(rt; holds(&groups[3].body, &[], Exit::Edge(2, 6, EdgeKind::Continue)));
+    assert!(rt; is_group(&groups[4], 7, &[3], false));
+    assert!(rt; holds(&groups[4].body, &[], Exit::Edge(2, 7, EdgeKind::Break)));
+    Ok(())
+}

@@ -1,0 +1,163 @@
+// From blocks to regions.
+ghost use Rattle.std.specs.Prelude.{◌≡◌, true, false, IfOk};
+ghost use Rattle.structure_rules.specs.Graph.{graph, nth, is_conditional, is_switch};
+ghost use Rattle.structure_recover.specs.Tree.{head as head_of, is_loop};
+ghost use Rattle.structure_recover.specs.View.{region_of, item_of};
+ghost use Rattle.structure_recover.specs.Follows.{Follows, FollowsItem, StandsAt, IsTree, first as first_of};
+ghost use Rattle.structure_recover.specs.Once.{StandsOnce};
+ghost use Rattle.structure_recover.specs.Later.{IsReached, block_of};
+
+use crate::arms::arms_of;
+use crate::edges::{
+    Next, Start, along, along_target, behind, continue_block, heads_loop, is_selection, node,
+};
+use crate::region::{Exit, Group, Item, Region};
+use nest_place::Places;
+use spv_module::Function;
+use spv_words::Memory;
+use std::alloc::Global;
+use structure_rules::Exit as Terminator;
+
+/// A region.
+#[cycle(recover)]
+#[tactic(auto, using(crate::proofs::Views::view_rules))]
+fn region(alloc: Global, f: &Function, places: &Places, from: Next) -> Result<Region, Memory>
+    requires { IsReached places.now from }
+    ensures { IfOk result (λ r. Follows f.now places.now (region_of r) from) }
+{
+    let mut items = Vec::new(alloc);
+    let mut next = from;
+    loop {
+        match next {
+            Next::Stop(exit) => return Ok(Region { items, exit }),
+            Next::At(start) => {
+                items.push(item_at(alloc, f, places, start)?)?;
+                next = behind(f, places, start);
+            }
+        }
+    }
+}
+
+/// The item with which a region begins.
+#[cycle(recover)]
+#[tactic(auto, using(crate::proofs::Views::view_rules))]
+fn item_at(alloc: Global, f: &Function, places: &Places, start: Start) -> Result<Item, Memory>
+    requires { (nth places.now (block_of start)).reached ≡ true }
+    ensures stands { IfOk result (λ i. StandsAt places.now (item_of i) start) }
+    ensures follows { IfOk result (λ i. FollowsItem f.now places.now (item_of i)) }
+{
+    match start {
+        Start::Block(block) if heads_loop(places, block) => loop_of(alloc, f, places, block),
+        Start::Block(block) | Start::Body(block) => block_item(alloc, f, places, block),
+    }
+}
+
+/// The loop that a block heads.
+#[cycle(recover)]
+#[tactic(auto, using(crate::proofs::Views::view_rules))]
+fn loop_of(alloc: Global, f: &Function, places: &Places, head: usize) -> Result<Item, Memory>
+    requires { (nth places.now head).reached ≡ true }
+    ensures head { IfOk result (λ i. (head_of (item_of i) ≡ head) × (is_loop (item_of i) ≡ true)) }
+    ensures follows { IfOk result (λ i. FollowsItem f.now places.now (item_of i)) }
+{
+    let body = region(alloc, f, places, Next::At(Start::Body(head)))?;
+    let body = Box::new(alloc, body)?;
+    match continue_block(places, head) {
+        None => Ok(Item::Loop {
+            head,
+            cont: None,
+            body,
+        }),
+        Some(block) => {
+            let cont = region(alloc, f, places, Next::At(Start::Block(block)))?;
+            let cont = Some(Box::new(alloc, cont)?);
+            Ok(Item::Loop { head, cont, body })
+        }
+    }
+}
+
+/// The item that stands for a block.
+#[cycle(recover)]
+#[tactic(auto, using(crate::proofs::Views::view_rules))]
+fn block_item(alloc: Global, f: &Function, places: &Places, block: usize) -> Result<Item, Memory>
+    requires { (nth places.now block).reached ≡ true }
+    ensures head { IfOk result (λ i. (head_of (item_of i) ≡ block) × (is_loop (item_of i) ≡ false)) }
+    ensures follows { IfOk result (λ i. FollowsItem f.now places.now (item_of i)) }
+{
+    match node(places, block).exit {
+        Terminator::Branch | Terminator::Leave => Ok(Item::Plain(block)),
+        Terminator::Conditional => conditional(alloc, f, places, block),
+        Terminator::Switch => switch(alloc, f, places, block),
+    }
+}
+
+/// A conditional.
+#[cycle(recover)]
+#[tactic(auto, using(crate::proofs::Views::view_rules))]
+fn conditional(alloc: Global, f: &Function, places: &Places, head: usize) -> Result<Item, Memory>
+    requires reached { (nth places.now head).reached ≡ true }
+    requires conditional { is_conditional (nth places.now head).exit ≡ true }
+    ensures head { IfOk result (λ i. (head_of (item_of i) ≡ head) × (is_loop (item_of i) ≡ false)) }
+    ensures follows { IfOk result (λ i. FollowsItem f.now places.now (item_of i)) }
+{
+    let taken = region(alloc, f, places, along_target(places, head, 0))?;
+    let taken = Box::new(alloc, taken)?;
+    let other = region(alloc, f, places, along_target(places, head, 1))?;
+    let other = Box::new(alloc, other)?;
+    if is_selection(node(places, head).merge) {
+        Ok(Item::If { head, taken, other })
+    } else {
+        Ok(Item::Loose { head, taken, other })
+    }
+}
+
+/// A switch.
+#[cycle(recover)]
+#[tactic(auto, using(crate::proofs::Views::view_rules))]
+fn switch(alloc: Global, f: &Function, places: &Places, head: usize) -> Result<Item, Memory>
+    requires reached { (nth places.now head).reached ≡ true }
+    requires switch { is_switch (nth places.now head).exit ≡ true }
+    ensures head { IfOk result (λ i. (head_of (item_of i) ≡ head) × (is_loop (item_of i) ≡ false)) }
+    ensures follows { IfOk result (λ i. FollowsItem f.now places.now (item_of i)) }
+{
+    let arms = arms_of(alloc, f, places, head)?;
+    let mut groups = Vec::new(alloc);
+    for arm in arms {
+        let body = region(alloc, f, places, along(places, head, arm.target))?;
+        groups.push(Group {
+            target: arm.target,
+            labels: arm.labels,
+            default: arm.default,
+            body,
+        })?;
+    }
+    Ok(Item::Switch { head, groups })
+}
+
+/// Where the tree of a function begins: with its first block, where it has one.
+#[tactic(auto, using(crate::proofs::Shape::first_rules))]
+fn first(f: &Function, places: &Places) -> Next
+    requires { places.now ≡ graph f.now }
+    ensures first { result ≡ first_of places.now }
+    ensures reached { IsReached places.now result }
+{
+    if places.nodes().is_empty() {
+        Next::Stop(Exit::Closed)
+    } else {
+        Next::At(Start::Block(0))
+    }
+}
+
+/// The tree of a function's control flow (SPIR-V 1.6, section 2.11), where the places are those of the
+/// function. It begins with the first block and follows the edges. Each reached block stands in it once,
+/// within the constructs that are round it, and the header of a loop within the loop.
+#[tactic(auto, using(crate::proofs::Standing::tree_rules))]
+pub fn recover(alloc: Global, f: &Function, places: &Places) -> Result<Region, Memory>
+    requires { places.now ≡ graph f.now }
+    ensures follows { IfOk result (λ r. IsTree f.now (region_of r)) }
+    ensures once { IfOk result (λ r. StandsOnce (graph f.now) (region_of r)) }
+{
+    let _nodes = places.nodes();
+    let tree = region(alloc, f, places, first(f, places))?;
+    Ok(tree)
+}
