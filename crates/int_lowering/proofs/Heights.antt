@@ -39,7 +39,7 @@ choice-le : (b : Bool) (x y : Expr) (n : ℕ) → height x ≤ n → height y �
 choice-le true x y n p q = p
 choice-le false x y n p q = q
 
-base-flat : (e : Elem) (size : Option ℕ) → base_height (base_named e size) ≤ 0
+pub base-flat : (e : Elem) (size : Option ℕ) → base_height (base_named e size) ≤ 0
 base-flat elem.Bool None = omega arith
 base-flat elem.Int None = omega arith
 base-flat elem.Uint None = omega arith
@@ -244,13 +244,16 @@ third-le xs = omega (arith, second-le (rest xs), rest-le xs)
 fourth-le : (xs : List Operand) → height (fourth xs).expr ≤ 1 + highest_operand xs
 fourth-le xs = omega (arith, third-le (rest xs), rest-le xs)
 
-found-le : (found : Option Operation) (ty : BasicType) (xs : List Operand) → height (written_if_any found ty xs) ≤ 40 + highest_operand xs
+found-le : (found : Option Operation) (ty : BasicType) (xs : List Operand) → height (written_if_any found ty xs) ≤ 12 + highest_operand xs
 found-le None ty xs = omega arith
 found-le (Some o) ty xs = omega (arith, written-le o ty (first xs) (second xs) (third xs) (fourth xs) (1 + highest_operand xs) (first-le xs) (second-le xs) (third-le xs) (fourth-le xs))
 
--- the law: at most 40 higher than the highest operand
+-- the law: at most 12, so at most 40, higher than the highest operand
+pub height-close : (op ext : ℕ) (ty : BasicType) (xs : List Operand) → height (lowered_basic op ext ty xs) ≤ 12 + highest_operand xs
+height-close op ext ty xs = found-le (operation_of op (ext ∷ [])) ty xs
+
 pub height-lowered_basic : (op ext : ℕ) (ty : BasicType) (xs : List Operand) → height (lowered_basic op ext ty xs) ≤ 40 + highest_operand xs
-height-lowered_basic op ext ty xs = found-le (operation_of op (ext ∷ [])) ty xs
+height-lowered_basic op ext ty xs = within-le _ _ _ (height-close op ext ty xs) (omega arith)
 
 -- the same of a call's answer
 pub height-result : (r : Result Code Memory) (op ext : ℕ) (ty : BasicType) (xs : List Operand) → IfOk r (λ e. expr_of e ≡ lowered_basic op ext ty xs) → IfOk r (λ e. height (expr_of e) ≤ 40 + highest_operand xs)

@@ -1,0 +1,5 @@
+pub mod Named
+pub mod Component
+pub mod Composite
+pub mod Lowered
+pub mod Depth

@@ -1,0 +1,162 @@
+// Operations on vectors, written on vectors or component by component.
+ghost use Rattle.std.specs.Prelude.{◌≡◌, IfOk, map};
+ghost use Rattle.spv_types.specs.View.{tree_of};
+ghost use Rattle.glsl_ast.specs.View.{expr_of};
+ghost use Rattle.glsl_ast.specs.Tree.{Expr as Tree};
+ghost use Rattle.int_lowering.specs.Operand.{operand_of, basic_type as basic_type_of, scalar, first};
+ghost use Rattle.vec_lowering.specs.Component as component;
+
+use glsl_ast::Expr;
+use int_lowering::{Arg, BasicType, basic_type, lower, lower_basic, type_name};
+use op_semantics::{Binary, Operation, Unary};
+use spv_module::{Elem, Shape};
+use spv_words::Memory;
+use std::alloc::Global;
+
+#[tactic(auto, unfolding(crate::specs::Component::axis_name))]
+fn axis_text(k: u32) -> &'static str
+    ensures { result.now ≡ component.axis_name k }
+{
+    match k {
+        0 => "x",
+        1 => "y",
+        2 => "z",
+        _ => "w",
+    }
+}
+
+/// A component of a vector.
+#[tactic(auto, using(glsl_ast::proofs::Views::expr_rows))]
+pub fn axis(alloc: Global, of: Expr, k: u32) -> Result<Expr, Memory>
+    ensures { IfOk result (λ e. expr_of e ≡ Tree.member (expr_of of) (component.axis_name k)) }
+{
+    let name = String::from_str(alloc, axis_text(k))?;
+    Ok(Expr::Member(Box::new(alloc, of)?, name))
+}
+
+#[tactic(auto, using(spv_types::proofs::Views::shape_rows))]
+fn scalar_shape(elem: Elem) -> Shape
+    ensures { basic_type_of (tree_of result) ≡ scalar elem }
+{
+    match elem {
+        Elem::Bool => Shape::Bool,
+        Elem::Int => Shape::Int,
+        Elem::Uint => Shape::Uint,
+    }
+}
+
+/// A component of an operand, and a scalar operand as it is.
+fn component(alloc: Global, arg: &Arg, k: u32) -> Result<Arg, Memory>
+    ensures { IfOk result (λ a. operand_of a ≡ component.component k (operand_of arg.now)) }
+{
+    let ty = basic_type(&arg.shape);
+    let shape = scalar_shape(ty.elem);
+    let expr = arg.expr.clone_in(alloc)?;
+    match ty.size {
+        None => Ok(Arg {
+            expr,
+            shape,
+            word: arg.word,
+        }),
+        Some(_) => Ok(Arg {
+            expr: axis(alloc, expr, k)?,
+            shape,
+            word: None,
+        }),
+    }
+}
+
+fn components(alloc: Global, args: &[Arg], k: u32) -> Result<Vec<Arg>, Memory>
+    ensures { IfOk result (λ parts. map operand_of parts.items ≡ map (component.component k) (map operand_of args.now)) }
+{
+    let mut parts = Vec::new(alloc);
+    for arg in args {
+        parts.push(component(alloc, arg, k)?)?;
+    }
+    Ok(parts)
+}
+
+/// A constructor of the operation's components.
+#[tactic(auto, using(glsl_ast::proofs::Views::expr_rows))]
+fn by_component(
+    alloc: Global,
+    op: u16,
+    ext: u32,
+    elem: Elem,
+    size: u8,
+    args: &[Arg],
+) -> Result<Expr, Memory>
+    ensures { IfOk result (λ e. expr_of e ≡ component.by_component op ext elem size (map operand_of args.now)) }
+{
+    let mut parts = Vec::new(alloc);
+    for k in 0..size {
+        let args = components(alloc, args, u32::from(k))?;
+        parts.push(lower(alloc, op, ext, elem, args)?)?;
+    }
+    let size = Some(size);
+    Ok(Expr::Build(type_name(alloc, BasicType { elem, size }), parts))
+}
+
+/// GLSL has an operator on vectors too (GLSL 4.60, section 5.9).
+fn is_operator(op: Binary) -> bool
+    ensures { result ≡ component.is_operator op }
+{
+    matches!(
+        op,
+        Binary::IAdd
+            | Binary::ISub
+            | Binary::IMul
+            | Binary::UDiv
+            | Binary::UMod
+            | Binary::ShiftRightLogical
+            | Binary::ShiftRightArithmetic
+            | Binary::ShiftLeftLogical
+            | Binary::BitwiseOr
+            | Binary::BitwiseXor
+            | Binary::BitwiseAnd
+    )
+}
+
+/// An operation is written on vectors as on scalars, where its first operand is of this type.
+fn is_alike(operation: Operation, ty: BasicType) -> bool
+    ensures { result ≡ component.is_alike operation ty }
+{
+    match operation {
+        Operation::Unary(Unary::SNegate | Unary::Not) | Operation::Copy => true,
+        Operation::Binary(op) => is_operator(op),
+        Operation::Select => ty.size.is_none(),
+        _ => false,
+    }
+}
+
+/// The type of the first operand, and uint where there is none.
+fn first_type(args: &[Arg]) -> BasicType
+    ensures { result ≡ (first (map operand_of args.now)).ty }
+{
+    match args {
+        [] => BasicType {
+            elem: Elem::Uint,
+            size: None,
+        },
+        [arg, ..] => basic_type(&arg.shape),
+    }
+}
+
+/// An operation with a result of a basic type.
+pub fn on_basic(
+    alloc: Global,
+    op: u16,
+    ext: u32,
+    operation: Operation,
+    ty: BasicType,
+    args: Vec<Arg>,
+) -> Result<Expr, Memory>
+    ensures { IfOk result (λ e. expr_of e ≡ component.on_basic op ext operation ty (map operand_of args.items)) }
+{
+    match ty.size {
+        Some(size) if !is_alike(operation, first_type(&args)) => {
+            by_component(alloc, op, ext, ty.elem, size, &args)
+        }
+        _ => lower_basic(alloc, op, ext, ty, args),
+    }
+}
