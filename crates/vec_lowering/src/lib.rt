@@ -10,3 +10,6 @@ mod names;
 
 pub use instructions::lower_vector;
 pub use names::shape_type;
+
+#[cfg(test)]
+mod tests;
