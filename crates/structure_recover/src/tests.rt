@@ -74,6 +74,7 @@ fn recovers_a_loop(rt: HostRuntime) -> Result<(), Fail> {
     let places = places(alloc, function)?;
     let tree = recover(alloc, function, &places)?;
     assert!(rt; holds(&tree, &[0, 1, 7], Exit::Return(7)));
+    assert!(rt; tree.items.len() == 3);
     let Item::Loop {
         head: 1,
         cont: Some(cont),
@@ -84,6 +85,7 @@ fn recovers_a_loop(rt: HostRuntime) -> Result<(), Fail> {
     };
     assert!(rt; holds(cont, &[6], Exit::Edge(6, 1, EdgeKind::Back)));
     assert!(rt; holds(body, &[1, 2, 5], Exit::Edge(5, 6, EdgeKind::Continue)));
+    assert!(rt; body.items.len() == 3);
     let Item::Switch { head: 2, groups } = &body.items[1] else {
         panic!(rt; "no switch");
     };

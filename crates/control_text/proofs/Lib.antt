@@ -1,0 +1,5 @@
+mod StatementsExample
+mod FallingExample
+pub mod Rows
+pub mod Orders
+pub mod Steps

@@ -1,0 +1,14 @@
+// The statements of a function's control flow.
+#![tactic(auto)]
+
+mod block_text;
+mod edges;
+mod flags;
+mod place;
+mod regions;
+mod switches;
+#[cfg(test)]
+mod tests;
+
+pub use block_text::BlockText;
+pub use regions::function_text;

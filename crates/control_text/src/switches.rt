@@ -1,0 +1,118 @@
+// The parts of a switch.
+ghost use Rattle.std.specs.Prelude.{◌≡◌, ◌++◌, [], ◌∷◌, IfOk, OnOk, map};
+ghost use Rattle.structure_recover.specs.View.{region_of, group_of, groups_of};
+ghost use Rattle.glsl_ast.specs.View.{stmt_of, arm_of};
+ghost use Rattle.control_text.specs.Statements.{labels_text as text_of_labels, entering_case as text_of_entering_case, fell_flags as text_of_fell_flags, behind_switch as text_of_behind_switch, in_order as arms_in_order, by_target};
+ghost use Rattle.control_text.specs.Written.{group_written};
+
+use crate::block_text::BlockText;
+use crate::edges::entering;
+use crate::flags::{declare, named};
+use crate::place::Place;
+use glsl_ast::{Arm, Expr, Label, Stmt};
+use spv_words::Memory;
+use std::alloc::Global;
+use std::collections::BTreeMap;
+use structure_recover::{Group, Region};
+
+/// The labels of a group, the default last.
+pub fn labels_text<B: BlockText>(
+    alloc: Global,
+    blocks: &B,
+    header: usize,
+    words: &[u32],
+    default: bool,
+) -> Result<Vec<Label>, Memory>
+    ensures { IfOk result (λ labels. labels.items ≡ text_of_labels (B.blocks blocks.now) header words.now default) }
+{
+    let mut labels = Vec::new(alloc);
+    for word in words {
+        labels.push(Label::Case(blocks.case(header, *word)))?;
+    }
+    if default {
+        labels.push(Label::Default)?;
+    }
+    Ok(labels)
+}
+
+/// Appends the copies of the edge from a switch to a case target: not after a fall.
+#[tactic(auto, using(glsl_ast::proofs::Views::stmt_rows, glsl_ast::proofs::Views::expr_rows))]
+pub fn entering_case<B: BlockText>(
+    alloc: Global,
+    blocks: &B,
+    header: usize,
+    target: usize,
+    body: &Region,
+    out: &mut Vec<Stmt>,
+) -> Result<(), Memory>
+    ensures { OnOk result (map stmt_of out.new.items ≡ map stmt_of out.old.items ++ text_of_entering_case (B.blocks blocks.now) header target (region_of body.now)) }
+{
+    let Some(flag) = blocks.fell(target) else {
+        return entering(alloc, blocks, header, target, body, out);
+    };
+    let fell = Box::new(alloc, named(alloc, flag)?)?;
+    let mut copies = Vec::new(alloc);
+    entering(alloc, blocks, header, target, body, &mut copies)?;
+    out.push(Stmt::If(Expr::Not(fell), copies, None))?;
+    Ok(())
+}
+
+/// Appends the declarations of the flags of the case targets that are fallen into.
+#[tactic(auto, using(crate::proofs::Rows::group_rules))]
+pub fn fell_flags<B: BlockText>(
+    alloc: Global,
+    blocks: &B,
+    groups: &[Group],
+    out: &mut Vec<Stmt>,
+) -> Result<(), Memory>
+    ensures { OnOk result (map stmt_of out.new.items ≡ map stmt_of out.old.items ++ text_of_fell_flags (B.blocks blocks.now) (groups_of (map group_of groups.now))) }
+{
+    for group in groups {
+        declare(alloc, blocks.fell(group.target), out)?;
+    }
+    Ok(())
+}
+
+/// Appends what stands behind a switch by which a loop may be left.
+#[tactic(auto, using(glsl_ast::proofs::Views::stmt_rows))]
+pub fn behind_switch<B: BlockText>(
+    alloc: Global,
+    blocks: &B,
+    place: Place,
+    breaks: bool,
+    out: &mut Vec<Stmt>,
+) -> Result<(), Memory>
+    ensures { OnOk result (map stmt_of out.new.items ≡ map stmt_of out.old.items ++ text_of_behind_switch (B.blocks blocks.now) place breaks) }
+{
+    if !breaks {
+        return Ok(());
+    }
+    let Some(header) = place.in_loop else {
+        return Ok(());
+    };
+    let Some(flag) = blocks.leave(header) else {
+        return Ok(());
+    };
+    let mut leaving = Vec::new(alloc);
+    leaving.push(Stmt::Break)?;
+    out.push(Stmt::If(named(alloc, flag)?, leaving, None))?;
+    Ok(())
+}
+
+/// The groups in an order of their targets.
+pub fn in_order(
+    alloc: Global,
+    order: &[usize],
+    groups: Vec<(usize, Arm)>,
+) -> Result<Vec<Arm>, Memory>
+    ensures { IfOk result (λ arms. map arm_of arms.items ≡ arms_in_order order.now (by_target (map group_written groups.items))) }
+{
+    let mut by_target: BTreeMap<usize, Arm> = groups.into_iter().collect(alloc)?;
+    let mut arms = Vec::new(alloc);
+    for target in order {
+        if let Some(arm) = by_target.remove(target) {
+            arms.push(arm)?;
+        }
+    }
+    Ok(arms)
+}

@@ -1,0 +1,9 @@
+pub mod Taken
+pub mod Found
+pub mod Order
+pub mod Moves
+pub mod Joined
+pub mod Seen
+pub mod Searching
+pub mod Built
+pub mod Owners

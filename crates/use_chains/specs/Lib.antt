@@ -1,0 +1,7 @@
+pub mod Slots
+pub mod Links
+pub mod Order
+pub mod Linked
+pub mod Chains
+pub mod Search
+pub mod Building

@@ -1,0 +1,77 @@
+// The lists of the ids, found by id.
+ghost use Rattle.std.specs.Prelude.{◌≡◌, ◌<◌, length, IfSome, is_some, true};
+ghost use Rattle.use_chains.specs.Chains.{AreChains, place_of, ends_of, ArePut};
+
+use std::marker::Model;
+
+/// The ends of the list of the slots that mention an id, and how many these are.
+#[derive(Clone, Copy)]
+pub struct Ends {
+    pub first: Option<usize>,
+    pub last: Option<usize>,
+    pub count: u32,
+}
+
+/// A list for each id.
+#[derive(Drop)]
+pub struct Chains {
+    // rising
+    ids: Vec<u32>,
+    ends: Vec<Ends>,
+}
+
+impl Model for Chains {
+    ghost use Rattle.use_chains.specs.Chains.{ChainsState, AreChains};
+
+    ghost Value = { ChainsState };
+
+    ghost view = { λ c. record { ids = c.ids.items; ends = c.ends.items } };
+
+    ghost invariant = { λ c. AreChains c.ids.items c.ends.items };
+}
+
+impl Chains {
+    /// The lists of these ids, in the same order.
+    pub fn new(ids: Vec<u32>, ends: Vec<Ends>) -> Chains
+        requires { AreChains ids.items ends.items }
+        ensures { result ≡ record { ids = ids.items; ends = ends.items } }
+    {
+        Chains { ids, ends }
+    }
+
+    /// The place of an id among all.
+    #[tactic(auto, using(crate::proofs::Found::found_rules))]
+    fn place(&self, id: u32) -> Option<usize>
+        ensures place { result ≡ place_of self.now.ids id }
+        ensures within { IfSome result (λ place. place < length self.now.ends) }
+    {
+        match self.ids.binary_search(&id) {
+            Ok(place) => Some(place),
+            Err(_) => None,
+        }
+    }
+
+    /// The list of an id, which is empty where there is none.
+    pub fn of(&self, id: u32) -> Ends
+        ensures { result ≡ ends_of self.now id }
+    {
+        match self.place(id) {
+            Some(place) => self.ends[place],
+            None => Ends {
+                first: None,
+                last: None,
+                count: 0,
+            },
+        }
+    }
+
+    /// Writes the list of an id anew, where there is one.
+    pub fn put(&mut self, id: u32, ends: Ends)
+        ensures put { is_some (place_of self.old.ids id) ≡ true → ArePut self.old self.new id ends }
+        ensures ids { self.new.ids ≡ self.old.ids }
+    {
+        if let Some(place) = self.place(id) {
+            self.ends[place] = ends;
+        }
+    }
+}

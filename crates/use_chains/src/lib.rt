@@ -1,0 +1,18 @@
+// The operands of a function that mention a value, linked into one list for each id.
+#![tactic(auto)]
+
+mod build;
+mod chains;
+mod linking;
+mod live;
+mod mention;
+mod rows;
+mod slot;
+mod steps;
+#[cfg(test)]
+mod tests;
+mod uses;
+
+pub use slot::{Slot, SlotPlace};
+pub use steps::Steps;
+pub use uses::Uses;

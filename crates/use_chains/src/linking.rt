@@ -1,0 +1,96 @@
+// Taking a slot out of the list of an id, and putting it into one.
+ghost use Rattle.std.specs.Prelude.{◌≡◌, ◌+◌, ◌<◌, ◌^◌, length, true, false, is_some};
+ghost use Rattle.use_chains.specs.Chains.{place_of};
+ghost use Rattle.use_chains.specs.Order.{IsFirst, IsLast};
+ghost use Rattle.use_chains.specs.Linked.{AreLinked, row, names, taken_out, put_in as put_in_rows, shortened as shortened_ends, lengthened as lengthened_ends};
+
+use crate::Steps;
+use crate::chains::{Chains, Ends};
+use crate::rows::{Row, Rows};
+use std::sync::ledger::Ledger;
+
+/// The ends of a list from which a slot was taken.
+fn shortened(ends: Ends, row: Row) -> Ends
+    requires { 0 < ends.count }
+    ensures { result ≡ shortened_ends ends row }
+{
+    Ends {
+        first: match row.prev {
+            None => row.next,
+            Some(_) => ends.first,
+        },
+        last: match row.next {
+            None => row.prev,
+            Some(_) => ends.last,
+        },
+        count: ends.count - 1,
+    }
+}
+
+/// The ends of a list into which a slot was put between two others.
+fn lengthened(ends: Ends, k: usize, prev: Option<usize>, next: Option<usize>) -> Ends
+    requires { ends.count + 1 < 2 ^ 32 }
+    ensures { result ≡ lengthened_ends ends k prev next }
+{
+    Ends {
+        first: match prev {
+            None => Some(k),
+            Some(_) => ends.first,
+        },
+        last: match next {
+            None => Some(k),
+            Some(_) => ends.last,
+        },
+        count: ends.count + 1,
+    }
+}
+
+/// Takes a slot out of the list of its id. That is one step. The slot, as it was, is handed out.
+pub fn take_out<L: Ledger>(
+    rows: &mut Rows,
+    chains: &mut Chains,
+    k: usize,
+    steps: &mut Steps<L>,
+) -> Row
+    requires linked { AreLinked rows.old chains.old }
+    requires there { (row rows.old k).linked ≡ true }
+    ensures linked { AreLinked rows.new chains.new }
+    ensures row { result ≡ row rows.old k }
+    ensures rows { rows.new ≡ taken_out rows.old k }
+    ensures ids { chains.new.ids ≡ chains.old.ids }
+    ensures steps { steps.new ≡ steps.old + 1 }
+{
+    let row = rows.visit(k, steps);
+    rows.unlink(k);
+    rows.set_next(row.prev, row.next);
+    rows.set_prev(row.next, row.prev);
+    chains.put(row.id, shortened(chains.of(row.id), row));
+    row
+}
+
+/// Puts a slot that is not linked into the list of an id, between the last slot before it and the
+/// first behind it.
+pub fn put_in(
+    rows: &mut Rows,
+    chains: &mut Chains,
+    k: usize,
+    id: u32,
+    prev: Option<usize>,
+    next: Option<usize>,
+)
+    requires linked { AreLinked rows.old chains.old }
+    requires there { k < length rows.old }
+    requires free { (row rows.old k).linked ≡ false }
+    requires prev { IsLast (names rows.old id) k prev }
+    requires next { IsFirst (names rows.old id) (k + 1) next }
+    requires listed { is_some (place_of chains.old.ids id) ≡ true }
+    requires few { length rows.old < 2 ^ 32 }
+    ensures linked { AreLinked rows.new chains.new }
+    ensures rows { rows.new ≡ put_in_rows rows.old k id prev next }
+    ensures ids { chains.new.ids ≡ chains.old.ids }
+{
+    rows.link(k, id, prev, next);
+    rows.set_next(prev, Some(k));
+    rows.set_prev(next, Some(k));
+    chains.put(id, lengthened(chains.of(id), k, prev, next));
+}
