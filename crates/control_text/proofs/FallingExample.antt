@@ -35,16 +35,16 @@ blocks = record {
 abbrev region : Region
 region =
     item (switch 2 (
-        group 3 (1 ∷ []) false (item (plain 3) (ends (Edge 3 4 Fall))) (
-        group 4 (2 ∷ []) false (item (plain 4) (ends (Edge 4 5 SwitchBreak))) (
-        group 5 [] true (ends (Edge 2 5 SwitchBreak)) none))))
+    group 3 (1 ∷ []) false (item (plain 3) (ends (Edge 3 4 Fall))) (
+    group 4 (2 ∷ []) false (item (plain 4) (ends (Edge 4 5 SwitchBreak))) (
+    group 5 [] true (ends (Edge 2 5 SwitchBreak)) none))))
     (item (plain 5) (ends (Return 5)))
 
 fallen_into : function_text blocks region ≡
     does 2 ∷ declare_flag (codes "fell") ∷
     text.switch (name (2 ∷ [])) (text.arms_in (
-        text.group (Default ∷ []) (stmts_in (takes 2 5 ∷ text.leave ∷ [])) ∷
-        text.group (Case (Uint 1) ∷ []) (stmts_in (takes 2 3 ∷ does 3 ∷ takes 3 4 ∷ set_flag (codes "fell") true ∷ [])) ∷
-        text.group (Case (Uint 2) ∷ []) (stmts_in (when (not (name (codes "fell"))) (stmts_in (takes 2 4 ∷ [])) ∷ does 4 ∷ takes 4 5 ∷ text.leave ∷ [])) ∷ [])) ∷
+    text.group (Default ∷ []) (stmts_in (takes 2 5 ∷ text.leave ∷ [])) ∷
+    text.group (Case (Uint 1) ∷ []) (stmts_in (takes 2 3 ∷ does 3 ∷ takes 3 4 ∷ set_flag (codes "fell") true ∷ [])) ∷
+    text.group (Case (Uint 2) ∷ []) (stmts_in (when (not (name (codes "fell"))) (stmts_in (takes 2 4 ∷ [])) ∷ does 4 ∷ takes 4 5 ∷ text.leave ∷ [])) ∷ [])) ∷
     does 5 ∷ give None ∷ []
 fallen_into = refl
