@@ -1,7 +1,6 @@
 -- The expression of an operation on shapes at most 15 deep is at most 40 higher than the highest of its operands.
-use Rattle.std.proofs.Common.{◌≡◌, ℕ, zero, suc, ◌+◌, ◌*◌, ◌≤◌, Bool as Truth, true, false, List, [], ◌∷◌, ◌++◌, Option, Some, None, Result, Ok, Err, IfOk, max, map, arith, sym, subst, refl, nat_lt, ◌==◌, ◌-◌, if◌then◌else◌}
+use Rattle.std.proofs.Common.{◌≡◌, ℕ, zero, suc, ◌+◌, ◌*◌, ◌≤◌, Bool as Truth, true, false, List, [], ◌∷◌, ◌++◌, Option, Some, None, Result, Ok, Err, IfOk, max, map, arith, sym, subst, nat_lt, ◌==◌, ◌-◌, if◌then◌else◌}
 use Rattle.spv_module.specs.declared.tree.Elem.{Elem}
-use Rattle.spv_module.specs.declared.tree.Elem.TheVariants as elem
 use Rattle.spv_module.specs.declared.tree.Length.{Length}
 use Rattle.spv_module.specs.declared.tree.Length.TheVariants.{Fixed, Spec}
 use Rattle.spv_types.specs.Tree.{Tree, boolean, int, uint, vector, array, runtime, struct, Trees, no_trees, tree}
@@ -10,17 +9,17 @@ use Rattle.glsl_ast.specs.Tree as ast
 use Rattle.glsl_ast.specs.Tree.{Expr, TypeName, type_name, Extent, exprs_in}
 use Rattle.glsl_ast.specs.View.{expr_of}
 use Rattle.glsl_ast.specs.declared.expressions.Expr.{Expr as Code}
-use Rattle.glsl_ast.specs.Height.{height, heights, type_height, extent_height, base_height, highest}
+use Rattle.glsl_ast.specs.Height.{height, heights, type_height, extent_height}
 use Rattle.op_semantics.specs.Value.{operation_of}
 use Rattle.op_semantics.specs.declared.operation.Operation.{Operation}
 use Rattle.op_semantics.specs.declared.operation.Operation.TheVariants as op
 use Rattle.int_lowering.specs.declared.basic.BasicType.{BasicType}
-use Rattle.int_lowering.specs.Operand.{Operand, scalar, basic_type, base_named, type_named, literal_of, first, highest_operand}
-use Rattle.int_lowering.specs.Lowered.{lowered, lowered_basic, zero as zero_literal}
+use Rattle.int_lowering.specs.Operand.{Operand, scalar, basic_type, type_named, literal_of, first, highest_operand}
+use Rattle.int_lowering.specs.Lowered.{lowered, lowered_basic}
 use Rattle.int_lowering.proofs.Heights.{height-close, base-flat}
 use Rattle.vec_lowering.specs.Named.{Naming, extent_of_length, array_of, shape_type}
 use Rattle.vec_lowering.specs.Component.{component, component_of, each_below, by_component, is_alike, on_basic}
-use Rattle.vec_lowering.specs.Composite.{Argument, operand, first_of, rest_of, second_of, constructed, nth_or, element, axis, member_of, extracted, vector_size, picked, shuffled, has_struct, array_part, fixed_length, struct_id, struct_parts, copied, copied_parts}
+use Rattle.vec_lowering.specs.Composite.{Argument, operand, first_of, rest_of, second_of, constructed, nth_or, element, axis, member_of, extracted, vector_size, picked, has_struct, array_part, fixed_length, struct_id, struct_parts, copied, copied_parts}
 use Rattle.vec_lowering.specs.Depth.{depth, deepest, deepest_argument, highest_argument}
 use Rattle.vec_lowering.specs.Lowered.{extracted_from, extracted_at, shuffled_of, copied_from, on_arguments, copy_by, written, written_if_any, lowered_vector}
 

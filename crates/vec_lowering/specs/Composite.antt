@@ -1,5 +1,5 @@
 -- Vectors, arrays and structs, made of parts and taken apart.
-use Rattle.std.specs.Prelude.{ℕ, zero, suc, ◌==◌, ◌-◌, ◌+◌, ◌||◌, nat_lt, Bool as Truth, true, false, List, [], ◌∷◌, map, Option, Some, None, if◌then◌else◌}
+use Rattle.std.specs.Prelude.{ℕ, zero, suc, ◌==◌, ◌-◌, ◌+◌, nat_lt, Bool as Truth, true, false, List, [], ◌∷◌, map, Option, Some, None, if◌then◌else◌}
 use Rattle.spv_module.specs.declared.tree.Elem.{Elem}
 use Rattle.spv_module.specs.declared.tree.Length.{Length}
 use Rattle.spv_module.specs.declared.tree.Length.TheVariants.{Fixed, Spec}
@@ -9,7 +9,6 @@ use Rattle.glsl_ast.specs.Tree.{Expr, literal, build, exprs_in, Exprs, no_exprs,
 use Rattle.glsl_ast.specs.View.{expr_of}
 use Rattle.glsl_ast.specs.declared.expressions.Literal.TheVariants as lit
 use Rattle.int_lowering.specs.declared.operands.Arg.{Arg}
-use Rattle.int_lowering.specs.declared.basic.BasicType.{BasicType}
 use Rattle.int_lowering.specs.Operand.{Operand, basic_type, literal_of}
 use Rattle.vec_lowering.specs.Named.{Naming, member_name, shape_type}
 use Rattle.vec_lowering.specs.Component.{axis_name, each_below}

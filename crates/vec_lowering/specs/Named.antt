@@ -1,5 +1,5 @@
 -- The names of structs and members, and those of types.
-use Rattle.std.specs.Prelude.{ℕ, List, [], ◌∷◌, Option, Some, None}
+use Rattle.std.specs.Prelude.{ℕ, [], ◌∷◌, Option, Some, None}
 use Rattle.spv_module.specs.declared.tree.Elem.TheVariants.{Bool, Int, Uint}
 use Rattle.spv_module.specs.declared.tree.Length.{Length}
 use Rattle.spv_module.specs.declared.tree.Length.TheVariants.{Fixed, Spec}
@@ -7,6 +7,8 @@ use Rattle.spv_types.specs.Tree.{Tree, boolean, int, uint, vector, array, runtim
 use Rattle.glsl_ast.specs.Tree as tree
 use Rattle.glsl_ast.specs.Tree.{Text, TypeName, type_name, Extent, number, named, open_end}
 use Rattle.name_alloc.specs.declared.claims.Key.{Key}
+use Rattle.name_alloc.specs.declared.claims.Names.{Names}
+use Rattle.name_alloc.specs.Lookup.{name_in}
 use Rattle.name_alloc.specs.declared.claims.Key.TheVariants.{Id, Member}
 use Rattle.int_lowering.specs.Operand.{scalar, type_named}
 
@@ -17,6 +19,10 @@ Naming = Key → Option Text
 abbrev pub text_or_none : Option Text → Text
 text_or_none None = []
 text_or_none (Some w) = w
+
+-- those of some names
+unfoldable pub naming_of : Names → Naming
+naming_of names = name_in names
 
 -- the name of a struct or constant, and of a struct's member
 abbrev pub id_name : Naming → ℕ → Text

@@ -4,7 +4,7 @@ ghost use Rattle.std.specs.Vec.Iter.{into_iter_items};
 ghost use Rattle.spv_types.specs.View.{tree_of, trees_of};
 ghost use Rattle.glsl_ast.specs.View.{expr_of};
 ghost use Rattle.glsl_ast.specs.Tree.{Expr as Tree};
-ghost use Rattle.name_alloc.specs.Lookup.{name_in};
+ghost use Rattle.vec_lowering.specs.Named.{naming_of};
 ghost use Rattle.vec_lowering.specs.Named.{text_or_none};
 ghost use Rattle.vec_lowering.specs.Composite as composite;
 
@@ -41,7 +41,7 @@ pub fn construct(
     shape: &Shape,
     args: Vec<Arg>,
 ) -> Result<Expr, Memory>
-    ensures { IfOk result (λ e. expr_of e ≡ composite.constructed (name_in names.now) (tree_of shape.now) (map composite.argument_of args.items)) }
+    ensures { IfOk result (λ e. expr_of e ≡ composite.constructed (naming_of names.now) (tree_of shape.now) (map composite.argument_of args.items)) }
 {
     let mut parts = Vec::new(alloc);
     for arg in args {
@@ -52,7 +52,7 @@ pub fn construct(
 
 #[tactic(auto, using(glsl_ast::proofs::Views::expr_rows))]
 pub fn member(alloc: Global, names: &Names, of: Expr, key: Key) -> Result<Expr, Memory>
-    ensures { IfOk result (λ e. expr_of e ≡ Tree.member (expr_of of) (text_or_none (name_in names.now key))) }
+    ensures { IfOk result (λ e. expr_of e ≡ Tree.member (expr_of of) (text_or_none (naming_of names.now key))) }
 {
     let of = Box::new(alloc, of)?;
     Ok(Expr::Member(of, name(alloc, names, key)?))
@@ -91,7 +91,7 @@ pub fn extract(
     indexes: &[u32],
     of: Expr,
 ) -> Result<Expr, Memory>
-    ensures { IfOk result (λ e. expr_of e ≡ composite.extracted (name_in names.now) (tree_of shape.now) indexes.now (expr_of of)) }
+    ensures { IfOk result (λ e. expr_of e ≡ composite.extracted (naming_of names.now) (tree_of shape.now) indexes.now (expr_of of)) }
 {
     let [at, rest @ ..] = indexes else {
         return Ok(of);
@@ -145,7 +145,7 @@ pub fn shuffle(
     a: &Arg,
     b: &Arg,
 ) -> Result<Expr, Memory>
-    ensures { IfOk result (λ e. expr_of e ≡ composite.shuffled (name_in names.now) (tree_of shape.now) picks.now (composite.argument_of a.now) (composite.argument_of b.now)) }
+    ensures { IfOk result (λ e. expr_of e ≡ composite.shuffled (naming_of names.now) (tree_of shape.now) picks.now (composite.argument_of a.now) (composite.argument_of b.now)) }
 {
     let elem = basic_type(shape).elem;
     let mut parts = Vec::new(alloc);

@@ -4,7 +4,7 @@ ghost use Rattle.spv_types.specs.Tree.{array};
 ghost use Rattle.spv_module.specs.declared.tree.Length.TheVariants.{Fixed};
 ghost use Rattle.spv_types.specs.View.{tree_of, trees_of};
 ghost use Rattle.glsl_ast.specs.View.{expr_of, exprs_of};
-ghost use Rattle.name_alloc.specs.Lookup.{name_in};
+ghost use Rattle.vec_lowering.specs.Named.{naming_of};
 ghost use Rattle.vec_lowering.specs.Component.{each_below};
 ghost use Rattle.vec_lowering.specs.Composite as composite;
 
@@ -73,7 +73,7 @@ fn fixed_length(length: Length) -> u32
 
 /// A member of a struct, by its place. Of more than 2 ^ 32 members there is no memory.
 fn member_at(alloc: Global, names: &Names, of: &Expr, id: u32, at: usize) -> Result<Expr, Memory>
-    ensures { IfOk result (λ e. expr_of e ≡ composite.member_of (name_in names.now) (expr_of of.now) id at) }
+    ensures { IfOk result (λ e. expr_of e ≡ composite.member_of (naming_of names.now) (expr_of of.now) id at) }
 {
     let Ok(number) = u32::try_from(at) else {
         return Err(Memory);
@@ -93,7 +93,7 @@ pub fn copy(
     from: &Shape,
     of: Expr,
 ) -> Result<Expr, Memory>
-    ensures { IfOk result (λ e. expr_of e ≡ composite.copied (name_in names.now) (tree_of shape.now) (tree_of from.now) (expr_of of)) }
+    ensures { IfOk result (λ e. expr_of e ≡ composite.copied (naming_of names.now) (tree_of shape.now) (tree_of from.now) (expr_of of)) }
 {
     match shape {
         Shape::Array(part, length) => copy_array(alloc, names, part, *length, from, of),
@@ -115,7 +115,7 @@ fn copy_array(
     from: &Shape,
     of: Expr,
 ) -> Result<Expr, Memory>
-    ensures { IfOk result (λ e. expr_of e ≡ composite.copied (name_in names.now) (array (tree_of part.now) length) (tree_of from.now) (expr_of of)) }
+    ensures { IfOk result (λ e. expr_of e ≡ composite.copied (naming_of names.now) (array (tree_of part.now) length) (tree_of from.now) (expr_of of)) }
 {
     if !has_struct(part) {
         return Ok(of);
@@ -134,7 +134,7 @@ fn copy_elements(
     from: &Shape,
     of: &Expr,
 ) -> Result<Vec<Expr>, Memory>
-    ensures { IfOk result (λ parts. map expr_of parts.items ≡ each_below count (λ k. composite.copied (name_in names.now) (tree_of part.now) (tree_of from.now) (composite.element (expr_of of.now) k))) }
+    ensures { IfOk result (λ parts. map expr_of parts.items ≡ each_below count (λ k. composite.copied (naming_of names.now) (tree_of part.now) (tree_of from.now) (composite.element (expr_of of.now) k))) }
 {
     let mut parts = Vec::new(alloc);
     for k in 0..count {
@@ -153,7 +153,7 @@ fn copy_members(
     from: &Shape,
     of: &Expr,
 ) -> Result<Vec<Expr>, Memory>
-    ensures { IfOk result (λ parts. exprs_of parts.items ≡ composite.copied_parts (name_in names.now) (trees_of members.now) (composite.struct_id (tree_of from.now)) (composite.struct_parts (tree_of from.now)) 0 (expr_of of.now)) }
+    ensures { IfOk result (λ parts. exprs_of parts.items ≡ composite.copied_parts (naming_of names.now) (trees_of members.now) (composite.struct_id (tree_of from.now)) (composite.struct_parts (tree_of from.now)) 0 (expr_of of.now)) }
 {
     let mut parts = Vec::new(alloc);
     for (k, part) in members.iter().enumerate() {

@@ -2,7 +2,7 @@
 ghost use Rattle.std.specs.Prelude.{◌≡◌, ◌+◌, ◌≤◌, IfOk, map};
 ghost use Rattle.spv_types.specs.View.{tree_of};
 ghost use Rattle.glsl_ast.specs.View.{expr_of};
-ghost use Rattle.name_alloc.specs.Lookup.{name_in};
+ghost use Rattle.vec_lowering.specs.Named.{naming_of};
 ghost use Rattle.glsl_ast.specs.Height.{height};
 ghost use Rattle.vec_lowering.specs.Composite.{argument_of};
 ghost use Rattle.vec_lowering.specs.Depth.{depth, deepest_argument, highest_argument};
@@ -39,7 +39,7 @@ fn extract_first(
     literals: &[u32],
     args: Vec<Arg>,
 ) -> Result<Expr, Memory>
-    ensures { IfOk result (λ e. expr_of e ≡ lowered.extracted_from (name_in names.now) literals.now (map argument_of args.items)) }
+    ensures { IfOk result (λ e. expr_of e ≡ lowered.extracted_from (naming_of names.now) literals.now (map argument_of args.items)) }
 {
     let Arg { expr, shape, .. } = next_arg(&mut args.into_iter());
     extract(alloc, names, &shape, literals, expr)
@@ -52,7 +52,7 @@ fn shuffle_two(
     picks: &[u32],
     args: Vec<Arg>,
 ) -> Result<Expr, Memory>
-    ensures { IfOk result (λ e. expr_of e ≡ lowered.shuffled_of (name_in names.now) (tree_of shape.now) picks.now (map argument_of args.items)) }
+    ensures { IfOk result (λ e. expr_of e ≡ lowered.shuffled_of (naming_of names.now) (tree_of shape.now) picks.now (map argument_of args.items)) }
 {
     let mut args = args.into_iter();
     let a = next_arg(&mut args);
@@ -61,7 +61,7 @@ fn shuffle_two(
 }
 
 fn copy_first(alloc: Global, names: &Names, shape: &Shape, args: Vec<Arg>) -> Result<Expr, Memory>
-    ensures { IfOk result (λ e. expr_of e ≡ lowered.copied_from (name_in names.now) (tree_of shape.now) (map argument_of args.items)) }
+    ensures { IfOk result (λ e. expr_of e ≡ lowered.copied_from (naming_of names.now) (tree_of shape.now) (map argument_of args.items)) }
 {
     let Arg {
         expr,
@@ -95,7 +95,7 @@ fn copy_by(
     operands: Vec<Arg>,
     names: &Names,
 ) -> Result<Expr, Memory>
-    ensures { IfOk result (λ e. expr_of e ≡ lowered.copy_by (name_in names.now) op ext (tree_of shape.now) (map argument_of operands.items)) }
+    ensures { IfOk result (λ e. expr_of e ≡ lowered.copy_by (naming_of names.now) op ext (tree_of shape.now) (map argument_of operands.items)) }
 {
     if op == COPY_LOGICAL {
         copy_first(alloc, names, shape, operands)
@@ -115,7 +115,7 @@ fn write_operation(
     extra: &[u32],
     names: &Names,
 ) -> Result<Expr, Memory>
-    ensures { IfOk result (λ e. expr_of e ≡ lowered.written (name_in names.now) op ext operation (tree_of shape.now) extra.now (map argument_of operands.items)) }
+    ensures { IfOk result (λ e. expr_of e ≡ lowered.written (naming_of names.now) op ext operation (tree_of shape.now) extra.now (map argument_of operands.items)) }
 {
     match operation {
         Operation::CompositeConstruct => construct(alloc, names, shape, operands),
@@ -151,7 +151,7 @@ fn write_opcode(
     extra: &[u32],
     names: &Names,
 ) -> Result<Expr, Memory>
-    ensures { IfOk result (λ e. expr_of e ≡ lowered.lowered_vector (name_in names.now) op ext (tree_of shape.now) extra.now (map argument_of operands.items)) }
+    ensures { IfOk result (λ e. expr_of e ≡ lowered.lowered_vector (naming_of names.now) op ext (tree_of shape.now) extra.now (map argument_of operands.items)) }
 {
     match operation(op, ext) {
         None => Ok(literal(basic_type(shape).elem, 0)),
@@ -178,7 +178,7 @@ pub fn lower_vector(
     extra: &[u32],
     names: &Names,
 ) -> Result<Expr, Memory>
-    ensures lowered { IfOk result (λ e. expr_of e ≡ lowered.lowered_vector (name_in names.now) op ext (tree_of shape) extra.now (map argument_of operands.items)) }
+    ensures lowered { IfOk result (λ e. expr_of e ≡ lowered.lowered_vector (naming_of names.now) op ext (tree_of shape) extra.now (map argument_of operands.items)) }
     ensures height { IfOk result (λ e. depth (tree_of shape) ≤ 15 → deepest_argument (map argument_of operands.items) ≤ 15 → height (expr_of e) ≤ 40 + highest_argument (map argument_of operands.items)) }
 {
     write_opcode(alloc, op, ext, &shape, operands, extra, names)

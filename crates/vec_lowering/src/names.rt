@@ -3,8 +3,7 @@ ghost use Rattle.std.specs.Prelude.{◌≡◌, IfOk, string_bytes};
 ghost use Rattle.spv_types.specs.View.{tree_of};
 ghost use Rattle.spv_types.specs.Tree.{array};
 ghost use Rattle.glsl_ast.specs.View.{extent_of, type_of};
-ghost use Rattle.name_alloc.specs.Lookup.{name_in};
-ghost use Rattle.vec_lowering.specs.Named.{text_or_none, extent_of_length, array_of, shape_type as type_of_shape};
+ghost use Rattle.vec_lowering.specs.Named.{naming_of, text_or_none, extent_of_length, array_of, shape_type as type_of_shape};
 
 use glsl_ast::{Base, Extent, TypeName};
 use int_lowering::{basic_type, type_name};
@@ -14,8 +13,9 @@ use spv_words::Memory;
 use std::alloc::Global;
 
 /// The name of a key, as text of its own.
+#[tactic(auto, unfolding(crate::specs::Named::naming_of))]
 pub(crate) fn name(alloc: Global, names: &Names, key: Key) -> Result<String, Memory>
-    ensures { IfOk result (λ w. string_bytes w ≡ text_or_none (name_in names.now key)) }
+    ensures { IfOk result (λ w. string_bytes w ≡ text_or_none (naming_of names.now key)) }
 {
     match names.of(key) {
         None => Ok(String::new(alloc)),
@@ -24,7 +24,7 @@ pub(crate) fn name(alloc: Global, names: &Names, key: Key) -> Result<String, Mem
 }
 
 fn extent(alloc: Global, names: &Names, length: Length) -> Result<Extent, Memory>
-    ensures { IfOk result (λ x. extent_of x ≡ extent_of_length (name_in names.now) length) }
+    ensures { IfOk result (λ x. extent_of x ≡ extent_of_length (naming_of names.now) length) }
 {
     match length {
         Length::Fixed(number) => Ok(Extent::Number(number)),
@@ -46,7 +46,7 @@ fn with_extent(extent: Extent, part: TypeName) -> Result<TypeName, Memory>
 /// of memory.
 #[tactic(auto, using(spv_types::proofs::Views::shape_rows))]
 pub fn shape_type(alloc: Global, names: &Names, shape: &Shape) -> Result<TypeName, Memory>
-    ensures { IfOk result (λ t. type_of t ≡ type_of_shape (name_in names.now) (tree_of shape.now)) }
+    ensures { IfOk result (λ t. type_of t ≡ type_of_shape (naming_of names.now) (tree_of shape.now)) }
 {
     match shape {
         Shape::Bool | Shape::Int | Shape::Uint | Shape::Vector(_, _) => {
@@ -72,7 +72,7 @@ pub(crate) fn array_type(
     part: &Shape,
     length: Length,
 ) -> Result<TypeName, Memory>
-    ensures { IfOk result (λ t. type_of t ≡ type_of_shape (name_in names.now) (array (tree_of part.now) length)) }
+    ensures { IfOk result (λ t. type_of t ≡ type_of_shape (naming_of names.now) (array (tree_of part.now) length)) }
 {
     let extent = extent(alloc, names, length)?;
     with_extent(extent, shape_type(alloc, names, part)?)
