@@ -52,7 +52,7 @@ fn a_struct_is_copied(rt: HostRuntime) -> Result<(), Fail> {
     let Expr::Build(ty, parts) = copy.ok().ok_or("no memory")? else {
         return Err(Fail::from("another expression"));
     };
-    let Base::Struct(name) = ty.base else {
+    let Base::Struct(name) = &ty.base else {
         return Err(Fail::from("another type"));
     };
     assert_eq!(rt; name.as_str(), "Item_2");
