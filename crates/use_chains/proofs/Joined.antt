@@ -228,13 +228,13 @@ module _ (rows : List Row) (chains : ChainsState) (k id : ℕ) (prev next : Opti
   pub free_names : (i : ℕ) → names rows i k ≡ false
   free_names i = and_left (row rows k).linked ((row rows k).id == i) free
 
-  names_in : (j : ℕ) → names (put_in rows k id prev next) id j ≡ with (names rows id) k j
+  pub names_in : (j : ℕ) → names (put_in rows k id prev next) id j ≡ with (names rows id) k j
   names_in j = in_keeps (is_named id) (λ x o. refl) (λ x o. refl) j ∙ elim (cases_eq j k) [
     | inl here ↦ subst (λ i. is_named id (row (with_row rows k id prev next) i) ≡ with (names rows id) k i) (sym here) (ap (is_named id) base_here ∙ eq-eqb id id refl ∙ sym (or_left (k == k) (names rows id k) (eq-eqb k k refl)))
     | inr apart ↦ ap (is_named id) (base_there j apart) ∙ or_one (j == k) (names rows id j) (ne_eqb j k apart)
   ]
 
-  names_by : (i j : ℕ) → i ≢ id → names (put_in rows k id prev next) i j ≡ names rows i j
+  pub names_by : (i j : ℕ) → i ≢ id → names (put_in rows k id prev next) i j ≡ names rows i j
   names_by i j other = in_keeps (is_named i) (λ x o. refl) (λ x o. refl) j ∙ elim (cases_eq j k) [
     | inl here ↦ subst (λ d. is_named i (row (with_row rows k id prev next) d) ≡ names rows i d) (sym here) (ap (is_named i) base_here ∙ ne_eqb id i (λ s. other (sym s)) ∙ sym (free_names i))
     | inr apart ↦ ap (is_named i) (base_there j apart)

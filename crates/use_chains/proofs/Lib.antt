@@ -7,3 +7,7 @@ pub mod Seen
 pub mod Searching
 pub mod Built
 pub mod Owners
+pub mod Tally
+pub mod Merging
+pub mod Taking
+pub mod Renamed

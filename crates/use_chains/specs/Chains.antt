@@ -27,3 +27,7 @@ ends_of c id = option_map_or (λ (place : ℕ). slice_index_or c.ends place no_e
 -- the ends of one list are written
 abbrev pub ArePut : ChainsState → ChainsState → ℕ → Ends → Type 0
 ArePut before after id e = (i : ℕ) → ends_of after i ≡ (if i == id then e else ends_of before i)
+
+-- the list of an id has become that of another
+abbrev pub AreRenamed : ChainsState → ChainsState → ℕ → ℕ → Type 0
+AreRenamed before after from to = (i : ℕ) → ends_of after i ≡ (if i == to then ends_of before from else (if i == from then no_ends else ends_of before i))

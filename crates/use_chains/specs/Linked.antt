@@ -49,6 +49,10 @@ without_row rows k = slice_set rows k (record (row rows k) { linked = false })
 abbrev pub with_row : List Row → ℕ → ℕ → Option ℕ → Option ℕ → List Row
 with_row rows k id prev next = slice_set rows k (record (row rows k) { id = id; linked = true; prev = prev; next = next })
 
+-- the slot mentions this id
+abbrev pub with_id : List Row → ℕ → ℕ → List Row
+with_id rows k id = slice_set rows k (record (row rows k) { id = id })
+
 -- the second where there is no first
 abbrev pub if_none : Option ℕ → Option ℕ → Option ℕ → Option ℕ
 if_none None a b = a

@@ -1,6 +1,6 @@
 // The lists of the ids, found by id.
-ghost use Rattle.std.specs.Prelude.{◌≡◌, ◌<◌, length, IfSome, is_some, true};
-ghost use Rattle.use_chains.specs.Chains.{AreChains, place_of, ends_of, ArePut};
+ghost use Rattle.std.specs.Prelude.{◌≡◌, ◌<◌, length, IfSome, is_some, false, true};
+ghost use Rattle.use_chains.specs.Chains.{AreChains, place_of, ends_of, ArePut, AreRenamed};
 
 use std::marker::Model;
 
@@ -72,6 +72,30 @@ impl Chains {
     {
         if let Some(place) = self.place(id) {
             self.ends[place] = ends;
+        }
+    }
+
+    /// Whether an id has a list, be it empty.
+    pub fn has(&self, id: u32) -> bool
+        ensures { result ≡ is_some (place_of self.now.ids id) }
+    {
+        self.place(id).is_some()
+    }
+
+    /// Gives the list of an id to another id, which has none.
+    pub fn rename(&mut self, from: u32, to: u32)
+        requires { is_some (place_of self.old.ids to) ≡ false }
+        ensures { AreRenamed self.old self.new from to }
+    {
+        let Some(place) = self.place(from) else {
+            return;
+        };
+        self.ids.remove(place);
+        let ends = self.ends.remove(place);
+        // one was taken out, so there is room
+        if let Err(place) = self.ids.binary_search(&to) {
+            let _ = self.ids.insert(place, to);
+            let _ = self.ends.insert(place, ends);
         }
     }
 }

@@ -6,11 +6,10 @@ mod chains;
 mod linking;
 mod live;
 mod mention;
+mod retarget;
 mod rows;
 mod slot;
 mod steps;
-#[cfg(test)]
-mod tests;
 mod uses;
 
 pub use slot::{Slot, SlotPlace};

@@ -1,6 +1,6 @@
 // The slots in one vector.
 ghost use Rattle.std.specs.Prelude.{◌≡◌, ◌+◌, ◌<◌, length, slice_index_or, IfSome};
-ghost use Rattle.use_chains.specs.Linked.{with_row, without_row, with_next, with_prev, row};
+ghost use Rattle.use_chains.specs.Linked.{with_row, without_row, with_id, with_next, with_prev, row};
 
 use crate::{SlotPlace, Steps};
 use std::marker::Model;
@@ -70,6 +70,14 @@ impl Rows {
             prev,
             next,
         };
+    }
+
+    /// The slot with this number mentions an id.
+    pub fn set_id(&mut self, k: usize, id: u32)
+        requires { k < length self.old }
+        ensures { self.new ≡ with_id self.old k id }
+    {
+        self.rows[k].id = id;
     }
 
     /// Behind a slot, where there is one, comes another next.

@@ -1,6 +1,6 @@
 // Linked slots, asked by id.
 ghost use Rattle.std.specs.Prelude.{◌≡◌, ◌+◌, ◌*◌, ◌^◌, ◌<◌, ◌≤◌, IfOk, OnOk, Some, length, option_map, true};
-ghost use Rattle.use_chains.specs.Links.{chain, next_link, link_at, has_slot, is_in_chain, is_linked, without_slot, AreLiveLinks};
+ghost use Rattle.use_chains.specs.Links.{chain, next_link, link_at, has_slot, is_in_chain, is_linked, retargeted, without_slot, AreLiveLinks};
 ghost use Rattle.use_chains.specs.Slots.{slots};
 ghost use Rattle.use_chains.specs.Building.{AreKept};
 ghost use Rattle.use_chains.specs.Linked.{IsSmall};
@@ -9,6 +9,7 @@ use crate::build::{drop_dead, empty, link_all, unlinked};
 use crate::chains::Chains;
 use crate::linking::take_out;
 use crate::mention::Mention;
+use crate::retarget::{merge, take_over};
 use crate::rows::Rows;
 use crate::{Slot, SlotPlace, Steps, live, mention};
 use spv_module::{Function, Id};
@@ -131,5 +132,21 @@ impl Uses {
         ensures steps { steps.new ≡ steps.old + 1 }
     {
         take_out(&mut self.rows, &mut self.chains, slot.0 as usize, steps);
+    }
+
+    /// Moves all linked slots of an id to another id, in text order; from an id to itself none is moved.
+    /// That is at most one step for each slot of the two.
+    pub fn retarget<L: Ledger>(&mut self, from: Id, to: Id, steps: &mut Steps<L>)
+        ensures links { self.new ≡ retargeted self.old from.0 to.0 }
+        ensures steps { steps.new ≤ steps.old + length (chain self.old from.0) + length (chain self.old to.0) }
+    {
+        if from.0 == to.0 {
+            return;
+        }
+        if self.chains.has(to.0) {
+            merge(&mut self.rows, &mut self.chains, from.0, to.0, steps);
+        } else {
+            take_over(&mut self.rows, &mut self.chains, from.0, to.0, steps);
+        }
     }
 }
