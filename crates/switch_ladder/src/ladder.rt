@@ -42,7 +42,7 @@ fn chain(alloc: Global, places: &Places, first: usize) -> Result<Vec<usize>, All
 }
 
 /// Adds a block that passes.
-fn add_if(blocks: &mut Vec<usize>, block: usize, passes: bool) -> Result<(), AllocError>
+pub fn add_if(blocks: &mut Vec<usize>, block: usize, passes: bool) -> Result<(), AllocError>
     ensures { OnOk result (blocks.new.items ≡ blocks.old.items ++ (if passes then block ∷ [] else [])) }
 {
     if passes {

@@ -1,9 +1,8 @@
-// The chains of a switch's case targets.
+// The chains of a switch's case targets, and the flags that structured statements need.
 #![tactic(auto)]
 
 mod ladder;
+mod plan;
 
 pub use ladder::chains;
-
-#[cfg(test)]
-mod tests;
+pub use plan::{FlagPlan, flags};
