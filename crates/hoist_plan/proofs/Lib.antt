@@ -1,0 +1,5 @@
+mod PlanExample
+pub mod Walking
+pub mod Passes
+pub mod Rising
+pub mod Bound

@@ -1,0 +1,41 @@
+-- What a plan keeps.
+use Rattle.std.specs.Prelude.{ℕ, ◌≡◌, ◌+◌, ◌*◌, ◌&&◌, nat_le, Bool, true, List, [], ◌∷◌, length, unwrap_or}
+use Rattle.std.specs.BTreeMap.{is_at}
+use Rattle.std.specs.List.{list_any}
+use Rattle.std.specs.Map.{lookup}
+use Rattle.std.specs.Ordering.{nat_cmp}
+use Rattle.use_chains.specs.Links.{Link}
+use Rattle.hoist_plan.specs.declared.form.Form.{Form}
+use Rattle.hoist_plan.specs.declared.form.Form.TheVariants.{Gone}
+use Rattle.hoist_plan.specs.declared.rows.Row.{Row}
+use Rattle.hoist_plan.specs.Plan.{Placed}
+
+abbrev pub placed : Row → Placed
+placed r = record { block = r.block; op = r.op; ty = r.ty; result = r.result; base = r.base; mentions = r.mentions.items }
+
+-- slots rise from a number on
+abbrev pub are_rising_from : ℕ → List Link → Bool
+are_rising_from n [] = true
+are_rising_from n (l ∷ ls) = nat_le n l.slot && are_rising_from (l.slot + 1) ls
+
+-- the slots are in text order, which is that of their numbers, and no two are one
+abbrev pub AreRising : List Link → Type 0
+AreRising links = are_rising_from 0 links ≡ true
+
+abbrev pub result_id : Placed → ℕ
+result_id p = p.result
+
+-- the steps that it takes to visit the mentions of each result
+abbrev pub steps_of : Placed → ℕ
+steps_of p = 2 * length p.mentions + 1
+
+-- the forms of results by their ids, and the chains that are carried
+pub record NamingState : Type 0 where
+  pub forms : List (ℕ × Form)
+  pub carried : List ℕ
+
+abbrev pub form_in : NamingState → ℕ → Form
+form_in n id = unwrap_or (lookup (is_at (nat_cmp id)) n.forms) Gone
+
+abbrev pub is_carried_in : NamingState → ℕ → Bool
+is_carried_in n id = list_any (is_at (nat_cmp id)) n.carried

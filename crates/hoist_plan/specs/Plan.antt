@@ -1,0 +1,200 @@
+-- Which results of a function's instructions have variables, and where these are declared; which chains other blocks need. All is told over the slots that are linked.
+use Rattle.std.specs.Prelude.{ℕ, ◌+◌, ◌==◌, ◌&&◌, ◌||◌, not, nat_le, nat_lt, max, min, Bool, true, false, List, [], ◌∷◌, flat_map, fold, length, map, Option, Some, None, unwrap_or, if◌then◌else◌, slice_get, slice_index}
+use Rattle.std.specs.Option.{option_map_or}
+use Rattle.std.specs.List.{enumerate_from, list_any}
+use Rattle.spv_module.specs.Held.{global}
+use Rattle.spv_module.specs.declared.inst.Inst.{Inst}
+use Rattle.spv_module.specs.declared.inst.Block.{Block}
+use Rattle.spv_module.specs.declared.inst.Function.{Function}
+use Rattle.spv_index.specs.Locals.{block_in, inst_in, type_in}
+use Rattle.structure_rules.specs.declared.graph.Node.{Node}
+use Rattle.structure_rules.specs.Graph.{graph}
+use Rattle.profile_rules.specs.MemoryRules.{is_chain}
+use Rattle.use_chains.specs.declared.slot.SlotPlace.{SlotPlace}
+use Rattle.use_chains.specs.Links.{Link, chain}
+use Rattle.use_chains.specs.Slots.{inst_at, is_pure}
+use Rattle.hoist_plan.specs.declared.form.Form.{Form}
+use Rattle.hoist_plan.specs.declared.form.Form.TheVariants.{Gone, Forwarded, Local, Hoisted}
+
+-- what is planned: a function of a module, with the slots that are linked in it, in text order
+pub record Scope : Type 0 where
+  pub globals : List Inst
+  pub function : Function
+  pub links : List Link
+
+-- the result of an instruction: the index of its block, the opcode, its type and its id, the first operand, which is the base of a chain, and where it is mentioned
+pub record Placed : Type 0 where
+  pub block : ℕ
+  pub op : ℕ
+  pub ty : ℕ
+  pub result : ℕ
+  pub base : ℕ
+  pub mentions : List SlotPlace
+
+-- where an id is mentioned
+abbrev pub mentions_of : List Link → ℕ → List SlotPlace
+mentions_of links id = map (λ (l : Link). l.place) (chain links id)
+
+abbrev pub result_of : List Link → ℕ → Inst → List Placed
+result_of links block i =
+    if i.result == 0 then [] else
+    record { block = block; op = i.op; ty = i.ty; result = i.result; base = slice_index i.args 0; mentions = mentions_of links i.result } ∷ []
+
+abbrev pub results_of_block : List Link → ℕ × Block → List Placed
+results_of_block links b = flat_map (result_of links b.0) b.1.insts
+
+-- the results of a function, in text order
+abbrev pub results : List Link → Function → List Placed
+results links f = flat_map (results_of_block links) (enumerate_from 0 f.blocks)
+
+-- the instruction that mentions a value at a place
+abbrev pub user : Function → SlotPlace → Option Inst
+user f at = inst_at f at.block at.inst
+
+-- OpPhi
+abbrev pub is_phi : ℕ → Bool
+is_phi op = op == 245
+
+-- an OpPhi mentions its value in the block that the pair names, any other instruction in its own
+abbrev pub mention_block : Function → SlotPlace → Inst → ℕ
+mention_block f at i = if is_phi i.op then unwrap_or (block_in f (slice_index i.args (at.arg + 1))) at.block else at.block
+
+abbrev pub is_elsewhere_by : Function → ℕ → SlotPlace → Inst → Bool
+is_elsewhere_by f block at i = not (mention_block f at i == block)
+
+-- the mention stands in another block
+abbrev pub is_elsewhere : Function → ℕ → SlotPlace → Bool
+is_elsewhere f block at = option_map_or (is_elsewhere_by f block at) (user f at) false
+
+abbrev pub is_live : Placed → Bool
+is_live p = not (is_pure p.op) || nat_lt 0 (length p.mentions)
+
+-- the type with this id is declared by this opcode
+abbrev pub has_type : List Inst → ℕ → ℕ → Bool
+has_type gs op ty = option_map_or (λ (g : Inst). g.op == op) (global gs ty) false
+
+-- a result that may have a variable: no OpTypeVoid, and no OpTypePointer
+abbrev pub is_value : List Inst → ℕ → Bool
+is_value gs ty = not (has_type gs 19 ty || has_type gs 32 ty)
+
+-- OpPhi, OpLoad, the atomic instructions, OpFunctionCall, OpVectorInsertDynamic, OpCompositeInsert
+abbrev pub is_always_named : ℕ → Bool
+is_always_named op = is_phi op || ((op == 61) || ((nat_le 227 op && nat_le op 242) || ((op == 57) || ((op == 78) || (op == 82)))))
+
+-- OpTypeVector
+abbrev pub is_vector : List Inst → ℕ → Bool
+is_vector gs ty = has_type gs 23 ty
+
+-- OpSelect by a vector of bools
+abbrev pub is_vector_choice : List Inst → Function → Inst → Bool
+is_vector_choice gs f i = (i.op == 169) && option_map_or (is_vector gs) (type_in gs f (slice_index i.args 0)) false
+
+-- operations that are written component by component on vectors: OpLogicalEqual to OpLogicalNot, OpIEqual to OpSLessThanEqual, OpBitFieldInsert to OpBitCount, OpExtInst
+abbrev pub is_by_component : ℕ → Bool
+is_by_component op = (nat_le 164 op && nat_le op 168) || ((nat_le 170 op && nat_le op 179) || ((nat_le 201 op && nat_le op 205) || (op == 12)))
+
+-- operations that write an operand more than once, on scalars too: OpSDiv, OpSRem, OpSMod, OpVectorShuffle, OpCopyLogical
+abbrev pub is_repeating : ℕ → Bool
+is_repeating op = (op == 135) || ((op == 138) || ((op == 139) || ((op == 79) || (op == 400))))
+
+-- SAbs
+abbrev pub is_absolute : Inst → Bool
+is_absolute i = (i.op == 12) && (slice_index i.args 1 == 5)
+
+-- operands that stand more than once in the expression of an operation
+abbrev pub repeats_operands : List Inst → Function → Inst → Bool
+repeats_operands gs f i =
+    is_repeating i.op || (is_absolute i || (is_vector gs i.ty && (is_by_component i.op || is_vector_choice gs f i)))
+
+-- a mention that asks for a variable: in another block, by a phi, as an index of a chain, or as an operand that stands more than once
+abbrev pub wants_by : List Inst → Function → ℕ → SlotPlace → Inst → Bool
+wants_by gs f block at i =
+    is_elsewhere_by f block at i || (is_phi i.op || ((is_chain i && not (at.arg == 0)) || repeats_operands gs f i))
+
+abbrev pub wants_variable : List Inst → Function → ℕ → SlotPlace → Bool
+wants_variable gs f block at = option_map_or (wants_by gs f block at) (user f at) false
+
+abbrev pub is_named_by_use : List Inst → Function → Placed → Bool
+is_named_by_use gs f p = is_always_named p.op || (nat_le 2 (length p.mentions) || list_any (wants_variable gs f p.block) p.mentions)
+
+-- the height of the expression of an operation, where this is known of the highest operand of each; OpUndef has height 0. A height is counted up to 17, where a variable is declared
+abbrev pub own_height : (ℕ → Option ℕ) → Placed → ℕ
+own_height operands p = if p.op == 1 then 0 else min 16 (unwrap_or (operands p.result) 0) + 1
+
+abbrev pub is_named : List Inst → Function → (ℕ → Option ℕ) → Placed → Bool
+is_named gs f operands p = is_value gs p.ty && (is_live p && (is_named_by_use gs f p || (own_height operands p == 17)))
+
+abbrev pub is_hoisted : Function → Placed → Bool
+is_hoisted f p = is_phi p.op || list_any (is_elsewhere f p.block) p.mentions
+
+abbrev pub form_with : List Inst → Function → (ℕ → Option ℕ) → Placed → Form
+form_with gs f operands p =
+    if is_live p then (if is_named gs f operands p then (if is_hoisted f p then Hoisted else Local) else Forwarded) else Gone
+
+-- something that is told of ids, with something else told of one
+abbrev pub with_told : {A : Type 0} → (ℕ → Option A) → ℕ → A → ℕ → Option A
+with_told told id a n = elim (n == id) [ true ↦ Some a | false ↦ told n ]
+
+-- the highest operand of an instruction is at least this high
+abbrev pub raised_by : ℕ → (ℕ → Option ℕ) → Option Inst → ℕ → Option ℕ
+raised_by height operands None = operands
+raised_by height operands (Some i) = with_told operands i.result (max (unwrap_or (operands i.result) 0) height)
+
+abbrev pub raised : Function → ℕ → (ℕ → Option ℕ) → SlotPlace → ℕ → Option ℕ
+raised f height operands at = raised_by height operands (user f at)
+
+-- a value without a variable is an operand of its height wherever it is mentioned; a variable has height 0
+abbrev pub with_operand : List Inst → Function → (ℕ → Option ℕ) → Placed → ℕ → Option ℕ
+with_operand gs f operands p =
+    elim (is_value gs p.ty && not (is_named gs f operands p)) [ true ↦ fold (raised f (own_height operands p)) operands p.mentions | false ↦ operands ]
+
+-- what is known after some results, in text order: the height of the highest operand of each instruction, among these results, and their forms. An operand stands before what mentions it
+pub record Known : Type 0 where
+  pub operands : ℕ → Option ℕ
+  pub forms : ℕ → Option Form
+
+abbrev pub with_result : List Inst → Function → Known → Placed → Known
+with_result gs f k p = record { operands = with_operand gs f k.operands p; forms = with_told k.forms p.result (form_with gs f k.operands p) }
+
+abbrev pub nothing : Known
+nothing = record { operands = λ (n : ℕ). None; forms = λ (n : ℕ). None }
+
+abbrev pub known : List Inst → Function → List Placed → Known
+known gs f ps = fold (with_result gs f) nothing ps
+
+-- the form of an id: gone where no instruction of the function has it as its result
+abbrev pub form : Scope → ℕ → Form
+form s id = unwrap_or ((known s.globals s.function (results s.links s.function)).forms id) Gone
+
+-- a chain that another block needs: a mention of it stands there, or is the base of a chain that another block needs
+abbrev pub carries_by : Function → (ℕ → Bool) → ℕ → SlotPlace → Inst → Bool
+carries_by f carried block at i = is_elsewhere_by f block at i || ((at.arg == 0) && (is_chain i && carried i.result))
+
+abbrev pub carries : Function → (ℕ → Bool) → ℕ → SlotPlace → Bool
+carries f carried block at = option_map_or (carries_by f carried block at) (user f at) false
+
+-- OpAccessChain, OpInBoundsAccessChain
+abbrev pub is_chain_opcode : ℕ → Bool
+is_chain_opcode op = (op == 65) || (op == 66)
+
+abbrev pub is_carried_with : Function → (ℕ → Bool) → Placed → Bool
+is_carried_with f carried p = is_chain_opcode p.op && (carried p.result || list_any (carries f carried p.block) p.mentions)
+
+abbrev pub is_reached : Function → ℕ → Bool
+is_reached f block = option_map_or (λ (n : Node). n.reached) (slice_get (graph f) block) false
+
+-- the chain on which one is based in a block that is not reached, where no slots are linked
+abbrev pub is_base_unreached : Function → Placed → ℕ → Bool
+is_base_unreached f p n = (n == p.base) && (not (is_reached f p.block) && option_map_or is_chain (inst_in f n) false)
+
+abbrev pub with_carried : Function → (ℕ → Bool) → Placed → ℕ → Bool
+with_carried f carried p n =
+    elim (is_carried_with f carried p) [ true ↦ carried n || ((n == p.result) || is_base_unreached f p n) | false ↦ carried n ]
+
+-- the chains that are carried, of these: what is based on a chain stands behind it
+abbrev pub carried_from : Function → List Placed → ℕ → Bool
+carried_from f [] n = false
+carried_from f (p ∷ ps) n = with_carried f (carried_from f ps) p n
+
+abbrev pub is_carried : Scope → ℕ → Bool
+is_carried s id = carried_from s.function (results s.links s.function) id

@@ -1,0 +1,134 @@
+// The chains that other blocks need.
+ghost use Rattle.std.specs.Prelude.{◌≡◌, ◌||◌, ℕ, IfOk, OnOk, false, map, slice_get};
+ghost use Rattle.std.specs.Option.{option_map_or};
+ghost use Rattle.std.specs.List.{list_any};
+ghost use Rattle.std.specs.BTreeSet.{contains};
+ghost use Rattle.std.specs.Ordering.{nat_cmp};
+ghost use Rattle.hoist_plan.specs.Plan.{carries_by as carries_by_in, carries as carries_in, is_carried_with, is_base_unreached, with_carried, is_chain_opcode as is_chain_op, carried_from};
+ghost use Rattle.hoist_plan.specs.Kept.{placed};
+ghost use Rattle.profile_rules.specs.MemoryRules.{is_chain as is_chain_of};
+ghost use Rattle.spv_index.specs.Locals.{inst_in};
+ghost use Rattle.structure_rules.specs.Graph.{graph as graph_of};
+
+use crate::mention::{is_chain, stands_elsewhere, user};
+use crate::rows::Row;
+use spv_index::Locals;
+use spv_module::Inst;
+use spv_words::Memory;
+use std::alloc::{AllocError, Global};
+use std::collections::BTreeSet;
+use structure_rules::Node;
+use use_chains::SlotPlace;
+
+/// Whether another block needs a chain because of the instruction that mentions it.
+fn carries_by(
+    locals: &Locals,
+    carried: &BTreeSet<u32>,
+    block: usize,
+    at: SlotPlace,
+    inst: &Inst,
+) -> bool
+    ensures { result ≡ carries_by_in locals.now (contains nat_cmp carried.now) block at inst.now }
+{
+    stands_elsewhere(locals, block, at, inst)
+        || at.arg == 0 && is_chain(inst) && carried.contains(&inst.result)
+}
+
+fn carries(locals: &Locals, carried: &BTreeSet<u32>, block: usize, at: SlotPlace) -> bool
+    ensures { result ≡ carries_in locals.now (contains nat_cmp carried.now) block at }
+{
+    match user(locals.function(), at) {
+        Some(inst) => carries_by(locals, carried, block, at, inst),
+        None => false,
+    }
+}
+
+fn some_carries(
+    locals: &Locals,
+    carried: &BTreeSet<u32>,
+    block: usize,
+    places: &[SlotPlace],
+) -> bool
+    ensures { result ≡ list_any (carries_in locals.now (contains nat_cmp carried.now) block) places.now }
+{
+    places.iter().any(|at| carries(locals, carried, block, *at))
+}
+
+fn is_chain_opcode(op: u16) -> bool
+    ensures { result ≡ is_chain_op op }
+{
+    op == 65 || op == 66
+}
+
+/// Whether a result is a chain that another block needs, where it is known of those behind it.
+fn is_carried(locals: &Locals, carried: &BTreeSet<u32>, row: &Row) -> bool
+    ensures { result ≡ is_carried_with locals.now (contains nat_cmp carried.now) (placed row.now) }
+{
+    is_chain_opcode(row.op)
+        && (carried.contains(&row.result)
+            || some_carries(locals, carried, row.block, &row.mentions))
+}
+
+fn is_reached(graph: &[Node], block: usize) -> bool
+    ensures { result ≡ option_map_or (λ n. n.reached) (slice_get graph.now block) false }
+{
+    graph.get(block).map_or(false, |node| node.reached)
+}
+
+/// Whether an id is a chain of the function.
+fn names_chain(locals: &Locals, id: u32) -> bool
+    ensures { result ≡ option_map_or is_chain_of (inst_in locals.now id) false }
+{
+    locals.inst(id).map_or(false, |inst| is_chain(inst))
+}
+
+/// Adds the chain on which a carried one is based in a block that is not reached, where no slots are
+/// linked.
+fn add_base(
+    locals: &Locals,
+    graph: &[Node],
+    carried: &mut BTreeSet<u32>,
+    row: &Row,
+) -> Result<(), AllocError>
+    requires { graph.now ≡ graph_of locals.now }
+    ensures { OnOk result ((n : ℕ) → contains nat_cmp carried.new n ≡ (contains nat_cmp carried.old n || is_base_unreached locals.now (placed row.now) n)) }
+{
+    if !is_reached(graph, row.block) && names_chain(locals, row.base) {
+        carried.insert(row.base)?;
+    }
+    Ok(())
+}
+
+/// Adds a result where it is a chain that another block needs.
+fn add_if_carried(
+    locals: &Locals,
+    graph: &[Node],
+    carried: &mut BTreeSet<u32>,
+    row: &Row,
+) -> Result<(), AllocError>
+    requires { graph.now ≡ graph_of locals.now }
+    ensures { OnOk result ((n : ℕ) → contains nat_cmp carried.new n ≡ with_carried locals.now (contains nat_cmp carried.old) (placed row.now) n) }
+{
+    if is_carried(locals, carried, row) {
+        carried.insert(row.result)?;
+        add_base(locals, graph, carried, row)?;
+    }
+    Ok(())
+}
+
+/// The chains among these results that another block needs.
+pub fn carried(
+    alloc: Global,
+    locals: &Locals,
+    graph: &[Node],
+    rows: &[Row],
+) -> Result<BTreeSet<u32>, Memory>
+    requires { graph.now ≡ graph_of locals.now }
+    ensures { IfOk result (λ carried. (n : ℕ) → contains nat_cmp carried n ≡ carried_from locals.now (map placed rows.now) n) }
+{
+    let mut carried = BTreeSet::new(alloc);
+    for k in (0..rows.len()).rev() {
+        add_if_carried(locals, graph, &mut carried, &rows[k])?;
+    }
+    Ok(carried)
+}

@@ -1,0 +1,13 @@
+// Which values of a function have variables, and where these are declared; which chains other blocks
+// need.
+#![tactic(auto)]
+
+mod carried;
+mod form;
+mod forms;
+mod mention;
+mod naming;
+mod rows;
+
+pub use form::Form;
+pub use naming::{Naming, plan};
