@@ -1,7 +1,7 @@
 -- How constants are read: by a literal, by a name, or as a part of the size of workgroups.
-use Rattle.std.specs.Prelude.{ℕ, ◌^◌, ◌==◌, ◌&&◌, not, nat_lt, Bool, true, false, List, [], ◌∷◌, drop, find, map, flat_map, Option, Some, None, is_some, option_map, option_and_then, if◌then◌else◌, codes, unwrap_or}
+use Rattle.std.specs.Prelude.{ℕ, ◌^◌, ◌==◌, ◌&&◌, not, nat_lt, Bool, true, false, List, [], ◌∷◌, drop, find, flat_map, Option, Some, None, is_some, option_map, option_and_then, if◌then◌else◌, codes, unwrap_or}
 use Rattle.std.specs.Option.{option_map_or}
-use Rattle.std.specs.List.{position_from, enumerate_from}
+use Rattle.std.specs.List.{position_from, zip}
 use Rattle.spv_module.specs.State.{ModuleState}
 use Rattle.spv_module.specs.declared.inst.Inst.{Inst}
 use Rattle.spv_types.specs.Tree as shape
@@ -9,7 +9,7 @@ use Rattle.spv_types.specs.Tree.{Tree, ValueTree, truth, word}
 use Rattle.spv_types.specs.Types.{type_tree}
 use Rattle.profile_rules.specs.declared.given.Given.{Given}
 use Rattle.profile_rules.specs.declared.constant.ConstantKind.{ConstantKind}
-use Rattle.profile_rules.specs.declared.constant.ConstantKind.TheVariants.{Operation, Other}
+use Rattle.profile_rules.specs.declared.constant.ConstantKind.TheVariants.{Composite, Operation, Other}
 use Rattle.profile_rules.specs.declared.size.SizePart.{SizePart}
 use Rattle.profile_rules.specs.declared.size.SizePart.TheVariants.{Fixed, Spec}
 use Rattle.profile_rules.specs.Constants.{constant_kind, value_by_kind, given_to, spec_id, word_given}
@@ -98,9 +98,14 @@ override_word s id = option_and_then (λ spec. option_map word_given (given_to s
 abbrev pub constant_shape : Source → Inst → Tree
 constant_shape s g = unwrap_or (type_tree s.of.globals g.ty) shape.uint
 
--- the value of a plain constant: its own, or that of its override
+-- the value of a plain constant: its own, or that of its override; what is made of other constants has no literal
+abbrev pub plain_value_by : Source → Inst → ConstantKind → ValueTree
+plain_value_by s g Composite = word 0
+plain_value_by s g Operation = word 0
+plain_value_by s g kind = unwrap_or (value_by_kind (λ id. None) (override_word s g.result) (constant_shape s g) g.args kind) (word 0)
+
 abbrev pub plain_value : Source → Inst → ValueTree
-plain_value s g = unwrap_or (value_by_kind (λ id. None) (override_word s g.result) (constant_shape s g) g.args (constant_kind g.op)) (word 0)
+plain_value s g = plain_value_by s g (constant_kind g.op)
 
 abbrev pub plain_literal : Source → Inst → Literal
 plain_literal s g = scalar_literal (constant_shape s g) (plain_value s g)
@@ -135,6 +140,12 @@ abbrev pub sizes_of : ℕ → SizePart → List Size
 sizes_of axis (Fixed n) = record { axis = axis; by_id = false; number = n } ∷ []
 sizes_of axis (Spec id default) = record { axis = axis; by_id = false; number = default } ∷ record { axis = axis; by_id = true; number = id } ∷ []
 
--- the line of the size of workgroups
+-- the line of the size of workgroups, of axis 0, 1 and 2
+abbrev pub axes : List ℕ
+axes = 0 ∷ 1 ∷ 2 ∷ []
+
+abbrev pub sizes_by : List (ℕ × Given) → List SizePart → List Size
+sizes_by overrides parts = flat_map (λ (p : ℕ × SizePart). sizes_of p.0 (size_now overrides p.1)) (zip axes parts)
+
 abbrev pub sizes : Source → List Size
-sizes s = flat_map (λ (p : ℕ × SizePart). sizes_of p.0 p.1) (enumerate_from 0 (map (size_now s.overrides) (group_size s.of s.entry)))
+sizes s = sizes_by s.overrides (group_size s.of s.entry)

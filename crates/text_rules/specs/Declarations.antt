@@ -44,33 +44,33 @@ abbrev pub word_of : shape.ValueTree → ℕ
 word_of (word w) = w
 word_of _ = 0
 
--- how a constant that is the length of an array is written
-abbrev pub extent_by : Source → Names → Inst → Reading → Extent
-extent_by s names g Plain = number (word_of (plain_value s g))
-extent_by s names g Named = named (names.id g.result)
-extent_by s names g GroupSize = number 0
-extent_by s names g (GroupSizePart axis) = size (axis_text axis)
+-- how a constant that is the length of an array is written, where ids have these names
+abbrev pub extent_by : Source → (ℕ → Text) → Inst → Reading → Extent
+extent_by s ids g Plain = number (word_of (plain_value s g))
+extent_by s ids g Named = named (ids g.result)
+extent_by s ids g GroupSize = number 0
+extent_by s ids g (GroupSizePart axis) = size (axis_text axis)
 
-abbrev pub length_extent : Source → Names → Length → Extent
-length_extent s names (Fixed n) = number n
-length_extent s names (Spec id) = option_map_or (λ (g : Inst). extent_by s names g (reading s g)) (global s.of.globals id.0) (number 0)
+abbrev pub length_extent : Source → (ℕ → Text) → Length → Extent
+length_extent s ids (Fixed n) = number n
+length_extent s ids (Spec id) = option_map_or (λ (g : Inst). extent_by s ids g (reading s g)) (global s.of.globals id.0) (number 0)
 
-abbrev pub spelling : Source → Names → Spelling
-spelling s names = record { struct_name = names.id; length = length_extent s names }
+abbrev pub spelling : Source → (ℕ → Text) → Spelling
+spelling s ids = record { struct_name = ids; length = length_extent s ids }
 
 -- the shape of a type, which each type of what is written has
 abbrev pub shape_at : Source → ℕ → Tree
 shape_at s ty = unwrap_or (type_tree s.of.globals ty) shape.uint
 
 abbrev pub type_at : Source → Names → ℕ → TypeName
-type_at s names ty = type_text (spelling s names) (shape_at s ty)
+type_at s names ty = type_text (spelling s names.id) (shape_at s ty)
 
 -- what a pointer type points to
 abbrev pub pointee_at : Source → ℕ → ℕ
 pointee_at s ty = unwrap_or (pointee s.of.globals ty) ty
 
 abbrev pub zero_at : Source → Names → ℕ → Expr
-zero_at s names ty = zero_text (spelling s names) (shape_at s ty)
+zero_at s names ty = zero_text (spelling s names.id) (shape_at s ty)
 
 -- the expression of the constant with an id
 abbrev pub expr_at : Source → Names → ℕ → Expr

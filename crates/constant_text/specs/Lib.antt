@@ -1,0 +1,4 @@
+pub mod Held
+pub mod Scalars
+pub mod Named
+pub mod Zeros

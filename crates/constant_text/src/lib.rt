@@ -1,0 +1,18 @@
+// How the constants of a module are written where they are read, how its types are named, and the size of its workgroups.
+#![tactic(auto)]
+
+mod constants;
+mod literals;
+mod names;
+mod readings;
+mod scalars;
+mod sizes;
+mod types;
+mod zeros;
+
+pub use constants::is_constant;
+pub use literals::int_literal;
+pub use names::name;
+pub use readings::Readings;
+pub use scalars::scalar_type;
+pub use text_rules::Reading;
