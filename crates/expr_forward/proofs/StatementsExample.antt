@@ -1,0 +1,83 @@
+-- The statements of a block, computed: the element with an invocation's number is read, increased and written.
+use Rattle.std.specs.Prelude.{ℕ, ◌≡◌, ◌==◌, ◌||◌, true, false, List, [], ◌∷◌, ◌++◌, None, Some, Option, refl, codes, if◌then◌else◌}
+use Rattle.spv_module.specs.State.{ModuleState}
+use Rattle.spv_module.specs.declared.inst.Inst.{Inst}
+use Rattle.spv_module.specs.declared.inst.Function.{Function}
+use Rattle.spv_types.specs.Types.{kind, below}
+use Rattle.spv_types.specs.Tree.{Tree}
+use Rattle.spv_decor.specs.Rows.{key_of}
+use Rattle.profile_rules.specs.Constants.{constant_kind}
+use Rattle.name_alloc.specs.declared.claims.Key.{Key}
+use Rattle.name_alloc.specs.declared.claims.Key.TheVariants.{Id, Member, Captured}
+use Rattle.hoist_plan.specs.declared.form.Form.{Form}
+use Rattle.hoist_plan.specs.declared.form.Form.TheVariants.{Gone, Forwarded, Local, Hoisted}
+use Rattle.glsl_ast.specs.Tree as text
+use Rattle.glsl_ast.specs.Tree.{Text, Expr, name, literal, binary, member, index, declare, assign, lvalue, type_name, uint}
+use Rattle.glsl_ast.specs.declared.expressions.Literal.TheVariants.{Uint}
+use Rattle.glsl_ast.specs.declared.expressions.BinOp.TheVariants.{Add}
+use Rattle.expr_forward.specs.Scope.{Scope, Argument}
+use Rattle.expr_forward.specs.Paths.{literal_word}
+use Rattle.expr_forward.specs.Values.{operation_kind_of, value_in}
+use Rattle.expr_forward.specs.Statements.{block_text, kind_of}
+
+inst : ℕ → ℕ → ℕ → ℕ → List ℕ → Inst
+inst at op ty result args = record { op = op; at = at; ty = ty; result = result; args = args }
+
+abbrev types : ModuleState
+types = record {
+  bound = 64;
+  heads = inst 1 71 0 0 (3 ∷ 2 ∷ []) ∷ [];
+  globals =
+      inst 2 21 0 8 (32 ∷ 0 ∷ []) ∷ inst 3 23 0 9 (8 ∷ 3 ∷ []) ∷ inst 4 32 0 10 (1 ∷ 9 ∷ []) ∷ inst 5 59 10 2 (1 ∷ []) ∷ inst 6 32 0 11 (1 ∷ 8 ∷ []) ∷
+      inst 7 29 0 4 (8 ∷ []) ∷ inst 8 30 0 3 (4 ∷ []) ∷ inst 9 32 0 12 (12 ∷ 3 ∷ []) ∷ inst 10 59 12 5 (12 ∷ []) ∷ inst 11 32 0 13 (12 ∷ 8 ∷ []) ∷
+      inst 12 43 8 14 (0 ∷ []) ∷ inst 13 43 8 15 (1 ∷ []) ∷ [];
+  functions = [];
+}
+
+abbrev increment : Function
+increment = record {
+  id = record { 0 = 1 };
+  ty = record { 0 = 7 };
+  result = record { 0 = 6 };
+  at = 14;
+  params = [];
+  blocks = record {
+    label = record { 0 = 16 };
+    at = 15;
+    insts =
+        inst 16 65 11 17 (2 ∷ 14 ∷ []) ∷ inst 17 61 8 18 (17 ∷ []) ∷ inst 18 65 13 19 (5 ∷ 14 ∷ 18 ∷ []) ∷ inst 19 61 8 20 (19 ∷ []) ∷
+        inst 20 128 8 21 (20 ∷ 15 ∷ []) ∷ inst 21 62 0 0 (19 ∷ 21 ∷ []) ∷ inst 22 253 0 0 [] ∷ [];
+  } ∷ [];
+}
+
+-- names are lists of numbers here
+key : Key → Text
+key (Id n) = 1 ∷ n.0 ∷ []
+key (Member n k) = 2 ∷ n.0 ∷ k ∷ []
+key _ = []
+
+-- OpIAdd alone
+added : List Argument → Expr
+added (a ∷ b ∷ []) = binary Add a.expr b.expr
+added _ = literal (Uint 0)
+
+abbrev scope : Scope
+scope = record {
+  setting = record {
+    source = record { of = types; entry = 1; overrides = [] };
+    function = increment;
+    key = key;
+    global = λ n. if n == 2 then Some (name (codes "gl_GlobalInvocationID")) else (if n == 14 then Some (literal (Uint 0)) else (if n == 15 then Some (literal (Uint 1)) else None));
+  };
+  form = λ n. if (n == 18) || (n == 20) then Local else Forwarded;
+  carried = λ n. false;
+  names = record { id = λ n. 1 ∷ n ∷ []; block = λ v s. []; member = λ s k. []; calculated = λ g. literal (Uint 0) };
+  lowered = λ op number t args literals. added args;
+}
+
+incremented : block_text scope 0 ≡
+    declare (type_name uint []) (1 ∷ 18 ∷ []) (Some (member (name (codes "gl_GlobalInvocationID")) (codes "x"))) ∷
+    declare (type_name uint []) (1 ∷ 20 ∷ []) (Some (index (member (name (1 ∷ 5 ∷ [])) (2 ∷ 3 ∷ 0 ∷ [])) (name (1 ∷ 18 ∷ [])))) ∷
+    assign (lvalue (1 ∷ 5 ∷ []) (text.LStep.member (2 ∷ 3 ∷ 0 ∷ []) ∷ text.LStep.index (name (1 ∷ 18 ∷ [])) ∷ [])) (binary Add (name (1 ∷ 20 ∷ [])) (literal (Uint 1))) ∷ []
+unfolding inst kind below key_of constant_kind kind_of operation_kind_of literal_word value_in key added
+incremented = refl

@@ -1,0 +1,59 @@
+-- What contracts see of what is known where a function is written.
+use Rattle.std.specs.Prelude.{ℕ, Bool, [], List, map, unwrap_or}
+use Rattle.spv_module.specs.Lists.{id}
+use Rattle.spv_module.specs.declared.inst.Inst.{Inst}
+use Rattle.spv_module.specs.declared.inst.Function.{Function}
+use Rattle.name_alloc.specs.declared.claims.Key.{Key}
+use Rattle.name_alloc.specs.declared.claims.Key.TheVariants.{Id, Block, Member}
+use Rattle.name_alloc.specs.declared.claims.Names.{Names as Given}
+use Rattle.name_alloc.specs.Lookup.{name_in}
+use Rattle.hoist_plan.specs.Kept.{NamingState, form_in, is_carried_in}
+use Rattle.glsl_ast.specs.Tree.{Text, literal}
+use Rattle.glsl_ast.specs.declared.expressions.Literal.TheVariants.{Uint}
+use Rattle.vec_lowering.specs.Composite as composite
+use Rattle.vec_lowering.specs.Named.{naming_of}
+use Rattle.vec_lowering.specs.Lowered.{lowered_vector}
+use Rattle.text_rules.specs.Constants.{Source}
+use Rattle.text_rules.specs.Declarations.{Names}
+use Rattle.constant_text.specs.Named.{id_names}
+use Rattle.expr_forward.specs.Scope.{Setting, Scope, Argument}
+use Rattle.expr_forward.specs.Globals.{global_in}
+use Rattle.expr_forward.specs.declared.globals.Globals.{Globals}
+
+pub record ContextState : Type 0 where
+  pub source : Source
+  pub function : Function
+  pub names : Given
+  pub globals : Globals
+  pub plan : NamingState
+
+-- the name of a key; that of one that was not claimed is empty
+abbrev pub key_text : Given → Key → Text
+key_text names key = unwrap_or (name_in names key) []
+
+-- no expression here mentions the constants that are calculated but by name
+abbrev pub all_names : Given → Names
+all_names names = record {
+  id = id_names names;
+  block = λ v s. key_text names (Block (id v) (id s));
+  member = λ s k. key_text names (Member (id s) k);
+  calculated = λ g. literal (Uint 0);
+}
+
+-- an operand, as the lowering of operations takes it
+abbrev pub operand : Argument → composite.Argument
+operand a = record { of = a.expr; shape = a.shape; word = a.word }
+
+-- what is known where a pointer is written
+abbrev pub setting_of : ContextState → Setting
+setting_of c = record { source = c.source; function = c.function; key = key_text c.names; global = global_in c.globals }
+
+-- and where a block is written
+abbrev pub scope_of : ContextState → Scope
+scope_of c = record {
+  setting = setting_of c;
+  form = form_in c.plan;
+  carried = is_carried_in c.plan;
+  names = all_names c.names;
+  lowered = λ op number t args literals. lowered_vector (naming_of c.names) op number t literals (map operand args);
+}

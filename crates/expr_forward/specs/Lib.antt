@@ -1,0 +1,7 @@
+pub mod TypeNames
+pub mod Scope
+pub mod Paths
+pub mod Values
+pub mod Statements
+pub mod Globals
+pub mod Context

@@ -1,0 +1,107 @@
+// Atomic instructions (GLSL 4.60, section 8.11).
+ghost use Rattle.std.specs.Prelude.{◌≡◌, ◌++◌, IfOk, OnOk, map};
+ghost use Rattle.glsl_ast.specs.Tree.{binary};
+ghost use Rattle.glsl_ast.specs.declared.expressions.BinOp.TheVariants.{Sub};
+ghost use Rattle.glsl_ast.specs.View.{expr_of, stmt_of};
+ghost use Rattle.expr_forward.specs.Context.{scope_of};
+ghost use Rattle.expr_forward.specs.Statements.{atomic_name as atomic_name_of, atomic_arguments as atomic_arguments_of, atomic_operand as atomic_operand_of, atomic_text, atomic_value, word_at_place as word_at_place_of, word_by as word_by_of};
+
+use crate::Context;
+use constant_text::scalar_type;
+use glsl_ast::{BinOp, Expr, Stmt};
+use int_lowering::literal;
+use spv_module::{Elem, Id, Inst};
+use spv_words::Memory;
+use std::alloc::Global;
+
+/// The function of an atomic instruction.
+fn atomic_name(op: u16) -> &'static str
+    ensures { result.now ≡ atomic_name_of op }
+{
+    match op {
+        228 | 229 => "atomicExchange",
+        230 => "atomicCompSwap",
+        236 | 237 => "atomicMin",
+        238 | 239 => "atomicMax",
+        240 => "atomicAnd",
+        241 => "atomicOr",
+        242 => "atomicXor",
+        _ => "atomicAdd",
+    }
+}
+
+impl Context<'_, '_> {
+    /// A literal in the type of what a pointer points to.
+    #[tactic(auto, unfolding(crate::specs::Statements::word_by))]
+    fn word_by(&self, pointer: Id, word: u32) -> Expr
+        ensures { expr_of result ≡ word_by_of (scope_of self.now) pointer.0 word }
+    {
+        let ty = scalar_type(self.module(), self.pointee(pointer));
+        literal(ty.unwrap_or(Elem::Uint), word)
+    }
+
+    /// The operand of an atomic subtraction, negated.
+    #[tactic(auto, using(glsl_ast::proofs::Views::expr_rows))]
+    fn negated(&self, alloc: Global, block: usize, inst: &Inst) -> Result<Expr, Memory>
+        ensures { IfOk result (λ e. expr_of e ≡ binary Sub (word_at_place_of (scope_of self.now) inst.now 0) (atomic_value (scope_of self.now) block inst.now)) }
+    {
+        let zero = Box::new(alloc, self.word_by(Id(inst.operand(0)), 0))?;
+        let value = self.value(alloc, block, Id(inst.operand(3)))?;
+        Ok(Expr::Binary(BinOp::Sub, zero, Box::new(alloc, value)?))
+    }
+
+    /// What stands behind the place, and behind the comparator where there is one, in the call of an atomic function.
+    fn atomic_operand(&self, alloc: Global, block: usize, inst: &Inst) -> Result<Expr, Memory>
+        ensures { IfOk result (λ e. expr_of e ≡ atomic_operand_of (scope_of self.now) block inst.now) }
+    {
+        let place = Id(inst.operand(0));
+        match inst.op {
+            // OpAtomicLoad, OpAtomicIIncrement, OpAtomicIDecrement, OpAtomicISub, OpAtomicCompareExchange
+            227 => Ok(self.word_by(place, 0)),
+            232 => Ok(self.word_by(place, 1)),
+            233 => Ok(self.word_by(place, u32::MAX)),
+            235 => self.negated(alloc, block, inst),
+            230 => self.value(alloc, block, Id(inst.operand(4))),
+            _ => self.value(alloc, block, Id(inst.operand(3))),
+        }
+    }
+
+    /// The arguments of the call of an atomic function.
+    fn atomic_arguments(
+        &self,
+        alloc: Global,
+        block: usize,
+        inst: &Inst,
+    ) -> Result<Vec<Expr>, Memory>
+        ensures { IfOk result (λ list. map expr_of list.items ≡ atomic_arguments_of (scope_of self.now) block inst.now) }
+    {
+        let mut args = Vec::new(alloc);
+        args.push(self.place_expr(alloc, block, Id(inst.operand(0)))?)?;
+        // OpAtomicCompareExchange
+        if inst.op == 230 {
+            args.push(self.value(alloc, block, Id(inst.operand(5)))?)?;
+        }
+        args.push(self.atomic_operand(alloc, block, inst)?)?;
+        Ok(args)
+    }
+
+    #[tactic(auto, using(glsl_ast::proofs::Views::stmt_rows, glsl_ast::proofs::Views::expr_rows))]
+    pub(crate) fn add_atomic(
+        &self,
+        alloc: Global,
+        into: &mut Vec<Stmt>,
+        block: usize,
+        inst: &Inst,
+    ) -> Result<(), Memory>
+        ensures { OnOk result (map stmt_of into.new.items ≡ map stmt_of into.old.items ++ atomic_text (scope_of self.now) block inst.now) }
+    {
+        let function = String::from_str(alloc, atomic_name(inst.op))?;
+        let args = self.atomic_arguments(alloc, block, inst)?;
+        // OpAtomicStore has no result
+        if inst.op == 228 {
+            into.push(Stmt::Call(function, args))?;
+            return Ok(());
+        }
+        self.add_result(alloc, into, inst, Expr::Call(function, args))
+    }
+}

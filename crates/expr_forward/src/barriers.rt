@@ -1,0 +1,66 @@
+// Barriers (GLSL 4.60, sections 8.16 and 8.17).
+ghost use Rattle.std.specs.Prelude.{◌≡◌, ◌++◌, OnOk, map};
+ghost use Rattle.glsl_ast.specs.View.{stmt_of};
+ghost use Rattle.expr_forward.specs.Context.{scope_of};
+ghost use Rattle.expr_forward.specs.Statements.{bare_call, control_barrier_text, memory_barrier, memory_barrier_text, semantics as semantics_of};
+
+use crate::Context;
+use glsl_ast::Stmt;
+use spv_module::{Id, Inst};
+use spv_words::Memory;
+use std::alloc::Global;
+
+/// Adds a call of a function without arguments.
+#[tactic(auto, using(glsl_ast::proofs::Views::stmt_rows))]
+fn add_call(alloc: Global, into: &mut Vec<Stmt>, function: &str) -> Result<(), Memory>
+    ensures { OnOk result (map stmt_of into.new.items ≡ map stmt_of into.old.items ++ bare_call function.now) }
+{
+    let function = String::from_str(alloc, function)?;
+    into.push(Stmt::Call(function, Vec::new(alloc)))?;
+    Ok(())
+}
+
+/// Adds the barriers for the bits UniformMemory and WorkgroupMemory of memory semantics (SPIR-V 1.6, section 3.32).
+fn add_memory_barriers(alloc: Global, into: &mut Vec<Stmt>, semantics: u32) -> Result<(), Memory>
+    ensures { OnOk result (map stmt_of into.new.items ≡ map stmt_of into.old.items ++ memory_barrier semantics) }
+{
+    if semantics & 0x40 != 0 {
+        add_call(alloc, into, "memoryBarrierBuffer")?;
+    }
+    if semantics & 0x100 != 0 {
+        add_call(alloc, into, "memoryBarrierShared")?;
+    }
+    Ok(())
+}
+
+impl Context<'_, '_> {
+    /// The word of a constant, and 0 of what has none.
+    fn semantics(&self, id: Id) -> u32
+        ensures { result ≡ semantics_of (scope_of self.now) id.0 }
+    {
+        self.word_at(id).unwrap_or(0)
+    }
+
+    pub(crate) fn add_memory_barrier(
+        &self,
+        alloc: Global,
+        into: &mut Vec<Stmt>,
+        inst: &Inst,
+    ) -> Result<(), Memory>
+        ensures { OnOk result (map stmt_of into.new.items ≡ map stmt_of into.old.items ++ memory_barrier_text (scope_of self.now) inst.now) }
+    {
+        add_memory_barriers(alloc, into, self.semantics(Id(inst.operand(1))))
+    }
+
+    pub(crate) fn add_control_barrier(
+        &self,
+        alloc: Global,
+        into: &mut Vec<Stmt>,
+        inst: &Inst,
+    ) -> Result<(), Memory>
+        ensures { OnOk result (map stmt_of into.new.items ≡ map stmt_of into.old.items ++ control_barrier_text (scope_of self.now) inst.now) }
+    {
+        add_memory_barriers(alloc, into, self.semantics(Id(inst.operand(2))))?;
+        add_call(alloc, into, "barrier")
+    }
+}

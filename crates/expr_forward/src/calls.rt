@@ -1,0 +1,65 @@
+// Calls of functions (GLSL 4.60, section 6.1.1).
+ghost use Rattle.std.specs.Prelude.{◌≡◌, ◌++◌, IfOk, OnOk, map};
+ghost use Rattle.glsl_ast.specs.View.{expr_of, stmt_of};
+ghost use Rattle.expr_forward.specs.Context.{scope_of};
+ghost use Rattle.expr_forward.specs.Statements.{call_argument as call_argument_of, call_text, is_void as is_void_of};
+
+use crate::Context;
+use crate::operands::after_one;
+use constant_text::name;
+use glsl_ast::{Expr, Stmt};
+use name_alloc::Key;
+use spv_module::{Id, Inst};
+use spv_words::Memory;
+use std::alloc::Global;
+
+impl Context<'_, '_> {
+    /// An argument of a call: a pointer is written as its place.
+    fn call_argument(&self, alloc: Global, block: usize, id: Id) -> Result<Expr, Memory>
+        ensures { IfOk result (λ e. expr_of e ≡ call_argument_of (scope_of self.now) block id.0) }
+    {
+        if self.is_pointer(id) {
+            self.place_expr(alloc, block, id)
+        } else {
+            self.value(alloc, block, id)
+        }
+    }
+
+    fn call_arguments(&self, alloc: Global, block: usize, ids: &[u32]) -> Result<Vec<Expr>, Memory>
+        ensures { IfOk result (λ list. map expr_of list.items ≡ map (call_argument_of (scope_of self.now) block) ids.now) }
+    {
+        let mut args = Vec::new(alloc);
+        for id in ids {
+            args.push(self.call_argument(alloc, block, Id(*id))?)?;
+        }
+        Ok(args)
+    }
+
+    /// Whether a type is OpTypeVoid.
+    pub fn is_void(&self, ty: u32) -> bool
+        ensures { result ≡ is_void_of (scope_of self.now) ty }
+    {
+        self.module()
+            .global(Id(ty))
+            .map_or(false, |inst| inst.op == 19)
+    }
+
+    #[tactic(auto, using(glsl_ast::proofs::Views::stmt_rows, glsl_ast::proofs::Views::expr_rows))]
+    pub(crate) fn add_function_call(
+        &self,
+        alloc: Global,
+        into: &mut Vec<Stmt>,
+        block: usize,
+        inst: &Inst,
+    ) -> Result<(), Memory>
+        ensures { OnOk result (map stmt_of into.new.items ≡ map stmt_of into.old.items ++ call_text (scope_of self.now) block inst.now) }
+    {
+        let callee = name(alloc, self.names, Key::Id(Id(inst.operand(0))))?;
+        let args = self.call_arguments(alloc, block, after_one(inst.args.as_slice()))?;
+        if self.is_void(inst.ty) {
+            into.push(Stmt::Call(callee, args))?;
+            return Ok(());
+        }
+        self.add_result(alloc, into, inst, Expr::Call(callee, args))
+    }
+}

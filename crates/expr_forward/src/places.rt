@@ -1,0 +1,82 @@
+// How pointers are written: the name of what they lead from, and their steps (GLSL 4.60, sections 5.5 to 5.7).
+ghost use Rattle.std.specs.Prelude.{◌≡◌, ◌∷◌, [], IfOk, map, string_bytes};
+ghost use Rattle.glsl_ast.specs.View.{expr_of, lvalue_of, step_of};
+ghost use Rattle.expr_forward.specs.Paths.{name_in, base_text, place_text as place_text_of, place_expr as place_expr_of, further as further_of};
+ghost use Rattle.expr_forward.specs.Context.{setting_of};
+
+use crate::Context;
+use constant_text::name;
+use glsl_ast::{Expr, LStep, LValue};
+use name_alloc::Key;
+use spv_module::Id;
+use spv_words::Memory;
+use std::alloc::Global;
+
+/// The name that an expression is, and nothing of another.
+#[tactic(auto, using(glsl_ast::proofs::Views::expr_rows))]
+fn name_of(alloc: Global, expr: &Expr) -> Result<String, Memory>
+    ensures { IfOk result (λ w. string_bytes w ≡ name_in (expr_of expr.now)) }
+{
+    match expr {
+        Expr::Name(name) => Ok(name.clone()?),
+        _ => Ok(String::new(alloc)),
+    }
+}
+
+/// What a step leads to.
+#[tactic(auto, using(glsl_ast::proofs::Views::expr_rows))]
+pub(crate) fn further(alloc: Global, of: Expr, step: LStep) -> Result<Expr, Memory>
+    ensures { IfOk result (λ e. expr_of e ≡ further_of (expr_of of) (step_of step ∷ [])) }
+{
+    let of = Box::new(alloc, of)?;
+    match step {
+        LStep::Member(name) => Ok(Expr::Member(of, name)),
+        LStep::Index(index) => Ok(Expr::Index(of, Box::new(alloc, index)?)),
+    }
+}
+
+/// What steps lead to.
+#[tactic(auto, using(crate::proofs::Further::further_rules))]
+pub(crate) fn walked(alloc: Global, from: Expr, steps: Vec<LStep>) -> Result<Expr, Memory>
+    ensures { IfOk result (λ e. expr_of e ≡ further_of (expr_of from) (map step_of steps.items)) }
+{
+    let mut expr = from;
+    for step in steps {
+        expr = further(alloc, expr, step)?;
+    }
+    Ok(expr)
+}
+
+impl Context<'_, '_> {
+    /// The name of what a path leads from: that of what is built in, else its own.
+    fn base_name(&self, alloc: Global, id: Id) -> Result<String, Memory>
+        ensures { IfOk result (λ w. string_bytes w ≡ base_text (setting_of self.now) id.0) }
+    {
+        match self.globals.of(id) {
+            Some(expr) => name_of(alloc, expr),
+            None => name(alloc, self.names, Key::Id(id)),
+        }
+    }
+
+    /// A pointer as the left side of an assignment, in the block at a place (GLSL 4.60, section 5.8). There is an error only for
+    /// want of memory.
+    pub fn place_text(&self, alloc: Global, block: usize, pointer: Id) -> Result<LValue, Memory>
+        ensures { IfOk result (λ l. lvalue_of l ≡ place_text_of (setting_of self.now) block pointer.0) }
+    {
+        let path = self.paths.path(alloc, block, pointer)?;
+        let from = self.pointee(path.base);
+        Ok(LValue {
+            name: self.base_name(alloc, path.base)?,
+            steps: self.steps(alloc, from, &path.steps)?,
+        })
+    }
+
+    /// A pointer as an expression, in the block at a place. There is an error only for want of memory.
+    #[tactic(auto, using(glsl_ast::proofs::Views::expr_rows))]
+    pub fn place_expr(&self, alloc: Global, block: usize, pointer: Id) -> Result<Expr, Memory>
+        ensures { IfOk result (λ e. expr_of e ≡ place_expr_of (setting_of self.now) block pointer.0) }
+    {
+        let LValue { name, steps } = self.place_text(alloc, block, pointer)?;
+        walked(alloc, Expr::Name(name), steps)
+    }
+}

@@ -1,0 +1,72 @@
+// The variables of results.
+ghost use Rattle.std.specs.Prelude.{◌≡◌, ◌++◌, ◌∷◌, [], OnOk, map};
+ghost use Rattle.spv_module.specs.Lists.{id};
+ghost use Rattle.name_alloc.specs.declared.claims.Key.TheVariants.{Id as IdKey};
+ghost use Rattle.glsl_ast.specs.Tree.{assign, lvalue};
+ghost use Rattle.glsl_ast.specs.View.{expr_of, step_of, stmt_of};
+ghost use Rattle.expr_forward.specs.Context.{key_text, scope_of};
+ghost use Rattle.expr_forward.specs.Statements.{is_variable_form as is_variable_form_of, set};
+
+use crate::Context;
+use constant_text::name;
+use glsl_ast::{Expr, LStep, LValue, Stmt};
+use hoist_plan::Form;
+use name_alloc::Key;
+use spv_module::{Id, Inst};
+use spv_words::Memory;
+use std::alloc::Global;
+
+fn is_variable_form(form: Form) -> bool
+    ensures { result ≡ is_variable_form_of form }
+{
+    matches!(form, Form::Local | Form::Hoisted)
+}
+
+impl Context<'_, '_> {
+    /// Whether the result of an instruction has a variable.
+    pub(crate) fn has_variable(&self, inst: &Inst) -> bool
+        ensures { result ≡ is_variable_form_of ((scope_of self.now).form inst.now.result) }
+    {
+        is_variable_form(self.plan.of(Id(inst.result)))
+    }
+
+    /// Adds an assignment to the variable of a result, or to a part of it.
+    #[tactic(auto, using(glsl_ast::proofs::Views::stmt_rows))]
+    pub(crate) fn add_assignment(
+        &self,
+        alloc: Global,
+        into: &mut Vec<Stmt>,
+        inst: &Inst,
+        steps: Vec<LStep>,
+        expr: Expr,
+    ) -> Result<(), Memory>
+        ensures { OnOk result (map stmt_of into.new.items ≡ map stmt_of into.old.items ++ assign (lvalue (key_text self.now.names (IdKey (id inst.now.result))) (map step_of steps.items)) (expr_of expr) ∷ []) }
+    {
+        let name = name(alloc, self.names, Key::Id(Id(inst.result)))?;
+        into.push(Stmt::Assign(LValue { name, steps }, expr))?;
+        Ok(())
+    }
+
+    /// Adds what gives a result its value: its variable is declared here, or was declared at the top of the function.
+    #[tactic(auto, using(glsl_ast::proofs::Views::stmt_rows))]
+    pub(crate) fn add_result(
+        &self,
+        alloc: Global,
+        into: &mut Vec<Stmt>,
+        inst: &Inst,
+        expr: Expr,
+    ) -> Result<(), Memory>
+        ensures { OnOk result (map stmt_of into.new.items ≡ map stmt_of into.old.items ++ set (scope_of self.now) inst.now (expr_of expr)) }
+    {
+        match self.plan.of(Id(inst.result)) {
+            Form::Local => {
+                let ty = self.type_name_of(alloc, inst.ty)?;
+                let name = name(alloc, self.names, Key::Id(Id(inst.result)))?;
+                into.push(Stmt::Declare(ty, name, Some(expr)))?;
+                Ok(())
+            }
+            Form::Hoisted => self.add_assignment(alloc, into, inst, Vec::new(alloc), expr),
+            Form::Gone | Form::Forwarded => Ok(()),
+        }
+    }
+}

@@ -1,0 +1,171 @@
+// The statements of a block, an instruction after the other.
+ghost use Rattle.std.specs.Prelude.{◌≡◌, ◌++◌, ◌∷◌, [], IfOk, OnOk, flat_map, map};
+ghost use Rattle.glsl_ast.specs.View.{stmt_of};
+ghost use Rattle.expr_forward.specs.Context.{scope_of};
+ghost use Rattle.expr_forward.specs.Statements.{block_text as block_text_of, capture, captured_of, chain_text, insts_at as insts_at_of, inst_text, kind_of};
+ghost use Rattle.expr_forward.specs.declared.kinds.InstKind.TheVariants as kind;
+
+use crate::{Context, InstKind};
+use access_paths::captured_indexes;
+use constant_text::name;
+use glsl_ast::{LValue, Stmt};
+use name_alloc::Key;
+use spv_module::{Id, Inst};
+use spv_words::Memory;
+use std::alloc::Global;
+
+impl Context<'_, '_> {
+    fn add_load(
+        &self,
+        alloc: Global,
+        into: &mut Vec<Stmt>,
+        block: usize,
+        inst: &Inst,
+    ) -> Result<(), Memory>
+        ensures { OnOk result (map stmt_of into.new.items ≡ map stmt_of into.old.items ++ inst_text (scope_of self.now) block inst.now kind.Load) }
+    {
+        let place = self.place_expr(alloc, block, Id(inst.operand(0)))?;
+        self.add_result(alloc, into, inst, place)
+    }
+
+    #[tactic(auto, using(glsl_ast::proofs::Views::stmt_rows))]
+    fn add_store(
+        &self,
+        alloc: Global,
+        into: &mut Vec<Stmt>,
+        block: usize,
+        inst: &Inst,
+    ) -> Result<(), Memory>
+        ensures { OnOk result (map stmt_of into.new.items ≡ map stmt_of into.old.items ++ inst_text (scope_of self.now) block inst.now kind.Store) }
+    {
+        let place = self.place_text(alloc, block, Id(inst.operand(0)))?;
+        let value = self.value(alloc, block, Id(inst.operand(1)))?;
+        into.push(Stmt::Assign(place, value))?;
+        Ok(())
+    }
+
+    /// Adds the value of an operation, where it has a variable.
+    fn add_value(
+        &self,
+        alloc: Global,
+        into: &mut Vec<Stmt>,
+        block: usize,
+        inst: &Inst,
+    ) -> Result<(), Memory>
+        ensures { OnOk result (map stmt_of into.new.items ≡ map stmt_of into.old.items ++ inst_text (scope_of self.now) block inst.now kind.Value) }
+    {
+        if !self.has_variable(inst) {
+            return Ok(());
+        }
+        let value = self.expression(alloc, block, inst)?;
+        self.add_result(alloc, into, inst, value)
+    }
+
+    /// The indexes of a chain that other blocks read from variables, each with its number among the indexes. There is an error
+    /// only for want of memory, or for more indexes than a `u32` counts.
+    pub fn captured(&self, alloc: Global, inst: &Inst) -> Result<Vec<(u32, Id)>, Memory>
+        ensures { IfOk result (λ list. map (λ n. (n.0, n.1.0)) list.items ≡ captured_of (scope_of self.now) inst.now) }
+    {
+        // OpAccessChain, OpInBoundsAccessChain
+        if (inst.op == 65 || inst.op == 66) && self.plan.carried(Id(inst.result)) {
+            captured_indexes(alloc, self.module(), inst)
+        } else {
+            Ok(Vec::new(alloc))
+        }
+    }
+
+    /// Adds what captures an index of a chain.
+    #[tactic(auto, using(glsl_ast::proofs::Views::stmt_rows))]
+    fn add_capture(
+        &self,
+        alloc: Global,
+        into: &mut Vec<Stmt>,
+        inst: &Inst,
+        number: u32,
+        index: Id,
+    ) -> Result<(), Memory>
+        ensures { OnOk result (map stmt_of into.new.items ≡ map stmt_of into.old.items ++ capture (scope_of self.now) inst.now (number, index.0) ∷ []) }
+    {
+        let name = name(alloc, self.names, Key::Captured(Id(inst.result), number))?;
+        let steps = Vec::new(alloc);
+        let index = self.index_expr(alloc, index)?;
+        into.push(Stmt::Assign(LValue { name, steps }, index))?;
+        Ok(())
+    }
+
+    fn add_captures(&self, alloc: Global, into: &mut Vec<Stmt>, inst: &Inst) -> Result<(), Memory>
+        ensures { OnOk result (map stmt_of into.new.items ≡ map stmt_of into.old.items ++ chain_text (scope_of self.now) inst.now) }
+    {
+        for (number, index) in self.captured(alloc, inst)? {
+            self.add_capture(alloc, into, inst, number, index)?;
+        }
+        Ok(())
+    }
+
+    /// Adds the statements of an instruction. A value without a variable has none.
+    fn add_inst(
+        &self,
+        alloc: Global,
+        into: &mut Vec<Stmt>,
+        block: usize,
+        inst: &Inst,
+    ) -> Result<(), Memory>
+        ensures { OnOk result (map stmt_of into.new.items ≡ map stmt_of into.old.items ++ inst_text (scope_of self.now) block inst.now (kind_of inst.now.op)) }
+    {
+        match InstKind::of(inst.op) {
+            InstKind::Load => self.add_load(alloc, into, block, inst),
+            InstKind::Store => self.add_store(alloc, into, block, inst),
+            InstKind::Call => self.add_function_call(alloc, into, block, inst),
+            InstKind::Atomic => self.add_atomic(alloc, into, block, inst),
+            InstKind::ControlBarrier => self.add_control_barrier(alloc, into, inst),
+            InstKind::MemoryBarrier => self.add_memory_barrier(alloc, into, inst),
+            InstKind::Chain => self.add_captures(alloc, into, inst),
+            InstKind::CompositeInsert => self.add_composite_insert(alloc, into, block, inst),
+            InstKind::VectorInsertDynamic => self.add_vector_insert(alloc, into, block, inst),
+            InstKind::Value => self.add_value(alloc, into, block, inst),
+            InstKind::Silent => Ok(()),
+        }
+    }
+
+    fn add_insts(
+        &self,
+        alloc: Global,
+        into: &mut Vec<Stmt>,
+        block: usize,
+        insts: &[Inst],
+    ) -> Result<(), Memory>
+        ensures { OnOk result (map stmt_of into.new.items ≡ map stmt_of into.old.items ++ flat_map (λ i. inst_text (scope_of self.now) block i (kind_of i.op)) insts.now) }
+    {
+        for inst in insts {
+            self.add_inst(alloc, into, block, inst)?;
+        }
+        Ok(())
+    }
+
+    /// The instructions of the block at a place, and none where there is no block.
+    fn insts_at(&self, block: usize) -> &[Inst]
+        ensures { result.now ≡ insts_at_of (scope_of self.now) block }
+    {
+        match self.locals.function().blocks.as_slice().get(block) {
+            None => &[],
+            Some(found) => found.insts.as_slice(),
+        }
+    }
+
+    /// Adds the statements of the block at a place, before its terminator (GLSL 4.60, chapter 6). There is an error only for want
+    /// of memory.
+    pub fn add_block(&self, alloc: Global, block: usize, into: &mut Vec<Stmt>) -> Result<(), Memory>
+        ensures { OnOk result (map stmt_of into.new.items ≡ map stmt_of into.old.items ++ block_text_of (scope_of self.now) block) }
+    {
+        self.add_insts(alloc, into, block, self.insts_at(block))
+    }
+
+    /// The statements of the block at a place, before its terminator. There is an error only for want of memory.
+    pub fn block_text(&self, alloc: Global, block: usize) -> Result<Vec<Stmt>, Memory>
+        ensures { IfOk result (λ list. map stmt_of list.items ≡ block_text_of (scope_of self.now) block) }
+    {
+        let mut list = Vec::new(alloc);
+        self.add_block(alloc, block, &mut list)?;
+        Ok(list)
+    }
+}
