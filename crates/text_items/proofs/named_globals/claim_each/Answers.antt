@@ -1,0 +1,10 @@
+use Rattle.std.proofs.Common.{◌++◌, map, get_or, refl, arith}
+use Rattle.std.specs.List.{enumerate_from}
+use Rattle.text_items.specs.Claimed.{claim_member}
+use Rattle.text_items.specs.View.{claims_of}
+use Rattle.text_items.proofs.Joined.{member_more}
+use Rattle.text_items.proofs.named_globals.claim_each.Goals as goal
+
+pub loop-k-preserved : goal.loop-k-preserved
+loop-k-preserved c =
+    member_more (claim_member c.args.written.now.source c.args.inst.now) (claims_of c.claim_member.new.claims.items) (claims_of c.loop-k.claims.items) (claims_of c.args.claims.now.items ++ map (claim_member c.args.written.now.source c.args.inst.now) (enumerate_from 0 c.args.types.now)) c.loop-k.k c.args.types.now 0 (claim_member c.args.written.now.source c.args.inst.now (c.loop-k.k, get_or c.args.types.now c.loop-k.k 0)) (omega arith) c.in_ok-claim_member.ensures refl c.loop-k.invariant

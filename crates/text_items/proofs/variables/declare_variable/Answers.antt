@@ -1,0 +1,14 @@
+use Rattle.std.proofs.Common.{◌≡◌, ◌∷◌, [], ◌∙◌, None, ap, rules}
+use Rattle.layout_rules.specs.Blocks.{block_of}
+use Rattle.glsl_ast.specs.Tree.{Decl}
+use Rattle.text_rules.specs.Constants.{Source}
+use Rattle.text_rules.specs.Declarations.{variable_decl}
+use Rattle.text_items.specs.Names.{item_names}
+use Rattle.text_items.specs.Plain.{plain_decl}
+use Rattle.text_items.proofs.variables.declare_variable.Goals as goal
+
+pub returns-in_ok-decl-in-None : goal.returns-in_ok-decl-in-None
+returns-in_ok-decl-in-None c =
+    let none : None ≡ block_of c.args.written.now.source.of.globals c.args.inst.now = search rules in
+    ap (λ (d : Decl). d ∷ []) (c.in_ok-decl-in-None.ensures ∙ ap (λ (o : Source). plain_decl o (item_names o c.args.names.now) c.args.inst.now) c.readings-readings.ensures)
+    ∙ ap (variable_decl c.args.written.now.source (item_names c.args.written.now.source c.args.names.now) c.args.inst.now) none

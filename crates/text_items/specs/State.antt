@@ -1,0 +1,56 @@
+-- What contracts see of what is written.
+use Rattle.std.specs.Prelude.{ℕ, ◌≡◌, ◌++◌, ◌&&◌, ◌||◌, Bool, true, List, filter, flat_map, map}
+use Rattle.std.specs.Borrow.{Bor}
+use Rattle.std.specs.List.{list_any}
+use Rattle.std.specs.BTreeSet.{BTreeSet, contains}
+use Rattle.std.specs.Ordering.{nat_cmp}
+use Rattle.spv_module.specs.declared.inst.Inst.{Inst}
+use Rattle.spv_module.specs.declared.inst.Function.{Function}
+use Rattle.text_rules.specs.Constants.{Source}
+use Rattle.text_rules.specs.Printed.{Reached, is_private, is_workgroup, is_block_variable, is_mentioned_in, mentions, is_length_of, declares, signature_types, is_needed, type_has_struct, written_types}
+
+-- what is translated, and what of its functions is written
+pub record WrittenState : Type 0 where
+  pub source : Source
+  pub reached : Reached
+
+abbrev pub insts_at : List (Bor Inst) → List Inst
+insts_at is = map (λ (i : Bor Inst). i.now) is
+
+abbrev pub functions_at : List (Bor Function) → List Function
+functions_at fs = map (λ (f : Bor Function). f.now) fs
+
+abbrev pub reached_of : List (Bor Function) → List (Bor Inst) → Reached
+reached_of fs is = record { functions = functions_at fs; live = insts_at is }
+
+-- a variable is written that is among these, the ids which functions mention
+abbrev pub is_written_by : (ℕ → Bool) → Inst → Bool
+is_written_by mentioned g = (is_private g || (is_workgroup g || is_block_variable g)) && mentioned g.result
+
+-- of itself, without the other constants, the text needs the constant with this id, where functions mention these ids
+abbrev pub needed_first : Source → (ℕ → Bool) → List Inst → ℕ → Bool
+needed_first s mentioned live id =
+    list_any (λ (i : Inst). mentions i id) live ||
+    (list_any (is_length_of id) s.of.globals ||
+    list_any (λ (g : Inst). is_private g && (is_written_by mentioned g && mentions g id)) s.of.globals)
+
+-- the types of what is written, where functions mention these ids, and the text needs these constants
+abbrev pub types_by : Source → (ℕ → Bool) → (ℕ → Bool) → List Function → List Inst → List ℕ
+types_by s mentioned needed fs live =
+    map (λ (g : Inst). g.ty) (filter (λ g. is_written_by mentioned g || declares s needed g) s.of.globals) ++
+    (flat_map signature_types fs ++ map (λ (i : Inst). i.ty) live)
+
+-- something that is written has the struct with this id
+abbrev pub has_type : Source → Reached → ℕ → Bool
+has_type s r id = list_any (type_has_struct s.of.globals id) (written_types s r)
+
+-- the ids that functions mention, those of the constants that the text needs, and the structs of what is written
+pub record IsHeld (s : Source) (r : Reached) (heads : List Inst) (ids constants structs : BTreeSet ℕ) : Type 0 where
+  pub decor : heads ≡ s.of.heads
+  pub mentioned : (id : ℕ) → contains nat_cmp ids id ≡ is_mentioned_in r.functions id
+  pub needed : (id : ℕ) → contains nat_cmp constants id ≡ is_needed s r id
+  pub types : (id : ℕ) → contains nat_cmp structs id ≡ has_type s r id
+
+-- the structs of the types that were gone through are found
+pub record HasThose (gs : List Inst) (seen found : BTreeSet ℕ) : Type 0 where
+  pub each : (ty id : ℕ) → contains nat_cmp seen ty ≡ true → type_has_struct gs id ty ≡ true → contains nat_cmp found id ≡ true

@@ -1,0 +1,176 @@
+// The declarations of blocks (GLSL 4.60, section 4.3.9).
+ghost use Rattle.std.specs.Prelude.{◌≡◌, IfOk, Some, map};
+ghost use Rattle.std.specs.List.{enumerate_from};
+ghost use Rattle.layout_rules.specs.Blocks.{block_of, kind_at};
+ghost use Rattle.glsl_ast.specs.View.{decl_of, member_of};
+ghost use Rattle.text_rules.specs.Declarations.{is_buffer as is_buffer_variable, place_of as place_of_variable, rules_by as rules_by_kind, member_decl, block_decl};
+ghost use Rattle.text_items.specs.Names.{item_names};
+ghost use Rattle.text_items.specs.Blocks.{is_like as is_like_inst, is_found as is_found_in};
+
+use crate::Written;
+use crate::constants::type_at;
+use crate::numbers::counted;
+use crate::qualifiers::{member_qualifiers, variable_qualifiers};
+use buffer_layout::{Kind, check_block, is_block_variable};
+use constant_text::name;
+use glsl_ast::{BlockPlace, BlockRules, Decl, Member};
+use name_alloc::{Key, Names};
+use spv_decor::Decor;
+use spv_module::{Id, Inst, Module};
+use spv_words::{Fault, Memory};
+use std::alloc::Global;
+
+/// Whether this is a variable of class StorageBuffer.
+fn is_buffer(inst: &Inst) -> bool
+    ensures { result ≡ is_buffer_variable inst.now }
+{
+    inst.operand(0) == 12
+}
+
+fn place_of(written: &Written, inst: &Inst) -> BlockPlace
+    ensures { result ≡ place_of_variable written.now.source inst.now }
+{
+    // PushConstant
+    if inst.operand(0) == 9 {
+        return BlockPlace::Push;
+    }
+    let id = Id(inst.result);
+    // DescriptorSet, Binding
+    BlockPlace::Set {
+        set: written.decor().value(id, 34).unwrap_or(0),
+        binding: written.decor().value(id, 33).unwrap_or(0),
+    }
+}
+
+fn rules_by(kind: Kind) -> BlockRules
+    ensures { result ≡ rules_by_kind (Some kind) }
+{
+    match kind {
+        Kind::Std140 => BlockRules::Std140,
+        Kind::Std430 => BlockRules::Std430,
+    }
+}
+
+/// Whether an instruction has the opcode, the type and the first operand of another.
+fn is_like(inst: &Inst, other: &Inst) -> bool
+    ensures { result ≡ is_like_inst inst.now other.now }
+{
+    other.op == inst.op && other.ty == inst.ty && other.operand(0) == inst.operand(0)
+}
+
+/// Whether the first global with the id of this one is like it.
+fn is_found(module: &Module, inst: &Inst) -> bool
+    ensures { result ≡ is_found_in «module».now.globals inst.now }
+{
+    match module.global(Id(inst.result)) {
+        None => false,
+        Some(found) => is_like(inst, found),
+    }
+}
+
+/// The rules by which the block of a variable is laid out, std430 where none fits. There is an error for want of memory, where a
+/// type passes a limit, or where another global has the variable's id.
+#[tactic(auto, using(crate::proofs::Taken::kind_rules))]
+fn rules_of(
+    alloc: Global,
+    module: &Module,
+    decor: &Decor,
+    variable: &Inst,
+    block: &Inst,
+) -> Result<BlockRules, Memory>
+    requires { block_of «module».now.globals variable.now ≡ Some block.now }
+    ensures { IfOk result (λ rules. rules ≡ rules_by_kind (kind_at decor.now «module».now.globals variable.now block.now)) }
+{
+    let id = Id(variable.result);
+    if !is_found(module, variable) {
+        return Err(Memory);
+    }
+    if !is_block_variable(module, id) {
+        return Err(Memory);
+    }
+    match check_block(alloc, module, decor, id) {
+        Ok(plan) => Ok(rules_by(plan.kind)),
+        Err(Fault::Refused(_)) => Ok(BlockRules::Std430),
+        Err(Fault::Limit(_) | Fault::Memory) => Err(Memory),
+    }
+}
+
+/// A member of a block, by its number and the id of its type.
+fn member(
+    alloc: Global,
+    written: &Written,
+    names: &Names,
+    variable: &Inst,
+    block: &Inst,
+    k: usize,
+    part: u32,
+) -> Result<Member, Memory>
+    ensures { IfOk result (λ m. member_of m ≡ member_decl written.now.source (item_names written.now.source names.now) variable.now block.now (k, part)) }
+{
+    let decor = written.decor();
+    let id = Id(block.result);
+    let number = counted(k)?;
+    let buffer = is_buffer(variable);
+    let quals = member_qualifiers(alloc, decor, buffer, id, number)?;
+    // Offset
+    let value = decor.member_value(id, number, 35);
+    let offset = value.unwrap_or(0);
+    let ty = type_at(alloc, written.readings(), names, part)?;
+    let name = name(alloc, names, Key::Member(id, number))?;
+    Ok(Member {
+        offset,
+        quals,
+        ty,
+        name,
+    })
+}
+
+fn members(
+    alloc: Global,
+    written: &Written,
+    names: &Names,
+    variable: &Inst,
+    block: &Inst,
+    types: &[u32],
+) -> Result<Vec<Member>, Memory>
+    ensures { IfOk result (λ members. map member_of members.items ≡ map (member_decl written.now.source (item_names written.now.source names.now) variable.now block.now) (enumerate_from 0 types.now)) }
+{
+    let mut members = Vec::new(alloc);
+    for (k, ty) in types.iter().enumerate() {
+        let member = member(alloc, written, names, variable, block, k, *ty)?;
+        members.push(member)?;
+    }
+    Ok(members)
+}
+
+/// The declaration of the block of a variable.
+pub fn declare_block(
+    alloc: Global,
+    written: &Written,
+    names: &Names,
+    variable: &Inst,
+    block: &Inst,
+) -> Result<Decl, Memory>
+    requires { block_of written.now.source.of.globals variable.now ≡ Some block.now }
+    ensures { IfOk result (λ d. decl_of d ≡ block_decl written.now.source (item_names written.now.source names.now) variable.now block.now) }
+{
+    let id = Id(variable.result);
+    let buffer = is_buffer(variable);
+    let rules = rules_of(alloc, written.module(), written.decor(), variable, block)?;
+    Ok(Decl::Block {
+        place: place_of(written, variable),
+        rules,
+        quals: variable_qualifiers(alloc, written.decor(), buffer, id)?,
+        buffer,
+        name: name(alloc, names, Key::Block(id, Id(block.result)))?,
+        members: members(
+            alloc,
+            written,
+            names,
+            variable,
+            block,
+            block.args.as_slice(),
+        )?,
+        instance: name(alloc, names, Key::Id(id))?,
+    })
+}

@@ -1,0 +1,189 @@
+// The claims of flags, captured indexes and spares, and all claims.
+ghost use Rattle.std.specs.Prelude.{◌≡◌, ◌++◌, IfOk, OnOk, flat_map, map};
+ghost use Rattle.std.specs.List.{enumerate_from};
+ghost use Rattle.text_rules.specs.Claims.{when, label as label_of, claim_captured as claims_of_captured, claim_spares as claims_of_spares, claim_flow as claims_of_flow, claim_function as claims_of_function, claims as all_claims};
+ghost use Rattle.text_items.specs.Claimed.{claim_flows as claims_of_flows};
+ghost use Rattle.text_items.specs.View.{claims_of};
+
+use crate::Written;
+use crate::functions::{FunctionClaims, claim_function};
+use crate::named_globals::claim_globals;
+use name_alloc::{Claim, Key};
+use spv_module::{Block, Function, Id, Inst};
+use spv_words::Memory;
+use std::alloc::Global;
+
+/// Adds the claim of a key that the module gives no name, where there is one.
+fn claim_flag(claims: &mut Vec<Claim>, is_needed: bool, key: Key) -> Result<(), Memory>
+    ensures { OnOk result (claims_of claims.new.items ≡ claims_of claims.old.items ++ when is_needed key) }
+{
+    if is_needed {
+        claims.push(Claim { key, given: None })?;
+    }
+    Ok(())
+}
+
+fn claim_captured<P: FunctionClaims>(
+    alloc: Global,
+    claims: &mut Vec<Claim>,
+    plan: &P,
+    inst: &Inst,
+) -> Result<(), Memory>
+    ensures { OnOk result (claims_of claims.new.items ≡ claims_of claims.old.items ++ claims_of_captured (P.plan plan.now) inst.now) }
+{
+    let numbers = plan.captured(alloc, inst)?;
+    for number in &numbers {
+        claim_flag(claims, true, Key::Captured(Id(inst.result), *number))?;
+    }
+    Ok(())
+}
+
+fn claim_indexes<P: FunctionClaims>(
+    alloc: Global,
+    claims: &mut Vec<Claim>,
+    plan: &P,
+    insts: &[Inst],
+) -> Result<(), Memory>
+    ensures { OnOk result (claims_of claims.new.items ≡ claims_of claims.old.items ++ flat_map (claims_of_captured (P.plan plan.now)) insts.now) }
+{
+    for inst in insts {
+        claim_captured(alloc, claims, plan, inst)?;
+    }
+    Ok(())
+}
+
+/// The label of the block with an index, 0 where there is none.
+fn label(function: &Function, block: usize) -> Id
+    ensures { result.0 ≡ label_of function.now block }
+{
+    match function.blocks.as_slice().get(block) {
+        None => Id(0),
+        Some(block) => block.label,
+    }
+}
+
+fn claim_spares<P: FunctionClaims>(
+    claims: &mut Vec<Claim>,
+    plan: &P,
+    from: usize,
+    to: usize,
+) -> Result<(), Memory>
+    ensures { OnOk result (claims_of claims.new.items ≡ claims_of claims.old.items ++ claims_of_spares (P.plan plan.now) from to) }
+{
+    let source = label(plan.function(), from);
+    let target = label(plan.function(), to);
+    for number in 0..plan.spares(from, to) {
+        claim_flag(claims, true, Key::Spare(source, target, number))?;
+    }
+    Ok(())
+}
+
+fn claim_edges<P: FunctionClaims>(
+    claims: &mut Vec<Claim>,
+    plan: &P,
+    from: usize,
+    targets: &[usize],
+) -> Result<(), Memory>
+    ensures { OnOk result (claims_of claims.new.items ≡ claims_of claims.old.items ++ flat_map (claims_of_spares (P.plan plan.now) from) targets.now) }
+{
+    for target in targets {
+        claim_spares(claims, plan, from, *target)?;
+    }
+    Ok(())
+}
+
+/// Adds what a block claims besides: flags, captured indexes, and the spares of the edges that leave it.
+fn claim_flow<P: FunctionClaims>(
+    alloc: Global,
+    claims: &mut Vec<Claim>,
+    plan: &P,
+    index: usize,
+    block: &Block,
+) -> Result<(), Memory>
+    ensures { OnOk result (claims_of claims.new.items ≡ claims_of claims.old.items ++ claims_of_flow (P.plan plan.now) (index, block.now)) }
+{
+    claim_flag(claims, plan.again(index), Key::Again(block.label))?;
+    claim_flag(claims, plan.leave(index), Key::Leave(block.label))?;
+    claim_flag(claims, plan.fell(index), Key::Fell(block.label))?;
+    claim_indexes(alloc, claims, plan, block.insts.as_slice())?;
+    let targets = plan.targets(alloc, index)?;
+    claim_edges(claims, plan, index, &targets)?;
+    Ok(())
+}
+
+fn claim_flows<P: FunctionClaims>(
+    alloc: Global,
+    claims: &mut Vec<Claim>,
+    plan: &P,
+    blocks: &[Block],
+) -> Result<(), Memory>
+    ensures { OnOk result (claims_of claims.new.items ≡ claims_of claims.old.items ++ flat_map (claims_of_flow (P.plan plan.now)) (enumerate_from 0 blocks.now)) }
+{
+    for (index, block) in blocks.iter().enumerate() {
+        claim_flow(alloc, claims, plan, index, block)?;
+    }
+    Ok(())
+}
+
+fn claim_own_flows<P: FunctionClaims>(
+    alloc: Global,
+    claims: &mut Vec<Claim>,
+    plan: &P,
+    function: &Function,
+) -> Result<(), Memory>
+    requires { function.now ≡ (P.plan plan.now).function }
+    ensures { OnOk result (claims_of claims.new.items ≡ claims_of claims.old.items ++ claims_of_flows (P.plan plan.now)) }
+{
+    claim_flows(alloc, claims, plan, function.blocks.as_slice())?;
+    Ok(())
+}
+
+fn claim_functions<P: FunctionClaims>(
+    alloc: Global,
+    claims: &mut Vec<Claim>,
+    written: &Written,
+    entry: Id,
+    plans: &[P],
+) -> Result<(), Memory>
+    requires { entry.0 ≡ written.now.source.entry }
+    ensures { OnOk result (claims_of claims.new.items ≡ claims_of claims.old.items ++ flat_map (claims_of_function written.now.source) (map P.plan plans.now)) }
+{
+    for plan in plans {
+        claim_function(alloc, claims, written, entry, plan)?;
+    }
+    Ok(())
+}
+
+fn claim_all_flows<P: FunctionClaims>(
+    alloc: Global,
+    claims: &mut Vec<Claim>,
+    plans: &[P],
+) -> Result<(), Memory>
+    ensures { OnOk result (claims_of claims.new.items ≡ claims_of claims.old.items ++ flat_map claims_of_flows (map P.plan plans.now)) }
+{
+    for plan in plans {
+        claim_own_flows(alloc, claims, plan, plan.function())?;
+    }
+    Ok(())
+}
+
+/// The claims of all names of a text in their order, where this is the entry of the readings, and these are the plans of the
+/// functions that are written, in the order of the module: `main`; the globals that are written; the functions with their
+/// parameters and variables; flags, captured indexes and spares. There is an error only for want of memory, or for a struct with
+/// more members than a `u32` counts.
+pub fn claims<P: FunctionClaims>(
+    alloc: Global,
+    written: &Written,
+    entry: Id,
+    plans: &[P],
+) -> Result<Vec<Claim>, Memory>
+    requires { entry.0 ≡ written.now.source.entry }
+    ensures { IfOk result (λ claims. claims_of claims.items ≡ all_claims written.now.source written.now.reached (map P.plan plans.now)) }
+{
+    let mut claims = Vec::new(alloc);
+    claim_flag(&mut claims, true, Key::Main)?;
+    claim_globals(alloc, &mut claims, written)?;
+    claim_functions(alloc, &mut claims, written, entry, plans)?;
+    claim_all_flows(alloc, &mut claims, plans)?;
+    Ok(claims)
+}

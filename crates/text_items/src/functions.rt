@@ -1,0 +1,163 @@
+// The claims of the names of functions, their parameters and their variables.
+ghost use Rattle.std.specs.Prelude.{◌≡◌, ◌++◌, IfOk, OnOk, flat_map};
+ghost use Rattle.text_rules.specs.Claims.{Plan, claim_id as claim_of_id, claim_function as claims_of_function};
+ghost use Rattle.text_items.specs.Claimed.{claim_own as claim_of_own, claim_param, claim_result, claim_all};
+ghost use Rattle.text_items.specs.View.{claims_of};
+
+use crate::Written;
+use crate::named_globals::claim_id;
+use name_alloc::Claim;
+use spv_module::{Block, Function, Id, Inst};
+use spv_words::Memory;
+use std::alloc::Global;
+
+/// What is planned of a function that is written, as far as it claims names. Blocks are named by their indexes in the function;
+/// each method has an answer for any number.
+pub trait FunctionClaims {
+    /// What the methods answer.
+    ghost plan: { Self → Plan };
+
+    /// The function.
+    fn function(&self) -> &Function
+        ensures { result.now ≡ (plan self.now).function };
+
+    /// Whether the result with an id has a variable.
+    fn is_named(&self, id: u32) -> bool
+        ensures { result ≡ (plan self.now).is_named id };
+
+    /// Whether a block that is reached needs the flag of a loop that is false in its first turn only.
+    fn again(&self, block: usize) -> bool
+        ensures { result ≡ (plan self.now).again block };
+
+    /// Whether one needs the flag of a loop that is set where a switch leaves it.
+    fn leave(&self, block: usize) -> bool
+        ensures { result ≡ (plan self.now).leave block };
+
+    /// Whether one needs the flag of a case target that is set where it is fallen into.
+    fn fell(&self, block: usize) -> bool
+        ensures { result ≡ (plan self.now).fell block };
+
+    /// The numbers of the indexes of a chain that other blocks need.
+    fn captured(&self, alloc: Global, inst: &Inst) -> Result<Vec<u32>, Memory>
+        ensures { IfOk result (λ numbers. numbers.items ≡ (plan self.now).captured inst.now) };
+
+    /// The blocks to which one leads, each once, in the order of its terminator.
+    fn targets(&self, alloc: Global, block: usize) -> Result<Vec<usize>, Memory>
+        ensures { IfOk result (λ targets. targets.items ≡ (plan self.now).targets block) };
+
+    /// How many spares the copies of an edge need.
+    fn spares(&self, from: usize, to: usize) -> u32
+        ensures { result ≡ (plan self.now).spares from to };
+}
+
+/// Adds the claim of a function, but for the entry, which is `main`.
+fn claim_own(
+    alloc: Global,
+    claims: &mut Vec<Claim>,
+    written: &Written,
+    entry: Id,
+    id: Id,
+) -> Result<(), Memory>
+    requires { entry.0 ≡ written.now.source.entry }
+    ensures { OnOk result (claims_of claims.new.items ≡ claims_of claims.old.items ++ claim_of_own written.now.source id.0) }
+{
+    if id.0 == entry.0 {
+        Ok(())
+    } else {
+        claim_id(alloc, claims, written, id)
+    }
+}
+
+/// Adds the claims of the parameters of a function.
+fn claim_params(
+    alloc: Global,
+    claims: &mut Vec<Claim>,
+    written: &Written,
+    params: &[(Id, Id)],
+) -> Result<(), Memory>
+    ensures { OnOk result (claims_of claims.new.items ≡ claims_of claims.old.items ++ flat_map (claim_param written.now.source) params.now) }
+{
+    for (id, _) in params {
+        claim_id(alloc, claims, written, *id)?;
+    }
+    Ok(())
+}
+
+/// Adds the claim of a result, where it has a variable.
+fn claim_named<P: FunctionClaims>(
+    alloc: Global,
+    claims: &mut Vec<Claim>,
+    written: &Written,
+    plan: &P,
+    inst: &Inst,
+) -> Result<(), Memory>
+    ensures { OnOk result (claims_of claims.new.items ≡ claims_of claims.old.items ++ claim_result written.now.source (P.plan plan.now) inst.now) }
+{
+    if plan.is_named(inst.result) {
+        claim_id(alloc, claims, written, Id(inst.result))
+    } else {
+        Ok(())
+    }
+}
+
+fn claim_insts<P: FunctionClaims>(
+    alloc: Global,
+    claims: &mut Vec<Claim>,
+    written: &Written,
+    plan: &P,
+    insts: &[Inst],
+) -> Result<(), Memory>
+    ensures { OnOk result (claims_of claims.new.items ≡ claims_of claims.old.items ++ flat_map (claim_result written.now.source (P.plan plan.now)) insts.now) }
+{
+    for inst in insts {
+        claim_named(alloc, claims, written, plan, inst)?;
+    }
+    Ok(())
+}
+
+fn claim_blocks<P: FunctionClaims>(
+    alloc: Global,
+    claims: &mut Vec<Claim>,
+    written: &Written,
+    plan: &P,
+    blocks: &[Block],
+) -> Result<(), Memory>
+    ensures { OnOk result (claims_of claims.new.items ≡ claims_of claims.old.items ++ flat_map (claim_result written.now.source (P.plan plan.now)) (flat_map (λ b. b.insts) blocks.now)) }
+{
+    for block in blocks {
+        claim_insts(alloc, claims, written, plan, block.insts.as_slice())?;
+    }
+    Ok(())
+}
+
+fn claim_parts<P: FunctionClaims>(
+    alloc: Global,
+    claims: &mut Vec<Claim>,
+    written: &Written,
+    entry: Id,
+    plan: &P,
+    function: &Function,
+) -> Result<(), Memory>
+    requires { entry.0 ≡ written.now.source.entry }
+    ensures { OnOk result (claims_of claims.new.items ≡ claims_of claims.old.items ++ claim_all written.now.source (P.plan plan.now) function.now) }
+{
+    claim_own(alloc, claims, written, entry, function.id)?;
+    claim_params(alloc, claims, written, function.params.as_slice())?;
+    claim_blocks(alloc, claims, written, plan, function.blocks.as_slice())?;
+    Ok(())
+}
+
+/// Adds the claims of a function: its own, its parameters, and the results that have variables.
+pub fn claim_function<P: FunctionClaims>(
+    alloc: Global,
+    claims: &mut Vec<Claim>,
+    written: &Written,
+    entry: Id,
+    plan: &P,
+) -> Result<(), Memory>
+    requires { entry.0 ≡ written.now.source.entry }
+    ensures { OnOk result (claims_of claims.new.items ≡ claims_of claims.old.items ++ claims_of_function written.now.source (P.plan plan.now)) }
+{
+    claim_parts(alloc, claims, written, entry, plan, plan.function())?;
+    Ok(())
+}

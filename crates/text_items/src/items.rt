@@ -1,0 +1,64 @@
+// The items of a text before its functions.
+ghost use Rattle.std.specs.Prelude.{◌≡◌, ◌++◌, ◌∷◌, [], IfOk, OnOk, map};
+ghost use Rattle.glsl_ast.specs.View.{decl_of};
+ghost use Rattle.text_rules.specs.Declarations.{constant_decl, declaration, declarations as declarations_of};
+ghost use Rattle.text_items.specs.Names.{item_names};
+
+use crate::Written;
+use crate::constants::{declare_constant, declare_struct};
+use crate::variables::declare_variable;
+use constant_text::Readings;
+use glsl_ast::Decl;
+use name_alloc::Names;
+use spv_module::Inst;
+use spv_words::Memory;
+use std::alloc::Global;
+
+/// Adds the declaration of a constant.
+fn add_constant(
+    alloc: Global,
+    readings: &Readings,
+    names: &Names,
+    inst: &Inst,
+    items: &mut Vec<Decl>,
+) -> Result<(), Memory>
+    ensures { OnOk result (map decl_of items.new.items ≡ map decl_of items.old.items ++ constant_decl readings.now (item_names readings.now names.now) inst.now ∷ []) }
+{
+    let constant = declare_constant(alloc, readings, names, inst)?;
+    items.push(constant)?;
+    Ok(())
+}
+
+/// Adds what is written for a global instruction.
+fn add_declaration(
+    alloc: Global,
+    written: &Written,
+    names: &Names,
+    inst: &Inst,
+    items: &mut Vec<Decl>,
+) -> Result<(), Memory>
+    ensures { OnOk result (map decl_of items.new.items ≡ map decl_of items.old.items ++ declaration written.now.source written.now.reached (item_names written.now.source names.now) inst.now) }
+{
+    let readings = written.readings();
+    if written.has_struct(inst) {
+        items.push(declare_struct(alloc, readings, names, inst)?)?;
+    } else if written.has_constant(inst) {
+        add_constant(alloc, readings, names, inst, items)?;
+    } else if written.has_variable(inst) {
+        items.push(declare_variable(alloc, written, names, inst)?)?;
+    }
+    Ok(())
+}
+
+/// The items of a text before its functions, in the order in which the module defines them: structs, constants, Private and
+/// Workgroup variables and blocks (GLSL 4.60, chapter 4). There is an error for want of memory, where a type passes a limit, for a
+/// struct with more members than a `u32` counts, or where two globals have one id.
+pub fn declarations(alloc: Global, written: &Written, names: &Names) -> Result<Vec<Decl>, Memory>
+    ensures { IfOk result (λ items. map decl_of items.items ≡ declarations_of written.now.source written.now.reached (item_names written.now.source names.now)) }
+{
+    let mut items = Vec::new(alloc);
+    for inst in written.module().globals() {
+        add_declaration(alloc, written, names, inst, &mut items)?;
+    }
+    Ok(items)
+}

@@ -1,0 +1,29 @@
+// What of a module is written before the functions of its text, and the names that the text claims.
+#![tactic(auto)]
+
+mod blocks;
+mod calculated;
+mod constants;
+mod flow;
+mod functions;
+mod globals;
+mod items;
+mod mentions;
+mod named_globals;
+mod needed;
+mod numbers;
+mod qualifiers;
+mod shapes;
+mod structs;
+mod types;
+mod variables;
+mod written;
+
+pub use constants::type_at;
+pub use flow::claims;
+pub use functions::FunctionClaims;
+pub use globals::global_expr;
+pub use items::declarations;
+pub use shapes::{pointee_at, shape_at};
+pub use variables::initial;
+pub use written::Written;

@@ -1,0 +1,117 @@
+// Which variables and constants are written.
+ghost use Rattle.std.specs.Prelude.{◌≡◌, ◌&&◌, ◌||◌, ℕ, IfOk, OnOk};
+ghost use Rattle.std.specs.List.{list_any};
+ghost use Rattle.std.specs.BTreeSet.{contains};
+ghost use Rattle.std.specs.Ordering.{nat_cmp};
+ghost use Rattle.text_rules.specs.Printed.{mentions, is_private as is_private_variable, is_length_of, is_named, declares as declares_constant, needed_with, needed_from};
+ghost use Rattle.text_items.specs.State.{insts_at, is_written_by, needed_first};
+
+use crate::mentions::{add_all, add_mentions};
+use constant_text::{Reading, Readings, is_constant};
+use spv_module::{Id, Inst};
+use spv_words::Memory;
+use std::alloc::{AllocError, Global};
+use std::collections::BTreeSet;
+
+/// Whether this is a variable of class Private (SPIR-V 1.6, section 3.7).
+pub fn is_private(inst: &Inst) -> bool
+    ensures { result ≡ is_private_variable inst.now }
+{
+    inst.op == 59 && inst.operand(0) == 6
+}
+
+/// Whether this is a variable that is written, where functions mention these ids: one of class Uniform, Workgroup, Private,
+/// PushConstant or StorageBuffer.
+pub fn is_written(mentioned: &BTreeSet<u32>, inst: &Inst) -> bool
+    ensures { result ≡ is_written_by (contains nat_cmp mentioned.now) inst.now }
+{
+    inst.op == 59
+        && matches!(inst.operand(0), 2 | 4 | 6 | 9 | 12)
+        && mentioned.contains(&inst.result)
+}
+
+/// Adds the constants that are lengths of arrays.
+fn add_lengths(needed: &mut BTreeSet<u32>, globals: &[Inst]) -> Result<(), AllocError>
+    ensures { OnOk result ((id : ℕ) → contains nat_cmp needed.new id ≡ (contains nat_cmp needed.old id || list_any (is_length_of id) globals.now)) }
+{
+    for inst in globals {
+        // OpTypeArray
+        if inst.op == 28 {
+            needed.insert(inst.operand(1))?;
+        }
+    }
+    Ok(())
+}
+
+/// Adds what a Private variable that is written begins with.
+fn add_initializers(
+    needed: &mut BTreeSet<u32>,
+    mentioned: &BTreeSet<u32>,
+    globals: &[Inst],
+) -> Result<(), AllocError>
+    ensures { OnOk result ((id : ℕ) → contains nat_cmp needed.new id ≡ (contains nat_cmp needed.old id || list_any (λ g. is_private_variable g && (is_written_by (contains nat_cmp mentioned.now) g && mentions g id)) globals.now)) }
+{
+    for inst in globals {
+        if is_private(inst) && is_written(mentioned, inst) {
+            add_mentions(needed, inst)?;
+        }
+    }
+    Ok(())
+}
+
+/// Whether a constant is declared, where the text needs these.
+pub fn declares(readings: &Readings, needed: &BTreeSet<u32>, inst: &Inst) -> bool
+    ensures { result ≡ declares_constant readings.now (contains nat_cmp needed.now) inst.now }
+{
+    is_constant(inst)
+        && matches!(readings.reading(inst), Reading::Named)
+        && (readings.free_spec_id(Id(inst.result)).is_some() || needed.contains(&inst.result))
+}
+
+/// Adds what a constant mentions, where it is declared.
+#[tactic(auto, using(crate::proofs::Built::needed_is))]
+fn add_operands(
+    readings: &Readings,
+    needed: &mut BTreeSet<u32>,
+    inst: &Inst,
+) -> Result<(), AllocError>
+    ensures { OnOk result ((id : ℕ) → contains nat_cmp needed.new id ≡ needed_with readings.now (contains nat_cmp needed.old) inst.now id) }
+{
+    if declares(readings, needed, inst) {
+        add_mentions(needed, inst)?;
+    }
+    Ok(())
+}
+
+/// Adds what declared constants mention. They stand before what mentions them.
+#[tactic(auto, using(crate::proofs::Built::needed_rules))]
+fn add_earlier(
+    readings: &Readings,
+    needed: &mut BTreeSet<u32>,
+    globals: &[Inst],
+) -> Result<(), AllocError>
+    ensures { OnOk result ((id : ℕ) → contains nat_cmp needed.new id ≡ needed_from readings.now (contains nat_cmp needed.old) globals.now id) }
+{
+    for k in (0..globals.len()).rev() {
+        add_operands(readings, needed, &globals[k])?;
+    }
+    Ok(())
+}
+
+/// The ids that the text needs, where functions mention these ids, and these instructions are live.
+pub fn needed(
+    alloc: Global,
+    readings: &Readings,
+    mentioned: &BTreeSet<u32>,
+    live: &[&Inst],
+) -> Result<BTreeSet<u32>, Memory>
+    ensures { IfOk result (λ needed. (id : ℕ) → contains nat_cmp needed id ≡ needed_from readings.now (needed_first readings.now (contains nat_cmp mentioned.now) (insts_at live.now)) readings.now.of.globals id) }
+{
+    let globals = readings.module().globals();
+    let mut needed = BTreeSet::new(alloc);
+    add_all(&mut needed, live)?;
+    add_lengths(&mut needed, globals)?;
+    add_initializers(&mut needed, mentioned, globals)?;
+    add_earlier(readings, &mut needed, globals)?;
+    Ok(needed)
+}

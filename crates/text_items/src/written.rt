@@ -1,0 +1,112 @@
+// What of a module is written.
+ghost use Rattle.std.specs.Prelude.{◌≡◌, IfOk};
+ghost use Rattle.text_rules.specs.Printed.{is_written_variable, is_declared_constant, is_written_struct};
+ghost use Rattle.text_items.specs.State.{reached_of};
+
+use crate::mentions::mentioned;
+use crate::needed::{declares, is_written, needed};
+use crate::types::written_structs;
+use constant_text::Readings;
+use spv_decor::Decor;
+use spv_module::{Function, Id, Inst, Module};
+use spv_words::Memory;
+use std::alloc::Global;
+use std::collections::BTreeSet;
+use std::marker::Model;
+
+/// What of a module is written into its text: variables, named constants and structs (GLSL 4.60, chapter 4). Contracts see the
+/// source of the readings, the functions that are written, and the live instructions of these.
+#[derive(Drop)]
+pub struct Written<'a, 'b> {
+    readings: &'a Readings<'b>,
+    decor: &'b Decor<'b>,
+    functions: &'a [&'b Function],
+    live: &'a [&'b Inst],
+    // the ids that the functions mention; the constants that the text needs; the structs of what is written
+    mentioned: BTreeSet<u32>,
+    needed: BTreeSet<u32>,
+    structs: BTreeSet<u32>,
+}
+
+impl<'a, 'b> Model for Written<'a, 'b> {
+    ghost use Rattle.text_items.specs.State.{WrittenState};
+
+    ghost Value = { WrittenState };
+
+    ghost use Rattle.text_items.specs.State.{reached_of, IsHeld};
+
+    ghost view = { λ w. record { source = w.readings.now; reached = reached_of w.functions.now w.live.now } };
+
+    ghost invariant = { λ w. IsHeld w.readings.now (reached_of w.functions.now w.live.now) w.decor.now w.mentioned w.needed w.structs };
+}
+
+impl<'a, 'b> Written<'a, 'b> {
+    /// What is written of a module, where calls reach these functions from the entry, and these instructions of them are live.
+    /// There is an error for want of memory, or where a type passes a limit.
+    pub fn of(
+        alloc: Global,
+        readings: &'a Readings<'b>,
+        decor: &'b Decor<'b>,
+        functions: &'a [&'b Function],
+        live: &'a [&'b Inst],
+    ) -> Result<Written<'a, 'b>, Memory>
+        requires { decor.now ≡ readings.now.of.heads }
+        ensures { IfOk result (λ w. w ≡ record { source = readings.now; reached = reached_of functions.now live.now }) }
+    {
+        let mentioned = mentioned(alloc, functions)?;
+        let needed = needed(alloc, readings, &mentioned, live)?;
+        let structs = written_structs(alloc, readings, &mentioned, &needed, functions, live)?;
+        Ok(Written {
+            readings,
+            decor,
+            functions,
+            live,
+            mentioned,
+            needed,
+            structs,
+        })
+    }
+
+    pub(crate) fn readings(&self) -> &'a Readings<'b>
+        ensures { result.now ≡ self.now.source }
+    {
+        self.readings
+    }
+
+    pub(crate) fn decor(&self) -> &'b Decor<'b>
+        ensures { result.now ≡ self.now.source.of.heads }
+    {
+        self.decor
+    }
+
+    pub(crate) fn module(&self) -> &'b Module
+        ensures { result.now ≡ self.now.source.of }
+    {
+        self.readings.module()
+    }
+
+    /// Whether a global instruction is a variable that is written: one that a function mentions, and that is not built in.
+    pub fn has_variable(&self, inst: &Inst) -> bool
+        ensures { result ≡ is_written_variable self.now.reached inst.now }
+    {
+        is_written(&self.mentioned, inst)
+    }
+
+    /// Whether a global instruction is a constant that is declared: one with a SpecId that is not overridden, or one without a
+    /// literal that a live instruction, the length of an array, a Private variable or another such constant mentions.
+    pub fn has_constant(&self, inst: &Inst) -> bool
+        ensures { result ≡ is_declared_constant self.now.source self.now.reached inst.now }
+    {
+        declares(self.readings, &self.needed, inst)
+    }
+
+    /// Whether a global instruction is a struct that is written: one that something written has, and that is no Block.
+    pub fn has_struct(&self, inst: &Inst) -> bool
+        ensures { result ≡ is_written_struct self.now.source self.now.reached inst.now }
+    {
+        // OpTypeStruct; Block
+        inst.op == 30
+            && self.decor.value(Id(inst.result), 2).is_none()
+            && self.structs.contains(&inst.result)
+    }
+}
