@@ -1,0 +1,5 @@
+pub mod Lists
+pub mod Keywords
+pub mod Declared
+pub mod NameTests
+pub mod Grammar

@@ -1,0 +1,43 @@
+-- Tests of names, and the names that structs have.
+use Rattle.std.specs.Prelude.{ℕ, ◌&&◌, ◌||◌, not, Bool, true, false, List, [], ◌∷◌, is_some, is_none, bytes_eq, String}
+use Rattle.std.specs.BTreeSet.{BTreeSet, contains_text}
+use Rattle.std.specs.List.{list_all}
+use Rattle.std.specs.Ordering.{nat_cmp, is_lt}
+use Rattle.std.specs.Cmp.Lexicographic.{slice_cmp}
+use Rattle.std.specs.Global.{Global}
+use Rattle.std.specs.Borrow.{Bor}
+use Rattle.glsl_ast.specs.Tree as tree
+use Rattle.glsl_ast.specs.Tree.{Text, Decl}
+use Rattle.glsl_grammar.specs.Lex.{is_digit, is_word, keywords, token_in}
+
+-- no word is below the one before it
+abbrev pub is_rising : List (Bor Text) → Bool
+is_rising [] = true
+is_rising (v ∷ []) = true
+is_rising (v ∷ w ∷ ws) = not (is_lt (slice_cmp nat_cmp w.now v.now)) && is_rising (w ∷ ws)
+
+-- one of the words that have a token of their own
+abbrev pub is_keyword : Text → Bool
+is_keyword w = is_some (token_in keywords w)
+
+-- it begins, and not with a digit
+abbrev pub begins_word : Text → Bool
+begins_word [] = false
+begins_word (c ∷ w) = not (is_digit c)
+
+-- a word that begins with no digit, and no keyword
+unfoldable pub is_name : Text → Bool
+is_name w = begins_word w && list_all is_word w && not (is_keyword w)
+
+-- a set of names has this one
+abbrev pub declares : BTreeSet (String Global) → Text → Bool
+declares names w = contains_text names w
+
+-- a name that no struct has, where this tells of each name whether one has it
+abbrev pub is_free : (Text → Bool) → Text → Bool
+is_free declared w = is_name w && not (declared w)
+
+-- the names that structs have behind an item
+abbrev pub declared_after : (Text → Bool) → Decl → Text → Bool
+declared_after declared (tree.Decl.struct w fs) v = bytes_eq w v || declared v
+declared_after declared _ v = declared v

@@ -1,0 +1,123 @@
+// Names, and those of them that structs have (GLSL 4.60, sections 3.6 and 3.7).
+ghost use Rattle.std.specs.Prelude.{◌≡◌, OnOk, IsTrue, bytes_eq};
+ghost use Rattle.std.specs.List.{list_any, list_all};
+ghost use Rattle.glsl_ast.specs.Tree.{Text};
+ghost use Rattle.glsl_ast.specs.View.{decl_of};
+ghost use Rattle.glsl_grammar.specs.Lex.{is_word};
+ghost use Rattle.text_check.specs.Words as words;
+ghost use Rattle.text_check.specs.Words.{is_rising, declares, declared_after};
+
+use glsl_ast::Decl;
+use spv_words::Memory;
+use std::collections::BTreeSet;
+
+/// The names of the structs that are declared.
+pub type Structs = BTreeSet<String>;
+
+// The words that no name may be, in order.
+const KEYWORDS: [&str; 38] = [
+    "bool",
+    "break",
+    "buffer",
+    "bvec2",
+    "bvec3",
+    "bvec4",
+    "case",
+    "coherent",
+    "const",
+    "continue",
+    "default",
+    "else",
+    "false",
+    "for",
+    "if",
+    "in",
+    "inout",
+    "int",
+    "ivec2",
+    "ivec3",
+    "ivec4",
+    "layout",
+    "length",
+    "readonly",
+    "restrict",
+    "return",
+    "shared",
+    "struct",
+    "switch",
+    "true",
+    "uint",
+    "uniform",
+    "uvec2",
+    "uvec3",
+    "uvec4",
+    "void",
+    "volatile",
+    "writeonly",
+];
+
+/// Whether the text is one of the words, which are in order.
+fn is_among(words: &[&str], text: &str) -> bool
+    requires { IsTrue (is_rising words.now) }
+    ensures { result ≡ list_any (λ w. bytes_eq w.now text.now) words.now }
+{
+    words.binary_search(&text).is_ok()
+}
+
+fn is_keyword(text: &str) -> bool
+    ensures { result ≡ words.is_keyword text.now }
+{
+    is_among(&KEYWORDS, text)
+}
+
+/// Whether the text begins, and not with a digit.
+#[tactic(auto, unfolding(glsl_grammar::specs::Lex::is_digit))]
+fn begins_word(text: &[u8]) -> bool
+    ensures { result ≡ words.begins_word text.now }
+{
+    match text {
+        [] => false,
+        [first, ..] => !first.is_ascii_digit(),
+    }
+}
+
+/// Whether each byte is a letter, a digit or `_`.
+#[tactic(auto, unfolding(glsl_grammar::specs::Lex::is_word))]
+fn are_word_bytes(text: &[u8]) -> bool
+    ensures { result ≡ list_all is_word text.now }
+{
+    text.iter()
+        .all(|byte| byte.is_ascii_alphanumeric() || *byte == b'_')
+}
+
+/// Whether the text is a name: a word that begins with no digit, and none that the grammar has a meaning for.
+#[tactic(auto, unfolding(crate::specs::Words::is_name))]
+pub fn is_name(text: &str) -> bool
+    ensures { result ≡ words.is_name text.now }
+{
+    begins_word(text.as_bytes()) && are_word_bytes(text.as_bytes()) && !is_keyword(text)
+}
+
+/// Whether a struct has the name.
+pub fn is_declared(structs: &Structs, name: &str) -> bool
+    ensures { result ≡ declares structs.now name.now }
+{
+    structs.contains(name)
+}
+
+/// Whether the text is a name that no struct has.
+pub fn is_free(structs: &Structs, name: &str) -> bool
+    ensures { result ≡ words.is_free (declares structs.now) name.now }
+{
+    is_name(name) && !is_declared(structs, name)
+}
+
+/// Adds the name of an item that is a struct.
+pub fn declare(structs: &mut Structs, item: &Decl) -> Result<(), Memory>
+    ensures { OnOk result ((w : Text) → declares structs.new w ≡ declared_after (declares structs.old) (decl_of item.now) w) }
+{
+    if let Decl::Struct { name, .. } = item {
+        structs.insert(name.clone()?)?;
+    }
+    Ok(())
+}
