@@ -8,8 +8,6 @@ mod measure;
 mod members;
 mod plan;
 mod sizes;
-#[cfg(test)]
-mod tests;
 mod types;
 
 pub use block::{PUSH_CONSTANT, STORAGE_BUFFER, UNIFORM, block_of, check_block, is_block_variable};

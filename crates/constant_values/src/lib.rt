@@ -9,8 +9,6 @@ mod fitting;
 mod inner_ops;
 mod operate;
 mod scalars;
-#[cfg(test)]
-mod tests;
 mod zeros;
 
 pub use evaluate::{Constants, Special, resolve};

@@ -7,8 +7,6 @@ mod flags;
 mod place;
 mod regions;
 mod switches;
-#[cfg(test)]
-mod tests;
 
 pub use block_text::BlockText;
 pub use regions::function_text;

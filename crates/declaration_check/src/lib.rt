@@ -16,6 +16,3 @@ mod uses;
 mod variables;
 
 pub use declarations::{Entry, check_declarations};
-
-#[cfg(test)]
-mod tests;

@@ -10,6 +10,3 @@ mod space;
 
 pub use claims::{Claim, Key, Names};
 pub use naming::names;
-
-#[cfg(test)]
-mod tests;

@@ -18,6 +18,3 @@ mod spots;
 pub use found::Places;
 pub use judge::places;
 pub use structure_rules::{EdgeKind, Part};
-
-#[cfg(test)]
-mod tests;

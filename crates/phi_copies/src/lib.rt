@@ -9,6 +9,3 @@ mod work;
 
 pub use moves::{Move, Src, Var};
 pub use sequence::copies;
-
-#[cfg(test)]
-mod tests;

@@ -4,8 +4,6 @@
 mod blocks;
 mod checks;
 mod layouts;
-#[cfg(test)]
-mod tests;
 
 pub use checks::{Options, Profile, check_data, check_rest};
 pub use declaration_check::{Entry, check_declarations};

@@ -10,6 +10,3 @@ pub use arms::{Arm, arms_of};
 pub use edges::continue_block;
 pub use region::{Exit, Group, Item, Region};
 pub use trees::recover;
-
-#[cfg(test)]
-mod tests;

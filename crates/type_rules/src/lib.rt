@@ -16,8 +16,6 @@ mod operands;
 mod parts;
 mod scope;
 mod select;
-#[cfg(test)]
-mod tests;
 mod vectors;
 
 pub use check::check_types;

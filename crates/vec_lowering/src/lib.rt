@@ -10,6 +10,3 @@ mod names;
 
 pub use instructions::lower_vector;
 pub use names::shape_type;
-
-#[cfg(test)]
-mod tests;

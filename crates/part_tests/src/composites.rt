@@ -1,11 +1,11 @@
 // Expressions on vectors and composites, with ample memory.
-use crate::{lower_vector, shape_type};
 use glsl_ast::{Base, Expr, Extent, Literal};
 use int_lowering::Arg;
 use name_alloc::{Claim, Key, Names, names};
 use spv_module::{Elem, Id, Length, Shape};
 use std::alloc::Global;
 use std::test::Fail;
+use vec_lowering::{lower_vector, shape_type};
 
 // Names of the structs 3 and 21 and their members.
 fn item_names(alloc: Global) -> Result<Names, Fail> {

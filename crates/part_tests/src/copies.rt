@@ -4,7 +4,7 @@ ghost use Rattle.std.specs.List.{All};
 ghost use Rattle.std.specs.Bool.{OnTrue};
 ghost use Rattle.phi_copies.specs.Sequence.{HaveOwnTargets, target};
 
-use crate::{Move, Src, Var, copies};
+use phi_copies::{Move, Src, Var, copies};
 use spv_module::Id;
 use spv_words::Memory;
 use std::alloc::{AllocError, Global};

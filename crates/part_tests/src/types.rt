@@ -1,9 +1,9 @@
 // A workgroup sum over prefixes, and what changes of it are refused by; types at the limits.
-use crate::check_types;
-use spv_module::Module;
-use spv_words::{Fault, Limit, Rule, Words};
+use crate::made::{changed, module_of};
+use spv_words::{Fault, Limit, Rule};
 use std::alloc::{AllocError, Global};
 use std::test::Fail;
+use type_rules::check_types;
 
 // With shared memory, a barrier, a loop and a call.
 static PREFIX_SUMS: [u32; 450] = [
@@ -64,35 +64,13 @@ static CASES: [(usize, u32, Rule, u32); 16] = [
     (310, 41, Rule::T25, 309),
 ];
 
-fn bytes_of(alloc: Global, words: &[u32]) -> Result<Vec<u8>, AllocError> {
-    let mut bytes = Vec::new(alloc);
-    for word in words {
-        bytes.extend_from_slice(&word.to_le_bytes())?;
-    }
-    Ok(bytes)
-}
-
 fn check(alloc: Global, words: &[u32]) -> Result<(), Fault> {
-    let bytes = bytes_of(alloc, words)?;
-    if bytes.len() > 1048576 {
-        return Err(Fault::Limit(Limit::Bytes));
-    }
-    let words = Words::of(alloc, &bytes)?;
-    check_types(alloc, &Module::read(alloc, &words)?)
-}
-
-/// The sums with another word at a place.
-fn changed(alloc: Global, place: usize, other: u32) -> Result<Vec<u32>, AllocError> {
-    let mut words = Vec::new(alloc);
-    for (i, word) in PREFIX_SUMS.iter().enumerate() {
-        words.push(if i == place { other } else { *word })?;
-    }
-    Ok(words)
+    check_types(alloc, &module_of(alloc, &[words])?)
 }
 
 /// What the sums with another word at a place are refused by.
 fn refusal_of(alloc: Global, place: usize, other: u32) -> Result<Option<(Rule, u32)>, AllocError> {
-    match check(alloc, &changed(alloc, place, other)?) {
+    match check(alloc, &changed(alloc, &PREFIX_SUMS, place, other)?) {
         Err(Fault::Refused(refusal)) => Ok(Some((refusal.rule, refusal.at))),
         _ => Ok(None),
     }

@@ -1,16 +1,17 @@
 // The blocks and types of a small module, and what changes of it are refused by.
-use crate::{Kind, check_block, is_block_variable, layout};
+use crate::made::{changed, module_of};
+use buffer_layout::{Kind, check_block, is_block_variable, layout};
 use spv_decor::Decor;
-use spv_module::{Id, Module};
-use spv_words::{Fault, Refusal, Rule, Words};
-use std::alloc::{AllocError, Global};
+use spv_module::Id;
+use spv_words::{Fault, Refusal, Rule};
+use std::alloc::Global;
 use std::test::Fail;
 
 // %1 uint, %2 a vector of three, %3 a runtime array of these with stride 16, %4 a struct of two uints
 // at 0 and 4; %7 a StorageBuffer of %5: a %2 at 0, uints at 12 and 32, a %3 at 48; %10 a Uniform of %8:
 // a %4 at 0; %15 a StorageBuffer of %13: at 0 %12, two uints with stride 16. %16 has a bool, %17, and
 // no Offset.
-const MODULE: [u32; 117] = [
+static MODULE: [u32; 117] = [
     0x07230203, 0x00010300, 0, 18, 0, 0x00050048, 5, 0, 35, 0, 0x00050048, 5, 1, 35, 12,
     0x00050048, 5, 2, 35, 32, 0x00050048, 5, 3, 35, 48, 0x00040047, 3, 6, 16, 0x00050048, 4, 0, 35,
     0, 0x00050048, 4, 1, 35, 4, 0x00050048, 8, 0, 35, 0, 0x00040047, 12, 6, 16, 0x00050048, 13, 0,
@@ -21,24 +22,13 @@ const MODULE: [u32; 117] = [
     15, 12,
 ];
 
-fn bytes_of(alloc: Global, words: &[u32]) -> Result<Vec<u8>, AllocError> {
-    let mut bytes = Vec::new(alloc);
-    for word in words {
-        bytes.extend_from_slice(&word.to_le_bytes())?;
-    }
-    Ok(bytes)
-}
-
 fn broken(rule: Rule, at: u32) -> Result<Kind, Fault> {
     Err(Fault::Refused(Refusal { rule, at }))
 }
 
 // The layout of a block variable; out of memory where it is none.
-fn taken_x(alloc: Global, bytes: &[u8], variable: u32) -> Result<Kind, Fault> {
-    if bytes.len() > 1048576 {
-        return Err(Fault::Memory);
-    }
-    let module = Module::read(alloc, &Words::of(alloc, bytes)?)?;
+fn taken(alloc: Global, words: &[u32], variable: u32) -> Result<Kind, Fault> {
+    let module = module_of(alloc, &[words])?;
     let decor = Decor::read(alloc, &module)?;
     if !is_block_variable(&module, Id(variable)) {
         return Err(Fault::Memory);
@@ -47,7 +37,7 @@ fn taken_x(alloc: Global, bytes: &[u8], variable: u32) -> Result<Kind, Fault> {
 }
 
 #[test]
-fn blocks_x(rt: HostRuntime) -> Result<(), Fail> {
+fn blocks(rt: HostRuntime) -> Result<(), Fail> {
     let cases = [
         (2, 0, 7, Ok(Kind::Std430)),
         (2, 0, 10, Ok(Kind::Std140)),
@@ -62,21 +52,16 @@ fn blocks_x(rt: HostRuntime) -> Result<(), Fail> {
         (43, 4294967280, 10, broken(Rule::L7, 89)),
     ];
     for (place, word, variable, expected) in cases {
-        assert!(rt; place < 117);
-        let mut changed = MODULE;
-        changed[place] = word;
-        let bytes = bytes_of(rt.alloc(), &changed)?;
-        assert_eq!(rt; taken_x(rt.alloc(), &bytes, variable), expected);
+        let words = changed(rt.alloc(), &MODULE, place, word)?;
+        assert_eq!(rt; taken(rt.alloc(), &words, variable), expected);
     }
     Ok(())
 }
 
 #[test]
-fn a_plan_x(rt: HostRuntime) -> Result<(), Fail> {
+fn a_plan(rt: HostRuntime) -> Result<(), Fail> {
     let alloc = rt.alloc();
-    let bytes = bytes_of(alloc, &MODULE)?;
-    assert!(rt; bytes.len() == 468);
-    let module = Module::read(alloc, &Words::of(alloc, &bytes)?)?;
+    let module = module_of(alloc, &[&MODULE])?;
     let decor = Decor::read(alloc, &module)?;
     assert_eq!(rt; is_block_variable(&module, Id(6)), false);
     assert!(rt; is_block_variable(&module, Id(7)));
@@ -91,11 +76,9 @@ fn a_plan_x(rt: HostRuntime) -> Result<(), Fail> {
 }
 
 #[test]
-fn types_x(rt: HostRuntime) -> Result<(), Fail> {
+fn types(rt: HostRuntime) -> Result<(), Fail> {
     let alloc = rt.alloc();
-    let bytes = bytes_of(alloc, &MODULE)?;
-    assert!(rt; bytes.len() == 468);
-    let module = Module::read(alloc, &Words::of(alloc, &bytes)?)?;
+    let module = module_of(alloc, &[&MODULE])?;
     let decor = Decor::read(alloc, &module)?;
     let pair = layout(alloc, &module, &decor, Id(7), Id(4), Kind::Std140)?;
     assert_eq!(rt; (pair.size, pair.align, pair.stride), (16, 16, 0));

@@ -1,5 +1,5 @@
 // Names that were worked out by hand.
-use crate::{Claim, Key, names};
+use name_alloc::{Claim, Key, names};
 use spv_module::Id;
 use spv_words::Memory;
 use std::alloc::{AllocError, Global};

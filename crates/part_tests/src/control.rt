@@ -4,7 +4,7 @@ ghost use Rattle.glsl_ast.specs.Tree.{assign, lvalue, literal};
 ghost use Rattle.glsl_ast.specs.View.{stmt_of, expr_of};
 ghost use Rattle.glsl_ast.specs.declared.expressions.Literal.TheVariants.{Uint};
 
-use crate::{BlockText, function_text};
+use control_text::{BlockText, function_text};
 use glsl_ast::{Expr, LValue, Literal, Stmt};
 use spv_words::Memory;
 use std::alloc::{AllocError, Global};

@@ -1,35 +1,8 @@
 // The trees of small functions.
-use crate::{Exit, Group, Item, Region, recover};
+use crate::made::function_of;
 use nest_place::{EdgeKind, places};
-use spv_module::Module;
-use spv_words::{Fault, Limit, Words};
-use std::alloc::{AllocError, Global};
 use std::test::Fail;
-
-// The header of a module, and a function up to its first label, %16.
-static FRONT: [u32; 12] = [
-    0x7230203, 0x10300, 0, 0x400, 0, 0x50036, 6, 1, 0, 7, 0x200f8, 16,
-];
-
-fn put(bytes: &mut Vec<u8>, words: &[u32]) -> Result<(), AllocError> {
-    for word in words {
-        bytes.extend_from_slice(&word.to_le_bytes())?;
-    }
-    Ok(())
-}
-
-// The module of a function with this body behind its first label.
-fn module_of(alloc: Global, body: &[u32]) -> Result<Module, Fault> {
-    let mut bytes = Vec::new(alloc);
-    put(&mut bytes, &FRONT)?;
-    put(&mut bytes, body)?;
-    put(&mut bytes, &[0x10038])?;
-    if bytes.len() > 1048576 {
-        return Err(Fault::Limit(Limit::Bytes));
-    }
-    let words = Words::of(alloc, &bytes)?;
-    Module::read(alloc, &words)
-}
+use structure_recover::{Exit, Group, Item, Region, recover};
 
 fn head(item: &Item) -> usize {
     match item {
@@ -69,7 +42,7 @@ static SWITCH_IN_LOOP: [u32; 45] = [
 #[test]
 fn recovers_a_loop(rt: HostRuntime) -> Result<(), Fail> {
     let alloc = rt.alloc();
-    let module = module_of(alloc, &SWITCH_IN_LOOP)?;
+    let module = function_of(alloc, &SWITCH_IN_LOOP)?;
     let function = module.functions().first().expect(&rt, "one function");
     let places = places(alloc, function)?;
     let tree = recover(alloc, function, &places)?;

@@ -1,10 +1,11 @@
 // The constants of a small module, by default, under an override and under a specialization.
-use crate::{Constants, Special, resolve};
+use crate::made::module_of;
+use constant_values::{Constants, Special, resolve};
 use spec_constants::Overrides;
 use spv_decor::Decor;
-use spv_module::{Id, Module, Value};
-use spv_words::{Fault, Limit, Words};
-use std::alloc::{AllocError, Global};
+use spv_module::{Id, Value};
+use spv_words::Fault;
+use std::alloc::Global;
 use std::collections::BTreeMap;
 use std::test::Fail;
 
@@ -19,25 +20,8 @@ static SPECIALIZED: [u32; 87] = [
     20, 0x3002e, 4, 38, 0x60034, 1, 39, 137, 32, 20,
 ];
 
-fn put(bytes: &mut Vec<u8>, words: &[u32]) -> Result<(), AllocError> {
-    for word in words {
-        bytes.extend_from_slice(&word.to_le_bytes())?;
-    }
-    Ok(())
-}
-
-fn module_of(alloc: Global, words: &[u32]) -> Result<Module, Fault> {
-    let mut bytes = Vec::new(alloc);
-    put(&mut bytes, words)?;
-    if bytes.len() > 1048576 {
-        return Err(Fault::Limit(Limit::Bytes));
-    }
-    let words = Words::of(alloc, &bytes)?;
-    Module::read(alloc, &words)
-}
-
 fn constants_of(alloc: Global, words: &[&str], special: &Special) -> Result<Constants, Fault> {
-    let module = module_of(alloc, &SPECIALIZED)?;
+    let module = module_of(alloc, &[&SPECIALIZED])?;
     let decor = Decor::read(alloc, &module)?;
     match Overrides::parse(alloc, words) {
         Ok(overrides) => resolve(alloc, &module, &decor, &overrides, special),

@@ -1,0 +1,79 @@
+// Units that are in the grammar, and units that are not.
+use glsl_ast::{Base, Decl, Expr, Extent, Field, Size, TypeName, Unit};
+use std::alloc::{AllocError, Global};
+use std::test::Fail;
+use text_check::is_in_grammar;
+
+fn text(alloc: Global, name: &str) -> Result<String, AllocError> {
+    String::from_str(alloc, name)
+}
+
+fn struct_type(alloc: Global, name: &str) -> Result<TypeName, AllocError> {
+    Ok(TypeName {
+        base: Base::Struct(text(alloc, name)?),
+        extents: vec![in alloc; Extent::Number(4)]?,
+    })
+}
+
+fn pair(alloc: Global, name: &str, field: &str) -> Result<Decl, AllocError> {
+    let ty = TypeName {
+        base: Base::UintVec(2),
+        extents: Vec::new(alloc),
+    };
+    let field = Field {
+        ty,
+        name: text(alloc, field)?,
+    };
+    Ok(Decl::Struct {
+        name: text(alloc, name)?,
+        fields: vec![in alloc; field]?,
+    })
+}
+
+/// A constant array of a struct, whose one element is the name of a value.
+fn array(alloc: Global, of: &str, value: &str) -> Result<Decl, AllocError> {
+    let value = Expr::Name(text(alloc, value)?);
+    Ok(Decl::Const {
+        id: None,
+        ty: struct_type(alloc, of)?,
+        name: text(alloc, "c1")?,
+        value: Expr::Build(struct_type(alloc, of)?, vec![in alloc; value]?),
+    })
+}
+
+/// Whether a unit is in the grammar that has a struct, and then a constant.
+fn decides(
+    alloc: Global,
+    name: &str,
+    field: &str,
+    of: &str,
+    value: &str,
+) -> Result<Option<bool>, AllocError> {
+    let size = Size {
+        axis: 0,
+        by_id: false,
+        number: 64,
+    };
+    let unit = Unit {
+        sizes: vec![in alloc; size]?,
+        items: vec![in alloc; pair(alloc, name, field)?, array(alloc, of, value)?]?,
+    };
+    Ok(is_in_grammar(alloc, &unit).ok())
+}
+
+#[test]
+fn structs_and_names(rt: HostRuntime) -> Result<(), Fail> {
+    let alloc = rt.alloc();
+    assert_eq!(rt; decides(alloc, "Pair", "m0", "Pair", "c0")?, Some(true));
+    assert_eq!(rt; decides(alloc, "Pair", "m0", "Pair", "Pair")?, Some(false));
+    assert_eq!(rt; decides(alloc, "Pair", "m0", "Pear", "c0")?, Some(false));
+    assert_eq!(rt;
+        decides(alloc, "Pair", "length", "Pair", "c0")?,
+        Some(false)
+    );
+    assert_eq!(rt; decides(alloc, "Pair", "0m", "Pair", "c0")?, Some(false));
+    assert_eq!(rt; decides(alloc, "bvec2", "m0", "bvec2", "c0")?, Some(false));
+    assert_eq!(rt; decides(alloc, "Pair", "", "Pair", "c0")?, Some(false));
+    assert_eq!(rt; decides(alloc, "Pair", "m-0", "Pair", "c0")?, Some(false));
+    Ok(())
+}
