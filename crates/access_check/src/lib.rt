@@ -7,8 +7,6 @@ mod calls;
 mod memory_operands;
 mod pointer_way;
 mod stray_pointers;
-#[cfg(test)]
-mod tests;
 mod values;
 
 pub use accesses::check_accesses;

@@ -4,8 +4,6 @@
 mod forms;
 mod indexes;
 mod links;
-#[cfg(test)]
-mod tests;
 mod walk;
 
 pub use forms::{Path, Step};

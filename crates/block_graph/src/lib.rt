@@ -8,6 +8,3 @@ mod reach;
 
 pub use blocks::terminator;
 pub use graph::control_flow;
-
-#[cfg(test)]
-mod tests;

@@ -9,6 +9,3 @@ mod queue;
 mod reach;
 
 pub use function_order::order;
-
-#[cfg(test)]
-mod tests;

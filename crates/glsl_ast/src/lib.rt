@@ -5,8 +5,6 @@ mod copying;
 mod expressions;
 mod items;
 mod statements;
-#[cfg(test)]
-mod tests;
 mod types;
 
 pub use expressions::{BinOp, Expr, Literal};

@@ -8,8 +8,6 @@ mod level;
 mod page;
 mod printing;
 mod statements;
-#[cfg(test)]
-mod tests;
 mod types;
 
 pub use end::PrintEnd;

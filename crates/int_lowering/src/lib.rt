@@ -15,6 +15,3 @@ pub use built_ins::BuiltIn;
 pub use instructions::{lower, lower_basic, operation};
 pub use operands::Arg;
 pub use terms::literal;
-
-#[cfg(test)]
-mod tests;

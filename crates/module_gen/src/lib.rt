@@ -8,8 +8,6 @@ mod ids;
 mod opcodes;
 mod pieces;
 mod rows;
-#[cfg(test)]
-mod tests;
 
 pub use builder::Builder;
 pub use generated::generate;

@@ -6,8 +6,6 @@ mod given_words;
 mod leaves;
 mod numerals;
 mod overrides;
-#[cfg(test)]
-mod tests;
 
 pub use fit::check_overrides;
 pub use given_words::{givens, word_given};

@@ -6,8 +6,6 @@ mod functions;
 mod locals;
 mod places;
 mod pointers;
-#[cfg(test)]
-mod tests;
 mod types;
 mod values;
 

@@ -11,8 +11,6 @@ mod lists;
 mod module;
 mod places;
 mod seq;
-#[cfg(test)]
-mod tests;
 mod tree;
 
 pub use inst::{Block, Function, Id, Inst};

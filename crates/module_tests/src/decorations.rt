@@ -1,0 +1,59 @@
+// The names and decorations of a small module, and what changes of it are refused by.
+use sample_modules::{changed, module_of};
+use spv_decor::{Decor, text_of};
+use spv_module::Id;
+use spv_words::{Fault, Rule};
+use std::test::Fail;
+
+// OpName %3 "ab", OpName %3 "zz", OpMemberName %3 1 "k", %5 DescriptorSet 7, %5 Binding 9, %3 Block,
+// %3 1 Offset 4, %3 0 NonWritable; %2 uint, %3 struct of two, %4 pointer, %5 variable.
+static MODULE: [u32; 51] = [
+    0x07230203, 0x00010300, 0, 16, 0, 0x00030005, 3, 0x6261, 0x00030005, 3, 0x7A7A, 0x00040006, 3,
+    1, 0x6B, 0x00040047, 5, 34, 7, 0x00040047, 5, 33, 9, 0x00030047, 3, 2, 0x00050048, 3, 1, 35, 4,
+    0x00040048, 3, 0, 24, 0x00040015, 2, 32, 0, 0x0004001E, 3, 2, 2, 0x00040020, 4, 12, 3,
+    0x0004003B, 4, 5, 12,
+];
+
+#[test]
+fn names_and_decorations(rt: HostRuntime) -> Result<(), Fail> {
+    let module = module_of(rt.alloc(), &[&MODULE])?;
+    let decor = Decor::read(rt.alloc(), &module)?;
+    assert_eq!(rt; decor.name(Id(3)), Some(b"ab".as_slice()));
+    assert_eq!(rt; decor.name(Id(5)), None);
+    assert_eq!(rt; decor.member_name(Id(3), 1), Some(b"k".as_slice()));
+    assert_eq!(rt; decor.member_name(Id(3), 0), None);
+    // those of ids: DescriptorSet, Block
+    for (id, decoration, value) in [(5, 34, Some(7)), (3, 2, Some(0)), (5, 2, None)] {
+        assert_eq!(rt; decor.value(Id(id), decoration), value);
+    }
+    // those of members: Offset, NonWritable
+    for (member, decoration, value) in [(1, 35, Some(4)), (0, 24, Some(0)), (0, 35, None)] {
+        assert_eq!(rt; decor.member_value(Id(3), member, decoration), value);
+    }
+    assert_eq!(rt;
+        text_of(rt.alloc(), &[0x6261])?.as_slice(),
+        b"ab".as_slice()
+    );
+    Ok(())
+}
+
+#[test]
+fn decorations_at_fault(rt: HostRuntime) -> Result<(), Fail> {
+    let cases = [
+        (17, 30, Rule::P11, 15, 15),
+        (16, 3, Rule::P11, 15, 15),
+        (24, 2, Rule::P11, 23, 23),
+        (28, 2, Rule::P11, 26, 26),
+        (21, 34, Rule::P12, 15, 19),
+    ];
+    for (place, word, rule, first, second) in cases {
+        let words = changed(rt.alloc(), &MODULE, place, word)?;
+        let module = module_of(rt.alloc(), &[&words])?;
+        let Some(Fault::Refused(refusal)) = Decor::read(rt.alloc(), &module).err() else {
+            return Err(Fail::new("not refused"));
+        };
+        assert_eq!(rt; refusal.rule, rule);
+        assert!(rt; refusal.at == first || refusal.at == second);
+    }
+    Ok(())
+}

@@ -1,0 +1,43 @@
+// Opcodes and their operations.
+use op_semantics::{
+    Binary, Comparison, Logical, Operation, Unary, binary_word, compare_words,
+    extended_operation_of, logical_truth, operation_of, unary_word,
+};
+use std::test::Fail;
+
+#[test]
+fn operations_by_their_opcodes(rt: HostRuntime) -> Result<(), Fail> {
+    let rows = [
+        (135, Some(Operation::Binary(Binary::SDiv))),
+        (179, Some(Operation::Comparison(Comparison::SLessThanEqual))),
+        (400, Some(Operation::Copy)),
+        (12, None),
+    ];
+    for (opcode, wanted) in &rows {
+        assert_eq!(rt; operation_of(*opcode), *wanted);
+    }
+    assert_eq!(rt;
+        extended_operation_of(74),
+        Some(Operation::Unary(Unary::FindSMsb))
+    );
+    assert_eq!(rt; extended_operation_of(6), None);
+    Ok(())
+}
+
+#[test]
+fn operations_on_words(rt: HostRuntime) -> Result<(), Fail> {
+    let minus_7 = 0xffff_fff9;
+    let rows = [
+        (Binary::SDiv, minus_7, 2, Some(0xffff_fffd)),
+        (Binary::SMod, minus_7, 2, Some(1)),
+        (Binary::SRem, 1 << 31, 0xffff_ffff, None),
+        (Binary::ShiftRightArithmetic, minus_7, 33, Some(0xffff_fffc)),
+    ];
+    for (operation, a, b, wanted) in rows {
+        assert_eq!(rt; binary_word(operation, a, b), wanted);
+    }
+    assert_eq!(rt; unary_word(Unary::BitCount, minus_7), 30);
+    assert!(rt; compare_words(Comparison::SLessThan, minus_7, 2));
+    assert!(rt; !logical_truth(Logical::LogicalEqual, false, true));
+    Ok(())
+}

@@ -1,0 +1,86 @@
+// What is read of a small compute shader, and which rules changes of it break.
+use sample_modules::{INCREMENT, bytes_of, changed};
+use spv_words::{Fault, Limit, Memory, Refusal, Rule, Words, first_zero};
+use std::alloc::{AllocError, Global};
+use std::test::Fail;
+
+fn big(alloc: Global, words: &[u32]) -> Result<Vec<u8>, AllocError> {
+    let mut bytes = Vec::new(alloc);
+    for word in words {
+        bytes.extend_from_slice(&word.to_be_bytes())?;
+    }
+    Ok(bytes)
+}
+
+fn words_of(alloc: Global, bytes: &[u8]) -> Result<Words, Fault> {
+    if bytes.len() > 1000 {
+        return Err(Fault::Memory);
+    }
+    Words::of(alloc, bytes)
+}
+
+#[test]
+fn reads_a_module_in_either_byte_order(rt: HostRuntime) -> Result<(), Fail> {
+    let little = bytes_of(rt.alloc(), &[&INCREMENT])?;
+    let big = big(rt.alloc(), &INCREMENT)?;
+    for bytes in [&little, &big] {
+        let words = words_of(rt.alloc(), bytes)?;
+        assert_eq!(rt; words.header(3), 22);
+        assert!(rt; words.count() == 34);
+        let entry = words.at(2);
+        assert!(rt; entry.len == 6);
+        assert_eq!(rt; (entry.opcode, entry.start), (15, 10));
+        assert_eq!(rt; words.operand(2, 3), 0x6E69616D);
+        let name = words
+            .text(2, 3)
+            .map(|text| (text.first, text.bytes, text.words));
+        assert_eq!(rt; name, Ok((13, 4, 2)));
+        let past_the_end = Refusal {
+            rule: Rule::W9,
+            at: 10,
+        };
+        assert_eq!(rt; words.text(2, 6).err(), Some(past_the_end));
+    }
+    assert_eq!(rt; first_zero(b"main\0"), Some(4));
+    Ok(())
+}
+
+#[test]
+fn names_what_is_broken(rt: HostRuntime) -> Result<(), Fail> {
+    let cases = [
+        (0, 0x07230204, Rule::W3, 0),
+        (1, 0x00010700, Rule::W4, 1),
+        (3, 0, Rule::W5, 3),
+        (4, 1, Rule::W6, 4),
+        (132, 0x00000038, Rule::W7, 132),
+        (132, 0x00020038, Rule::W8, 132),
+    ];
+    for (place, word, rule, at) in cases {
+        let bytes = bytes_of(
+            rt.alloc(),
+            &[&changed(rt.alloc(), &INCREMENT, place, word)?],
+        )?;
+        assert_eq!(rt;
+            words_of(rt.alloc(), &bytes).err(),
+            Some(Fault::Refused(Refusal { rule, at }))
+        );
+    }
+    for (bytes, rule) in [([].as_slice(), Rule::W2), ([3, 2, 35].as_slice(), Rule::W1)] {
+        assert_eq!(rt;
+            words_of(rt.alloc(), bytes).err(),
+            Some(Fault::Refused(Refusal { rule, at: 0 }))
+        );
+    }
+    Ok(())
+}
+
+#[test]
+fn names_of_rules_and_limits(rt: HostRuntime) -> Result<(), Fail> {
+    assert_eq!(rt; (Rule::K11.letter(), Rule::K11.number()), (b'K', 11));
+    assert_eq!(rt;
+        (Limit::Depth.name(), Limit::Depth.number()),
+        ("depth", 127)
+    );
+    assert_eq!(rt; Fault::from(Memory), Fault::Memory);
+    Ok(())
+}

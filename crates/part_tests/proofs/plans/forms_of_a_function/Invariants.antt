@@ -1,4 +1,0 @@
-use Rattle.part_tests.proofs.plans.forms_of_a_function.Given as goal
-
-abbrev pub ghosts-planned : goal.ghosts-planned
-ghosts-planned g a = record { name = a.blank.name; parts = a.blank.parts }

@@ -1,7 +1,0 @@
-use Rattle.part_tests.proofs.uses.linked_slots.Given as goal
-
-abbrev pub ghosts-counted : goal.ghosts-counted
-ghosts-counted g a = record { name = a.blank.name; parts = a.blank.parts }
-
-abbrev pub ghosts-phis : goal.ghosts-phis
-ghosts-phis g a = record { name = a.blank.name; parts = a.blank.parts }

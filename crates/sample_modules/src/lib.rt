@@ -1,0 +1,8 @@
+// Small modules, and how modules are read from their words: what the tests of several crates stand on.
+#![tactic(auto)]
+
+mod read;
+mod words;
+
+pub use read::{bytes_of, changed, function_of, module_of};
+pub use words::{INCREMENT, PREFIX_SUMS, SPECIALIZED, SWITCH_IN_LOOP};

@@ -1,0 +1,10 @@
+use Rattle.text_tests.proofs.uses.linked_slots.Given as goal
+
+abbrev pub ghosts-counted : goal.ghosts-counted
+ghosts-counted g a = record { name = a.blank.name; parts = a.blank.parts }
+
+abbrev pub ghosts-phis : goal.ghosts-phis
+ghosts-phis g a = record { name = a.blank.name; parts = a.blank.parts }
+
+abbrev pub ghosts-moved : goal.ghosts-moved
+ghosts-moved g a = record { name = a.blank.name; parts = a.blank.parts }

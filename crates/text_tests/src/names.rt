@@ -1,0 +1,110 @@
+// Names that were worked out by hand.
+use glsl_ast::Expr;
+use name_alloc::{Claim, Key, Names, names};
+use spv_module::Id;
+use spv_words::Memory;
+use std::alloc::{AllocError, Global};
+use std::test::Fail;
+
+fn claim(alloc: Global, key: Key, given: &str) -> Result<Claim, AllocError> {
+    let given = Some(Vec::from_slice(alloc, given.as_bytes())?);
+    Ok(Claim { key, given })
+}
+
+/// The names of these keys, each with the name that is given to it.
+pub fn named(alloc: Global, rows: &[(Key, &str)]) -> Result<Names, Memory> {
+    let mut claims = Vec::new(alloc);
+    for (key, given) in rows {
+        claims.push(claim(alloc, *key, given)?)?;
+    }
+    names(alloc, &claims)
+}
+
+/// Whether an expression is this name.
+pub fn is_name(expr: &Expr, name: &str) -> bool {
+    match expr {
+        Expr::Name(text) => text.as_str() == name,
+        _ => false,
+    }
+}
+
+// Whether each key gets the name behind the one that is given to it.
+fn are_named(alloc: Global, rows: &[(Key, &str, &str)]) -> Result<bool, Memory> {
+    let mut given = Vec::new(alloc);
+    for (key, base, _) in rows {
+        given.push((*key, *base))?;
+    }
+    let names = named(alloc, &given)?;
+    for (key, _, name) in rows {
+        if names.of(*key) != Some(*name) {
+            return Ok(false);
+        }
+    }
+    Ok(names.of(Key::Id(Id(0))).is_none())
+}
+
+// Whether a claim of `i` gets this name behind so many others.
+fn is_named_behind(alloc: Global, count: u32, name: &str) -> Result<bool, Memory> {
+    let mut claims = Vec::new(alloc);
+    for i in 0..count {
+        claims.push(claim(alloc, Key::Id(Id(i)), "i")?)?;
+    }
+    claims.push(claim(alloc, Key::Id(Id(count)), "i")?)?;
+    claims.push(Claim {
+        key: Key::Main,
+        given: None,
+    })?;
+    Ok(names(alloc, &claims)?.of(Key::Id(Id(count))) == Some(name))
+}
+
+#[test]
+fn names_of_claims(rt: HostRuntime) -> Result<(), Fail> {
+    let alloc = rt.alloc();
+    let kernel = [
+        (Key::Main, "main", "main"),
+        (Key::Id(Id(3)), "Item", "Item"),
+        (Key::Member(Id(3), 0), "key", "key"),
+        (Key::Member(Id(21), 0), "key", "key"),
+        (Key::Member(Id(21), 1), "key", "key_2"),
+        (Key::Id(Id(5)), "input", "n_input"),
+        (Key::Block(Id(5), Id(9)), "Data", "Data"),
+        (Key::Id(Id(21)), "Item", "Item_2"),
+        (Key::Id(Id(31)), "add(u1;u1;", "add_u1_u1"),
+        (Key::Id(Id(32)), "float", "n_float"),
+        (Key::Id(Id(41)), "i", "i"),
+        (Key::Id(Id(44)), "i", "i_2"),
+        (Key::Id(Id(45)), "i", "i_3"),
+        (Key::Id(Id(46)), "i_2", "i_2_2"),
+        (Key::Id(Id(50)), "", "v50"),
+        (Key::Member(Id(8), 2), "$$", "m2"),
+        (Key::Again(Id(9)), "", "again"),
+        (Key::Again(Id(10)), "", "again_2"),
+        (Key::Leave(Id(9)), "", "leave"),
+        (Key::Fell(Id(9)), "", "fell"),
+        (Key::Captured(Id(10), 1), "", "at"),
+        (Key::Spare(Id(11), Id(12), 0), "", "spare"),
+    ];
+    assert!(rt; are_named(alloc, &kernel)?);
+    Ok(())
+}
+
+#[test]
+fn cleaned_bases(rt: HostRuntime) -> Result<(), Fail> {
+    let alloc = rt.alloc();
+    let long = "aaaaaaaaaaaaaaaaaaaaaaaaaaaaaaaaaaaaaaaaaaaaaaaaaaaaaaaaaaaaaaa";
+    let bases = [
+        (Key::Id(Id(1)), "4__\u{e9}\u{20ac}x_", "n_4_x"),
+        (Key::Id(Id(2)), "vec4", "n_vec4"),
+        (Key::Id(Id(3)), "gl", "n_gl"),
+        (Key::Id(Id(4)), "main", "n_main"),
+        (Key::Id(Id(5)), "__lengths", "_lengths"),
+        (
+            Key::Id(Id(6)),
+            "aaaaaaaaaaaaaaaaaaaaaaaaaaaaaaaaaaaaaaaaaaaaaaaaaaaaaaaaaaaaaaa_b",
+            long,
+        ),
+    ];
+    assert!(rt; are_named(alloc, &bases)?);
+    assert!(rt; is_named_behind(alloc, 999, "i_1000")?);
+    Ok(())
+}
