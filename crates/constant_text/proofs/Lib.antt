@@ -1,2 +1,4 @@
 mod Shapes
 mod Members
+mod Basic
+mod Outlined

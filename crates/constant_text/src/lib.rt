@@ -4,6 +4,7 @@
 mod constants;
 mod literals;
 mod names;
+mod outlines;
 mod readings;
 mod scalars;
 mod sizes;
@@ -13,6 +14,7 @@ mod zeros;
 pub use constants::is_constant;
 pub use literals::int_literal;
 pub use names::name;
+pub use outlines::{basic_shape, outline};
 pub use readings::Readings;
 pub use scalars::scalar_type;
 pub use text_rules::Reading;

@@ -5,12 +5,14 @@ ghost use Rattle.glsl_ast.specs.View.{base_of, extent_of, type_of};
 ghost use Rattle.spv_types.specs.View.{tree_of};
 ghost use Rattle.text_rules.specs.Constants.{reading as reading_of};
 ghost use Rattle.text_rules.specs.Types.{vector_base as vector_base_of, with_extent as with_extent_of, type_text};
+ghost use Rattle.text_rules.specs.Outlines.{outline as outline_of_type};
 ghost use Rattle.text_rules.specs.Declarations.{extent_by, length_extent, spelling};
 ghost use Rattle.constant_text.specs.Named.{id_names};
 
 use crate::Readings;
 use crate::constants::axis_text;
 use crate::names::name;
+use crate::outlines::outline;
 use glsl_ast::{Base, Extent, TypeName};
 use name_alloc::{Key, Names};
 use spv_module::{Elem, Id, Inst, Length, Shape};
@@ -100,5 +102,14 @@ impl Readings<'_> {
                 Ok(plain_type(alloc, Base::Struct(name)))
             }
         }
+    }
+    /// The name of the type with an id, and `uint` of what is none. There is an error only for want of memory.
+    ///
+    /// The cost does not grow with the members of structs.
+    pub fn type_name_of(&self, alloc: Global, names: &Names, ty: u32) -> Result<TypeName, Memory>
+        ensures { IfOk result (λ t. type_of t ≡ type_text (spelling self.now (id_names names.now)) (outline_of_type self.now.of.globals ty)) }
+    {
+        let shape = outline(alloc, self.module(), ty)?;
+        self.type_name(alloc, names, &shape)
     }
 }

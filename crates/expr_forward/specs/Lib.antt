@@ -1,4 +1,3 @@
-pub mod TypeNames
 pub mod Scope
 pub mod Paths
 pub mod Values

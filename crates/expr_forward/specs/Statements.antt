@@ -20,7 +20,7 @@ use Rattle.int_lowering.specs.Operand.{literal_of}
 use Rattle.expr_forward.specs.declared.kinds.InstKind.{InstKind}
 use Rattle.expr_forward.specs.declared.kinds.InstKind.TheVariants as kind
 use Rattle.expr_forward.specs.Scope.{Scope, globals, inst_at, type_of}
-use Rattle.expr_forward.specs.TypeNames.{type_name_at}
+use Rattle.text_rules.specs.Declarations.{type_at}
 use Rattle.expr_forward.specs.Paths.{index_expr, word_at, part_steps, place_text, place_expr}
 use Rattle.expr_forward.specs.Values.{value, expression}
 
@@ -35,7 +35,7 @@ kind_of op =
 
 -- the result gets a value: its variable is declared here, or was declared at the top of the function
 abbrev pub set_by : Scope → Inst → Expr → Form → List Stmt
-set_by w i e Local = declare (type_name_at w.setting.source w.names i.ty) (w.setting.key (Id (id i.result))) (Some e) ∷ []
+set_by w i e Local = declare (type_at w.setting.source w.names i.ty) (w.setting.key (Id (id i.result))) (Some e) ∷ []
 set_by w i e Hoisted = assign (lvalue (w.setting.key (Id (id i.result))) []) e ∷ []
 set_by w i e _ = []
 

@@ -9,11 +9,11 @@ use Rattle.hoist_plan.specs.declared.form.Form.{Form}
 use Rattle.hoist_plan.specs.declared.form.Form.TheVariants.{Gone, Forwarded, Local, Hoisted}
 use Rattle.glsl_ast.specs.Tree as text
 use Rattle.glsl_ast.specs.Tree.{Expr, name, build, exprs_in, type_name}
-use Rattle.text_rules.specs.Declarations.{shape_at, zero_at}
+use Rattle.text_rules.specs.Outlines.{basic}
+use Rattle.text_rules.specs.Declarations.{shape_at, type_at, zero_at}
 use Rattle.expr_forward.specs.declared.kinds.OperationKind.{OperationKind}
 use Rattle.expr_forward.specs.declared.kinds.OperationKind.TheVariants as kind
 use Rattle.expr_forward.specs.Scope.{Scope, Argument, globals, inst_at, type_of}
-use Rattle.expr_forward.specs.TypeNames.{basic, type_name_at}
 use Rattle.expr_forward.specs.Paths.{word_at, further, part_steps, place_expr}
 
 -- the kind of operation of an opcode
@@ -56,7 +56,7 @@ extraction_text w value i =
 
 -- a constructor of the operands
 abbrev pub construction_text : Scope → (ℕ → Expr) → Inst → Expr
-construction_text w value i = build (type_name_at w.setting.source w.names i.ty) (exprs_in (map value i.args))
+construction_text w value i = build (type_at w.setting.source w.names i.ty) (exprs_in (map value i.args))
 
 -- a value as one of a type with other structs
 abbrev pub whole_argument : Scope → (ℕ → Expr) → ℕ → Argument

@@ -19,7 +19,7 @@ use spv_module::{Id, Inst};
 use spv_words::Memory;
 use std::alloc::Global;
 
-/// The name of a type (GLSL 4.60, section 4.1). There is an error for want of memory, or where the type passes a limit.
+/// The name of a type (GLSL 4.60, section 4.1). There is an error only for want of memory.
 pub fn type_at(
     alloc: Global,
     readings: &Readings,
@@ -28,8 +28,7 @@ pub fn type_at(
 ) -> Result<TypeName, Memory>
     ensures { IfOk result (λ t. type_of t ≡ type_at_of readings.now (item_names readings.now names.now) ty) }
 {
-    let shape = shape_at(alloc, readings.module(), ty)?;
-    readings.type_name(alloc, names, &shape)
+    readings.type_name_of(alloc, names, ty)
 }
 
 /// The zero of a type.

@@ -30,6 +30,7 @@ use Rattle.text_rules.specs.declared.readings.Reading.{Reading}
 use Rattle.text_rules.specs.declared.readings.Reading.TheVariants.{Plain, Named, GroupSize, GroupSizePart}
 use Rattle.text_rules.specs.Types.{Spelling, type_text, zero_text}
 use Rattle.text_rules.specs.Constants.{Source, reading, free_spec_id, plain_literal, plain_value, constant_expr, axis_text}
+use Rattle.text_rules.specs.Outlines.{outline}
 use Rattle.text_rules.specs.Printed.{Reached, is_private, is_written_variable, is_declared_constant, is_written_struct, class}
 
 -- the names of what is written, and the expressions of the constants that are calculated
@@ -62,8 +63,9 @@ spelling s ids = record { struct_name = ids; length = length_extent s ids }
 abbrev pub shape_at : Source → ℕ → Tree
 shape_at s ty = unwrap_or (type_tree s.of.globals ty) shape.uint
 
+-- the name of a type
 abbrev pub type_at : Source → Names → ℕ → TypeName
-type_at s names ty = type_text (spelling s names.id) (shape_at s ty)
+type_at s names ty = type_text (spelling s names.id) (outline s.of.globals ty)
 
 -- what a pointer type points to
 abbrev pub pointee_at : Source → ℕ → ℕ

@@ -1,5 +1,6 @@
 pub mod Types
 pub mod Constants
 pub mod Printed
+pub mod Outlines
 pub mod Declarations
 pub mod Claims

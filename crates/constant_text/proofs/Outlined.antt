@@ -5,7 +5,7 @@ use Rattle.spv_module.specs.declared.inst.Inst.{Inst}
 use Rattle.spv_types.specs.Tree.{uint}
 use Rattle.spv_types.specs.Types.{earlier}
 use Rattle.spv_types.proofs.Below.{below_is}
-use Rattle.expr_forward.specs.TypeNames.{outline_step, outline_at, outline_before}
+use Rattle.text_rules.specs.Outlines.{outline_step, outline_at, outline_before}
 
 pub outline_before_is : (gs : List Inst) (n id : ℕ) → outline_before gs n id ≡ option_map_or (outline_at gs) (earlier gs n id) uint
 outline_before_is gs n id = below_is (outline_step gs) uint gs n id

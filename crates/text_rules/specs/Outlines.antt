@@ -1,5 +1,5 @@
--- The shapes of scalar and vector types, and the names of types (GLSL 4.60, section 4.1).
-use Rattle.std.specs.Prelude.{ℕ, ◌==◌, List, Option, Some, None, if◌then◌else◌, slice_index}
+-- The shapes by which types are named (GLSL 4.60, section 4.1).
+use Rattle.std.specs.Prelude.{ℕ, ◌==◌, List, Option, Some, if◌then◌else◌, slice_index}
 use Rattle.std.specs.Option.{option_map_or}
 use Rattle.spv_module.specs.Held.{global}
 use Rattle.spv_module.specs.Lists.{id}
@@ -10,10 +10,6 @@ use Rattle.spv_types.specs.Tree.{Tree, boolean, int, uint, vector, array, runtim
 use Rattle.spv_types.specs.Types.{kind, below, tree_at}
 use Rattle.spv_types.specs.declared.kind.TypeKind.{TypeKind}
 use Rattle.spv_types.specs.declared.kind.TypeKind.TheVariants as kinds
-use Rattle.glsl_ast.specs.Tree.{TypeName}
-use Rattle.text_rules.specs.Constants.{Source}
-use Rattle.text_rules.specs.Types.{type_text}
-use Rattle.text_rules.specs.Declarations.{Names, spelling}
 
 -- a scalar or a vector, and uint of another
 abbrev pub basic_of : Option Tree → Tree
@@ -55,7 +51,3 @@ outline_at gs g = outline_step gs (outline_before gs g.at) g
 
 abbrev pub outline : List Inst → ℕ → Tree
 outline gs ty = option_map_or (outline_at gs) (global gs ty) uint
-
--- the name of the type with an id
-abbrev pub type_name_at : Source → Names → ℕ → TypeName
-type_name_at s names ty = type_text (spelling s names.id) (outline s.of.globals ty)

@@ -9,7 +9,7 @@ use Rattle.spv_module.specs.declared.tree.Length.{Length}
 use Rattle.spv_types.specs.Tree.{Tree, Trees, boolean, int, uint, vector, array, runtime, struct}
 use Rattle.spv_types.specs.Types.{elem_of, array_tree, vector_tree, sized_vector, tree_before, tree_at, type_tree, earlier, if_earlier}
 use Rattle.spv_types.proofs.Below.{tree_before_is}
-use Rattle.expr_forward.specs.TypeNames.{basic_of}
+use Rattle.text_rules.specs.Outlines.{basic_of}
 
 elem_if : (gs : List Inst) (g : Inst) (b : Bool) → option_and_then elem_of (option_map_or (tree_at gs) (if b then Some g else None) None) ≡ (if b then option_and_then elem_of (tree_at gs g) else None)
 elem_if gs g true = refl

@@ -1,8 +1,8 @@
 use Rattle.std.proofs.Common.{◌≡◌, Some, ap, option_and_then, slice_index, subst, sym, ◌∙◌}
 use Rattle.spv_module.specs.Held.{global}
 use Rattle.spv_types.specs.Types.{elem_of, type_tree}
-use Rattle.expr_forward.proofs.Basic.{part_before, part_behind}
-use Rattle.expr_forward.proofs.types.component_type.Goals as goal
+use Rattle.constant_text.proofs.Basic.{part_before, part_behind}
+use Rattle.constant_text.proofs.outlines.component_type.Goals as goal
 
 pub returns-then-part-inst : goal.returns-then-part-inst
 returns-then-part-inst c =
