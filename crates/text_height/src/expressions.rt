@@ -1,0 +1,56 @@
+// Expressions.
+ghost use Rattle.std.specs.Prelude.{◌≡◌, nat_le, option_map};
+ghost use Rattle.glsl_ast.specs.Height.{height, heights, highest_in};
+ghost use Rattle.glsl_ast.specs.View.{expr_of, exprs_of};
+
+use crate::types::is_low_type;
+use glsl_ast::Expr;
+
+/// Whether the expression is at most so high.
+#[cycle(expression)]
+#[tactic(auto, using(glsl_ast::proofs::Views::expr_rows, crate::proofs::Low::low_rules, crate::proofs::Low::expr_high))]
+pub fn is_low_expr(expr: &Expr, limit: u32) -> bool
+    ensures { result ≡ nat_le (height (expr_of expr.now)) limit }
+{
+    if limit == 0 {
+        return false;
+    }
+    let under = limit - 1;
+    match expr {
+        Expr::Literal(_) => true,
+        Expr::Name(_) => 1 <= under,
+        Expr::Build(ty, args) => is_low_type(ty, under) && are_low_exprs(args, under),
+        Expr::Call(_, args) => 1 <= under && are_low_exprs(args, under),
+        Expr::Not(of) | Expr::Flip(of) | Expr::Length(of) => is_low_expr(of, under),
+        Expr::Binary(_, left, right) => is_low_expr(left, under) && is_low_expr(right, under),
+        Expr::Choose(test, yes, no) => {
+            is_low_expr(test, under) && is_low_expr(yes, under) && is_low_expr(no, under)
+        }
+        Expr::Member(of, _) => is_low_expr(of, under) && 1 <= under,
+        Expr::Index(of, at) => is_low_expr(of, under) && is_low_expr(at, under),
+    }
+}
+
+/// Whether each of the expressions is at most so high.
+#[cycle(expression)]
+#[tactic(auto, using(crate::proofs::Low::low_rules))]
+pub fn are_low_exprs(exprs: &[Expr], limit: u32) -> bool
+    ensures { result ≡ nat_le (heights (exprs_of exprs.now)) limit }
+{
+    for expr in exprs {
+        if !is_low_expr(expr, limit) {
+            return false;
+        }
+    }
+    true
+}
+
+/// Whether the expression, if there is one, is at most so high.
+pub fn is_low_value(value: &Option<Expr>, limit: u32) -> bool
+    ensures { result ≡ nat_le (highest_in height (option_map expr_of value.now)) limit }
+{
+    match value {
+        None => true,
+        Some(value) => is_low_expr(value, limit),
+    }
+}

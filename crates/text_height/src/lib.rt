@@ -1,0 +1,10 @@
+//! Whether the tree of a text is at most so high, so that a reader of the text need not nest deeper.
+#![tactic(auto)]
+
+mod expressions;
+mod items;
+mod statements;
+mod types;
+mod unit;
+
+pub use unit::is_within;
