@@ -1,3 +1,4 @@
 pub mod Causes
 pub mod Functions
 pub mod Judged
+pub mod OfBytes

@@ -1,3 +1,4 @@
 pub mod Structure
 pub mod Asked
 pub mod Judged
+pub mod ReadFrom

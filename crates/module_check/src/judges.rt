@@ -1,18 +1,30 @@
 // The judges of a module, one after another.
-ghost use Rattle.std.specs.Prelude.{◌≡◌, Contains, IfErr, OnOk};
-ghost use Rattle.profile_rules.specs.Calls.{AreCalleesFunctions, HaveOwnIds, ids_of};
+ghost use Rattle.std.specs.Prelude.{◌≡◌, Contains, IfErr, IfOk, OnOk, map};
+ghost use Rattle.structure_rules.specs.Graph.{graph};
+ghost use Rattle.profile_rules.specs.Calls.{AreCalleesFunctions, HaveOwnIds, IsCallOrder, ids_of, numbers};
+ghost use Rattle.profile_rules.specs.Entry.{group_size};
 ghost use Rattle.module_check.specs.Asked.{asked};
-ghost use Rattle.module_check.specs.Judged.{IsRead, IsFineLater, IsLaterFault, IsFine, IsFault};
+ghost use Rattle.module_check.specs.Judged.{IsRead, IsFineLater, IsLaterFault, IsFine, IsFault, IsEntry};
 
 use crate::structure::check_structure;
 use call_order::order;
-use profile_check::{Options, check_declarations, check_rest};
+use nest_place::Places;
+use profile_check::{Entry, Options, check_declarations, check_rest};
 use spec_constants::Overrides;
 use spv_decor::Decor;
 use spv_module::{Id, Module};
 use spv_words::Fault;
 use std::alloc::Global;
 use type_rules::check_types;
+
+/// What is known of a module that conforms: its entry point, the functions that calls reach from there,
+/// callees first, and the places of the blocks of each function of the module.
+#[derive(Drop)]
+pub struct Conforming {
+    pub entry: Entry,
+    pub order: Vec<Id>,
+    pub places: Vec<Places>,
+}
 
 /// Judges layouts, accesses, overrides, structure and calls, where no rule on types is broken.
 #[tactic(auto, using(crate::proofs::Causes::later_causes))]
@@ -21,19 +33,26 @@ fn check_later(
     module: &Module,
     decor: &Decor,
     overrides: &Overrides,
-    entry: Id,
-) -> Result<(), Fault>
+    entry: Entry,
+) -> Result<Conforming, Fault>
     requires heads { decor.now ≡ «module».now.heads }
     requires own_ids { HaveOwnIds «module».now.functions }
     requires callees { AreCalleesFunctions «module».now.functions }
-    requires entry { Contains (ids_of «module».now.functions) entry.0 }
-    ensures passes { OnOk result (IsFineLater «module».now overrides.now.pairs.items entry.0) }
-    ensures refused { IfErr result (IsLaterFault «module».now overrides.now.pairs.items entry.0) }
+    requires entry { Contains (ids_of «module».now.functions) entry.function.0 }
+    ensures passes { OnOk result (IsFineLater «module».now overrides.now.pairs.items entry.function.0) }
+    ensures entry { IfOk result (λ found. found.entry ≡ entry) }
+    ensures order { IfOk result (λ found. IsCallOrder «module».now.functions entry.function.0 (numbers found.order.items)) }
+    ensures places { IfOk result (λ found. found.places.items ≡ map graph «module».now.functions) }
+    ensures refused { IfErr result (IsLaterFault «module».now overrides.now.pairs.items entry.function.0) }
 {
     check_rest(alloc, module, decor, overrides)?;
-    check_structure(alloc, module.functions())?;
-    let _ = order(alloc, module, entry)?;
-    Ok(())
+    let places = check_structure(alloc, module.functions())?;
+    let order = order(alloc, module, entry.function)?;
+    Ok(Conforming {
+        entry,
+        order,
+        places,
+    })
 }
 
 /// Judges a module that was read: its declarations, its types, and then the rest. It refuses by the
@@ -44,13 +63,17 @@ pub fn check_module(
     module: &Module,
     decor: &Decor,
     options: &Options,
-) -> Result<(), Fault>
+) -> Result<Conforming, Fault>
     requires heads { decor.now ≡ «module».now.heads }
     requires read { IsRead «module».now }
     ensures passes { OnOk result (IsFine «module».now (asked options.now)) }
+    ensures entry { IfOk result (λ found. IsEntry «module».now (asked options.now) found.entry.function.0) }
+    ensures size { IfOk result (λ found. found.entry.size.items ≡ group_size «module».now found.entry.function.0) }
+    ensures order { IfOk result (λ found. IsCallOrder «module».now.functions found.entry.function.0 (numbers found.order.items)) }
+    ensures places { IfOk result (λ found. found.places.items ≡ map graph «module».now.functions) }
     ensures refused { IfErr result (IsFault «module».now (asked options.now)) }
 {
     let entry = check_declarations(alloc, module, decor, options.entry_name())?;
     check_types(alloc, module)?;
-    check_later(alloc, module, decor, &options.overrides, entry.function)
+    check_later(alloc, module, decor, &options.overrides, entry)
 }

@@ -9,7 +9,7 @@ returns-clause-passes c = record {
   access = c.in_ok-check_rest.ensures.accessed;
   known = c.in_ok-check_rest.ensures.known;
   fits = c.in_ok-check_rest.ensures.fits;
-  structure = subst AreStructured c.functions.ensures c.in_ok-check_structure.ensures.passes;
+  structure = subst AreStructured c.functions.ensures c.in_ok-places.ensures.passes;
   acyclic = c.in_ok-order.ensures.acyclic;
   calls = c.in_ok-order.ensures.within;
 }
