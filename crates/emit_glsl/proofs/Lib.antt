@@ -1,0 +1,10 @@
+pub mod Numbered
+pub mod Singled
+pub mod Firsts
+pub mod Phied
+pub mod Moving
+pub mod Ordered
+pub mod Expressed
+pub mod Placing
+pub mod Made
+pub mod Pushed

@@ -1,0 +1,22 @@
+-- What a plan of a function claims names for.
+use Rattle.std.specs.BTreeSet.{contains}
+use Rattle.std.specs.Ordering.{nat_cmp}
+use Rattle.hoist_plan.specs.Kept.{is_carried_in}
+use Rattle.text_rules.specs.Claims.{Plan}
+use Rattle.emit_glsl.specs.declared.plan.FunctionPlan.{FunctionPlan as Planned}
+use Rattle.emit_glsl.specs.Planned.{captured_numbers, spares_in}
+use Rattle.emit_glsl.specs.Once.{once, itself}
+use Rattle.emit_glsl.specs.Functions.{targets_in}
+use Rattle.emit_glsl.specs.Moved.{moves_in}
+
+abbrev pub claimed_by : Planned → Plan
+claimed_by p = record {
+  function = p.locals;
+  is_named = contains nat_cmp p.named;
+  again = contains nat_cmp p.again;
+  leave = contains nat_cmp p.leave;
+  fell = contains nat_cmp p.fell;
+  captured = captured_numbers p.source.now.globals (is_carried_in p.naming);
+  targets = λ b. once itself (targets_in p.places b);
+  spares = λ b t. spares_in (moves_in p.moves.items b t);
+}

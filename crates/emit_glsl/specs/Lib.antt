@@ -1,0 +1,13 @@
+pub mod Functions
+pub mod Once
+pub mod Phis
+pub mod Moved
+pub mod Orders
+pub mod Planned
+pub mod Plans
+pub mod Claimed
+pub mod Live
+pub mod Reached
+pub mod Unit
+pub mod Text
+pub mod Translation

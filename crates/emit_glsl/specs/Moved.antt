@@ -1,0 +1,38 @@
+-- The moves of edges, and what they are made from, as the code keeps them.
+use Rattle.std.specs.Prelude.{ℕ, ◌≡◌, ◌==◌, true, Bool, List, [], is_some, Option, Some, None, option_and_then, slice_get}
+use Rattle.std.specs.BTreeMap.{BTreeMap, get}
+use Rattle.std.specs.Ordering.{nat_cmp}
+use Rattle.std.specs.List.{list_any}
+use Rattle.std.specs.declared.vec.Vec.{Vec}
+use Rattle.std.specs.declared.alloc.Global.{Global}
+use Rattle.spv_module.specs.declared.inst.Inst.{Inst}
+use Rattle.spv_module.specs.declared.inst.Block.{Block}
+use Rattle.spv_module.specs.declared.inst.Function.{Function}
+use Rattle.hoist_plan.specs.declared.form.Form.{Form}
+use Rattle.phi_copies.specs.Sequence.{Pair, IsSequence}
+use Rattle.phi_copies.specs.declared.moves.Move.{Move}
+use Rattle.emit_glsl.specs.Phis.{pairs_into, firsts}
+
+-- what a list has that may be there
+abbrev pub items_at : {A : Type 0} → Option (Vec A Global) → List A
+items_at None = []
+items_at (Some list) = list.items
+
+-- the moves of an edge, where the moves of the edges into each block stand by the blocks from which they come
+abbrev pub moves_in : List (BTreeMap ℕ (Vec Move Global)) → ℕ → ℕ → List Move
+moves_in moves b t = items_at (option_and_then (λ (from : BTreeMap ℕ (Vec Move Global)). get nat_cmp from b) (slice_get moves t))
+
+-- the pairs of the edge from a block
+abbrev pub PairsByBlock : Type 0
+PairsByBlock = BTreeMap ℕ (Vec Pair Global)
+
+abbrev pub pairs_from : PairsByBlock → ℕ → List Pair
+pairs_from pairs b = items_at (get nat_cmp pairs b)
+
+-- the blocks with pairs are listed
+abbrev pub AreListed : PairsByBlock → List ℕ → Type 0
+AreListed pairs blocks = (b : ℕ) → is_some (get nat_cmp pairs b) ≡ true → list_any (λ c. c == b) blocks ≡ true
+
+-- the moves of the edges into a block, by the blocks from which these come
+abbrev pub AreMovesFor : List Inst → (ℕ → Form) → Function → Block → BTreeMap ℕ (Vec Move Global) → Type 0
+AreMovesFor gs form f block moves = (b : ℕ) → IsSequence (firsts (pairs_into gs form f b block)) (items_at (get nat_cmp moves b))

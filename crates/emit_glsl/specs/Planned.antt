@@ -1,0 +1,86 @@
+-- What the code's plan of a function says.
+use Rattle.std.specs.Prelude.{ℕ, ◌≡◌, ◌<◌, ◌==◌, ◌&&◌, ◌||◌, true, false, Bool, List, [], ◌∷◌, filter, length, map, min, Option, Some, None, option_and_then, if◌then◌else◌, slice_get}
+use Rattle.std.specs.BTreeMap.{BTreeMap, get}
+use Rattle.std.specs.BTreeSet.{contains}
+use Rattle.std.specs.Ordering.{nat_cmp}
+use Rattle.std.specs.Option.{option_map_or}
+use Rattle.std.specs.List.{enumerate_from, list_any}
+use Rattle.std.specs.declared.vec.Vec.{Vec}
+use Rattle.std.specs.declared.alloc.Global.{Global}
+use Rattle.spv_module.specs.State.{ModuleState}
+use Rattle.spv_module.specs.declared.inst.Id.{Id}
+use Rattle.spv_module.specs.declared.inst.Inst.{Inst}
+use Rattle.spv_module.specs.declared.inst.Block.{Block}
+use Rattle.spv_module.specs.declared.inst.Function.{Function}
+use Rattle.structure_rules.specs.declared.graph.Node.{Node}
+use Rattle.structure_rules.specs.Graph.{nth}
+use Rattle.hoist_plan.specs.declared.form.Form.{Form}
+use Rattle.hoist_plan.specs.declared.form.Form.TheVariants.{Gone, Forwarded, Local, Hoisted}
+use Rattle.phi_copies.specs.declared.moves.Move.{Move}
+use Rattle.phi_copies.specs.Sequence.{saves}
+use Rattle.access_paths.specs.Ways.{captured_indexes}
+use Rattle.profile_rules.specs.MemoryRules.{is_chain}
+use Rattle.use_chains.specs.Slots.{is_pure}
+use Rattle.structure_recover.specs.View.{region_of}
+use Rattle.expr_forward.specs.Context.{ContextState, scope_of}
+use Rattle.emit_glsl.specs.declared.plan.FunctionPlan.{FunctionPlan as Planned}
+use Rattle.emit_glsl.specs.Functions.{FunctionPlan}
+use Rattle.emit_glsl.specs.Phis.{is_gone}
+use Rattle.emit_glsl.specs.Moved.{items_at, moves_in}
+
+abbrev pub order_in : List (Vec ℕ Global) → ℕ → List ℕ
+order_in orders h = items_at (slice_get orders h)
+
+-- the plan of a function, where it is written
+abbrev pub plan_in : ContextState → Planned → FunctionPlan
+plan_in c p = record {
+  scope = scope_of c;
+  graph = p.places;
+  region = region_of p.region;
+  moves = moves_in p.moves.items;
+  again = contains nat_cmp p.again;
+  leave = contains nat_cmp p.leave;
+  fell = contains nat_cmp p.fell;
+  order = order_in p.orders.items;
+}
+
+-- the result of an instruction has a name: that of an OpVariable, of a value that is declared at the top of the function, and of one that is declared in a block that is reached
+abbrev pub has_name_by : Form → Bool → Bool → Bool
+has_name_by Hoisted reached variable = true
+has_name_by Local reached variable = reached || variable
+has_name_by _ reached variable = variable
+
+abbrev pub has_name : (ℕ → Form) → Bool → Inst → Bool
+has_name form reached i = has_name_by (form i.result) reached (i.op == 59)
+
+abbrev pub names_id : (ℕ → Form) → Bool → ℕ → Inst → Bool
+names_id form reached id i = has_name form reached i && (i.result == id)
+
+abbrev pub block_names : (ℕ → Form) → List Node → ℕ → ℕ × Block → Bool
+block_names form g id b = list_any (names_id form (nth g b.0).reached id) b.1.insts
+
+abbrev pub is_named_in : (ℕ → Form) → List Node → List Block → ℕ → Bool
+is_named_in form g blocks id = list_any (block_names form g id) (enumerate_from 0 blocks)
+
+-- an instruction is live: it has an effect, or a live instruction of a reached block mentions its result
+abbrev pub is_live : (ℕ → Form) → Inst → Bool
+is_live form i = elim (is_pure i.op) [ true ↦ elim (is_gone (form i.result)) [ true ↦ false | false ↦ true ] | false ↦ true ]
+
+-- the number of an index
+abbrev pub number_in : ℕ × Id → ℕ
+number_in n = n.0
+
+-- a chain whose indexes that are no constants have variables
+abbrev pub is_captured : (ℕ → Bool) → Inst → Bool
+is_captured carried i = is_chain i && carried i.result
+
+abbrev pub captured_numbers : List Inst → (ℕ → Bool) → Inst → List ℕ
+captured_numbers gs carried i = if is_captured carried i then map (λ (n : ℕ × ℕ). n.0) (captured_indexes gs i) else []
+
+-- a block is reached
+abbrev pub is_reached_node : Node → Bool
+is_reached_node n = n.reached
+
+-- the number of spares that moves need, counted up to the greatest word
+abbrev pub spares_in : List Move → ℕ
+spares_in moves = min (saves moves) 4294967295

@@ -1,0 +1,41 @@
+-- The plan of a function that the code makes.
+use Rattle.std.specs.Prelude.{ℕ, ◌≡◌, List, map}
+use Rattle.std.specs.BTreeSet.{contains}
+use Rattle.std.specs.Ordering.{nat_cmp}
+use Rattle.spv_module.specs.State.{ModuleState}
+use Rattle.spv_module.specs.declared.inst.Inst.{Inst}
+use Rattle.spv_module.specs.declared.inst.Function.{Function}
+use Rattle.structure_rules.specs.declared.graph.Node.{Node}
+use Rattle.structure_rules.specs.Graph.{graph}
+use Rattle.structure_recover.specs.Follows.{IsTree}
+use Rattle.structure_recover.specs.View.{region_of}
+use Rattle.use_chains.specs.Links.{Link, AreLiveLinks}
+use Rattle.hoist_plan.specs.Plan as plan
+use Rattle.hoist_plan.specs.Kept.{NamingState, form_in, is_carried_in}
+use Rattle.phi_copies.specs.Sequence.{IsSequence}
+use Rattle.emit_glsl.specs.declared.plan.FunctionPlan.{FunctionPlan as Planned}
+use Rattle.switch_ladder.specs.Flags.{blocks_that, needs_again, needs_leave, needs_fell}
+use Rattle.emit_glsl.specs.Phis.{pairs, firsts, phi_blocks}
+use Rattle.emit_glsl.specs.Orders.{is_among, order_by}
+use Rattle.emit_glsl.specs.Moved.{moves_in}
+use Rattle.emit_glsl.specs.Planned.{is_reached_node, order_in, is_named_in}
+
+-- the forms of a function's values by the slots that are linked in its reached blocks
+pub record IsNamed (gs : List Inst) (f : Function) (g : List Node) (naming : NamingState) : Type 0 where
+  pub links : List Link
+  pub live : AreLiveLinks f (map is_reached_node g) links
+  pub forms : (n : ℕ) → form_in naming n ≡ plan.form (record { globals = gs; function = f; links = links }) n
+  pub carried : (n : ℕ) → is_carried_in naming n ≡ plan.is_carried (record { globals = gs; function = f; links = links }) n
+
+pub record IsPlanned (m : ModuleState) (f : Function) (p : Planned) : Type 0 where
+  pub of_module : p.source.now ≡ m
+  pub of_function : p.locals ≡ f
+  pub graph_is : p.places ≡ graph f
+  pub naming : IsNamed m.globals f (graph f) p.naming
+  pub named : (n : ℕ) → contains nat_cmp p.named n ≡ is_named_in (form_in p.naming) (graph f) f.blocks n
+  pub tree : IsTree f (region_of p.region)
+  pub moves : (b t : ℕ) → IsSequence (firsts (pairs m.globals (form_in p.naming) f b t)) (moves_in p.moves.items b t)
+  pub again : (b : ℕ) → contains nat_cmp p.again b ≡ is_among (blocks_that (needs_again (graph f)) (graph f)) b
+  pub leave : (b : ℕ) → contains nat_cmp p.leave b ≡ is_among (blocks_that (needs_leave (graph f)) (graph f)) b
+  pub fell : (b : ℕ) → contains nat_cmp p.fell b ≡ is_among (blocks_that (needs_fell (graph f) (phi_blocks (form_in p.naming) f)) (graph f)) b
+  pub orders : (h : ℕ) → order_in p.orders.items h ≡ order_by (graph f) h

@@ -1,0 +1,108 @@
+// The names that a function claims.
+ghost use Rattle.std.specs.Prelude.{◌≡◌, IfOk, map, min};
+ghost use Rattle.hoist_plan.specs.Kept.{is_carried_in};
+ghost use Rattle.phi_copies.specs.Sequence.{is_save as is_save_move};
+ghost use Rattle.emit_glsl.specs.Planned.{spares_in, captured_numbers, number_in};
+
+use crate::named::is_captured;
+use crate::nodes::targets;
+use crate::once::each_once;
+use crate::plan::FunctionPlan;
+use access_paths::captured_indexes;
+use hoist_plan::Naming;
+use phi_copies::Move;
+use spv_module::{Function, Id, Inst, Module};
+use spv_words::Memory;
+use std::alloc::{AllocError, Global};
+use text_items::FunctionClaims;
+
+fn is_save(step: &Move) -> bool
+    ensures { result ≡ is_save_move step.now }
+{
+    matches!(step, Move::Save(_, _))
+}
+
+/// A number, or the greatest word.
+fn capped(number: usize) -> u32
+    ensures { result ≡ min number 4294967295 }
+{
+    if number < 4294967295 {
+        number as u32
+    } else {
+        4294967295
+    }
+}
+
+/// How many moves save a variable in a spare, counted up to the greatest word.
+fn spares(moves: &[Move]) -> u32
+    ensures { result ≡ spares_in moves.now }
+{
+    capped(moves.iter().filter(|step| is_save(step)).count())
+}
+
+/// The numbers of indexes.
+fn numbers_of(alloc: Global, indexes: &[(u32, Id)]) -> Result<Vec<u32>, AllocError>
+    ensures { IfOk result (λ numbers. numbers.items ≡ map number_in indexes.now) }
+{
+    let mut numbers = Vec::new(alloc);
+    for index in indexes {
+        numbers.push(index.0)?;
+    }
+    Ok(numbers)
+}
+
+/// The numbers of the indexes of a chain that other blocks need.
+fn captured(
+    alloc: Global,
+    module: &Module,
+    naming: &Naming,
+    inst: &Inst,
+) -> Result<Vec<u32>, Memory>
+    ensures { IfOk result (λ numbers. numbers.items ≡ captured_numbers «module».now.globals (is_carried_in naming.now) inst.now) }
+{
+    if !is_captured(naming, inst) {
+        return Ok(Vec::new(alloc));
+    }
+    let indexes = captured_indexes(alloc, module, inst)?;
+    let numbers = numbers_of(alloc, &indexes)?;
+    Ok(numbers)
+}
+
+impl FunctionClaims for FunctionPlan<'_> {
+    ghost use Rattle.emit_glsl.specs.Claimed.{claimed_by};
+
+    ghost plan = { claimed_by };
+
+    fn function(&self) -> &Function {
+        self.locals.function()
+    }
+
+    fn is_named(&self, id: u32) -> bool {
+        self.named.contains(&id)
+    }
+
+    fn again(&self, block: usize) -> bool {
+        self.again.contains(&block)
+    }
+
+    fn leave(&self, block: usize) -> bool {
+        self.leave.contains(&block)
+    }
+
+    fn fell(&self, block: usize) -> bool {
+        self.fell.contains(&block)
+    }
+
+    fn captured(&self, alloc: Global, inst: &Inst) -> Result<Vec<u32>, Memory> {
+        captured(alloc, self.source, &self.naming, inst)
+    }
+
+    fn targets(&self, alloc: Global, block: usize) -> Result<Vec<usize>, Memory> {
+        let list = each_once(alloc, targets(&self.places, block))?;
+        Ok(list)
+    }
+
+    fn spares(&self, from: usize, to: usize) -> u32 {
+        spares(self.moves_of(from, to))
+    }
+}

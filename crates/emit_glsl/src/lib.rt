@@ -1,0 +1,19 @@
+// The translation of a module to the tree of its text.
+#![tactic(auto)]
+
+mod blocks;
+mod claims;
+mod functions;
+mod heads;
+mod live;
+mod moves;
+mod named;
+mod nodes;
+mod once;
+mod orders;
+mod plan;
+mod scope;
+mod translation;
+mod unit;
+
+pub use translation::translate;

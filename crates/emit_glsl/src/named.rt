@@ -1,0 +1,129 @@
+// Which results of a function have names, and which instructions are live.
+ghost use Rattle.std.specs.Prelude.{◌≡◌, ◌||◌, ◌==◌, ℕ, IfOk, OnOk};
+ghost use Rattle.std.specs.List.{list_any};
+ghost use Rattle.std.specs.BTreeSet.{contains};
+ghost use Rattle.std.specs.Ordering.{nat_cmp};
+ghost use Rattle.hoist_plan.specs.Kept.{form_in, is_carried_in};
+ghost use Rattle.use_chains.specs.Slots.{is_pure as is_pure_opcode, is_pure_class as is_pure_class_of};
+ghost use Rattle.emit_glsl.specs.Planned.{has_name_by, has_name as has_name_in, names_id, block_names, is_named_in, is_live as is_live_in, is_captured as is_captured_in};
+
+use crate::moves::is_gone;
+use crate::nodes::is_reached;
+use hoist_plan::{Form, Naming};
+use nest_place::Places;
+use spv_module::{Block, Function, Id, Inst};
+use spv_ops::{OpClass, shape_of};
+use spv_words::Memory;
+use std::alloc::{AllocError, Global};
+use std::collections::BTreeSet;
+
+/// Whether a result of a form has a name, where it stands in a block that is reached, or is that of an OpVariable.
+fn has_name_of(form: Form, reached: bool, variable: bool) -> bool
+    ensures { result ≡ has_name_by form reached variable }
+{
+    match form {
+        Form::Hoisted => true,
+        Form::Local => reached || variable,
+        Form::Forwarded | Form::Gone => variable,
+    }
+}
+
+/// Whether the result of an instruction has a name: that of an OpVariable, of a value that is declared at the top of the
+/// function, and of one that is declared in a block that is reached.
+fn has_name(naming: &Naming, reached: bool, inst: &Inst) -> bool
+    ensures { result ≡ has_name_in (form_in naming.now) reached inst.now }
+{
+    has_name_of(naming.of(Id(inst.result)), reached, inst.op == 59)
+}
+
+/// Adds the results of a block that have names.
+fn add_named(
+    ids: &mut BTreeSet<u32>,
+    naming: &Naming,
+    reached: bool,
+    block: &Block,
+) -> Result<(), AllocError>
+    ensures { OnOk result ((id : ℕ) → contains nat_cmp ids.new id ≡ (contains nat_cmp ids.old id || list_any (names_id (form_in naming.now) reached id) block.now.insts)) }
+{
+    for inst in block.insts.as_slice() {
+        if has_name(naming, reached, inst) {
+            ids.insert(inst.result)?;
+        }
+    }
+    Ok(())
+}
+
+/// Adds the results of the block at a place that have names.
+fn add_named_at(
+    ids: &mut BTreeSet<u32>,
+    naming: &Naming,
+    places: &Places,
+    index: usize,
+    block: &Block,
+) -> Result<(), AllocError>
+    ensures { OnOk result ((id : ℕ) → contains nat_cmp ids.new id ≡ (contains nat_cmp ids.old id || block_names (form_in naming.now) places.now id (index, block.now))) }
+{
+    add_named(ids, naming, is_reached(places, index), block)?;
+    Ok(())
+}
+
+/// The results of blocks that have names.
+fn named_in(
+    alloc: Global,
+    blocks: &[Block],
+    places: &Places,
+    naming: &Naming,
+) -> Result<BTreeSet<u32>, AllocError>
+    ensures { IfOk result (λ ids. (id : ℕ) → contains nat_cmp ids id ≡ is_named_in (form_in naming.now) places.now blocks.now id) }
+{
+    let mut ids = BTreeSet::new(alloc);
+    for (index, block) in blocks.iter().enumerate() {
+        add_named_at(&mut ids, naming, places, index, block)?;
+    }
+    Ok(ids)
+}
+
+/// The results of a function that have names.
+pub fn named(
+    alloc: Global,
+    function: &Function,
+    places: &Places,
+    naming: &Naming,
+) -> Result<BTreeSet<u32>, Memory>
+    ensures { IfOk result (λ ids. (id : ℕ) → contains nat_cmp ids id ≡ is_named_in (form_in naming.now) places.now function.now.blocks id) }
+{
+    let ids = named_in(alloc, function.blocks.as_slice(), places, naming)?;
+    Ok(ids)
+}
+
+fn is_pure_class(class: OpClass) -> bool
+    ensures { result ≡ is_pure_class_of class }
+{
+    matches!(class, OpClass::Pure)
+}
+
+/// Whether an opcode is without effect.
+fn is_pure(op: u16) -> bool
+    ensures { result ≡ is_pure_opcode op }
+{
+    shape_of(op).map_or(false, |shape| is_pure_class(shape.class))
+}
+
+/// Whether an instruction is live: it has an effect, or a live instruction of a reached block mentions its result.
+pub fn is_live(naming: &Naming, inst: &Inst) -> bool
+    ensures { result ≡ is_live_in (form_in naming.now) inst.now }
+{
+    if is_pure(inst.op) {
+        !is_gone(naming.of(Id(inst.result)))
+    } else {
+        true
+    }
+}
+
+/// Whether an instruction is a chain whose indexes that are no constants have variables.
+pub fn is_captured(naming: &Naming, inst: &Inst) -> bool
+    ensures { result ≡ is_captured_in (is_carried_in naming.now) inst.now }
+{
+    // OpAccessChain, OpInBoundsAccessChain
+    (inst.op == 65 || inst.op == 66) && naming.carried(Id(inst.result))
+}
