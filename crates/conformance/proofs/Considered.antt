@@ -29,7 +29,7 @@ use Rattle.structure_rules.specs.Graph.{graph}
 use Rattle.structure_rules.specs.Structure.{BrokenIn, BreaksIn, IsTooDeep, IsRightStructure, structure_rules}
 use Rattle.conformance.proofs.TypeRefusals.{on_types as types_alone}
 use Rattle.conformance.proofs.LaterRules.{on_access as accesses_alone, on_layout as letter_on_layout}
-use Rattle.conformance.specs.Rules.{Options, Group, on_words, on_strings, on_form, on_decorations, on_choice, on_data, on_types, on_layout, on_access, on_recursion, on_structure, on_overrides, unbuilt, group_of, module_in, before_group, BrokenOf, BrokenOverrides, BrokenFirst, Broken, Breaks, Conforms, IsFormed, IsRight, IsWithinLimits, word_rules, text_rules, list_rules, rules_to_choice, rules_to_data, rules_to_types}
+use Rattle.conformance.specs.Rules.{Options, Group, on_words, on_strings, on_form, on_decorations, on_choice, on_data, on_types, on_layout, on_access, on_recursion, on_structure, on_overrides, group_of, module_in, before_group, BrokenOf, BrokenOverrides, BrokenFirst, Broken, Breaks, Conforms, IsFormed, IsRight, IsWithinLimits, word_rules, text_rules, list_rules, rules_to_choice, rules_to_data, rules_to_types}
 
 -- rules that are not broken, and others
 none_broken : (broken : Rule → ℕ → Type 0) (first second : List Rule) → NoRuleBroken broken first → NoRuleBroken broken second → NoRuleBroken broken (first ++ second)
@@ -267,7 +267,6 @@ module _ (bytes : List ℕ) (o : Options) where
     none_of on_recursion = no_recursion
     none_of on_structure = λ rule at b. no_structure b.0 (structure b.0 b.1) rule at b.2
     none_of on_overrides = overrides
-    none_of unbuilt = λ rule at b. b
 
     -- no rule is broken
     pub conforms : Conforms bytes o

@@ -2,7 +2,7 @@
 use Rattle.std.specs.Prelude.{ℕ, ◌≡◌, ◌<◌, ◌==◌, true, List, [], ◌∷◌, ◌++◌, length, Contains, Option, IsSomeAnd, if◌then◌else◌}
 use Rattle.spv_words.specs.Rule.{letter_of}
 use Rattle.spv_words.specs.declared.rule.Rule.{Rule}
-use Rattle.spv_words.specs.declared.rule.Rule.TheVariants.{W1, W2, W3, W4, W5, W6, W7, W8, W9, X1, X2, X3, X4, P0, P1, P2, P3, P4, P8, P11, P12, M6}
+use Rattle.spv_words.specs.declared.rule.Rule.TheVariants.{W1, W2, W3, W4, W5, W6, W7, W8, W9, X1, X2, X3, X4, P1, P2, P3, P4, P8, P11, P12, M6}
 use Rattle.spv_words.specs.declared.rule.Fault.{Fault}
 use Rattle.spv_words.specs.declared.rule.Fault.TheVariants.{Refused, Limit as Exceeded, Memory}
 use Rattle.spv_words.specs.declared.rule.Limit.{Limit}
@@ -48,7 +48,6 @@ pub data Group : Type 0 where
   on_recursion : Group
   on_structure : Group
   on_overrides : Group
-  unbuilt : Group
 
 -- the rules that are not told apart by their numbers, by their letters: W, P, K, and the others, A and M
 abbrev pub group_by_letter : ℕ → Group
@@ -56,7 +55,6 @@ group_by_letter letter = if letter == 87 then on_words else (if letter == 80 the
 
 abbrev pub other_group : Rule → Group
 other_group W9 = on_strings
-other_group P0 = unbuilt
 other_group P1 = on_form
 other_group P2 = on_form
 other_group P3 = on_form
@@ -102,7 +100,6 @@ BrokenOf bytes o on_access rule at = BrokenAccess (module_in bytes) rule at
 BrokenOf bytes o on_recursion rule at = BrokenCalls (module_in bytes).functions rule at
 BrokenOf bytes o on_structure rule at = SomeFunction (module_in bytes) (λ f. BrokenIn (graph f) rule at)
 BrokenOf bytes o on_overrides rule at = BrokenOverrides (module_in bytes) o.overrides rule at
-BrokenOf bytes o unbuilt rule at = ⊥
 
 -- the rule is broken at this word
 abbrev pub Broken : List ℕ → Options → Rule → ℕ → Type 0
@@ -136,7 +133,6 @@ before_group on_decorations rule = text_rules
 before_group on_choice rule = list_rules
 before_group on_data rule = rules_to_choice
 before_group on_types rule = rules_to_data
-before_group unbuilt rule = []
 before_group _ rule = rules_to_types
 
 -- the rules that come before: a rule is considered only where none of them is broken

@@ -1,4 +1,4 @@
-pub mod Bodies
 pub mod Ends
-pub mod Grammar
+pub mod Outputs
+pub mod Pieces
 pub mod Writes

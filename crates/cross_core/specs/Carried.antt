@@ -3,36 +3,36 @@ use Rattle.std.specs.Prelude.{ℕ, ◌≡◌, ◌⊎◌, List, Option}
 use Rattle.spv_words.specs.declared.rule.Rule.{Rule}
 use Rattle.spv_words.specs.declared.rule.Limit.{Limit}
 use Rattle.spv_words.specs.declared.rule.Limit.TheVariants.{Bytes}
-use Rattle.conformance.specs.Rules.{Exceeds, IsWithinLimits}
+use Rattle.conformance.specs.Rules.{Options, Breaks, Conforms, Exceeds, IsWithinLimits}
 use Rattle.cross_core.specs.State.{CommandState}
 use Rattle.cross_core.specs.declared.endings.Ending.{Ending}
 use Rattle.cross_core.specs.declared.endings.Ending.TheVariants.{Done, Usage, Memory}
-use Rattle.cross_core.specs.Commands.{Meets, BreaksFor}
-use Rattle.cross_core.specs.Endings.{status_of, HasCause, IsRead}
+use Rattle.cross_core.specs.Answers.{bytes_of}
+use Rattle.cross_core.specs.Endings.{status_of, HasCause, ReadFails, IsReadBy}
 use Rattle.cross_core.specs.Lines.{line_of}
 
 -- A command ended with this status: `left` and `rest` are what the source had left before and after, `before` and `after`
--- its counts of faults, `output` tells what each ending leaves in the output, `said` which line was said, and `quiet` that
--- notes are as they were.
-pub record Carried (command : CommandState) (left rest : Option (List ℕ)) (before after : ℕ) (output : Ending → Type 0) (said : List ℕ → Type 0) (quiet : Type 0) (status : ℕ) : Type 0 where
+-- its counts of faults, `unread` that it is as it was, `output` tells what each ending leaves in the output, `said` which
+-- line was said, and `quiet` that notes are as they were.
+pub record Carried (command : CommandState) (left rest : Option (List ℕ)) (before after : ℕ) (unread : Type 0) (output : Ending → Type 0) (said : List ℕ → Type 0) (quiet : Type 0) (status : ℕ) : Type 0 where
   pub ending : Ending
   pub is : status ≡ status_of ending
-  pub cause : HasCause command left before after ending
-  pub read : IsRead left rest ending
+  pub cause : HasCause command.options (bytes_of command left) (ReadFails command.pieces before after) ending
+  pub read : IsReadBy command.pieces unread left rest ending
   pub kept : output ending
   pub line : said (line_of ending)
   pub none : ending ≡ Done → quiet
 
 -- some rule is broken and considered
-abbrev pub BreaksSome : CommandState → List ℕ → Type 0
-BreaksSome command bytes = (rule : Rule) × (at : ℕ) × BreaksFor command bytes rule at
+abbrev pub BreaksSome : Options → List ℕ → Type 0
+BreaksSome o bytes = (rule : Rule) × (at : ℕ) × Breaks bytes o rule at
 
--- when a command on these bytes succeeds, refuses or comes to a limit, but for want of memory; where the limit on bytes is exceeded no rule is named
-pub record IsComplete (command : CommandState) (bytes : List ℕ) (read_fault write_fault : Type 0) (status : ℕ) : Type 0 where
-  pub succeeds : (read_fault → ⊥) → (write_fault → ⊥) → IsWithinLimits bytes command.options → Meets command bytes → (status ≡ 0) ⊎ (status ≡ 6)
-  pub refuses : (read_fault → ⊥) → IsWithinLimits bytes command.options → (Meets command bytes → ⊥) → (status ≡ 2) ⊎ (status ≡ 6)
-  pub long : (read_fault → ⊥) → Exceeds bytes command.options Bytes → (status ≡ 3) ⊎ (status ≡ 6)
-  pub limited : (read_fault → ⊥) → (limit : Limit) → Exceeds bytes command.options limit → (status ≡ 3) ⊎ ((status ≡ 6) ⊎ ((status ≡ 2) × BreaksSome command bytes))
+-- when a command on these bytes of a module succeeds, refuses or comes to a limit, but for want of memory; where the limit on bytes is exceeded no rule is named
+pub record IsComplete (o : Options) (bytes : List ℕ) (read_fault write_fault : Type 0) (status : ℕ) : Type 0 where
+  pub succeeds : (read_fault → ⊥) → (write_fault → ⊥) → IsWithinLimits bytes o → Conforms bytes o → (status ≡ 0) ⊎ (status ≡ 6)
+  pub refuses : (read_fault → ⊥) → IsWithinLimits bytes o → (Conforms bytes o → ⊥) → (status ≡ 2) ⊎ (status ≡ 6)
+  pub long : (read_fault → ⊥) → Exceeds bytes o Bytes → (status ≡ 3) ⊎ (status ≡ 6)
+  pub limited : (read_fault → ⊥) → (limit : Limit) → Exceeds bytes o limit → (status ≡ 3) ⊎ ((status ≡ 6) ⊎ ((status ≡ 2) × BreaksSome o bytes))
 
 -- words that are no command line were answered: usage, or there was no memory; nothing was read or written, and the line was said
 pub record IsTurnedAway (read_none wrote_none : Type 0) (said : List ℕ → Type 0) (status : ℕ) : Type 0 where

@@ -1,21 +1,20 @@
--- The command line, and what each command asks and answers.
-use Rattle.std.specs.Prelude.{ℕ, ◌≡◌, ◌==◌, ◌&&◌, not, Bool, List, [], ◌∷◌, Option, Some, None, IsSome, codes, length, option_map, option_and_then, slice_index, if◌then◌else◌}
+-- The command line.
+use Rattle.std.specs.Prelude.{ℕ, ◌==◌, ◌&&◌, not, Bool, List, [], ◌∷◌, Option, Some, None, codes, length, option_map, option_and_then, slice_index, if◌then◌else◌}
 use Rattle.std.specs.Str.{bytes_eq}
-use Rattle.spv_words.specs.declared.rule.Rule.{Rule}
-use Rattle.spv_words.specs.declared.rule.Rule.TheVariants.{P0}
-use Rattle.spv_words.specs.Words.{words}
 use Rattle.profile_rules.specs.declared.given.Given.{Given}
-use Rattle.profile_rules.specs.Overrides.{overrides_of}
-use Rattle.conformance.specs.Rules.{Options, Breaks, Conforms}
-use Rattle.glsl_grammar.specs.Reading.{glsl_read}
+use Rattle.profile_rules.specs.Overrides.{overrides_of, decimal_up_to, above_zero}
+use Rattle.conformance.specs.Rules.{Options}
 use Rattle.cross_core.specs.declared.commands.Action.{Action}
-use Rattle.cross_core.specs.declared.commands.Action.TheVariants.{Glsl, Check}
+use Rattle.cross_core.specs.declared.commands.Action.TheVariants.{Glsl, Check, Report, Summary}
 use Rattle.cross_core.specs.State.{CommandState}
-use Rattle.cross_core.specs.FirstForm.{IsFirstForm}
 
--- the action that a word names
+-- the action on the input that a word names
 abbrev pub action_of : List ℕ → Option Action
-action_of w = if bytes_eq w (codes "glsl") then Some Glsl else (if bytes_eq w (codes "check") then Some Check else None)
+action_of w =
+    if bytes_eq w (codes "glsl") then Some Glsl
+    else (if bytes_eq w (codes "check") then Some Check
+    else (if bytes_eq w (codes "report") then Some Report
+    else None))
 
 -- the name of an entry point is not empty, and begins with no `-`
 abbrev pub is_name : List ℕ → Bool
@@ -36,31 +35,23 @@ options_of [] = with_entry None []
 options_of (w ∷ ws) = if bytes_eq w (codes "--entry") then named_options ws else with_entry None (w ∷ ws)
 
 abbrev pub with_options : List (List ℕ) → Action → Option CommandState
-with_options ws action = option_map (λ (o : Options). record { action = action; options = o }) (options_of ws)
+with_options ws action = option_map (λ (o : Options). record { action = action; pieces = None; options = o }) (options_of ws)
+
+-- a number of pieces: from 1 to 1000, in decimal without leading zeros
+abbrev pub pieces_of : List ℕ → Option ℕ
+pieces_of w = option_and_then above_zero (decimal_up_to 1000 w)
+
+-- nothing is asked of a generated module
+abbrev pub no_options : Options
+no_options = record { entry = None; overrides = [] }
+
+-- the words behind `gen`: a number of pieces
+abbrev pub generating : List (List ℕ) → Option CommandState
+generating [] = None
+generating (w ∷ []) = option_map (λ (n : ℕ). record { action = Summary; pieces = Some n; options = no_options }) (pieces_of w)
+generating (w ∷ v ∷ ws) = None
 
 -- the command that these words are
 abbrev pub command_of : List (List ℕ) → Option CommandState
 command_of [] = None
-command_of (w ∷ ws) = option_and_then (with_options ws) (action_of w)
-
--- what an action asks of a module's bytes: no rule is broken, and for `glsl` it is of the form that is translated so far
-abbrev pub Asks : Action → Options → List ℕ → Type 0
-Asks Check o bytes = Conforms bytes o
-Asks Glsl o bytes = Conforms bytes o × IsFirstForm (words bytes)
-
-abbrev pub Meets : CommandState → List ℕ → Type 0
-Meets command bytes = Asks command.action command.options bytes
-
--- the rule is broken and considered; for `glsl` also the one on what is not built yet, after all others
-abbrev pub Refuses : Action → Options → List ℕ → Rule → ℕ → Type 0
-Refuses Check o bytes rule at = Breaks bytes o rule at
-Refuses Glsl o bytes P0 at = Conforms bytes o × (IsFirstForm (words bytes) → ⊥) × (at ≡ 0)
-Refuses Glsl o bytes rule at = Breaks bytes o rule at
-
-abbrev pub BreaksFor : CommandState → List ℕ → Rule → ℕ → Type 0
-BreaksFor command bytes rule at = Refuses command.action command.options bytes rule at
-
--- what an action puts out: a text that reads as a tree, or a line
-abbrev pub IsAnswer : Action → List ℕ → Type 0
-IsAnswer Check text = text ≡ codes "ok\n"
-IsAnswer Glsl text = IsSome (glsl_read text)
+command_of (w ∷ ws) = if bytes_eq w (codes "gen") then generating ws else option_and_then (with_options ws) (action_of w)

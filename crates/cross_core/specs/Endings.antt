@@ -1,18 +1,14 @@
 -- Why a command ended so, and what it did to its input and output.
-use Rattle.std.specs.Prelude.{ℕ, ◌≡◌, ◌<◌, ◌≤◌, ◌⊎◌, List, length, Option, IfSome}
+use Rattle.std.specs.Prelude.{ℕ, ◌≡◌, ◌<◌, ◌≤◌, ◌⊎◌, List, length, Option, None, Some, IfSome}
 use Rattle.std.specs.Io.KnownBytes.{Appends, Consumes, IsAtEnd}
 use Rattle.cc_outside.specs.Causes.{Rose, AppendsPrefix}
 use Rattle.spv_words.specs.Limit.{limit_number}
 use Rattle.spv_words.specs.declared.rule.Limit.TheVariants.{Bytes}
-use Rattle.spv_words.specs.declared.rule.Rule.TheVariants.{P0}
 use Rattle.spv_words.specs.declared.rule.Fault.{Fault}
 use Rattle.spv_words.specs.declared.rule.Fault.TheVariants.{Refused as RefusedFault, Limit as LimitFault, Memory as NoMemory}
-use Rattle.conformance.specs.Rules.{Exceeds, IsWithinLimits}
-use Rattle.cross_core.specs.State.{CommandState}
+use Rattle.conformance.specs.Rules.{Options, Breaks, Conforms, Exceeds, IsWithinLimits}
 use Rattle.cross_core.specs.declared.endings.Ending.{Ending}
 use Rattle.cross_core.specs.declared.endings.Ending.TheVariants.{Done, Usage, Refused, Limit, ReadFault, WriteFault, Memory}
-use Rattle.cross_core.specs.Commands.{Meets, BreaksFor}
-use Rattle.cross_core.specs.FirstForm.{IsFirstForm}
 
 -- the exit status
 abbrev pub status_of : Ending → ℕ
@@ -31,24 +27,14 @@ ending_of (LimitFault l) = Limit l
 ending_of NoMemory = Memory
 
 -- what the bytes of the module are, where a command ended so over them; a rule is named only where there are no more of them than the limit
-abbrev pub IsCause : CommandState → List ℕ → Ending → Type 0
-IsCause command bytes Done = Meets command bytes × IsWithinLimits bytes command.options
-IsCause command bytes Usage = ⊥
-IsCause command bytes (Refused r) = (length bytes ≤ limit_number Bytes) × BreaksFor command bytes r.rule r.at
-IsCause command bytes (Limit l) = Exceeds bytes command.options l
-IsCause command bytes ReadFault = ⊥
-IsCause command bytes WriteFault = Meets command bytes × IsWithinLimits bytes command.options
-IsCause command bytes Memory = Unit {0}
-
--- what the words are, where their translation ended so
-abbrev pub IsGlslCause : List ℕ → Ending → Type 0
-IsGlslCause ws Done = IsFirstForm ws
-IsGlslCause ws Usage = ⊥
-IsGlslCause ws (Refused r) = (r ≡ record { rule = P0; at = 0 }) × (IsFirstForm ws → ⊥)
-IsGlslCause ws (Limit l) = ⊥
-IsGlslCause ws ReadFault = ⊥
-IsGlslCause ws WriteFault = IsFirstForm ws
-IsGlslCause ws Memory = Unit {0}
+abbrev pub IsCause : Options → List ℕ → Ending → Type 0
+IsCause o bytes Done = Conforms bytes o × IsWithinLimits bytes o
+IsCause o bytes Usage = ⊥
+IsCause o bytes (Refused r) = (length bytes ≤ limit_number Bytes) × Breaks bytes o r.rule r.at
+IsCause o bytes (Limit l) = Exceeds bytes o l
+IsCause o bytes ReadFault = ⊥
+IsCause o bytes WriteFault = Conforms bytes o × IsWithinLimits bytes o
+IsCause o bytes Memory = Unit {0}
 
 -- all was written, or the writing ended
 abbrev pub IsEndOfWriting : Ending → Type 0
@@ -60,11 +46,16 @@ IsEndOfWriting ReadFault = ⊥
 IsEndOfWriting WriteFault = Unit {0}
 IsEndOfWriting Memory = Unit {0}
 
--- over a source: why a command ended so, where the source tells what was left
-abbrev pub HasCause : CommandState → Option (List ℕ) → (before now : ℕ) → Ending → Type 0
-HasCause command left before now Usage = ⊥
-HasCause command left before now ReadFault = Rose before now
-HasCause command left before now ending = IfSome left (λ bytes. IsCause command bytes ending)
+-- why a command ended so, where the bytes of the module are told; `read_fault` says that a read of them failed
+abbrev pub HasCause : Options → Option (List ℕ) → (read_fault : Type 0) → Ending → Type 0
+HasCause o bytes read_fault Usage = ⊥
+HasCause o bytes read_fault ReadFault = read_fault
+HasCause o bytes read_fault ending = IfSome bytes (λ b. IsCause o b ending)
+
+-- a read of the module failed: its source counted that; a module that is generated is not read
+abbrev pub ReadFails : Option ℕ → (before now : ℕ) → Type 0
+ReadFails None before now = Rose before now
+ReadFails (Some pieces) before now = ⊥
 
 -- more bytes than the limit were taken from the source
 abbrev pub TakesMore : Option (List ℕ) → Option (List ℕ) → Type 0
@@ -79,6 +70,11 @@ IsRead left rest (Limit l) = IsAtEnd rest ⊎ TakesMore left rest
 IsRead left rest ReadFault = Unit {0}
 IsRead left rest WriteFault = IsAtEnd rest
 IsRead left rest Memory = Unit {0}
+
+-- so it is where the input is the module; where one is generated the source is as it was
+abbrev pub IsReadBy : Option ℕ → (unread : Type 0) → Option (List ℕ) → Option (List ℕ) → Ending → Type 0
+IsReadBy None unread left rest ending = IsRead left rest ending
+IsReadBy (Some pieces) unread left rest ending = unread
 
 -- the front of an answer was appended
 abbrev pub AppendsFront : (List ℕ → Type 0) → Option (List ℕ) → Option (List ℕ) → Type 0

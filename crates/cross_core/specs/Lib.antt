@@ -1,9 +1,8 @@
 pub mod State
-pub mod FirstForm
 pub mod Commands
+pub mod Answers
 pub mod Lines
 pub mod Wrote
 pub mod Endings
 pub mod Carried
-pub mod Grammatical
 pub mod Unread

@@ -1,8 +1,9 @@
 // The command line.
-ghost use Rattle.std.specs.Prelude.{◌≡◌, Some, map, option_map, string_bytes, IfOk, IfErr};
+ghost use Rattle.std.specs.Prelude.{◌≡◌, ◌≤◌, ◌&&◌, nat_le, slice_index, Some, map, option_map, option_and_then, string_bytes, IfOk, IfErr, IfSome};
+ghost use Rattle.profile_rules.specs.Overrides.{at_most, above_zero};
 ghost use Rattle.spec_constants.specs.declared.overrides.Unparsed.TheVariants.{Memory as OutOfMemory};
 ghost use Rattle.module_check.specs.Asked.{asked};
-ghost use Rattle.cross_core.specs.Commands.{command_of as command_named, action_of as action_named, options_of as options_in, named_options, with_entry, is_name as is_entry_name};
+ghost use Rattle.cross_core.specs.Commands.{command_of as command_named, action_of as action_named, options_of as options_in, named_options, with_entry, with_options, generating, pieces_of, is_name as is_entry_name};
 ghost use Rattle.cross_core.specs.Unread.{IsUnread};
 
 use profile_check::Options;
@@ -10,36 +11,53 @@ use spec_constants::{Overrides, Unparsed};
 use std::alloc::Global;
 use std::marker::Model;
 
-/// What is done with the input.
+/// What is done with a module: its text is printed, it is judged, the report on it is written, or the summary of its text.
 #[derive(Clone, Copy, Debug, PartialEq, Eq)]
 pub enum Action {
     Glsl,
     Check,
+    Report,
+    Summary,
 }
 
-/// What is asked of the program: an action, the name of the entry point that is meant where one is
-/// given, and what specialization constants are overridden by.
+/// What is asked of the program: an action; the number of pieces of the module, from 1 to 1000, where it is one that is
+/// generated, and none where it is the input; the name of the entry point that is meant where one is given, and what
+/// specialization constants are overridden by.
 #[derive(Drop)]
 pub struct Command {
     action: Action,
+    pieces: Option<u32>,
     options: Options,
 }
 
 impl Model for Command {
+    ghost use Rattle.std.specs.Prelude.{◌≤◌};
+    ghost use Rattle.std.specs.Option.{ForSome};
     ghost use Rattle.module_check.specs.Asked.{asked};
     ghost use Rattle.cross_core.specs.State.{CommandState};
 
     ghost Value = { CommandState };
 
-    ghost view = { λ c. record { action = c.action; options = asked c.options } };
+    ghost view = { λ c. record { action = c.action; pieces = c.pieces; options = asked c.options } };
+
+    ghost invariant = { λ c. ForSome c.pieces (λ n. (1 ≤ n) × (n ≤ 1000)) };
 }
 
 impl Command {
-    /// What is done with the input.
+    /// What is done with the module.
     pub fn action(&self) -> Action
         ensures { result ≡ self.now.action }
     {
         self.action
+    }
+
+    /// The number of pieces of the module, where it is generated.
+    pub fn pieces(&self) -> Option<u32>
+        ensures pieces { result ≡ self.now.pieces }
+        ensures positive { IfSome result (λ n. 1 ≤ n) }
+        ensures small { IfSome result (λ n. n ≤ 1000) }
+    {
+        self.pieces
     }
 
     /// What is asked of the module.
@@ -57,6 +75,8 @@ fn action_of(word: &str) -> Option<Action>
         Some(Action::Glsl)
     } else if word == "check" {
         Some(Action::Check)
+    } else if word == "report" {
+        Some(Action::Report)
     } else {
         None
     }
@@ -115,6 +135,77 @@ fn options_of(alloc: Global, words: &[&str]) -> Result<Options, Unparsed>
     }
 }
 
+/// Whether a word begins with a digit other than 0.
+fn begins_above_zero(word: &[u8]) -> bool
+    ensures { result ≡ (nat_le 49 (slice_index word.now 0) && nat_le (slice_index word.now 0) 57) }
+{
+    !word.is_empty() && b'1' <= word[0] && word[0] <= b'9'
+}
+
+/// A number of pieces, where it is from 1 to 1000.
+fn in_range(number: u32) -> Option<u32>
+    ensures pieces { result ≡ option_and_then above_zero (at_most 1000 number) }
+    ensures positive { IfSome result (λ n. 1 ≤ n) }
+    ensures small { IfSome result (λ n. n ≤ 1000) }
+{
+    if 1 <= number && number <= 1000 {
+        Some(number)
+    } else {
+        None
+    }
+}
+
+/// The number of pieces that a word is: from 1 to 1000, in decimal without leading zeros.
+fn pieces_in(word: &str) -> Option<u32>
+    ensures pieces { result ≡ pieces_of word.now }
+    ensures positive { IfSome result (λ n. 1 ≤ n) }
+    ensures small { IfSome result (λ n. n ≤ 1000) }
+{
+    if !begins_above_zero(word.as_bytes()) {
+        return None;
+    }
+    match word.parse::<u32>() {
+        Ok(number) => in_range(number),
+        Err(_) => None,
+    }
+}
+
+/// The command that the words behind `gen` are.
+fn generating_command(alloc: Global, words: &[&str]) -> Result<Command, Unparsed>
+    ensures read { IfOk result (λ c. generating (map (λ w. w.now) words.now) ≡ Some c) }
+    ensures unread { IfErr result (IsUnread (generating (map (λ w. w.now) words.now))) }
+{
+    let [word] = words else {
+        return Err(Unparsed::Usage);
+    };
+    let Some(pieces) = pieces_in(*word) else {
+        return Err(Unparsed::Usage);
+    };
+    Ok(Command {
+        action: Action::Summary,
+        pieces: Some(pieces),
+        options: Options {
+            entry: None,
+            overrides: Overrides {
+                pairs: Vec::new(alloc),
+            },
+        },
+    })
+}
+
+/// The command of an action on the input, with the words behind it.
+fn input_command(alloc: Global, action: Action, words: &[&str]) -> Result<Command, Unparsed>
+    ensures read { IfOk result (λ c. with_options (map (λ w. w.now) words.now) action ≡ Some c) }
+    ensures unread { IfErr result (IsUnread (with_options (map (λ w. w.now) words.now) action)) }
+{
+    let options = options_of(alloc, words)?;
+    Ok(Command {
+        action,
+        pieces: None,
+        options,
+    })
+}
+
 /// The command that these words are. `Unparsed::Usage` comes only where they are no command line.
 pub fn command_of(alloc: Global, words: &[&str]) -> Result<Command, Unparsed>
     ensures read { IfOk result (λ c. command_named (map (λ w. w.now) words.now) ≡ Some c) }
@@ -123,9 +214,11 @@ pub fn command_of(alloc: Global, words: &[&str]) -> Result<Command, Unparsed>
     let [word, rest @ ..] = words else {
         return Err(Unparsed::Usage);
     };
-    let Some(action) = action_of(word) else {
+    if *word == "gen" {
+        return generating_command(alloc, rest);
+    }
+    let Some(action) = action_of(*word) else {
         return Err(Unparsed::Usage);
     };
-    let options = options_of(alloc, rest)?;
-    Ok(Command { action, options })
+    input_command(alloc, action, rest)
 }

@@ -1,14 +1,12 @@
-// The program: reads a SPIR-V module from standard input, and writes its GLSL to standard output.
+// The program: reads a SPIR-V module from standard input, and writes its GLSL, or what else is asked of it, to standard output.
 #![tactic(auto)]
 
+mod answers;
 mod commands;
 mod endings;
-mod expressions;
-mod forms;
-mod maker;
+mod modules;
 mod notes;
-mod plan;
-mod statements;
+mod summaries;
 #[cfg(test)]
 mod tests;
 mod top;

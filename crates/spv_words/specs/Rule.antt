@@ -1,7 +1,7 @@
 -- The names of the rules.
 use Rattle.std.specs.Prelude.{ℕ}
 use Rattle.spv_words.specs.declared.rule.Rule.{Rule}
-use Rattle.spv_words.specs.declared.rule.Rule.TheVariants.{W1, W2, W3, W4, W5, W6, W7, W8, W9, X1, X2, X3, X4, P0, P1, P2, P3, P4, P5, P6, P7, P8, P9, P10, P11, P12, P13, P14, P15, P16, P17, P18, P19, P20, T1, T2, T3, T4, T5, T6, T7, T8, T9, T10, T11, T12, T13, T14, T15, T16, T17, T18, T19, T20, T21, T22, T23, T24, T25, L1, L2, L3, L4, L5, L6, L7, M1, M2, M3, M4, M5, M6, A1, A2, A3, A4, A5, K1, K2, K3, K4, K5, K6, K7, K8, K9, K10, K11}
+use Rattle.spv_words.specs.declared.rule.Rule.TheVariants.{W1, W2, W3, W4, W5, W6, W7, W8, W9, X1, X2, X3, X4, P1, P2, P3, P4, P5, P6, P7, P8, P9, P10, P11, P12, P13, P14, P15, P16, P17, P18, P19, P20, T1, T2, T3, T4, T5, T6, T7, T8, T9, T10, T11, T12, T13, T14, T15, T16, T17, T18, T19, T20, T21, T22, T23, T24, T25, L1, L2, L3, L4, L5, L6, L7, M1, M2, M3, M4, M5, M6, A1, A2, A3, A4, A5, K1, K2, K3, K4, K5, K6, K7, K8, K9, K10, K11}
 
 -- the letter of the rule's group, as a byte, and the rule's number in the group
 abbrev pub name_of : Rule → ℕ × ℕ
@@ -18,7 +18,6 @@ name_of X1 = (88, 1)
 name_of X2 = (88, 2)
 name_of X3 = (88, 3)
 name_of X4 = (88, 4)
-name_of P0 = (80, 0)
 name_of P1 = (80, 1)
 name_of P2 = (80, 2)
 name_of P3 = (80, 3)

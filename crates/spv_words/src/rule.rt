@@ -10,7 +10,7 @@ use std::alloc::{AllocError, AllocFailed};
 ///
 /// W: the words; X: the entry point and the overrides; P: the module's instructions, and what it
 /// declares; T: the types of operands; L: the layout of blocks; M: memory; A: atomics and barriers;
-/// K: structured control flow. P0 stands for what is not built yet.
+/// K: structured control flow.
 #[derive(Clone, Copy, Debug, PartialEq, Eq)]
 pub enum Rule {
     W1,
@@ -26,7 +26,6 @@ pub enum Rule {
     X2,
     X3,
     X4,
-    P0,
     P1,
     P2,
     P3,
@@ -135,7 +134,6 @@ impl Rule {
             Rule::X2 => (b'X', 2),
             Rule::X3 => (b'X', 3),
             Rule::X4 => (b'X', 4),
-            Rule::P0 => (b'P', 0),
             Rule::P1 => (b'P', 1),
             Rule::P2 => (b'P', 2),
             Rule::P3 => (b'P', 3),
