@@ -1,7 +1,8 @@
 #!/usr/bin/env python3
-"""Wall time and peak memory of `cross check` beside spirv-val on the same modules, side by side in one run.
+"""Wall time and peak memory of `cross glsl` beside spirv-cross, or of `cross check` beside spirv-val, on the same modules, side by
+side in one run.
 
-    bench/check.py [--runs N] [--every N] MODULE.spv|FOLDER ..
+    bench/compare.py glsl|check [--runs N] [--every N] MODULE.spv|FOLDER ..
 
 Each module is measured with both, in turn, N times (5); the least time and the least memory count. A folder stands for
 all modules below it, or every N-th of them, of which the sums over those that both take are told. Where a module
@@ -10,7 +11,8 @@ thirteen times the time.
 
 A command that takes more than 5 seconds in all is not run again, and one that takes 20 seconds is ended, which its status
 tells. Peak memory is told by GNU time where it is installed; without it, memory below that of this script itself, some
-10 MB, is not told apart. The script skips, with status 0, where spirv-val (Debian's spirv-tools) or the built program is missing.
+10 MB, is not told apart. The script skips, with status 0, where the peer (Debian's spirv-cross or spirv-tools) or the built program
+is missing.
 """
 import argparse
 import os
@@ -21,7 +23,8 @@ import time
 
 TOP = os.path.dirname(os.path.dirname(os.path.abspath(__file__)))
 CROSS = os.environ.get("CROSS", os.path.join(TOP, "crates", "cross_core", "out", "cross_core"))
-PEER = "spirv-val"
+# The commands of the peers; the module's path is their last word.
+PEERS = {"glsl": ["spirv-cross", "--version", "460", "--vulkan-semantics"], "check": ["spirv-val", "--target-env", "vulkan1.3"]}
 GNU_TIME = "/usr/bin/time"
 MOST_SECONDS = 20
 ENOUGH_SECONDS = 5
@@ -78,9 +81,9 @@ def peak(command, module):
     return int(numbers[-1]) if numbers else float("inf")
 
 
-def measured(module, runs):
-    """The costs of `cross check` and of the peer, run in turn."""
-    commands = [[CROSS, "check"], [PEER, "--target-env", "vulkan1.3", module]]
+def measured(action, module, runs):
+    """The costs of `cross` and of the peer, run in turn."""
+    commands = [[CROSS, action], [*PEERS[action], module]]
     costs = [Cost() for _ in commands]
     for _ in range(runs):
         for command, cost in zip(commands, costs):
@@ -93,11 +96,11 @@ def measured(module, runs):
     return costs
 
 
-def told(name, cross, peer):
+def told(action, name, cross, peer):
     """A line on the costs of one module."""
     return (
         f"{name}: cross {cross.seconds * 1000:.1f} ms {cross.kilobytes} kB status {cross.status},"
-        f" {PEER} {peer.seconds * 1000:.1f} ms {peer.kilobytes} kB status {peer.status},"
+        f" {PEERS[action][0]} {peer.seconds * 1000:.1f} ms {peer.kilobytes} kB status {peer.status},"
         f" time x{cross.seconds / peer.seconds:.2f}, memory x{cross.kilobytes / peer.kilobytes:.2f}"
     )
 
@@ -108,47 +111,50 @@ def modules_below(folder, every):
     return sorted(paths)[::every]
 
 
-def sums(folder, every, runs):
+def sums(action, folder, every, runs):
     """Prints the sums over the modules below a folder that both take."""
     modules = modules_below(folder, every)
-    costs = [measured(module, runs) for module in modules]
+    costs = [measured(action, module, runs) for module in modules]
     both = [pair for pair in costs if pair[0].status == 0 and pair[1].status == 0]
     refused = sum(pair[0].status == 2 for pair in costs)
     size = sum(os.path.getsize(module) for module in modules)
     print(f"{folder}: {len(modules)} modules, {size} bytes, {len(both)} taken by both, {refused} refused by cross")
     if not both:
         return
+    other = PEERS[action][0]
     seconds = [sum(pair[side].seconds for pair in both) for side in (0, 1)]
     for name, whole in (("median", statistics.median), ("largest", max)):
         memory = [whole(pair[side].kilobytes for pair in both) for side in (0, 1)]
-        print(f"  {name} memory: cross {memory[0]:.0f} kB, {PEER} {memory[1]:.0f} kB, x{memory[0] / memory[1]:.2f}")
-    print(f"  least times summed: cross {seconds[0]:.3f} s, {PEER} {seconds[1]:.3f} s, x{seconds[0] / seconds[1]:.2f}")
+        print(f"  {name} memory: cross {memory[0]:.0f} kB, {other} {memory[1]:.0f} kB, x{memory[0] / memory[1]:.2f}")
+    print(f"  least times summed: cross {seconds[0]:.3f} s, {other} {seconds[1]:.3f} s, x{seconds[0] / seconds[1]:.2f}")
     worst = sorted(zip(costs, modules), key=lambda row: row[0][1].seconds / row[0][0].seconds)[:3]
     for pair, module in worst:
-        print("  slowest beside it: " + told(os.path.relpath(module, folder), *pair))
+        print("  slowest beside it: " + told(action, os.path.relpath(module, folder), *pair))
 
 
 def main():
-    words = argparse.ArgumentParser(description="cross check beside spirv-val")
+    words = argparse.ArgumentParser(description="cross glsl beside spirv-cross, cross check beside spirv-val")
+    words.add_argument("action", choices=list(PEERS))
     words.add_argument("paths", nargs="+", metavar="MODULE.spv|FOLDER")
     words.add_argument("--runs", type=int, default=5)
     words.add_argument("--every", type=int, default=1)
     given = words.parse_args()
-    if not os.access(CROSS, os.X_OK) or shutil.which(PEER) is None:
-        print(f"skipped: the built program or {PEER} is missing")
+    peer = PEERS[given.action][0]
+    if not os.access(CROSS, os.X_OK) or shutil.which(peer) is None:
+        print(f"skipped: the built program or {peer} is missing")
         return
     times = {}
     for path in given.paths:
         if os.path.isdir(path):
-            sums(path, given.every, given.runs)
+            sums(given.action, path, given.every, given.runs)
             continue
-        cross, peer = measured(path, given.runs)
-        times[path] = (cross.seconds, peer.seconds)
-        print(f"{os.path.getsize(path):8} bytes  " + told(os.path.basename(path), cross, peer), flush=True)
-    for path, (cross, peer) in times.items():
+        ours, theirs = measured(given.action, path, given.runs)
+        times[path] = (ours.seconds, theirs.seconds)
+        print(f"{os.path.getsize(path):8} bytes  " + told(given.action, os.path.basename(path), ours, theirs), flush=True)
+    for path, (ours, theirs) in times.items():
         longer = path[: -len(".spv")] + "-10.spv"
         if longer in times:
-            ratios = f"cross x{times[longer][0] / cross:.1f}, {PEER} x{times[longer][1] / peer:.1f}"
+            ratios = f"cross x{times[longer][0] / ours:.1f}, {peer} x{times[longer][1] / theirs:.1f}"
             print(f"{os.path.basename(path)}: ten times the input costs {ratios}")
 
 
