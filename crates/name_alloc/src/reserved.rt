@@ -1,8 +1,9 @@
 // The words and prefixes that no name may be or begin with: the keywords and the reserved names of
 // GLSL (GLSL 4.60, sections 3.6 and 3.7), and the built-in names that a text uses.
-ghost use Rattle.std.specs.Prelude.{◌≡◌, nat_eq, bytes_eq};
-ghost use Rattle.std.specs.List.{list_any, starts_with};
+ghost use Rattle.std.specs.Prelude.{◌≡◌};
 ghost use Rattle.name_alloc.specs.Reserved.{is_word as word_is_reserved, has_prefix};
+
+use word_search::{begins_any, is_among};
 
 const PREFIXES: [&str; 25] = [
     "gl_",
@@ -32,6 +33,7 @@ const PREFIXES: [&str; 25] = [
     "memoryBarrier",
 ];
 
+// In order.
 const WORDS: [&str; 93] = [
     "active",
     "all",
@@ -128,22 +130,6 @@ const WORDS: [&str; 93] = [
     "writeonly",
 ];
 
-/// Whether the text begins with one of the prefixes.
-fn begins_any(prefixes: &[&str], text: &str) -> bool
-    ensures { result ≡ list_any (λ p. starts_with nat_eq text.now p.now) prefixes.now }
-{
-    prefixes
-        .iter()
-        .any(|prefix| text.as_bytes().starts_with(prefix.as_bytes()))
-}
-
-/// Whether the text is one of the words.
-fn is_any(words: &[&str], text: &str) -> bool
-    ensures { result ≡ list_any (λ w. bytes_eq text.now w.now) words.now }
-{
-    words.iter().any(|word| text == *word)
-}
-
 /// Whether the text begins with a reserved prefix.
 #[tactic(auto, unfolding(crate::specs::Reserved::has_prefix))]
 pub fn begins_reserved(text: &str) -> bool
@@ -157,5 +143,5 @@ pub fn begins_reserved(text: &str) -> bool
 pub fn is_reserved(text: &str) -> bool
     ensures { result ≡ word_is_reserved text.now }
 {
-    is_any(&WORDS, text)
+    is_among(&WORDS, text)
 }

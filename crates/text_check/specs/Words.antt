@@ -1,20 +1,11 @@
 -- Tests of names, and the names that structs have.
-use Rattle.std.specs.Prelude.{ℕ, ◌&&◌, ◌||◌, not, Bool, true, false, List, [], ◌∷◌, is_some, is_none, bytes_eq, String}
+use Rattle.std.specs.Prelude.{◌&&◌, ◌||◌, not, Bool, false, [], ◌∷◌, is_some, bytes_eq, String}
 use Rattle.std.specs.BTreeSet.{BTreeSet, contains_text}
 use Rattle.std.specs.List.{list_all}
-use Rattle.std.specs.Ordering.{nat_cmp, is_lt}
-use Rattle.std.specs.Cmp.Lexicographic.{slice_cmp}
 use Rattle.std.specs.Global.{Global}
-use Rattle.std.specs.Borrow.{Bor}
 use Rattle.glsl_ast.specs.Tree as tree
 use Rattle.glsl_ast.specs.Tree.{Text, Decl}
 use Rattle.glsl_grammar.specs.Lex.{is_digit, is_word, keywords, token_in}
-
--- no word is below the one before it
-abbrev pub is_rising : List (Bor Text) → Bool
-is_rising [] = true
-is_rising (v ∷ []) = true
-is_rising (v ∷ w ∷ ws) = not (is_lt (slice_cmp nat_cmp w.now v.now)) && is_rising (w ∷ ws)
 
 -- one of the words that have a token of their own
 abbrev pub is_keyword : Text → Bool

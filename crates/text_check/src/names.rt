@@ -1,15 +1,16 @@
 // Names, and those of them that structs have (GLSL 4.60, sections 3.6 and 3.7).
-ghost use Rattle.std.specs.Prelude.{◌≡◌, OnOk, IsTrue, bytes_eq};
-ghost use Rattle.std.specs.List.{list_any, list_all};
+ghost use Rattle.std.specs.Prelude.{◌≡◌, OnOk};
+ghost use Rattle.std.specs.List.{list_all};
 ghost use Rattle.glsl_ast.specs.Tree.{Text};
 ghost use Rattle.glsl_ast.specs.View.{decl_of};
 ghost use Rattle.glsl_grammar.specs.Lex.{is_word};
 ghost use Rattle.text_check.specs.Words as words;
-ghost use Rattle.text_check.specs.Words.{is_rising, declares, declared_after};
+ghost use Rattle.text_check.specs.Words.{declares, declared_after};
 
 use glsl_ast::Decl;
 use spv_words::Memory;
 use std::collections::BTreeSet;
+use word_search::is_among;
 
 /// The names of the structs that are declared.
 pub type Structs = BTreeSet<String>;
@@ -55,14 +56,6 @@ const KEYWORDS: [&str; 38] = [
     "volatile",
     "writeonly",
 ];
-
-/// Whether the text is one of the words, which are in order.
-fn is_among(words: &[&str], text: &str) -> bool
-    requires { IsTrue (is_rising words.now) }
-    ensures { result ≡ list_any (λ w. bytes_eq w.now text.now) words.now }
-{
-    words.binary_search(&text).is_ok()
-}
 
 fn is_keyword(text: &str) -> bool
     ensures { result ≡ words.is_keyword text.now }

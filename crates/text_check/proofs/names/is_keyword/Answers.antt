@@ -1,4 +1,4 @@
-use Rattle.std.proofs.Common.{refl, ◌∙◌}
+use Rattle.std.proofs.Common.{◌∙◌}
 use Rattle.text_check.proofs.Keywords.{are_keywords}
 use Rattle.text_check.proofs.names.is_keyword.Goals as goal
 
