@@ -1,5 +1,5 @@
 -- The table of opcodes.
-use Rattle.std.specs.Prelude.{◌+◌, nat_le, nat_lt, ◌&&◌, if◌then◌else◌, ℕ, List, [], ◌∷◌, Bool, true, false, ◌==◌, find, option_map, Option}
+use Rattle.std.specs.Prelude.{◌+◌, nat_le, nat_lt, ◌&&◌, if◌then◌else◌, ℕ, List, [], ◌∷◌, Bool, true, false, ◌==◌, find, option_map, option_and_then, Option, Some, None, slice_get}
 use Rattle.std.specs.Option.{option_map_or}
 use Rattle.std.specs.List.{list_all}
 use Rattle.spv_ops.specs.declared.class.OpClass.{OpClass}
@@ -149,6 +149,15 @@ table =
 abbrev pub is_rising : List Row → Bool
 is_rising [] = true
 is_rising (r ∷ rs) = list_all (λ later. nat_lt r.0 later.0) rs && is_rising rs
+
+-- the row at a place, where it is that of the opcode
+abbrev pub at_place : List Row → ℕ → ℕ → Option Row
+at_place rows place opcode = option_and_then (λ (r : Row). if r.0 == opcode then Some r else None) (slice_get rows place)
+
+-- these rows have the numbers from n on, and each stands in the list of places at its opcode
+abbrev pub are_placed : ℕ → List Row → List ℕ → Bool
+are_placed n [] places = true
+are_placed n (r ∷ rs) places = option_map_or (λ p. p == n) (slice_get places r.0) false && are_placed (n + 1) rs places
 
 -- the row of an opcode, where the table has one
 unfoldable pub row_of : ℕ → Option Row

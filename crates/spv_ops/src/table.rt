@@ -1,6 +1,6 @@
-// The table of opcodes, and a search in it.
-ghost use Rattle.std.specs.Prelude.{◌≡◌, ◌==◌, IfSome, IsTrue, find};
-ghost use Rattle.spv_ops.specs.Table.{row_of as row_in_table, shape_of as shape_in_table, operands_of as operands_in_table, has_room, is_rising};
+// The table of opcodes, and the way to a row of it.
+ghost use Rattle.std.specs.Prelude.{◌≡◌, ◌==◌, IfSome, IsTrue, find, slice_get};
+ghost use Rattle.spv_ops.specs.Table.{row_of as row_in_table, shape_of as shape_in_table, operands_of as operands_in_table, has_room, is_rising, are_placed, at_place};
 
 use crate::OpClass::{Barrier, Call, Debug, Flow, Global, Head, Memory, Pure};
 use crate::Operands::{EntryPoint, IdLiteralIds, IdsFirst, LiteralsFirst, SpecConstantOp, Switch};
@@ -139,6 +139,25 @@ static TABLE: [Row; 125] = [
     (400, true, true, 4, 4, Pure, LiteralsFirst(0)),
 ];
 
+// For each opcode the place of its row; of one that has none, the place of another row.
+static PLACES: [usize; 401] = [
+    0, 1, 2, 3, 4, 5, 6, 7, 8, 0, 9, 10, 11, 0, 12, 13, 14, 15, 0, 16, 17, 18, 0, 19, 0, 0, 0, 0,
+    20, 21, 22, 0, 23, 24, 0, 0, 0, 0, 0, 0, 0, 25, 26, 27, 28, 0, 29, 0, 30, 31, 32, 33, 34, 0,
+    35, 36, 37, 38, 0, 39, 0, 40, 41, 0, 0, 42, 43, 0, 44, 0, 0, 45, 46, 0, 0, 0, 0, 47, 48, 49,
+    50, 51, 52, 53, 0, 0, 0, 0, 0, 0, 0, 0, 0, 0, 0, 0, 0, 0, 0, 0, 0, 0, 0, 0, 0, 0, 0, 0, 0, 0,
+    0, 0, 0, 0, 0, 0, 0, 0, 0, 0, 0, 0, 0, 0, 54, 0, 55, 0, 56, 0, 57, 0, 58, 0, 59, 60, 0, 61, 62,
+    63, 0, 0, 0, 0, 0, 0, 0, 0, 0, 0, 0, 0, 0, 0, 64, 65, 0, 0, 0, 0, 0, 0, 0, 0, 66, 67, 68, 69,
+    70, 71, 72, 73, 74, 75, 76, 77, 78, 79, 80, 81, 0, 0, 0, 0, 0, 0, 0, 0, 0, 0, 0, 0, 0, 0, 82,
+    83, 84, 85, 86, 87, 88, 89, 90, 91, 92, 93, 0, 0, 0, 0, 0, 0, 0, 0, 0, 0, 0, 0, 0, 0, 0, 0, 0,
+    0, 94, 95, 0, 96, 97, 98, 99, 0, 100, 101, 102, 103, 104, 105, 106, 107, 108, 109, 110, 0, 0,
+    111, 112, 113, 114, 115, 116, 117, 0, 118, 119, 120, 0, 0, 0, 0, 0, 0, 0, 0, 0, 0, 0, 0, 0, 0,
+    0, 0, 0, 0, 0, 0, 0, 0, 0, 0, 0, 0, 0, 0, 0, 0, 0, 0, 0, 0, 0, 0, 0, 0, 0, 0, 0, 0, 0, 0, 0, 0,
+    0, 0, 0, 0, 0, 0, 0, 0, 0, 0, 0, 0, 0, 0, 0, 121, 0, 0, 0, 0, 0, 0, 0, 0, 0, 0, 0, 0, 122, 123,
+    0, 0, 0, 0, 0, 0, 0, 0, 0, 0, 0, 0, 0, 0, 0, 0, 0, 0, 0, 0, 0, 0, 0, 0, 0, 0, 0, 0, 0, 0, 0, 0,
+    0, 0, 0, 0, 0, 0, 0, 0, 0, 0, 0, 0, 0, 0, 0, 0, 0, 0, 0, 0, 0, 0, 0, 0, 0, 0, 0, 0, 0, 0, 0, 0,
+    0, 0, 0, 0, 124,
+];
+
 /// The shape of an opcode, or none where the table lacks it.
 #[tactic(auto, using(crate::proofs::Rows::shape_room))]
 pub fn shape_of(opcode: u16) -> Option<OpShape>
@@ -173,15 +192,33 @@ pub fn operands_of(opcode: u16) -> Operands
 fn row_of(opcode: u16) -> Option<Row>
     ensures { result ≡ row_in_table opcode }
 {
-    find_row(&TABLE, opcode)
+    find_row(&TABLE, &PLACES, opcode)
 }
 
-fn find_row(rows: &[Row], opcode: u16) -> Option<Row>
-    requires { IsTrue (is_rising rows.now) }
+/// The row of an opcode, where these are the places of the rows by their opcodes.
+fn find_row(rows: &[Row], places: &[usize], opcode: u16) -> Option<Row>
+    requires rising { IsTrue (is_rising rows.now) }
+    requires places { IsTrue (are_placed 0 rows.now places.now) }
     ensures { result ≡ find (λ r. r.0 == opcode) rows.now }
 {
-    match rows.binary_search_by_key(&opcode, |row| row.0) {
-        Ok(i) => Some(rows[i]),
-        Err(_) => None,
+    match place_of(places, opcode) {
+        None => None,
+        Some(place) => row_at(rows, place, opcode),
+    }
+}
+
+fn place_of(places: &[usize], opcode: u16) -> Option<usize>
+    ensures { result ≡ slice_get places.now opcode }
+{
+    places.get(opcode as usize).copied()
+}
+
+/// The row at a place, where it is that of the opcode.
+fn row_at(rows: &[Row], place: usize, opcode: u16) -> Option<Row>
+    ensures { result ≡ at_place rows.now place opcode }
+{
+    match rows.get(place) {
+        Some(row) if row.0 == opcode => Some(*row),
+        Some(_) | None => None,
     }
 }

@@ -1,14 +1,11 @@
-use Rattle.std.proofs.Common.{rules, sym}
-use Rattle.std.proofs.lemmas.List.Sorted.{answers_always}
-use Rattle.spv_ops.proofs.Search.{searched_at, searched_none}
+use Rattle.std.proofs.Common.{◌∙◌, sym}
+use Rattle.spv_ops.proofs.Search.{unplaced, placed_row}
 use Rattle.spv_ops.proofs.table.find_row.Goals as goal
 
-pub returns-in-Ok : goal.returns-in-Ok
-returns-in-Ok c =
-    let by_opcode = c.in-Ok.ensures.position (λ row. row.0) (answers_always _ _ _ (λ f a r g called. search rules)) in
-    sym (searched_at c.args.rows.now c.args.opcode c.in-Ok.i _ c.requires c.in-Ok.ensures.bound by_opcode)
+pub returns-in-None : goal.returns-in-None
+returns-in-None c = sym (unplaced c.args.rows.now c.args.places.now c.args.opcode c.requires.places (sym c.place_of.ensures ∙ c.in-None.is))
 
-pub returns-in-Err : goal.returns-in-Err
-returns-in-Err c =
-    let by_opcode = c.in-Err.ensures.position (λ row. row.0) (answers_always _ _ _ (λ f a r g called. search rules)) in
-    sym (searched_none c.args.rows.now c.args.opcode c.in-Err.field-0 c.requires c.in-Err.ensures.bound by_opcode)
+pub returns-in-Some : goal.returns-in-Some
+returns-in-Some c =
+    c.row_at.ensures
+    ∙ placed_row c.args.rows.now c.args.places.now c.args.opcode c.in-Some.place c.requires.rising c.requires.places (sym c.place_of.ensures ∙ c.in-Some.is)
