@@ -12,12 +12,12 @@ ghost use Rattle.profile_rules.specs.Places.{is_defined_elsewhere, body_insts};
 use crate::elsewhere::defined_elsewhere;
 use crate::kernel::is_type;
 use crate::rows::{behind, body_rows};
+use id_map::IdSet;
 use spv_decor::Decor;
 use spv_index::{Pointer, ValueTypes, pointer};
 use spv_module::{Function, Id, Inst, Module};
 use spv_words::Memory;
 use std::alloc::Global;
-use std::collections::BTreeSet;
 use std::marker::Model;
 
 /// A module with what is kept beside it. Contracts see the module.
@@ -26,14 +26,13 @@ pub struct Context<'a> {
     module: &'a Module,
     decor: &'a Decor<'a>,
     body: Vec<&'a Inst>,
-    elsewhere: BTreeSet<u32>,
+    elsewhere: IdSet,
     value_types: ValueTypes<'a>,
 }
 
 impl<'a> Model for Context<'a> {
     ghost use Rattle.std.specs.Prelude.{map};
-    ghost use Rattle.std.specs.BTreeSet.{contains};
-    ghost use Rattle.std.specs.Ordering.{nat_cmp};
+    ghost use Rattle.id_map.specs.Entries.{is_in};
     ghost use Rattle.spv_module.specs.State.{ModuleState};
 
     ghost Value = { ModuleState };
@@ -42,7 +41,7 @@ impl<'a> Model for Context<'a> {
 
     ghost view = { λ c. c.«module».now };
 
-    ghost invariant = { λ c. IsContext c.«module».now c.decor.now (map (λ i. i.now) c.body.items) (contains nat_cmp c.elsewhere) c.value_types };
+    ghost invariant = { λ c. IsContext c.«module».now c.decor.now (map (λ i. i.now) c.body.items) (is_in c.elsewhere) c.value_types };
 }
 
 impl<'a> Context<'a> {
@@ -55,13 +54,22 @@ impl<'a> Context<'a> {
         requires { decor.now ≡ «module».now.heads }
         ensures { IfOk result (λ context. context ≡ «module».now) }
     {
+        let body = body_rows(alloc, module)?;
+        let elsewhere = defined_elsewhere(alloc, module, body.len())?;
         Ok(Context {
             module,
             decor,
-            body: body_rows(alloc, module)?,
-            elsewhere: defined_elsewhere(alloc, module)?,
+            body,
+            elsewhere,
             value_types: ValueTypes::of(alloc, module)?,
         })
+    }
+
+    /// The bound of the ids.
+    pub fn bound(&self) -> u32
+        ensures { result ≡ self.now.bound }
+    {
+        self.module.bound()
     }
 
     /// The head instructions and names.
@@ -133,7 +141,7 @@ impl<'a> Context<'a> {
     pub fn is_defined_elsewhere(&self, id: u32) -> bool
         ensures { result ≡ is_defined_elsewhere self.now id }
     {
-        self.elsewhere.contains(&id)
+        self.elsewhere.has(id)
     }
 
     /// Whether the id is that of a type that is no value type.

@@ -1,14 +1,23 @@
 // The rule on SpecIds.
-ghost use Rattle.std.specs.Prelude.{◌≡◌};
+ghost use Rattle.std.specs.Prelude.{◌≡◌, ◌==◌, ◌||◌, ℕ, OnOk};
+ghost use Rattle.std.specs.BTreeSet.{contains};
+ghost use Rattle.std.specs.Ordering.{nat_cmp};
 ghost use Rattle.spv_words.specs.declared.rule.Rule.TheVariants.{P20};
 ghost use Rattle.profile_rules.specs.TypeForm.{p20};
 ghost use Rattle.declaration_check.specs.Checked.{IsChecked};
 
 use crate::context::Context;
-use crate::elsewhere::add_id;
 use spv_words::{Fault, Refusal, Rule};
-use std::alloc::Global;
+use std::alloc::{AllocError, Global};
 use std::collections::BTreeSet;
+
+/// Adds a SpecId.
+fn add_id(ids: &mut BTreeSet<u32>, id: u32) -> Result<(), AllocError>
+    ensures { OnOk result ((other : ℕ) → contains nat_cmp ids.new other ≡ (contains nat_cmp ids.old other || (id == other))) }
+{
+    ids.insert(id)?;
+    Ok(())
+}
 
 /// P20: two constants have the same SpecId (SPIR-V 1.6, section 3.20).
 pub fn check_spec_ids(alloc: Global, context: &Context) -> Result<(), Fault>

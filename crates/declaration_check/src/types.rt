@@ -2,8 +2,7 @@
 ghost use Rattle.std.specs.Prelude.{◌≡◌, ◌==◌, ◌||◌, not, false, find, drop};
 ghost use Rattle.std.specs.Option.{option_copied, option_map_or};
 ghost use Rattle.std.specs.List.{list_any};
-ghost use Rattle.std.specs.BTreeSet.{contains};
-ghost use Rattle.std.specs.Ordering.{nat_cmp};
+ghost use Rattle.id_map.specs.Entries.{is_in};
 ghost use Rattle.spv_module.specs.Held.{global};
 ghost use Rattle.spv_words.specs.declared.rule.Rule.TheVariants.{P17, P18, P19};
 ghost use Rattle.profile_rules.specs.TypeForm.{is_misused as is_misused_in, is_other_int as is_other_int_row, is_no_scalar as is_no_scalar_in, is_other_vector as is_other_vector_in, is_signed as is_signed_in, is_above_zero as is_above_zero_in, is_no_int as is_no_int_in, is_workgroup_length as is_workgroup_length_in, is_length as is_length_in, is_other_array as is_other_array_in, is_empty_struct as is_empty_struct_row, is_no_data as is_no_data_in, parts_of as parts_in, is_misformed as is_misformed_in, is_other_pointer as is_other_pointer_in, is_no_variable as is_no_variable_in, is_other_parameter as is_other_parameter_in, is_other_result as is_other_result_in, is_other_function as is_other_function_in, p17, p18, p19};
@@ -20,15 +19,15 @@ use std::alloc::Global;
 
 /// Whether this is a struct decorated Block, or OpTypeRuntimeArray, that is used otherwise.
 fn is_misused(context: &Context, uses: &Misuses, inst: &Inst) -> bool
-    requires { AreMisuses context.now (contains nat_cmp uses.now.blocks) (contains nat_cmp uses.now.runtimes) }
+    requires { AreMisuses context.now (is_in uses.now.blocks) (is_in uses.now.runtimes) }
     ensures { result ≡ is_misused_in context.now inst.now }
 {
-    inst.op == 30 && context.is_block(inst.result) && uses.blocks.contains(&inst.result)
-        || inst.op == 29 && uses.runtimes.contains(&inst.result)
+    inst.op == 30 && context.is_block(inst.result) && uses.blocks.has(inst.result)
+        || inst.op == 29 && uses.runtimes.has(inst.result)
 }
 
 fn first_misused<'a>(context: &Context<'a>, uses: &Misuses) -> Option<&'a Inst>
-    requires { AreMisuses context.now (contains nat_cmp uses.now.blocks) (contains nat_cmp uses.now.runtimes) }
+    requires { AreMisuses context.now (is_in uses.now.blocks) (is_in uses.now.runtimes) }
     ensures { option_copied result ≡ find (is_misused_in context.now) context.now.globals }
 {
     context
@@ -102,17 +101,15 @@ fn is_no_int(context: &Context, constant: &Inst) -> bool
 /// Whether a specialization constant may be the length of an array: it is an int, a Workgroup variable
 /// is or holds the array, and nothing else does.
 fn is_workgroup_length(context: &Context, holders: &Holders, constant: &Inst, array: u32) -> bool
-    requires { AreHolders context.now (contains nat_cmp holders.now.workgroup) (contains nat_cmp holders.now.others) }
+    requires { AreHolders context.now (is_in holders.now.workgroup) (is_in holders.now.others) }
     ensures { result ≡ is_workgroup_length_in context.now constant.now array }
 {
-    !is_no_int(context, constant)
-        && holders.workgroup.contains(&array)
-        && !holders.others.contains(&array)
+    !is_no_int(context, constant) && holders.workgroup.has(array) && !holders.others.has(array)
 }
 
 /// Whether a global instruction may be the length of an array.
 fn is_length(context: &Context, holders: &Holders, array: u32, constant: &Inst) -> bool
-    requires { AreHolders context.now (contains nat_cmp holders.now.workgroup) (contains nat_cmp holders.now.others) }
+    requires { AreHolders context.now (is_in holders.now.workgroup) (is_in holders.now.others) }
     ensures { result ≡ is_length_in context.now array constant.now }
 {
     if constant.op == 43 {
@@ -124,7 +121,7 @@ fn is_length(context: &Context, holders: &Holders, array: u32, constant: &Inst) 
 
 /// Whether an id is that of no length of an array.
 fn is_no_length(context: &Context, holders: &Holders, array: u32, id: u32) -> bool
-    requires { AreHolders context.now (contains nat_cmp holders.now.workgroup) (contains nat_cmp holders.now.others) }
+    requires { AreHolders context.now (is_in holders.now.workgroup) (is_in holders.now.others) }
     ensures { result ≡ option_map_or (λ c. not (is_length_in context.now array c)) (global context.now.globals id) (is_defined_elsewhere context.now id) }
 {
     match context.global(id) {
@@ -135,7 +132,7 @@ fn is_no_length(context: &Context, holders: &Holders, array: u32, id: u32) -> bo
 
 /// OpTypeArray of another length.
 fn is_other_array(context: &Context, holders: &Holders, inst: &Inst) -> bool
-    requires { AreHolders context.now (contains nat_cmp holders.now.workgroup) (contains nat_cmp holders.now.others) }
+    requires { AreHolders context.now (is_in holders.now.workgroup) (is_in holders.now.others) }
     ensures { result ≡ is_other_array_in context.now inst.now }
 {
     inst.op == 28 && is_no_length(context, holders, inst.result, inst.operand(1))
@@ -166,7 +163,7 @@ fn holds_no_data(context: &Context, inst: &Inst) -> bool
 
 /// Whether an int, vector, array or struct is not formed as it has to be.
 fn is_misformed(context: &Context, holders: &Holders, inst: &Inst) -> bool
-    requires { AreHolders context.now (contains nat_cmp holders.now.workgroup) (contains nat_cmp holders.now.others) }
+    requires { AreHolders context.now (is_in holders.now.workgroup) (is_in holders.now.others) }
     ensures { result ≡ is_misformed_in context.now inst.now }
 {
     is_other_int(inst)
@@ -177,7 +174,7 @@ fn is_misformed(context: &Context, holders: &Holders, inst: &Inst) -> bool
 }
 
 fn first_misformed<'a>(context: &Context<'a>, holders: &Holders) -> Option<&'a Inst>
-    requires { AreHolders context.now (contains nat_cmp holders.now.workgroup) (contains nat_cmp holders.now.others) }
+    requires { AreHolders context.now (is_in holders.now.workgroup) (is_in holders.now.others) }
     ensures { option_copied result ≡ find (is_misformed_in context.now) context.now.globals }
 {
     context

@@ -1,16 +1,15 @@
 // What the types of a module are used for.
 ghost use Rattle.std.specs.Prelude.{◌≡◌, ◌++◌, ◌∷◌, ◌||◌, ℕ, ◌-◌, ◌&&◌, length, take, map, flat_map, IfOk, OnOk};
-ghost use Rattle.std.specs.BTreeSet.{contains};
-ghost use Rattle.std.specs.Ordering.{nat_cmp};
+ghost use Rattle.id_map.specs.Entries.{is_in as has_id};
 ghost use Rattle.profile_rules.specs.Places.{is_among};
 ghost use Rattle.profile_rules.specs.TypeForm.{parts_of as parts_in, pointee_by as pointee_of, pointees as pointees_in, value_type as value_type_of, value_types as value_types_in, signature, signature_types as signature_types_in, block_misuses as block_misuses_in, is_storage_block as is_storage_block_in, fixed_parts as fixed_parts_in, runtime_misuses as runtime_misuses_in, other_types as other_types_in, is_held};
 ghost use Rattle.declaration_check.specs.Classes.{is_in, AreMisuses, AreHolders};
 
 use crate::context::Context;
 use crate::variables::is_variable;
+use id_map::IdSet;
 use spv_module::{Function, Id, Inst};
 use std::alloc::{AllocError, Global};
-use std::collections::BTreeSet;
 
 /// Sets of storage classes: all; Workgroup; all but Workgroup; all but StorageBuffer; all but Uniform,
 /// StorageBuffer and PushConstant.
@@ -152,8 +151,8 @@ fn all_parts(alloc: Global, context: &Context) -> Result<Vec<u32>, AllocError>
 }
 
 /// Adds ids to a set.
-fn add_ids(set: &mut BTreeSet<u32>, ids: &[u32]) -> Result<(), AllocError>
-    ensures { OnOk result ((id : ℕ) → contains nat_cmp set.new id ≡ (contains nat_cmp set.old id || is_among ids.now id)) }
+fn add_ids(set: &mut IdSet, ids: &[u32]) -> Result<(), AllocError>
+    ensures { OnOk result ((id : ℕ) → has_id set.new id ≡ (has_id set.old id || is_among ids.now id)) }
 {
     for id in ids {
         set.insert(*id)?;
@@ -161,10 +160,10 @@ fn add_ids(set: &mut BTreeSet<u32>, ids: &[u32]) -> Result<(), AllocError>
     Ok(())
 }
 
-fn set_of(alloc: Global, ids: &[u32]) -> Result<BTreeSet<u32>, AllocError>
-    ensures { IfOk result (λ set. (id : ℕ) → contains nat_cmp set id ≡ is_among ids.now id) }
+fn set_of(alloc: Global, context: &Context, ids: &[u32]) -> Result<IdSet, AllocError>
+    ensures { IfOk result (λ set. (id : ℕ) → has_id set id ≡ is_among ids.now id) }
 {
-    let mut set = BTreeSet::new(alloc);
+    let mut set = IdSet::below(alloc, context.bound(), ids.len())?;
     add_ids(&mut set, ids)?;
     Ok(set)
 }
@@ -182,16 +181,16 @@ fn block_misuses(alloc: Global, context: &Context) -> Result<Vec<u32>, AllocErro
 
 /// Whether a struct is a Block that no variable of another class than StorageBuffer points to, where
 /// `others` are the types that such variables point to.
-fn is_storage_block(context: &Context, others: &BTreeSet<u32>, inst: &Inst) -> bool
-    requires { (id : ℕ) → contains nat_cmp others.now id ≡ is_among (pointees_in context.now (is_in Classes.OtherThanStorage)) id }
+fn is_storage_block(context: &Context, others: &IdSet, inst: &Inst) -> bool
+    requires { (id : ℕ) → has_id others.now id ≡ is_among (pointees_in context.now (is_in Classes.OtherThanStorage)) id }
     ensures { result ≡ is_storage_block_in context.now inst.now }
 {
-    context.is_block(inst.result) && !others.contains(&inst.result)
+    context.is_block(inst.result) && !others.has(inst.result)
 }
 
 /// The parts of a type that may be no runtime array.
-fn fixed_parts<'a>(context: &Context, others: &BTreeSet<u32>, inst: &'a Inst) -> &'a [u32]
-    requires { (id : ℕ) → contains nat_cmp others.now id ≡ is_among (pointees_in context.now (is_in Classes.OtherThanStorage)) id }
+fn fixed_parts<'a>(context: &Context, others: &IdSet, inst: &'a Inst) -> &'a [u32]
+    requires { (id : ℕ) → has_id others.now id ≡ is_among (pointees_in context.now (is_in Classes.OtherThanStorage)) id }
     ensures { result.now ≡ fixed_parts_in context.now inst.now }
 {
     if inst.op == 30 && is_storage_block(context, others, inst) {
@@ -212,12 +211,8 @@ fn all_but_last(ids: &[u32]) -> &[u32]
 }
 
 /// The parts of all types that may be no runtime array.
-fn all_fixed_parts(
-    alloc: Global,
-    context: &Context,
-    others: &BTreeSet<u32>,
-) -> Result<Vec<u32>, AllocError>
-    requires { (id : ℕ) → contains nat_cmp others.now id ≡ is_among (pointees_in context.now (is_in Classes.OtherThanStorage)) id }
+fn all_fixed_parts(alloc: Global, context: &Context, others: &IdSet) -> Result<Vec<u32>, AllocError>
+    requires { (id : ℕ) → has_id others.now id ≡ is_among (pointees_in context.now (is_in Classes.OtherThanStorage)) id }
     ensures { IfOk result (λ ids. ids.items ≡ flat_map (fixed_parts_in context.now) context.now.globals) }
 {
     let mut ids = Vec::new(alloc);
@@ -231,7 +226,11 @@ fn all_fixed_parts(
 fn runtime_misuses(alloc: Global, context: &Context) -> Result<Vec<u32>, AllocError>
     ensures { IfOk result (λ ids. ids.items ≡ runtime_misuses_in context.now) }
 {
-    let others = set_of(alloc, &pointees(alloc, context, Classes::OtherThanStorage)?)?;
+    let others = set_of(
+        alloc,
+        context,
+        &pointees(alloc, context, Classes::OtherThanStorage)?,
+    )?;
     let mut ids = all_fixed_parts(alloc, context, &others)?;
     ids.extend_from_slice(&pointees(alloc, context, Classes::Any)?)?;
     ids.extend_from_slice(&value_types(alloc, context)?)?;
@@ -242,25 +241,25 @@ fn runtime_misuses(alloc: Global, context: &Context) -> Result<Vec<u32>, AllocEr
 /// The ids of the types that are used as no Block struct may be, and as no runtime array may be.
 #[derive(Drop)]
 pub struct Misuses {
-    pub blocks: BTreeSet<u32>,
-    pub runtimes: BTreeSet<u32>,
+    pub blocks: IdSet,
+    pub runtimes: IdSet,
 }
 
 /// How types are used that may be Block structs or runtime arrays.
 pub fn find_misuses(alloc: Global, context: &Context) -> Result<Misuses, AllocError>
-    ensures { IfOk result (λ uses. AreMisuses context.now (contains nat_cmp uses.blocks) (contains nat_cmp uses.runtimes)) }
+    ensures { IfOk result (λ uses. AreMisuses context.now (has_id uses.blocks) (has_id uses.runtimes)) }
 {
     Ok(Misuses {
-        blocks: set_of(alloc, &block_misuses(alloc, context)?)?,
-        runtimes: set_of(alloc, &runtime_misuses(alloc, context)?)?,
+        blocks: set_of(alloc, context, &block_misuses(alloc, context)?)?,
+        runtimes: set_of(alloc, context, &runtime_misuses(alloc, context)?)?,
     })
 }
 
 /// Adds the parts of a type that is in the set.
-fn add_parts(set: &mut BTreeSet<u32>, inst: &Inst) -> Result<(), AllocError>
-    ensures { OnOk result ((id : ℕ) → contains nat_cmp set.new id ≡ (contains nat_cmp set.old id || ((contains nat_cmp set.old inst.now.result) && is_among (parts_in inst.now) id))) }
+fn add_parts(set: &mut IdSet, inst: &Inst) -> Result<(), AllocError>
+    ensures { OnOk result ((id : ℕ) → has_id set.new id ≡ (has_id set.old id || ((has_id set.old inst.now.result) && is_among (parts_in inst.now) id))) }
 {
-    if set.contains(&inst.result) {
+    if set.has(inst.result) {
         add_ids(set, parts_of(inst))?;
     }
     Ok(())
@@ -268,11 +267,11 @@ fn add_parts(set: &mut BTreeSet<u32>, inst: &Inst) -> Result<(), AllocError>
 
 /// These types and all that they hold, from the last to the first, as what holds a type stands after
 /// it.
-fn held(alloc: Global, context: &Context, types: &[u32]) -> Result<BTreeSet<u32>, AllocError>
-    ensures { IfOk result (λ set. (id : ℕ) → contains nat_cmp set id ≡ is_held context.now.globals types.now id) }
+fn held(alloc: Global, context: &Context, types: &[u32]) -> Result<IdSet, AllocError>
+    ensures { IfOk result (λ set. (id : ℕ) → has_id set id ≡ is_held context.now.globals types.now id) }
 {
     let globals = context.globals();
-    let mut set = set_of(alloc, types)?;
+    let mut set = set_of(alloc, context, types)?;
     let mut left = globals.len();
     while left > 0 {
         left -= 1;
@@ -294,13 +293,13 @@ fn other_types(alloc: Global, context: &Context) -> Result<Vec<u32>, AllocError>
 /// values of functions are or hold.
 #[derive(Drop)]
 pub struct Holders {
-    pub workgroup: BTreeSet<u32>,
-    pub others: BTreeSet<u32>,
+    pub workgroup: IdSet,
+    pub others: IdSet,
 }
 
 /// What holds types that may be arrays whose length is a specialization constant.
 pub fn find_holders(alloc: Global, context: &Context) -> Result<Holders, AllocError>
-    ensures { IfOk result (λ h. AreHolders context.now (contains nat_cmp h.workgroup) (contains nat_cmp h.others)) }
+    ensures { IfOk result (λ h. AreHolders context.now (has_id h.workgroup) (has_id h.others)) }
 {
     let workgroup = pointees(alloc, context, Classes::Workgroup)?;
     let others = other_types(alloc, context)?;

@@ -1,6 +1,7 @@
 -- What a plan of a function claims names for.
 use Rattle.std.specs.BTreeSet.{contains}
 use Rattle.std.specs.Ordering.{nat_cmp}
+use Rattle.id_map.specs.Entries.{is_in}
 use Rattle.hoist_plan.specs.Kept.{is_carried_in}
 use Rattle.text_rules.specs.Claims.{Plan}
 use Rattle.emit_glsl.specs.declared.plan.FunctionPlan.{FunctionPlan as Planned}
@@ -12,7 +13,7 @@ use Rattle.emit_glsl.specs.Moved.{moves_in}
 abbrev pub claimed_by : Planned → Plan
 claimed_by p = record {
   function = p.locals;
-  is_named = contains nat_cmp p.named;
+  is_named = is_in p.named;
   again = contains nat_cmp p.again;
   leave = contains nat_cmp p.leave;
   fell = contains nat_cmp p.fell;

@@ -2,6 +2,7 @@
 use Rattle.std.specs.Prelude.{ℕ, ◌≡◌, List, map}
 use Rattle.std.specs.BTreeSet.{contains}
 use Rattle.std.specs.Ordering.{nat_cmp}
+use Rattle.id_map.specs.Entries.{is_in}
 use Rattle.spv_module.specs.State.{ModuleState}
 use Rattle.spv_module.specs.declared.inst.Inst.{Inst}
 use Rattle.spv_module.specs.declared.inst.Function.{Function}
@@ -32,7 +33,7 @@ pub record IsPlanned (m : ModuleState) (f : Function) (p : Planned) : Type 0 whe
   pub of_function : p.locals ≡ f
   pub graph_is : p.places ≡ graph f
   pub naming : IsNamed m.globals f (graph f) p.naming
-  pub named : (n : ℕ) → contains nat_cmp p.named n ≡ is_named_in (form_in p.naming) (graph f) f.blocks n
+  pub named : (n : ℕ) → is_in p.named n ≡ is_named_in (form_in p.naming) (graph f) f.blocks n
   pub tree : IsTree f (region_of p.region)
   pub moves : (b t : ℕ) → IsSequence (firsts (pairs m.globals (form_in p.naming) f b t)) (moves_in p.moves.items b t)
   pub again : (b : ℕ) → contains nat_cmp p.again b ≡ is_among (blocks_that (needs_again (graph f)) (graph f)) b

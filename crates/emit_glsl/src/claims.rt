@@ -78,7 +78,7 @@ impl FunctionClaims for FunctionPlan<'_> {
     }
 
     fn is_named(&self, id: u32) -> bool {
-        self.named.contains(&id)
+        self.named.has(id)
     }
 
     fn again(&self, block: usize) -> bool {

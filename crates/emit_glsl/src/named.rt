@@ -1,8 +1,7 @@
 // Which results of a function have names, and which instructions are live.
 ghost use Rattle.std.specs.Prelude.{◌≡◌, ◌||◌, ◌==◌, ℕ, IfOk, OnOk};
 ghost use Rattle.std.specs.List.{list_any};
-ghost use Rattle.std.specs.BTreeSet.{contains};
-ghost use Rattle.std.specs.Ordering.{nat_cmp};
+ghost use Rattle.id_map.specs.Entries.{is_in};
 ghost use Rattle.hoist_plan.specs.Kept.{form_in, is_carried_in};
 ghost use Rattle.use_chains.specs.Slots.{is_pure as is_pure_opcode, is_pure_class as is_pure_class_of};
 ghost use Rattle.emit_glsl.specs.Planned.{has_name_by, has_name as has_name_in, names_id, block_names, is_named_in, is_live as is_live_in, is_captured as is_captured_in};
@@ -10,12 +9,12 @@ ghost use Rattle.emit_glsl.specs.Planned.{has_name_by, has_name as has_name_in, 
 use crate::moves::is_gone;
 use crate::nodes::is_reached;
 use hoist_plan::{Form, Naming};
+use id_map::IdSet;
 use nest_place::Places;
 use spv_module::{Block, Function, Id, Inst};
 use spv_ops::{OpClass, shape_of};
 use spv_words::Memory;
 use std::alloc::{AllocError, Global};
-use std::collections::BTreeSet;
 
 /// Whether a result of a form has a name, where it stands in a block that is reached, or is that of an OpVariable.
 fn has_name_of(form: Form, reached: bool, variable: bool) -> bool
@@ -38,16 +37,16 @@ fn has_name(naming: &Naming, reached: bool, inst: &Inst) -> bool
 
 /// Adds the results of a block that have names.
 fn add_named(
-    ids: &mut BTreeSet<u32>,
+    ids: &mut Vec<u32>,
     naming: &Naming,
     reached: bool,
     block: &Block,
 ) -> Result<(), AllocError>
-    ensures { OnOk result ((id : ℕ) → contains nat_cmp ids.new id ≡ (contains nat_cmp ids.old id || list_any (names_id (form_in naming.now) reached id) block.now.insts)) }
+    ensures { OnOk result ((id : ℕ) → list_any (λ n. n == id) ids.new.items ≡ (list_any (λ n. n == id) ids.old.items || list_any (names_id (form_in naming.now) reached id) block.now.insts)) }
 {
     for inst in block.insts.as_slice() {
         if has_name(naming, reached, inst) {
-            ids.insert(inst.result)?;
+            ids.push(inst.result)?;
         }
     }
     Ok(())
@@ -55,13 +54,13 @@ fn add_named(
 
 /// Adds the results of the block at a place that have names.
 fn add_named_at(
-    ids: &mut BTreeSet<u32>,
+    ids: &mut Vec<u32>,
     naming: &Naming,
     places: &Places,
     index: usize,
     block: &Block,
 ) -> Result<(), AllocError>
-    ensures { OnOk result ((id : ℕ) → contains nat_cmp ids.new id ≡ (contains nat_cmp ids.old id || block_names (form_in naming.now) places.now id (index, block.now))) }
+    ensures { OnOk result ((id : ℕ) → list_any (λ n. n == id) ids.new.items ≡ (list_any (λ n. n == id) ids.old.items || block_names (form_in naming.now) places.now id (index, block.now))) }
 {
     add_named(ids, naming, is_reached(places, index), block)?;
     Ok(())
@@ -73,14 +72,25 @@ fn named_in(
     blocks: &[Block],
     places: &Places,
     naming: &Naming,
-) -> Result<BTreeSet<u32>, AllocError>
-    ensures { IfOk result (λ ids. (id : ℕ) → contains nat_cmp ids id ≡ is_named_in (form_in naming.now) places.now blocks.now id) }
+) -> Result<Vec<u32>, AllocError>
+    ensures { IfOk result (λ ids. (id : ℕ) → list_any (λ n. n == id) ids.items ≡ is_named_in (form_in naming.now) places.now blocks.now id) }
 {
-    let mut ids = BTreeSet::new(alloc);
+    let mut ids = Vec::new(alloc);
     for (index, block) in blocks.iter().enumerate() {
         add_named_at(&mut ids, naming, places, index, block)?;
     }
     Ok(ids)
+}
+
+/// Ids as a set.
+fn id_set(alloc: Global, ids: &[u32]) -> Result<IdSet, AllocError>
+    ensures { IfOk result (λ set. (id : ℕ) → is_in set id ≡ list_any (λ n. n == id) ids.now) }
+{
+    let mut set = IdSet::for_ids(alloc, ids)?;
+    for id in ids {
+        set.insert(*id)?;
+    }
+    Ok(set)
 }
 
 /// The results of a function that have names.
@@ -89,11 +99,12 @@ pub fn named(
     function: &Function,
     places: &Places,
     naming: &Naming,
-) -> Result<BTreeSet<u32>, Memory>
-    ensures { IfOk result (λ ids. (id : ℕ) → contains nat_cmp ids id ≡ is_named_in (form_in naming.now) places.now function.now.blocks id) }
+) -> Result<IdSet, Memory>
+    ensures { IfOk result (λ ids. (id : ℕ) → is_in ids id ≡ is_named_in (form_in naming.now) places.now function.now.blocks id) }
 {
     let ids = named_in(alloc, function.blocks.as_slice(), places, naming)?;
-    Ok(ids)
+    let set = id_set(alloc, ids.as_slice())?;
+    Ok(set)
 }
 
 fn is_pure_class(class: OpClass) -> bool

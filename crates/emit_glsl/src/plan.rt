@@ -15,6 +15,7 @@ use crate::moves::{Moves, moves_of, phi_blocks};
 use crate::named::named;
 use crate::orders::{Orders, orders_of, set_of};
 use hoist_plan::{Naming, plan};
+use id_map::IdSet;
 use nest_place::{Places, places};
 use phi_copies::Move;
 use spv_index::Locals;
@@ -37,7 +38,7 @@ pub struct FunctionPlan<'a> {
     pub locals: Locals<'a>,
     pub places: Places,
     pub naming: Naming,
-    pub named: BTreeSet<u32>,
+    pub named: IdSet,
     pub region: Region,
     pub moves: Vec<Moves>,
     pub again: BTreeSet<usize>,

@@ -1,11 +1,19 @@
 -- The expressions by which constants and built-in variables are read.
-use Rattle.std.specs.Prelude.{ℕ, Option, option_map}
-use Rattle.std.specs.BTreeMap.{get}
-use Rattle.std.specs.Ordering.{nat_cmp}
+use Rattle.std.specs.Prelude.{ℕ, ◌==◌, List, Option, Some, None, option_and_then, slice_get, if◌then◌else◌}
+use Rattle.id_map.specs.Entries.{entry_in}
 use Rattle.glsl_ast.specs.Tree as text
 use Rattle.glsl_ast.specs.View.{expr_of}
+use Rattle.glsl_ast.specs.declared.expressions.Expr.{Expr}
 use Rattle.expr_forward.specs.declared.globals.Globals.{Globals}
+
+-- an expression, where it is that of an id
+abbrev pub expr_for : ℕ → ℕ × Expr → Option text.Expr
+expr_for id e = if e.0 == id then Some (expr_of e.1) else None
+
+-- the expression at a place, where it is that of an id
+abbrev pub expr_at : List (ℕ × Expr) → ℕ → ℕ → Option text.Expr
+expr_at exprs id place = option_and_then (expr_for id) (slice_get exprs place)
 
 -- the expression that is there for an id
 abbrev pub global_in : Globals → ℕ → Option text.Expr
-global_in g id = option_map expr_of (get nat_cmp g.exprs id)
+global_in g id = option_and_then (expr_at g.exprs.items id) (entry_in g.places id)

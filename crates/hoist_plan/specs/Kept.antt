@@ -1,9 +1,10 @@
 -- What a plan keeps.
-use Rattle.std.specs.Prelude.{ℕ, ◌≡◌, ◌+◌, ◌*◌, ◌&&◌, nat_le, Bool, true, List, [], ◌∷◌, length, unwrap_or}
+use Rattle.std.specs.Prelude.{ℕ, ◌≡◌, ◌+◌, ◌*◌, ◌&&◌, nat_le, Bool, true, List, [], ◌∷◌, length, Option, unwrap_or}
 use Rattle.std.specs.BTreeMap.{is_at}
 use Rattle.std.specs.List.{list_any}
 use Rattle.std.specs.Map.{lookup}
 use Rattle.std.specs.Ordering.{nat_cmp}
+use Rattle.id_map.specs.Entries.{entry_by}
 use Rattle.use_chains.specs.Links.{Link}
 use Rattle.hoist_plan.specs.declared.form.Form.{Form}
 use Rattle.hoist_plan.specs.declared.form.Form.TheVariants.{Gone}
@@ -29,13 +30,15 @@ result_id p = p.result
 abbrev pub steps_of : Placed → ℕ
 steps_of p = 2 * length p.mentions + 1
 
--- the forms of results by their ids, and the chains that are carried
+-- the forms of results: in the slots of ids from the least on, and of all others by their ids; and the chains that are carried
 pub record NamingState : Type 0 where
-  pub forms : List (ℕ × Form)
+  pub least : ℕ
+  pub slots : List (Option Form)
+  pub others : List (ℕ × Form)
   pub carried : List ℕ
 
 abbrev pub form_in : NamingState → ℕ → Form
-form_in n id = unwrap_or (lookup (is_at (nat_cmp id)) n.forms) Gone
+form_in n id = unwrap_or (entry_by n.least n.slots (λ i. lookup (is_at (nat_cmp i)) n.others) id) Gone
 
 abbrev pub is_carried_in : NamingState → ℕ → Bool
 is_carried_in n id = list_any (is_at (nat_cmp id)) n.carried

@@ -127,13 +127,16 @@ is_named gs f operands p = is_value gs p.ty && (is_live p && (is_named_by_use gs
 abbrev pub is_hoisted : Function → Placed → Bool
 is_hoisted f p = is_phi p.op || list_any (is_elsewhere f p.block) p.mentions
 
+-- the form of a result, where it is told whether it has a variable
+abbrev pub form_by : Function → Bool → Placed → Form
+form_by f named p = if is_live p then (if named then (if is_hoisted f p then Hoisted else Local) else Forwarded) else Gone
+
 abbrev pub form_with : List Inst → Function → (ℕ → Option ℕ) → Placed → Form
-form_with gs f operands p =
-    if is_live p then (if is_named gs f operands p then (if is_hoisted f p then Hoisted else Local) else Forwarded) else Gone
+form_with gs f operands p = form_by f (is_named gs f operands p) p
 
 -- something that is told of ids, with something else told of one
 abbrev pub with_told : {A : Type 0} → (ℕ → Option A) → ℕ → A → ℕ → Option A
-with_told told id a n = elim (n == id) [ true ↦ Some a | false ↦ told n ]
+with_told told id a n = elim (id == n) [ true ↦ Some a | false ↦ told n ]
 
 -- the highest operand of an instruction is at least this high
 abbrev pub raised_by : ℕ → (ℕ → Option ℕ) → Option Inst → ℕ → Option ℕ
@@ -143,10 +146,17 @@ raised_by height operands (Some i) = with_told operands i.result (max (unwrap_or
 abbrev pub raised : Function → ℕ → (ℕ → Option ℕ) → SlotPlace → ℕ → Option ℕ
 raised f height operands at = raised_by height operands (user f at)
 
--- a value without a variable is an operand of its height wherever it is mentioned; a variable has height 0
+-- what is told to be an operand is one of its height wherever it is mentioned
+abbrev pub operand_if : Bool → Function → (ℕ → Option ℕ) → Placed → ℕ → Option ℕ
+operand_if true f operands p = fold (raised f (own_height operands p)) operands p.mentions
+operand_if false f operands p = operands
+
+-- a value without a variable is an operand; a variable has height 0
+abbrev pub operand_by : List Inst → Function → (ℕ → Option ℕ) → Bool → Placed → ℕ → Option ℕ
+operand_by gs f operands named p = operand_if (is_value gs p.ty && not named) f operands p
+
 abbrev pub with_operand : List Inst → Function → (ℕ → Option ℕ) → Placed → ℕ → Option ℕ
-with_operand gs f operands p =
-    elim (is_value gs p.ty && not (is_named gs f operands p)) [ true ↦ fold (raised f (own_height operands p)) operands p.mentions | false ↦ operands ]
+with_operand gs f operands p = operand_by gs f operands (is_named gs f operands p) p
 
 -- what is known after some results, in text order: the height of the highest operand of each instruction, among these results, and their forms. An operand stands before what mentions it
 pub record Known : Type 0 where

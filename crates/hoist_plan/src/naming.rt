@@ -9,11 +9,12 @@ use crate::carried::carried;
 use crate::forms::forms;
 use crate::rows::results;
 use block_graph::control_flow;
+use id_map::IdMap;
 use spv_index::Locals;
 use spv_module::{Function, Id, Module};
 use spv_words::Memory;
 use std::alloc::Global;
-use std::collections::{BTreeMap, BTreeSet};
+use std::collections::BTreeSet;
 use std::marker::Model;
 use std::sync::ledger::Ledger;
 use use_chains::{Steps, Uses};
@@ -22,7 +23,7 @@ use use_chains::{Steps, Uses};
 /// need.
 #[derive(Drop)]
 pub struct Naming {
-    forms: BTreeMap<u32, Form>,
+    forms: IdMap<Form>,
     carried: BTreeSet<u32>,
 }
 
@@ -31,7 +32,7 @@ impl Model for Naming {
 
     ghost Value = { NamingState };
 
-    ghost view = { λ n. record { forms = n.forms.entries; carried = n.carried.keys } };
+    ghost view = { λ n. record { least = n.forms.least; slots = n.forms.slots.items; others = n.forms.others.entries; carried = n.carried.keys } };
 }
 
 impl Naming {
@@ -40,7 +41,7 @@ impl Naming {
     pub fn of(&self, id: Id) -> Form
         ensures { result ≡ form_in self.now id.0 }
     {
-        self.forms.get(&id.0).copied().unwrap_or(Form::Gone)
+        self.forms.get(id.0).unwrap_or(Form::Gone)
     }
 
     /// Whether this is a chain that another block needs: it is mentioned there, or a chain that is

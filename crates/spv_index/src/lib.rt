@@ -11,6 +11,7 @@ mod values;
 
 pub use functions::Functions;
 pub use locals::Locals;
+pub use places::{Places, places_of};
 pub use pointers::Pointer;
 pub use types::{global_type, pointer, type_in};
 pub use values::ValueTypes;

@@ -1,23 +1,22 @@
 // What a function defines.
-ghost use Rattle.std.specs.Prelude.{◌≡◌, ◌==◌, ℕ, IfOk, OnOk, find, option_map};
+ghost use Rattle.std.specs.Prelude.{◌≡◌, ◌==◌, ℕ, None, IfOk, OnOk, find, option_map};
 ghost use Rattle.std.specs.Option.{option_copied, option_or};
-ghost use Rattle.std.specs.BTreeMap.{get};
-ghost use Rattle.std.specs.Ordering.{nat_cmp};
+ghost use Rattle.id_map.specs.Entries.{entry_in};
 ghost use Rattle.spv_index.specs.Locals.{inst_in, parameter_in, block_in};
 
 use crate::places::{Places, places_of};
-use spv_module::{Function, Id, Inst};
+use id_map::IdMap;
+use spv_module::{Block, Function, Id, Inst};
 use spv_words::Memory;
 use std::alloc::{AllocError, Global};
-use std::collections::BTreeMap;
 use std::marker::Model;
 
 /// What a function defines, found by id. Contracts see the function.
 #[derive(Drop)]
 pub struct Locals<'a> {
     function: &'a Function,
-    insts: BTreeMap<u32, &'a Inst>,
-    params: BTreeMap<u32, Id>,
+    insts: IdMap<&'a Inst>,
+    params: IdMap<Id>,
     blocks: Places,
 }
 
@@ -26,35 +25,50 @@ impl<'a> Model for Locals<'a> {
 
     ghost Value = { Function };
 
-    ghost use Rattle.std.specs.BTreeMap.{get};
-    ghost use Rattle.std.specs.Ordering.{nat_cmp};
+    ghost use Rattle.id_map.specs.Entries.{entry_in};
     ghost use Rattle.spv_index.specs.Held.{IsIndex};
 
     ghost view = { λ l. l.function.now };
 
-    ghost invariant = { λ l. IsIndex l.function.now (get nat_cmp l.insts) (get nat_cmp l.params) (get nat_cmp l.blocks) };
+    ghost invariant = { λ l. IsIndex l.function.now (entry_in l.insts) (entry_in l.params) (entry_in l.blocks) };
+}
+
+/// The results of the instructions of blocks.
+fn results_of(alloc: Global, blocks: &[Block]) -> Result<Vec<u32>, AllocError> {
+    let mut results = Vec::new(alloc);
+    for block in blocks {
+        for inst in block.insts.as_slice() {
+            results.push(inst.result)?;
+        }
+    }
+    Ok(results)
 }
 
 /// Adds instructions by their results, each where it is the first.
-fn add_insts<'a>(found: &mut BTreeMap<u32, &'a Inst>, insts: &'a [Inst]) -> Result<(), AllocError>
-    ensures { OnOk result ((id : ℕ) → option_copied (get nat_cmp found.new id) ≡ option_or (option_copied (get nat_cmp found.old id)) (find (λ i. i.result == id) insts.now)) }
+fn add_insts<'a>(found: &mut IdMap<&'a Inst>, insts: &'a [Inst]) -> Result<(), AllocError>
+    ensures { OnOk result ((id : ℕ) → option_copied (entry_in found.new id) ≡ option_or (option_copied (entry_in found.old id)) (find (λ i. i.result == id) insts.now)) }
 {
     for inst in insts {
-        if !found.contains_key(&inst.result) {
+        if !found.has(inst.result) {
             found.insert(inst.result, inst)?;
         }
     }
     Ok(())
 }
 
-/// The instructions of a function by their results.
-fn insts_of<'a>(
-    alloc: Global,
-    function: &'a Function,
-) -> Result<BTreeMap<u32, &'a Inst>, AllocError>
-    ensures { IfOk result (λ found. (id : ℕ) → option_copied (get nat_cmp found id) ≡ inst_in function.now id) }
+/// No instructions, with room for those of a function.
+fn none_for<'a>(alloc: Global, function: &'a Function) -> Result<IdMap<&'a Inst>, AllocError>
+    ensures { IfOk result (λ found. (id : ℕ) → entry_in found id ≡ None) }
 {
-    let mut found = BTreeMap::new(alloc);
+    let results = results_of(alloc, function.blocks.as_slice())?;
+    IdMap::for_ids(alloc, &results)
+}
+
+/// The instructions of a function by their results.
+fn insts_of<'a>(alloc: Global, function: &'a Function) -> Result<IdMap<&'a Inst>, AllocError>
+    ensures { IfOk result (λ found. (id : ℕ) → option_copied (entry_in found id) ≡ inst_in function.now id) }
+{
+    let mut found = none_for(alloc, function)?;
     for block in function.blocks.as_slice() {
         add_insts(&mut found, block.insts.as_slice())?;
     }
@@ -62,12 +76,16 @@ fn insts_of<'a>(
 }
 
 /// The types of parameters by their ids.
-fn types_of(alloc: Global, params: &[(Id, Id)]) -> Result<BTreeMap<u32, Id>, AllocError>
-    ensures { IfOk result (λ types. (id : ℕ) → get nat_cmp types id ≡ option_map (λ p. p.1) (find (λ p. p.0.0 == id) params.now)) }
+fn types_of(alloc: Global, params: &[(Id, Id)]) -> Result<IdMap<Id>, AllocError>
+    ensures { IfOk result (λ types. (id : ℕ) → entry_in types id ≡ option_map (λ p. p.1) (find (λ p. p.0.0 == id) params.now)) }
 {
-    let mut types = BTreeMap::new(alloc);
+    let ids = params
+        .iter()
+        .map(|param| param.0.0)
+        .collect::<Vec<u32>>(alloc)?;
+    let mut types = IdMap::for_ids(alloc, &ids)?;
     for (id, ty) in params {
-        if !types.contains_key(&id.0) {
+        if !types.has(id.0) {
             types.insert(id.0, *ty)?;
         }
     }
@@ -104,20 +122,20 @@ impl<'a> Locals<'a> {
     pub fn inst(&self, id: u32) -> Option<&'a Inst>
         ensures { option_copied result ≡ inst_in self.now id }
     {
-        self.insts.get(&id).copied()
+        self.insts.get(id)
     }
 
     /// The type of the parameter with this id, and `None` exactly where there is none.
     pub fn parameter(&self, id: u32) -> Option<Id>
         ensures { option_map (λ ty. ty.0) result ≡ parameter_in self.now id }
     {
-        self.params.get(&id).copied()
+        self.params.get(id)
     }
 
     /// The place of the block with this label, and `None` exactly where there is none.
     pub fn block(&self, id: u32) -> Option<usize>
         ensures { result ≡ block_in self.now id }
     {
-        self.blocks.get(&id).copied()
+        self.blocks.get(id)
     }
 }

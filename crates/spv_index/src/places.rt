@@ -1,22 +1,22 @@
 // Where ids stand in a list.
 ghost use Rattle.std.specs.Prelude.{◌≡◌, ◌==◌, ℕ, IfOk};
 ghost use Rattle.std.specs.List.{position_from};
-ghost use Rattle.std.specs.BTreeMap.{get};
-ghost use Rattle.std.specs.Ordering.{nat_cmp};
+ghost use Rattle.id_map.specs.Entries.{entry_in};
 
+use id_map::IdMap;
 use spv_words::Memory;
 use std::alloc::Global;
-use std::collections::BTreeMap;
 
 /// For each id of a list the first place at which it stands.
-pub type Places = BTreeMap<u32, usize>;
+pub type Places = IdMap<usize>;
 
+/// The places of ids in a list. There is an error only for want of memory.
 pub fn places_of(alloc: Global, ids: &[u32]) -> Result<Places, Memory>
-    ensures { IfOk result (λ places. (id : ℕ) → get nat_cmp places id ≡ position_from (λ i. i == id) 0 ids.now) }
+    ensures { IfOk result (λ places. (id : ℕ) → entry_in places id ≡ position_from (λ i. i == id) 0 ids.now) }
 {
-    let mut places = BTreeMap::new(alloc);
+    let mut places = IdMap::for_ids(alloc, ids)?;
     for (place, id) in ids.iter().enumerate() {
-        if !places.contains_key(id) {
+        if !places.has(*id) {
             places.insert(*id, place)?;
         }
     }

@@ -1,6 +1,6 @@
 -- Sets of ids that instructions mention.
-use Rattle.std.proofs.Common.{◌≡◌, ◌==◌, ◌&&◌, ◌||◌, ℕ, ◌+◌, ◌<◌, ◌≤◌, suc, Bool, true, false, List, [], ◌∷◌, refl, sym, ap, ◌∙◌, subst, arith, drop, length, get_or}
-use Rattle.std.specs.List.{list_any, enumerate_from}
+use Rattle.std.proofs.Common.{◌≡◌, ◌==◌, ◌&&◌, ◌||◌, ℕ, ◌+◌, ◌<◌, ◌≤◌, Bool, true, false, List, refl, sym, ap, ◌∙◌, drop, length, get_or}
+use Rattle.std.specs.List.{list_any}
 use Rattle.std.proofs.lemmas.List.{drop_more}
 use Rattle.std.proofs.Math.ListN.{drop_of_length-le}
 use Rattle.spv_module.specs.declared.inst.Inst.{Inst}
@@ -17,7 +17,7 @@ mentions_end ids id k words past = ap (mentions_from ids id k) (drop_of_length-l
 
 pub ruleset mention_rules = (mentions_more, mentions_end)
 
-or_right : (a b c : Bool) → ((a || b) || c) ≡ (a || (b || c))
+pub or_right : (a b c : Bool) → ((a || b) || c) ≡ (a || (b || c))
 or_right true b c = refl
 or_right false b c = refl
 

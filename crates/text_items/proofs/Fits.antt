@@ -1,5 +1,5 @@
 -- Members of blocks, calculated constants and items, from what is known of their parts.
-use Rattle.std.proofs.Common.{◌≡◌, ℕ, Bool, true, false, List, [], ◌∷◌, map, drop, refl, sym, ap, ◌∙◌}
+use Rattle.std.proofs.Common.{◌≡◌, ℕ, Bool, true, false, List, [], ◌∷◌, map, drop, ap, ◌∙◌}
 use Rattle.std.specs.Prelude.{is_some, unwrap_or, if◌then◌else◌}
 use Rattle.spv_module.specs.Lists.{id}
 use Rattle.spv_module.specs.declared.inst.Inst.{Inst}
@@ -10,7 +10,7 @@ use Rattle.spv_types.specs.Tree.{Tree}
 use Rattle.profile_rules.specs.Constants.{inner_operands, inner_literals}
 use Rattle.layout_rules.specs.Blocks.{block_of}
 use Rattle.name_alloc.specs.Lookup.{name_in}
-use Rattle.glsl_ast.specs.Tree.{Text, TypeName, Expr, Decl, Member, member}
+use Rattle.glsl_ast.specs.Tree.{Text, TypeName, Expr, member}
 use Rattle.glsl_ast.specs.declared.items.Qual.{Qual}
 use Rattle.vec_lowering.specs.Named.{naming_of}
 use Rattle.vec_lowering.specs.Composite.{Argument}

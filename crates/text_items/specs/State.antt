@@ -2,8 +2,8 @@
 use Rattle.std.specs.Prelude.{ℕ, ◌≡◌, ◌++◌, ◌&&◌, ◌||◌, Bool, true, List, filter, flat_map, map}
 use Rattle.std.specs.Borrow.{Bor}
 use Rattle.std.specs.List.{list_any}
-use Rattle.std.specs.BTreeSet.{BTreeSet, contains}
-use Rattle.std.specs.Ordering.{nat_cmp}
+use Rattle.id_map.specs.Entries.{is_in}
+use Rattle.id_map.specs.declared.set.IdSet.{IdSet}
 use Rattle.spv_module.specs.declared.inst.Inst.{Inst}
 use Rattle.spv_module.specs.declared.inst.Function.{Function}
 use Rattle.text_rules.specs.Constants.{Source}
@@ -45,12 +45,12 @@ abbrev pub has_type : Source → Reached → ℕ → Bool
 has_type s r id = list_any (type_has_struct s.of.globals id) (written_types s r)
 
 -- the ids that functions mention, those of the constants that the text needs, and the structs of what is written
-pub record IsHeld (s : Source) (r : Reached) (heads : List Inst) (ids constants structs : BTreeSet ℕ) : Type 0 where
+pub record IsHeld (s : Source) (r : Reached) (heads : List Inst) (ids constants structs : IdSet) : Type 0 where
   pub decor : heads ≡ s.of.heads
-  pub mentioned : (id : ℕ) → contains nat_cmp ids id ≡ is_mentioned_in r.functions id
-  pub needed : (id : ℕ) → contains nat_cmp constants id ≡ is_needed s r id
-  pub types : (id : ℕ) → contains nat_cmp structs id ≡ has_type s r id
+  pub mentioned : (id : ℕ) → is_in ids id ≡ is_mentioned_in r.functions id
+  pub needed : (id : ℕ) → is_in constants id ≡ is_needed s r id
+  pub types : (id : ℕ) → is_in structs id ≡ has_type s r id
 
 -- the structs of the types that were gone through are found
-pub record HasThose (gs : List Inst) (seen found : BTreeSet ℕ) : Type 0 where
-  pub each : (ty id : ℕ) → contains nat_cmp seen ty ≡ true → type_has_struct gs id ty ≡ true → contains nat_cmp found id ≡ true
+pub record HasThose (gs : List Inst) (seen found : IdSet) : Type 0 where
+  pub each : (ty id : ℕ) → is_in seen ty ≡ true → type_has_struct gs id ty ≡ true → is_in found id ≡ true

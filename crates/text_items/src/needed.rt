@@ -1,17 +1,16 @@
 // Which variables and constants are written.
 ghost use Rattle.std.specs.Prelude.{◌≡◌, ◌&&◌, ◌||◌, ℕ, IfOk, OnOk};
 ghost use Rattle.std.specs.List.{list_any};
-ghost use Rattle.std.specs.BTreeSet.{contains};
-ghost use Rattle.std.specs.Ordering.{nat_cmp};
+ghost use Rattle.id_map.specs.Entries.{is_in};
 ghost use Rattle.text_rules.specs.Printed.{mentions, is_private as is_private_variable, is_length_of, is_named, declares as declares_constant, needed_with, needed_from};
 ghost use Rattle.text_items.specs.State.{insts_at, is_written_by, needed_first};
 
-use crate::mentions::{add_all, add_mentions};
+use crate::mentions::{add_all, add_mentions, no_ids};
 use constant_text::{Reading, Readings, is_constant};
+use id_map::IdSet;
 use spv_module::{Id, Inst};
 use spv_words::Memory;
 use std::alloc::{AllocError, Global};
-use std::collections::BTreeSet;
 
 /// Whether this is a variable of class Private (SPIR-V 1.6, section 3.7).
 pub fn is_private(inst: &Inst) -> bool
@@ -22,17 +21,15 @@ pub fn is_private(inst: &Inst) -> bool
 
 /// Whether this is a variable that is written, where functions mention these ids: one of class Uniform, Workgroup, Private,
 /// PushConstant or StorageBuffer.
-pub fn is_written(mentioned: &BTreeSet<u32>, inst: &Inst) -> bool
-    ensures { result ≡ is_written_by (contains nat_cmp mentioned.now) inst.now }
+pub fn is_written(mentioned: &IdSet, inst: &Inst) -> bool
+    ensures { result ≡ is_written_by (is_in mentioned.now) inst.now }
 {
-    inst.op == 59
-        && matches!(inst.operand(0), 2 | 4 | 6 | 9 | 12)
-        && mentioned.contains(&inst.result)
+    inst.op == 59 && matches!(inst.operand(0), 2 | 4 | 6 | 9 | 12) && mentioned.has(inst.result)
 }
 
 /// Adds the constants that are lengths of arrays.
-fn add_lengths(needed: &mut BTreeSet<u32>, globals: &[Inst]) -> Result<(), AllocError>
-    ensures { OnOk result ((id : ℕ) → contains nat_cmp needed.new id ≡ (contains nat_cmp needed.old id || list_any (is_length_of id) globals.now)) }
+fn add_lengths(needed: &mut IdSet, globals: &[Inst]) -> Result<(), AllocError>
+    ensures { OnOk result ((id : ℕ) → is_in needed.new id ≡ (is_in needed.old id || list_any (is_length_of id) globals.now)) }
 {
     for inst in globals {
         // OpTypeArray
@@ -45,11 +42,11 @@ fn add_lengths(needed: &mut BTreeSet<u32>, globals: &[Inst]) -> Result<(), Alloc
 
 /// Adds what a Private variable that is written begins with.
 fn add_initializers(
-    needed: &mut BTreeSet<u32>,
-    mentioned: &BTreeSet<u32>,
+    needed: &mut IdSet,
+    mentioned: &IdSet,
     globals: &[Inst],
 ) -> Result<(), AllocError>
-    ensures { OnOk result ((id : ℕ) → contains nat_cmp needed.new id ≡ (contains nat_cmp needed.old id || list_any (λ g. is_private_variable g && (is_written_by (contains nat_cmp mentioned.now) g && mentions g id)) globals.now)) }
+    ensures { OnOk result ((id : ℕ) → is_in needed.new id ≡ (is_in needed.old id || list_any (λ g. is_private_variable g && (is_written_by (is_in mentioned.now) g && mentions g id)) globals.now)) }
 {
     for inst in globals {
         if is_private(inst) && is_written(mentioned, inst) {
@@ -60,22 +57,18 @@ fn add_initializers(
 }
 
 /// Whether a constant is declared, where the text needs these.
-pub fn declares(readings: &Readings, needed: &BTreeSet<u32>, inst: &Inst) -> bool
-    ensures { result ≡ declares_constant readings.now (contains nat_cmp needed.now) inst.now }
+pub fn declares(readings: &Readings, needed: &IdSet, inst: &Inst) -> bool
+    ensures { result ≡ declares_constant readings.now (is_in needed.now) inst.now }
 {
     is_constant(inst)
         && matches!(readings.reading(inst), Reading::Named)
-        && (readings.free_spec_id(Id(inst.result)).is_some() || needed.contains(&inst.result))
+        && (readings.free_spec_id(Id(inst.result)).is_some() || needed.has(inst.result))
 }
 
 /// Adds what a constant mentions, where it is declared.
 #[tactic(auto, using(crate::proofs::Built::needed_is))]
-fn add_operands(
-    readings: &Readings,
-    needed: &mut BTreeSet<u32>,
-    inst: &Inst,
-) -> Result<(), AllocError>
-    ensures { OnOk result ((id : ℕ) → contains nat_cmp needed.new id ≡ needed_with readings.now (contains nat_cmp needed.old) inst.now id) }
+fn add_operands(readings: &Readings, needed: &mut IdSet, inst: &Inst) -> Result<(), AllocError>
+    ensures { OnOk result ((id : ℕ) → is_in needed.new id ≡ needed_with readings.now (is_in needed.old) inst.now id) }
 {
     if declares(readings, needed, inst) {
         add_mentions(needed, inst)?;
@@ -85,12 +78,8 @@ fn add_operands(
 
 /// Adds what declared constants mention. They stand before what mentions them.
 #[tactic(auto, using(crate::proofs::Built::needed_rules))]
-fn add_earlier(
-    readings: &Readings,
-    needed: &mut BTreeSet<u32>,
-    globals: &[Inst],
-) -> Result<(), AllocError>
-    ensures { OnOk result ((id : ℕ) → contains nat_cmp needed.new id ≡ needed_from readings.now (contains nat_cmp needed.old) globals.now id) }
+fn add_earlier(readings: &Readings, needed: &mut IdSet, globals: &[Inst]) -> Result<(), AllocError>
+    ensures { OnOk result ((id : ℕ) → is_in needed.new id ≡ needed_from readings.now (is_in needed.old) globals.now id) }
 {
     for k in (0..globals.len()).rev() {
         add_operands(readings, needed, &globals[k])?;
@@ -102,13 +91,13 @@ fn add_earlier(
 pub fn needed(
     alloc: Global,
     readings: &Readings,
-    mentioned: &BTreeSet<u32>,
+    mentioned: &IdSet,
     live: &[&Inst],
-) -> Result<BTreeSet<u32>, Memory>
-    ensures { IfOk result (λ needed. (id : ℕ) → contains nat_cmp needed id ≡ needed_from readings.now (needed_first readings.now (contains nat_cmp mentioned.now) (insts_at live.now)) readings.now.of.globals id) }
+) -> Result<IdSet, Memory>
+    ensures { IfOk result (λ needed. (id : ℕ) → is_in needed id ≡ needed_from readings.now (needed_first readings.now (is_in mentioned.now) (insts_at live.now)) readings.now.of.globals id) }
 {
     let globals = readings.module().globals();
-    let mut needed = BTreeSet::new(alloc);
+    let mut needed = no_ids(alloc, readings, live)?;
     add_all(&mut needed, live)?;
     add_lengths(&mut needed, globals)?;
     add_initializers(&mut needed, mentioned, globals)?;

@@ -1,24 +1,23 @@
 // The structs of types.
 ghost use Rattle.std.specs.Prelude.{◌≡◌, ◌==◌, ◌||◌, ℕ, IfOk, OnOk};
 ghost use Rattle.std.specs.List.{list_any};
-ghost use Rattle.std.specs.BTreeSet.{contains};
-ghost use Rattle.std.specs.Ordering.{nat_cmp};
+ghost use Rattle.id_map.specs.Entries.{is_in};
 ghost use Rattle.spv_types.specs.View.{tree_of, trees_of};
 ghost use Rattle.text_rules.specs.Printed.{has_struct, have_struct, type_has_struct};
 ghost use Rattle.text_items.specs.State.{HasThose};
 
 use crate::shapes::pointee_at;
+use id_map::IdSet;
 use spv_module::{Id, Module, Shape};
 use spv_types::shape;
 use spv_words::Memory;
 use std::alloc::{AllocError, Global};
-use std::collections::BTreeSet;
 
 /// Adds the structs of a shape, of which it may be one.
 #[cycle(structs)]
 #[tactic(auto, using(spv_types::proofs::Views::shape_rows))]
-fn add_structs(found: &mut BTreeSet<u32>, shape: &Shape) -> Result<(), AllocError>
-    ensures { OnOk result ((id : ℕ) → contains nat_cmp found.new id ≡ (contains nat_cmp found.old id || has_struct id (tree_of shape.now))) }
+fn add_structs(found: &mut IdSet, shape: &Shape) -> Result<(), AllocError>
+    ensures { OnOk result ((id : ℕ) → is_in found.new id ≡ (is_in found.old id || has_struct id (tree_of shape.now))) }
 {
     match shape {
         Shape::Bool | Shape::Int | Shape::Uint | Shape::Vector(_, _) => {}
@@ -33,8 +32,8 @@ fn add_structs(found: &mut BTreeSet<u32>, shape: &Shape) -> Result<(), AllocErro
 
 #[cycle(structs)]
 #[tactic(auto, using(crate::proofs::Parts::have_rules, spv_types::proofs::Heads::member_smaller))]
-fn add_members(found: &mut BTreeSet<u32>, members: &[Shape]) -> Result<(), AllocError>
-    ensures { OnOk result ((id : ℕ) → contains nat_cmp found.new id ≡ (contains nat_cmp found.old id || have_struct id (trees_of members.now))) }
+fn add_members(found: &mut IdSet, members: &[Shape]) -> Result<(), AllocError>
+    ensures { OnOk result ((id : ℕ) → is_in found.new id ≡ (is_in found.old id || have_struct id (trees_of members.now))) }
 {
     for member in members {
         add_structs(found, member)?;
@@ -43,13 +42,8 @@ fn add_members(found: &mut BTreeSet<u32>, members: &[Shape]) -> Result<(), Alloc
 }
 
 /// Adds the structs of a type, or of what a pointer type points to.
-fn add_type(
-    alloc: Global,
-    module: &Module,
-    found: &mut BTreeSet<u32>,
-    ty: u32,
-) -> Result<(), Memory>
-    ensures { OnOk result ((id : ℕ) → contains nat_cmp found.new id ≡ (contains nat_cmp found.old id || type_has_struct «module».now.globals id ty)) }
+fn add_type(alloc: Global, module: &Module, found: &mut IdSet, ty: u32) -> Result<(), Memory>
+    ensures { OnOk result ((id : ℕ) → is_in found.new id ≡ (is_in found.old id || type_has_struct «module».now.globals id ty)) }
 {
     match shape(alloc, module, Id(pointee_at(module, ty))) {
         Ok(Some(shape)) => {
@@ -61,8 +55,8 @@ fn add_type(
     }
 }
 
-fn mark(seen: &mut BTreeSet<u32>, ty: u32) -> Result<(), AllocError>
-    ensures { OnOk result ((id : ℕ) → contains nat_cmp seen.new id ≡ (contains nat_cmp seen.old id || (ty == id))) }
+fn mark(seen: &mut IdSet, ty: u32) -> Result<(), AllocError>
+    ensures { OnOk result ((id : ℕ) → is_in seen.new id ≡ (is_in seen.old id || (ty == id))) }
 {
     seen.insert(ty)?;
     Ok(())
@@ -72,15 +66,15 @@ fn mark(seen: &mut BTreeSet<u32>, ty: u32) -> Result<(), AllocError>
 fn add_once(
     alloc: Global,
     module: &Module,
-    seen: &mut BTreeSet<u32>,
-    found: &mut BTreeSet<u32>,
+    seen: &mut IdSet,
+    found: &mut IdSet,
     ty: u32,
 ) -> Result<(), Memory>
     requires { HasThose «module».now.globals seen.old found.old }
-    ensures found { OnOk result ((id : ℕ) → contains nat_cmp found.new id ≡ (contains nat_cmp found.old id || type_has_struct «module».now.globals id ty)) }
+    ensures found { OnOk result ((id : ℕ) → is_in found.new id ≡ (is_in found.old id || type_has_struct «module».now.globals id ty)) }
     ensures those { OnOk result (HasThose «module».now.globals seen.new found.new) }
 {
-    if seen.contains(&ty) {
+    if seen.has(ty) {
         return Ok(());
     }
     mark(seen, ty)?;
@@ -90,11 +84,11 @@ fn add_once(
 
 /// The structs of types. A type that comes again is not gone through again. There is an error for want of memory, or where a type
 /// passes a limit.
-pub fn structs_of(alloc: Global, module: &Module, types: &[u32]) -> Result<BTreeSet<u32>, Memory>
-    ensures { IfOk result (λ found. (id : ℕ) → contains nat_cmp found id ≡ list_any (type_has_struct «module».now.globals id) types.now) }
+pub fn structs_of(alloc: Global, module: &Module, types: &[u32]) -> Result<IdSet, Memory>
+    ensures { IfOk result (λ found. (id : ℕ) → is_in found id ≡ list_any (type_has_struct «module».now.globals id) types.now) }
 {
-    let mut found = BTreeSet::new(alloc);
-    let mut seen = BTreeSet::new(alloc);
+    let mut found = IdSet::below(alloc, module.bound(), types.len())?;
+    let mut seen = IdSet::below(alloc, module.bound(), types.len())?;
     for ty in types {
         add_once(alloc, module, &mut seen, &mut found, *ty)?;
     }

@@ -1,28 +1,27 @@
 // The types of what is written.
 ghost use Rattle.std.specs.Prelude.{◌≡◌, ◌++◌, ◌||◌, ℕ, IfOk, OnOk, filter, flat_map, map};
 ghost use Rattle.std.specs.List.{list_any};
-ghost use Rattle.std.specs.BTreeSet.{contains};
-ghost use Rattle.std.specs.Ordering.{nat_cmp};
+ghost use Rattle.id_map.specs.Entries.{is_in};
 ghost use Rattle.text_rules.specs.Printed.{declares as declares_constant, signature_types, type_has_struct};
 ghost use Rattle.text_items.specs.State.{functions_at, insts_at, is_written_by, types_by};
 
 use crate::needed::{declares, is_written};
 use crate::structs::structs_of;
 use constant_text::Readings;
+use id_map::IdSet;
 use spv_module::{Function, Inst};
 use spv_words::Memory;
 use std::alloc::{AllocError, Global};
-use std::collections::BTreeSet;
 
 /// Adds the types of the variables and constants that are written.
 fn add_globals(
     types: &mut Vec<u32>,
     readings: &Readings,
-    mentioned: &BTreeSet<u32>,
-    needed: &BTreeSet<u32>,
+    mentioned: &IdSet,
+    needed: &IdSet,
     globals: &[Inst],
 ) -> Result<(), AllocError>
-    ensures { OnOk result (types.new.items ≡ types.old.items ++ map (λ g. g.ty) (filter (λ g. is_written_by (contains nat_cmp mentioned.now) g || declares_constant readings.now (contains nat_cmp needed.now) g) globals.now)) }
+    ensures { OnOk result (types.new.items ≡ types.old.items ++ map (λ g. g.ty) (filter (λ g. is_written_by (is_in mentioned.now) g || declares_constant readings.now (is_in needed.now) g) globals.now)) }
 {
     for inst in globals {
         if is_written(mentioned, inst) || declares(readings, needed, inst) {
@@ -65,12 +64,12 @@ fn add_results(types: &mut Vec<u32>, live: &[&Inst]) -> Result<(), AllocError>
 fn written_types(
     alloc: Global,
     readings: &Readings,
-    mentioned: &BTreeSet<u32>,
-    needed: &BTreeSet<u32>,
+    mentioned: &IdSet,
+    needed: &IdSet,
     functions: &[&Function],
     live: &[&Inst],
 ) -> Result<Vec<u32>, Memory>
-    ensures { IfOk result (λ types. types.items ≡ types_by readings.now (contains nat_cmp mentioned.now) (contains nat_cmp needed.now) (functions_at functions.now) (insts_at live.now)) }
+    ensures { IfOk result (λ types. types.items ≡ types_by readings.now (is_in mentioned.now) (is_in needed.now) (functions_at functions.now) (insts_at live.now)) }
 {
     let mut types = Vec::new(alloc);
     let globals = readings.module().globals();
@@ -84,12 +83,12 @@ fn written_types(
 pub fn written_structs(
     alloc: Global,
     readings: &Readings,
-    mentioned: &BTreeSet<u32>,
-    needed: &BTreeSet<u32>,
+    mentioned: &IdSet,
+    needed: &IdSet,
     functions: &[&Function],
     live: &[&Inst],
-) -> Result<BTreeSet<u32>, Memory>
-    ensures { IfOk result (λ structs. (id : ℕ) → contains nat_cmp structs id ≡ list_any (type_has_struct readings.now.of.globals id) (types_by readings.now (contains nat_cmp mentioned.now) (contains nat_cmp needed.now) (functions_at functions.now) (insts_at live.now))) }
+) -> Result<IdSet, Memory>
+    ensures { IfOk result (λ structs. (id : ℕ) → is_in structs id ≡ list_any (type_has_struct readings.now.of.globals id) (types_by readings.now (is_in mentioned.now) (is_in needed.now) (functions_at functions.now) (insts_at live.now))) }
 {
     let types = written_types(alloc, readings, mentioned, needed, functions, live)?;
     structs_of(alloc, readings.module(), &types)

@@ -7,11 +7,11 @@ use crate::mentions::mentioned;
 use crate::needed::{declares, is_written, needed};
 use crate::types::written_structs;
 use constant_text::Readings;
+use id_map::IdSet;
 use spv_decor::Decor;
 use spv_module::{Function, Id, Inst, Module};
 use spv_words::Memory;
 use std::alloc::Global;
-use std::collections::BTreeSet;
 use std::marker::Model;
 
 /// What of a module is written into its text: variables, named constants and structs (GLSL 4.60, chapter 4). Contracts see the
@@ -23,9 +23,9 @@ pub struct Written<'a, 'b> {
     functions: &'a [&'b Function],
     live: &'a [&'b Inst],
     // the ids that the functions mention; the constants that the text needs; the structs of what is written
-    mentioned: BTreeSet<u32>,
-    needed: BTreeSet<u32>,
-    structs: BTreeSet<u32>,
+    mentioned: IdSet,
+    needed: IdSet,
+    structs: IdSet,
 }
 
 impl<'a, 'b> Model for Written<'a, 'b> {
@@ -53,7 +53,7 @@ impl<'a, 'b> Written<'a, 'b> {
         requires { decor.now ≡ readings.now.of.heads }
         ensures { IfOk result (λ w. w ≡ record { source = readings.now; reached = reached_of functions.now live.now }) }
     {
-        let mentioned = mentioned(alloc, functions)?;
+        let mentioned = mentioned(alloc, readings, functions, live)?;
         let needed = needed(alloc, readings, &mentioned, live)?;
         let structs = written_structs(alloc, readings, &mentioned, &needed, functions, live)?;
         Ok(Written {
@@ -107,6 +107,6 @@ impl<'a, 'b> Written<'a, 'b> {
         // OpTypeStruct; Block
         inst.op == 30
             && self.decor.value(Id(inst.result), 2).is_none()
-            && self.structs.contains(&inst.result)
+            && self.structs.has(inst.result)
     }
 }

@@ -1,19 +1,22 @@
 -- What is counted once while a loop goes over labels.
-use Rattle.std.proofs.Common.{◌≡◌, ◌==◌, ◌&&◌, ◌||◌, ◌<◌, ◌≤◌, ◌^◌, not, ℕ, Bool, true, false, List, length, min, cond, refl, ap, sym, ◌∙◌, arith}
-use Rattle.std.specs.List.{count_by}
+use Rattle.std.proofs.Common.{◌≡◌, ◌==◌, ◌&&◌, ◌||◌, ◌<◌, ◌≤◌, ◌+◌, ◌^◌, not, ℕ, Bool, true, false, List, [], ◌∷◌, length, map, min, cond, refl, ap, sym, ◌∙◌, arith}
+use Rattle.std.specs.List.{count_by, filter, enumerate_from}
 use Rattle.std.specs.Ordering.{nat_cmp, ordering_then, is_eq}
 use Rattle.std.specs.declared.cmp.Ordering.{Ordering}
 use Rattle.std.specs.declared.cmp.Ordering.TheVariants.{Less, Equal, Greater}
 use Rattle.std.proofs.lemmas.Bool.Decides.{nat_tests}
 use Rattle.std.proofs.lemmas.List.Sums.{count_by-le-length}
-use Rattle.std.specs.BTreeMap.{BTreeMap, get}
+use Rattle.id_map.specs.declared.map.IdMap.{IdMap}
+use Rattle.id_map.specs.Entries.{entry_in}
 use Rattle.std.specs.BTreeSet.{BTreeSet, contains}
+use Rattle.spv_module.specs.declared.inst.Inst.{Inst}
+use Rattle.profile_rules.specs.FlowRules.{is_target, targets}
 use Rattle.type_rules.specs.Edges.{count_at, raised, pair_cmp, most}
 
 -- what was seen and counted, where `old` was seen before and now `some` too
-pub record AreCounted (some : ℕ → Bool) (old_seen new_seen : BTreeSet ℕ) (old_counts new_counts : BTreeMap ℕ ℕ) : Type 0 where
+pub record AreCounted (some : ℕ → Bool) (old_seen new_seen : BTreeSet ℕ) (old_counts new_counts : IdMap ℕ) : Type 0 where
   pub seen : (x : ℕ) → contains nat_cmp new_seen x ≡ (contains nat_cmp old_seen x || some x)
-  pub counts : (x : ℕ) → count_at (get nat_cmp new_counts) x ≡ raised (some x && not (contains nat_cmp old_seen x)) (count_at (get nat_cmp old_counts) x)
+  pub counts : (x : ℕ) → count_at (entry_in new_counts) x ≡ raised (some x && not (contains nat_cmp old_seen x)) (count_at (entry_in old_counts) x)
 
 pub counted_step : (more before seen : Bool) (n : ℕ) → raised (more && not (seen || before)) (raised (before && not seen) n) ≡ raised ((before || more) && not seen) n
 counted_step true true true n = refl
@@ -71,3 +74,22 @@ pub too_many : {X : Type 0} (p : X → Bool) (xs : List X) (n all : ℕ) → len
 too_many p xs n all has past =
     let few = count_by-le-length p xs in
     grind (arith, nat_tests, few, has, past)
+
+none_of : (a b c : Bool) → ((a || b) || c) ≡ false → (a ≡ false) × (b ≡ false) × (c ≡ false)
+none_of true b c other = cc
+none_of false true c other = cc
+none_of false false true other = cc
+none_of false false false other = (refl, refl, refl)
+
+goes_nowhere : (op k : ℕ) (ws : List ℕ) → (op == 249) ≡ false → (op == 250) ≡ false → (op == 251) ≡ false → filter (λ (o : ℕ × ℕ). is_target op o.0) (enumerate_from k ws) ≡ []
+goes_nowhere op k [] branch conditional switch = refl
+goes_nowhere op k (w ∷ ws) branch conditional switch =
+    let rest : List (ℕ × ℕ) = filter (λ (o : ℕ × ℕ). is_target op o.0) (enumerate_from (k + 1) ws) in
+    let none : is_target op k ≡ false = rw (branch, conditional, switch) refl in
+    ap (λ b. cond b ((k, w) ∷ rest) rest) none ∙ goes_nowhere op (k + 1) ws branch conditional switch
+
+-- what is no branch and no switch goes nowhere
+pub no_targets : (i : Inst) → (((i.op == 249) || (i.op == 250)) || (i.op == 251)) ≡ false → targets i ≡ []
+no_targets i other =
+    let none = none_of (i.op == 249) (i.op == 250) (i.op == 251) other in
+    ap (map (λ (o : ℕ × ℕ). o.1)) (goes_nowhere i.op 0 i.args none.0 none.1 none.2)

@@ -1,16 +1,17 @@
 // The edges between the blocks of a function.
 ghost use Rattle.std.specs.Prelude.{◌≡◌, ◌==◌, ◌&&◌, ◌||◌, not, ℕ, IfOk, OnOk, min, count_by, if◌then◌else◌};
 ghost use Rattle.std.specs.List.{list_any};
-ghost use Rattle.std.specs.BTreeMap.{get};
+ghost use Rattle.id_map.specs.Entries.{entry_in};
 ghost use Rattle.std.specs.BTreeSet.{contains};
 ghost use Rattle.std.specs.Ordering.{nat_cmp};
 ghost use Rattle.profile_rules.specs.FlowRules.{is_target as is_target_of, targets as targets_in, goes, goes_to, is_predecessor};
 ghost use Rattle.type_rules.specs.Edges.{pair_cmp, count_at, raised, AreCounts, ArePairs};
 
+use id_map::IdMap;
 use spv_module::{Block, Function, Inst};
 use spv_words::Memory;
 use std::alloc::{AllocError, Global};
-use std::collections::{BTreeMap, BTreeSet};
+use std::collections::BTreeSet;
 use std::marker::Model;
 
 /// From which blocks of a function there are edges to each label, and from how many. Contracts see
@@ -20,13 +21,12 @@ pub struct Edges<'a> {
     function: &'a Function,
     // the source and the target
     pairs: BTreeSet<(u32, u32)>,
-    counts: BTreeMap<u32, u64>,
+    counts: IdMap<u64>,
 }
 
 impl<'a> Model for Edges<'a> {
-    ghost use Rattle.std.specs.BTreeMap.{get};
+    ghost use Rattle.id_map.specs.Entries.{entry_in};
     ghost use Rattle.std.specs.BTreeSet.{contains};
-    ghost use Rattle.std.specs.Ordering.{nat_cmp};
     ghost use Rattle.spv_module.specs.declared.inst.Function.{Function};
     ghost use Rattle.type_rules.specs.Edges.{AreEdges, pair_cmp};
 
@@ -34,7 +34,7 @@ impl<'a> Model for Edges<'a> {
 
     ghost view = { λ e. e.function.now };
 
-    ghost invariant = { λ e. AreEdges e.function.now (contains pair_cmp e.pairs) (get nat_cmp e.counts) };
+    ghost invariant = { λ e. AreEdges e.function.now (contains pair_cmp e.pairs) (entry_in e.counts) };
 }
 
 /// Whether operand k is a label to which an instruction goes.
@@ -50,10 +50,20 @@ fn is_target(op: u16, k: usize) -> bool
     }
 }
 
+/// Whether this is OpBranch, OpBranchConditional or OpSwitch.
+fn is_branch(op: u16) -> bool
+    ensures { result ≡ (((op == 249) || (op == 250)) || (op == 251)) }
+{
+    op == 249 || op == 250 || op == 251
+}
+
 /// The labels to which an instruction goes.
 fn targets(alloc: Global, inst: &Inst) -> Result<Vec<u32>, AllocError>
     ensures { IfOk result (λ v. v.items ≡ targets_in inst.now) }
 {
+    if !is_branch(inst.op) {
+        return Ok(Vec::new(alloc));
+    }
     inst.args
         .as_slice()
         .iter()
@@ -64,10 +74,10 @@ fn targets(alloc: Global, inst: &Inst) -> Result<Vec<u32>, AllocError>
 }
 
 /// Counts a label once more.
-fn raise(counts: &mut BTreeMap<u32, u64>, label: u32) -> Result<(), AllocError>
-    ensures { OnOk result ((x : ℕ) → count_at (get nat_cmp counts.new) x ≡ raised (label == x) (count_at (get nat_cmp counts.old) x)) }
+fn raise(counts: &mut IdMap<u64>, label: u32) -> Result<(), AllocError>
+    ensures { OnOk result ((x : ℕ) → count_at (entry_in counts.new) x ≡ raised (label == x) (count_at (entry_in counts.old) x)) }
 {
-    let count = counts.get(&label).copied().unwrap_or(0);
+    let count = counts.get(label).unwrap_or(0);
     counts.insert(label, count.saturating_add(1))?;
     Ok(())
 }
@@ -75,11 +85,11 @@ fn raise(counts: &mut BTreeMap<u32, u64>, label: u32) -> Result<(), AllocError>
 /// Counts a label where it was not seen.
 fn count_label(
     seen: &mut BTreeSet<u32>,
-    counts: &mut BTreeMap<u32, u64>,
+    counts: &mut IdMap<u64>,
     label: u32,
 ) -> Result<(), AllocError>
     ensures seen { OnOk result ((x : ℕ) → contains nat_cmp seen.new x ≡ (contains nat_cmp seen.old x || (label == x))) }
-    ensures counts { OnOk result ((x : ℕ) → count_at (get nat_cmp counts.new) x ≡ raised ((label == x) && not (contains nat_cmp seen.old x)) (count_at (get nat_cmp counts.old) x)) }
+    ensures counts { OnOk result ((x : ℕ) → count_at (entry_in counts.new) x ≡ raised ((label == x) && not (contains nat_cmp seen.old x)) (count_at (entry_in counts.old) x)) }
 {
     if !seen.contains(&label) {
         raise(counts, label)?;
@@ -91,11 +101,11 @@ fn count_label(
 /// Counts each of these labels once, where it was not seen.
 fn count_labels(
     seen: &mut BTreeSet<u32>,
-    counts: &mut BTreeMap<u32, u64>,
+    counts: &mut IdMap<u64>,
     labels: &[u32],
 ) -> Result<(), AllocError>
     ensures seen { OnOk result ((x : ℕ) → contains nat_cmp seen.new x ≡ (contains nat_cmp seen.old x || list_any (λ l. l == x) labels.now)) }
-    ensures counts { OnOk result ((x : ℕ) → count_at (get nat_cmp counts.new) x ≡ raised (list_any (λ l. l == x) labels.now && not (contains nat_cmp seen.old x)) (count_at (get nat_cmp counts.old) x)) }
+    ensures counts { OnOk result ((x : ℕ) → count_at (entry_in counts.new) x ≡ raised (list_any (λ l. l == x) labels.now && not (contains nat_cmp seen.old x)) (count_at (entry_in counts.old) x)) }
 {
     for label in labels {
         count_label(seen, counts, *label)?;
@@ -104,12 +114,8 @@ fn count_labels(
 }
 
 /// Counts each label to which a block goes once.
-fn count_block(
-    alloc: Global,
-    counts: &mut BTreeMap<u32, u64>,
-    block: &Block,
-) -> Result<(), AllocError>
-    ensures { OnOk result ((x : ℕ) → count_at (get nat_cmp counts.new) x ≡ raised (goes_to x block.now) (count_at (get nat_cmp counts.old) x)) }
+fn count_block(alloc: Global, counts: &mut IdMap<u64>, block: &Block) -> Result<(), AllocError>
+    ensures { OnOk result ((x : ℕ) → count_at (entry_in counts.new) x ≡ raised (goes_to x block.now) (count_at (entry_in counts.old) x)) }
 {
     let mut seen = BTreeSet::new(alloc);
     for inst in block.insts.as_slice() {
@@ -119,11 +125,16 @@ fn count_block(
     Ok(())
 }
 
+/// The labels of blocks.
+fn labels_of(alloc: Global, blocks: &[Block]) -> Result<Vec<u32>, AllocError> {
+    blocks.iter().map(|block| block.label.0).collect(alloc)
+}
+
 /// From how many blocks there are edges to each label.
-fn counts_of(alloc: Global, blocks: &[Block]) -> Result<BTreeMap<u32, u64>, AllocError>
-    ensures { IfOk result (λ counts. AreCounts blocks.now (get nat_cmp counts)) }
+fn counts_of(alloc: Global, blocks: &[Block]) -> Result<IdMap<u64>, AllocError>
+    ensures { IfOk result (λ counts. AreCounts blocks.now (entry_in counts)) }
 {
-    let mut counts = BTreeMap::new(alloc);
+    let mut counts = IdMap::for_ids(alloc, &labels_of(alloc, blocks)?)?;
     for block in blocks {
         count_block(alloc, &mut counts, block)?;
     }
@@ -203,7 +214,7 @@ impl<'a> Edges<'a> {
     pub fn is_count(&self, target: u32, n: usize) -> bool
         ensures { result ≡ (n == count_by (goes_to target) self.now.blocks) }
     {
-        let count = self.counts.get(&target).copied().unwrap_or(0);
+        let count = self.counts.get(target).unwrap_or(0);
         n <= self.function.blocks.len() && n as u64 == count
     }
 }

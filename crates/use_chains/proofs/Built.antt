@@ -1,23 +1,21 @@
 -- The rows while all slots are linked, and while those that are not live are taken out.
-use Rattle.std.proofs.Common.{◌≡◌, ◌≢◌, ◌<◌, ◌≤◌, ◌+◌, ◌-◌, ◌==◌, ◌&&◌, ◌||◌, ◌⊎◌, not, ℕ, zero, suc, Bool, true, false, List, [], ◌∷◌, ◌++◌, length, get_or, map, filter, replicate, refl, ap, sym, ◌∙◌, subst, cond, inl, inr, arith, Option, Some, None, Contains, if◌then◌else◌}
-use Rattle.std.specs.List.{count_by, position_from, enumerate_from, slice_index}
+use Rattle.std.proofs.Common.{◌≡◌, ◌≢◌, ◌<◌, ◌≤◌, ◌+◌, ◌==◌, ℕ, zero, suc, Bool, true, false, List, [], ◌∷◌, length, get_or, map, filter, replicate, refl, ap, sym, ◌∙◌, subst, cond, inl, inr, arith, Option, Some, None, Contains, if◌then◌else◌}
+use Rattle.std.specs.List.{count_by, position_from, enumerate_from}
 use Rattle.std.specs.Option.{is_some, option_map_or}
-use Rattle.std.proofs.Math.ListN.{set}
-use Rattle.std.proofs.lemmas.Bool.{and_parts, and_left, cases_Bool, cases_eq, cases_lt, eq-eqb, ne_eqb, both_ways}
-use Rattle.std.proofs.lemmas.Bool.Decides.{eqb_tells}
+use Rattle.std.proofs.lemmas.Bool.{and_parts, and_left, cases_Bool, cases_eq, cases_lt, eq-eqb, both_ways}
 use Rattle.std.proofs.lemmas.List.{get_or-set_same, get_or-set_other, get_or_past, get_or-replicate, length-set, length-map, length-replicate}
 use Rattle.std.proofs.lemmas.List.Elements.{at_from_Contains}
 use Rattle.std.proofs.lemmas.List.Sums.{sum_by-cons}
 use Rattle.use_chains.specs.declared.mention.Mention.{Mention}
 use Rattle.use_chains.specs.declared.rows.Row.{Row}
 use Rattle.use_chains.specs.declared.chains.Ends.{Ends}
-use Rattle.use_chains.specs.Order.{IsFirst, IsLast, IsLastAt}
+use Rattle.use_chains.specs.Order.{IsFirst, IsLast}
 use Rattle.use_chains.specs.Chains.{ChainsState, ends_of, no_ends, place_of}
 use Rattle.use_chains.specs.Links.{Link, link_of, links_kept}
-use Rattle.use_chains.specs.Linked.{AreLinked, row, no_row, names, is_named, with_next, with_prev, with_row, without_row, taken_out, put_in, links_from}
-use Rattle.use_chains.specs.Search.{nth, no_mention, is_marked}
-use Rattle.use_chains.specs.Building.{free_row, IsEmpty, AreListed, AreRows, IsLinkedTo, IsDroppedTo}
-use Rattle.use_chains.proofs.Moves.{keeps, next_keeps, prev_keeps, length-next, length-prev, linked_within}
+use Rattle.use_chains.specs.Linked.{AreLinked, row, no_row, names, is_named, with_next, with_row, without_row, taken_out, put_in, links_from}
+use Rattle.use_chains.specs.Search.{nth, is_marked}
+use Rattle.use_chains.specs.Building.{free_row, IsEmpty, IsLinkedTo, IsDroppedTo}
+use Rattle.use_chains.proofs.Moves.{keeps, next_keeps, prev_keeps, length-next, length-prev}
 
 pub ends_none : (ids : List ℕ) (n id : ℕ) → ends_of (record { ids = ids; ends = replicate n no_ends }) id ≡ no_ends
 ends_none ids n id = at (place_of ids id)

@@ -1,6 +1,6 @@
 -- What a binary search among the ids finds.
-use Rattle.std.proofs.Common.{◌≡◌, ◌≢◌, ◌<◌, ◌≤◌, ◌+◌, ◌==◌, ℕ, zero, suc, Bool, true, false, List, [], ◌∷◌, length, get_or, refl, ap, sym, ◌∙◌, subst, cond, inl, inr, arith, MatchResult, Option, Some, None, Result, Ok, Err}
-use Rattle.std.specs.List.{position_from, slice_index}
+use Rattle.std.proofs.Common.{◌≡◌, ◌≢◌, ◌<◌, ◌≤◌, ◌+◌, ◌==◌, ℕ, zero, suc, Bool, true, false, List, [], ◌∷◌, length, get_or, refl, ap, sym, ◌∙◌, subst, cond, inl, inr, arith, Option, Some, None, IfSome, Ok, Err}
+use Rattle.std.specs.List.{position_from}
 use Rattle.std.specs.List.Sorted.{IsBinarySearchResult}
 use Rattle.std.specs.Ordering.{nat_cmp}
 use Rattle.std.proofs.Math.ListN.{set}
@@ -8,9 +8,9 @@ use Rattle.std.proofs.lemmas.Bool.{eq-eqb, ne_eqb, cases_lt, cases_eq}
 use Rattle.std.proofs.lemmas.Bool.Decides.{eqb_tells}
 use Rattle.std.proofs.lemmas.List.{get_or-set_same, get_or-set_other}
 use Rattle.std.proofs.lemmas.List.Sorted.{searched}
-use Rattle.std.specs.Option.{is_some, option_map_or}
+use Rattle.std.specs.Option.{option_map_or}
 use Rattle.use_chains.specs.declared.chains.Ends.{Ends}
-use Rattle.use_chains.specs.Chains.{ChainsState, AreChains, ArePut, place_of, ends_of, no_ends}
+use Rattle.use_chains.specs.Chains.{AreChains, ArePut, place_of, no_ends}
 
 pub position_hit : (t : ℕ → Bool) (n : ℕ) (xs : List ℕ) (k : ℕ) → k < length xs → t (get_or xs k 0) ≡ true → ((j : ℕ) → j < k → t (get_or xs j 0) ≡ false) → position_from t n xs ≡ Some (n + k)
 position_hit t n [] k inside e before = absurd (omega arith)
@@ -72,6 +72,10 @@ place_is ids id p e =
     let is : p ≡ 0 + at.0 = at.1 in
     let same : at.0 ≡ p = omega (arith, is) in
     (subst (λ k. k < length ids) same at.2, subst (λ k. get_or ids k 0 ≡ id) same at.3)
+
+pub place_within : (ids : List ℕ) (ends : List Ends) (id : ℕ) (o : Option ℕ) → length ends ≡ length ids → o ≡ place_of ids id → IfSome o (λ p. p < length ends)
+place_within ids ends id None sized is = tt
+place_within ids ends id (Some p) sized is = let less = (place_is ids id p (sym is)).0 in omega (arith, less, sized)
 
 pub ends_put : (ids : List ℕ) (ends : List Ends) (id p : ℕ) (e : Ends) → length ends ≡ length ids → place_of ids id ≡ Some p → ArePut (record { ids = ids; ends = ends }) (record { ids = ids; ends = set ends p e }) id e
 ends_put ids ends id p e sized here = λ i. elim (cases_eq i id) [

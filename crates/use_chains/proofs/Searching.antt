@@ -1,13 +1,13 @@
 -- The steps of the search for live slots.
-use Rattle.std.proofs.Common.{◌≡◌, ◌≢◌, ◌<◌, ◌≤◌, ◌+◌, ◌-◌, ◌==◌, ◌&&◌, ◌||◌, ◌⊎◌, not, ℕ, zero, suc, Bool, true, false, List, [], ◌∷◌, ◌++◌, length, get_or, refl, ap, sym, ◌∙◌, subst, cond, inl, inr, arith, below_more, Option, Some, None, MatchOption, if◌then◌else◌}
+use Rattle.std.proofs.Common.{◌≡◌, ◌≢◌, ◌<◌, ◌≤◌, ◌+◌, ◌==◌, ◌⊎◌, not, ℕ, Bool, true, false, List, [], ◌∷◌, ◌++◌, length, get_or, refl, ap, sym, ◌∙◌, subst, cond, inl, inr, arith, Option, Some, None, MatchOption, if◌then◌else◌}
 use Rattle.std.specs.List.{count_by, slice_index}
 use Rattle.std.proofs.Math.ListN.{set}
-use Rattle.std.proofs.lemmas.Bool.{and_parts, and_from, and_left, and_right, cases_Bool, cases_eq, cases_lt, cases_order, eq-eqb, ne_eqb, eqb-true, both_ways, false_from_ne_true, not_from_true, not_from_false, not-true}
+use Rattle.std.proofs.lemmas.Bool.{and_parts, cases_Bool, cases_eq, cases_lt, cases_order, eq-eqb, ne_eqb, eqb-true, both_ways, false_from_ne_true, not_from_true, not_from_false, not-true}
 use Rattle.std.proofs.lemmas.List.{get_or-set_same, get_or-set_other, get_or_past, get_or_append_left, get_or_push, length-set, length_push}
 use Rattle.std.proofs.lemmas.List.Sums.{sum_by-set, sum_by_push, count_by-le-length}
 use Rattle.use_chains.specs.declared.mention.Mention.{Mention}
-use Rattle.use_chains.specs.Order.{IsFirst, IsLast, IsLastAt}
-use Rattle.use_chains.specs.Search.{no_mention, nth, is_marked, defines, IsClosedSlots, IsLiveSlot, AreEarlier, HasEarlier, IsVisited, IsWaiting, IsFresh, IsOpen, AreFound, IsSearch, IsAdded, AreLiveSlots, IsBefore, AreFirst}
+use Rattle.use_chains.specs.Order.{IsLast}
+use Rattle.use_chains.specs.Search.{no_mention, nth, is_marked, defines, IsLiveSlot, AreEarlier, IsVisited, IsWaiting, IsOpen, AreFound, IsSearch, IsAdded, AreLiveSlots, IsBefore, AreFirst}
 
 pub defines_within : (ms : List Mention) (id k : ℕ) → defines ms id k ≡ true → k < length ms
 defines_within ms id k e = elim (cases_lt k (length ms)) [
@@ -49,9 +49,8 @@ earlier_more ms k last last' earlier r inside a b =
     record {
       sized = length_push earlier r ∙ ap (λ n. n + 1) a.sized;
       lasts = λ id. last_more ms k id (last id) (last' id) (a.lasts id)
-          (λ e. let both = and_parts m.is_pure (m.result == id) e in
-          b.new_is id ∙ ap (λ t. pick t (Some k) (last id)) (and_from m.is_pure (id == m.result) both.0 (eq-eqb id m.result (sym (eqb-true m.result id both.1)))))
-          (λ e. b.new_is id ∙ ap (λ t. pick t (Some k) (last id)) (false_from_ne_true (m.is_pure && (id == m.result)) (λ f. let both = and_parts m.is_pure (id == m.result) f in both_ways (defines ms id k) e (and_from m.is_pure (m.result == id) both.0 (eq-eqb m.result id (sym (eqb-true id m.result both.1)))))));
+          (λ e. b.new_is id ∙ ap (λ t. pick t (Some k) (last id)) e)
+          (λ e. b.new_is id ∙ ap (λ t. pick t (Some k) (last id)) e);
       before = λ j less pure. elim (cases_eq j k) [
         | inl same ↦ subst (λ i. IsLast (defines ms (nth ms i).result) i (get_or (earlier ++ r ∷ []) i None)) (sym same)
             (subst (IsLast (defines ms m.result) k) (sym (get_or_push earlier r None k a.sized ∙ (b.before_is ∙ ap (λ t. pick t (last m.result) None) (subst (λ i. (nth ms i).is_pure ≡ true) same pure)))) (a.lasts m.result))
@@ -245,7 +244,7 @@ added_more ms id marks list marks' list' k r a live before =
     )
 
 -- a slot of the list is visited
-pub search_next : (ms : List Mention) (marks : List Bool) (list : List ℕ) (place id : ℕ) (last : ℕ → Option ℕ) (marks' : List Bool) (list' : List ℕ) (last' : ℕ → Option ℕ) → IsSearch ms marks list place last → place < length list → (nth ms (slice_index list place)).id ≡ id → IsAdded ms id marks list marks' list' None → ((i : ℕ) → last' i ≡ (if i == id then None else last i)) → IsSearch ms marks' list' (place + 1) last'
+pub search_next : (ms : List Mention) (marks : List Bool) (list : List ℕ) (place id : ℕ) (last : ℕ → Option ℕ) (marks' : List Bool) (list' : List ℕ) (last' : ℕ → Option ℕ) → IsSearch ms marks list place last → place < length list → (nth ms (slice_index list place)).id ≡ id → IsAdded ms id marks list marks' list' None → ((i : ℕ) → last' i ≡ (if id == i then None else last i)) → IsSearch ms marks' list' (place + 1) last'
 search_next ms marks list place id last marks' list' last' s there mentions a put =
     record {
       found = a.found;
@@ -266,8 +265,8 @@ search_next ms marks list place id last marks' list' last' s there mentions a pu
             inl (w.0, (let h : place + 1 ≤ w.0 = omega (arith, from, there) in h), w.2, w.3)
       ];
       lasts = λ i. elim (cases_eq i id) [
-        | inl same ↦ subst (IsOpen ms marks' i) (sym (put i ∙ ap (λ t. cond {A = Option ℕ} t None (last i)) (eq-eqb i id same))) (subst (λ d. (j : ℕ) → defines ms d j ≡ true → is_marked marks' j ≡ true) (sym same) a.left)
-        | inr apart ↦ subst (IsOpen ms marks' i) (sym (put i ∙ ap (λ t. cond {A = Option ℕ} t None (last i)) (ne_eqb i id apart))) (open_still i apart (last i) (s.lasts i))
+        | inl same ↦ subst (IsOpen ms marks' i) (sym (put i ∙ ap (λ t. cond {A = Option ℕ} t None (last i)) (eq-eqb id i (sym same)))) (subst (λ d. (j : ℕ) → defines ms d j ≡ true → is_marked marks' j ≡ true) (sym same) a.left)
+        | inr apart ↦ subst (IsOpen ms marks' i) (sym (put i ∙ ap (λ t. cond {A = Option ℕ} t None (last i)) (ne_eqb id i (λ e. apart (sym e))))) (open_still i apart (last i) (s.lasts i))
       ];
     }
   where

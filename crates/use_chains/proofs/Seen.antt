@@ -1,17 +1,17 @@
 -- The list of the links, against the rows.
-use Rattle.std.proofs.Common.{◌≡◌, ◌≢◌, ◌<◌, ◌≤◌, ◌+◌, ◌^◌, ◌==◌, ◌&&◌, ◌||◌, ◌⊎◌, not, ℕ, zero, suc, Bool, true, false, List, [], ◌∷◌, length, get_or, filter, map, refl, ap, sym, ◌∙◌, subst, cond, inl, inr, arith, Option, Some, None, if◌then◌else◌}
+use Rattle.std.proofs.Common.{◌≡◌, ◌<◌, ◌≤◌, ◌+◌, ◌^◌, ◌==◌, ◌&&◌, not, ℕ, zero, suc, Bool, true, false, List, [], ◌∷◌, length, filter, refl, ap, sym, ◌∙◌, subst, cond, inl, inr, arith, Option, Some, None, if◌then◌else◌}
 use Rattle.std.specs.List.{count_by, list_any, find}
 use Rattle.std.specs.Option.{option_map}
 use Rattle.std.proofs.Math.ListN.{set}
-use Rattle.std.proofs.lemmas.Bool.{and_parts, and_from, and_left, and_right, cases_Bool, cases_eq, cases_lt, eq-eqb, ne_eqb, eqb-true, eqb-false, both_ways, or_left, or_right, or_cases, not_from_true, not_from_false, false_from_ne_true, ltb-true, lt-ltb}
+use Rattle.std.proofs.lemmas.Bool.{and_parts, and_from, cases_Bool, eq-eqb, ne_eqb, eqb-true, or_left, or_right, or_cases, false_from_ne_true, ltb-true, lt-ltb}
 use Rattle.std.proofs.lemmas.List.Sums.{length-filter, sum_by-cons}
 use Rattle.use_chains.specs.declared.slot.Slot.{Slot}
 use Rattle.use_chains.specs.declared.rows.Row.{Row}
-use Rattle.use_chains.specs.Order.{IsFirst, IsFirstAt}
+use Rattle.use_chains.specs.Order.{IsFirst}
 use Rattle.use_chains.specs.Links.{Link, chain, next_link, link_at, has_slot, is_in_chain, is_linked, is_after, without_slot}
 use Rattle.use_chains.proofs.Moves.{named_within}
 use Rattle.use_chains.specs.Chains.{ChainsState}
-use Rattle.use_chains.specs.Linked.{AreLinked, row, no_row, names, is_named, links_from, with_next, with_prev, without_row, taken_out, IsSmall}
+use Rattle.use_chains.specs.Linked.{AreLinked, row, names, is_named, links_from, with_next, with_prev, without_row, taken_out, IsSmall}
 
 abbrev pub link : ℕ → Row → Link
 link n r = record { slot = n; place = r.place; id = r.id }

@@ -2,6 +2,8 @@
 use Rattle.std.specs.Prelude.{ℕ, ◌≡◌, ◌<◌, ◌==◌, List, Option, None, length, slice_index, slice_index_or, if◌then◌else◌}
 use Rattle.std.specs.Option.{option_map_or}
 use Rattle.std.specs.List.{position_from}
+use Rattle.id_map.specs.declared.map.IdMap.{IdMap}
+use Rattle.id_map.specs.Entries.{entry_in}
 use Rattle.use_chains.specs.declared.chains.Ends.{Ends}
 
 -- the ids, and the ends of their lists in the same order
@@ -16,6 +18,10 @@ pub record AreChains (ids : List ℕ) (ends : List Ends) : Type 0 where
 
 abbrev pub place_of : List ℕ → ℕ → Option ℕ
 place_of ids id = position_from (λ i. i == id) 0 ids
+
+-- the place of each id is kept
+abbrev pub ArePlaced : List ℕ → IdMap ℕ → Type 0
+ArePlaced ids places = (id : ℕ) → entry_in places id ≡ place_of ids id
 
 abbrev pub no_ends : Ends
 no_ends = record { first = None; last = None; count = 0 }

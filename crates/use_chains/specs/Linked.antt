@@ -1,5 +1,5 @@
 -- Slots that are linked to and fro, in one list for each id.
-use Rattle.std.specs.Prelude.{ℕ, ◌+◌, ◌-◌, ◌^◌, ◌≡◌, ◌<◌, ◌≤◌, ◌==◌, ◌&&◌, Bool, true, false, List, [], ◌∷◌, Option, Some, None, find, count_by, length, if◌then◌else◌, slice_index_or, slice_set}
+use Rattle.std.specs.Prelude.{ℕ, ◌+◌, ◌-◌, ◌^◌, ◌≡◌, ◌<◌, ◌==◌, ◌&&◌, Bool, true, false, List, [], ◌∷◌, Option, Some, None, count_by, length, if◌then◌else◌, slice_index_or, slice_set}
 use Rattle.use_chains.specs.declared.rows.Row.{Row}
 use Rattle.use_chains.specs.Chains.{ChainsState, ends_of}
 use Rattle.use_chains.specs.declared.chains.Ends.{Ends}

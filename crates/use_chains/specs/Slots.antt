@@ -11,7 +11,6 @@ use Rattle.spv_module.specs.declared.inst.Inst.{Inst}
 use Rattle.spv_module.specs.declared.inst.Block.{Block}
 use Rattle.spv_module.specs.declared.inst.Function.{Function}
 use Rattle.spv_index.specs.Locals.{block_in}
-use Rattle.use_chains.specs.declared.slot.SlotPlace.{SlotPlace}
 use Rattle.use_chains.specs.declared.mention.Mention.{Mention}
 
 -- the class of an instruction without effect

@@ -12,6 +12,9 @@ use crate::chains::{Chains, Ends};
 use crate::linking::{put_in, take_out};
 use crate::mention::Mention;
 use crate::rows::{Row, Rows};
+use id_map::IdSet;
+use spv_index::places_of;
+use spv_words::Memory;
 use std::alloc::{AllocError, Global};
 use std::collections::BTreeSet;
 use std::sync::ledger::Ledger;
@@ -36,15 +39,20 @@ pub fn unlinked(alloc: Global, slots: &[Mention]) -> Result<Vec<Row>, AllocError
 fn ids_of(alloc: Global, slots: &[Mention]) -> Result<BTreeSet<u32>, AllocError>
     ensures { IfOk result (λ ids. (k : ℕ) → k < length slots.now → contains nat_cmp ids (nth slots.now k).id ≡ true) }
 {
+    let mentioned = slots.iter().map(|slot| slot.id).collect::<Vec<u32>>(alloc)?;
+    let mut seen = IdSet::for_ids(alloc, &mentioned)?;
     let mut ids = BTreeSet::new(alloc);
     for slot in slots {
-        ids.insert(slot.id)?;
+        if !seen.has(slot.id) {
+            seen.insert(slot.id)?;
+            ids.insert(slot.id)?;
+        }
     }
     Ok(ids)
 }
 
 /// An empty list for each id that a slot mentions.
-pub fn empty(alloc: Global, slots: &[Mention]) -> Result<Chains, AllocError>
+pub fn empty(alloc: Global, slots: &[Mention]) -> Result<Chains, Memory>
     ensures empty { IfOk result IsEmpty }
     ensures listed { IfOk result (λ c. AreListed slots.now c.ids) }
 {
@@ -56,7 +64,8 @@ pub fn empty(alloc: Global, slots: &[Mention]) -> Result<Chains, AllocError>
         count: 0,
     };
     let ends = vec![in alloc; none; ids.len()]?;
-    Ok(Chains::new(ids, ends))
+    let places = places_of(alloc, &ids)?;
+    Ok(Chains::new(ids, ends, places))
 }
 
 /// Links all slots, each behind those that mention the same id.

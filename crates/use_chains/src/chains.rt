@@ -1,7 +1,8 @@
 // The lists of the ids, found by id.
 ghost use Rattle.std.specs.Prelude.{◌≡◌, ◌<◌, length, IfSome, is_some, false, true};
-ghost use Rattle.use_chains.specs.Chains.{AreChains, place_of, ends_of, ArePut, AreRenamed};
+ghost use Rattle.use_chains.specs.Chains.{AreChains, ArePlaced, place_of, ends_of, ArePut, AreRenamed};
 
+use spv_index::Places;
 use std::marker::Model;
 
 /// The ends of the list of the slots that mention an id, and how many these are.
@@ -18,25 +19,45 @@ pub struct Chains {
     // rising
     ids: Vec<u32>,
     ends: Vec<Ends>,
+    // where the ids stand, until one of them is renamed
+    places: Option<Places>,
 }
 
 impl Model for Chains {
-    ghost use Rattle.use_chains.specs.Chains.{ChainsState, AreChains};
+    ghost use Rattle.std.specs.Prelude.{IfSome};
+    ghost use Rattle.use_chains.specs.Chains.{ChainsState, AreChains, ArePlaced};
 
     ghost Value = { ChainsState };
 
     ghost view = { λ c. record { ids = c.ids.items; ends = c.ends.items } };
 
-    ghost invariant = { λ c. AreChains c.ids.items c.ends.items };
+    ghost invariant = { λ c. AreChains c.ids.items c.ends.items × IfSome c.places (ArePlaced c.ids.items) };
 }
 
 impl Chains {
-    /// The lists of these ids, in the same order.
-    pub fn new(ids: Vec<u32>, ends: Vec<Ends>) -> Chains
-        requires { AreChains ids.items ends.items }
+    /// The lists of these ids, in the same order, where these are the places of the ids.
+    pub fn new(ids: Vec<u32>, ends: Vec<Ends>, places: Places) -> Chains
+        requires chains { AreChains ids.items ends.items }
+        requires places { ArePlaced ids.items places }
         ensures { result ≡ record { ids = ids.items; ends = ends.items } }
     {
-        Chains { ids, ends }
+        Chains {
+            ids,
+            ends,
+            places: Some(places),
+        }
+    }
+
+    /// The place of an id among all, by a search.
+    #[tactic(auto, using(crate::proofs::Found::found_rules))]
+    fn searched(&self, id: u32) -> Option<usize>
+        ensures place { result ≡ place_of self.now.ids id }
+        ensures within { IfSome result (λ place. place < length self.now.ends) }
+    {
+        match self.ids.binary_search(&id) {
+            Ok(place) => Some(place),
+            Err(_) => None,
+        }
     }
 
     /// The place of an id among all.
@@ -45,9 +66,9 @@ impl Chains {
         ensures place { result ≡ place_of self.now.ids id }
         ensures within { IfSome result (λ place. place < length self.now.ends) }
     {
-        match self.ids.binary_search(&id) {
-            Ok(place) => Some(place),
-            Err(_) => None,
+        match &self.places {
+            Some(places) => places.get(id),
+            None => self.searched(id),
         }
     }
 
@@ -90,6 +111,7 @@ impl Chains {
         let Some(place) = self.place(from) else {
             return;
         };
+        self.places = None;
         self.ids.remove(place);
         let ends = self.ends.remove(place);
         // one was taken out, so there is room

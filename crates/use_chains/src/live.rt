@@ -1,45 +1,47 @@
 // Which slots belong to live instructions.
 ghost use Rattle.std.specs.Prelude.{◌≡◌, ◌+◌, ◌*◌, ◌<◌, ◌≤◌, ℕ, length, IfOk, OnOk, ◌==◌, None, if◌then◌else◌, true};
-ghost use Rattle.std.specs.BTreeMap.{get};
-ghost use Rattle.std.specs.Ordering.{nat_cmp};
+ghost use Rattle.id_map.specs.Entries.{entry_in};
 ghost use Rattle.use_chains.specs.Linked.{row};
 ghost use Rattle.use_chains.specs.Search.{nth, defines, AreEarlier, HasEarlier, AreFirst, AreFound, IsAdded, IsBefore, IsOpen, AreLiveSlots, IsLiveSlot};
 
 use crate::Steps;
 use crate::mention::Mention;
 use crate::rows::Rows;
+use id_map::IdMap;
 use spv_words::Memory;
 use std::alloc::{AllocError, Global};
-use std::collections::BTreeMap;
 use std::sync::ledger::Ledger;
 
 /// For each id the last slot of an instruction without effect that has this result, and for each such
 /// slot the one before it.
 #[derive(Drop)]
 struct Defined {
-    last: BTreeMap<u32, usize>,
+    last: IdMap<usize>,
     earlier: Vec<Option<usize>>,
 }
 
 /// The slot before, where this one is the last that defines an id.
-fn before(
-    last: &mut BTreeMap<u32, usize>,
-    slot: &Mention,
-    k: usize,
-) -> Result<Option<usize>, AllocError>
-    ensures { IfOk result (λ before. IsBefore slot.now k (get nat_cmp last.old) (get nat_cmp last.new) before) }
+fn before(last: &mut IdMap<usize>, slot: &Mention, k: usize) -> Result<Option<usize>, AllocError>
+    ensures { IfOk result (λ before. IsBefore slot.now k (entry_in last.old) (entry_in last.new) before) }
 {
     if slot.is_pure {
-        Ok(last.insert(slot.result, k)?)
+        let before = last.get(slot.result);
+        last.insert(slot.result, k)?;
+        Ok(before)
     } else {
         Ok(None)
     }
 }
 
+/// The results of the instructions of slots.
+fn results(alloc: Global, slots: &[Mention]) -> Result<Vec<u32>, AllocError> {
+    slots.iter().map(|slot| slot.result).collect(alloc)
+}
+
 fn definitions(alloc: Global, slots: &[Mention]) -> Result<Defined, AllocError>
-    ensures { IfOk result (λ d. AreEarlier slots.now (length slots.now) (get nat_cmp d.last) d.earlier.items) }
+    ensures { IfOk result (λ d. AreEarlier slots.now (length slots.now) (entry_in d.last) d.earlier.items) }
 {
-    let mut last = BTreeMap::new(alloc);
+    let mut last = IdMap::for_ids(alloc, &results(alloc, slots)?)?;
     let mut earlier = Vec::new(alloc);
     for (k, slot) in slots.iter().enumerate() {
         earlier.push(before(&mut last, slot, k)?)?;
@@ -67,20 +69,21 @@ fn add_all<L: Ledger>(
     slots: &[Mention],
     marks: &mut Vec<bool>,
     list: &mut Vec<usize>,
-    last: &mut BTreeMap<u32, usize>,
+    last: &mut IdMap<usize>,
     id: u32,
     earlier: &[Option<usize>],
     steps: &mut Steps<L>,
 ) -> Result<(), AllocError>
     requires found { AreFound slots.now marks.old.items list.old.items }
-    requires from { IsOpen slots.now marks.old.items id (get nat_cmp last.old id) }
+    requires from { IsOpen slots.now marks.old.items id (entry_in last.old id) }
     requires live { (j : ℕ) → defines slots.now id j ≡ true → IsLiveSlot slots.now j }
     requires earlier { HasEarlier slots.now earlier.now }
     ensures added { OnOk result (IsAdded slots.now id marks.old.items list.old.items marks.new.items list.new.items None) }
-    ensures last { OnOk result ((i : ℕ) → get nat_cmp last.new i ≡ (if i == id then None else get nat_cmp last.old i)) }
+    ensures last { OnOk result ((i : ℕ) → entry_in last.new i ≡ (if id == i then None else entry_in last.old i)) }
     ensures steps { OnOk result (steps.new + length list.old.items ≡ steps.old + length list.new.items) }
 {
-    let mut at = last.remove(&id);
+    let mut at = last.get(id);
+    last.remove(id);
     while let Some(k) = at {
         steps.tick();
         marks[k] = true;

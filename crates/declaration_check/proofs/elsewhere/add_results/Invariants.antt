@@ -1,8 +1,7 @@
 use Rattle.std.proofs.Common.{◌≡◌, ◌==◌, ◌||◌, ℕ, take}
 use Rattle.std.specs.List.{list_any}
-use Rattle.std.specs.BTreeSet.{contains}
-use Rattle.std.specs.Ordering.{nat_cmp}
+use Rattle.id_map.specs.Entries.{is_in}
 use Rattle.declaration_check.proofs.elsewhere.add_results.Given as goal
 
 abbrev pub invariant-loop-inst : goal.invariant-loop-inst
-invariant-loop-inst l = (id : ℕ) → contains nat_cmp l.ids id ≡ (contains nat_cmp l.initial.ids id || list_any (λ i. i.result == id) (take l.inst-index l.insts))
+invariant-loop-inst l = (id : ℕ) → is_in l.ids id ≡ (is_in l.initial.ids id || list_any (λ i. i.result == id) (take l.inst-index l.insts))

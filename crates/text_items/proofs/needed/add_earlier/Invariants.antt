@@ -1,8 +1,7 @@
 use Rattle.std.proofs.Common.{◌≡◌, ℕ, drop}
-use Rattle.std.specs.BTreeSet.{contains}
-use Rattle.std.specs.Ordering.{nat_cmp}
+use Rattle.id_map.specs.Entries.{is_in}
 use Rattle.text_rules.specs.Printed.{needed_from}
 use Rattle.text_items.proofs.needed.add_earlier.Given as goal
 
 abbrev pub invariant-loop-k : goal.invariant-loop-k
-invariant-loop-k l = (id : ℕ) → contains nat_cmp l.needed id ≡ needed_from l.readings (contains nat_cmp l.initial.needed) (drop l.k l.globals) id
+invariant-loop-k l = (id : ℕ) → is_in l.needed id ≡ needed_from l.readings (is_in l.initial.needed) (drop l.k l.globals) id

@@ -1,4 +1,4 @@
-use Rattle.std.proofs.Common.{◌≡◌, ◌++◌, ◌∷◌, map, take}
+use Rattle.std.proofs.Common.{◌≡◌, ◌++◌, map, take}
 use Rattle.spv_module.specs.declared.inst.Id.{Id}
 use Rattle.text_items.proofs.types.add_signature.Given as goal
 

@@ -1,5 +1,4 @@
-use Rattle.std.proofs.Common.{◌≡◌, ◌<◌, true, false, get_or, length, subst, sym, arith}
-use Rattle.std.proofs.lemmas.Bool.{not-true, not-false}
+use Rattle.std.proofs.Common.{◌<◌, length, subst, arith}
 use Rattle.use_chains.proofs.Built.{dropped_first, dropped_past, dropped_out}
 use Rattle.use_chains.proofs.build.drop_dead.Goals as goal
 use Rattle.use_chains.proofs.build.drop_dead.Goals.{then-not-is_live, else-not-is_live}

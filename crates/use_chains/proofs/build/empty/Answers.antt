@@ -1,4 +1,4 @@
-use Rattle.std.proofs.Common.{◌≡◌, ◌∙◌, ◌<◌, ℕ, List, Contains, replicate, length, ap, sym, subst, arith, rules}
+use Rattle.std.proofs.Common.{◌≡◌, ◌∙◌, ◌<◌, ℕ, List, Contains, replicate, length, ap, subst, arith, rules}
 use Rattle.std.proofs.lemmas.List.{length-replicate}
 use Rattle.std.proofs.lemmas.Map.Keys.{below_from_sorted}
 use Rattle.std.proofs.lemmas.Map.Views.{btree_set_contains_iff}
@@ -10,8 +10,8 @@ use Rattle.use_chains.specs.Search.{nth}
 use Rattle.use_chains.proofs.Built.{ends_none, listed_from}
 use Rattle.use_chains.proofs.build.empty.Goals as goal
 
-pub new-requires : goal.new-requires
-new-requires c =
+pub new-requires-clause-chains : goal.new-requires-clause-chains
+new-requires-clause-chains c =
     let ids : c.in_ok-ids.ids.items ≡ c.in_ok-mentioned.mentioned.keys = search rules in
     let ends : c.in_ok-ends.ends.items ≡ replicate c.len.result no_ends = search rules in
     record {

@@ -1,4 +1,4 @@
-use Rattle.std.proofs.Common.{◌≡◌, length}
+use Rattle.std.proofs.Common.{◌≡◌}
 use Rattle.use_chains.specs.Linked.{AreLinked}
 use Rattle.use_chains.specs.Building.{IsLinkedTo}
 use Rattle.use_chains.proofs.build.link_all.Given as goal

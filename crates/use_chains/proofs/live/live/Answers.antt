@@ -1,10 +1,10 @@
 use Rattle.std.proofs.Common.{◌≡◌, ◌∙◌, ◌<◌, ℕ, length, get_or, sym, ap, arith}
 use Rattle.std.proofs.lemmas.List.{get_or_read}
-use Rattle.use_chains.specs.declared.mention.Mention.{Mention}
 use Rattle.use_chains.specs.declared.rows.Row.{Row}
 use Rattle.use_chains.specs.Search.{nth}
 use Rattle.use_chains.specs.Linked.{row}
-use Rattle.use_chains.proofs.Searching.{search_end, search_next, search_length, live_step}
+use Rattle.id_map.specs.Entries.{entry_in}
+use Rattle.use_chains.proofs.Searching.{search_first, search_end, search_next, live_step}
 use Rattle.use_chains.proofs.live.live.Goals as goal
 
 pub add_all-requires-clause-live : goal.add_all-requires-clause-live
@@ -15,6 +15,9 @@ add_all-requires-clause-live g c =
     let mentions : (nth c.args.slots.now (get_or c.loop-place.list.items c.loop-place.place 0)).id ≡ c.visit-id.result.id =
     sym (c.requires.rows (get_or c.loop-place.list.items c.loop-place.place 0) (found.inside c.loop-place.place there)) ∙ (sym (ap (λ (k : ℕ). (row c.args.rows.now k).id) at) ∙ sym (ap (λ (r : Row). r.id) c.visit-id.ensures.row)) in
     live_step c.args.slots.now c.loop-place.marks.items c.loop-place.list.items c.loop-place.place c.visit-id.result.id found there mentions
+
+pub loop-place-init : goal.loop-place-init
+loop-place-init g c = (search_first c.args.slots.now c.in_ok-marks.marks.items c.in_ok-marks.list.items (entry_in c.in_ok-last.field-0.last) c.in_ok-last.field-0.earlier.items c.in_ok-marks.ensures c.in_ok-last.ensures, omega arith, omega arith)
 
 pub loop-place-preserved : goal.loop-place-preserved
 loop-place-preserved g c =

@@ -1,4 +1,4 @@
-use Rattle.std.proofs.Common.{◌≡◌, ◌<◌, ◌∙◌, ℕ, length, sym, subst}
+use Rattle.std.proofs.Common.{◌<◌, ◌∙◌, ℕ, length, sym, subst}
 use Rattle.use_chains.specs.Slots.{is_slot, mention}
 use Rattle.use_chains.proofs.Taken.{taken_yes, taken_no}
 use Rattle.use_chains.proofs.mention.add_slots_of_inst.Goals as goal

@@ -1,4 +1,4 @@
-use Rattle.std.proofs.Common.{List, Bool, length}
+use Rattle.std.proofs.Common.{length}
 use Rattle.use_chains.specs.Building.{IsDroppedTo}
 use Rattle.use_chains.proofs.Built.{dropped_links}
 use Rattle.use_chains.proofs.uses.linked.Goals as goal

@@ -1,10 +1,9 @@
-use Rattle.std.proofs.Common.{◌≡◌, ◌∙◌, ◌+◌, ℕ, List, Option, Some, None, true, sym, ap, subst}
+use Rattle.std.proofs.Common.{◌≡◌, ◌∙◌, ◌+◌, List, Option, Some, None, true, sym, ap, subst}
 use Rattle.std.specs.Option.{option_map}
 use Rattle.use_chains.specs.declared.slot.Slot.{Slot}
 use Rattle.use_chains.specs.declared.rows.Row.{Row}
 use Rattle.use_chains.specs.declared.chains.Ends.{Ends}
 use Rattle.use_chains.specs.Links.{Link, is_in_chain, next_link}
-use Rattle.use_chains.specs.Linked.{row, names, IsSmall}
 use Rattle.use_chains.proofs.Moves.{named_within}
 use Rattle.use_chains.proofs.Seen.{next_of_all, next_behind, first_small, given_named, given_next, walked_there, linked_in_chain}
 use Rattle.use_chains.proofs.uses.Uses.walk.Goals as goal
