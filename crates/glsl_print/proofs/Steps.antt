@@ -1,8 +1,8 @@
 -- Steps of printing, one after the other.
-use Rattle.std.proofs.Common.{suc, append_assoc, append-nil, add-one, drop, drop-cons, get_or, ◌<◌, ◌≤◌, subst, ◌≡◌, ◌+◌, ◌++◌, ℕ, List, [], ◌∷◌, length, take, Option, Some, None, Result, OnOk, Ok, Err, refl, sym, ap, ◌∙◌, arith}
+use Rattle.std.proofs.Common.{suc, append_assoc, append-nil, add-one, drop, drop-cons, get_or, ◌<◌, ◌≤◌, subst, ◌≡◌, ◌+◌, ◌-◌, ◌++◌, ℕ, replicate, List, [], ◌∷◌, length, take, Option, Some, None, Result, OnOk, Ok, Err, refl, sym, ap, ◌∙◌, arith}
 use Rattle.std.specs.Io.KnownBytes.{Appends}
 use Rattle.std.proofs.KnownBytes.{Appends-trans}
-use Rattle.std.proofs.lemmas.List.{take-append-le, take-append-drop, drop_all, length-append}
+use Rattle.std.proofs.lemmas.List.{take-append-le, take-append-drop, drop_all, length-append, replicate-append-replicate}
 use Rattle.std.proofs.Math.Seq.{take-append-add}
 use Rattle.cc_outside.specs.Causes.{AppendsPrefix, HasCauseOf}
 use Rattle.cc_outside.specs.declared.all.WriteEnd.{WriteEnd}
@@ -125,6 +125,14 @@ remains_piece {written = w} {faults = f} {wants = m} {a = a} {b = b} {c = c} {p 
 pub remains_held : {K : Type 0} {written : K → Option (List ℕ)} {faults wants : K → ℕ} {a b : K} {p q q' : PageState} {rest all : List ℕ} → Remains written faults wants a p rest all b q → q' ≡ record { held = q.held ++ rest; status = q.status } → Goes written faults wants a p all b q'
 remains_held {written = w} {faults = f} {wants = m} {a = a} {b = b} {p = p} {q = q} {rest = rest} {all = all} before is_held =
     rw is_held (remains_last before (goes_held b q.held rest q.status))
+
+-- blanks of which the first filled the page
+pub goes_blanks : {K : Type 0} {written : K → Option (List ℕ)} {faults wants : K → ℕ} {a b : K} {p q r r' : PageState} (n k : ℕ) → n < k → q ≡ record { held = p.held ++ replicate n 32; status = p.status } → Goes written faults wants a q [] b r → r' ≡ record { held = r.held ++ replicate (k - n) 32; status = r.status } → Goes written faults wants a p (replicate k 32) b r'
+goes_blanks {written = w} {faults = f} {wants = m} {a = a} {b = b} {p = p} {q = q} {r = r} {r' = r'} n k less is_held step is_left =
+    let first : Goes w f m a p (replicate n 32) a q = rw is_held (goes_held a p.held (replicate n 32) p.status) in
+    let left : Goes w f m b r (replicate (k - n) 32) b r' = rw is_left (goes_held b r.held (replicate (k - n) 32) r.status) in
+    let e : n + (k - n) ≡ k = omega (arith, less) in
+    subst (λ l. Goes w f m a p l b r') (replicate-append-replicate n (k - n) 32 ∙ ap (λ i. replicate i 32) e) (goes_then first (goes_then step left))
 
 -- one more item of a list
 pub remains_item : {K : Type 0} {written : K → Option (List ℕ)} {faults wants : K → ℕ} {a b c : K} {p q r : PageState} {all : List ℕ} {X : Type 0} (f : List X → List ℕ) (text : X → List ℕ) (xs : List X) (i : ℕ) (x : X) → ((y : X) (ys : List X) → f (y ∷ ys) ≡ text y ++ f ys) → i < length xs → x ≡ get_or xs i x → Remains written faults wants a p (f (drop i xs)) all b q → Goes written faults wants b q (text x) c r → Remains written faults wants a p (f (drop (i + 1) xs)) all c r

@@ -226,7 +226,7 @@ fn print_head<K: Sink>(name: &str, params: &[Param], sink: &mut K, page: &mut Pa
 fn print_function_body<K: Sink>(body: &[Stmt], sink: &mut K, page: &mut Page)
     ensures { Goes K.written K.faults K.wants sink.old page.old (body_text 1 (stmts_of body.now) ++ mark_text Mark.BodyClose) sink.new page.new }
 {
-    print_body(body, &Level::Under(&Level::Top), sink, page);
+    print_body(body, &Level::Top(1), sink, page);
     page.put_mark(Mark::BodyClose, sink);
 }
 

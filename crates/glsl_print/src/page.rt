@@ -1,5 +1,6 @@
 // The piece of a text that is not yet handed to the sink.
-ghost use Rattle.std.specs.Prelude.{◌≡◌, ◌+◌, ◌++◌, ◌≤◌, [], Ok, length};
+ghost use Rattle.std.specs.Prelude.{◌≡◌, ◌+◌, ◌++◌, ◌≤◌, [], Ok, length, replicate};
+ghost use Rattle.glsl_grammar.specs.Layout.{indent_text};
 ghost use Rattle.glsl_grammar.specs.Marks.{mark_text};
 ghost use Rattle.glsl_print.specs.Printed.{Goes};
 
@@ -77,6 +78,16 @@ impl Page {
         self.len = end;
     }
 
+    // Holds so many blanks too.
+    fn hold_blanks(&mut self, count: usize)
+        requires { length self.old.held + count ≤ 4096 }
+        ensures { self.new ≡ record { held = self.old.held ++ replicate count 32; status = self.old.status } }
+    {
+        let end = self.len + count;
+        self.bytes[self.len..end].fill(b' ');
+        self.len = end;
+    }
+
     /// Hands the sink what is held.
     pub fn hand_on<K: Sink>(&mut self, sink: &mut K)
         ensures empty { self.new.held ≡ [] }
@@ -105,5 +116,27 @@ impl Page {
         ensures { Goes K.written K.faults K.wants sink.old self.old (mark_text mark) sink.new self.new }
     {
         self.put(mark.bytes(), sink);
+    }
+
+    // Prints so many blanks.
+    fn put_blanks<K: Sink>(&mut self, count: usize, sink: &mut K)
+        requires { count ≤ 4096 }
+        ensures { Goes K.written K.faults K.wants sink.old self.old (replicate count 32) sink.new self.new }
+    {
+        let room = self.room();
+        if count <= room {
+            self.hold_blanks(count);
+        } else {
+            self.hold_blanks(room);
+            self.hand_on(sink);
+            self.hold_blanks(count - room);
+        }
+    }
+
+    /// Prints four blanks for each level.
+    pub fn put_levels<K: Sink>(&mut self, levels: u8, sink: &mut K)
+        ensures { Goes K.written K.faults K.wants sink.old self.old (indent_text levels) sink.new self.new }
+    {
+        self.put_blanks(4 * levels as usize, sink);
     }
 }

@@ -17,13 +17,15 @@ use glsl_ast::{Arm, Expr, LStep, LValue, Label, Stmt, TypeName};
 use glsl_grammar::Mark;
 
 // Prints four blanks for each level.
-#[tactic(auto, using(crate::proofs::Levels::level_rows))]
 fn indent<K: Sink>(level: &Level, sink: &mut K, page: &mut Page)
     ensures { Goes K.written K.faults K.wants sink.old page.old (indent_text (level_of level.now)) sink.new page.new }
 {
-    if let Level::Under(outer) = level {
-        page.put_mark(Mark::Indent, sink);
-        indent(outer, sink, page);
+    match level {
+        Level::Top(levels) => page.put_levels(*levels, sink),
+        Level::Under(levels, outer) => {
+            page.put_levels(*levels, sink);
+            indent(outer, sink, page);
+        }
     }
 }
 
@@ -148,7 +150,6 @@ fn print_stmt<K: Sink>(stmt: &Stmt, level: &Level, sink: &mut K, page: &mut Page
 }
 
 #[cycle(statement)]
-#[tactic(auto, using(crate::proofs::Levels::level_rows))]
 fn print_if<K: Sink>(
     test: &Expr,
     yes: &[Stmt],
@@ -161,7 +162,7 @@ fn print_if<K: Sink>(
 {
     page.put_mark(Mark::If, sink);
     print_part(test, Mark::BodyOpen, sink, page);
-    print_body(yes, &Level::Under(&*level), sink, page);
+    print_body(yes, &level.deeper(), sink, page);
     indent(level, sink, page);
     print_else(no, level, sink, page);
 }
@@ -182,23 +183,21 @@ fn print_else<K: Sink>(no: &Option<Vec<Stmt>>, level: &Level, sink: &mut K, page
 
 // Prints the statements of a body one level deeper, and the closing brace.
 #[cycle(statement)]
-#[tactic(auto, using(crate::proofs::Levels::level_rows))]
 fn print_inner<K: Sink>(body: &[Stmt], level: &Level, sink: &mut K, page: &mut Page)
     ensures { Goes K.written K.faults K.wants sink.old page.old (inner_text (level_of level.now) (stmts_of body.now)) sink.new page.new }
 {
-    print_body(body, &Level::Under(&*level), sink, page);
+    print_body(body, &level.deeper(), sink, page);
     indent(level, sink, page);
     page.put_mark(Mark::BodyClose, sink);
 }
 
 #[cycle(statement)]
-#[tactic(auto, using(crate::proofs::Levels::level_rows))]
 fn print_switch<K: Sink>(on: &Expr, arms: &[Arm], level: &Level, sink: &mut K, page: &mut Page)
     ensures { Goes K.written K.faults K.wants sink.old page.old (mark_text Mark.Switch ++ (expr_text (expr_of on.now) ++ (mark_text Mark.BodyOpen ++ (arms_text (suc (level_of level.now)) (arms_of arms.now) ++ (indent_text (level_of level.now) ++ mark_text Mark.BodyClose))))) sink.new page.new }
 {
     page.put_mark(Mark::Switch, sink);
     print_part(on, Mark::BodyOpen, sink, page);
-    print_arms(arms, &Level::Under(&*level), sink, page);
+    print_arms(arms, &level.deeper(), sink, page);
     indent(level, sink, page);
     page.put_mark(Mark::BodyClose, sink);
 }
