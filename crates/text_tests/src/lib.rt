@@ -1,10 +1,8 @@
-// How values, statements, items and names are written, and what is known of them before.
+// How values, statements, items and names are written.
 #![tactic(auto)]
 
 #[cfg(test)]
 mod composites;
-#[cfg(test)]
-mod copies;
 #[cfg(test)]
 mod grammar;
 #[cfg(test)]
@@ -12,12 +10,6 @@ mod names;
 #[cfg(test)]
 mod operations;
 #[cfg(test)]
-mod paths;
-#[cfg(test)]
-mod plans;
-#[cfg(test)]
 mod printed;
 #[cfg(test)]
 mod readings;
-#[cfg(test)]
-mod uses;

@@ -1,4 +1,4 @@
-use Rattle.text_tests.proofs.uses.linked_slots.Given as goal
+use Rattle.plan_tests.proofs.uses.linked_slots.Given as goal
 
 abbrev pub ghosts-counted : goal.ghosts-counted
 ghosts-counted g a = record { name = a.blank.name; parts = a.blank.parts }

@@ -1,0 +1,11 @@
+// What is planned of a function before it is written: uses, forms, copies and paths.
+#![tactic(auto)]
+
+#[cfg(test)]
+mod copies;
+#[cfg(test)]
+mod paths;
+#[cfg(test)]
+mod plans;
+#[cfg(test)]
+mod uses;
