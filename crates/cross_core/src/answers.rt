@@ -22,6 +22,7 @@ use module_check::check_bytes;
 use profile_check::Options;
 use serde_json::Value;
 use std::alloc::{AllocError, Global};
+use std::mem::forget;
 
 /// Writes an answer.
 fn put<K: Sink>(answer: &[u8], output: &mut K) -> Ending
@@ -64,7 +65,12 @@ fn put_glsl<K: Sink>(alloc: Global, bytes: &[u8], options: &Options, output: &mu
     ensures output { IsOutput K.written K.faults (IsAnswerBy Action.Glsl (asked options.now) (Some bytes.now)) output.old output.new result }
 {
     match translated(alloc, bytes, options) {
-        Ok(unit) => put_text(&unit, output),
+        Ok(unit) => {
+            let ending = put_text(&unit, output);
+            // its many parts are not given back one by one, since the process ends
+            forget(unit);
+            ending
+        }
         Err(fault) => ending_of(fault),
     }
 }

@@ -9,5 +9,5 @@ use Rattle.cross_core.proofs.answers.put_glsl.Goals as goal
 
 pub returns-in-Ok-clause-output : goal.returns-in-Ok-clause-output
 returns-in-Ok-clause-output g c =
-    output_of g.K.Sink.written g.K.Sink.faults (λ text. glsl_read text ≡ Some (unit_of c.in-Ok.unit)) (IsAnswerBy Glsl (asked c.args.options.now) (Some c.args.bytes.now)) c.args.output.now c.put_text.new.output c.put_text.result
-    (λ text reads. glsl_answer (asked c.args.options.now) c.args.bytes.now (unit_of c.in-Ok.unit) text c.in-Ok.ensures.translation reads) c.put_text.ensures.output
+    output_of g.K.Sink.written g.K.Sink.faults (λ text. glsl_read text ≡ Some (unit_of c.in-Ok.unit)) (IsAnswerBy Glsl (asked c.args.options.now) (Some c.args.bytes.now)) c.args.output.now c.put_text-ending.new.output c.put_text-ending.result
+    (λ text reads. glsl_answer (asked c.args.options.now) c.args.bytes.now (unit_of c.in-Ok.unit) text c.in-Ok.ensures.translation reads) c.put_text-ending.ensures.output
