@@ -13,9 +13,13 @@ use Rattle.spv_module.specs.Kinds.{kind_of}
 abbrev pub is_out : ℕ → ℕ → Bool
 is_out bound id = (id == 0) || nat_le bound id
 
--- an id among the operands is out of the bound
+-- an id among these operands of an opcode is out of the bound
+abbrev pub HasArgOut : ℕ → ℕ → List ℕ → Type 0
+HasArgOut bound op args = (k : ℕ) × (k < length args) × (is_id op args k ≡ true) × (is_out bound (slice_index args k) ≡ true)
+
+-- an id among the instruction's operands is
 abbrev pub HasOperandOut : ℕ → Inst → Type 0
-HasOperandOut bound i = (k : ℕ) × (k < length i.args) × (is_id i.op i.args k ≡ true) × (is_out bound (slice_index i.args k) ≡ true)
+HasOperandOut bound i = HasArgOut bound i.op i.args
 
 -- the type or the result is
 abbrev pub has_result_out : ℕ → Inst → Bool

@@ -1,6 +1,7 @@
 // The words of an instruction, and the instruction that they are.
-ghost use Rattle.std.specs.Prelude.{◌≡◌, ◌<◌, ◌+◌, ◌^◌, ℕ, length, drop, IfOk};
-ghost use Rattle.spv_words.specs.Words.{insts, nth_inst, slice};
+ghost use Rattle.std.specs.Prelude.{◌≡◌, ◌<◌, ◌+◌, ◌^◌, ℕ, length, drop, slice_index, if◌then◌else◌, IfOk};
+ghost use Rattle.spv_words.specs.Words.{insts, nth_inst};
+ghost use Rattle.spv_ops.specs.Table.{count_of};
 ghost use Rattle.spv_module.specs.Inst.{word as word_of, inst_of, has_type as type_of_opcode, has_result as result_of_opcode};
 
 use crate::{Inst, Seq};
@@ -24,37 +25,67 @@ pub fn word(words: &Words, i: usize, k: usize) -> u32
     requires { i < length (insts words.now) }
     ensures { result ≡ word_of words.now (nth_inst words.now i) k }
 {
-    if k < usize::from(words.at(i).len) {
-        words.operand(i, k)
+    word_at(words.inst_words(i), k)
+}
+
+fn word_at(words: &[u32], k: usize) -> u32
+    ensures { result ≡ slice_index words.now k }
+{
+    words.get(k).copied().unwrap_or(0)
+}
+
+/// Whether an instruction has a result type and a result.
+#[derive(Clone, Copy, Debug, PartialEq, Eq)]
+pub struct Outcome {
+    pub has_type: bool,
+    pub has_result: bool,
+}
+
+/// The outcome of the instructions with an opcode.
+pub fn outcome_of(opcode: u16) -> Outcome
+    ensures typed { result.has_type ≡ type_of_opcode opcode }
+    ensures named { result.has_result ≡ result_of_opcode opcode }
+{
+    match shape_of(opcode) {
+        Some(shape) => Outcome {
+            has_type: shape.has_type,
+            has_result: shape.has_result,
+        },
+        None => Outcome {
+            has_type: false,
+            has_result: false,
+        },
+    }
+}
+
+/// The type among the words of an instruction, or 0.
+pub fn type_in(words: &[u32], outcome: Outcome) -> u32
+    ensures { result ≡ (if outcome.has_type then slice_index words.now 1 else 0) }
+{
+    if outcome.has_type {
+        word_at(words, 1)
     } else {
         0
     }
 }
 
-/// The words of an instruction from a place on.
-fn words_from(alloc: Global, words: &Words, i: usize, first: usize) -> Result<Seq<u32>, AllocError>
-    requires { i < length (insts words.now) }
-    ensures { IfOk result (λ args. args ≡ drop first (slice words.now (nth_inst words.now i))) }
+/// The result among the words of an instruction, or 0.
+pub fn result_in(words: &[u32], outcome: Outcome) -> u32
+    ensures { result ≡ (if outcome.has_result then slice_index words.now (1 + count_of outcome.has_type) else 0) }
 {
-    let mut args = Seq::new(alloc);
-    for k in first..usize::from(words.at(i).len) {
-        args.push(words.operand(i, k))?;
+    if outcome.has_result {
+        word_at(words, 1 + usize::from(outcome.has_type))
+    } else {
+        0
     }
-    Ok(args)
 }
 
-/// Whether an opcode has a result type.
-pub fn has_type(opcode: u16) -> bool
-    ensures { result ≡ type_of_opcode opcode }
+/// The other operands among the words of an instruction.
+pub fn operands_in(words: &[u32], outcome: Outcome) -> &[u32]
+    ensures { result.now ≡ drop (1 + count_of outcome.has_type + count_of outcome.has_result) words.now }
 {
-    shape_of(opcode).map_or(false, |shape| shape.has_type)
-}
-
-/// Whether an opcode has a result.
-pub fn has_result(opcode: u16) -> bool
-    ensures { result ≡ result_of_opcode opcode }
-{
-    shape_of(opcode).map_or(false, |shape| shape.has_result)
+    let first = 1 + usize::from(outcome.has_type) + usize::from(outcome.has_result);
+    words.get(first..).unwrap_or(&[])
 }
 
 /// An instruction with its operands.
@@ -63,23 +94,14 @@ pub fn decoded(alloc: Global, words: &Words, i: usize) -> Result<Inst, AllocErro
     ensures { IfOk result (λ inst. inst ≡ inst_of words.now (nth_inst words.now i)) }
 {
     let inst = words.at(i);
-    let mut next = 1;
-    let mut ty = 0;
-    if has_type(inst.opcode) {
-        ty = word(words, i, next);
-        next += 1;
-    }
-    let mut id = 0;
-    if has_result(inst.opcode) {
-        id = word(words, i, next);
-        next += 1;
-    }
-    let args = words_from(alloc, words, i, next)?;
+    let own = words.inst_words(i);
+    let outcome = outcome_of(inst.opcode);
+    let args = Seq::of(alloc, operands_in(own, outcome))?;
     Ok(Inst {
         op: inst.opcode,
         at: inst.start,
-        ty,
-        result: id,
+        ty: type_in(own, outcome),
+        result: result_in(own, outcome),
         args,
     })
 }

@@ -1,13 +1,12 @@
 // The rule on ids: each is below the bound and not 0, and is a result once.
-ghost use Rattle.std.specs.Prelude.{◌≡◌, ◌<◌, ◌≤◌, ◌↔◌, ℕ, length, slice_index, IfOk, IfErr, OnOk, IfSome, IfNone as OnNone, IsTrue};
+ghost use Rattle.std.specs.Prelude.{◌≡◌, ◌<◌, ◌≤◌, ◌↔◌, ◌&&◌, ◌||◌, ℕ, length, slice_index, IfOk, IfErr, OnOk, IfSome, IfNone as OnNone, IsTrue};
 ghost use Rattle.spv_words.specs.Words.{insts, nth_inst};
 ghost use Rattle.spv_words.specs.declared.rule.Rule.TheVariants.{P3};
-ghost use Rattle.spv_module.specs.Ids.{is_out as is_out_of, has_result_out as has_result_out_of, HasOperandOut, HasIdOut, IsRepeated, result_of, results};
+ghost use Rattle.spv_module.specs.Ids.{is_out as is_out_of, HasArgOut, HasIdOut, IsRepeated, result_of, results};
 ghost use Rattle.spv_module.specs.Kinds.{kinds as kinds_in, kind_of};
 ghost use Rattle.spv_module.specs.Broken.{IsCause, IsUnbroken};
 
-use crate::Inst;
-use crate::decode::{decoded, has_result, has_type, refused};
+use crate::decode::{Outcome, operands_in, outcome_of, refused, result_in, type_in};
 use crate::kind::{Kind, kind_at};
 use spv_ops::id_words;
 use spv_words::{Fault, Rule, Words};
@@ -19,18 +18,16 @@ fn is_out(bound: u32, id: u32) -> bool
     id == 0 || id >= bound
 }
 
-fn has_result_out(bound: u32, inst: &Inst) -> bool
-    ensures { result ≡ has_result_out_of bound inst.now }
+fn has_result_out(bound: u32, outcome: Outcome, ty: u32, id: u32) -> bool
+    ensures { result ≡ ((outcome.has_type && is_out_of bound ty) || (outcome.has_result && is_out_of bound id)) }
 {
-    (has_type(inst.op) && is_out(bound, inst.ty))
-        || (has_result(inst.op) && is_out(bound, inst.result))
+    (outcome.has_type && is_out(bound, ty)) || (outcome.has_result && is_out(bound, id))
 }
 
-fn has_operand_out(bound: u32, inst: &Inst) -> bool
-    ensures { IsTrue result ↔ HasOperandOut bound inst.now }
+fn has_operand_out(bound: u32, opcode: u16, args: &[u32]) -> bool
+    ensures { IsTrue result ↔ HasArgOut bound opcode args.now }
 {
-    let args = inst.args.as_slice();
-    let ids = id_words(inst.op, args);
+    let ids = id_words(opcode, args);
     for (k, word) in args.iter().enumerate() {
         if ids.has(k) && is_out(bound, *word) {
             return true;
@@ -40,7 +37,7 @@ fn has_operand_out(bound: u32, inst: &Inst) -> bool
 }
 
 /// The result of an instruction, or 0 where it has none or is skipped.
-fn checked_result(alloc: Global, words: &Words, i: usize, kind: Kind) -> Result<u32, Fault>
+fn checked_result(words: &Words, i: usize, kind: Kind) -> Result<u32, Fault>
     requires inside { i < length (insts words.now) }
     requires kind { kind ≡ kind_of words.now (nth_inst words.now i) }
     ensures value { IfOk result (λ id. id ≡ result_of words.now (nth_inst words.now i)) }
@@ -51,12 +48,17 @@ fn checked_result(alloc: Global, words: &Words, i: usize, kind: Kind) -> Result<
     match kind {
         Kind::Debug => Ok(0),
         _ => {
-            let inst = decoded(alloc, words, i)?;
+            let opcode = words.at(i).opcode;
+            let own = words.inst_words(i);
+            let outcome = outcome_of(opcode);
+            let id = result_in(own, outcome);
             let bound = words.header(3);
-            if has_result_out(bound, &inst) || has_operand_out(bound, &inst) {
+            if has_result_out(bound, outcome, type_in(own, outcome), id)
+                || has_operand_out(bound, opcode, operands_in(own, outcome))
+            {
                 return Err(refused(Rule::P3, words, i));
             }
-            Ok(inst.result)
+            Ok(id)
         }
     }
 }
@@ -69,9 +71,9 @@ fn checked_results(alloc: Global, words: &Words, kinds: &[Kind]) -> Result<Vec<u
     ensures fine { OnOk result ((k : ℕ) → k < length (insts words.now) → HasIdOut words.now (nth_inst words.now k) → ⊥) }
     ensures refused { IfErr result (IsCause words.now) }
 {
-    let mut ids = Vec::new(alloc);
+    let mut ids = Vec::with_capacity(alloc, words.count())?;
     for i in 0..words.count() {
-        let id = checked_result(alloc, words, i, kind_at(words, kinds, i))?;
+        let id = checked_result(words, i, kind_at(words, kinds, i))?;
         ids.push(id)?;
     }
     Ok(ids)

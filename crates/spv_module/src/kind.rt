@@ -74,9 +74,14 @@ static NAMED: [(u16, Kind); 15] = [
     (255, Kind::Terminator),
 ];
 
+#[tactic(auto, using(crate::proofs::Named::unnamed_between))]
 fn named_kind(opcode: u16) -> Option<Kind>
     ensures { result ≡ option_map (λ r. r.1) (find (λ r. r.0 == opcode) named_kinds) }
 {
+    // between these two opcodes, where most instructions are, there is none
+    if 59 < opcode && opcode < 245 {
+        return None;
+    }
     NAMED.iter().find(|row| row.0 == opcode).map(|row| row.1)
 }
 

@@ -1,5 +1,5 @@
 // A list.
-ghost use Rattle.std.specs.Prelude.{◌≡◌, ◌++◌, ◌∷◌, [], ◌==◌, length, OnOk, OnErr};
+ghost use Rattle.std.specs.Prelude.{◌≡◌, ◌++◌, ◌∷◌, [], ◌==◌, length, IfOk, OnOk, OnErr};
 
 use std::alloc::{AllocError, Global};
 use std::marker::Model;
@@ -58,5 +58,16 @@ impl<T: Drop> Seq<T> {
     {
         self.items.push(item)?;
         Ok(())
+    }
+}
+
+impl<T: Copy> Seq<T> {
+    /// The items of a slice.
+    pub fn of(alloc: Global, slice: &[T]) -> Result<Seq<T>, AllocError>
+        ensures { IfOk result (λ seq. seq ≡ slice.now) }
+    {
+        let mut items = Vec::with_capacity(alloc, slice.len())?;
+        items.extend_from_slice(slice)?;
+        Ok(Seq { items })
     }
 }

@@ -4,4 +4,4 @@ use Rattle.spv_module.specs.Ids.{is_out}
 use Rattle.spv_module.proofs.ids.has_operand_out.Given as goal
 
 abbrev pub invariant-loop-k : goal.invariant-loop-k
-invariant-loop-k l = (k : ℕ) → k < l.k → is_id l.inst.op l.inst.args k ≡ true → is_out l.bound (slice_index l.inst.args k) ≡ true → ⊥
+invariant-loop-k l = (k : ℕ) → k < l.k → is_id l.opcode l.args k ≡ true → is_out l.bound (slice_index l.args k) ≡ true → ⊥
