@@ -5,7 +5,7 @@ use Rattle.std.specs.Map.{update}
 use Rattle.std.proofs.lemmas.Bool.{cases_Bool, false_from_ne_true}
 use Rattle.std.proofs.lemmas.Bool.Decides.{eqb_tells}
 use Rattle.std.proofs.lemmas.Slice.Eq.{bytes_eq-Decides}
-use Rattle.name_alloc.specs.Naming.{numbered, first_free}
+use Rattle.name_alloc.specs.Naming.{numbered, first_free, free_name}
 use Rattle.name_alloc.specs.Taken.{Held, is_held, held_count, IsNext, IsPut, IsSkipping, IsClaimed}
 use Rattle.name_alloc.proofs.First.{skips_taken, first_bounds, below_taken, all_taken}
 use Rattle.name_alloc.proofs.Crowd.{numbered_apart, one_free}
@@ -73,7 +73,7 @@ claimed_base old new base skips free put =
     }
 
 -- the number that is found is the first free one, and it is free
-pub number_is : (old : Held) (base : List ℕ) (start number : ℕ) → IsSkipping old → get_by_text old base ≡ Some start → number ≡ first_free (λ k. is_held old (numbered base k)) (held_count old + 2 - start) start → number ≡ first_free (λ k. is_held old (numbered base k)) (held_count old) 2
+number_is : (old : Held) (base : List ℕ) (start number : ℕ) → IsSkipping old → get_by_text old base ≡ Some start → number ≡ first_free (λ k. is_held old (numbered base k)) (held_count old + 2 - start) start → number ≡ first_free (λ k. is_held old (numbered base k)) (held_count old) 2
 number_is old base start number skips at found =
     let was = skips.next base start at in
     let count : held_count old + 2 - 2 ≡ held_count old = omega arith in
@@ -81,13 +81,13 @@ number_is old base start number skips at found =
     skips_taken (λ k. is_held old (numbered base k)) (held_count old + 2) 2 start was.least was.most was.below in
     found ∙ (sym same ∙ ap (λ n. first_free (λ k. is_held old (numbered base k)) n 2) count)
 
-pub number_free : (old : Held) (base : List ℕ) (number : ℕ) → held_count old < 2 ^ 63 → number ≡ first_free (λ k. is_held old (numbered base k)) (held_count old) 2 → is_held old (numbered base number) ≡ false
+number_free : (old : Held) (base : List ℕ) (number : ℕ) → held_count old < 2 ^ 63 → number ≡ first_free (λ k. is_held old (numbered base k)) (held_count old) 2 → is_held old (numbered base number) ≡ false
 number_free old base number small found =
     false_from_ne_true (is_held old (numbered base number)) (λ h.
     one_free old base small (λ k low high. all_taken (λ k. is_held old (numbered base k)) (held_count old) 2 k (subst (λ n. is_held old (numbered base n) ≡ true) found h) low high))
 
 -- the base was taken
-pub claimed_number : (old mid new : Held) (base name : List ℕ) (start number : ℕ) → IsSkipping old → held_count old < 2 ^ 63 → get_by_text old base ≡ Some start
+claimed_number : (old mid new : Held) (base name : List ℕ) (start number : ℕ) → IsSkipping old → held_count old < 2 ^ 63 → get_by_text old base ≡ Some start
     → number ≡ first_free (λ k. is_held old (numbered base k)) (held_count old + 2 - start) start → name ≡ numbered base number
     → IsPut old mid name 2 → IsPut mid new base (number + 1) → IsClaimed old new base name
 claimed_number old mid new base name start number skips small at found is name_put base_put =
@@ -130,4 +130,44 @@ claimed_number old mid new base name start number skips small at found is name_p
       });
       fresh = open_name;
       form = inr (number, is);
+    }
+
+-- what is held stays so where a base that is held is put again
+held_again : (old new : Held) (base : List ℕ) (v : ℕ) → Puts old new base v → is_held old base ≡ true → (t : List ℕ) → is_held new t ≡ is_held old t
+held_again old new base v put taken t =
+    elim (cases_Bool (bytes_eq base t)) [
+      | inl w ↦
+          let now : is_held new t ≡ true = rw (put t, w) refl in
+          now ∙ sym (subst (λ b. is_held old b ≡ true) ((bytes_eq-Decides base t).0 w) taken)
+      | inr w ↦ rw (put t, w) refl
+    ]
+
+-- the base was taken, and is put again before the search
+pub claimed_again : (old first mid new : Held) (base name : List ℕ) (start number : ℕ) → IsSkipping old → held_count old < 2 ^ 63 → get_by_text old base ≡ Some start
+    → IsPut old first base 2 → number ≡ first_free (λ k. is_held first (numbered base k)) (held_count old + 2 - start) start → name ≡ numbered base number
+    → IsPut first mid name 2 → IsPut mid new base (number + 1) → IsClaimed old new base name
+claimed_again old first mid new base name start number skips small at again found is name_put base_put =
+    let taken : is_held old base ≡ true = rw at refl in
+    let more : held_count first ≡ held_count old + 0 = rw taken at again.count in
+    let count : held_count first ≡ held_count old = omega (arith, more) in
+    let same : is_held first ≡ is_held old = λ i t. held_again old first base 2 again.puts taken t i in
+    let found_old : number ≡ first_free (λ k. is_held old (numbered base k)) (held_count old + 2 - start) start =
+    subst (λ h. number ≡ first_free (λ k. h (numbered base k)) (held_count old + 2 - start) start) same found in
+    let number_old : number ≡ first_free (λ k. is_held old (numbered base k)) (held_count old) 2 = number_is old base start number skips at found_old in
+    let number_first : number ≡ first_free (λ k. is_held first (numbered base k)) (held_count old) 2 =
+    subst (λ h. number ≡ first_free (λ k. h (numbered base k)) (held_count old) 2) (sym same) number_old in
+    let two : held_count old ≡ held_count first + 2 - 2 = omega (arith, count) in
+    let found_first : number ≡ first_free (λ k. is_held first (numbered base k)) (held_count first + 2 - 2) 2 =
+    subst (λ m. number ≡ first_free (λ k. is_held first (numbered base k)) m 2) two number_first in
+    let at_first : get_by_text first base ≡ Some 2 = rw (again.puts base, same_text base) refl in
+    let skips_first : IsSkipping first =
+    skips_put old first base 2 skips again.puts (omega (arith, count)) (record { least = omega arith; most = omega arith; below = λ k low high. absurd (omega (arith, low, high)) }) in
+    let got : IsClaimed first new base name = claimed_number first mid new base name 2 number skips_first (omega (arith, small, count)) at_first found_first is name_put base_put in
+    record {
+      name_is = got.name_is ∙ (ap (λ h. free_name h (held_count first) base) same ∙ ap (λ n. free_name (is_held old) n base) count);
+      held = λ t. got.held t ∙ ap (λ b. bytes_eq name t || b) (held_again old first base 2 again.puts taken t);
+      count = omega (arith, got.count, count);
+      skipping = got.skipping;
+      fresh = sym (held_again old first base 2 again.puts taken name) ∙ got.fresh;
+      form = got.form;
     }

@@ -8,7 +8,8 @@ use Rattle.name_alloc.specs.Base.{Text, base_of}
 use Rattle.name_alloc.specs.Keys.{same_key}
 use Rattle.name_alloc.specs.Law.{IsFree, IsNameFor, AreNames}
 use Rattle.name_alloc.specs.Naming.{Taken as AllTaken, space_of, same_space, claim_name, with_name, with_key, none_taken, names_from, name_of, is_claimed, numbered}
-use Rattle.name_alloc.specs.Given.{Spaces, Kept, taken_of, name_at, IsNamed, AreGiven}
+use Rattle.name_alloc.specs.declared.naming.Spaces.{Spaces}
+use Rattle.name_alloc.specs.Given.{Kept, taken_of, name_at, IsNamed, AreGiven}
 use Rattle.name_alloc.proofs.Keyed.{key_tells}
 use Rattle.name_alloc.proofs.Words.{base_word, numbered_word}
 use Rattle.name_alloc.proofs.Free.{or_parts, base_free, numbered_free, main_free}

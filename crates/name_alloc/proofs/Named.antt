@@ -2,7 +2,7 @@
 use Rattle.std.proofs.Common.{◌≡◌, ◌+◌, ◌||◌, ◌==◌, ◌⊎◌, ℕ, Bool, true, false, cond, List, [], ◌∷◌, Option, None, Some, is_some, option_map, refl, ap, sym, ◌∙◌, inl, inr, arith, subst, bytes_eq, string_bytes}
 use Rattle.indexmap.specs.IndexMap.{get as get_key, get_by_text}
 use Rattle.std.specs.Ordering.{nat_cmp, is_eq}
-use Rattle.std.specs.Option.{option_cmp, option_map_or}
+use Rattle.std.specs.BTreeMap.{get}
 use Rattle.std.specs.declared.string.String.{String}
 use Rattle.std.specs.declared.alloc.Global.{Global}
 use Rattle.std.proofs.lemmas.Bool.{cases_Bool, false≢true}
@@ -15,7 +15,8 @@ use Rattle.name_alloc.specs.Keys.{same_key}
 use Rattle.name_alloc.specs.Law.{IsNameFor}
 use Rattle.name_alloc.proofs.Lawful.{name_for}
 use Rattle.name_alloc.specs.Taken.{Held, is_held, held_count, IsSkipping, IsClaimed}
-use Rattle.name_alloc.specs.Given.{Spaces, Kept, held_at, taken_of, AreSkipping, IsHeldOut, IsNamed, name_at}
+use Rattle.name_alloc.specs.declared.naming.Spaces.{Spaces}
+use Rattle.name_alloc.specs.Given.{Members, Kept, held_at, taken_of, AreSkipping, IsSpaceOf, IsHeldOut, IsNamed, name_at}
 
 nat_same : (x y : ℕ) → is_eq (nat_cmp x y) ≡ (x == y)
 nat_same x y =
@@ -24,13 +25,7 @@ nat_same x y =
       | inr w ↦ let other : is_eq (nat_cmp x y) ≡ false = grind (arith, nat_tests, w.1) in other ∙ sym w.0
     ]
 
--- the order and the test agree, and the test tells
-same_is : (s o : Option ℕ) → is_eq (option_cmp nat_cmp s o) ≡ same_space s o
-same_is None None = refl
-same_is None (Some y) = refl
-same_is (Some x) None = refl
-same_is (Some x) (Some y) = nat_same x y
-
+-- the test tells
 same_tells : (s o : Option ℕ) → same_space s o ≡ true → s ≡ o
 same_tells None None h = refl
 same_tells None (Some y) h = absurd (false≢true h)
@@ -48,33 +43,50 @@ some_held : (a b : Held) → Some a ≡ Some b → a ≡ b
 some_held a b e = cc
 
 -- a space that is taken out
-abbrev TakenOut : Spaces → Option ℕ → Spaces → Type 0
-TakenOut old space rest = (other : Option ℕ) → held_at rest other ≡ cond (is_eq (option_cmp nat_cmp space other)) None (held_at old other)
+abbrev TakenOut : Members → ℕ → Members → Type 0
+TakenOut old block rest = (other : ℕ) → get nat_cmp rest other ≡ cond (is_eq (nat_cmp block other)) None (get nat_cmp old other)
 
-pub held_out_none : (old : Spaces) (space : Option ℕ) (held : Held) (rest : Spaces) → held.entries ≡ [] → held_at old space ≡ None → TakenOut old space rest → IsHeldOut old space held rest
-held_out_none old space held rest empty none out = record {
-  has = λ text. rw (empty, none) refl;
-  count = rw (empty, none) refl;
-  others = out;
+space_none : (held : Held) → held.entries ≡ [] → IsSpaceOf None held
+space_none held empty = record {
+  has = λ text. rw empty refl;
+  count = rw empty refl;
   skipping = λ skips. record { next = λ base next h. none_some next (let nothing : get_by_text held base ≡ None = rw empty refl in sym nothing ∙ h) };
 }
 
-pub held_out_some : (old : Spaces) (space : Option ℕ) (held : Held) (rest : Spaces) → held_at old space ≡ Some held → TakenOut old space rest → IsHeldOut old space held rest
-held_out_some old space held rest some out = record {
-  has = λ text. rw some refl;
-  count = rw some refl;
-  others = out;
-  skipping = λ skips. skips.each space held some;
-}
+pub space_some : (held : Held) → IsSpaceOf (Some held) held
+space_some held = record { has = λ text. refl; count = refl; skipping = λ skips. skips held refl }
+
+pub held_out_none : (old : Members) (block : ℕ) (held : Held) (rest : Members) → held.entries ≡ [] → get nat_cmp old block ≡ None → TakenOut old block rest → IsHeldOut old block held rest
+held_out_none old block held rest empty none out = record { space = subst (λ found. IsSpaceOf found held) (sym none) (space_none held empty); others = out }
+
+pub held_out_some : (old : Members) (block : ℕ) (held : Held) (rest : Members) → get nat_cmp old block ≡ Some held → TakenOut old block rest → IsHeldOut old block held rest
+held_out_some old block held rest some out = record { space = subst (λ found. IsSpaceOf found held) (sym some) (space_some held); others = out }
+
+-- a space has other names now
+abbrev Back : Spaces → Option ℕ → Held → Spaces → Type 0
+Back old space now new = (other : Option ℕ) → held_at new other ≡ cond (same_space space other) (Some now) (held_at old other)
+
+pub back_text : (old : Spaces) (now : Held) (new : Spaces) → new.text ≡ now → new.members ≡ old.members → Back old None now new
+back_text old now new text members None = ap Some text
+back_text old now new text members (Some other) = ap (λ m. get nat_cmp m other) members
+
+cond_twice : (b c : Bool) (x y : Option Held) → b ≡ c → cond b x (cond b None y) ≡ cond c x y
+cond_twice true c x y e = rw (← e) refl
+cond_twice false c x y e = rw (← e) refl
+
+pub back_members : (old : Spaces) (block : ℕ) (held : Held) (rest : Members) (now : Held) (new : Spaces) → IsHeldOut old.members block held rest → new.text ≡ old.text
+    → ((other : ℕ) → get nat_cmp new.members other ≡ cond (is_eq (nat_cmp block other)) (Some now) (get nat_cmp rest other)) → Back old (Some block) now new
+back_members old block held rest now new out text put None = ap Some text
+back_members old block held rest now new out text put (Some other) =
+    put other ∙ (ap (λ r. cond (is_eq (nat_cmp block other)) (Some now) r) (out.others other) ∙ cond_twice (is_eq (nat_cmp block other)) (block == other) (Some now) (get nat_cmp old.members other) (nat_same block other))
 
 -- the space with one more name is put back
-module _ (old : Spaces) (space : Option ℕ) (held : Held) (rest : Spaces) (now : Held) (base name : Text) (new : Spaces) (out : IsHeldOut old space held rest) (claimed : IsClaimed held now base name)
-    (back : (other : Option ℕ) → held_at new other ≡ cond (is_eq (option_cmp nat_cmp space other)) (Some now) (held_at rest other)) where
+module _ (old : Spaces) (space : Option ℕ) (held : Held) (now : Held) (base name : Text) (new : Spaces) (out : IsSpaceOf (held_at old space) held) (claimed : IsClaimed held now base name) (back : Back old space now new) where
   at_same : (other : Option ℕ) → same_space space other ≡ true → held_at new other ≡ Some now
-  at_same other h = let e : is_eq (option_cmp nat_cmp space other) ≡ true = same_is space other ∙ h in rw (back other, e) refl
+  at_same other h = rw (back other, h) refl
 
   at_other : (other : Option ℕ) → same_space space other ≡ false → held_at new other ≡ held_at old other
-  at_other other h = let e : is_eq (option_cmp nat_cmp space other) ≡ false = same_is space other ∙ h in rw (back other, out.others other, e) refl
+  at_other other h = rw (back other, h) refl
 
   has_now : (other : Option ℕ) (text : Text) → (taken_of new).has other text ≡ (with_name (taken_of old) space name).has other text
   has_now other text =
@@ -129,22 +141,31 @@ module _ (old : Spaces) (space : Option ℕ) (held : Held) (rest : Spaces) (now 
   }
 
 -- at first nothing is taken or named
-empty_none : (spaces : Spaces) (s : Option ℕ) → spaces.entries ≡ [] → held_at spaces s ≡ None
-empty_none spaces s e = rw e refl
+abbrev Empty : Spaces → Type 0
+Empty spaces = (spaces.text.entries ≡ []) × (spaces.members.entries ≡ [])
 
-pub skipping_empty : (spaces : Spaces) → spaces.entries ≡ [] → AreSkipping spaces
-skipping_empty spaces e = record { each = λ s held h. none_some held (sym (empty_none spaces s e) ∙ h) }
+first_skipping : (spaces : Spaces) → Empty spaces → (s : Option ℕ) (held : Held) → held_at spaces s ≡ Some held → IsSkipping held
+first_skipping spaces e None held h = subst IsSkipping (some_held spaces.text held h) ((space_none spaces.text e.0).skipping (λ none at. none_some none at))
+first_skipping spaces e (Some s) held h = none_some held (let none : get nat_cmp spaces.members s ≡ None = rw e.1 refl in sym none ∙ h)
 
-taken_empty : (spaces : Spaces) → spaces.entries ≡ [] → taken_of spaces ≡ none_taken
-taken_empty spaces e = λ i. record {
-  has = λ s t. ap (λ h. option_map_or (λ held. is_held held t) h false) (empty_none spaces s e) i;
-  count = λ s. ap (λ h. option_map_or held_count h 0) (empty_none spaces s e) i;
-}
+pub skipping_empty : (spaces : Spaces) → Empty spaces → AreSkipping spaces
+skipping_empty spaces e = record { each = λ s held h. first_skipping spaces e s held h }
+
+first_has : (spaces : Spaces) → Empty spaces → (s : Option ℕ) (t : Text) → (taken_of spaces).has s t ≡ false
+first_has spaces e None t = rw e.0 refl
+first_has spaces e (Some s) t = rw e.1 refl
+
+first_count : (spaces : Spaces) → Empty spaces → (s : Option ℕ) → (taken_of spaces).count s ≡ 0
+first_count spaces e None = rw e.0 refl
+first_count spaces e (Some s) = rw e.1 refl
+
+taken_empty : (spaces : Spaces) → Empty spaces → taken_of spaces ≡ none_taken
+taken_empty spaces e = λ i. record { has = λ s t. first_has spaces e s t i; count = λ s. first_count spaces e s i }
 
 named_none : (names : Kept) (key : Key) → names.entries ≡ [] → name_at names key ≡ None
 named_none names key e = rw e refl
 
-pub names_begin : (spaces : Spaces) (names : Kept) (claims : List Claim) → spaces.entries ≡ [] → names.entries ≡ [] → (key : Key) → names_from (taken_of spaces) (name_at names) claims key ≡ name_of claims key
+pub names_begin : (spaces : Spaces) (names : Kept) (claims : List Claim) → Empty spaces → names.entries ≡ [] → (key : Key) → names_from (taken_of spaces) (name_at names) claims key ≡ name_of claims key
 names_begin spaces names claims e f key =
     ap (λ t. names_from t (name_at names) claims key) (taken_empty spaces e)
     ∙ ap (λ g. names_from none_taken g claims key) (λ i k. named_none names k f i)

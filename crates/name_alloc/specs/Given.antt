@@ -3,7 +3,6 @@ use Rattle.std.specs.Prelude.{ℕ, ◌≡◌, Option, Some, None, true, false, s
 use Rattle.std.specs.Option.{option_map_or}
 use Rattle.std.specs.BTreeMap.{BTreeMap, get}
 use Rattle.std.specs.Ordering.{is_eq, nat_cmp}
-use Rattle.std.specs.Option.{option_cmp}
 use Rattle.std.specs.declared.string.String.{String}
 use Rattle.std.specs.declared.alloc.Global.{Global}
 use Rattle.std.specs.declared.hash.BuildHasherDefault.{BuildHasherDefault}
@@ -13,15 +12,18 @@ use Rattle.name_alloc.specs.Keys.{same_key}
 use Rattle.name_alloc.specs.Law.{IsNameFor, AreNames}
 use Rattle.name_alloc.specs.declared.claims.Claim.{Claim}
 use Rattle.name_alloc.specs.declared.claims.Key.{Key}
+use Rattle.name_alloc.specs.declared.naming.Spaces.{Spaces}
 use Rattle.name_alloc.specs.Base.{Text}
 use Rattle.name_alloc.specs.Naming.{Taken as AllTaken, space_of, claim_name, with_name}
 use Rattle.name_alloc.specs.Taken.{Held, is_held, held_count, IsSkipping}
 
-abbrev pub Spaces : Type 0
-Spaces = BTreeMap (Option ℕ) Held
+-- the spaces of structs
+abbrev pub Members : Type 0
+Members = BTreeMap ℕ Held
 
 abbrev pub held_at : Spaces → Option ℕ → Option Held
-held_at spaces space = get (option_cmp nat_cmp) spaces space
+held_at spaces None = Some spaces.text
+held_at spaces (Some block) = get nat_cmp spaces.members block
 
 -- what the spaces hold
 abbrev pub taken_of : Spaces → AllTaken
@@ -34,12 +36,16 @@ taken_of spaces = record {
 pub record AreSkipping (spaces : Spaces) : Type 0 where
   pub each : (space : Option ℕ) (held : Held) → held_at spaces space ≡ Some held → IsSkipping held
 
--- the space is taken out: what it held, or an empty one
-pub record IsHeldOut (old : Spaces) (space : Option ℕ) (held : Held) (rest : Spaces) : Type 0 where
-  pub has : (text : Text) → is_held held text ≡ (taken_of old).has space text
-  pub count : held_count held ≡ (taken_of old).count space
-  pub others : (other : Option ℕ) → held_at rest other ≡ (if is_eq (option_cmp nat_cmp space other) then None else held_at old other)
-  pub skipping : AreSkipping old → IsSkipping held
+-- what a space holds, which is nothing where there is none
+pub record IsSpaceOf (found : Option Held) (held : Held) : Type 0 where
+  pub has : (text : Text) → is_held held text ≡ option_map_or (λ h. is_held h text) found false
+  pub count : held_count held ≡ option_map_or held_count found 0
+  pub skipping : ((h : Held) → found ≡ Some h → IsSkipping h) → IsSkipping held
+
+-- the space of a struct is taken out: what it held, or an empty one
+pub record IsHeldOut (old : Members) (block : ℕ) (held : Held) (rest : Members) : Type 0 where
+  pub space : IsSpaceOf (get nat_cmp old block) held
+  pub others : (other : ℕ) → get nat_cmp rest other ≡ (if is_eq (nat_cmp block other) then None else get nat_cmp old other)
 
 -- the claim took this name
 pub record IsNamed (old new : Spaces) (c : Claim) (name : Text) : Type 0 where

@@ -1,14 +1,19 @@
 // The base of a claim's name.
-ghost use Rattle.std.specs.Prelude.{◌≡◌, false, map, option_map, IfOk, string_bytes};
+ghost use Rattle.std.specs.Prelude.{◌≡◌, ◌++◌, false, map, option_map, IfOk, string_bytes};
+ghost use Rattle.std.specs.Fmt.{decimal};
 ghost use Rattle.name_alloc.specs.Base.{worded as as_word, single as as_single, ends_low as as_ends_low, trimmed as as_trimmed, cleaned as as_cleaned, given_base, guarded as as_guarded, is_barred as barred, base_of};
 
 use crate::claims::Key;
 use crate::reserved::{begins_reserved, is_reserved};
+use itoa::Buffer;
 use spv_words::Memory;
 use std::alloc::{AllocError, Global};
 
 /// As many bytes of a given name are kept.
 const KEPT: usize = 64;
+
+/// The room that a letter and a number take.
+const SHORT: usize = 11;
 
 /// The byte, or `_` where it is no letter, digit or `_`.
 fn worded(byte: u8) -> u8
@@ -90,6 +95,17 @@ fn guarded(alloc: Global, text: String) -> Result<String, AllocError>
     Ok(text)
 }
 
+/// The word with the number behind it.
+fn worded_number(alloc: Global, word: &str, number: u32) -> Result<String, AllocError>
+    ensures { IfOk result (λ text. string_bytes text ≡ word.now ++ decimal number) }
+{
+    let mut digits = Buffer::new();
+    let mut text = String::with_capacity(alloc, SHORT)?;
+    text.push_str(word)?;
+    text.push_str(digits.format(number))?;
+    Ok(text)
+}
+
 /// The given name cleaned, or the word with the number where nothing is left of it.
 fn named(alloc: Global, given: &Option<Vec<u8>>, word: &str, number: u32) -> Result<String, Memory>
     ensures { IfOk result (λ base. string_bytes base ≡ given_base (option_map (λ v. v.items) given.now) word.now number) }
@@ -99,8 +115,7 @@ fn named(alloc: Global, given: &Option<Vec<u8>>, word: &str, number: u32) -> Res
         Some(bytes) => cleaned(alloc, bytes.as_slice())?,
     };
     if text.is_empty() {
-        let own = format!(in alloc; "{word}{number}")?;
-        return Ok(guarded(alloc, own)?);
+        return Ok(guarded(alloc, worded_number(alloc, word, number)?)?);
     }
     Ok(guarded(alloc, text)?)
 }

@@ -15,8 +15,15 @@ use spv_words::Memory;
 use std::alloc::Global;
 use std::collections::BTreeMap;
 
+/// The names that are taken among the members of each struct.
+type Members = BTreeMap<u32, Space>;
+
 /// The names that are taken: in the whole text, and of the members of each struct.
-type Spaces = BTreeMap<Option<u32>, Space>;
+#[derive(Drop)]
+pub(crate) struct Spaces {
+    text: Space,
+    members: Members,
+}
 
 /// The struct in whose space the name of a key is, where it is that of a member.
 fn space_of(key: Key) -> Option<u32>
@@ -28,11 +35,11 @@ fn space_of(key: Key) -> Option<u32>
     }
 }
 
-/// The space of a struct's members, or of the whole text.
-fn held_in(alloc: Global, spaces: &mut Spaces, space: Option<u32>) -> Space
-    ensures { IsHeldOut spaces.old space result spaces.new }
+/// The space of a struct's members.
+fn held_in(alloc: Global, members: &mut Members, block: u32) -> Space
+    ensures { IsHeldOut members.old block result members.new }
 {
-    match spaces.remove(&space) {
+    match members.remove(&block) {
         None => Space::new(alloc),
         Some(held) => held,
     }
@@ -44,11 +51,18 @@ fn name_claim(alloc: Global, spaces: &mut Spaces, claimed: &Claim) -> Result<Str
     ensures { IfOk result (λ name. IsNamed spaces.old spaces.new claimed.now (string_bytes name)) }
 {
     let base = base(alloc, claimed.key, &claimed.given)?;
-    let space = space_of(claimed.key);
-    let mut held = held_in(alloc, spaces, space);
-    let name = claim(alloc, &mut held, base)?;
-    spaces.insert(space, held)?;
-    Ok(name)
+    match space_of(claimed.key) {
+        None => {
+            let name = claim(alloc, &mut spaces.text, base)?;
+            Ok(name)
+        }
+        Some(block) => {
+            let mut held = held_in(alloc, &mut spaces.members, block);
+            let name = claim(alloc, &mut held, base)?;
+            spaces.members.insert(block, held)?;
+            Ok(name)
+        }
+    }
 }
 
 /// Names the claims in their order. A name that is taken in its space gets `_` and the least number
@@ -64,8 +78,11 @@ pub fn names(alloc: Global, claims: &[Claim]) -> Result<Names, Memory>
     ensures laws { IfOk result (λ names. AreNames (name_in names)) }
     ensures kept { IfOk result (λ names. (done more : List Claim) (key : Key) → claims.now ≡ done ++ more → is_claimed more key ≡ false → name_in names key ≡ name_of done key) }
 {
-    let mut spaces = BTreeMap::new(alloc);
-    let mut names = IndexMap::new(alloc);
+    let mut spaces = Spaces {
+        text: Space::with_capacity(alloc, claims.len())?,
+        members: BTreeMap::new(alloc),
+    };
+    let mut names = IndexMap::with_capacity(alloc, claims.len())?;
     for claimed in claims {
         let name = name_claim(alloc, &mut spaces, claimed)?;
         names.insert(claimed.key, name)?;

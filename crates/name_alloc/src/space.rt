@@ -39,19 +39,14 @@ fn free_number(
     Ok(number)
 }
 
-/// The number that is tried first behind a name, if the name is taken.
-fn next_number(space: &Space, name: &str) -> Option<usize>
-    ensures { result ≡ get_by_text space.now name.now }
+/// Takes a name, with the number that is tried first behind it, and gives the number that was there, if the name was
+/// taken.
+fn put(space: &mut Space, name: String, number: usize) -> Result<Option<usize>, Memory>
+    ensures was { IfOk result (λ was. was ≡ get_by_text space.old (string_bytes name)) }
+    ensures puts { OnOk result (IsPut space.old space.new (string_bytes name) number) }
 {
-    space.get(name).copied()
-}
-
-/// Takes a name, with the number that is tried first behind it.
-fn put(space: &mut Space, name: String, number: usize) -> Result<(), Memory>
-    ensures { OnOk result (IsPut space.old space.new (string_bytes name) number) }
-{
-    space.insert(name, number)?;
-    Ok(())
+    let was = space.insert(name, number)?;
+    Ok(was)
 }
 
 /// Takes the base, or the base with the first free number.
@@ -60,11 +55,8 @@ pub fn claim(alloc: Global, space: &mut Space, base: String) -> Result<String, M
     ensures { IfOk result (λ name. IsClaimed space.old space.new (string_bytes base) (string_bytes name)) }
 {
     let last = space.len() + 2;
-    match next_number(space, base.as_str()) {
-        None => {
-            put(space, String::from_str(alloc, base.as_str())?, 2)?;
-            Ok(base)
-        }
+    match put(space, String::from_str(alloc, base.as_str())?, 2)? {
+        None => Ok(base),
         Some(start) => {
             let number = free_number(alloc, space, base.as_str(), start, last)?;
             let name = numbered(alloc, base.as_str(), number)?;

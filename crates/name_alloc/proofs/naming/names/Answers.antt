@@ -47,3 +47,9 @@ returns-clause-kept c =
     let none : drop c.loop-claimed.claimed-index claims ≡ [] = drop_of_length-le claims c.loop-claimed-test.false in
     λ done more key parts free. ap (λ l. names_from (taken_of c.loop-claimed.spaces) (name_at c.loop-claimed.names) l key) (sym none)
     ∙ (c.loop-claimed.invariant.2 key ∙ (ap (λ l. name_of l key) parts ∙ name_before done more key free))
+
+pub returns-clause-names : goal.returns-clause-names
+returns-clause-names c =
+    let claims = c.args.claims.now in
+    let none : drop c.loop-claimed.claimed-index claims ≡ [] = drop_of_length-le claims c.loop-claimed-test.false in
+    λ key. ap (λ l. names_from (taken_of c.loop-claimed.spaces) (name_at c.loop-claimed.names) l key) (sym none) ∙ c.loop-claimed.invariant.2 key
