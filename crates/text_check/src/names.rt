@@ -74,13 +74,20 @@ fn begins_word(text: &[u8]) -> bool
     }
 }
 
-/// Whether each byte is a letter, a digit or `_`.
+/// Whether the byte is a letter, a digit or `_`: most bytes of names are digits.
+#[inline]
 #[tactic(auto, unfolding(glsl_grammar::specs::Lex::is_word))]
+fn is_word_byte(byte: u8) -> bool
+    ensures { result ≡ is_word byte }
+{
+    byte.is_ascii_digit() || byte.is_ascii_alphabetic() || byte == b'_'
+}
+
+/// Whether each byte is a letter, a digit or `_`.
 fn are_word_bytes(text: &[u8]) -> bool
     ensures { result ≡ list_all is_word text.now }
 {
-    text.iter()
-        .all(|byte| byte.is_ascii_alphanumeric() || *byte == b'_')
+    text.iter().all(|byte| is_word_byte(*byte))
 }
 
 /// Whether the text is a name: a word that begins with no digit, and none that the grammar has a meaning for.
