@@ -4,3 +4,5 @@ mod Counted
 mod Repeats
 mod Matched
 mod Refused
+mod Placed
+mod Needed

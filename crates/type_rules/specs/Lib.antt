@@ -2,3 +2,4 @@ pub mod Scopes
 pub mod Indexed
 pub mod Edges
 pub mod Matches
+pub mod Groups

@@ -3,11 +3,11 @@ ghost use Rattle.std.specs.Prelude.{◌≡◌, [], IfOk, IfErr, OnOk, flat_map};
 ghost use Rattle.std.specs.List.{list_any};
 ghost use Rattle.spv_words.specs.Breaks.{NoRuleBroken};
 ghost use Rattle.profile_rules.specs.Operands.{lacks_type, breaks_t1_of};
-ghost use Rattle.profile_rules.specs.TypeRules.{Broken, type_rules, group_of as group_by, is_broken_outside as is_at_fault_outside, is_broken_in as is_at_fault_in, broken_if, broken_as, broken_inside, broken_by_global, broken_by_local, broken_by_block, broken_by_function, broken, AreWithin, IsRefusedBy, IsRight, inner as inner_of};
+ghost use Rattle.profile_rules.specs.TypeRules.{Broken, type_rules, is_broken_outside as is_at_fault_outside, is_broken_in as is_at_fault_in, broken_if, broken_as, broken_inside, broken_by_global, broken_by_local, broken_by_block, broken_by_function, broken, AreWithin, IsRefusedBy, IsRight, inner as inner_of};
 ghost use Rattle.type_rules.specs.Scopes.{outside, inside};
 
 use crate::dispatch::{is_flow_broken, is_number_broken, is_value_broken, rule_of};
-use crate::edges::Edges;
+use crate::edges::LazyEdges;
 use crate::flow::is_function_broken;
 use crate::groups::group_of;
 use crate::index::ModuleIndex;
@@ -143,23 +143,24 @@ fn check_globals(
     Ok(())
 }
 
-/// Whether an instruction of a block is at fault.
+/// Whether an instruction of a block, of this group, is at fault.
 fn is_broken_in(
     alloc: Global,
     matching: &mut Matching,
     scope: &Scope,
     locals: &Locals,
-    edges: &Edges,
+    edges: &mut LazyEdges,
     block: &Block,
     inst: &Inst,
+    group: Group,
 ) -> Result<bool, Memory>
     requires same_module { matching.old ≡ scope.now.m }
-    requires edges { edges.now ≡ locals.now }
+    requires edges { edges.old ≡ locals.now }
     requires scope { scope.now ≡ inside scope.now.m locals.now }
-    ensures value { IfOk result (λ b. b ≡ is_at_fault_in scope.now.m locals.now block.now inst.now (group_by inst.now.op)) }
+    ensures value { IfOk result (λ b. b ≡ is_at_fault_in scope.now.m locals.now block.now inst.now group) }
     ensures same { matching.new ≡ matching.old }
+    ensures same_edges { edges.new ≡ edges.old }
 {
-    let group = group_of(u32::from(inst.op));
     Ok(
         is_value_broken(matching, scope, inst, group)?
             || is_number_broken(scope, inst, group)
@@ -174,20 +175,22 @@ fn check_local(
     matching: &mut Matching,
     scope: &Scope,
     locals: &Locals,
-    edges: &Edges,
+    edges: &mut LazyEdges,
     block: &Block,
     inst: &Inst,
 ) -> Result<(), Fault>
     requires same_module { matching.old ≡ scope.now.m }
-    requires edges { edges.now ≡ locals.now }
+    requires edges { edges.old ≡ locals.now }
     requires scope { scope.now ≡ inside scope.now.m locals.now }
     ensures passes { OnOk result (broken_by_local scope.now.m locals.now block.now inst.now ≡ []) }
     ensures refused { IfErr result (IsRefusedBy (broken_by_local scope.now.m locals.now block.now inst.now)) }
     ensures same { matching.new ≡ matching.old }
+    ensures same_edges { edges.new ≡ edges.old }
 {
     refuse_if(is_lacking(scope, inst), Rule::T1, inst.at)?;
-    let is_broken = is_broken_in(alloc, matching, scope, locals, edges, block, inst)?;
-    refuse_if(is_broken, rule_of(group_of(u32::from(inst.op))), inst.at)
+    let group = group_of(u32::from(inst.op));
+    let is_broken = is_broken_in(alloc, matching, scope, locals, edges, block, inst, group)?;
+    refuse_if(is_broken, rule_of(group), inst.at)
 }
 
 /// Checks the instructions of a block.
@@ -196,15 +199,16 @@ fn check_block(
     matching: &mut Matching,
     scope: &Scope,
     locals: &Locals,
-    edges: &Edges,
+    edges: &mut LazyEdges,
     block: &Block,
 ) -> Result<(), Fault>
     requires same_module { matching.old ≡ scope.now.m }
-    requires edges { edges.now ≡ locals.now }
+    requires edges { edges.old ≡ locals.now }
     requires scope { scope.now ≡ inside scope.now.m locals.now }
     ensures passes { OnOk result (broken_by_block scope.now.m locals.now block.now ≡ []) }
     ensures refused { IfErr result (IsRefusedBy (broken_by_block scope.now.m locals.now block.now)) }
     ensures same { matching.new ≡ matching.old }
+    ensures same_edges { edges.new ≡ edges.old }
 {
     for inst in block.insts.as_slice() {
         check_local(alloc, matching, scope, locals, edges, block, inst)?;
@@ -218,14 +222,15 @@ fn check_blocks(
     matching: &mut Matching,
     scope: &Scope,
     locals: &Locals,
-    edges: &Edges,
+    edges: &mut LazyEdges,
 ) -> Result<(), Fault>
     requires same_module { matching.old ≡ scope.now.m }
-    requires edges { edges.now ≡ locals.now }
+    requires edges { edges.old ≡ locals.now }
     requires scope { scope.now ≡ inside scope.now.m locals.now }
     ensures passes { OnOk result (flat_map (broken_by_block scope.now.m locals.now) locals.now.blocks ≡ []) }
     ensures refused { IfErr result (IsRefusedBy (flat_map (broken_by_block scope.now.m locals.now) locals.now.blocks)) }
     ensures same { matching.new ≡ matching.old }
+    ensures same_edges { edges.new ≡ edges.old }
 {
     for block in locals.function().blocks.as_slice() {
         check_block(alloc, matching, scope, locals, edges, block)?;
@@ -261,14 +266,15 @@ fn check_in_function(
     matching: &mut Matching,
     scope: &Scope,
     locals: &Locals,
-    edges: &Edges,
+    edges: &mut LazyEdges,
 ) -> Result<(), Fault>
     requires same_module { matching.old ≡ scope.now.m }
-    requires edges { edges.now ≡ locals.now }
+    requires edges { edges.old ≡ locals.now }
     requires scope { scope.now ≡ inside scope.now.m locals.now }
     ensures passes { OnOk result (broken_by_function scope.now.m locals.now ≡ []) }
     ensures refused { IfErr result (IsRefusedBy (broken_by_function scope.now.m locals.now)) }
     ensures same { matching.new ≡ matching.old }
+    ensures same_edges { edges.new ≡ edges.old }
 {
     let function = locals.function();
     refuse_if(is_lacking_type(scope, function), Rule::T1, function.at)?;
@@ -282,13 +288,14 @@ fn check_with_edges<'a, 'b>(
     matching: &mut Matching,
     index: &'a ModuleIndex<'a>,
     locals: &'a Locals<'b>,
-    edges: &Edges,
+    edges: &mut LazyEdges,
 ) -> Result<(), Fault>
     requires same_module { matching.old ≡ index.now }
-    requires edges { edges.now ≡ locals.now }
+    requires edges { edges.old ≡ locals.now }
     ensures passes { OnOk result (broken_by_function index.now locals.now ≡ []) }
     ensures refused { IfErr result (IsRefusedBy (broken_by_function index.now locals.now)) }
     ensures same { matching.new ≡ matching.old }
+    ensures same_edges { edges.new ≡ edges.old }
 {
     let scope = Scope::inside(index, locals);
     check_in_function(alloc, matching, &scope, locals, edges)
@@ -306,8 +313,8 @@ fn check_with_locals<'a, 'b>(
     ensures refused { IfErr result (IsRefusedBy (broken_by_function index.now locals.now)) }
     ensures same { matching.new ≡ matching.old }
 {
-    let edges = Edges::of(alloc, locals.function())?;
-    check_with_edges(alloc, matching, index, locals, &edges)
+    let mut edges = LazyEdges::of(locals.function());
+    check_with_edges(alloc, matching, index, locals, &mut edges)
 }
 
 /// Checks a function.

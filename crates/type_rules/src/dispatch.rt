@@ -11,7 +11,7 @@ use crate::composites::{
     is_composite_broken, is_constant_broken, is_construct_broken, is_copy_broken,
     is_number_broken as is_number_constant_broken, is_truth_broken, is_undef_broken,
 };
-use crate::edges::Edges;
+use crate::edges::LazyEdges;
 use crate::flow::{
     is_branch_broken, is_call_broken, is_phi_broken, is_return_broken, is_return_value_broken,
     is_switch_broken,
@@ -131,14 +131,15 @@ pub fn is_flow_broken(
     alloc: Global,
     scope: &Scope,
     locals: &Locals,
-    edges: &Edges,
+    edges: &mut LazyEdges,
     block: &Block,
     inst: &Inst,
     group: Group,
 ) -> Result<bool, Memory>
-    requires edges { edges.now ≡ locals.now }
+    requires edges { edges.old ≡ locals.now }
     requires scope { scope.now ≡ inside scope.now.m locals.now }
-    ensures { IfOk result (λ b. b ≡ is_flow_at_fault scope.now.m locals.now block.now inst.now group) }
+    ensures value { IfOk result (λ b. b ≡ is_flow_at_fault scope.now.m locals.now block.now inst.now group) }
+    ensures same { edges.new ≡ edges.old }
 {
     match group {
         Group::Call => Ok(is_call_broken(scope, inst)),

@@ -218,3 +218,51 @@ impl<'a> Edges<'a> {
         n <= self.function.blocks.len() && n as u64 == count
     }
 }
+
+/// The edges of a function, which are found when they are first asked for. Contracts see the function.
+#[derive(Drop)]
+pub struct LazyEdges<'a> {
+    function: &'a Function,
+    found: Option<Edges<'a>>,
+}
+
+impl<'a> Model for LazyEdges<'a> {
+    ghost use Rattle.std.specs.Prelude.{◌≡◌, IfSome};
+    ghost use Rattle.spv_module.specs.declared.inst.Function.{Function};
+
+    ghost Value = { Function };
+
+    ghost view = { λ e. e.function.now };
+
+    ghost invariant = { λ e. IfSome e.found (λ found. found ≡ e.function.now) };
+}
+
+impl<'a> LazyEdges<'a> {
+    pub fn of(function: &'a Function) -> LazyEdges<'a>
+        ensures { result ≡ function.now }
+    {
+        LazyEdges {
+            function,
+            found: None,
+        }
+    }
+
+    /// The edges, which `put` gives back.
+    pub fn take(&mut self, alloc: Global) -> Result<Edges<'a>, Memory>
+        ensures value { IfOk result (λ e. e ≡ self.old) }
+        ensures same { self.new ≡ self.old }
+    {
+        match self.found.take() {
+            Some(edges) => Ok(edges),
+            None => Edges::of(alloc, self.function),
+        }
+    }
+
+    /// Keeps the edges for when they are asked for again.
+    pub fn put(&mut self, edges: Edges<'a>)
+        requires { edges ≡ self.old }
+        ensures { self.new ≡ self.old }
+    {
+        self.found = Some(edges);
+    }
+}

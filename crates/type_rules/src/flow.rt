@@ -8,7 +8,7 @@ ghost use Rattle.profile_rules.specs.FlowRules.{callee, is_from_elsewhere as is_
 ghost use Rattle.type_rules.specs.Scopes.{types};
 
 use crate::composites::{are_other_members, has_other};
-use crate::edges::Edges;
+use crate::edges::{Edges, LazyEdges};
 use crate::numbers::behind;
 use crate::scope::{BOOL, INT, Scope, VOID};
 use spv_index::Locals;
@@ -152,6 +152,24 @@ fn is_from_elsewhere(
     are_no_predecessors(alloc, edges, label, &labels)
 }
 
+/// The same, with the edges as they are kept.
+fn is_from_elsewhere_in(
+    alloc: Global,
+    locals: &Locals,
+    edges: &mut LazyEdges,
+    label: u32,
+    inst: &Inst,
+) -> Result<bool, Memory>
+    requires { edges.old ≡ locals.now }
+    ensures value { IfOk result (λ b. b ≡ is_elsewhere locals.now label inst.now) }
+    ensures same { edges.new ≡ edges.old }
+{
+    let found = edges.take(alloc)?;
+    let answer = is_from_elsewhere(alloc, locals, &found, label, inst);
+    edges.put(found);
+    Ok(answer?)
+}
+
 /// Whether a value of a phi is of another type.
 fn has_other_value(alloc: Global, scope: &Scope, inst: &Inst) -> Result<bool, AllocError>
     ensures { IfOk result (λ b. b ≡ list_any (is_other scope.now.m.globals (types scope.now) inst.now.ty) (every_second_of 0 inst.now.args)) }
@@ -165,12 +183,13 @@ pub fn is_phi_broken(
     alloc: Global,
     scope: &Scope,
     locals: &Locals,
-    edges: &Edges,
+    edges: &mut LazyEdges,
     block: &Block,
     inst: &Inst,
 ) -> Result<bool, Memory>
-    requires { edges.now ≡ locals.now }
-    ensures { IfOk result (λ b. b ≡ breaks_t22 scope.now.m.heads scope.now.m.globals (types scope.now) locals.now block.now inst.now) }
+    requires { edges.old ≡ locals.now }
+    ensures value { IfOk result (λ b. b ≡ breaks_t22 scope.now.m.heads scope.now.m.globals (types scope.now) locals.now block.now inst.now) }
+    ensures same { edges.new ≡ edges.old }
 {
     if scope.is_no_value_type(inst.ty) {
         return Ok(true);
@@ -178,7 +197,7 @@ pub fn is_phi_broken(
     if has_other_value(alloc, scope, inst)? {
         return Ok(true);
     }
-    Ok(is_from_elsewhere(alloc, locals, edges, block.label.0, inst)?)
+    is_from_elsewhere_in(alloc, locals, edges, block.label.0, inst)
 }
 
 /// T23: OpBranchConditional.

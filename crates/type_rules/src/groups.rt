@@ -1,6 +1,7 @@
 // The group of an instruction.
-ghost use Rattle.std.specs.Prelude.{◌≡◌, ◌==◌, find, option_map};
+ghost use Rattle.std.specs.Prelude.{◌≡◌};
 ghost use Rattle.profile_rules.specs.TypeRules.{group_of as group_by, group_in as group_in_table};
+ghost use Rattle.type_rules.specs.Groups.{each, group_at_place};
 
 use profile_rules::Group;
 
@@ -96,17 +97,50 @@ static GROUPS: [(u32, Group); 88] = [
     (225, Group::MemoryBarrier),
 ];
 
-fn find_group(rows: &[(u32, Group)], opcode: u32) -> Option<Group>
-    ensures { result ≡ option_map (λ r. r.1) (find (λ r. r.0 == opcode) rows.now) }
+// For each opcode the place of its row; of one that has none, the place of another row.
+static PLACES: [usize; 401] = [
+    0, 10, 0, 0, 0, 0, 0, 0, 0, 0, 0, 0, 64, 0, 0, 0, 0, 0, 0, 0, 0, 0, 0, 0, 0, 0, 0, 0, 0, 0, 0,
+    0, 0, 0, 0, 0, 0, 0, 0, 0, 0, 0, 1, 2, 3, 0, 4, 0, 5, 6, 7, 8, 9, 0, 0, 0, 0, 65, 0, 0, 0, 12,
+    13, 0, 0, 14, 15, 0, 16, 0, 0, 0, 0, 0, 0, 0, 0, 17, 18, 19, 20, 21, 22, 11, 0, 0, 0, 0, 0, 0,
+    0, 0, 0, 0, 0, 0, 0, 0, 0, 0, 0, 0, 0, 0, 0, 0, 0, 0, 0, 0, 0, 0, 0, 0, 0, 0, 0, 0, 0, 0, 0, 0,
+    0, 0, 63, 0, 24, 0, 25, 0, 26, 0, 27, 0, 28, 29, 0, 30, 31, 32, 0, 0, 0, 0, 0, 0, 0, 0, 0, 0,
+    0, 0, 0, 0, 55, 56, 0, 0, 0, 0, 0, 0, 0, 0, 50, 51, 52, 53, 54, 57, 40, 41, 42, 43, 44, 45, 46,
+    47, 48, 49, 0, 0, 0, 0, 0, 0, 0, 0, 0, 0, 0, 0, 0, 0, 33, 34, 35, 36, 37, 38, 39, 58, 59, 60,
+    61, 62, 0, 0, 0, 0, 0, 0, 0, 0, 0, 0, 0, 0, 0, 0, 0, 0, 0, 0, 86, 87, 0, 71, 72, 73, 74, 0, 75,
+    76, 77, 78, 79, 80, 81, 82, 83, 84, 85, 0, 0, 66, 0, 0, 0, 0, 67, 68, 0, 69, 70, 0, 0, 0, 0, 0,
+    0, 0, 0, 0, 0, 0, 0, 0, 0, 0, 0, 0, 0, 0, 0, 0, 0, 0, 0, 0, 0, 0, 0, 0, 0, 0, 0, 0, 0, 0, 0, 0,
+    0, 0, 0, 0, 0, 0, 0, 0, 0, 0, 0, 0, 0, 0, 0, 0, 0, 0, 0, 0, 0, 0, 0, 0, 0, 0, 0, 0, 0, 0, 0, 0,
+    0, 0, 0, 0, 0, 0, 0, 0, 0, 0, 0, 0, 0, 0, 0, 0, 0, 0, 0, 0, 0, 0, 0, 0, 0, 0, 0, 0, 0, 0, 0, 0,
+    0, 0, 0, 0, 0, 0, 0, 0, 0, 0, 0, 0, 0, 0, 0, 0, 0, 0, 0, 0, 0, 0, 0, 0, 0, 0, 0, 0, 0, 0, 0, 0,
+    0, 0, 0, 0, 0, 0, 0, 0, 0, 0, 0, 0, 23,
+];
+
+/// The group in the row at the opcode's place, where that row is the opcode's.
+fn group_at(rows: &[(u32, Group)], places: &[usize], opcode: u32) -> Option<Group>
+    ensures { result ≡ group_at_place rows.now places.now opcode }
 {
-    rows.iter().find(|row| row.0 == opcode).map(|row| row.1)
+    let place = *places.get(opcode as usize)?;
+    let row = rows.get(place)?;
+    if row.0 == opcode { Some(row.1) } else { None }
 }
 
-#[tactic(auto, unfolding(profile_rules::specs::TypeRules::group_in))]
+/// The group of an opcode, where these are the places of the rows.
+#[tactic(auto, using(crate::proofs::Placed::no_group))]
+fn find_group(rows: &[(u32, Group)], places: &[usize], opcode: u32) -> Option<Group>
+    requires { each 401 0 (group_at_place rows.now places.now) ≡ each 401 0 group_in_table }
+    ensures { result ≡ group_in_table opcode }
+{
+    if opcode > 400 {
+        return None;
+    }
+    group_at(rows, places, opcode)
+}
+
+#[tactic(auto, unfolding(profile_rules::specs::TypeRules::group_in, crate::specs::Groups::each))]
 fn group_in(opcode: u32) -> Option<Group>
     ensures { result ≡ group_in_table opcode }
 {
-    find_group(&GROUPS, opcode)
+    find_group(&GROUPS, &PLACES, opcode)
 }
 
 /// The group of an opcode.

@@ -1,8 +1,8 @@
 // The types of operations on numbers and truth values.
-ghost use Rattle.std.specs.Prelude.{◌≡◌, take, drop};
+ghost use Rattle.std.specs.Prelude.{◌≡◌, Some, take, drop};
 ghost use Rattle.profile_rules.specs.TypeRows.{is_not as is_not_number};
 ghost use Rattle.profile_rules.specs.NumberRules.{are_unlike_ints as are_unlike, breaks_t13, breaks_t14, breaks_t15, breaks_t16, breaks_t18, breaks_t19, breaks_t20, is_no_bool_vector as is_none, is_extended as is_extended_in, has_no_int as has_none_int};
-ghost use Rattle.type_rules.specs.Scopes.{types, scalars_of};
+ghost use Rattle.type_rules.specs.Scopes.{types, scalars, scalars_of};
 ghost use Rattle.std.specs.List.{list_any};
 
 use crate::scope::{BOOL, INT, Scope, VECTOR};
@@ -39,6 +39,25 @@ fn has_other_count(scope: &Scope, op: u16, n: u32, ids: &[u32]) -> bool
     ids.iter().any(|id| is_not(n, scope.count_of(op, *id)))
 }
 
+/// Whether a value is not made of n scalars that this opcode declares, as those of a known type are.
+fn is_other_count(scope: &Scope, op: u16, n: u32, like: u32, id: u32) -> bool
+    requires { scalars op scope.now like ≡ Some n }
+    ensures { result ≡ is_not_number n (scalars_of op scope.now id) }
+{
+    match scope.type_of(id) {
+        Some(ty) => ty != like && is_not(n, scope.count(op, ty)),
+        None => false,
+    }
+}
+
+/// Whether one of these is not made of n scalars that this opcode declares, as those of a known type are.
+fn has_count_unlike(scope: &Scope, op: u16, n: u32, like: u32, ids: &[u32]) -> bool
+    requires { scalars op scope.now like ≡ Some n }
+    ensures { result ≡ list_any (λ id. is_not_number n (scalars_of op scope.now id)) ids.now }
+{
+    ids.iter().any(|id| is_other_count(scope, op, n, like, *id))
+}
+
 /// Whether a value is no int scalar.
 pub fn has_no_int(scope: &Scope, ids: &[u32]) -> bool
     ensures { result ≡ has_none_int scope.now.m.globals (types scope.now) ids.now }
@@ -51,7 +70,7 @@ fn are_unlike_ints(scope: &Scope, ty: u32, ids: &[u32]) -> bool
     ensures { result ≡ are_unlike scope.now.m.globals (types scope.now) ty ids.now }
 {
     match scope.count(INT, ty) {
-        Some(n) => n == 0 || has_other_count(scope, INT, n, ids),
+        Some(n) => n == 0 || has_count_unlike(scope, INT, n, ty, ids),
         None => false,
     }
 }
@@ -78,7 +97,7 @@ pub fn is_logical_broken(scope: &Scope, inst: &Inst) -> bool
     ensures { result ≡ breaks_t15 scope.now.m.globals (types scope.now) inst.now }
 {
     match scope.count(BOOL, inst.ty) {
-        Some(n) => n == 0 || has_other_count(scope, BOOL, n, inst.args.as_slice()),
+        Some(n) => n == 0 || has_count_unlike(scope, BOOL, n, inst.ty, inst.args.as_slice()),
         None => false,
     }
 }

@@ -1,10 +1,11 @@
 // What the operand ids of an instruction have to be, and where they have to stand.
-ghost use Rattle.std.specs.Prelude.{◌≡◌, ◌==◌, ℕ, find, option_map, is_some};
+ghost use Rattle.std.specs.Prelude.{◌≡◌, ◌==◌, ◌&&◌, nat_lt, ℕ, find, false, option_map, is_some};
+ghost use Rattle.std.specs.Option.{option_map_or};
 ghost use Rattle.std.specs.List.{list_any, enumerate_from};
 ghost use Rattle.spv_ops.specs.Operands.{has_id, is_id};
 ghost use Rattle.spv_module.specs.Inst.{has_type as has_type_by};
-ghost use Rattle.spv_index.specs.Locals.{typed};
-ghost use Rattle.profile_rules.specs.Operands.{needs_of as needs_by, need as need_by, type_need as type_need_by, suits as suits_need, is_global as is_global_before, is_local as is_local_value, is_local_before as is_local_value_before, is_in_function as is_there_in_function, lacks_operand as lacks_operand_by, lacks};
+ghost use Rattle.spv_index.specs.Locals.{typed, inst_in};
+ghost use Rattle.profile_rules.specs.Operands.{needs_of as needs_by, need as need_by, type_need as type_need_by, suits as suits_need, is_global as is_global_before, is_local as is_local_value, is_there_in as is_there_in_function, lacks_operand as lacks_operand_by, lacks};
 ghost use Rattle.type_rules.specs.Scopes.{there};
 
 use crate::scope::Scope;
@@ -46,10 +47,21 @@ fn find_needs(rows: &[(u16, Need, Need)], op: u16) -> Option<(Need, Need)>
 }
 
 #[tactic(auto, unfolding(profile_rules::specs::Operands::needs_of))]
-fn needs_of(op: u16) -> Option<(Need, Need)>
+fn needs_in_table(op: u16) -> Option<(Need, Need)>
     ensures { result ≡ needs_by op }
 {
     find_needs(&NEEDS, op)
+}
+
+/// What the operands of an opcode have to be. No opcode from 60 to 245 is in the table.
+#[tactic(auto, using(crate::proofs::Placed::no_needs))]
+fn needs_of(op: u16) -> Option<(Need, Need)>
+    ensures { result ≡ needs_by op }
+{
+    if op >= 60 && op < 246 {
+        return None;
+    }
+    needs_in_table(op)
 }
 
 /// What operand k has to be where it is an id. Values and labels of OpPhi alternate.
@@ -134,30 +146,40 @@ fn is_local(locals: &Locals, id: u32) -> bool
     }
 }
 
-/// Whether a parameter, or an instruction before a word, is a value.
-fn is_local_before(locals: &Locals, before: u32, id: u32) -> bool
-    ensures { result ≡ is_local_value_before locals.now before id }
+/// Whether an instruction of the function before a word is a value.
+fn is_result_before(locals: &Locals, before: u32, id: u32) -> bool
+    ensures { result ≡ option_map_or (λ i. is_some (typed i) && nat_lt i.at before) (inst_in locals.now id) false }
 {
-    match locals.parameter(id) {
-        Some(_) => true,
-        None => match locals.inst(id) {
-            Some(inst) => is_typed(inst) && inst.at < before,
-            None => false,
-        },
+    match locals.inst(id) {
+        Some(inst) => is_typed(inst) && inst.at < before,
+        None => false,
     }
 }
 
-/// Whether a function has, for an instruction at a word, what is needed.
-fn is_in_function(scope: &Scope, locals: &Locals, before: u32, need: Need, id: u32) -> bool
+/// Whether a value is there before a word. Most are results of instructions, so these are asked first.
+#[tactic(auto, using(crate::proofs::Needed::in_any_order))]
+fn is_value_before(scope: &Scope, locals: &Locals, before: u32, id: u32) -> bool
+    ensures { result ≡ is_there_in_function scope.now.m locals.now before Need.Value id }
+{
+    is_result_before(locals, before, id)
+        || is_global(scope, before, Need::Value, id)
+        || locals.parameter(id).is_some()
+}
+
+/// Whether there is, for an instruction of a function at a word, what is needed.
+#[tactic(auto, using(crate::proofs::Needed::none_suits))]
+fn is_there_in(scope: &Scope, locals: &Locals, before: u32, need: Need, id: u32) -> bool
     ensures { result ≡ is_there_in_function scope.now.m locals.now before need id }
 {
     match need {
-        Need::Value => is_local_before(locals, before, id),
-        Need::PhiValue => is_local(locals, id),
+        Need::Value => is_value_before(scope, locals, before, id),
+        Need::PhiValue => is_global(scope, before, need, id) || is_local(locals, id),
         Need::Label => locals.block(id).is_some(),
         Need::Callee => scope.index().has_function(id),
         Need::Import => scope.index().is_import(before, id),
-        Need::AnyType | Need::PointerType | Need::FunctionType | Need::Constant => false,
+        Need::AnyType | Need::PointerType | Need::FunctionType | Need::Constant => {
+            is_global(scope, before, need, id)
+        }
     }
 }
 
@@ -166,9 +188,7 @@ fn is_there(scope: &Scope, before: u32, need: Need, id: u32) -> bool
     ensures { result ≡ there scope.now before need id }
 {
     match scope.locals() {
-        Some(locals) => {
-            is_global(scope, before, need, id) || is_in_function(scope, locals, before, need, id)
-        }
+        Some(locals) => is_there_in(scope, locals, before, need, id),
         None => is_global(scope, before, need, id),
     }
 }
