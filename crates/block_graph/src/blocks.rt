@@ -1,5 +1,5 @@
 // The nodes of a function's blocks.
-ghost use Rattle.std.specs.Prelude.{◌≡◌, ◌==◌, IfOk, find, map};
+ghost use Rattle.std.specs.Prelude.{◌≡◌, ◌++◌, IfOk, OnOk, find, map, take};
 ghost use Rattle.std.specs.Option.{option_copied};
 ghost use Rattle.structure_rules.specs.Graph.{is_merge as is_merge_inst, is_terminator as is_terminator_inst, merge_inst as merge_inst_of, terminator as terminator_of, word_of as word_of_inst, index_of, seconds, exit_by, labels_by, target_labels, merge_by, node_by, nodes as nodes_of};
 
@@ -78,31 +78,53 @@ fn exit_of(inst: Option<&Inst>) -> Exit
     }
 }
 
-/// The second of each two words.
-fn second_words(alloc: Global, words: &[u32]) -> Result<Vec<u32>, AllocError>
-    ensures { IfOk result (λ labels. labels.items ≡ seconds words.now) }
+/// The first words, at most so many.
+#[tactic(auto, using(crate::proofs::Targets::first_rules))]
+fn first(words: &[u32], most: usize) -> &[u32]
+    ensures { result.now ≡ take most words.now }
 {
-    let mut rest = words;
-    let mut labels = Vec::with_capacity(alloc, words.len() / 2)?;
-    while let [_, label, after @ ..] = rest {
-        labels.push(*label)?;
-        rest = after;
-    }
-    Ok(labels)
+    &words[..most.min(words.len())]
 }
 
-/// The labels to which a terminator leads.
-fn labels_of(alloc: Global, exit: Exit, args: &[u32]) -> Result<Vec<u32>, AllocError>
-    ensures { IfOk result (λ labels. labels.items ≡ labels_by exit args.now) }
+/// Adds the blocks with these labels.
+fn add_targets(targets: &mut Seq<usize>, labels: &Labels, named: &[u32]) -> Result<(), AllocError>
+    ensures { OnOk result (targets.new ≡ targets.old ++ map (index_of labels.now) named.now) }
+{
+    for label in named {
+        targets.push(labels.index(*label))?;
+    }
+    Ok(())
+}
+
+/// Adds the blocks whose labels are the second of each two words.
+fn add_seconds(targets: &mut Seq<usize>, labels: &Labels, words: &[u32]) -> Result<(), AllocError>
+    ensures { OnOk result (targets.new ≡ targets.old ++ map (index_of labels.now) (seconds words.now)) }
+{
+    let mut rest = words;
+    while let [_, label, after @ ..] = rest {
+        targets.push(labels.index(*label))?;
+        rest = after;
+    }
+    Ok(())
+}
+
+/// Adds the blocks to which a terminator of this kind leads.
+fn add_exits(
+    targets: &mut Seq<usize>,
+    labels: &Labels,
+    exit: Exit,
+    args: &[u32],
+) -> Result<(), AllocError>
+    ensures { OnOk result (targets.new ≡ targets.old ++ map (index_of labels.now) (labels_by exit args.now)) }
 {
     match exit {
-        Exit::Branch => args.iter().copied().take(1).collect(alloc),
+        Exit::Branch => add_targets(targets, labels, first(args, 1)),
         Exit::Conditional => match args {
-            [_, labels @ ..] => labels.iter().copied().take(2).collect(alloc),
-            [] => Ok(Vec::new(alloc)),
+            [_, named @ ..] => add_targets(targets, labels, first(named, 2)),
+            [] => Ok(()),
         },
-        Exit::Switch => second_words(alloc, args),
-        Exit::Leave => Ok(Vec::new(alloc)),
+        Exit::Switch => add_seconds(targets, labels, args),
+        Exit::Leave => Ok(()),
     }
 }
 
@@ -114,10 +136,8 @@ fn targets_of(alloc: Global, labels: &Labels, inst: Option<&Inst>) -> Result<Seq
     let Some(terminator) = inst else {
         return Ok(targets);
     };
-    let named = labels_of(alloc, exit_of(inst), terminator.args.as_slice())?;
-    for label in &named {
-        targets.push(labels.index(*label))?;
-    }
+    let args = terminator.args.as_slice();
+    add_exits(&mut targets, labels, exit_of(inst), args)?;
     Ok(targets)
 }
 
