@@ -2,3 +2,4 @@ mod Shapes
 mod Members
 mod Basic
 mod Outlined
+mod Bases

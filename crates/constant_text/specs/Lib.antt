@@ -2,3 +2,4 @@ pub mod Held
 pub mod Scalars
 pub mod Named
 pub mod Zeros
+pub mod Bases

@@ -58,7 +58,7 @@ fn vector_shape(module: &Module, inst: &Inst) -> Shape
 
 /// The shape of the scalar or vector type that an instruction declares, and uint where it declares another.
 #[tactic(auto, unfolding(spv_types::specs::Types::kind), using(crate::proofs::Basic::other_rules, spv_types::proofs::Views::shape_rows))]
-fn basic_at(module: &Module, inst: &Inst) -> Shape
+pub(crate) fn basic_at(module: &Module, inst: &Inst) -> Shape
     ensures { tree_of result ≡ basic_at_of «module».now.globals inst.now }
 {
     match inst.op {
@@ -115,7 +115,7 @@ fn outline_before(alloc: Global, module: &Module, before: u32, ty: u32) -> Resul
 /// The shape of a type without the members of structs: what its name needs.
 #[cycle(outline)]
 #[tactic(auto, unfolding(spv_types::specs::Types::kind), using(spv_types::proofs::Views::shape_rows))]
-fn outline_at(alloc: Global, module: &Module, inst: &Inst) -> Result<Shape, Memory>
+pub(crate) fn outline_at(alloc: Global, module: &Module, inst: &Inst) -> Result<Shape, Memory>
     ensures { IfOk result (λ s. tree_of s ≡ outline_at_of «module».now.globals inst.now) }
 {
     match inst.op {

@@ -5,14 +5,15 @@ ghost use Rattle.glsl_ast.specs.View.{base_of, extent_of, type_of};
 ghost use Rattle.spv_types.specs.View.{tree_of};
 ghost use Rattle.text_rules.specs.Constants.{reading as reading_of};
 ghost use Rattle.text_rules.specs.Types.{vector_base as vector_base_of, with_extent as with_extent_of, type_text};
-ghost use Rattle.text_rules.specs.Outlines.{outline as outline_of_type};
+ghost use Rattle.text_rules.specs.Outlines.{outline as outline_of_type, outline_at as outline_at_of};
 ghost use Rattle.text_rules.specs.Declarations.{extent_by, length_extent, spelling};
+ghost use Rattle.constant_text.specs.Bases.{basic_base as basic_base_of};
 ghost use Rattle.constant_text.specs.Named.{id_names};
 
 use crate::Readings;
 use crate::constants::axis_text;
 use crate::names::name;
-use crate::outlines::outline;
+use crate::outlines::{basic_at, outline_at};
 use glsl_ast::{Base, Extent, TypeName};
 use name_alloc::{Key, Names};
 use spv_module::{Elem, Id, Inst, Length, Shape};
@@ -27,6 +28,19 @@ fn vector_base(elem: Elem, size: u8) -> Base
         Elem::Bool => Base::BoolVec(size),
         Elem::Int => Base::IntVec(size),
         Elem::Uint => Base::UintVec(size),
+    }
+}
+
+/// The base of a scalar or vector type, and uint of another.
+#[tactic(auto, using(spv_types::proofs::Views::shape_rows))]
+fn basic_base(shape: &Shape) -> Base
+    ensures { base_of result ≡ basic_base_of (tree_of shape.now) }
+{
+    match shape {
+        Shape::Bool => Base::Bool,
+        Shape::Int => Base::Int,
+        Shape::Vector(elem, size) => vector_base(*elem, *size),
+        Shape::Uint | Shape::Array(_, _) | Shape::Runtime(_) | Shape::Struct(_, _) => Base::Uint,
     }
 }
 
@@ -103,13 +117,34 @@ impl Readings<'_> {
             }
         }
     }
+
+    /// The name of the type that an instruction declares, and `uint` where it declares none.
+    #[tactic(auto, unfolding(spv_types::specs::Types::kind), using(crate::proofs::Bases::base_rules))]
+    fn type_name_at(&self, alloc: Global, names: &Names, inst: &Inst) -> Result<TypeName, Memory>
+        ensures { IfOk result (λ t. type_of t ≡ type_text (spelling self.now (id_names names.now)) (outline_at_of self.now.of.globals inst.now)) }
+    {
+        match inst.op {
+            // OpTypeArray, OpTypeRuntimeArray, OpTypeStruct
+            28 | 29 | 30 => {
+                let shape = outline_at(alloc, self.module(), inst)?;
+                self.type_name(alloc, names, &shape)
+            }
+            _ => {
+                let shape = basic_at(self.module(), inst);
+                Ok(plain_type(alloc, basic_base(&shape)))
+            }
+        }
+    }
+
     /// The name of the type with an id, and `uint` of what is none. There is an error only for want of memory.
     ///
     /// The cost does not grow with the members of structs.
     pub fn type_name_of(&self, alloc: Global, names: &Names, ty: u32) -> Result<TypeName, Memory>
         ensures { IfOk result (λ t. type_of t ≡ type_text (spelling self.now (id_names names.now)) (outline_of_type self.now.of.globals ty)) }
     {
-        let shape = outline(alloc, self.module(), ty)?;
-        self.type_name(alloc, names, &shape)
+        match self.module().global(Id(ty)) {
+            None => Ok(plain_type(alloc, Base::Uint)),
+            Some(inst) => self.type_name_at(alloc, names, inst),
+        }
     }
 }

@@ -36,13 +36,6 @@ fn zero_elems(alloc: Global, elem: Elem, size: u8) -> Result<Vec<Expr>, Memory>
     Ok(exprs)
 }
 
-#[tactic(auto, using(glsl_ast::proofs::Views::expr_rows))]
-fn built(ty: TypeName, parts: Vec<Expr>) -> Expr
-    ensures { expr_of result ≡ build (type_of ty) (exprs_of parts.items) }
-{
-    Expr::Build(ty, parts)
-}
-
 impl Readings<'_> {
     /// The zero of a shape: a literal, or a constructor that lists each part (GLSL 4.60, section 5.4). There is an error only for
     /// want of memory.
@@ -57,19 +50,21 @@ impl Readings<'_> {
             Shape::Uint => Ok(zero_elem(Elem::Uint)),
             Shape::Vector(elem, size) => {
                 let parts = zero_elems(alloc, *elem, *size)?;
-                Ok(built(self.type_name(alloc, names, shape)?, parts))
+                Expr::build(alloc, self.type_name(alloc, names, shape)?, parts)
             }
             Shape::Array(part, length) => {
                 let parts = self.zero_array(alloc, names, part, *length)?;
-                Ok(built(self.type_name(alloc, names, shape)?, parts))
+                Expr::build(alloc, self.type_name(alloc, names, shape)?, parts)
             }
             Shape::Runtime(_) => {
                 let parts = Vec::new(alloc);
-                Ok(built(self.type_name(alloc, names, shape)?, parts))
+                Expr::build(alloc, self.type_name(alloc, names, shape)?, parts)
             }
             Shape::Struct(_, members) => {
                 let parts = self.zero_members(alloc, names, members)?;
-                Ok(built(self.type_name(alloc, names, shape)?, parts))
+                let ty = self.type_name(alloc, names, shape)?;
+                let zero = Expr::build(alloc, ty, parts)?;
+                Ok(zero)
             }
         }
     }

@@ -316,7 +316,7 @@ fn case_body<B: BlockText>(
     Ok(Part { text, breaks })
 }
 
-/// The statements of a function by the tree of its control flow, with what is written of its blocks and
+/// Appends the statements of a function by the tree of its control flow, with what is written of its blocks and
 /// edges (SPIR-V 1.6, section 2.11; GLSL 4.60, chapter 6). There is an error only where there is no memory.
 ///
 /// The cost grows with the region and with what is written of its blocks.
@@ -324,15 +324,15 @@ pub fn function_text<B: BlockText>(
     alloc: Global,
     region: &Region,
     blocks: &B,
-) -> Result<Vec<Stmt>, Memory>
-    ensures { IfOk result (λ text. map stmt_of text.items ≡ text_of_function (B.blocks blocks.now) (region_of region.now)) }
+    out: &mut Vec<Stmt>,
+) -> Result<(), Memory>
+    ensures { OnOk result (map stmt_of out.new.items ≡ map stmt_of out.old.items ++ text_of_function (B.blocks blocks.now) (region_of region.now)) }
 {
     let place = Place {
         in_loop: None,
         continues: false,
         in_switch: false,
     };
-    let mut text = Vec::new(alloc);
-    region_text(alloc, blocks, place, region, &mut text)?;
-    Ok(text)
+    region_text(alloc, blocks, place, region, out)?;
+    Ok(())
 }

@@ -8,3 +8,5 @@ pub mod Expressed
 pub mod Placing
 pub mod Made
 pub mod Pushed
+pub mod Twos
+pub mod One

@@ -1,17 +1,14 @@
 -- The plans of functions by the ids of these.
-use Rattle.std.proofs.Common.{◌≡◌, ◌<◌, ◌==◌, ◌+◌, ℕ, Bool, true, false, List, ◌∷◌, [], ◌++◌, Option, Some, cond, is_some, get_or, length, take, refl, sym, ◌∙◌, ap, subst}
+use Rattle.std.proofs.Common.{◌≡◌, ◌<◌, ◌==◌, ◌+◌, ℕ, Bool, true, false, List, ◌∷◌, [], ◌++◌, Option, Some, cond, if◌then◌else◌, is_some, get_or, length, take, refl, sym, ◌∙◌, ap, subst}
 use Rattle.std.specs.List.{AllZip, position_from}
 use Rattle.std.specs.Option.{option_or}
-use Rattle.std.specs.Borrow.{Bor}
 use Rattle.std.specs.BTreeMap.{BTreeMap, get}
 use Rattle.std.specs.Ordering.{nat_cmp, is_eq}
-use Rattle.std.proofs.lemmas.List.{map-append, take_more}
 use Rattle.spv_module.specs.State.{ModuleState}
 use Rattle.spv_module.specs.declared.inst.Function.{Function}
 use Rattle.spv_index.proofs.First.{or_entry, position_more, put_absent, keep_present}
-use Rattle.text_items.specs.State.{functions_at}
 use Rattle.emit_glsl.specs.declared.plan.FunctionPlan.{FunctionPlan as Planned}
-use Rattle.emit_glsl.specs.Plans.{IsPlanned}
+use Rattle.emit_glsl.specs.Plans.{IsPlanned, IsPlannedNext}
 use Rattle.emit_glsl.specs.Reached.{has_id, ArePlaces}
 use Rattle.emit_glsl.proofs.Moving.{zip_push}
 
@@ -31,11 +28,10 @@ module _ (ps : List Planned) (i : ℕ) (d : Planned) (inside : i < length ps) wh
     each = λ n. keep_present (get nat_cmp old) own i present n ∙ (ap (λ o. or_entry o own i n) (before.each n) ∙ (ap (λ k. or_entry (position_from (has_id n) 0 (take i ps)) k i n) at ∙ sym (entry n)));
   }
 
--- one more function is planned
-pub planned_push : (m : ModuleState) (fs : List (Bor Function)) (i : ℕ) (d : Bor Function) (ps new : List Planned) (p : Planned) → i < length fs → new ≡ ps ++ p ∷ [] → IsPlanned m (get_or fs i d).now p
-    → AllZip (IsPlanned m) (functions_at (take i fs)) ps → AllZip (IsPlanned m) (functions_at (take (i + 1) fs)) new
-planned_push m fs i d ps new p less pushed now before =
-    let all : functions_at (take (i + 1) fs) ≡ functions_at (take i fs) ++ (get_or fs i d).now ∷ [] =
-    ap functions_at (take_more fs i d less) ∙ map-append (λ (f : Bor Function). f.now) (take i fs) (get_or fs i d ∷ []) in
-    subst (λ (xs : List Planned). AllZip (IsPlanned m) (functions_at (take (i + 1) fs)) xs) (sym pushed)
-    (subst (λ (gs : List Function). AllZip (IsPlanned m) gs (ps ++ p ∷ [])) (sym all) (zip_push (IsPlanned m) (functions_at (take i fs)) ps (get_or fs i d).now p before now))
+-- a function that passes has a plan
+pub planned_next : (m : ModuleState) (passes : Function → Bool) (f : Function) (ps new : List Planned) (p : Planned) → passes f ≡ true → new ≡ ps ++ p ∷ [] → IsPlanned m f p → IsPlannedNext m passes f ps new
+planned_next m passes f ps new p passed pushed now = record {
+  each = λ fs all.
+      subst (λ (gs : List Function). AllZip (IsPlanned m) gs new) (sym (ap (λ (b : Bool). fs ++ (if b then f ∷ [] else [])) passed))
+      (subst (λ (xs : List Planned). AllZip (IsPlanned m) (fs ++ f ∷ []) xs) (sym pushed) (zip_push (IsPlanned m) fs ps f p all now));
+}

@@ -1,5 +1,5 @@
 -- The moves of edges, and what they are made from, as the code keeps them.
-use Rattle.std.specs.Prelude.{ℕ, ◌≡◌, ◌==◌, true, Bool, List, [], is_some, Option, Some, None, option_and_then, slice_get}
+use Rattle.std.specs.Prelude.{ℕ, ◌≡◌, ◌==◌, ◌&&◌, not, true, Bool, List, [], ◌∷◌, if◌then◌else◌, is_some, Option, Some, None, option_and_then, slice_get}
 use Rattle.std.specs.BTreeMap.{BTreeMap, get}
 use Rattle.std.specs.Ordering.{nat_cmp}
 use Rattle.std.specs.List.{list_any}
@@ -9,8 +9,9 @@ use Rattle.spv_module.specs.declared.inst.Inst.{Inst}
 use Rattle.spv_module.specs.declared.inst.Block.{Block}
 use Rattle.spv_module.specs.declared.inst.Function.{Function}
 use Rattle.hoist_plan.specs.declared.form.Form.{Form}
-use Rattle.phi_copies.specs.Sequence.{Pair, IsSequence}
+use Rattle.phi_copies.specs.Sequence.{Pair, IsSequence, target, is_var, is_proper}
 use Rattle.phi_copies.specs.declared.moves.Move.{Move}
+use Rattle.phi_copies.specs.declared.moves.Move.TheVariants.{Set}
 use Rattle.emit_glsl.specs.Phis.{pairs_into, firsts}
 
 -- what a list has that may be there
@@ -36,3 +37,14 @@ AreListed pairs blocks = (b : ℕ) → is_some (get nat_cmp pairs b) ≡ true �
 -- the moves of the edges into a block, by the blocks from which these come
 abbrev pub AreMovesFor : List Inst → (ℕ → Form) → Function → Block → BTreeMap ℕ (Vec Move Global) → Type 0
 AreMovesFor gs form f block moves = (b : ℕ) → IsSequence (firsts (pairs_into gs form f b block)) (items_at (get nat_cmp moves b))
+
+-- the move of a single pair
+abbrev pub single : Pair → List Move
+single p = if is_proper p then Set p.0 p.1 ∷ [] else []
+
+-- two pairs, one copied after the other: the second does not read what the first is given
+abbrev pub go_in_order : Pair → Pair → Bool
+go_in_order p q = is_proper p && (is_proper q && (not (target q == target p) && not (is_var (target p) q.1)))
+
+abbrev pub both : Pair → Pair → List Move
+both p q = Set p.0 p.1 ∷ Set q.0 q.1 ∷ []

@@ -1,5 +1,6 @@
 -- The plan of a function that the code makes.
-use Rattle.std.specs.Prelude.{ℕ, ◌≡◌, List, map}
+use Rattle.std.specs.Prelude.{ℕ, ◌≡◌, ◌++◌, ◌∷◌, [], Bool, List, map, if◌then◌else◌}
+use Rattle.std.specs.List.{AllZip}
 use Rattle.std.specs.BTreeSet.{contains}
 use Rattle.std.specs.Ordering.{nat_cmp}
 use Rattle.id_map.specs.Entries.{is_in}
@@ -31,7 +32,7 @@ pub record IsNamed (gs : List Inst) (f : Function) (g : List Node) (naming : Nam
 pub record IsPlanned (m : ModuleState) (f : Function) (p : Planned) : Type 0 where
   pub of_module : p.source.now ≡ m
   pub of_function : p.locals ≡ f
-  pub graph_is : p.places ≡ graph f
+  pub graph_is : p.places.now ≡ graph f
   pub naming : IsNamed m.globals f (graph f) p.naming
   pub named : (n : ℕ) → is_in p.named n ≡ is_named_in (form_in p.naming) (graph f) f.blocks n
   pub tree : IsTree f (region_of p.region)
@@ -40,3 +41,7 @@ pub record IsPlanned (m : ModuleState) (f : Function) (p : Planned) : Type 0 whe
   pub leave : (b : ℕ) → contains nat_cmp p.leave b ≡ is_among (blocks_that (needs_leave (graph f)) (graph f)) b
   pub fell : (b : ℕ) → contains nat_cmp p.fell b ≡ is_among (blocks_that (needs_fell (graph f) (phi_blocks (form_in p.naming) f)) (graph f)) b
   pub orders : (h : ℕ) → order_in p.orders.items h ≡ order_by (graph f) h
+
+-- the plans of functions that pass, after those of others
+pub record IsPlannedNext (m : ModuleState) (passes : Function → Bool) (f : Function) (old new : List Planned) : Type 0 where
+  pub each : (fs : List Function) → AllZip (IsPlanned m) fs old → AllZip (IsPlanned m) (fs ++ (if passes f then f ∷ [] else [])) new

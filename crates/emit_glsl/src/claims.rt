@@ -98,7 +98,7 @@ impl FunctionClaims for FunctionPlan<'_> {
     }
 
     fn targets(&self, alloc: Global, block: usize) -> Result<Vec<usize>, Memory> {
-        let list = each_once(alloc, targets(&self.places, block))?;
+        let list = each_once(alloc, targets(self.places, block))?;
         Ok(list)
     }
 

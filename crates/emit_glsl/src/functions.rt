@@ -1,5 +1,5 @@
 // Functions (GLSL 4.60, section 6.1).
-ghost use Rattle.std.specs.Prelude.{◌≡◌, IfOk, map, option_map};
+ghost use Rattle.std.specs.Prelude.{◌≡◌, ◌++◌, IfOk, OnOk, map, option_map};
 ghost use Rattle.glsl_ast.specs.View.{decl_of, param_of, stmt_of, type_of as type_name_of};
 ghost use Rattle.structure_recover.specs.View.{region_of};
 ghost use Rattle.control_text.specs.Statements.{function_text as text_of_function};
@@ -68,12 +68,12 @@ impl PlannedFunction<'_, '_> {
         Ok(Some(self.type_name(alloc, ty.0)?))
     }
 
-    /// The statements of a function's control flow.
-    fn flow_text(&self, alloc: Global) -> Result<Vec<Stmt>, Memory>
-        ensures { IfOk result (λ flow. map stmt_of flow.items ≡ text_of_function (blocks_of (plan_in self.now.context self.now.plan.now)) (region_of self.now.plan.now.region)) }
+    /// Appends the statements of a function's control flow.
+    fn add_flow(&self, alloc: Global, body: &mut Vec<Stmt>) -> Result<(), Memory>
+        ensures { OnOk result (map stmt_of body.new.items ≡ map stmt_of body.old.items ++ text_of_function (blocks_of (plan_in self.now.context self.now.plan.now)) (region_of self.now.plan.now.region)) }
     {
-        let flow = function_text(alloc, &self.plan().region, self)?;
-        Ok(flow)
+        function_text(alloc, &self.plan().region, self, body)?;
+        Ok(())
     }
 
     /// The statements of a function: what stands at its top, and its control flow.
@@ -83,8 +83,7 @@ impl PlannedFunction<'_, '_> {
     {
         let mut body = Vec::new(alloc);
         self.add_top(alloc, function.blocks.as_slice(), &mut body)?;
-        let mut flow = self.flow_text(alloc)?;
-        body.append(&mut flow)?;
+        self.add_flow(alloc, &mut body)?;
         Ok(body)
     }
 

@@ -2,11 +2,11 @@
 ghost use Rattle.std.specs.Prelude.{◌≡◌, ◌++◌, ◌∷◌, ◌==◌, [], ℕ, None, drop, IfOk, OnOk, if◌then◌else◌};
 ghost use Rattle.std.specs.List.{AllZip, flat_map, enumerate_from};
 ghost use Rattle.hoist_plan.specs.Kept.{form_in};
-ghost use Rattle.phi_copies.specs.Sequence.{IsSequence};
+ghost use Rattle.phi_copies.specs.Sequence.{IsSequence, is_var, is_proper as is_proper_pair};
 ghost use Rattle.emit_glsl.specs.Phis.{is_live_phi as is_live_phi_in, has_live_phi as has_live_phi_in, phi_block, phi_blocks as phi_blocks_of, is_constant_id as is_constant_id_in, source_by as source_by_constant, source_of, is_block, given_by, pairs_into, pairs as pairs_of_edge, firsts as first_pairs};
 ghost use Rattle.std.specs.BTreeMap.{get, is_at, keys};
 ghost use Rattle.std.specs.Ordering.{nat_cmp};
-ghost use Rattle.emit_glsl.specs.Moved.{items_at, pairs_from, moves_in, AreListed, AreMovesFor};
+ghost use Rattle.emit_glsl.specs.Moved.{items_at, pairs_from, moves_in, single, both, go_in_order as go_in_order_pairs, AreListed, AreMovesFor};
 
 use crate::once::is_new;
 use constant_text::is_constant;
@@ -232,13 +232,90 @@ fn list_from(pairs: &Pairs, from: usize) -> &[(Var, Src)]
     }
 }
 
-/// The moves of an edge.
+/// Whether a pair reads a variable.
+fn reads(source: Src, variable: Var) -> bool
+    ensures { result ≡ is_var variable.0 source }
+{
+    match source {
+        Src::Var(v) => v.0 == variable.0,
+        Src::Constant(_) => false,
+    }
+}
+
+/// Whether the two sides of a pair are not one variable.
+fn is_proper(pair: (Var, Src)) -> bool
+    ensures { result ≡ is_proper_pair pair }
+{
+    !reads(pair.1, pair.0)
+}
+
+/// Whether a pair may be copied before another, and then the other.
+fn go_in_order(pair: (Var, Src), other: (Var, Src)) -> bool
+    ensures { result ≡ go_in_order_pairs pair other }
+{
+    is_proper(pair) && is_proper(other) && other.0.0 != pair.0.0 && !reads(other.1, pair.0)
+}
+
+/// The move of a single pair, where its two sides are not one variable.
+fn single_move(alloc: Global, pair: (Var, Src)) -> Result<Vec<Move>, Memory>
+    ensures { IfOk result (λ moves. moves.items ≡ single pair) }
+{
+    let mut moves = Vec::new(alloc);
+    if is_proper(pair) {
+        moves.push(Move::Set(pair.0, pair.1))?;
+    }
+    Ok(moves)
+}
+
+/// The moves of two pairs, one after the other.
+fn two_moves(alloc: Global, pair: (Var, Src), other: (Var, Src)) -> Result<Vec<Move>, Memory>
+    ensures { IfOk result (λ moves. moves.items ≡ both pair other) }
+{
+    let mut moves = Vec::with_capacity(alloc, 2)?;
+    moves.push(Move::Set(pair.0, pair.1))?;
+    moves.push(Move::Set(other.0, other.1))?;
+    Ok(moves)
+}
+
+/// The moves of several pairs.
 #[tactic(auto, using(crate::proofs::Firsts::own_targets))]
-fn moves_by(alloc: Global, pairs: &[(Var, Src)]) -> Result<Vec<Move>, Memory>
+fn moves_of_all(alloc: Global, pairs: &[(Var, Src)]) -> Result<Vec<Move>, Memory>
     ensures { IfOk result (λ moves. IsSequence (first_pairs pairs.now) moves.items) }
 {
     let own = firsts(alloc, pairs)?;
     copies(alloc, &own)
+}
+
+/// The moves of two pairs.
+fn moves_of_two(
+    alloc: Global,
+    pairs: &[(Var, Src)],
+    pair: (Var, Src),
+    other: (Var, Src),
+) -> Result<Vec<Move>, Memory>
+    requires { pairs.now ≡ pair ∷ other ∷ [] }
+    ensures { IfOk result (λ moves. IsSequence (first_pairs pairs.now) moves.items) }
+{
+    if go_in_order(pair, other) {
+        let moves = two_moves(alloc, pair, other)?;
+        Ok(moves)
+    } else {
+        moves_of_all(alloc, pairs)
+    }
+}
+
+/// The moves of an edge.
+fn moves_by(alloc: Global, pairs: &[(Var, Src)]) -> Result<Vec<Move>, Memory>
+    ensures { IfOk result (λ moves. IsSequence (first_pairs pairs.now) moves.items) }
+{
+    match pairs {
+        [pair] => {
+            let moves = single_move(alloc, *pair)?;
+            Ok(moves)
+        }
+        [pair, other] => moves_of_two(alloc, pairs, *pair, *other),
+        _ => moves_of_all(alloc, pairs),
+    }
 }
 
 /// The blocks from which the edges with pairs come.

@@ -1,5 +1,5 @@
 // Each key once.
-ghost use Rattle.std.specs.Prelude.{◌≡◌, ◌++◌, ◌∷◌, [], ℕ, not, IfOk, OnOk, if◌then◌else◌};
+ghost use Rattle.std.specs.Prelude.{◌≡◌, ◌++◌, ◌∷◌, [], ℕ, not, true, IfOk, OnOk, if◌then◌else◌};
 ghost use Rattle.std.specs.BTreeSet.{contains};
 ghost use Rattle.std.specs.Ordering.{nat_cmp};
 ghost use Rattle.emit_glsl.specs.Once.{with_id, once, itself};
@@ -26,9 +26,9 @@ fn add_if(list: &mut Vec<usize>, id: usize, passes: bool) -> Result<(), AllocErr
     Ok(())
 }
 
-/// Each of these numbers once, where it stands first.
+/// Each of these numbers once, where it stands first, by a set of those that were seen.
 #[tactic(auto, using(crate::proofs::Singled::once_rules))]
-pub fn each_once(alloc: Global, ids: &[usize]) -> Result<Vec<usize>, AllocError>
+fn each_by_set(alloc: Global, ids: &[usize]) -> Result<Vec<usize>, AllocError>
     ensures { IfOk result (λ list. list.items ≡ once itself ids.now) }
 {
     let mut list = Vec::new(alloc);
@@ -38,4 +38,28 @@ pub fn each_once(alloc: Global, ids: &[usize]) -> Result<Vec<usize>, AllocError>
         add_if(&mut list, *id, new)?;
     }
     Ok(list)
+}
+
+/// Whether these are at most two, which differ.
+#[tactic(auto, using(crate::proofs::Twos::two_once))]
+fn are_few(ids: &[usize]) -> bool
+    ensures { result ≡ true → once itself ids.now ≡ ids.now }
+{
+    match ids {
+        [] | [_] => true,
+        [one, other] => *one != *other,
+        _ => false,
+    }
+}
+
+/// Each of these numbers once, where it stands first.
+pub fn each_once(alloc: Global, ids: &[usize]) -> Result<Vec<usize>, AllocError>
+    ensures { IfOk result (λ list. list.items ≡ once itself ids.now) }
+{
+    if are_few(ids) {
+        let list = Vec::from_slice(alloc, ids)?;
+        Ok(list)
+    } else {
+        each_by_set(alloc, ids)
+    }
 }

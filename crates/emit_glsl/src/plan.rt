@@ -16,7 +16,7 @@ use crate::named::named;
 use crate::orders::{Orders, orders_of, set_of};
 use hoist_plan::{Naming, plan};
 use id_map::IdSet;
-use nest_place::{Places, places};
+use nest_place::Places;
 use phi_copies::Move;
 use spv_index::Locals;
 use spv_module::{Function, Module};
@@ -36,7 +36,7 @@ use use_chains::{Steps, Uses};
 pub struct FunctionPlan<'a> {
     pub source: &'a Module,
     pub locals: Locals<'a>,
-    pub places: Places,
+    pub places: &'a Places,
     pub naming: Naming,
     pub named: IdSet,
     pub region: Region,
@@ -45,16 +45,6 @@ pub struct FunctionPlan<'a> {
     pub leave: BTreeSet<usize>,
     pub fell: BTreeSet<usize>,
     pub orders: Orders,
-}
-
-/// The places of the blocks of a function whose structure was judged, so that want of memory is the only error left.
-fn judged_places(alloc: Global, function: &Function) -> Result<Places, Memory>
-    ensures { IfOk result (λ places. places ≡ graph function.now) }
-{
-    match places(alloc, function) {
-        Ok(places) => Ok(places),
-        Err(_) => Err(Memory),
-    }
 }
 
 /// For each block of a function whether it is reached.
@@ -72,16 +62,16 @@ fn reached_blocks(alloc: Global, places: &Places) -> Result<Vec<bool>, Memory>
 fn naming_of<L: Ledger>(
     alloc: Global,
     module: &Module,
-    function: &Function,
+    locals: &Locals,
     places: &Places,
     steps: &mut Steps<L>,
 ) -> Result<Naming, Memory>
-    requires { places.now ≡ graph function.now }
-    ensures { IfOk result (λ naming. IsNamed «module».now.globals function.now (graph function.now) naming) }
+    requires { places.now ≡ graph locals.now }
+    ensures { IfOk result (λ naming. IsNamed «module».now.globals locals.now (graph locals.now) naming) }
 {
     let reached = reached_blocks(alloc, places)?;
-    let uses = Uses::build(alloc, function, &reached, steps)?;
-    let naming = plan(alloc, module, function, &uses, steps)?;
+    let uses = Uses::build(alloc, locals, &reached, steps)?;
+    let naming = plan(alloc, module, locals, places.nodes(), &uses, steps)?;
     Ok(naming)
 }
 
@@ -115,22 +105,23 @@ fn flag_sets(
 }
 
 impl<'a> FunctionPlan<'a> {
-    /// Plans a function whose structure was judged. There is an error only for want of memory.
+    /// Plans a function whose blocks stand at these places. There is an error only for want of memory.
     pub fn of<L: Ledger>(
         alloc: Global,
         module: &'a Module,
         function: &'a Function,
+        places: &'a Places,
         steps: &mut Steps<L>,
     ) -> Result<FunctionPlan<'a>, Memory>
+        requires { places.now ≡ graph function.now }
         ensures { IfOk result (λ p. IsPlanned «module».now function.now p) }
     {
-        let places = judged_places(alloc, function)?;
-        let naming = naming_of(alloc, module, function, &places, steps)?;
-        let region = recover(alloc, function, &places)?;
-        let sets = flag_sets(alloc, function, &places, &region, &naming)?;
-        let orders = orders_of(alloc, function, &places)?;
-        let named = named(alloc, function, &places, &naming)?;
         let locals = Locals::of(alloc, function)?;
+        let naming = naming_of(alloc, module, &locals, places, steps)?;
+        let region = recover(alloc, function, places)?;
+        let sets = flag_sets(alloc, function, places, &region, &naming)?;
+        let orders = orders_of(alloc, function, places)?;
+        let named = named(alloc, function, places, &naming)?;
         let moves = moves_of(alloc, module, &locals, &naming)?;
         let FlagSets { again, leave, fell } = sets;
         Ok(FunctionPlan {

@@ -1,5 +1,6 @@
 // The translation.
-ghost use Rattle.std.specs.Prelude.{◌≡◌, ◌≤◌, IfErr, IfOk, OnOk};
+ghost use Rattle.std.specs.Prelude.{◌≡◌, ◌≤◌, IfErr, IfOk, OnOk, map};
+ghost use Rattle.structure_rules.specs.Graph.{graph};
 ghost use Rattle.glsl_ast.specs.Height.{unit_height};
 ghost use Rattle.glsl_ast.specs.View.{unit_of as tree_of_unit};
 ghost use Rattle.glsl_grammar.specs.InGrammar.{IsInGrammar};
@@ -32,7 +33,8 @@ fn checked_unit(
     found: &Conforming,
     overrides: &Overrides,
 ) -> Result<Unit, Memory>
-    requires { decor.now ≡ «module».now.heads }
+    requires decor { decor.now ≡ «module».now.heads }
+    requires places { found.now.places.items ≡ map graph «module».now.functions }
     ensures made { IfOk result (λ unit. IsMade (record { of = «module».now; entry = found.now.entry.function.0; overrides = overrides.now.pairs.items }) found.now.entry.size.items found.now.order.items (tree_of_unit unit)) }
     ensures grammar { IfOk result (λ unit. IsInGrammar (tree_of_unit unit)) }
     ensures low { IfOk result (λ unit. unit_height (tree_of_unit unit) ≤ most_height) }

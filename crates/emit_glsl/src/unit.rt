@@ -3,12 +3,13 @@ ghost use Rattle.std.specs.Prelude.{◌≡◌, ◌==◌, ◌||◌, ◌++◌, ℕ
 ghost use Rattle.std.specs.List.{AllZip, list_any};
 ghost use Rattle.std.specs.BTreeSet.{contains};
 ghost use Rattle.std.specs.Ordering.{nat_cmp};
+ghost use Rattle.structure_rules.specs.Graph.{graph};
 ghost use Rattle.glsl_ast.specs.View.{decl_of, expr_of, unit_of as tree_of_unit};
 ghost use Rattle.constant_text.specs.Named.{id_names};
 ghost use Rattle.expr_forward.specs.Globals.{global_in};
 ghost use Rattle.text_items.specs.State.{functions_at, insts_at, reached_of};
 ghost use Rattle.emit_glsl.specs.Claimed.{claimed_by};
-ghost use Rattle.emit_glsl.specs.Plans.{IsPlanned};
+ghost use Rattle.emit_glsl.specs.Plans.{IsPlanned, IsPlannedNext};
 ghost use Rattle.emit_glsl.specs.Reached.{function_in, live_in, reached_in, is_in as is_in_set, IsHead, AreGlobals, or_before, ArePlaces, planned_at, decl_with, decls_at, expr_among, IsWritten, IsMade};
 ghost use Rattle.emit_glsl.specs.Translation.{global_expr as expr_of_global};
 ghost use Rattle.emit_glsl.specs.Unit.{called as called_in};
@@ -21,6 +22,7 @@ use expr_forward::Globals;
 use glsl_ast::{Decl, Expr, Unit};
 use module_check::Conforming;
 use name_alloc::{Names, names};
+use nest_place::Places;
 use spec_constants::Overrides;
 use spv_decor::Decor;
 use spv_module::{Function, Id, Inst, Module};
@@ -58,56 +60,63 @@ fn is_in(ids: &BTreeSet<u32>, function: &Function) -> bool
     ids.contains(&function.id.0)
 }
 
-/// The functions with these ids, in the order of the module.
-fn called<'a>(
+/// Adds the plan of a function with its places, where its id is among these.
+fn add_plan<'a, L: Ledger>(
+    plans: &mut Vec<FunctionPlan<'a>>,
     alloc: Global,
-    functions: &'a [Function],
+    module: &'a Module,
     ids: &BTreeSet<u32>,
-) -> Result<Vec<&'a Function>, AllocError>
-    ensures { IfOk result (λ list. functions_at list.items ≡ filter (is_in_set ids.now) functions.now) }
+    function: &'a Function,
+    places: &'a Places,
+    steps: &mut Steps<L>,
+) -> Result<(), Memory>
+    requires { places.now ≡ graph function.now }
+    ensures { OnOk result (IsPlannedNext «module».now (is_in_set ids.now) function.now plans.old.items plans.new.items) }
 {
-    let mut list = Vec::new(alloc);
-    for function in functions {
-        if is_in(ids, function) {
-            list.push(function)?;
-        }
+    if is_in(ids, function) {
+        let plan = FunctionPlan::of(alloc, module, function, places, steps)?;
+        plans.push(plan)?;
     }
-    Ok(list)
+    Ok(())
 }
 
-/// The plans of functions.
+/// The plans of those functions whose ids are among these. Each function has places.
 fn plans_with<'a, L: Ledger>(
     alloc: Global,
     module: &'a Module,
-    functions: &[&'a Function],
+    ids: &BTreeSet<u32>,
+    functions: &'a [Function],
+    places: &'a [Places],
     steps: &mut Steps<L>,
 ) -> Result<Vec<FunctionPlan<'a>>, Memory>
-    ensures { IfOk result (λ plans. AllZip (IsPlanned «module».now) (functions_at functions.now) plans.items) }
+    requires { places.now ≡ map graph functions.now }
+    ensures { IfOk result (λ plans. AllZip (IsPlanned «module».now) (filter (is_in_set ids.now) functions.now) plans.items) }
 {
-    let mut plans = Vec::new(alloc);
-    for function in functions {
-        let plan = FunctionPlan::of(alloc, module, *function, steps)?;
-        plans.push(plan)?;
+    let mut plans = Vec::with_capacity(alloc, ids.len())?;
+    for (k, function) in functions.iter().enumerate() {
+        add_plan(&mut plans, alloc, module, ids, function, &places[k], steps)?;
     }
     Ok(plans)
 }
 
-/// The plans of the functions with these ids, in the order of the module.
+/// The plans of the functions with these ids, in the order of the module. Each function of the module has places.
 fn plans_of<'a, L: Ledger>(
     alloc: Global,
     module: &'a Module,
     order: &[Id],
+    places: &'a [Places],
     blank: Blank,
 ) -> Result<Vec<FunctionPlan<'a>>, Memory>
     requires name { blank.name ≡ L.name }
     requires parts { blank.parts ≡ L.parts }
     requires one { blank.parts ≡ 1 }
+    requires places { places.now ≡ map graph «module».now.functions }
     ensures { IfOk result (λ plans. AllZip (IsPlanned «module».now) (called_in order.now «module».now.functions) plans.items) }
 {
     let mut steps = Steps::<L>::new(blank);
     let ids = ids_of(alloc, order)?;
-    let functions = called(alloc, module.functions(), &ids)?;
-    let plans = plans_with(alloc, module, functions.as_slice(), &mut steps)?;
+    let functions = module.functions();
+    let plans = plans_with(alloc, module, &ids, functions, places, &mut steps)?;
     Ok(plans)
 }
 
@@ -389,6 +398,7 @@ fn add_functions<'a, 'b>(
     requires { entry.0 ≡ readings.now.entry }
     ensures { OnOk result (map decl_of items.new.items ≡ map decl_of items.old.items ++ flat_map (decls_at readings.now names.now globals.now plans.now) order.now) }
 {
+    items.reserve(order.len())?;
     let places = places_of(alloc, plans)?;
     add_placed(
         items, alloc, readings, names, globals, entry, plans, &places, order,
@@ -425,15 +435,17 @@ fn planned_unit<'a>(
     alloc: Global,
     readings: &Readings<'a>,
     decor: &'a Decor<'a>,
-    found: &Conforming,
+    found: &'a Conforming,
 ) -> Result<Unit, Memory>
     requires decor { decor.now ≡ readings.now.of.heads }
     requires entry { found.now.entry.function.0 ≡ readings.now.entry }
+    requires places { found.now.places.items ≡ map graph readings.now.of.functions }
     ensures { IfOk result (λ unit. IsMade readings.now found.now.entry.size.items found.now.order.items (tree_of_unit unit)) }
 {
     let blank = Blank::new(1);
     let order = found.order.as_slice();
-    let plans = plans_of::<Brand>(alloc, readings.module(), order, blank)?;
+    let places = found.places.as_slice();
+    let plans = plans_of::<Brand>(alloc, readings.module(), order, places, blank)?;
     let unit = unit_by(alloc, readings, decor, found, plans.as_slice())?;
     Ok(unit)
 }
@@ -444,10 +456,11 @@ pub fn unit_of<'a>(
     alloc: Global,
     module: &'a Module,
     decor: &'a Decor<'a>,
-    found: &Conforming,
+    found: &'a Conforming,
     overrides: &'a Overrides,
 ) -> Result<Unit, Memory>
-    requires { decor.now ≡ «module».now.heads }
+    requires decor { decor.now ≡ «module».now.heads }
+    requires places { found.now.places.items ≡ map graph «module».now.functions }
     ensures { IfOk result (λ unit. IsMade (record { of = «module».now; entry = found.now.entry.function.0; overrides = overrides.now.pairs.items }) found.now.entry.size.items found.now.order.items (tree_of_unit unit)) }
 {
     let entry = found.entry.function;

@@ -102,6 +102,6 @@ impl Context<'_, '_> {
             into.push(Stmt::Call(function, args))?;
             return Ok(());
         }
-        self.add_result(alloc, into, inst, Expr::Call(function, args))
+        self.add_result(alloc, into, inst, Expr::call(alloc, function, args)?)
     }
 }

@@ -60,6 +60,6 @@ impl Context<'_, '_> {
             into.push(Stmt::Call(callee, args))?;
             return Ok(());
         }
-        self.add_result(alloc, into, inst, Expr::Call(callee, args))
+        self.add_result(alloc, into, inst, Expr::call(alloc, callee, args)?)
     }
 }

@@ -25,7 +25,8 @@ impl Globals {
         ensures { IfOk result (λ globals. (id : ℕ) → global_in globals id ≡ None) }
     {
         Ok(Globals {
-            places: IdMap::below(alloc, bound, count)?,
+            // what is asked for is mostly an id of a function
+            places: IdMap::below(alloc, bound, count.saturating_mul(4))?,
             exprs: Vec::new(alloc),
         })
     }

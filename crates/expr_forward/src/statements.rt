@@ -157,7 +157,10 @@ impl Context<'_, '_> {
     pub fn add_block(&self, alloc: Global, block: usize, into: &mut Vec<Stmt>) -> Result<(), Memory>
         ensures { OnOk result (map stmt_of into.new.items ≡ map stmt_of into.old.items ++ block_text_of (scope_of self.now) block) }
     {
-        self.add_insts(alloc, into, block, self.insts_at(block))
+        let insts = self.insts_at(block);
+        // most instructions have at most one statement
+        into.reserve(insts.len())?;
+        self.add_insts(alloc, into, block, insts)
     }
 
     /// The statements of the block at a place, before its terminator. There is an error only for want of memory.

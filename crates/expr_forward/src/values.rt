@@ -33,7 +33,7 @@ fn length_of(alloc: Global, array: Expr) -> Result<Expr, Memory>
         extents: Vec::new(alloc),
     };
     let length = Expr::Length(Box::new(alloc, array)?);
-    Ok(Expr::Build(ty, vec![in alloc; length]?))
+    Expr::build(alloc, ty, vec![in alloc; length]?)
 }
 
 impl Context<'_, '_> {
@@ -168,7 +168,7 @@ impl Context<'_, '_> {
         ensures { IfOk result (λ e. expr_of e ≡ construction_text (scope_of self.now) (value_in_of (scope_of self.now) block deep) inst.now) }
     {
         let parts = self.values(alloc, block, deep, inst.args.as_slice())?;
-        Ok(Expr::Build(self.type_name_of(alloc, inst.ty)?, parts))
+        Expr::build(alloc, self.type_name_of(alloc, inst.ty)?, parts)
     }
 
     #[cycle(value)]
@@ -242,18 +242,7 @@ impl Context<'_, '_> {
         )
     }
 
-    /// An operand of an operation on scalars and vectors.
-    #[cycle(value)]
-    fn argument(&self, alloc: Global, block: usize, deep: u32, id: Id) -> Result<Arg, Memory>
-        ensures { IfOk result (λ a. argument_of a ≡ operand (argument_in (scope_of self.now) (value_in_of (scope_of self.now) block deep) id.0)) }
-    {
-        Ok(Arg {
-            expr: self.value_in(alloc, block, deep, id)?,
-            shape: self.basic_shape(self.type_of(id)),
-            word: self.word_at(id),
-        })
-    }
-
+    /// The operands of an operation on scalars and vectors.
     #[cycle(value)]
     fn arguments(
         &self,
@@ -264,9 +253,13 @@ impl Context<'_, '_> {
     ) -> Result<Vec<Arg>, Memory>
         ensures { IfOk result (λ args. map argument_of args.items ≡ map operand (map (argument_in (scope_of self.now) (value_in_of (scope_of self.now) block deep)) ids.now)) }
     {
-        let mut args = Vec::new(alloc);
+        let mut args = Vec::with_capacity(alloc, ids.len())?;
         for id in ids {
-            args.push(self.argument(alloc, block, deep, Id(*id))?)?;
+            args.push(Arg {
+                expr: self.value_in(alloc, block, deep, Id(*id))?,
+                shape: self.basic_shape(self.type_of(Id(*id))),
+                word: self.word_at(Id(*id)),
+            })?;
         }
         Ok(args)
     }

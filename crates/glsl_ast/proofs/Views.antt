@@ -18,10 +18,10 @@ expr-Literal l = search (rules, expr_lemmas)
 pub expr-Name : (w : String Global) → expr_of (expr.Name w) ≡ tree.name (string_bytes w)
 expr-Name w = search (rules, expr_lemmas)
 
-pub expr-Build : (t : TypeName) (args : Vec Expr Global) → expr_of (expr.Build t args) ≡ tree.build (type_of t) (exprs_of args.items)
+pub expr-Build : (t : Box TypeName Global) (args : Vec Expr Global) → expr_of (expr.Build t args) ≡ tree.build (type_of t.value) (exprs_of args.items)
 expr-Build t args = search (rules, expr_lemmas)
 
-pub expr-Call : (w : String Global) (args : Vec Expr Global) → expr_of (expr.Call w args) ≡ tree.Expr.call (string_bytes w) (exprs_of args.items)
+pub expr-Call : (w : Box (String Global) Global) (args : Vec Expr Global) → expr_of (expr.Call w args) ≡ tree.Expr.call (string_bytes w.value) (exprs_of args.items)
 expr-Call w args = search (rules, expr_lemmas)
 
 pub expr-Not : (e : Box Expr Global) → expr_of (expr.Not e) ≡ tree.not (expr_of e.value)

@@ -42,8 +42,8 @@ type_of t = tree.type_name (base_of t.base) (map extent_of t.extents.items)
 abbrev pub expr_step : Expr-F tree.Expr → tree.Expr
 expr_step (Expr-F.Literal l) = tree.literal l
 expr_step (Expr-F.Name w) = tree.name (string_bytes w)
-expr_step (Expr-F.Build t args) = tree.build (type_of t) (tree.exprs_in args.items)
-expr_step (Expr-F.Call w args) = tree.Expr.call (string_bytes w) (tree.exprs_in args.items)
+expr_step (Expr-F.Build t args) = tree.build (type_of t.value) (tree.exprs_in args.items)
+expr_step (Expr-F.Call w args) = tree.Expr.call (string_bytes w.value) (tree.exprs_in args.items)
 expr_step (Expr-F.Not e) = tree.not e.value
 expr_step (Expr-F.Flip e) = tree.flip e.value
 expr_step (Expr-F.Binary op a b) = tree.binary op a.value b.value

@@ -60,8 +60,14 @@ impl Expr {
         Ok(match self {
             Expr::Literal(literal) => Expr::Literal(*literal),
             Expr::Name(name) => Expr::Name(name.clone()?),
-            Expr::Build(ty, args) => Expr::Build(ty.clone_in(alloc)?, clone_all(args, alloc)?),
-            Expr::Call(name, args) => Expr::Call(name.clone()?, clone_all(args, alloc)?),
+            Expr::Build(ty, args) => {
+                Expr::build(alloc, ty.clone_in(alloc)?, clone_all(args, alloc)?)?
+            }
+            Expr::Call(name, args) => Expr::call(
+                alloc,
+                (**name).clone()?,
+                clone_all(args, alloc)?,
+            )?,
             Expr::Not(of) => Expr::Not(of.boxed(alloc)?),
             Expr::Flip(of) => Expr::Flip(of.boxed(alloc)?),
             Expr::Binary(op, left, right) => {

@@ -1,5 +1,11 @@
 // Expressions.
+ghost use Rattle.std.specs.Prelude.{◌≡◌, IfOk, string_bytes};
+ghost use Rattle.glsl_ast.specs.Tree.{build};
+ghost use Rattle.glsl_ast.specs.View.{expr_of, exprs_of, type_of};
+
 use crate::TypeName;
+use spv_words::Memory;
+use std::alloc::Global;
 
 /// A literal: `5`, `5u`, `0x00000005` or `true` (GLSL 4.60, section 4.1.3).
 #[derive(Clone, Copy, Debug, PartialEq, Eq)]
@@ -35,12 +41,15 @@ pub enum BinOp {
 
 /// An expression (GLSL 4.60, chapter 5). `Build` is a constructor, `Not` is `!`, `Flip` is `~`, `Choose` is `?:` and
 /// `Length` is `.length()`.
+//
+// The type of a constructor and the name of a function are boxed: most expressions are neither, and each takes the room of the
+// largest.
 #[derive(Drop)]
 pub enum Expr {
     Literal(Literal),
     Name(String),
-    Build(TypeName, Vec<Expr>),
-    Call(String, Vec<Expr>),
+    Build(Box<TypeName>, Vec<Expr>),
+    Call(Box<String>, Vec<Expr>),
     Not(Box<Expr>),
     Flip(Box<Expr>),
     Binary(BinOp, Box<Expr>, Box<Expr>),
@@ -48,4 +57,22 @@ pub enum Expr {
     Member(Box<Expr>, String),
     Index(Box<Expr>, Box<Expr>),
     Length(Box<Expr>),
+}
+
+impl Expr {
+    /// A constructor of these arguments (GLSL 4.60, section 5.4). There is an error only where there is no memory for it.
+    #[tactic(auto, using(crate::proofs::Views::expr_rows))]
+    pub fn build(alloc: Global, ty: TypeName, args: Vec<Expr>) -> Result<Expr, Memory>
+        ensures { IfOk result (λ e. expr_of e ≡ build (type_of ty) (exprs_of args.items)) }
+    {
+        Ok(Expr::Build(Box::new(alloc, ty)?, args))
+    }
+
+    /// A call with these arguments (GLSL 4.60, section 5.11). There is an error only where there is no memory for it.
+    #[tactic(auto, using(crate::proofs::Views::expr_rows))]
+    pub fn call(alloc: Global, name: String, args: Vec<Expr>) -> Result<Expr, Memory>
+        ensures { IfOk result (λ e. expr_of e ≡ Rattle.glsl_ast.specs.Tree.Expr.call (string_bytes name) (exprs_of args.items)) }
+    {
+        Ok(Expr::Call(Box::new(alloc, name)?, args))
+    }
 }

@@ -1,5 +1,5 @@
 -- The passes over the results, a step at a time.
-use Rattle.std.proofs.Common.{◌≡◌, ◌<◌, ◌+◌, ◌++◌, ◌∙◌, ℕ, suc, Bool, List, [], ◌∷◌, length, get_or, take, drop, map, refl, ap, sym, subst, Option, true, false, not}
+use Rattle.std.proofs.Common.{◌≡◌, ◌<◌, ◌+◌, ◌++◌, ◌∙◌, ℕ, suc, Bool, List, [], ◌∷◌, length, get_or, take, drop, map, refl, ap, sym, subst, Option, true, false, not, ◌&&◌}
 use Rattle.std.specs.Prelude.{fold, flat_map}
 use Rattle.std.proofs.lemmas.Bool.{and_from, not_from_false}
 use Rattle.std.proofs.lemmas.List.{append_assoc, at_drop_more}
@@ -10,7 +10,7 @@ use Rattle.use_chains.specs.declared.slot.SlotPlace.{SlotPlace}
 use Rattle.hoist_plan.specs.declared.form.Form.{Form}
 use Rattle.hoist_plan.specs.declared.rows.Row.{Row}
 use Rattle.hoist_plan.specs.Kept.{placed}
-use Rattle.hoist_plan.specs.Plan.{Known, Placed, is_value, own_height, raised, known, nothing, with_result, operand_by, operand_if, with_operand, with_carried, carried_from, with_told, form_with}
+use Rattle.hoist_plan.specs.Plan.{Known, Placed, own_height, raised, known, nothing, with_result, operand_if, with_operand, with_carried, carried_from, with_told, form_with}
 
 pub raise_more : (f : Function) (h : ℕ) (old new : ℕ → Option ℕ) (places : List SlotPlace) (k : ℕ) (d : SlotPlace) → k < length places → ((n : ℕ) → new n ≡ raised f h old (get_or places k d) n) → (n : ℕ) → fold (raised f h) new (drop (k + 1) places) n ≡ fold (raised f h) old (drop k places) n
 raise_more f h old new places k d less e n =
@@ -30,13 +30,13 @@ known_more gs f rows k r less is =
     ∙ ap (λ (x : Row). with_result gs f (known gs f (map placed (take k rows))) (placed x)) (sym is)))
 
 -- a value without a variable has raised its mentions
-pub operand_raised : (gs : List Inst) (f : Function) (operands : ℕ → Option ℕ) (named : Bool) (p : Placed) (g : Function) (h : ℕ) (places : List SlotPlace)
-    → is_value gs p.ty ≡ true → named ≡ false → g ≡ f → h ≡ own_height operands p → places ≡ p.mentions → (n : ℕ) → fold (raised g h) operands places n ≡ operand_by gs f operands named p n
-operand_raised gs f operands named p g h places value off same height are n =
+pub operand_raised : (f : Function) (operands : ℕ → Option ℕ) (value named : Bool) (p : Placed) (g : Function) (h : ℕ) (places : List SlotPlace)
+    → value ≡ true → named ≡ false → g ≡ f → h ≡ own_height operands p → places ≡ p.mentions → (n : ℕ) → fold (raised g h) operands places n ≡ operand_if (value && not named) f operands p n
+operand_raised f operands value named p g h places on off same height are n =
     ap (λ (x : Function). fold (raised x h) operands places n) same
     ∙ (ap (λ (x : ℕ). fold (raised f x) operands places n) height
     ∙ (ap (λ (xs : List SlotPlace). fold (raised f (own_height operands p)) operands xs n) are
-    ∙ sym (ap (λ (b : Bool). operand_if b f operands p n) (and_from (is_value gs p.ty) (not named) value (not_from_false named off)))))
+    ∙ sym (ap (λ (b : Bool). operand_if b f operands p n) (and_from value (not named) on (not_from_false named off)))))
 
 -- what is known of one more result, where the heights and the forms are told
 pub known_step : (gs : List Inst) (f : Function) (rows : List Row) (k : ℕ) (r : Row) (form : Form) (operands operands' : ℕ → Option ℕ) (forms forms' : ℕ → Option Form) → k < length rows → r ≡ get_or rows k r

@@ -5,14 +5,21 @@ use Rattle.std.specs.List.{list_any}
 use Rattle.std.specs.Map.{lookup}
 use Rattle.std.specs.Ordering.{nat_cmp}
 use Rattle.id_map.specs.Entries.{entry_by}
+use Rattle.use_chains.specs.declared.slot.SlotPlace.{SlotPlace}
 use Rattle.use_chains.specs.Links.{Link}
 use Rattle.hoist_plan.specs.declared.form.Form.{Form}
 use Rattle.hoist_plan.specs.declared.form.Form.TheVariants.{Gone}
+use Rattle.hoist_plan.specs.declared.mentioned.Mentioned.{Mentioned}
+use Rattle.hoist_plan.specs.declared.mentioned.Mentioned.TheVariants.{Once, Listed}
 use Rattle.hoist_plan.specs.declared.rows.Row.{Row}
 use Rattle.hoist_plan.specs.Plan.{Placed}
 
+abbrev pub places_in : Mentioned → List SlotPlace
+places_in (Once at) = at ∷ []
+places_in (Listed places) = places.items
+
 abbrev pub placed : Row → Placed
-placed r = record { block = r.block; op = r.op; ty = r.ty; result = r.result; base = r.base; mentions = r.mentions.items }
+placed r = record { block = r.block; op = r.op; ty = r.ty; result = r.result; base = r.base; mentions = places_in r.mentions }
 
 -- slots rise from a number on
 abbrev pub are_rising_from : ℕ → List Link → Bool

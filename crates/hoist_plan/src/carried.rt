@@ -66,7 +66,7 @@ fn is_carried(locals: &Locals, carried: &BTreeSet<u32>, row: &Row) -> bool
 {
     is_chain_opcode(row.op)
         && (carried.contains(&row.result)
-            || some_carries(locals, carried, row.block, &row.mentions))
+            || some_carries(locals, carried, row.block, row.mentions.as_slice()))
 }
 
 fn is_reached(graph: &[Node], block: usize) -> bool

@@ -1,8 +1,8 @@
 // The form of each result.
-ghost use Rattle.std.specs.Prelude.{◌≡◌, ◌==◌, ◌≤◌, ℕ, IfOk, OnOk, fold, map, max, unwrap_or};
+ghost use Rattle.std.specs.Prelude.{◌≡◌, ◌&&◌, not, ℕ, IfOk, OnOk, fold, map, max, unwrap_or};
 ghost use Rattle.std.specs.List.{list_any};
 ghost use Rattle.id_map.specs.Entries.{entry_in};
-ghost use Rattle.hoist_plan.specs.Plan.{is_elsewhere as is_elsewhere_in, wants_variable as wants_variable_in, is_live as is_live_result, is_named_by_use as is_named_by_use_in, is_named as is_named_in, is_hoisted as is_hoisted_in, own_height as own_height_of, form_by, with_told, raised, operand_by, with_result, nothing, known as known_of};
+ghost use Rattle.hoist_plan.specs.Plan.{is_elsewhere as is_elsewhere_in, wants_variable as wants_variable_in, is_live as is_live_result, is_named_by_use as is_named_by_use_in, is_named as is_named_in, is_hoisted as is_hoisted_in, own_height as own_height_of, form_by, with_told, raised, operand_if, is_value as is_value_in, known as known_of};
 ghost use Rattle.hoist_plan.specs.Kept.{placed};
 
 use crate::Form;
@@ -20,7 +20,7 @@ use use_chains::SlotPlace;
 fn is_live(row: &Row) -> bool
     ensures { result ≡ is_live_result (placed row.now) }
 {
-    !is_pure(row.op) || row.mentions.len() > 0
+    row.mentions.len() > 0 || !is_pure(row.op)
 }
 
 fn some_wants(module: &Module, locals: &Locals, block: usize, places: &[SlotPlace]) -> bool
@@ -43,7 +43,7 @@ fn is_named_by_use(module: &Module, locals: &Locals, row: &Row) -> bool
 {
     is_always_named(row.op)
         || row.mentions.len() >= 2
-        || some_wants(module, locals, row.block, &row.mentions)
+        || some_wants(module, locals, row.block, row.mentions.as_slice())
 }
 
 /// The height of the expression of a result, where the height of its highest operand is known; it is
@@ -59,11 +59,12 @@ fn own_height(operands: &IdMap<u32>, row: &Row) -> u32
     }
 }
 
-/// Whether a result has a variable.
-fn is_named(module: &Module, locals: &Locals, operands: &IdMap<u32>, row: &Row) -> bool
+/// Whether a result has a variable, where it is known whether it is a value.
+fn is_named(module: &Module, locals: &Locals, operands: &IdMap<u32>, row: &Row, value: bool) -> bool
+    requires { value ≡ is_value_in «module».now.globals row.now.ty }
     ensures { result ≡ is_named_in «module».now.globals locals.now (entry_in operands.now) (placed row.now) }
 {
-    is_value(module, row.ty)
+    value
         && is_live(row)
         && (is_named_by_use(module, locals, row) || own_height(operands, row) == 17)
 }
@@ -71,7 +72,7 @@ fn is_named(module: &Module, locals: &Locals, operands: &IdMap<u32>, row: &Row) 
 fn is_hoisted(locals: &Locals, row: &Row) -> bool
     ensures { result ≡ is_hoisted_in locals.now (placed row.now) }
 {
-    is_phi(row.op) || some_elsewhere(locals, row.block, &row.mentions)
+    is_phi(row.op) || some_elsewhere(locals, row.block, row.mentions.as_slice())
 }
 
 /// The form of a result, where it is known whether it has a variable.
@@ -130,17 +131,17 @@ fn raise_all(
 /// A result is an operand of its height wherever it is mentioned, where it is a value without a
 /// variable.
 fn add_operand(
-    module: &Module,
     locals: &Locals,
     operands: &mut IdMap<u32>,
     row: &Row,
+    value: bool,
     named: bool,
 ) -> Result<(), AllocError>
-    ensures { OnOk result ((n : ℕ) → entry_in operands.new n ≡ operand_by «module».now.globals locals.now (entry_in operands.old) named (placed row.now) n) }
+    ensures { OnOk result ((n : ℕ) → entry_in operands.new n ≡ operand_if (value && not named) locals.now (entry_in operands.old) (placed row.now) n) }
 {
-    if is_value(module, row.ty) && !named {
+    if value && !named {
         let height = own_height(operands, row);
-        raise_all(operands, locals.function(), &row.mentions, height)?;
+        raise_all(operands, locals.function(), row.mentions.as_slice(), height)?;
     }
     Ok(())
 }
@@ -162,9 +163,10 @@ pub fn forms(
     let mut operands = IdMap::for_ids(alloc, &ids)?;
     let mut forms = IdMap::for_ids(alloc, &ids)?;
     for row in rows {
-        let named = is_named(module, locals, &operands, row);
+        let value = is_value(module, row.ty);
+        let named = is_named(module, locals, &operands, row, value);
         tell(&mut forms, row.result, form_with(locals, row, named))?;
-        add_operand(module, locals, &mut operands, row, named)?;
+        add_operand(locals, &mut operands, row, value, named)?;
     }
     Ok(forms)
 }

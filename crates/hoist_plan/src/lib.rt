@@ -6,6 +6,7 @@ mod carried;
 mod form;
 mod forms;
 mod mention;
+mod mentioned;
 mod naming;
 mod rows;
 

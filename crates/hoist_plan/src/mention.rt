@@ -98,7 +98,10 @@ pub fn is_value(module: &Module, ty: u32) -> bool
     ensures { result ≡ is_value_in «module».now.globals ty }
 {
     // OpTypeVoid and OpTypePointer
-    !(has_type(module, 19, ty) || has_type(module, 32, ty))
+    match module.global(Id(ty)) {
+        Some(inst) => !(inst.op == 19 || inst.op == 32),
+        None => true,
+    }
 }
 
 /// Operations whose results have variables: OpPhi, OpLoad, the atomic instructions, OpFunctionCall,

@@ -2,21 +2,22 @@
 ghost use Rattle.std.specs.Prelude.{◌≡◌, ◌+◌, ◌*◌, ◌==◌, ◌≤◌, ℕ, IfOk, OnOk, length, map, sum_by};
 ghost use Rattle.std.specs.List.{IsDistinct};
 ghost use Rattle.hoist_plan.specs.Plan.{form, is_carried, results as results_in};
+ghost use Rattle.structure_rules.specs.Graph.{graph as graph_of};
 ghost use Rattle.hoist_plan.specs.Kept.{form_in, is_carried_in, result_id, steps_of, AreRising};
 
 use crate::Form;
 use crate::carried::carried;
 use crate::forms::forms;
 use crate::rows::results;
-use block_graph::control_flow;
 use id_map::IdMap;
 use spv_index::Locals;
-use spv_module::{Function, Id, Module};
+use spv_module::{Id, Module};
 use spv_words::Memory;
 use std::alloc::Global;
 use std::collections::BTreeSet;
 use std::marker::Model;
 use std::sync::ledger::Ledger;
+use structure_rules::Node;
 use use_chains::{Steps, Uses};
 
 /// Which values of a function have variables, and where these are declared; which chains other blocks
@@ -65,21 +66,21 @@ impl Naming {
 pub fn plan<L: Ledger>(
     alloc: Global,
     module: &Module,
-    f: &Function,
+    locals: &Locals,
+    graph: &[Node],
     uses: &Uses,
     steps: &mut Steps<L>,
 ) -> Result<Naming, Memory>
+    requires graph { graph.now ≡ graph_of locals.now }
     requires rising { AreRising uses.now }
-    ensures forms { IfOk result (λ n. (id : ℕ) → form_in n id ≡ form (record { globals = «module».now.globals; function = f.now; links = uses.now }) id) }
-    ensures carried { IfOk result (λ n. (id : ℕ) → is_carried_in n id ≡ is_carried (record { globals = «module».now.globals; function = f.now; links = uses.now }) id) }
-    ensures steps { OnOk result (steps.new ≡ steps.old + sum_by steps_of (results_in uses.now f.now)) }
-    ensures bound { OnOk result (IsDistinct (λ a b. a == b) (map result_id (results_in uses.now f.now)) → steps.new ≤ steps.old + (2 * length uses.now + length (results_in uses.now f.now))) }
+    ensures forms { IfOk result (λ n. (id : ℕ) → form_in n id ≡ form (record { globals = «module».now.globals; function = locals.now; links = uses.now }) id) }
+    ensures carried { IfOk result (λ n. (id : ℕ) → is_carried_in n id ≡ is_carried (record { globals = «module».now.globals; function = locals.now; links = uses.now }) id) }
+    ensures steps { OnOk result (steps.new ≡ steps.old + sum_by steps_of (results_in uses.now locals.now)) }
+    ensures bound { OnOk result (IsDistinct (λ a b. a == b) (map result_id (results_in uses.now locals.now)) → steps.new ≤ steps.old + (2 * length uses.now + length (results_in uses.now locals.now))) }
 {
-    let locals = Locals::of(alloc, f)?;
-    let graph = control_flow(alloc, f)?;
-    let rows = results(alloc, f, uses, steps)?;
+    let rows = results(alloc, locals.function(), uses, steps)?;
     Ok(Naming {
-        forms: forms(alloc, module, &locals, &rows)?,
-        carried: carried(alloc, &locals, &graph, &rows)?,
+        forms: forms(alloc, module, locals, &rows)?,
+        carried: carried(alloc, locals, graph, &rows)?,
     })
 }

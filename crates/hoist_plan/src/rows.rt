@@ -1,8 +1,9 @@
 // The results of a function, with where they are mentioned.
 ghost use Rattle.std.specs.Prelude.{◌≡◌, ◌+◌, ◌*◌, ◌++◌, ◌≤◌, IfOk, OnOk, length, map, sum_by};
 ghost use Rattle.hoist_plan.specs.Plan.{mentions_of, results_of_block, results as results_in};
-ghost use Rattle.hoist_plan.specs.Kept.{placed, steps_of, AreRising};
+ghost use Rattle.hoist_plan.specs.Kept.{placed, places_in, steps_of, AreRising};
 
+use crate::mentioned::Mentioned;
 use spv_module::{Block, Function, Id};
 use spv_words::Memory;
 use std::alloc::Global;
@@ -19,33 +20,51 @@ pub struct Row {
     pub ty: u32,
     pub result: u32,
     pub base: u32,
-    pub mentions: Vec<SlotPlace>,
+    pub mentions: Mentioned,
 }
 
-/// Where the linked slots of an id stand, in text order.
-fn mentions<L: Ledger>(
-    alloc: Global,
+/// Lists where the linked slots of an id stand, in text order, in place of what was listed.
+fn list_mentions<L: Ledger>(
+    places: &mut Vec<SlotPlace>,
     uses: &Uses,
     id: Id,
     steps: &mut Steps<L>,
-) -> Result<Vec<SlotPlace>, Memory>
+) -> Result<(), Memory>
     requires { AreRising uses.now }
-    ensures places { IfOk result (λ places. places.items ≡ mentions_of uses.now id.0) }
+    ensures places { OnOk result (places.new.items ≡ mentions_of uses.now id.0) }
     ensures steps { OnOk result (steps.new ≡ steps.old + (2 * length (mentions_of uses.now id.0) + 1)) }
 {
-    let mut places = Vec::new(alloc);
+    places.clear();
     let mut at = uses.walk(id, None, steps);
     while let Some(slot) = at {
         places.push(uses.place(slot, steps))?;
         at = uses.walk(id, at, steps);
     }
-    Ok(places)
+    Ok(())
+}
+
+/// Where the linked slots of an id stand. The places are listed in a vector that serves each id.
+fn mentioned<L: Ledger>(
+    alloc: Global,
+    places: &mut Vec<SlotPlace>,
+    uses: &Uses,
+    id: Id,
+    steps: &mut Steps<L>,
+) -> Result<Mentioned, Memory>
+    requires { AreRising uses.now }
+    ensures places { IfOk result (λ mentioned. places_in mentioned ≡ mentions_of uses.now id.0) }
+    ensures steps { OnOk result (steps.new ≡ steps.old + (2 * length (mentions_of uses.now id.0) + 1)) }
+{
+    list_mentions(places, uses, id, steps)?;
+    let mentioned = Mentioned::of(alloc, places)?;
+    Ok(mentioned)
 }
 
 /// Adds the results of a block.
 fn add_results_of_block<L: Ledger>(
     alloc: Global,
     rows: &mut Vec<Row>,
+    places: &mut Vec<SlotPlace>,
     uses: &Uses,
     place: usize,
     block: &Block,
@@ -63,7 +82,7 @@ fn add_results_of_block<L: Ledger>(
                 ty: inst.ty,
                 result: inst.result,
                 base: inst.operand(0),
-                mentions: mentions(alloc, uses, Id(inst.result), steps)?,
+                mentions: mentioned(alloc, places, uses, Id(inst.result), steps)?,
             })?;
         }
     }
@@ -82,8 +101,9 @@ pub fn results<L: Ledger>(
     ensures steps { OnOk result (steps.new ≡ steps.old + sum_by steps_of (results_in uses.now f.now)) }
 {
     let mut rows = Vec::new(alloc);
+    let mut places = Vec::new(alloc);
     for (place, block) in f.blocks.as_slice().iter().enumerate() {
-        add_results_of_block(alloc, &mut rows, uses, place, block, steps)?;
+        add_results_of_block(alloc, &mut rows, &mut places, uses, place, block, steps)?;
     }
     Ok(rows)
 }

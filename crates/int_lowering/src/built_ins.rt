@@ -52,5 +52,5 @@ pub(crate) fn call_built_in(
 ) -> Result<Expr, Memory>
     ensures { IfOk result (λ e. expr_of e ≡ Tree.call (built_in_name function) (exprs_of args.items)) }
 {
-    Ok(Expr::Call(String::from_str(alloc, spelling(function))?, args))
+    Expr::call(alloc, String::from_str(alloc, spelling(function))?, args)
 }

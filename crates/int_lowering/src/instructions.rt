@@ -3,14 +3,16 @@ ghost use Rattle.std.specs.Prelude.{◌≡◌, ◌+◌, ◌≤◌, ◌∷◌, []
 ghost use Rattle.glsl_ast.specs.View.{expr_of};
 ghost use Rattle.glsl_ast.specs.Height.{height};
 ghost use Rattle.op_semantics.specs.Value.{operation_of as operation_by};
-ghost use Rattle.int_lowering.specs.Operand.{operand_of, plain, highest_operand};
+ghost use Rattle.int_lowering.specs.Operand.{operand_of, first, second, third, fourth, highest_operand};
 ghost use Rattle.int_lowering.specs.Lowered as lowered;
 
 use crate::basic::BasicType;
 use crate::built_ins::BuiltIn;
-use crate::operands::{Arg, Operands};
-use crate::operations::{binary_operation, clamp, comparison, extract, insert, logical, unary};
-use crate::terms::{call_one, choose, convert, literal, not};
+use crate::operands::{Arg, next_operand};
+use crate::operations::{
+    binary_operation, clamp, comparison, copy, extract, insert, logical, select, unary,
+};
+use crate::terms::{call_one, literal, not};
 use glsl_ast::Expr;
 use op_semantics::{Operation, extended_operation_of, operation_of};
 use spv_module::Elem;
@@ -37,30 +39,25 @@ fn write_operation(
     alloc: Global,
     operation: Operation,
     ty: BasicType,
-    operands: Operands,
+    operands: Vec<Arg>,
 ) -> Result<Expr, Memory>
-    ensures { IfOk result (λ e. expr_of e ≡ lowered.written operation ty (plain operands.first) (plain operands.second) (plain operands.third) (plain operands.fourth)) }
+    ensures { IfOk result (λ e. expr_of e ≡ lowered.written operation ty (first (map operand_of operands.items)) (second (map operand_of operands.items)) (third (map operand_of operands.items)) (fourth (map operand_of operands.items))) }
 {
-    let Operands {
-        first: a,
-        second: b,
-        third: c,
-        fourth: d,
-    } = operands;
+    let args = &mut operands.into_iter();
     match operation {
-        Operation::Unary(op) => unary(alloc, op, ty, a),
-        Operation::Binary(op) => binary_operation(alloc, op, ty, a, b),
-        Operation::Comparison(op) => comparison(alloc, op, a, b),
-        Operation::Logical(op) => logical(alloc, op, a, b),
-        Operation::LogicalNot => not(alloc, a.expr),
-        Operation::Clamp(op) => clamp(alloc, op, ty, a, b, c),
-        Operation::BitFieldInsert => insert(alloc, ty.elem, a, b, c, d),
-        Operation::BitFieldSExtract => extract(alloc, Elem::Int, ty, a, b, c),
-        Operation::BitFieldUExtract => extract(alloc, Elem::Uint, ty, a, b, c),
-        Operation::Any => call_one(alloc, BuiltIn::Any, a.expr),
-        Operation::All => call_one(alloc, BuiltIn::All, a.expr),
-        Operation::Select => choose(alloc, a.expr, b.expr, c.expr),
-        Operation::Copy => convert(alloc, ty, a.ty.elem, a.expr),
+        Operation::Unary(op) => unary(alloc, op, ty, next_operand(args)),
+        Operation::Binary(op) => binary_operation(alloc, op, ty, args),
+        Operation::Comparison(op) => comparison(alloc, op, args),
+        Operation::Logical(op) => logical(alloc, op, args),
+        Operation::LogicalNot => not(alloc, next_operand(args).expr),
+        Operation::Clamp(op) => clamp(alloc, op, ty, args),
+        Operation::BitFieldInsert => insert(alloc, ty.elem, args),
+        Operation::BitFieldSExtract => extract(alloc, Elem::Int, ty, args),
+        Operation::BitFieldUExtract => extract(alloc, Elem::Uint, ty, args),
+        Operation::Any => call_one(alloc, BuiltIn::Any, next_operand(args).expr),
+        Operation::All => call_one(alloc, BuiltIn::All, next_operand(args).expr),
+        Operation::Select => select(alloc, args),
+        Operation::Copy => copy(alloc, ty, args),
         Operation::Undef
         | Operation::VectorExtractDynamic
         | Operation::VectorInsertDynamic
@@ -83,7 +80,7 @@ fn write_opcode(
 {
     match operation(op, ext) {
         None => Ok(literal(ty.elem, 0)),
-        Some(operation) => write_operation(alloc, operation, ty, Operands::new(operands)),
+        Some(operation) => write_operation(alloc, operation, ty, operands),
     }
 }
 

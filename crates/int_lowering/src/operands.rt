@@ -2,7 +2,7 @@
 ghost use Rattle.std.specs.Prelude.{◌≡◌, IfOk, map};
 ghost use Rattle.std.specs.Vec.Iter.{into_iter_items};
 ghost use Rattle.glsl_ast.specs.View.{expr_of};
-ghost use Rattle.int_lowering.specs.Operand.{operand_of, plain, as_elem, first, rest, second, third, fourth};
+ghost use Rattle.int_lowering.specs.Operand.{operand_of, plain, as_elem, first, rest};
 
 use crate::basic::{BasicType, basic_type};
 use crate::terms::{convert, literal};
@@ -72,7 +72,7 @@ impl Operand {
 }
 
 /// The next operand, or `0u` where none is left.
-fn next_operand(args: &mut IntoIter<Arg>) -> Operand
+pub fn next_operand(args: &mut IntoIter<Arg>) -> Operand
     ensures operand { plain result ≡ first (map operand_of (into_iter_items args.old)) }
     ensures rest { map operand_of (into_iter_items args.new) ≡ rest (map operand_of (into_iter_items args.old)) }
 {
@@ -89,28 +89,11 @@ fn next_operand(args: &mut IntoIter<Arg>) -> Operand
     }
 }
 
-/// The operands of an operation, which has at most four.
-#[derive(Drop)]
-pub struct Operands {
-    pub first: Operand,
-    pub second: Operand,
-    pub third: Operand,
-    pub fourth: Operand,
-}
-
-impl Operands {
-    pub fn new(args: Vec<Arg>) -> Operands
-        ensures first { plain result.first ≡ first (map operand_of args.items) }
-        ensures second { plain result.second ≡ second (map operand_of args.items) }
-        ensures third { plain result.third ≡ third (map operand_of args.items) }
-        ensures fourth { plain result.fourth ≡ fourth (map operand_of args.items) }
-    {
-        let mut args = args.into_iter();
-        Operands {
-            first: next_operand(&mut args),
-            second: next_operand(&mut args),
-            third: next_operand(&mut args),
-            fourth: next_operand(&mut args),
-        }
-    }
+/// The next operand as components of a type, for an operator over it.
+pub fn next_boxed(alloc: Global, args: &mut IntoIter<Arg>, elem: Elem) -> Result<Box<Expr>, Memory>
+    ensures boxed { IfOk result (λ e. expr_of e.value ≡ as_elem elem (first (map operand_of (into_iter_items args.old)))) }
+    ensures rest { map operand_of (into_iter_items args.new) ≡ rest (map operand_of (into_iter_items args.old)) }
+{
+    let operand = next_operand(args);
+    Ok(Box::new(alloc, operand.into_elem(alloc, elem)?)?)
 }

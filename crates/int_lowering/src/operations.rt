@@ -1,29 +1,33 @@
 // The expression of each operation on scalars.
-ghost use Rattle.std.specs.Prelude.{◌≡◌, IfOk};
+ghost use Rattle.std.specs.Prelude.{◌≡◌, IfOk, map};
+ghost use Rattle.std.specs.Vec.Iter.{into_iter_items};
 ghost use Rattle.glsl_ast.specs.View.{expr_of};
+ghost use Rattle.glsl_ast.specs.Tree as tree;
 ghost use Rattle.glsl_ast.specs.declared.expressions.BinOp.TheVariants.{Shr};
 ghost use Rattle.op_semantics.specs.declared.operation.Unary.TheVariants.{BitCount};
 ghost use Rattle.spv_module.specs.declared.tree.Elem.TheVariants.{Int};
-ghost use Rattle.int_lowering.specs.Operand.{plain, converted};
+ghost use Rattle.int_lowering.specs.Operand.{operand_of, plain, converted, first, second, third, fourth};
 ghost use Rattle.int_lowering.specs.Lowered as lowered;
 
 use crate::basic::{BasicType, same_elem};
 use crate::built_ins::{BuiltIn, call_built_in};
 use crate::division::{magnitude, signed_modulo, signed_quotient, signed_remainder};
-use crate::operands::Operand;
-use crate::terms::{binary, call_one, call_two, convert, flip, literal};
+use crate::operands::{Arg, Operand, next_boxed, next_operand};
+use crate::terms::{binary, call_one, call_two, choose, convert, flip, literal};
 use glsl_ast::{BinOp, Expr};
 use op_semantics::{Binary, Clamp, Comparison, Logical, Unary};
 use spv_module::Elem;
 use spv_words::Memory;
 use std::alloc::Global;
+use std::vec::IntoIter;
 
 /// An operator on two operands as components of a type.
-fn both_as(alloc: Global, elem: Elem, op: BinOp, a: Operand, b: Operand) -> Result<Expr, Memory>
-    ensures { IfOk result (λ e. expr_of e ≡ lowered.both_as elem op (plain a) (plain b)) }
+#[tactic(auto, using(glsl_ast::proofs::Views::expr_rows))]
+fn both_as(alloc: Global, elem: Elem, op: BinOp, args: &mut IntoIter<Arg>) -> Result<Expr, Memory>
+    ensures { IfOk result (λ e. expr_of e ≡ lowered.both_as elem op (first (map operand_of (into_iter_items args.old))) (second (map operand_of (into_iter_items args.old)))) }
 {
-    let left = a.into_elem(alloc, elem)?;
-    binary(alloc, op, left, b.into_elem(alloc, elem)?)
+    let left = next_boxed(alloc, args, elem)?;
+    Ok(Expr::Binary(op, left, next_boxed(alloc, args, elem)?))
 }
 
 /// A function of two operands as components of a type.
@@ -54,11 +58,13 @@ fn shift_amount(alloc: Global, amount: Operand) -> Result<Expr, Memory>
 }
 
 /// A shift of an operand as components of a type.
-fn shift(alloc: Global, elem: Elem, op: BinOp, a: Operand, amount: Operand) -> Result<Expr, Memory>
-    ensures { IfOk result (λ e. expr_of e ≡ lowered.shifted elem op (plain a) (plain amount)) }
+#[tactic(auto, using(glsl_ast::proofs::Views::expr_rows))]
+fn shift(alloc: Global, elem: Elem, op: BinOp, args: &mut IntoIter<Arg>) -> Result<Expr, Memory>
+    ensures { IfOk result (λ e. expr_of e ≡ lowered.shifted elem op (first (map operand_of (into_iter_items args.old))) (second (map operand_of (into_iter_items args.old)))) }
 {
-    let left = a.into_elem(alloc, elem)?;
-    binary(alloc, op, left, shift_amount(alloc, amount)?)
+    let left = next_boxed(alloc, args, elem)?;
+    let amount = shift_amount(alloc, next_operand(args))?;
+    Ok(Expr::Binary(op, left, Box::new(alloc, amount)?))
 }
 
 /// A function of an operand as components of a type.
@@ -116,12 +122,11 @@ fn converted_both(
     ty: BasicType,
     elem: Elem,
     op: BinOp,
-    a: Operand,
-    b: Operand,
+    args: &mut IntoIter<Arg>,
 ) -> Result<Expr, Memory>
-    ensures { IfOk result (λ e. expr_of e ≡ converted ty elem (lowered.both_as elem op (plain a) (plain b))) }
+    ensures { IfOk result (λ e. expr_of e ≡ converted ty elem (lowered.both_as elem op (first (map operand_of (into_iter_items args.old))) (second (map operand_of (into_iter_items args.old))))) }
 {
-    let of = both_as(alloc, elem, op, a, b)?;
+    let of = both_as(alloc, elem, op, args)?;
     convert(alloc, ty, elem, of)
 }
 
@@ -130,12 +135,11 @@ fn converted_shift(
     alloc: Global,
     ty: BasicType,
     elem: Elem,
-    a: Operand,
-    amount: Operand,
+    args: &mut IntoIter<Arg>,
 ) -> Result<Expr, Memory>
-    ensures { IfOk result (λ e. expr_of e ≡ converted ty elem (lowered.shifted elem Shr (plain a) (plain amount))) }
+    ensures { IfOk result (λ e. expr_of e ≡ converted ty elem (lowered.shifted elem Shr (first (map operand_of (into_iter_items args.old))) (second (map operand_of (into_iter_items args.old))))) }
 {
-    let of = shift(alloc, elem, BinOp::Shr, a, amount)?;
+    let of = shift(alloc, elem, BinOp::Shr, args)?;
     convert(alloc, ty, elem, of)
 }
 
@@ -145,12 +149,12 @@ fn converted_function(
     ty: BasicType,
     elem: Elem,
     function: BuiltIn,
-    a: Operand,
-    b: Operand,
+    args: &mut IntoIter<Arg>,
 ) -> Result<Expr, Memory>
-    ensures { IfOk result (λ e. expr_of e ≡ converted ty elem (lowered.function_of_both elem function (plain a) (plain b))) }
+    ensures { IfOk result (λ e. expr_of e ≡ converted ty elem (lowered.function_of_both elem function (first (map operand_of (into_iter_items args.old))) (second (map operand_of (into_iter_items args.old))))) }
 {
-    let of = function_of_both(alloc, elem, function, a, b)?;
+    let a = next_operand(args);
+    let of = function_of_both(alloc, elem, function, a, next_operand(args))?;
     convert(alloc, ty, elem, of)
 }
 
@@ -159,63 +163,77 @@ pub fn binary_operation(
     alloc: Global,
     op: Binary,
     ty: BasicType,
-    a: Operand,
-    b: Operand,
+    args: &mut IntoIter<Arg>,
 ) -> Result<Expr, Memory>
-    ensures { IfOk result (λ e. expr_of e ≡ lowered.binary op ty (plain a) (plain b)) }
+    ensures { IfOk result (λ e. expr_of e ≡ lowered.binary op ty (first (map operand_of (into_iter_items args.old))) (second (map operand_of (into_iter_items args.old)))) }
 {
     match op {
-        Binary::IAdd => both_as(alloc, ty.elem, BinOp::Add, a, b),
-        Binary::ISub => both_as(alloc, ty.elem, BinOp::Sub, a, b),
-        Binary::IMul => both_as(alloc, ty.elem, BinOp::Mul, a, b),
-        Binary::UDiv => converted_both(alloc, ty, Elem::Uint, BinOp::Div, a, b),
-        Binary::UMod => converted_both(alloc, ty, Elem::Uint, BinOp::Rem, a, b),
-        Binary::SDiv => convert(alloc, ty, Elem::Uint, signed_quotient(alloc, &a, &b)?),
-        Binary::SRem => convert(alloc, ty, Elem::Uint, signed_remainder(alloc, &a, &b)?),
-        Binary::SMod => convert(alloc, ty, Elem::Uint, signed_modulo(alloc, &a, &b)?),
-        Binary::ShiftRightLogical => converted_shift(alloc, ty, Elem::Uint, a, b),
-        Binary::ShiftRightArithmetic => converted_shift(alloc, ty, Elem::Int, a, b),
-        Binary::ShiftLeftLogical => shift(alloc, ty.elem, BinOp::Shl, a, b),
-        Binary::BitwiseOr => both_as(alloc, ty.elem, BinOp::Or, a, b),
-        Binary::BitwiseXor => both_as(alloc, ty.elem, BinOp::Xor, a, b),
-        Binary::BitwiseAnd => both_as(alloc, ty.elem, BinOp::And, a, b),
-        Binary::UMin => converted_function(alloc, ty, Elem::Uint, BuiltIn::Min, a, b),
-        Binary::SMin => converted_function(alloc, ty, Elem::Int, BuiltIn::Min, a, b),
-        Binary::UMax => converted_function(alloc, ty, Elem::Uint, BuiltIn::Max, a, b),
-        Binary::SMax => converted_function(alloc, ty, Elem::Int, BuiltIn::Max, a, b),
+        Binary::IAdd => both_as(alloc, ty.elem, BinOp::Add, args),
+        Binary::ISub => both_as(alloc, ty.elem, BinOp::Sub, args),
+        Binary::IMul => both_as(alloc, ty.elem, BinOp::Mul, args),
+        Binary::UDiv => converted_both(alloc, ty, Elem::Uint, BinOp::Div, args),
+        Binary::UMod => converted_both(alloc, ty, Elem::Uint, BinOp::Rem, args),
+        Binary::SDiv => {
+            let a = next_operand(args);
+            let of = signed_quotient(alloc, &a, &next_operand(args))?;
+            convert(alloc, ty, Elem::Uint, of)
+        }
+        Binary::SRem => {
+            let a = next_operand(args);
+            let of = signed_remainder(alloc, &a, &next_operand(args))?;
+            convert(alloc, ty, Elem::Uint, of)
+        }
+        Binary::SMod => {
+            let a = next_operand(args);
+            let of = signed_modulo(alloc, &a, &next_operand(args))?;
+            convert(alloc, ty, Elem::Uint, of)
+        }
+        Binary::ShiftRightLogical => converted_shift(alloc, ty, Elem::Uint, args),
+        Binary::ShiftRightArithmetic => converted_shift(alloc, ty, Elem::Int, args),
+        Binary::ShiftLeftLogical => shift(alloc, ty.elem, BinOp::Shl, args),
+        Binary::BitwiseOr => both_as(alloc, ty.elem, BinOp::Or, args),
+        Binary::BitwiseXor => both_as(alloc, ty.elem, BinOp::Xor, args),
+        Binary::BitwiseAnd => both_as(alloc, ty.elem, BinOp::And, args),
+        Binary::UMin => converted_function(alloc, ty, Elem::Uint, BuiltIn::Min, args),
+        Binary::SMin => converted_function(alloc, ty, Elem::Int, BuiltIn::Min, args),
+        Binary::UMax => converted_function(alloc, ty, Elem::Uint, BuiltIn::Max, args),
+        Binary::SMax => converted_function(alloc, ty, Elem::Int, BuiltIn::Max, args),
     }
 }
 
 /// Whether two words are equal, or differ: as they are where they are of one type.
-fn compared_as_they_are(alloc: Global, op: BinOp, a: Operand, b: Operand) -> Result<Expr, Memory>
-    ensures { IfOk result (λ e. expr_of e ≡ lowered.compared_as_they_are op (plain a) (plain b)) }
+fn compared_as_they_are(alloc: Global, op: BinOp, args: &mut IntoIter<Arg>) -> Result<Expr, Memory>
+    ensures { IfOk result (λ e. expr_of e ≡ lowered.compared_as_they_are op (first (map operand_of (into_iter_items args.old))) (second (map operand_of (into_iter_items args.old)))) }
 {
+    let a = next_operand(args);
+    let b = next_operand(args);
     if same_elem(a.ty.elem, b.ty.elem) {
         binary(alloc, op, a.expr, b.expr)
     } else {
-        both_as(alloc, Elem::Uint, op, a, b)
+        let left = a.into_elem(alloc, Elem::Uint)?;
+        binary(alloc, op, left, b.into_elem(alloc, Elem::Uint)?)
     }
 }
 
-pub fn comparison(alloc: Global, op: Comparison, a: Operand, b: Operand) -> Result<Expr, Memory>
-    ensures { IfOk result (λ e. expr_of e ≡ lowered.comparison op (plain a) (plain b)) }
+pub fn comparison(alloc: Global, op: Comparison, args: &mut IntoIter<Arg>) -> Result<Expr, Memory>
+    ensures { IfOk result (λ e. expr_of e ≡ lowered.comparison op (first (map operand_of (into_iter_items args.old))) (second (map operand_of (into_iter_items args.old)))) }
 {
     match op {
-        Comparison::IEqual => compared_as_they_are(alloc, BinOp::Equal, a, b),
-        Comparison::INotEqual => compared_as_they_are(alloc, BinOp::NotEqual, a, b),
-        Comparison::UGreaterThan => both_as(alloc, Elem::Uint, BinOp::Greater, a, b),
-        Comparison::SGreaterThan => both_as(alloc, Elem::Int, BinOp::Greater, a, b),
-        Comparison::UGreaterThanEqual => both_as(alloc, Elem::Uint, BinOp::GreaterEqual, a, b),
-        Comparison::SGreaterThanEqual => both_as(alloc, Elem::Int, BinOp::GreaterEqual, a, b),
-        Comparison::ULessThan => both_as(alloc, Elem::Uint, BinOp::Less, a, b),
-        Comparison::SLessThan => both_as(alloc, Elem::Int, BinOp::Less, a, b),
-        Comparison::ULessThanEqual => both_as(alloc, Elem::Uint, BinOp::LessEqual, a, b),
-        Comparison::SLessThanEqual => both_as(alloc, Elem::Int, BinOp::LessEqual, a, b),
+        Comparison::IEqual => compared_as_they_are(alloc, BinOp::Equal, args),
+        Comparison::INotEqual => compared_as_they_are(alloc, BinOp::NotEqual, args),
+        Comparison::UGreaterThan => both_as(alloc, Elem::Uint, BinOp::Greater, args),
+        Comparison::SGreaterThan => both_as(alloc, Elem::Int, BinOp::Greater, args),
+        Comparison::UGreaterThanEqual => both_as(alloc, Elem::Uint, BinOp::GreaterEqual, args),
+        Comparison::SGreaterThanEqual => both_as(alloc, Elem::Int, BinOp::GreaterEqual, args),
+        Comparison::ULessThan => both_as(alloc, Elem::Uint, BinOp::Less, args),
+        Comparison::SLessThan => both_as(alloc, Elem::Int, BinOp::Less, args),
+        Comparison::ULessThanEqual => both_as(alloc, Elem::Uint, BinOp::LessEqual, args),
+        Comparison::SLessThanEqual => both_as(alloc, Elem::Int, BinOp::LessEqual, args),
     }
 }
 
-pub fn logical(alloc: Global, op: Logical, a: Operand, b: Operand) -> Result<Expr, Memory>
-    ensures { IfOk result (λ e. expr_of e ≡ lowered.logical op (plain a) (plain b)) }
+pub fn logical(alloc: Global, op: Logical, args: &mut IntoIter<Arg>) -> Result<Expr, Memory>
+    ensures { IfOk result (λ e. expr_of e ≡ lowered.logical op (first (map operand_of (into_iter_items args.old))) (second (map operand_of (into_iter_items args.old)))) }
 {
     let op = match op {
         Logical::LogicalEqual => BinOp::Equal,
@@ -223,7 +241,8 @@ pub fn logical(alloc: Global, op: Logical, a: Operand, b: Operand) -> Result<Exp
         Logical::LogicalOr => BinOp::Either,
         Logical::LogicalAnd => BinOp::Both,
     };
-    binary(alloc, op, a.expr, b.expr)
+    let a = next_operand(args);
+    binary(alloc, op, a.expr, next_operand(args).expr)
 }
 
 /// The least of the upper bound and the greatest of the operand and the lower bound.
@@ -247,12 +266,13 @@ pub fn clamp(
     alloc: Global,
     op: Clamp,
     ty: BasicType,
-    x: Operand,
-    low: Operand,
-    high: Operand,
+    args: &mut IntoIter<Arg>,
 ) -> Result<Expr, Memory>
-    ensures { IfOk result (λ e. expr_of e ≡ lowered.clamp op ty (plain x) (plain low) (plain high)) }
+    ensures { IfOk result (λ e. expr_of e ≡ lowered.clamp op ty (first (map operand_of (into_iter_items args.old))) (second (map operand_of (into_iter_items args.old))) (third (map operand_of (into_iter_items args.old)))) }
 {
+    let x = next_operand(args);
+    let low = next_operand(args);
+    let high = next_operand(args);
     match op {
         Clamp::UClamp => clamped(alloc, ty, Elem::Uint, x, low, high),
         Clamp::SClamp => clamped(alloc, ty, Elem::Int, x, low, high),
@@ -264,34 +284,41 @@ pub fn extract(
     alloc: Global,
     elem: Elem,
     ty: BasicType,
-    x: Operand,
-    offset: Operand,
-    count: Operand,
+    args: &mut IntoIter<Arg>,
 ) -> Result<Expr, Memory>
-    ensures { IfOk result (λ e. expr_of e ≡ lowered.extracted elem ty (plain x) (plain offset) (plain count)) }
+    ensures { IfOk result (λ e. expr_of e ≡ lowered.extracted elem ty (first (map operand_of (into_iter_items args.old))) (second (map operand_of (into_iter_items args.old))) (third (map operand_of (into_iter_items args.old)))) }
 {
-    let x = x.into_elem(alloc, elem)?;
-    let offset = offset.into_elem(alloc, Elem::Int)?;
-    let count = count.into_elem(alloc, Elem::Int)?;
-    let args = vec![in alloc; x, offset, count]?;
-    let of = call_built_in(alloc, BuiltIn::BitfieldExtract, args)?;
+    let x = next_operand(args).into_elem(alloc, elem)?;
+    let offset = next_operand(args).into_elem(alloc, Elem::Int)?;
+    let count = next_operand(args).into_elem(alloc, Elem::Int)?;
+    let parts = vec![in alloc; x, offset, count]?;
+    let of = call_built_in(alloc, BuiltIn::BitfieldExtract, parts)?;
     convert(alloc, ty, elem, of)
 }
 
-pub fn insert(
-    alloc: Global,
-    elem: Elem,
-    base: Operand,
-    insert: Operand,
-    offset: Operand,
-    count: Operand,
-) -> Result<Expr, Memory>
-    ensures { IfOk result (λ e. expr_of e ≡ lowered.inserted elem (plain base) (plain insert) (plain offset) (plain count)) }
+pub fn insert(alloc: Global, elem: Elem, args: &mut IntoIter<Arg>) -> Result<Expr, Memory>
+    ensures { IfOk result (λ e. expr_of e ≡ lowered.inserted elem (first (map operand_of (into_iter_items args.old))) (second (map operand_of (into_iter_items args.old))) (third (map operand_of (into_iter_items args.old))) (fourth (map operand_of (into_iter_items args.old)))) }
 {
-    let base = base.into_elem(alloc, elem)?;
-    let insert = insert.into_elem(alloc, elem)?;
-    let offset = offset.into_elem(alloc, Elem::Int)?;
-    let count = count.into_elem(alloc, Elem::Int)?;
-    let args = vec![in alloc; base, insert, offset, count]?;
-    call_built_in(alloc, BuiltIn::BitfieldInsert, args)
+    let base = next_operand(args).into_elem(alloc, elem)?;
+    let insert = next_operand(args).into_elem(alloc, elem)?;
+    let offset = next_operand(args).into_elem(alloc, Elem::Int)?;
+    let count = next_operand(args).into_elem(alloc, Elem::Int)?;
+    let parts = vec![in alloc; base, insert, offset, count]?;
+    call_built_in(alloc, BuiltIn::BitfieldInsert, parts)
+}
+
+pub fn select(alloc: Global, args: &mut IntoIter<Arg>) -> Result<Expr, Memory>
+    ensures { IfOk result (λ e. expr_of e ≡ tree.choose (first (map operand_of (into_iter_items args.old))).expr (second (map operand_of (into_iter_items args.old))).expr (third (map operand_of (into_iter_items args.old))).expr) }
+{
+    let test = next_operand(args);
+    let yes = next_operand(args);
+    choose(alloc, test.expr, yes.expr, next_operand(args).expr)
+}
+
+/// A value as it is, converted to the type of the result.
+pub fn copy(alloc: Global, ty: BasicType, args: &mut IntoIter<Arg>) -> Result<Expr, Memory>
+    ensures { IfOk result (λ e. expr_of e ≡ converted ty (first (map operand_of (into_iter_items args.old))).ty.elem (first (map operand_of (into_iter_items args.old))).expr) }
+{
+    let a = next_operand(args);
+    convert(alloc, ty, a.ty.elem, a.expr)
 }

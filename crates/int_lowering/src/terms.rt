@@ -77,5 +77,5 @@ pub fn convert(alloc: Global, ty: BasicType, from: Elem, of: Expr) -> Result<Exp
     if same_elem(ty.elem, from) {
         return Ok(of);
     }
-    Ok(Expr::Build(type_name(alloc, ty), vec![in alloc; of]?))
+    Expr::build(alloc, type_name(alloc, ty), vec![in alloc; of]?)
 }

@@ -1,8 +1,10 @@
 // Plans of a small function.
 ghost use Rattle.std.specs.Prelude.{◌≡◌};
 
+use block_graph::control_flow;
 use hoist_plan::{Form, Naming, plan};
 use sample_modules::module_of;
+use spv_index::Locals;
 use spv_module::{Function, Id, Module};
 use spv_words::Memory;
 use std::alloc::Global;
@@ -34,8 +36,10 @@ pub fn planned<L: Ledger>(
     requires one { blank.parts ≡ 1 }
 {
     let mut steps = Steps::<L>::new(blank);
-    let uses = Uses::build(alloc, f, reached, &mut steps)?;
-    plan(alloc, module, f, &uses, &mut steps)
+    let locals = Locals::of(alloc, f)?;
+    let graph = control_flow(alloc, f)?;
+    let uses = Uses::build(alloc, &locals, reached, &mut steps)?;
+    plan(alloc, module, &locals, &graph, &uses, &mut steps)
 }
 
 #[test]

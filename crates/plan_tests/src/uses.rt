@@ -1,6 +1,7 @@
 // Functions whose operands are linked.
 ghost use Rattle.std.specs.Prelude.{◌≡◌};
 
+use spv_index::Locals;
 use spv_module::{Block, Function, Id, Inst, Seq};
 use spv_words::Memory;
 use std::alloc::{AllocError, Global};
@@ -140,8 +141,9 @@ fn counted<L: Ledger>(alloc: Global, blank: Blank) -> Result<Vec<u32>, Memory>
 {
     let mut steps = Steps::<L>::new(blank);
     let function = function(alloc, &COUNTED)?;
+    let locals = Locals::of(alloc, &function)?;
     let reached = [true; 6];
-    let mut uses = Uses::build(alloc, &function, &reached, &mut steps)?;
+    let mut uses = Uses::build(alloc, &locals, &reached, &mut steps)?;
     let mut found = Vec::new(alloc);
     found.push(uses.count(Id(30), &mut steps))?;
     for slot in &walked(alloc, &uses, Id(30), &mut steps)? {
@@ -161,8 +163,9 @@ fn phis<L: Ledger>(alloc: Global, blank: Blank) -> Result<Vec<u32>, Memory>
 {
     let mut steps = Steps::<L>::new(blank);
     let function = function(alloc, &PHIS)?;
-    let uses = Uses::build(alloc, &function, &[true; 3], &mut steps)?;
-    let part = Uses::build(alloc, &function, &[false, true, true], &mut steps)?;
+    let locals = Locals::of(alloc, &function)?;
+    let uses = Uses::build(alloc, &locals, &[true; 3], &mut steps)?;
+    let part = Uses::build(alloc, &locals, &[false, true, true], &mut steps)?;
     let mut found = Vec::new(alloc);
     for id in [14, 15, 41, 42, 43, 45] {
         found.push(uses.count(Id(id), &mut steps))?;
@@ -178,7 +181,8 @@ fn moved<L: Ledger>(alloc: Global, blank: Blank) -> Result<Vec<u32>, Memory>
 {
     let mut steps = Steps::<L>::new(blank);
     let function = function(alloc, &COUNTED)?;
-    let mut uses = Uses::build(alloc, &function, &[true; 6], &mut steps)?;
+    let locals = Locals::of(alloc, &function)?;
+    let mut uses = Uses::build(alloc, &locals, &[true; 6], &mut steps)?;
     let mut found = Vec::new(alloc);
     // %14 has a list, and %99 has none
     for (from, to) in [(30, 14), (14, 99)] {

@@ -4,3 +4,4 @@ pub mod Laws
 pub mod Joined
 pub mod Taken
 pub mod Fits
+pub mod Firsts

@@ -89,7 +89,7 @@ fn composite(alloc: Global, readings: &Readings, names: &Names, inst: &Inst) -> 
 {
     let ty = type_at(alloc, readings, names, inst.ty)?;
     let parts = exprs_at(alloc, readings, names, inst.args.as_slice())?;
-    Ok(Expr::Build(ty, parts))
+    Expr::build(alloc, ty, parts)
 }
 
 /// What a constant is declared with.

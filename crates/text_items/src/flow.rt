@@ -180,7 +180,7 @@ pub fn claims<P: FunctionClaims>(
     requires { entry.0 ≡ written.now.source.entry }
     ensures { IfOk result (λ claims. claims_of claims.items ≡ all_claims written.now.source written.now.reached (map P.plan plans.now)) }
 {
-    let mut claims = Vec::new(alloc);
+    let mut claims = Vec::with_capacity(alloc, written.live_count())?;
     claim_flag(&mut claims, true, Key::Main)?;
     claim_globals(alloc, &mut claims, written)?;
     claim_functions(alloc, &mut claims, written, entry, plans)?;

@@ -1,9 +1,9 @@
 // Which ids instructions mention.
-ghost use Rattle.std.specs.Prelude.{◌≡◌, ◌==◌, ◌&&◌, ◌||◌, ℕ, IfOk, OnOk, false, flat_map};
+ghost use Rattle.std.specs.Prelude.{◌≡◌, ◌==◌, ◌&&◌, ◌||◌, ℕ, IfOk, OnOk, false, flat_map, take};
 ghost use Rattle.std.specs.List.{list_any};
 ghost use Rattle.id_map.specs.Entries.{is_in};
 ghost use Rattle.spv_ops.specs.Operands.{has_id};
-ghost use Rattle.text_rules.specs.Printed.{mentions, is_mentioned_in};
+ghost use Rattle.text_rules.specs.Printed.{mentions, mentions_from, is_mentioned_in};
 ghost use Rattle.text_items.specs.State.{functions_at, insts_at};
 
 use constant_text::Readings;
@@ -11,6 +11,16 @@ use id_map::IdSet;
 use spv_module::{Block, Function, Inst};
 use spv_ops::{IdWords, id_words};
 use std::alloc::{AllocError, Global};
+
+/// Adds ids.
+fn add_ids(ids: &mut IdSet, words: &[u32]) -> Result<(), AllocError>
+    ensures { OnOk result ((id : ℕ) → is_in ids.new id ≡ (is_in ids.old id || list_any (λ word. word == id) words.now)) }
+{
+    for word in words {
+        ids.insert(*word)?;
+    }
+    Ok(())
+}
 
 /// Adds the operand word with a number, where it is an id.
 fn add_word(ids: &mut IdSet, words: &IdWords, k: usize, word: u32) -> Result<(), AllocError>
@@ -22,16 +32,43 @@ fn add_word(ids: &mut IdSet, words: &IdWords, k: usize, word: u32) -> Result<(),
     Ok(())
 }
 
-/// Adds the ids that an instruction mentions.
+/// Adds those of an instruction's operand words that are ids.
 #[tactic(auto, using(crate::proofs::Built::mention_rules))]
+fn add_each(ids: &mut IdSet, words: &IdWords, args: &[u32]) -> Result<(), AllocError>
+    ensures { OnOk result ((id : ℕ) → is_in ids.new id ≡ (is_in ids.old id || mentions_from (has_id words.now) id 0 args.now)) }
+{
+    for (k, word) in args.iter().enumerate() {
+        add_word(ids, words, k, *word)?;
+    }
+    Ok(())
+}
+
+/// The operand words that are ids, where these are the first so many.
+fn first(args: &[u32], count: usize) -> &[u32]
+    ensures { result.now ≡ take count args.now }
+{
+    args.get(..count).unwrap_or(args)
+}
+
+/// Adds those of an instruction's operand words that are ids, in most instructions the first ones.
+fn add_those(ids: &mut IdSet, words: IdWords, args: &[u32]) -> Result<(), AllocError>
+    ensures { OnOk result ((id : ℕ) → is_in ids.new id ≡ (is_in ids.old id || mentions_from (has_id words) id 0 args.now)) }
+{
+    match words {
+        IdWords::Range(0, count) => {
+            add_ids(ids, first(args, count))?;
+            Ok(())
+        }
+        _ => add_each(ids, &words, args),
+    }
+}
+
+/// Adds the ids that an instruction mentions.
 pub fn add_mentions(ids: &mut IdSet, inst: &Inst) -> Result<(), AllocError>
     ensures { OnOk result ((id : ℕ) → is_in ids.new id ≡ (is_in ids.old id || mentions inst.now id)) }
 {
     let args = inst.args.as_slice();
-    let words = id_words(inst.op, args);
-    for (k, word) in args.iter().enumerate() {
-        add_word(ids, &words, k, *word)?;
-    }
+    add_those(ids, id_words(inst.op, args), args)?;
     Ok(())
 }
 

@@ -71,7 +71,7 @@ fn written_types(
 ) -> Result<Vec<u32>, Memory>
     ensures { IfOk result (λ types. types.items ≡ types_by readings.now (is_in mentioned.now) (is_in needed.now) (functions_at functions.now) (insts_at live.now)) }
 {
-    let mut types = Vec::new(alloc);
+    let mut types = Vec::with_capacity(alloc, live.len())?;
     let globals = readings.module().globals();
     add_globals(&mut types, readings, mentioned, needed, globals)?;
     add_signatures(&mut types, functions)?;

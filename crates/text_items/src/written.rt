@@ -1,5 +1,5 @@
 // What of a module is written.
-ghost use Rattle.std.specs.Prelude.{◌≡◌, IfOk};
+ghost use Rattle.std.specs.Prelude.{◌≡◌, IfOk, length};
 ghost use Rattle.text_rules.specs.Printed.{is_written_variable, is_declared_constant, is_written_struct};
 ghost use Rattle.text_items.specs.State.{reached_of};
 
@@ -83,6 +83,13 @@ impl<'a, 'b> Written<'a, 'b> {
         ensures { result.now ≡ self.now.source.of }
     {
         self.readings.module()
+    }
+
+    /// How many instructions are live.
+    pub(crate) fn live_count(&self) -> usize
+        ensures { result ≡ length self.now.reached.live }
+    {
+        self.live.len()
     }
 
     /// Whether a global instruction is a variable that is written: one that a function mentions, and that is not built in.

@@ -37,7 +37,10 @@ fn array(alloc: Global, of: &str, value: &str) -> Result<Decl, AllocError> {
         id: None,
         ty: struct_type(alloc, of)?,
         name: text(alloc, "c1")?,
-        value: Expr::Build(struct_type(alloc, of)?, vec![in alloc; value]?),
+        value: Expr::Build(
+            Box::new(alloc, struct_type(alloc, of)?)?,
+            vec![in alloc; value]?,
+        ),
     })
 }
 

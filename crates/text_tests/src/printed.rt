@@ -60,7 +60,7 @@ fn a_copy_of_an_expression(rt: HostRuntime) -> Result<(), Fail> {
         extents: vec![in alloc; Extent::Number(1)]?,
     };
     let name = Expr::Name(String::from_str(alloc, "a")?);
-    let built = Expr::Build(ty, vec![in alloc; name]?);
+    let built = Expr::Build(Box::new(alloc, ty)?, vec![in alloc; name]?);
     let copy = built.clone_in(alloc).ok().ok_or("no memory")?;
     let text = const_text(alloc, Base::Int, copy)?;
     assert!(rt; text.ends_with(b"const int c = int[1](a);\n"));

@@ -1,10 +1,9 @@
 -- The rows while all slots are linked, and while those that are not live are taken out.
-use Rattle.std.proofs.Common.{◌≡◌, ◌≢◌, ◌<◌, ◌≤◌, ◌+◌, ◌==◌, ℕ, zero, suc, Bool, true, false, List, [], ◌∷◌, length, get_or, map, filter, replicate, refl, ap, sym, ◌∙◌, subst, cond, inl, inr, arith, Option, Some, None, Contains, if◌then◌else◌}
-use Rattle.std.specs.List.{count_by, position_from, enumerate_from}
-use Rattle.std.specs.Option.{is_some, option_map_or}
-use Rattle.std.proofs.lemmas.Bool.{and_parts, and_left, cases_Bool, cases_eq, cases_lt, eq-eqb, both_ways}
+use Rattle.std.proofs.Common.{◌≡◌, ◌≢◌, ◌<◌, ◌≤◌, ◌+◌, ◌==◌, ℕ, zero, suc, Bool, true, false, List, [], ◌∷◌, length, get_or, map, filter, replicate, refl, ap, sym, ◌∙◌, subst, cond, inl, inr, arith, Option, Some, None, if◌then◌else◌}
+use Rattle.std.specs.List.{count_by, enumerate_from}
+use Rattle.std.specs.Option.{option_map_or}
+use Rattle.std.proofs.lemmas.Bool.{and_parts, and_left, cases_eq, cases_lt, both_ways}
 use Rattle.std.proofs.lemmas.List.{get_or-set_same, get_or-set_other, get_or_past, get_or-replicate, length-set, length-map, length-replicate}
-use Rattle.std.proofs.lemmas.List.Elements.{at_from_Contains}
 use Rattle.std.proofs.lemmas.List.Sums.{sum_by-cons}
 use Rattle.use_chains.specs.declared.mention.Mention.{Mention}
 use Rattle.use_chains.specs.declared.rows.Row.{Row}
@@ -26,17 +25,6 @@ ends_none ids n id = at (place_of ids id)
       | inl inside ↦ get_or-replicate n p no_ends no_ends inside
       | inr past ↦ get_or_past (replicate n no_ends) p no_ends (let sized = length-replicate n no_ends in omega (arith, sized, past))
     ]
-
-some_place : (n : ℕ) (ids : List ℕ) (id k : ℕ) → k < length ids → get_or ids k 0 ≡ id → is_some (position_from (λ i. i == id) n ids) ≡ true
-some_place n [] id k inside e = absurd (omega (arith, inside))
-some_place n (x ∷ ids) id zero inside e = ap (λ b. is_some (cond b (Some n) (position_from (λ i. i == id) (n + 1) ids))) (eq-eqb x id e)
-some_place n (x ∷ ids) id (suc k) inside e = elim (cases_Bool (x == id)) [
-  | inl here ↦ ap (λ b. is_some (cond b (Some n) (position_from (λ i. i == id) (n + 1) ids))) here
-  | inr gone ↦ ap (λ b. is_some (cond b (Some n) (position_from (λ i. i == id) (n + 1) ids))) gone ∙ some_place (n + 1) ids id k (omega (arith, inside)) e
-]
-
-pub listed_from : (ids : List ℕ) (id : ℕ) → Contains ids id → is_some (place_of ids id) ≡ true
-listed_from ids id has = let at = at_from_Contains ids id has in some_place 0 ids id at.0 at.1 (at.2 0)
 
 -- none is linked
 free_linked : (ms : List Mention) (k : ℕ) → (row (map free_row ms) k).linked ≡ false

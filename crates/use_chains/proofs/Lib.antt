@@ -5,6 +5,7 @@ pub mod Moves
 pub mod Joined
 pub mod Seen
 pub mod Searching
+pub mod Gathered
 pub mod Built
 pub mod Owners
 pub mod Tally

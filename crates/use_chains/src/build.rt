@@ -1,22 +1,18 @@
 // All slots of a function, linked, without those of instructions that are not live.
-ghost use Rattle.std.specs.Prelude.{◌≡◌, ◌+◌, ◌<◌, ◌≤◌, ◌^◌, ℕ, length, IfOk, map, is_some, true};
-ghost use Rattle.std.specs.BTreeSet.{contains};
-ghost use Rattle.std.specs.Ordering.{nat_cmp};
-ghost use Rattle.use_chains.specs.Chains.{ends_of, no_ends, place_of};
-ghost use Rattle.use_chains.specs.Search.{nth};
+ghost use Rattle.std.specs.Prelude.{◌≡◌, ◌+◌, ◌<◌, ◌≤◌, ◌^◌, ℕ, length, IfOk, None, map, is_some, true};
+ghost use Rattle.id_map.specs.Entries.{entry_in};
 ghost use Rattle.use_chains.specs.Linked.{AreLinked};
-ghost use Rattle.use_chains.specs.Building.{free_row, IsEmpty, AreListed, IsLinkedTo, IsDroppedTo};
+ghost use Rattle.use_chains.specs.Building.{free_row, IsEmpty, AreGathered, AreListed, IsLinkedTo, IsDroppedTo};
 
 use crate::Steps;
 use crate::chains::{Chains, Ends};
-use crate::linking::{put_in, take_out};
+use crate::linking::{append, take_out};
 use crate::mention::Mention;
 use crate::rows::{Row, Rows};
-use id_map::IdSet;
-use spv_index::places_of;
+use id_map::IdMap;
+use spv_index::Places;
 use spv_words::Memory;
 use std::alloc::{AllocError, Global};
-use std::collections::BTreeSet;
 use std::sync::ledger::Ledger;
 
 /// The slots, none of them linked.
@@ -35,20 +31,35 @@ pub fn unlinked(alloc: Global, slots: &[Mention]) -> Result<Vec<Row>, AllocError
         .collect(alloc)
 }
 
-/// The ids that slots mention.
-fn ids_of(alloc: Global, slots: &[Mention]) -> Result<BTreeSet<u32>, AllocError>
-    ensures { IfOk result (λ ids. (k : ℕ) → k < length slots.now → contains nat_cmp ids (nth slots.now k).id ≡ true) }
+/// A function with fewer mentions than these is small.
+const SMALL: usize = 256;
+
+/// No ids, with room for those that slots mention. The ids of the module lie far from those of a small function, for
+/// whose results alone there is room.
+fn no_places(alloc: Global, slots: &[Mention]) -> Result<Places, AllocError>
+    ensures { IfOk result (λ places. (id : ℕ) → entry_in places id ≡ None) }
 {
-    let mentioned = slots.iter().map(|slot| slot.id).collect::<Vec<u32>>(alloc)?;
-    let mut seen = IdSet::for_ids(alloc, &mentioned)?;
-    let mut ids = BTreeSet::new(alloc);
+    let is_small = slots.len() < SMALL;
+    let ids = slots
+        .iter()
+        .map(|slot| if is_small { slot.result } else { slot.id })
+        .collect::<Vec<u32>>(alloc)?;
+    IdMap::for_ids(alloc, &ids)
+}
+
+/// The ids that slots mention, each once, and their places.
+fn ids_of(alloc: Global, slots: &[Mention]) -> Result<(Vec<u32>, Places), Memory>
+    ensures { IfOk result (λ found. AreGathered slots.now (length slots.now) found.0.items (entry_in found.1)) }
+{
+    let mut ids = Vec::new(alloc);
+    let mut places = no_places(alloc, slots)?;
     for slot in slots {
-        if !seen.has(slot.id) {
-            seen.insert(slot.id)?;
-            ids.insert(slot.id)?;
+        if !places.has(slot.id) {
+            places.insert(slot.id, ids.len())?;
+            ids.push(slot.id)?;
         }
     }
-    Ok(ids)
+    Ok((ids, places))
 }
 
 /// An empty list for each id that a slot mentions.
@@ -56,15 +67,13 @@ pub fn empty(alloc: Global, slots: &[Mention]) -> Result<Chains, Memory>
     ensures empty { IfOk result IsEmpty }
     ensures listed { IfOk result (λ c. AreListed slots.now c.ids) }
 {
-    let mentioned = ids_of(alloc, slots)?;
-    let ids = mentioned.iter().copied().collect::<Vec<u32>>(alloc)?;
+    let (ids, places) = ids_of(alloc, slots)?;
     let none = Ends {
         first: None,
         last: None,
         count: 0,
     };
     let ends = vec![in alloc; none; ids.len()]?;
-    let places = places_of(alloc, &ids)?;
     Ok(Chains::new(ids, ends, places))
 }
 
@@ -78,8 +87,7 @@ pub fn link_all(rows: &mut Rows, chains: &mut Chains, slots: &[Mention])
     ensures all { IsLinkedTo slots.now rows.new (length slots.now) }
 {
     for (k, slot) in slots.iter().enumerate() {
-        let last = chains.of(slot.id).last;
-        put_in(rows, chains, k, slot.id, last, None);
+        append(rows, chains, k, slot.id);
     }
 }
 

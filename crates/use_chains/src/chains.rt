@@ -1,6 +1,8 @@
 // The lists of the ids, found by id.
-ghost use Rattle.std.specs.Prelude.{◌≡◌, ◌<◌, length, IfSome, is_some, false, true};
-ghost use Rattle.use_chains.specs.Chains.{AreChains, ArePlaced, place_of, ends_of, ArePut, AreRenamed};
+ghost use Rattle.std.specs.Prelude.{◌≡◌, ◌<◌, ◌+◌, ◌^◌, None, length, IfSome, is_some, false, true};
+ghost use Rattle.id_map.specs.Entries.{entry_in};
+ghost use Rattle.use_chains.specs.Chains.{AreChains, ArePlaced, IsMoved, place_of, ends_of, ArePut, AreRenamed};
+ghost use Rattle.use_chains.specs.Linked.{lengthened as lengthened_ends};
 
 use spv_index::Places;
 use std::marker::Model;
@@ -16,11 +18,29 @@ pub struct Ends {
 /// A list for each id.
 #[derive(Drop)]
 pub struct Chains {
-    // rising
+    // each once
     ids: Vec<u32>,
     ends: Vec<Ends>,
-    // where the ids stand, until one of them is renamed
+    // where the ids stand, unless memory for it was wanting
     places: Option<Places>,
+}
+
+/// The ends of a list into which a slot was put between two others.
+pub fn lengthened(ends: Ends, k: usize, prev: Option<usize>, next: Option<usize>) -> Ends
+    requires { ends.count + 1 < 2 ^ 32 }
+    ensures { result ≡ lengthened_ends ends k prev next }
+{
+    Ends {
+        first: match prev {
+            None => Some(k),
+            Some(_) => ends.first,
+        },
+        last: match next {
+            None => Some(k),
+            Some(_) => ends.last,
+        },
+        count: ends.count + 1,
+    }
 }
 
 impl Model for Chains {
@@ -32,6 +52,26 @@ impl Model for Chains {
     ghost view = { λ c. record { ids = c.ids.items; ends = c.ends.items } };
 
     ghost invariant = { λ c. AreChains c.ids.items c.ends.items × IfSome c.places (ArePlaced c.ids.items) };
+}
+
+/// The place of an id, by a search.
+fn searched(ids: &[u32], id: u32) -> Option<usize>
+    ensures place { result ≡ place_of ids.now id }
+    ensures within { IfSome result (λ place. place < length ids.now) }
+{
+    ids.iter().position(|i| *i == id)
+}
+
+/// The places after an id has become another, unless there is no memory for it.
+fn moved(before: Places, from: u32, to: u32, place: usize) -> Option<Places>
+    ensures { IfSome result (λ after. IsMoved (entry_in before) (entry_in after) from to place) }
+{
+    let mut after = before;
+    after.remove(from);
+    match after.insert(to, place) {
+        Ok(()) => Some(after),
+        Err(_) => None,
+    }
 }
 
 impl Chains {
@@ -48,27 +88,14 @@ impl Chains {
         }
     }
 
-    /// The place of an id among all, by a search.
-    #[tactic(auto, using(crate::proofs::Found::found_rules))]
-    fn searched(&self, id: u32) -> Option<usize>
-        ensures place { result ≡ place_of self.now.ids id }
-        ensures within { IfSome result (λ place. place < length self.now.ends) }
-    {
-        match self.ids.binary_search(&id) {
-            Ok(place) => Some(place),
-            Err(_) => None,
-        }
-    }
-
     /// The place of an id among all.
-    #[tactic(auto, using(crate::proofs::Found::found_rules))]
     fn place(&self, id: u32) -> Option<usize>
         ensures place { result ≡ place_of self.now.ids id }
         ensures within { IfSome result (λ place. place < length self.now.ends) }
     {
         match &self.places {
             Some(places) => places.get(id),
-            None => self.searched(id),
+            None => searched(&self.ids, id),
         }
     }
 
@@ -96,6 +123,21 @@ impl Chains {
         }
     }
 
+    /// Puts a slot behind all others in the list of an id, where there is one. The last slot before it is handed out.
+    pub fn append(&mut self, id: u32, k: usize) -> Option<usize>
+        requires few { (ends_of self.old id).count + 1 < 2 ^ 32 }
+        ensures last { result ≡ (ends_of self.old id).last }
+        ensures put { is_some (place_of self.old.ids id) ≡ true → ArePut self.old self.new id (lengthened_ends (ends_of self.old id) k (ends_of self.old id).last None) }
+        ensures ids { self.new.ids ≡ self.old.ids }
+    {
+        let Some(place) = self.place(id) else {
+            return None;
+        };
+        let ends = self.ends[place];
+        self.ends[place] = lengthened(ends, k, ends.last, None);
+        ends.last
+    }
+
     /// Whether an id has a list, be it empty.
     pub fn has(&self, id: u32) -> bool
         ensures { result ≡ is_some (place_of self.now.ids id) }
@@ -111,13 +153,9 @@ impl Chains {
         let Some(place) = self.place(from) else {
             return;
         };
-        self.places = None;
-        self.ids.remove(place);
-        let ends = self.ends.remove(place);
-        // one was taken out, so there is room
-        if let Err(place) = self.ids.binary_search(&to) {
-            let _ = self.ids.insert(place, to);
-            let _ = self.ends.insert(place, ends);
+        self.ids[place] = to;
+        if let Some(places) = self.places.take() {
+            self.places = moved(places, from, to, place);
         }
     }
 }

@@ -1,11 +1,11 @@
 // Taking a slot out of the list of an id, and putting it into one.
-ghost use Rattle.std.specs.Prelude.{◌≡◌, ◌+◌, ◌<◌, ◌^◌, length, true, false, is_some};
-ghost use Rattle.use_chains.specs.Chains.{place_of};
+ghost use Rattle.std.specs.Prelude.{◌≡◌, ◌+◌, ◌<◌, ◌^◌, length, None, true, false, is_some};
+ghost use Rattle.use_chains.specs.Chains.{ends_of, place_of};
 ghost use Rattle.use_chains.specs.Order.{IsFirst, IsLast};
-ghost use Rattle.use_chains.specs.Linked.{AreLinked, row, names, taken_out, put_in as put_in_rows, shortened as shortened_ends, lengthened as lengthened_ends};
+ghost use Rattle.use_chains.specs.Linked.{AreLinked, row, names, taken_out, put_in as put_in_rows, shortened as shortened_ends};
 
 use crate::Steps;
-use crate::chains::{Chains, Ends};
+use crate::chains::{Chains, Ends, lengthened};
 use crate::rows::{Row, Rows};
 use std::sync::ledger::Ledger;
 
@@ -24,24 +24,6 @@ fn shortened(ends: Ends, row: Row) -> Ends
             Some(_) => ends.last,
         },
         count: ends.count - 1,
-    }
-}
-
-/// The ends of a list into which a slot was put between two others.
-fn lengthened(ends: Ends, k: usize, prev: Option<usize>, next: Option<usize>) -> Ends
-    requires { ends.count + 1 < 2 ^ 32 }
-    ensures { result ≡ lengthened_ends ends k prev next }
-{
-    Ends {
-        first: match prev {
-            None => Some(k),
-            Some(_) => ends.first,
-        },
-        last: match next {
-            None => Some(k),
-            Some(_) => ends.last,
-        },
-        count: ends.count + 1,
     }
 }
 
@@ -93,4 +75,22 @@ pub fn put_in(
     rows.set_next(prev, Some(k));
     rows.set_prev(next, Some(k));
     chains.put(id, lengthened(chains.of(id), k, prev, next));
+}
+
+/// Puts a slot that is not linked behind all others in the list of an id.
+pub fn append(rows: &mut Rows, chains: &mut Chains, k: usize, id: u32)
+    requires linked { AreLinked rows.old chains.old }
+    requires there { k < length rows.old }
+    requires free { (row rows.old k).linked ≡ false }
+    requires last { IsLast (names rows.old id) k (ends_of chains.old id).last }
+    requires none { IsFirst (names rows.old id) (k + 1) None }
+    requires listed { is_some (place_of chains.old.ids id) ≡ true }
+    requires few { length rows.old < 2 ^ 32 }
+    ensures linked { AreLinked rows.new chains.new }
+    ensures rows { rows.new ≡ put_in_rows rows.old k id (ends_of chains.old id).last None }
+    ensures ids { chains.new.ids ≡ chains.old.ids }
+{
+    let last = chains.append(id, k);
+    rows.link(k, id, last, None);
+    rows.set_next(last, Some(k));
 }

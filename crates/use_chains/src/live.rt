@@ -42,7 +42,7 @@ fn definitions(alloc: Global, slots: &[Mention]) -> Result<Defined, AllocError>
     ensures { IfOk result (λ d. AreEarlier slots.now (length slots.now) (entry_in d.last) d.earlier.items) }
 {
     let mut last = IdMap::for_ids(alloc, &results(alloc, slots)?)?;
-    let mut earlier = Vec::new(alloc);
+    let mut earlier = Vec::with_capacity(alloc, slots.len())?;
     for (k, slot) in slots.iter().enumerate() {
         earlier.push(before(&mut last, slot, k)?)?;
     }
@@ -53,8 +53,8 @@ fn definitions(alloc: Global, slots: &[Mention]) -> Result<Defined, AllocError>
 fn first_found(alloc: Global, slots: &[Mention]) -> Result<(Vec<bool>, Vec<usize>), AllocError>
     ensures { IfOk result (λ found. AreFirst slots.now (length slots.now) found.0.items found.1.items) }
 {
-    let mut marks = Vec::new(alloc);
-    let mut list = Vec::new(alloc);
+    let mut marks = Vec::with_capacity(alloc, slots.len())?;
+    let mut list = Vec::with_capacity(alloc, slots.len())?;
     for (k, slot) in slots.iter().enumerate() {
         marks.push(!slot.is_pure)?;
         if !slot.is_pure {

@@ -1,12 +1,13 @@
 // The slots of a function.
-ghost use Rattle.std.specs.Prelude.{◌≡◌, ◌<◌, ◌++◌, false, OnOk, IfOk, slice_index_or, length};
+ghost use Rattle.std.specs.Prelude.{◌≡◌, ◌<◌, ◌++◌, ℕ, false, OnOk, IfOk, slice_index_or, length};
 ghost use Rattle.std.specs.List.{enumerate_from};
+ghost use Rattle.spv_ops.specs.Operands.{has_id, is_id};
 ghost use Rattle.use_chains.specs.Slots.{is_pure as is_pure_opcode, is_value as is_value_operand, is_label_reached as is_reached_label, is_slot as is_slot_of, is_taken as is_taken_by, slots_of_inst, slots_of_block, slots as slots_in};
 
 use crate::SlotPlace;
 use spv_index::Locals;
-use spv_module::{Block, Function, Inst};
-use spv_ops::{OpClass, id_words, shape_of};
+use spv_module::{Block, Inst};
+use spv_ops::{IdWords, OpClass, id_words, shape_of};
 use spv_words::Memory;
 use std::alloc::{AllocError, Global};
 
@@ -68,13 +69,20 @@ fn is_taken(locals: &Locals, reached: &[bool], inst: &Inst, k: usize) -> bool
     inst.op != 245 || is_label_reached(locals, reached, args.get(k + 1).copied().unwrap_or(0))
 }
 
-fn is_slot(locals: &Locals, reached: &[bool], inst: &Inst, k: usize) -> bool
-    requires { k < length inst.now.args }
+/// Which operands of an instruction are ids.
+fn ids_of(inst: &Inst) -> IdWords
+    ensures { (k : ℕ) → has_id result k ≡ is_id inst.now.op inst.now.args k }
+{
+    id_words(inst.op, inst.args.as_slice())
+}
+
+/// Whether an operand mentions a value, where it is known which operands are ids.
+fn is_slot(locals: &Locals, reached: &[bool], inst: &Inst, ids: IdWords, k: usize) -> bool
+    requires inside { k < length inst.now.args }
+    requires ids { (i : ℕ) → has_id ids i ≡ is_id inst.now.op inst.now.args i }
     ensures { result ≡ is_slot_of locals.now reached.now inst.now k }
 {
-    id_words(inst.op, inst.args.as_slice()).has(k)
-        && is_value(inst.op, k)
-        && is_taken(locals, reached, inst, k)
+    ids.has(k) && is_value(inst.op, k) && is_taken(locals, reached, inst, k)
 }
 
 /// Adds the slots of an instruction.
@@ -89,8 +97,9 @@ fn add_slots_of_inst(
     ensures { OnOk result (slots.new.items ≡ slots.old.items ++ slots_of_inst locals.now reached.now block (place, inst.now)) }
 {
     let is_pure = is_pure(inst.op);
+    let ids = ids_of(inst);
     for (k, id) in inst.args.as_slice().iter().enumerate() {
-        if is_slot(locals, reached, inst, k) {
+        if is_slot(locals, reached, inst, ids, k) {
             slots.push(Mention {
                 place: SlotPlace {
                     block,
@@ -125,14 +134,25 @@ fn add_slots_of_block(
     Ok(())
 }
 
+/// How many operands there are in blocks.
+fn operands(blocks: &[Block]) -> usize {
+    let mut count: usize = 0;
+    for block in blocks {
+        for inst in block.insts.as_slice() {
+            count = count.saturating_add(inst.args.len());
+        }
+    }
+    count
+}
+
 /// The slots of the reached blocks of a function, in text order.
-pub fn slots(alloc: Global, f: &Function, reached: &[bool]) -> Result<Vec<Mention>, Memory>
-    ensures { IfOk result (λ slots. slots.items ≡ slots_in f.now reached.now) }
+pub fn slots(alloc: Global, locals: &Locals, reached: &[bool]) -> Result<Vec<Mention>, Memory>
+    ensures { IfOk result (λ slots. slots.items ≡ slots_in locals.now reached.now) }
 {
-    let locals = Locals::of(alloc, f)?;
-    let mut slots = Vec::new(alloc);
-    for (place, block) in f.blocks.as_slice().iter().enumerate() {
-        add_slots_of_block(&mut slots, &locals, reached, place, block)?;
+    let blocks = locals.function().blocks.as_slice();
+    let mut slots = Vec::with_capacity(alloc, operands(blocks))?;
+    for (place, block) in blocks.iter().enumerate() {
+        add_slots_of_block(&mut slots, locals, reached, place, block)?;
     }
     Ok(slots)
 }

@@ -12,7 +12,8 @@ use crate::mention::Mention;
 use crate::retarget::{merge, take_over};
 use crate::rows::Rows;
 use crate::{Slot, SlotPlace, Steps, live, mention};
-use spv_module::{Function, Id};
+use spv_index::Locals;
+use spv_module::Id;
 use spv_words::Memory;
 use std::alloc::Global;
 use std::marker::Model;
@@ -74,14 +75,14 @@ impl Uses {
     /// not. There is an error only for want of memory, or where 2^32 operands or more are to be linked.
     pub fn build<L: Ledger>(
         alloc: Global,
-        f: &Function,
+        locals: &Locals,
         reached: &[bool],
         steps: &mut Steps<L>,
     ) -> Result<Uses, Memory>
-        ensures live { IfOk result (AreLiveLinks f.now reached.now) }
-        ensures steps { OnOk result (steps.new ≤ steps.old + 3 * length (slots f.now reached.now)) }
+        ensures live { IfOk result (AreLiveLinks locals.now reached.now) }
+        ensures steps { OnOk result (steps.new ≤ steps.old + 3 * length (slots locals.now reached.now)) }
     {
-        let slots = mention::slots(alloc, f, reached)?;
+        let slots = mention::slots(alloc, locals, reached)?;
         if slots.len() > u32::MAX as usize {
             return Err(Memory);
         }

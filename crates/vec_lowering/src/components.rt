@@ -94,7 +94,7 @@ fn by_component(
         parts.push(lower(alloc, op, ext, elem, args)?)?;
     }
     let size = Some(size);
-    Ok(Expr::Build(type_name(alloc, BasicType { elem, size }), parts))
+    Expr::build(alloc, type_name(alloc, BasicType { elem, size }), parts)
 }
 
 /// GLSL has an operator on vectors too (GLSL 4.60, section 5.9).

@@ -47,7 +47,7 @@ pub fn construct(
     for arg in args {
         parts.push(arg.expr)?;
     }
-    Ok(Expr::Build(shape_type(alloc, names, shape)?, parts))
+    Expr::build(alloc, shape_type(alloc, names, shape)?, parts)
 }
 
 #[tactic(auto, using(glsl_ast::proofs::Views::expr_rows))]
@@ -152,5 +152,5 @@ pub fn shuffle(
     for k in picks {
         parts.push(pick(alloc, elem, a, b, *k)?)?;
     }
-    Ok(Expr::Build(shape_type(alloc, names, shape)?, parts))
+    Expr::build(alloc, shape_type(alloc, names, shape)?, parts)
 }

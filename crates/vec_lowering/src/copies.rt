@@ -99,7 +99,7 @@ pub fn copy(
         Shape::Array(part, length) => copy_array(alloc, names, part, *length, from, of),
         Shape::Struct(_, members) => {
             let parts = copy_members(alloc, names, members, from, &of)?;
-            Ok(Expr::Build(shape_type(alloc, names, shape)?, parts))
+            Expr::build(alloc, shape_type(alloc, names, shape)?, parts)
         }
         Shape::Bool | Shape::Int | Shape::Uint | Shape::Vector(_, _) | Shape::Runtime(_) => Ok(of),
     }
@@ -122,7 +122,7 @@ fn copy_array(
     }
     let count = fixed_length(length);
     let parts = copy_elements(alloc, names, part, count, array_part(from), &of)?;
-    Ok(Expr::Build(array_type(alloc, names, part, length)?, parts))
+    Expr::build(alloc, array_type(alloc, names, part, length)?, parts)
 }
 
 #[cycle(copying)]

@@ -41,8 +41,5 @@ decreases-arguments l = 8 * l.deep + 3
 abbrev pub decreases-values : goal.decreases-values
 decreases-values l = 8 * l.deep + 3
 
-abbrev pub decreases-argument : goal.decreases-argument
-decreases-argument l = 8 * l.deep + 2
-
 abbrev pub decreases-whole_argument : goal.decreases-whole_argument
 decreases-whole_argument l = 8 * l.deep + 3

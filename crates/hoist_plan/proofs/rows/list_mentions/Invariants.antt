@@ -2,7 +2,7 @@ use Rattle.std.proofs.Common.{◌≡◌, ◌+◌, ◌*◌, ◌++◌, length, map
 use Rattle.use_chains.specs.Links.{Link, chain, is_in_chain, is_linked}
 use Rattle.hoist_plan.specs.Plan.{mentions_of}
 use Rattle.hoist_plan.proofs.Walking.{left, slot_of, place_of}
-use Rattle.hoist_plan.proofs.rows.mentions.Given as goal
+use Rattle.hoist_plan.proofs.rows.list_mentions.Given as goal
 
 abbrev pub invariant-loop-at : goal.invariant-loop-at
 invariant-loop-at g l =

@@ -4,12 +4,12 @@ use Rattle.use_chains.specs.declared.slot.Slot.{Slot}
 use Rattle.use_chains.specs.declared.slot.SlotPlace.{SlotPlace}
 use Rattle.use_chains.specs.Links.{chain, is_in_chain}
 use Rattle.hoist_plan.proofs.Walking.{at_first, a_step, left, slot_of, place_of}
-use Rattle.hoist_plan.proofs.rows.mentions.Goals as goal
+use Rattle.hoist_plan.proofs.rows.list_mentions.Goals as goal
 
 pub loop-at-init : goal.loop-at-init
 loop-at-init g c =
     let all = ap (map place_of) (at_first c.args.uses.now c.args.id.0 c.walk-at.result c.requires c.walk-at.ensures.next) in
-    (rw c.new-places.ensures.items all, c.walk-at.ensures.there, c.walk-at.ensures.linked, (let sized = ap length all in omega (arith, sized, c.walk-at.ensures.steps)))
+    (rw c.clear.ensures.items all, c.walk-at.ensures.there, c.walk-at.ensures.linked, (let sized = ap length all in omega (arith, sized, c.walk-at.ensures.steps)))
 
 pub loop-at-preserved : goal.loop-at-preserved
 loop-at-preserved g c =

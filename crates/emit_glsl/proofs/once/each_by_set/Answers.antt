@@ -3,7 +3,7 @@ use Rattle.std.specs.BTreeSet.{contains}
 use Rattle.std.specs.Ordering.{nat_cmp}
 use Rattle.emit_glsl.specs.Once.{once, itself}
 use Rattle.emit_glsl.proofs.Singled.{once_step}
-use Rattle.emit_glsl.proofs.once.each_once.Goals as goal
+use Rattle.emit_glsl.proofs.once.each_by_set.Goals as goal
 
 pub loop-id-preserved : goal.loop-id-preserved
 loop-id-preserved c =

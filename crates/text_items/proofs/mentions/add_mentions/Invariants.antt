@@ -1,8 +1,0 @@
-use Rattle.std.proofs.Common.{◌≡◌, ◌||◌, ℕ, drop}
-use Rattle.id_map.specs.Entries.{is_in}
-use Rattle.spv_ops.specs.Operands.{is_id}
-use Rattle.text_rules.specs.Printed.{mentions, mentions_from}
-use Rattle.text_items.proofs.mentions.add_mentions.Given as goal
-
-abbrev pub invariant-loop-k : goal.invariant-loop-k
-invariant-loop-k l = (id : ℕ) → (is_in l.ids id || mentions_from (is_id l.inst.op l.inst.args) id l.k (drop l.k l.inst.args)) ≡ (is_in l.initial.ids id || mentions l.inst id)
