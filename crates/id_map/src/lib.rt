@@ -6,4 +6,5 @@ mod range;
 mod set;
 
 pub use map::IdMap;
+pub use range::Span;
 pub use set::IdSet;

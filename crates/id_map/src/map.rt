@@ -4,7 +4,7 @@ ghost use Rattle.std.specs.BTreeMap.{get};
 ghost use Rattle.std.specs.Ordering.{nat_cmp};
 ghost use Rattle.id_map.specs.Entries.{entry_in};
 
-use crate::range::{most_slots, range, slot};
+use crate::range::{Span, most_slots, slot};
 use std::alloc::{AllocError, Global};
 use std::collections::BTreeMap;
 
@@ -22,7 +22,14 @@ impl<V: Copy> IdMap<V> {
     pub fn for_ids(alloc: Global, ids: &[u32]) -> Result<IdMap<V>, AllocError>
         ensures { IfOk result (λ map. (id : ℕ) → entry_in map id ≡ None) }
     {
-        let (least, count) = range(ids);
+        IdMap::spanning(alloc, Span::of(ids))
+    }
+
+    /// A map without entries, with slots for the ids of a span: at most some 16 for each. There is an error only for want of memory.
+    pub fn spanning(alloc: Global, span: Span) -> Result<IdMap<V>, AllocError>
+        ensures { IfOk result (λ map. (id : ℕ) → entry_in map id ≡ None) }
+    {
+        let (least, count) = span.slots();
         IdMap::with_slots(alloc, least, count)
     }
 

@@ -4,9 +4,9 @@ ghost use Rattle.std.specs.Option.{option_copied, option_or};
 ghost use Rattle.id_map.specs.Entries.{entry_in};
 ghost use Rattle.spv_index.specs.Locals.{inst_in, parameter_in, block_in};
 
-use crate::places::{Places, places_of};
-use id_map::IdMap;
-use spv_module::{Block, Function, Id, Inst};
+use crate::places::{Places, block_places};
+use id_map::{IdMap, Span};
+use spv_module::{Function, Id, Inst};
 use spv_words::Memory;
 use std::alloc::{AllocError, Global};
 use std::marker::Model;
@@ -33,15 +33,15 @@ impl<'a> Model for Locals<'a> {
     ghost invariant = { λ l. IsIndex l.function.now (entry_in l.insts) (entry_in l.params) (entry_in l.blocks) };
 }
 
-/// The results of the instructions of blocks.
-fn results_of(alloc: Global, blocks: &[Block]) -> Result<Vec<u32>, AllocError> {
-    let mut results = Vec::new(alloc);
-    for block in blocks {
+/// The span of the results of a function's instructions.
+fn results_of(function: &Function) -> Span {
+    let mut results = Span::new();
+    for block in function.blocks.as_slice() {
         for inst in block.insts.as_slice() {
-            results.push(inst.result)?;
+            results.add(inst.result);
         }
     }
-    Ok(results)
+    results
 }
 
 /// Adds instructions by their results, each where it is the first.
@@ -56,34 +56,31 @@ fn add_insts<'a>(found: &mut IdMap<&'a Inst>, insts: &'a [Inst]) -> Result<(), A
     Ok(())
 }
 
-/// No instructions, with room for those of a function.
-fn none_for<'a>(alloc: Global, function: &'a Function) -> Result<IdMap<&'a Inst>, AllocError>
-    ensures { IfOk result (λ found. (id : ℕ) → entry_in found id ≡ None) }
-{
-    let results = results_of(alloc, function.blocks.as_slice())?;
-    IdMap::for_ids(alloc, &results)
-}
-
 /// The instructions of a function by their results.
 fn insts_of<'a>(alloc: Global, function: &'a Function) -> Result<IdMap<&'a Inst>, AllocError>
     ensures { IfOk result (λ found. (id : ℕ) → option_copied (entry_in found id) ≡ inst_in function.now id) }
 {
-    let mut found = none_for(alloc, function)?;
+    let mut found = IdMap::spanning(alloc, results_of(function))?;
     for block in function.blocks.as_slice() {
         add_insts(&mut found, block.insts.as_slice())?;
     }
     Ok(found)
 }
 
+/// The span of the ids of parameters.
+fn ids_of(params: &[(Id, Id)]) -> Span {
+    let mut ids = Span::new();
+    for (id, _) in params {
+        ids.add(id.0);
+    }
+    ids
+}
+
 /// The types of parameters by their ids.
 fn types_of(alloc: Global, params: &[(Id, Id)]) -> Result<IdMap<Id>, AllocError>
     ensures { IfOk result (λ types. (id : ℕ) → entry_in types id ≡ option_map (λ p. p.1) (find (λ p. p.0.0 == id) params.now)) }
 {
-    let ids = params
-        .iter()
-        .map(|param| param.0.0)
-        .collect::<Vec<u32>>(alloc)?;
-    let mut types = IdMap::for_ids(alloc, &ids)?;
+    let mut types = IdMap::spanning(alloc, ids_of(params))?;
     for (id, ty) in params {
         if !types.has(id.0) {
             types.insert(id.0, *ty)?;
@@ -97,17 +94,11 @@ impl<'a> Locals<'a> {
     pub fn of(alloc: Global, f: &'a Function) -> Result<Locals<'a>, Memory>
         ensures { IfOk result (λ locals. locals ≡ f.now) }
     {
-        let labels = f
-            .blocks
-            .as_slice()
-            .iter()
-            .map(|b| b.label.0)
-            .collect::<Vec<u32>>(alloc)?;
         Ok(Locals {
             function: f,
             insts: insts_of(alloc, f)?,
             params: types_of(alloc, f.params.as_slice())?,
-            blocks: places_of(alloc, &labels)?,
+            blocks: block_places(alloc, f.blocks.as_slice())?,
         })
     }
 
