@@ -8,8 +8,10 @@ use Rattle.name_alloc.specs.Base.{Text, base_of}
 use Rattle.name_alloc.specs.Keys.{same_key}
 use Rattle.name_alloc.specs.Law.{IsFree, IsNameFor, AreNames}
 use Rattle.name_alloc.specs.Naming.{Taken as AllTaken, space_of, same_space, claim_name, with_name, with_key, none_taken, names_from, name_of, is_claimed, numbered}
-use Rattle.name_alloc.specs.declared.naming.Spaces.{Spaces}
-use Rattle.name_alloc.specs.Given.{Kept, taken_of, name_at, IsNamed, AreGiven}
+use Rattle.name_alloc.specs.declared.space.Spaces.{Spaces}
+use Rattle.name_alloc.specs.declared.places.Places.{Places}
+use Rattle.name_alloc.specs.Places.{place_in}
+use Rattle.name_alloc.specs.Given.{taken_of, name_at, IsNamed, AreGiven}
 use Rattle.name_alloc.proofs.Keyed.{key_tells}
 use Rattle.name_alloc.proofs.Words.{base_word, numbered_word}
 use Rattle.name_alloc.proofs.Free.{or_parts, base_free, numbered_free, main_free}
@@ -105,25 +107,29 @@ module _ (taken : AllTaken) (found : Key → Option Text) (held : AreHeld taken 
 no_name : {A : Type 0} (x : Text) → None ≡ Some x → A
 no_name x h = absurd (false≢true (ap is_some h))
 
-pub given_none : (spaces : Spaces) (names : Kept) → names.entries ≡ [] → AreGiven spaces names
-given_none spaces names e =
-    let nothing : (key : Key) → name_at names key ≡ None = λ key. rw e refl in
+pub given_none : (spaces : Spaces) (places : Places) → ((key : Key) → place_in places key ≡ None) → AreGiven spaces places
+given_none spaces places e =
+    let nothing : (key : Key) → name_at spaces places key ≡ None = λ key. rw (e key) refl in
     record {
       held = λ key name h. no_name name (sym (nothing key) ∙ h);
       laws = record {
         each = λ key name h. no_name name (sym (nothing key) ∙ h);
         apart = λ a b name s h k. no_name name (sym (nothing a) ∙ h);
       };
+      stand = λ key. ap is_some (nothing key) ∙ sym (ap is_some (e key));
     }
 
 -- each claim keeps it
-pub given_step : (old new : Spaces) (names more : Kept) (c : Claim) (name : Text) → IsNamed old new c name → ((key : Key) → name_at more key ≡ with_key (name_at names) c.key name key) → AreGiven old names → AreGiven new more
-given_step old new names more c name named found given =
-    let same : name_at more ≡ with_key (name_at names) c.key name = λ i key. found key i in
-    let held : AreHeld (with_name (taken_of old) (space_of c.key) name) (with_key (name_at names) c.key name) = held_more (taken_of old) (name_at names) given.held given.laws c.key name named.fresh named.law in
+pub given_step : (old new : Spaces) (places more : Places) (c : Claim) (name : Text) → IsNamed old new c name
+    → ((key : Key) → name_at new more key ≡ with_key (name_at old places) c.key name key) → ((key : Key) → is_some (name_at new more key) ≡ is_some (place_in more key))
+    → AreGiven old places → AreGiven new more
+given_step old new places more c name named found stand given =
+    let same : name_at new more ≡ with_key (name_at old places) c.key name = λ i key. found key i in
+    let held : AreHeld (with_name (taken_of old) (space_of c.key) name) (with_key (name_at old places) c.key name) = held_more (taken_of old) (name_at old places) given.held given.laws c.key name named.fresh named.law in
     record {
-      held = subst (λ t. AreHeld t (name_at more)) (sym named.taken) (subst (AreHeld (with_name (taken_of old) (space_of c.key) name)) (sym same) held);
-      laws = subst AreNames (sym same) (names_more (taken_of old) (name_at names) given.held given.laws c.key name named.fresh named.law);
+      held = subst (λ t. AreHeld t (name_at new more)) (sym named.taken) (subst (AreHeld (with_name (taken_of old) (space_of c.key) name)) (sym same) held);
+      laws = subst AreNames (sym same) (names_more (taken_of old) (name_at old places) given.held given.laws c.key name named.fresh named.law);
+      stand = stand;
     }
 
 -- a key has a name where a claim has the key

@@ -2,7 +2,10 @@ pub mod Keyed
 pub mod First
 pub mod Free
 pub mod Words
+pub mod Lettered
 pub mod Lawful
 pub mod Crowd
+pub mod Standing
 pub mod Claimed
+pub mod Placed
 pub mod Named

@@ -1,10 +1,8 @@
 -- Spaces and names after a claim.
-use Rattle.std.proofs.Common.{◌≡◌, ◌+◌, ◌||◌, ◌==◌, ◌⊎◌, ℕ, Bool, true, false, cond, List, [], ◌∷◌, Option, None, Some, is_some, option_map, refl, ap, sym, ◌∙◌, inl, inr, arith, subst, bytes_eq, string_bytes}
-use Rattle.indexmap.specs.IndexMap.{get as get_key, get_by_text}
+use Rattle.std.proofs.Common.{rules, ◌≡◌, ◌+◌, ◌||◌, ◌==◌, ◌⊎◌, ℕ, Bool, true, false, cond, List, [], ◌∷◌, Option, None, Some, is_some, option_map, refl, ap, sym, ◌∙◌, inl, inr, arith, subst, bytes_eq, option_and_then}
+use Rattle.indexmap.specs.IndexMap.{get_by_text}
 use Rattle.std.specs.Ordering.{nat_cmp, is_eq}
 use Rattle.std.specs.BTreeMap.{get}
-use Rattle.std.specs.declared.string.String.{String}
-use Rattle.std.specs.declared.alloc.Global.{Global}
 use Rattle.std.proofs.lemmas.Bool.{cases_Bool, false≢true}
 use Rattle.std.proofs.lemmas.Bool.Decides.{eqb_tells, nat_tests}
 use Rattle.name_alloc.specs.declared.claims.Claim.{Claim}
@@ -14,9 +12,12 @@ use Rattle.name_alloc.specs.Naming.{space_of, same_space, free_name, claim_base,
 use Rattle.name_alloc.specs.Keys.{same_key}
 use Rattle.name_alloc.specs.Law.{IsNameFor}
 use Rattle.name_alloc.proofs.Lawful.{name_for}
-use Rattle.name_alloc.specs.Taken.{Held, is_held, held_count, IsSkipping, IsClaimed}
-use Rattle.name_alloc.specs.declared.naming.Spaces.{Spaces}
-use Rattle.name_alloc.specs.Given.{Members, Kept, held_at, taken_of, AreSkipping, IsSpaceOf, IsHeldOut, IsNamed, name_at}
+use Rattle.name_alloc.specs.Taken.{Held, is_held, held_count, text_at, IsSkipping, IsClaimed}
+use Rattle.name_alloc.specs.declared.space.Spaces.{Spaces}
+use Rattle.name_alloc.specs.declared.places.Places.{Places}
+use Rattle.name_alloc.specs.Places.{place_in}
+use Rattle.name_alloc.specs.Given.{Members, held_at, text_in, taken_of, AreSkipping, IsSpaceOf, IsHeldOut, IsNamed, name_at}
+use Rattle.name_alloc.proofs.Keyed.{key_tells}
 
 nat_same : (x y : ℕ) → is_eq (nat_cmp x y) ≡ (x == y)
 nat_same x y =
@@ -51,10 +52,11 @@ space_none held empty = record {
   has = λ text. rw empty refl;
   count = rw empty refl;
   skipping = λ skips. record { next = λ base next h. none_some next (let nothing : get_by_text held base ≡ None = rw empty refl in sym nothing ∙ h) };
+  texts = λ place. rw empty refl;
 }
 
 pub space_some : (held : Held) → IsSpaceOf (Some held) held
-space_some held = record { has = λ text. refl; count = refl; skipping = λ skips. skips held refl }
+space_some held = record { has = λ text. refl; count = refl; skipping = λ skips. skips held refl; texts = λ place. refl }
 
 pub held_out_none : (old : Members) (block : ℕ) (held : Held) (rest : Members) → held.entries ≡ [] → get nat_cmp old block ≡ None → TakenOut old block rest → IsHeldOut old block held rest
 held_out_none old block held rest empty none out = record { space = subst (λ found. IsSpaceOf found held) (sym none) (space_none held empty); others = out }
@@ -118,6 +120,23 @@ module _ (old : Spaces) (space : Option ℕ) (held : Held) (now : Held) (base na
         ];
   }
 
+  -- each name keeps its place
+  pub places_now : (other : Option ℕ) (place : ℕ) (text : Text) → text_in old other place ≡ Some text → text_in new other place ≡ Some text
+  places_now other place text h =
+      elim (cases_Bool (same_space space other)) [
+        | inl w ↦
+            let was : text_at held place ≡ text_in old other place = subst (λ o. text_at held place ≡ text_in old o place) (same_tells space other w) (out.texts place) in
+            rw (at_same other w) (claimed.places.each place text (was ∙ h))
+        | inr w ↦ rw (at_other other w) h
+      ]
+
+  same_own : (s : Option ℕ) → same_space s s ≡ true
+  same_own None = refl
+  same_own (Some n) = search (rules, nat_tests)
+
+  pub stands_now : (place : ℕ) → text_at now place ≡ Some name → text_in new space place ≡ Some name
+  stands_now place h = rw (at_same space (same_own space)) h
+
   pub name_now : (c : Claim) → space ≡ space_of c.key → base ≡ claim_base c → name ≡ claim_name (taken_of old) c
   name_now c s b =
       let has : is_held held ≡ (taken_of old).has space = λ i text. out.has text i in
@@ -131,17 +150,23 @@ module _ (old : Spaces) (space : Option ℕ) (held : Held) (now : Held) (base na
   law_now : (c : Claim) → base ≡ claim_base c → IsNameFor c.key name
   law_now c b = name_for c.key (option_map (λ v. v.items) c.given) name (subst (λ t. (name ≡ t) ⊎ ((n : ℕ) × (name ≡ numbered t n))) b claimed.form)
 
-  pub named_now : (c : Claim) → AreSkipping old → space ≡ space_of c.key → base ≡ claim_base c → IsNamed old new c name
-  named_now c skips s b = record {
-    name_is = name_now c s b;
+  named_by : (c : Claim) → AreSkipping old → space ≡ space_of c.key → base ≡ claim_base c → IsNamed old new c name
+  named_by c skips s b = record {
     taken = subst (λ o. taken_of new ≡ with_name (taken_of old) o name) s taken_now;
     skipping = skipping_now skips;
     fresh = subst (λ o. (taken_of old).has o name ≡ false) s fresh_now;
     law = law_now c b;
+    places = places_now;
   }
 
+  pub named_now : (c : Claim) → AreSkipping old → space ≡ space_of c.key → base ≡ claim_base c → IsNamed old new c (claim_name (taken_of old) c)
+  named_now c skips s b = subst (IsNamed old new c) (name_now c s b) (named_by c skips s b)
+
+  pub named_at : (c : Claim) (place : ℕ) → space ≡ space_of c.key → base ≡ claim_base c → text_at now place ≡ Some name → text_in new (space_of c.key) place ≡ Some (claim_name (taken_of old) c)
+  named_at c place s b h = subst (λ o. text_in new o place ≡ Some (claim_name (taken_of old) c)) s (stands_now place h ∙ ap Some (name_now c s b))
+
 -- at first nothing is taken or named
-abbrev Empty : Spaces → Type 0
+abbrev pub Empty : Spaces → Type 0
 Empty spaces = (spaces.text.entries ≡ []) × (spaces.members.entries ≡ [])
 
 first_skipping : (spaces : Spaces) → Empty spaces → (s : Option ℕ) (held : Held) → held_at spaces s ≡ Some held → IsSkipping held
@@ -162,27 +187,63 @@ first_count spaces e (Some s) = rw e.1 refl
 taken_empty : (spaces : Spaces) → Empty spaces → taken_of spaces ≡ none_taken
 taken_empty spaces e = λ i. record { has = λ s t. first_has spaces e s t i; count = λ s. first_count spaces e s i }
 
-named_none : (names : Kept) (key : Key) → names.entries ≡ [] → name_at names key ≡ None
-named_none names key e = rw e refl
+-- no key has a place
+abbrev NoPlaces : Places → Type 0
+NoPlaces places = (key : Key) → place_in places key ≡ None
 
-pub names_begin : (spaces : Spaces) (names : Kept) (claims : List Claim) → Empty spaces → names.entries ≡ [] → (key : Key) → names_from (taken_of spaces) (name_at names) claims key ≡ name_of claims key
-names_begin spaces names claims e f key =
-    ap (λ t. names_from t (name_at names) claims key) (taken_empty spaces e)
-    ∙ ap (λ g. names_from none_taken g claims key) (λ i k. named_none names k f i)
+pub named_none : (spaces : Spaces) (places : Places) (key : Key) → NoPlaces places → name_at spaces places key ≡ None
+named_none spaces places key none = rw (none key) refl
+
+pub names_begin : (spaces : Spaces) (places : Places) (claims : List Claim) → Empty spaces → NoPlaces places → (key : Key) → names_from (taken_of spaces) (name_at spaces places) claims key ≡ name_of claims key
+names_begin spaces places claims e none key =
+    ap (λ t. names_from t (name_at spaces places) claims key) (taken_empty spaces e)
+    ∙ ap (λ g. names_from none_taken g claims key) (λ i k. named_none spaces places k none i)
 
 -- each claim adds its name
-name_put : (b : Bool) (v : String Global) (o : Option (String Global)) → option_map string_bytes (cond b (Some v) o) ≡ cond b (Some (string_bytes v)) (option_map string_bytes o)
-name_put true v o = refl
-name_put false v o = refl
+module _ (old new : Spaces) (places more : Places) (key : Key) (name : Text) (place : ℕ)
+    (put : (k : Key) → place_in more k ≡ cond (same_key key k) (Some place) (place_in places k))
+    (stand : (k : Key) → is_some (name_at old places k) ≡ is_some (place_in places k))
+    (keeps : (space : Option ℕ) (at : ℕ) (text : Text) → text_in old space at ≡ Some text → text_in new space at ≡ Some text)
+    (stands : text_in new (space_of key) place ≡ Some name) where
+  found_own : (k : Key) → key ≡ k → place_in more k ≡ Some place → name_at new more k ≡ Some name
+  found_own k same at = rw at (subst (λ q. text_in new (space_of q) place ≡ Some name) same stands)
 
-pub found_put : (names more : Kept) (c : Claim) (name : String Global) → ((k : Key) → get_key same_key more k ≡ cond (same_key c.key k) (Some name) (get_key same_key names k))
-    → (k : Key) → name_at more k ≡ with_key (name_at names) c.key (string_bytes name) k
-found_put names more c name put k = ap (option_map string_bytes) (put k) ∙ name_put (same_key c.key k) name (get_key same_key names k)
+  -- a name that stood at its place stands there
+  kept_at : (k : Key) (at : ℕ) (found : Option Text) → text_in old (space_of k) at ≡ found → is_some found ≡ true → text_in new (space_of k) at ≡ found
+  kept_at k at None e h = absurd (false≢true h)
+  kept_at k at (Some text) e h = keeps (space_of k) at text e
 
-pub names_step : (old new : Spaces) (names more : Kept) (c : Claim) (rest : List Claim) (name : Text) → IsNamed old new c name
-    → ((k : Key) → name_at more k ≡ with_key (name_at names) c.key name k)
-    → (key : Key) → names_from (taken_of old) (name_at names) (c ∷ rest) key ≡ names_from (taken_of new) (name_at more) rest key
-names_step old new names more c rest name named found key =
-    ap (λ n. names_from (with_name (taken_of old) (space_of c.key) n) (with_key (name_at names) c.key n) rest key) (sym named.name_is)
-    ∙ (ap (λ t. names_from t (with_key (name_at names) c.key name) rest key) (sym named.taken)
-    ∙ ap (λ f. names_from (taken_of new) f rest key) (λ i k. sym (found k) i))
+  kept_by : (k : Key) (found : Option ℕ) → is_some (option_and_then (text_in old (space_of k)) found) ≡ is_some found → option_and_then (text_in new (space_of k)) found ≡ option_and_then (text_in old (space_of k)) found
+  kept_by k None h = refl
+  kept_by k (Some at) h = kept_at k at (text_in old (space_of k) at) refl h
+
+  pub found_put : (k : Key) → name_at new more k ≡ with_key (name_at old places) key name k
+  found_put k =
+      elim (cases_Bool (same_key key k)) [
+        | inl w ↦
+            let at : place_in more k ≡ Some place = rw (put k, w) refl in
+            rw w (found_own k (key_tells key k w) at)
+        | inr w ↦
+            let at : place_in more k ≡ place_in places k = rw (put k, w) refl in
+            rw w (ap (option_and_then (text_in new (space_of k))) at ∙ kept_by k (place_in places k) (stand k))
+      ]
+
+  pub stand_put : (k : Key) → is_some (name_at new more k) ≡ is_some (place_in more k)
+  stand_put k =
+      elim (cases_Bool (same_key key k)) [
+        | inl w ↦
+            let at : place_in more k ≡ Some place = rw (put k, w) refl in
+            let found : name_at new more k ≡ Some name = found_own k (key_tells key k w) at in
+            ap is_some found ∙ sym (ap is_some at)
+        | inr w ↦
+            let at : place_in more k ≡ place_in places k = rw (put k, w) refl in
+            let found : name_at new more k ≡ name_at old places k = ap (option_and_then (text_in new (space_of k))) at ∙ kept_by k (place_in places k) (stand k) in
+            ap is_some found ∙ (stand k ∙ sym (ap is_some at))
+      ]
+
+pub names_step : (old new : Spaces) (places more : Places) (c : Claim) (rest : List Claim) → IsNamed old new c (claim_name (taken_of old) c)
+    → ((k : Key) → name_at new more k ≡ with_key (name_at old places) c.key (claim_name (taken_of old) c) k)
+    → (key : Key) → names_from (taken_of old) (name_at old places) (c ∷ rest) key ≡ names_from (taken_of new) (name_at new more) rest key
+names_step old new places more c rest named found key =
+    ap (λ t. names_from t (with_key (name_at old places) c.key (claim_name (taken_of old) c)) rest key) (sym named.taken)
+    ∙ ap (λ f. names_from (taken_of new) f rest key) (λ i k. sym (found k) i)

@@ -1,5 +1,5 @@
 -- The base of a name: the text that the module gives, cleaned, or a word of the key's own.
-use Rattle.std.specs.Prelude.{ℕ, ◌-◌, ◌==◌, ◌||◌, ◌&&◌, Bool, true, false, List, [], ◌∷◌, ◌++◌, Option, length, take, map, slice_get, codes, if◌then◌else◌}
+use Rattle.std.specs.Prelude.{ℕ, ◌-◌, ◌==◌, ◌||◌, ◌&&◌, Bool, true, false, List, [], ◌∷◌, ◌++◌, Option, length, take, map, slice_get, codes, IsTrue, if◌then◌else◌}
 use Rattle.std.specs.Option.{option_map_or}
 use Rattle.std.specs.Char.{is_ascii_digit, is_ascii_alphanumeric}
 use Rattle.std.specs.Fmt.{decimal}
@@ -48,6 +48,14 @@ is_barred text = begins_digit text || (has_prefix text || is_word text)
 -- the text, with `n_` before it where it is no name
 abbrev pub guarded : Text → Text
 guarded text = if is_barred text then codes "n_" ++ text else text
+
+-- the letters that stand before numbers
+abbrev pub is_letter : Text → Bool
+is_letter (c ∷ []) = c == 118 || c == 109
+is_letter _ = false
+
+abbrev pub IsLetter : Text → Type 0
+IsLetter text = IsTrue (is_letter text)
 
 -- the base of what the module gives, or of this word and number where that is empty
 abbrev pub given_base : Option Text → Text → ℕ → Text

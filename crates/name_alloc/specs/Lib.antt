@@ -4,5 +4,6 @@ pub mod Keys
 pub mod Naming
 pub mod Law
 pub mod Taken
+pub mod Places
 pub mod Given
 pub mod Lookup

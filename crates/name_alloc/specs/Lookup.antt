@@ -5,5 +5,5 @@ use Rattle.name_alloc.specs.declared.claims.Names.{Names}
 use Rattle.name_alloc.specs.Base.{Text}
 use Rattle.name_alloc.specs.Given.{name_at}
 
-abbrev pub name_in : Names → Key → Option Text
-name_in names key = name_at names.names key
+unfoldable pub name_in : Names → Key → Option Text
+name_in names key = name_at names.spaces names.places key

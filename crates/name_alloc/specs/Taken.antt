@@ -1,5 +1,5 @@
 -- The names that a space holds.
-use Rattle.std.specs.Prelude.{ℕ, ◌≡◌, ◌+◌, ◌<◌, ◌≤◌, ◌||◌, ◌⊎◌, Bool, true, false, List, Some, is_some, bytes_eq, if◌then◌else◌}
+use Rattle.std.specs.Prelude.{ℕ, ◌≡◌, ◌+◌, ◌<◌, ◌≤◌, ◌||◌, ◌⊎◌, Bool, true, false, List, Option, Some, is_some, bytes_eq, option_map, slice_get, string_bytes, if◌then◌else◌}
 use Rattle.std.specs.Map.{update}
 use Rattle.indexmap.specs.IndexMap.{IndexMap, get_by_text, index_map_len}
 use Rattle.std.specs.declared.string.String.{String}
@@ -17,10 +17,19 @@ is_held space text = is_some (get_by_text space text)
 abbrev pub held_count : Held → ℕ
 held_count space = index_map_len space
 
+-- the name at a place
+abbrev pub text_at : Held → ℕ → Option (List ℕ)
+text_at space place = option_map (λ e. string_bytes e.0) (slice_get space.entries place)
+
+-- each name keeps its place
+pub record KeepsPlaces (old new : Held) : Type 0 where
+  pub each : (place : ℕ) (text : List ℕ) → text_at old place ≡ Some text → text_at new place ≡ Some text
+
 -- the number is put at the text
 pub record IsPut (old new : Held) (text : List ℕ) (number : ℕ) : Type 0 where
   pub puts : (t : List ℕ) → get_by_text new t ≡ update bytes_eq (get_by_text old) text (Some number) t
   pub count : held_count new ≡ held_count old + (if is_held old text then 0 else 1)
+  pub places : KeepsPlaces old new
 
 -- the numbers from 2 on and below this one are taken behind the base
 pub record IsNext (taken : List ℕ → Bool) (count : ℕ) (base : List ℕ) (next : ℕ) : Type 0 where
@@ -32,6 +41,10 @@ pub record IsNext (taken : List ℕ → Bool) (count : ℕ) (base : List ℕ) (n
 pub record IsSkipping (space : Held) : Type 0 where
   pub next : (base : List ℕ) (next : ℕ) → get_by_text space base ≡ Some next → IsNext (is_held space) (held_count space) base next
 
+-- the name that a base takes
+abbrev pub claimed_name : Held → List ℕ → List ℕ
+claimed_name space base = free_name (is_held space) (held_count space) base
+
 -- the base took this name
 pub record IsClaimed (old new : Held) (base name : List ℕ) : Type 0 where
   pub name_is : name ≡ free_name (is_held old) (held_count old) base
@@ -40,3 +53,4 @@ pub record IsClaimed (old new : Held) (base name : List ℕ) : Type 0 where
   pub skipping : IsSkipping new
   pub fresh : is_held old name ≡ false
   pub form : (name ≡ base) ⊎ ((n : ℕ) × (name ≡ numbered base n))
+  pub places : KeepsPlaces old new

@@ -1,7 +1,7 @@
 // The base of a claim's name.
 ghost use Rattle.std.specs.Prelude.{◌≡◌, ◌++◌, false, map, option_map, IfOk, string_bytes};
 ghost use Rattle.std.specs.Fmt.{decimal};
-ghost use Rattle.name_alloc.specs.Base.{worded as as_word, single as as_single, ends_low as as_ends_low, trimmed as as_trimmed, cleaned as as_cleaned, given_base, guarded as as_guarded, is_barred as barred, base_of};
+ghost use Rattle.name_alloc.specs.Base.{worded as as_word, single as as_single, ends_low as as_ends_low, trimmed as as_trimmed, cleaned as as_cleaned, given_base, guarded as as_guarded, is_barred as barred, base_of, IsLetter};
 
 use crate::claims::Key;
 use crate::reserved::{begins_reserved, is_reserved};
@@ -30,7 +30,7 @@ fn worded(byte: u8) -> u8
 fn single(alloc: Global, given: &[u8]) -> Result<Vec<u8>, AllocError>
     ensures { IfOk result (λ kept. kept.items ≡ as_single false (map as_word given.now)) }
 {
-    let mut kept = Vec::new(alloc);
+    let mut kept = Vec::with_capacity(alloc, given.len().min(KEPT))?;
     let mut after = false;
     for byte in given {
         let word = worded(*byte);
@@ -106,16 +106,23 @@ fn worded_number(alloc: Global, word: &str, number: u32) -> Result<String, Alloc
     Ok(text)
 }
 
-/// The given name cleaned, or the word with the number where nothing is left of it.
-fn named(alloc: Global, given: &Option<Vec<u8>>, word: &str, number: u32) -> Result<String, Memory>
-    ensures { IfOk result (λ base. string_bytes base ≡ given_base (option_map (λ v. v.items) given.now) word.now number) }
+/// The given name cleaned, or the letter with the number where nothing is left of it. No word begins with a letter and a
+/// digit.
+fn named(
+    alloc: Global,
+    given: &Option<Vec<u8>>,
+    letter: &str,
+    number: u32,
+) -> Result<String, Memory>
+    requires { IsLetter letter.now }
+    ensures { IfOk result (λ base. string_bytes base ≡ given_base (option_map (λ v. v.items) given.now) letter.now number) }
 {
     let text = match given {
         None => String::new(alloc),
         Some(bytes) => cleaned(alloc, bytes.as_slice())?,
     };
-    if text.is_empty() {
-        return Ok(guarded(alloc, worded_number(alloc, word, number)?)?);
+    if text.as_str().is_empty() {
+        return Ok(worded_number(alloc, letter, number)?);
     }
     Ok(guarded(alloc, text)?)
 }

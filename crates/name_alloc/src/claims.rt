@@ -1,8 +1,11 @@
 // Claims of names, and the names that they get.
 ghost use Rattle.std.specs.Prelude.{◌≡◌, option_map};
 ghost use Rattle.name_alloc.specs.Lookup.{name_in};
+ghost use Rattle.name_alloc.specs.declared.claims.Key.TheVariants.{Id as IdOf};
+ghost use Rattle.name_alloc.specs.Naming.{space_of as space_of_key};
 
-use indexmap::IndexMap;
+use crate::places::Places;
+use crate::space::Spaces;
 use spv_module::Id;
 use std::hash::{Hash, Hasher};
 
@@ -67,20 +70,56 @@ pub struct Claim {
     pub given: Option<Vec<u8>>,
 }
 
-/// The names of keys, in the order of their claims.
+/// The struct in whose space the name of a key is, where it is that of a member.
+pub(crate) fn space_of(key: Key) -> Option<u32>
+    ensures { result ≡ space_of_key key }
+{
+    match key {
+        Key::Member(block, _) => Some(block.0),
+        _ => None,
+    }
+}
+
+/// The names of keys: those of each space, and where each key's name stands.
 #[derive(Drop)]
 pub struct Names {
-    pub(crate) names: IndexMap<Key, String>,
+    pub(crate) spaces: Spaces,
+    pub(crate) places: Places,
 }
 
 impl Names {
     /// The name of a key: `None` exactly where the key was not claimed.
+    #[inline(always)]
     pub fn of(&self, key: Key) -> Option<&str>
         ensures { option_map (λ name. name.now) result ≡ name_in self.now key }
     {
-        match self.names.get(&key) {
+        match key {
+            Key::Id(id) => self.of_id(id),
+            _ => self.of_other(key),
+        }
+    }
+
+    /// The name of an id: most names that are asked for.
+    #[inline(never)]
+    #[tactic(auto, unfolding(crate::specs::Lookup::name_in))]
+    fn of_id(&self, id: Id) -> Option<&str>
+        ensures { option_map (λ name. name.now) result ≡ name_in self.now (IdOf id) }
+    {
+        match self.places.of_id(id) {
             None => None,
-            Some(name) => Some(name.as_str()),
+            Some(place) => self.spaces.name(None, place),
+        }
+    }
+
+    /// The name of a key, by its space.
+    #[inline(never)]
+    #[tactic(auto, unfolding(crate::specs::Lookup::name_in))]
+    fn of_other(&self, key: Key) -> Option<&str>
+        ensures { option_map (λ name. name.now) result ≡ name_in self.now key }
+    {
+        match self.places.of(key) {
+            None => None,
+            Some(place) => self.spaces.name(space_of(key), place),
         }
     }
 }

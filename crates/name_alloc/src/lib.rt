@@ -5,6 +5,7 @@
 mod base;
 mod claims;
 mod naming;
+mod places;
 mod reserved;
 mod space;
 

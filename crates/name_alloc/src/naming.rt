@@ -1,39 +1,19 @@
 // The names of claims in their order.
-ghost use Rattle.std.specs.Prelude.{◌≡◌, ◌++◌, false, List, IfOk, is_some, string_bytes};
+ghost use Rattle.std.specs.Prelude.{◌≡◌, ◌++◌, false, List, Some, IfOk, OnOk, is_some, string_bytes};
 ghost use Rattle.name_alloc.specs.declared.claims.Claim.{Claim};
 ghost use Rattle.name_alloc.specs.declared.claims.Key.{Key};
-ghost use Rattle.name_alloc.specs.Naming.{name_of, is_claimed, space_of as space_of_key};
+ghost use Rattle.name_alloc.specs.Naming.{name_of, claim_name, is_claimed, space_of as space_of_key};
 ghost use Rattle.name_alloc.specs.Law.{AreNames};
-ghost use Rattle.name_alloc.specs.Given.{AreSkipping, IsHeldOut, IsNamed};
+ghost use Rattle.name_alloc.specs.Given.{taken_of, text_in, AreSkipping, IsHeldOut, IsNamed};
 ghost use Rattle.name_alloc.specs.Lookup.{name_in};
 
 use crate::base::base;
-use crate::claims::{Claim, Key, Names};
-use crate::space::{Space, claim};
-use indexmap::IndexMap;
+use crate::claims::{Claim, Names, space_of};
+use crate::places::Places;
+use crate::space::{Members, Space, Spaces, claim};
 use spv_words::Memory;
 use std::alloc::Global;
 use std::collections::BTreeMap;
-
-/// The names that are taken among the members of each struct.
-type Members = BTreeMap<u32, Space>;
-
-/// The names that are taken: in the whole text, and of the members of each struct.
-#[derive(Drop)]
-pub(crate) struct Spaces {
-    text: Space,
-    members: Members,
-}
-
-/// The struct in whose space the name of a key is, where it is that of a member.
-fn space_of(key: Key) -> Option<u32>
-    ensures { result ≡ space_of_key key }
-{
-    match key {
-        Key::Member(block, _) => Some(block.0),
-        _ => None,
-    }
-}
 
 /// The space of a struct's members.
 fn held_in(alloc: Global, members: &mut Members, block: u32) -> Space
@@ -45,22 +25,23 @@ fn held_in(alloc: Global, members: &mut Members, block: u32) -> Space
     }
 }
 
-/// Takes the name of a claim in its space.
-fn name_claim(alloc: Global, spaces: &mut Spaces, claimed: &Claim) -> Result<String, Memory>
+/// Takes the name of a claim in its space, and gives the name's place there.
+fn name_claim(alloc: Global, spaces: &mut Spaces, claimed: &Claim) -> Result<usize, Memory>
     requires { AreSkipping spaces.old }
-    ensures { IfOk result (λ name. IsNamed spaces.old spaces.new claimed.now (string_bytes name)) }
+    ensures named { OnOk result (IsNamed spaces.old spaces.new claimed.now (claim_name (taken_of spaces.old) claimed.now)) }
+    ensures stands { IfOk result (λ place. text_in spaces.new (space_of_key claimed.now.key) place ≡ Some (claim_name (taken_of spaces.old) claimed.now)) }
 {
     let base = base(alloc, claimed.key, &claimed.given)?;
     match space_of(claimed.key) {
         None => {
-            let name = claim(alloc, &mut spaces.text, base)?;
-            Ok(name)
+            let place = claim(alloc, &mut spaces.text, base)?;
+            Ok(place)
         }
         Some(block) => {
             let mut held = held_in(alloc, &mut spaces.members, block);
-            let name = claim(alloc, &mut held, base)?;
+            let place = claim(alloc, &mut held, base)?;
             spaces.members.insert(block, held)?;
-            Ok(name)
+            Ok(place)
         }
     }
 }
@@ -72,6 +53,7 @@ fn name_claim(alloc: Global, spaces: &mut Spaces, claimed: &Claim) -> Result<Str
 /// A key has a name exactly where it is claimed, and later claims of other keys do not change it. No
 /// two names of one space are the same. Each is a word that GLSL leaves free, but for the `main` of
 /// `Key::Main`. It fails by want of memory alone.
+#[tactic(auto, unfolding(crate::specs::Lookup::name_in))]
 pub fn names(alloc: Global, claims: &[Claim]) -> Result<Names, Memory>
     ensures names { IfOk result (λ names. (key : Key) → name_in names key ≡ name_of claims.now key) }
     ensures claimed { IfOk result (λ names. (key : Key) → is_some (name_in names key) ≡ is_claimed claims.now key) }
@@ -82,10 +64,10 @@ pub fn names(alloc: Global, claims: &[Claim]) -> Result<Names, Memory>
         text: Space::with_capacity(alloc, claims.len())?,
         members: BTreeMap::new(alloc),
     };
-    let mut names = IndexMap::with_capacity(alloc, claims.len())?;
+    let mut places = Places::for_claims(alloc, claims)?;
     for claimed in claims {
-        let name = name_claim(alloc, &mut spaces, claimed)?;
-        names.insert(claimed.key, name)?;
+        let place = name_claim(alloc, &mut spaces, claimed)?;
+        places.put(claimed.key, place)?;
     }
-    Ok(Names { names })
+    Ok(Names { spaces, places })
 }

@@ -1,14 +1,14 @@
-use Rattle.std.proofs.Common.{rules, ◌≡◌, ◌+◌, ◌<◌, ℕ, suc, arith, cond, Bool, [], ◌∷◌, is_some, Some, length, drop, get_or, ap, sym, ◌∙◌, subst, string_bytes}
+use Rattle.std.proofs.Common.{rules, ◌≡◌, ◌+◌, ◌<◌, ℕ, suc, arith, [], ◌∷◌, is_some, length, drop, get_or, ap, sym, ◌∙◌, subst}
 use Rattle.std.proofs.Math.Seq.{drop-cons}
 use Rattle.std.proofs.Math.ListN.{drop_of_length-le}
-use Rattle.indexmap.specs.IndexMap.{get}
 use Rattle.name_alloc.specs.declared.claims.Key.{Key}
-use Rattle.name_alloc.specs.Keys.{same_key}
-use Rattle.name_alloc.specs.Naming.{names_from, name_of, with_key}
+use Rattle.name_alloc.specs.Places.{place_in}
+use Rattle.name_alloc.specs.Lookup.{name_in}
+use Rattle.name_alloc.specs.Naming.{names_from, name_of, claim_name, with_key}
 use Rattle.name_alloc.specs.Given.{taken_of, name_at}
-use Rattle.name_alloc.proofs.Keyed.{eq_same}
-use Rattle.name_alloc.proofs.Lawful.{given_step, claimed_is, name_before}
-use Rattle.name_alloc.proofs.Named.{found_put, names_step}
+use Rattle.name_alloc.specs.declared.space.Spaces.{Spaces}
+use Rattle.name_alloc.proofs.Lawful.{given_none, given_step, claimed_is, name_before}
+use Rattle.name_alloc.proofs.Named.{Empty, found_put, stand_put, skipping_empty, names_begin, names_step}
 use Rattle.name_alloc.proofs.naming.names.Goals as goal
 
 pub loop-claimed-preserved : goal.loop-claimed-preserved
@@ -18,38 +18,59 @@ loop-claimed-preserved c =
     let item = c.claimed-item.result in
     let old = c.loop-claimed.spaces in
     let new = c.name_claim.new.spaces in
-    let names = c.loop-claimed.names in
-    let more = c.insert.new.self in
-    let name = c.in_ok-name.name in
+    let places = c.loop-claimed.places in
+    let more = c.put.new.self in
+    let place = c.in_ok-place.place in
+    let name = claim_name (taken_of old) item in
+    let named = c.in_ok-place.ensures.named in
+    let given = c.loop-claimed.invariant.1 in
     let below : j < length claims = search rules in
     let is_item : get_or claims j item ≡ item = search rules in
     let after : suc j ≡ j + 1 = omega arith in
     let split : drop j claims ≡ get_or claims j item ∷ drop (j + 1) claims = subst (λ n. drop j claims ≡ get_or claims j item ∷ drop n claims) after (drop-cons claims j item below) in
     let parts : drop j claims ≡ item ∷ drop (j + 1) claims = split ∙ ap (λ x. x ∷ drop (j + 1) claims) is_item in
-    let put : (k : Key) → get same_key more k ≡ cond (same_key item.key k) (Some name) (get same_key names k) =
-    subst (λ (eq : Key → Key → Bool). (k : Key) → get eq more k ≡ cond (eq item.key k) (Some name) (get eq names k)) eq_same c.in_ok-insert.ensures.updates.0 in
-    let found : (k : Key) → name_at more k ≡ with_key (name_at names) item.key (string_bytes name) k = found_put names more item name put in (
-      c.in_ok-name.ensures.skipping,
-      given_step old new names more item (string_bytes name) c.in_ok-name.ensures found c.loop-claimed.invariant.1,
-      λ key. sym (names_step old new names more item (drop (j + 1) claims) (string_bytes name) c.in_ok-name.ensures found key)
-          ∙ (ap (λ l. names_from (taken_of old) (name_at names) l key) (sym parts) ∙ c.loop-claimed.invariant.2 key),
+    let found : (k : Key) → name_at new more k ≡ with_key (name_at old places) item.key name k =
+    found_put old new places more item.key name place c.in_ok-put.ensures given.stand named.places c.in_ok-place.ensures.stands in
+    let stand : (k : Key) → is_some (name_at new more k) ≡ is_some (place_in more k) =
+    stand_put old new places more item.key name place c.in_ok-put.ensures given.stand named.places c.in_ok-place.ensures.stands in (
+      named.skipping,
+      given_step old new places more item name named found stand given,
+      λ key. sym (names_step old new places more item (drop (j + 1) claims) named found key)
+          ∙ (ap (λ l. names_from (taken_of old) (name_at old places) l key) (sym parts) ∙ c.loop-claimed.invariant.2 key),
     )
 
 pub returns-clause-claimed : goal.returns-clause-claimed
+unfolding name_in
 returns-clause-claimed c =
     let claims = c.args.claims.now in
     let none : drop c.loop-claimed.claimed-index claims ≡ [] = drop_of_length-le claims c.loop-claimed-test.false in
-    λ key. ap is_some (ap (λ l. names_from (taken_of c.loop-claimed.spaces) (name_at c.loop-claimed.names) l key) (sym none) ∙ c.loop-claimed.invariant.2 key) ∙ claimed_is claims key
+    λ key. ap is_some (ap (λ l. names_from (taken_of c.loop-claimed.spaces) (name_at c.loop-claimed.spaces c.loop-claimed.places) l key) (sym none) ∙ c.loop-claimed.invariant.2 key) ∙ claimed_is claims key
 
 pub returns-clause-kept : goal.returns-clause-kept
+unfolding name_in
 returns-clause-kept c =
     let claims = c.args.claims.now in
     let none : drop c.loop-claimed.claimed-index claims ≡ [] = drop_of_length-le claims c.loop-claimed-test.false in
-    λ done more key parts free. ap (λ l. names_from (taken_of c.loop-claimed.spaces) (name_at c.loop-claimed.names) l key) (sym none)
+    λ done more key parts free. ap (λ l. names_from (taken_of c.loop-claimed.spaces) (name_at c.loop-claimed.spaces c.loop-claimed.places) l key) (sym none)
     ∙ (c.loop-claimed.invariant.2 key ∙ (ap (λ l. name_of l key) parts ∙ name_before done more key free))
 
 pub returns-clause-names : goal.returns-clause-names
+unfolding name_in
 returns-clause-names c =
     let claims = c.args.claims.now in
     let none : drop c.loop-claimed.claimed-index claims ≡ [] = drop_of_length-le claims c.loop-claimed-test.false in
-    λ key. ap (λ l. names_from (taken_of c.loop-claimed.spaces) (name_at c.loop-claimed.names) l key) (sym none) ∙ c.loop-claimed.invariant.2 key
+    λ key. ap (λ l. names_from (taken_of c.loop-claimed.spaces) (name_at c.loop-claimed.spaces c.loop-claimed.places) l key) (sym none) ∙ c.loop-claimed.invariant.2 key
+
+pub returns-clause-laws : goal.returns-clause-laws
+unfolding name_in
+returns-clause-laws c = c.loop-claimed.invariant.1.laws
+
+pub loop-claimed-init : goal.loop-claimed-init
+loop-claimed-init c =
+    let spaces : Spaces = record { text = c.in_ok-with_capacity.field-0; members = c.new.result } in
+    let places = c.in_ok-places.places in
+    let empty : Empty spaces = (c.in_ok-with_capacity.ensures.empty, c.new.ensures.empty) in (
+      skipping_empty spaces empty,
+      given_none spaces places c.in_ok-places.ensures,
+      λ key. names_begin spaces places c.args.claims.now empty c.in_ok-places.ensures key,
+    )
