@@ -8,7 +8,7 @@ ghost use Rattle.spv_module.specs.declared.inst.Inst.{Inst};
 ghost use Rattle.spv_index.specs.Locals.{insts_of};
 ghost use Rattle.profile_rules.specs.MemoryRules.{breaks_m2, breaks_m3, is_read_only as is_read_only_class};
 ghost use Rattle.profile_rules.specs.AccessRules.{breaks, access_rules, Broken, IsRight};
-ghost use Rattle.access_check.specs.Accesses.{memory_rules, atomic_rules, AreAllWays, is_at_fault, IsFaultIn};
+ghost use Rattle.access_check.specs.Accesses.{memory_rules, atomic_rules, AreAllWays, IsDecorated, is_at_fault, IsFaultIn};
 
 use crate::atomics::{
     has_ordering, has_other_execution_scope, has_other_place, has_other_scope, has_other_semantics,
@@ -16,12 +16,12 @@ use crate::atomics::{
 };
 use crate::calls::has_other_argument;
 use crate::memory_operands::has_other_mask;
-use crate::pointer_way::{is_known, ways_through};
+use crate::pointer_way::{has_row, is_known, ways_where};
 use crate::stray_pointers::has_stray_pointer;
 use crate::values::class_of;
 use spv_decor::Decor;
 use spv_index::Locals;
-use spv_module::{Function, Inst, Module};
+use spv_module::{Inst, Module};
 use spv_words::{Fault, Refusal, Rule};
 use std::alloc::{AllocError, Global};
 use std::collections::BTreeSet;
@@ -38,17 +38,51 @@ pub struct Ways {
     pub non_readable: BTreeSet<u32>,
 }
 
+/// Whether something is decorated NonWritable, and NonReadable.
+#[derive(Clone, Copy)]
+pub struct Decorated {
+    pub non_writable: bool,
+    pub non_readable: bool,
+}
+
+impl Decorated {
+    fn of(module: &Module) -> Decorated
+        ensures { IsDecorated «module».now.heads result }
+    {
+        Decorated {
+            non_writable: has_row(module.heads(), NON_WRITABLE),
+            non_readable: has_row(module.heads(), NON_READABLE),
+        }
+    }
+}
+
 fn ways_of(
     alloc: Global,
     module: &Module,
     decor: &Decor,
     locals: &Locals,
+    decorated: Decorated,
 ) -> Result<Ways, AllocError>
+    requires { IsDecorated decor.now decorated }
     ensures { IfOk result (AreAllWays decor.now «module».now.globals locals.now) }
 {
     Ok(Ways {
-        non_writable: ways_through(alloc, module, decor, locals, NON_WRITABLE)?,
-        non_readable: ways_through(alloc, module, decor, locals, NON_READABLE)?,
+        non_writable: ways_where(
+            alloc,
+            module,
+            decor,
+            locals,
+            NON_WRITABLE,
+            decorated.non_writable,
+        )?,
+        non_readable: ways_where(
+            alloc,
+            module,
+            decor,
+            locals,
+            NON_READABLE,
+            decorated.non_readable,
+        )?,
     })
 }
 
@@ -191,15 +225,16 @@ fn check_function(
     alloc: Global,
     module: &Module,
     decor: &Decor,
-    function: &Function,
+    locals: &Locals,
+    decorated: Decorated,
 ) -> Result<(), Fault>
-    ensures passes { OnOk result (list_any (is_at_fault decor.now «module».now.globals function.now) (insts_of function.now) ≡ false) }
-    ensures refused { IfErr result (IsFaultIn decor.now «module».now.globals function.now (insts_of function.now)) }
+    requires { IsDecorated decor.now decorated }
+    ensures passes { OnOk result (list_any (is_at_fault decor.now «module».now.globals locals.now) (insts_of locals.now) ≡ false) }
+    ensures refused { IfErr result (IsFaultIn decor.now «module».now.globals locals.now (insts_of locals.now)) }
 {
-    let locals = Locals::of(alloc, function)?;
-    let ways = ways_of(alloc, module, decor, &locals)?;
-    for block in function.blocks.as_slice() {
-        check_insts(alloc, module, decor, &locals, &ways, block.insts.as_slice())?;
+    let ways = ways_of(alloc, module, decor, locals, decorated)?;
+    for block in locals.function().blocks.as_slice() {
+        check_insts(alloc, module, decor, locals, &ways, block.insts.as_slice())?;
     }
     Ok(())
 }
@@ -208,14 +243,22 @@ fn check_function(
 /// atomic where its class or a decoration on the way of its pointer forbids it; M4, a pointer argument
 /// that is no whole variable of the caller, or stands twice; M5, a pointer elsewhere than where memory
 /// is reached; A1 to A5, scopes, semantics and places of atomics and barriers (SPIR-V 1.6, "Memory
-/// Instructions", "Atomic Instructions", "Barrier Instructions"). `decor` has the module's decorations.
-pub fn check_accesses(alloc: Global, module: &Module, decor: &Decor) -> Result<(), Fault>
-    requires { decor.now ≡ «module».now.heads }
+/// Instructions", "Atomic Instructions", "Barrier Instructions"). `decor` has the module's
+/// decorations, and `functions` what each of its functions defines.
+pub fn check_accesses(
+    alloc: Global,
+    module: &Module,
+    decor: &Decor,
+    functions: &[Locals],
+) -> Result<(), Fault>
+    requires heads { decor.now ≡ «module».now.heads }
+    requires functions { functions.now ≡ «module».now.functions }
     ensures passes { OnOk result (NoRuleBroken (Broken «module».now) access_rules) }
     ensures refused { IfErr result (IsRight «module».now) }
 {
-    for function in module.functions() {
-        check_function(alloc, module, decor, function)?;
+    let decorated = Decorated::of(module);
+    for function in functions {
+        check_function(alloc, module, decor, function, decorated)?;
     }
     Ok(())
 }

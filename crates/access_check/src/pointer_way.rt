@@ -4,7 +4,7 @@ ghost use Rattle.std.specs.Option.{option_map_or};
 ghost use Rattle.std.specs.BTreeSet.{contains};
 ghost use Rattle.std.specs.Ordering.{nat_cmp};
 ghost use Rattle.profile_rules.specs.MemoryRules.{is_decorated as is_decorated_in, is_member_decorated as is_member_decorated_in, is_struct as is_struct_in, step_type as step_type_in, leads_to_member as leads_to_member_in, passes_member as passes_member_in, is_way as is_way_in, with_way, pointee_of as pointee_in};
-ghost use Rattle.access_check.specs.Ways.{is_known as is_known_in, AreWays};
+ghost use Rattle.access_check.specs.Ways.{is_known as is_known_in, AreWays, decorates as decorates_by, has_row as has_row_in};
 
 use crate::calls::arguments;
 use crate::values::constant_word;
@@ -179,9 +179,27 @@ fn add_ways(
     Ok(())
 }
 
+/// Whether this is an OpDecorate or OpMemberDecorate with the decoration.
+fn decorates(inst: &Inst, decoration: u32) -> bool
+    ensures { result ≡ decorates_by decoration inst.now }
+{
+    match inst.op {
+        71 => inst.operand(1) == decoration,
+        72 => inst.operand(2) == decoration,
+        _ => false,
+    }
+}
+
+/// Whether something has the decoration.
+pub fn has_row(heads: &[Inst], decoration: u32) -> bool
+    ensures { result ≡ has_row_in heads.now decoration }
+{
+    heads.iter().any(|head| decorates(head, decoration))
+}
+
 /// The pointers of a function that lead through a variable or member with a decoration, besides the
 /// decorated variables of the module.
-pub fn ways_through(
+fn ways_through(
     alloc: Global,
     module: &Module,
     decor: &Decor,
@@ -202,4 +220,23 @@ pub fn ways_through(
         )?;
     }
     Ok(found)
+}
+
+/// The same: none, where nothing has the decoration.
+pub fn ways_where(
+    alloc: Global,
+    module: &Module,
+    decor: &Decor,
+    locals: &Locals,
+    decoration: u32,
+    is_there: bool,
+) -> Result<BTreeSet<u32>, AllocError>
+    requires { is_there ≡ has_row_in decor.now decoration }
+    ensures { IfOk result (λ found. AreWays decor.now «module».now.globals locals.now decoration (contains nat_cmp found)) }
+{
+    if is_there {
+        ways_through(alloc, module, decor, locals, decoration)
+    } else {
+        Ok(BTreeSet::new(alloc))
+    }
 }

@@ -1,11 +1,9 @@
 // The blocks of a function, by their labels.
-ghost use Rattle.std.specs.Prelude.{◌≡◌, ◌==◌, ℕ, IfOk};
-ghost use Rattle.id_map.specs.Entries.{entry_in};
-ghost use Rattle.std.specs.List.{position_from};
+ghost use Rattle.std.specs.Prelude.{◌≡◌, IfOk};
 ghost use Rattle.structure_rules.specs.Graph.{index_of};
 
-use id_map::IdMap;
-use spv_module::{Block, Function};
+use spv_index::{Places, block_places};
+use spv_module::Function;
 use std::alloc::{AllocError, Global};
 use std::marker::Model;
 
@@ -13,7 +11,7 @@ use std::marker::Model;
 #[derive(Drop)]
 pub struct Labels<'a> {
     function: &'a Function,
-    places: IdMap<usize>,
+    places: Places,
 }
 
 impl<'a> Model for Labels<'a> {
@@ -28,22 +26,6 @@ impl<'a> Model for Labels<'a> {
     ghost invariant = { λ l. ArePlaces l.function.now l.places };
 }
 
-/// The labels of blocks.
-fn labels_of(alloc: Global, blocks: &[Block]) -> Result<Vec<u32>, AllocError> {
-    blocks.iter().map(|block| block.label.0).collect(alloc)
-}
-
-/// The place of the first block with each label.
-fn places_of(alloc: Global, blocks: &[Block]) -> Result<IdMap<usize>, AllocError>
-    ensures { IfOk result (λ places. (label : ℕ) → entry_in places label ≡ position_from (λ b. b.label.0 == label) 0 blocks.now) }
-{
-    let mut places = IdMap::for_ids(alloc, &labels_of(alloc, blocks)?)?;
-    for i in (0..blocks.len()).rev() {
-        places.insert(blocks[i].label.0, i)?;
-    }
-    Ok(places)
-}
-
 impl<'a> Labels<'a> {
     /// The blocks of a function by their labels.
     pub fn of(alloc: Global, function: &'a Function) -> Result<Labels<'a>, AllocError>
@@ -51,7 +33,7 @@ impl<'a> Labels<'a> {
     {
         Ok(Labels {
             function,
-            places: places_of(alloc, function.blocks.as_slice())?,
+            places: block_places(alloc, function.blocks.as_slice())?,
         })
     }
 

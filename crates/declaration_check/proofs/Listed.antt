@@ -1,7 +1,8 @@
 -- The words where the instructions stand that pass a test, from the first that does.
-use Rattle.std.proofs.Common.{◌≡◌, ℕ, Bool, true, false, List, [], ◌∷◌, ◌++◌, map, Option, Some, None, cond, refl, sym, subst, arith, zero, suc, Result, Ok, Err}
+use Rattle.std.proofs.Common.{◌≡◌, ◌==◌, ◌||◌, ◌∙◌, ap, inl, inr, ℕ, Bool, true, false, List, [], ◌∷◌, ◌++◌, map, Option, Some, None, cond, refl, sym, subst, arith, zero, suc, Result, Ok, Err}
 use Rattle.std.specs.Prelude.{Contains, filter, not}
 use Rattle.std.specs.List.{find}
+use Rattle.std.proofs.lemmas.Bool.Decides.{eqb_tells}
 use Rattle.spv_words.specs.declared.rule.Rule.{Rule}
 use Rattle.spv_words.specs.declared.rule.Fault.{Fault}
 use Rattle.spv_words.specs.declared.rule.Fault.TheVariants.{Refused, Limit, Memory}
@@ -91,3 +92,17 @@ pub checked_by : {N : Type 0} (rule : Rule) (test : N → Inst → Bool) (insts 
 checked_by {N} rule test insts n k found result same is checked =
     let P : N → Type 0 = λ x. IsChecked rule (places (test x) insts) result in
     subst P same (checked_found rule found result (test n) insts checked is)
+
+-- adding what is there changes nothing
+pub is_there : (old : ℕ → Bool) (id : ℕ) → old id ≡ true → (other : ℕ) → old other ≡ (old other || (id == other))
+is_there old id there other =
+    elim (eqb_tells id other) [
+      | inl w ↦
+          let known : old other ≡ true = ap old (sym w.1) ∙ there in
+          known ∙ sym (ap (λ b. b || (id == other)) known)
+      | inr w ↦ or_nothing (old other) (id == other) w.0
+    ]
+  where
+    or_nothing : (a b : Bool) → b ≡ false → a ≡ (a || b)
+    or_nothing true b e = refl
+    or_nothing false b e = sym e

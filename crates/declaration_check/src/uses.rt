@@ -1,5 +1,5 @@
 // What the types of a module are used for.
-ghost use Rattle.std.specs.Prelude.{◌≡◌, ◌++◌, ◌∷◌, ◌||◌, ℕ, ◌-◌, ◌&&◌, length, take, map, flat_map, IfOk, OnOk};
+ghost use Rattle.std.specs.Prelude.{◌≡◌, ◌==◌, ◌++◌, ◌∷◌, ◌||◌, ℕ, ◌-◌, ◌&&◌, length, take, map, flat_map, IfOk, OnOk};
 ghost use Rattle.id_map.specs.Entries.{is_in as has_id};
 ghost use Rattle.profile_rules.specs.Places.{is_among};
 ghost use Rattle.profile_rules.specs.TypeForm.{parts_of as parts_in, pointee_by as pointee_of, pointees as pointees_in, value_type as value_type_of, value_types as value_types_in, signature, signature_types as signature_types_in, block_misuses as block_misuses_in, is_storage_block as is_storage_block_in, fixed_parts as fixed_parts_in, runtime_misuses as runtime_misuses_in, other_types as other_types_in, is_held};
@@ -150,12 +150,22 @@ fn all_parts(alloc: Global, context: &Context) -> Result<Vec<u32>, AllocError>
     Ok(ids)
 }
 
+/// Adds an id to a set. Most are there already.
+fn add_id(set: &mut IdSet, id: u32) -> Result<(), AllocError>
+    ensures { OnOk result ((other : ℕ) → has_id set.new other ≡ (has_id set.old other || (id == other))) }
+{
+    if set.has(id) {
+        return Ok(());
+    }
+    set.insert(id)
+}
+
 /// Adds ids to a set.
 fn add_ids(set: &mut IdSet, ids: &[u32]) -> Result<(), AllocError>
     ensures { OnOk result ((id : ℕ) → has_id set.new id ≡ (has_id set.old id || is_among ids.now id)) }
 {
     for id in ids {
-        set.insert(*id)?;
+        add_id(set, *id)?;
     }
     Ok(())
 }

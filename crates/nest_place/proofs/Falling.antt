@@ -3,7 +3,7 @@ use Rattle.std.proofs.Common.{◌≡◌, ◌<◌, ◌≤◌, ◌+◌, ◌==◌, 
 use Rattle.std.specs.List.{list_any, filter_map, slice_get, cons_option}
 use Rattle.std.specs.Option.{option_map, option_and_then}
 use Rattle.std.proofs.lemmas.List.{drop_more, drop_all, append-nil}
-use Rattle.spv_words.specs.declared.rule.Rule.TheVariants.{K9, K10}
+use Rattle.spv_words.specs.declared.rule.Rule.TheVariants.{K9, K10, K11}
 use Rattle.std.proofs.lemmas.Bool.{or_cases, and_parts, or_left, or_right}
 use Rattle.structure_rules.specs.declared.graph.Node.{Node}
 use Rattle.structure_rules.specs.declared.graph.Part.{Part}
@@ -11,13 +11,13 @@ use Rattle.structure_rules.specs.declared.graph.Part.TheVariants.{If, Loop, Cont
 use Rattle.structure_rules.specs.Graph.{nth, edges, is_switch}
 use Rattle.structure_rules.specs.Nesting.{Links, has_link, first_of, inner}
 use Rattle.structure_rules.specs.EdgeKinds.{innermost, case_target, is_fall}
-use Rattle.structure_rules.specs.Structure.{BrokenIn, fall_link, fall_links, falls_from}
+use Rattle.structure_rules.specs.Structure.{BrokenIn, fall_link, fall_links, falls_from, after_falls}
 use Rattle.block_graph.specs.Within.{AreWithin}
 use Rattle.nest_place.specs.declared.links.Clash.{Clash}
 use Rattle.nest_place.specs.Checks.{IsUnbroken}
 use Rattle.nest_place.specs.Links.{IsSingle, IsClash, IsTable, turned_links, AreWithin as LinksWithin}
 use Rattle.nest_place.specs.Spots.{IsGrounded}
-use Rattle.nest_place.proofs.LinkLemmas.{equal_nat}
+use Rattle.nest_place.proofs.LinkLemmas.{equal_nat, no_item, no_table, no_clash}
 use Rattle.nest_place.proofs.Each.{each_has, links_within, member_at}
 use Rattle.nest_place.proofs.Parenthood.{edge_if}
 use Rattle.nest_place.proofs.Outward.{reached_inside}
@@ -180,6 +180,38 @@ same_turned links turned g table now is all a = all a ∙ (ap (λ ls. first_of l
 
 pub same_single : (links : Links) (g : List Node) → links ≡ fall_links g → IsSingle links → IsSingle (fall_links g)
 same_single links g is single = subst IsSingle is single
+
+-- where no case target falls into another
+no_falls : (links : Links) (g : List Node) → links ≡ fall_links g → (length links == 0) ≡ true → (length (fall_links g) == 0) ≡ true
+no_falls links g is none = ap (λ (ls : Links). length ls == 0) (sym is) ∙ none
+
+pub no_next : (links : Links) (g : List Node) (table : List (Option ℕ)) → links ≡ fall_links g → (length links == 0) ≡ true → table ≡ [] → IsTable (fall_links g) table
+no_next links g table is none empty = no_table (fall_links g) table (no_falls links g is none) empty
+
+turned_none : (links : Links) → (length links == 0) ≡ true → (length (turned_links links) == 0) ≡ true
+turned_none links none = ap (λ (ls : Links). length (turned_links ls) == 0) (no_item links none)
+
+pub no_last : (links : Links) (g : List Node) (table : List (Option ℕ)) → links ≡ fall_links g → (length links == 0) ≡ true → table ≡ [] → IsTable (turned_links (fall_links g)) table
+no_last links g table is none empty = no_table (turned_links (fall_links g)) table (turned_none (fall_links g) (no_falls links g is none)) empty
+
+pub none_next : (links : Links) (g : List Node) → links ≡ fall_links g → (length links == 0) ≡ true → IsUnbroken g K9
+none_next links g is none = next_fine g links is (no_clash links none)
+
+pub none_last : (links : Links) (g : List Node) → links ≡ fall_links g → (length links == 0) ≡ true → IsUnbroken g K10
+none_last links g is none = last_fine g links (turned_links links) refl is (no_clash (turned_links links) (turned_none links none))
+
+leads_nowhere : (n u : ℕ) → after_falls [] (suc n) u ≡ Some u → ⊥
+unfolding after_falls
+leads_nowhere n u e = to_none (after_falls [] n) e
+  where
+    to_none : (f : ℕ → Option ℕ) → option_and_then f None ≡ Some u → ⊥
+    to_none f h = cc
+
+pub none_cyclic : (links : Links) (g : List Node) → links ≡ fall_links g → (length links == 0) ≡ true → IsUnbroken g K11
+none_cyclic links g is none at broken =
+    let cycle = broken.3.0 in
+    let nothing : fall_links g ≡ [] = no_item (fall_links g) (no_falls links g is none) in
+    leads_nowhere cycle.4.0 cycle.1 (subst (λ (ls : Links). after_falls ls (suc cycle.4.0) cycle.1 ≡ Some cycle.1) nothing cycle.4.2)
 
 pub ruleset add_rules = (fall_none, fall_some, fall_end)
 

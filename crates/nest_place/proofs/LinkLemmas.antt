@@ -167,3 +167,14 @@ gathered_all links i n table all g =
     ((λ a. g.firsts a ∙ ap (λ ls. first_of ls a) whole), (λ a b e. ap (λ ls. first_of ls a) (sym whole) ∙ g.single a b (ap (λ ls. has_link ls a b) whole ∙ e)), g.sized)
 
 pub ruleset table_rules = (gathered_none, gathered_all)
+
+-- where there are no links
+pub no_item : {X : Type 0} (xs : List X) → (length xs == 0) ≡ true → xs ≡ []
+no_item [] none = refl
+no_item (x ∷ xs) none = let e : suc (length xs) ≡ 0 = equal_nat (suc (length xs)) 0 none in absurd (omega (arith, e))
+
+pub no_table : (links : Links) (table : List (Option ℕ)) → (length links == 0) ≡ true → table ≡ [] → IsTable links table
+no_table links table none empty a = ap (λ t. get_or t a None) empty ∙ ap (λ ls. first_of ls a) (sym (no_item links none))
+
+pub no_clash : (links : Links) → (length links == 0) ≡ true → IsSingle links
+no_clash links none a b e = let never : has_link [] a b ≡ true = ap (λ ls. has_link ls a b) (sym (no_item links none)) ∙ e in cc

@@ -123,7 +123,8 @@ fn last_table(alloc: Global, nest: &Nest, links: &[Link]) -> Result<Vec<Option<u
     }
 }
 
-/// For each case target the one into which it falls, and the one that falls into it.
+/// For each case target the one into which it falls, and the one that falls into it; nothing where none
+/// falls.
 #[derive(Drop)]
 pub struct Falls {
     pub next: Vec<Option<usize>>,
@@ -142,6 +143,12 @@ pub fn check_falls(alloc: Global, nest: &Nest) -> Result<Falls, Fault>
     ensures refused { IfErr result (IsRightIn nest.now) }
 {
     let links = fall_links(alloc, nest)?;
+    if links.is_empty() {
+        return Ok(Falls {
+            next: Vec::new(alloc),
+            last: Vec::new(alloc),
+        });
+    }
     let next = next_table(alloc, nest, &links)?;
     let last = last_table(alloc, nest, &links)?;
     let heights = heights(alloc, &next, &last)?;

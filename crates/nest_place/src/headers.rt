@@ -9,7 +9,7 @@ ghost use Rattle.nest_place.specs.Links.{IsSingle, IsTable};
 ghost use Rattle.nest_place.specs.Checks.{IsUnbroken, IsBroken};
 ghost use Rattle.nest_place.specs.Steps.{NoneNamesItself};
 
-use crate::links::{Clash, Link, NoTable, table_of};
+use crate::links::{Clash, Link, NoTable, short_table_of};
 use spv_words::{Fault, Refusal, Rule};
 use std::alloc::{AllocError, Global};
 use std::marker::Model;
@@ -109,7 +109,7 @@ fn namers(alloc: Global, nodes: &[Node]) -> Result<Vec<Option<usize>>, Fault>
     ensures refused { IfErr result (IsBroken nodes.now K3) }
 {
     let links = name_links(alloc, nodes)?;
-    match table_of(alloc, nodes.len(), &links) {
+    match short_table_of(alloc, nodes.len(), &links) {
         Ok(table) => Ok(table),
         Err(NoTable::Memory) => Err(Fault::Memory),
         Err(NoTable::Clash(clash)) => Err(Fault::Refused(Refusal {

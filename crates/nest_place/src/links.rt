@@ -57,3 +57,20 @@ pub fn table_of(alloc: Global, count: usize, links: &[Link]) -> Result<Vec<Optio
     }
     Ok(table)
 }
+
+/// The same, with no entries where there are no links.
+pub fn short_table_of(
+    alloc: Global,
+    count: usize,
+    links: &[Link],
+) -> Result<Vec<Option<usize>>, NoTable>
+    requires { AreWithin count links.now }
+    ensures table { IfOk result (λ table. IsTable links.now table.items) }
+    ensures single { OnOk result (IsSingle links.now) }
+    ensures clash { IfErr result (IsRightEnd links.now) }
+{
+    if links.is_empty() {
+        return Ok(Vec::new(alloc));
+    }
+    table_of(alloc, count, links)
+}

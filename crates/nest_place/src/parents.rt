@@ -9,7 +9,7 @@ ghost use Rattle.nest_place.specs.Steps.{IsFormed, AreParentLinks, AreRoles, Non
 use crate::forms::is_switch;
 use crate::headers::{Headers, add_links};
 use crate::kinds::merges_to;
-use crate::links::{Link, NoTable, table_of};
+use crate::links::{Link, NoTable, short_table_of};
 use spv_words::{Fault, Refusal, Rule};
 use std::alloc::{AllocError, Global};
 use std::marker::Model;
@@ -71,7 +71,7 @@ fn parent_table(alloc: Global, nodes: &[Node], links: &[Link]) -> Result<Vec<Opt
     ensures single { OnOk result (IsSingle links.now) }
     ensures refused { IfErr result (IsBroken nodes.now K4) }
 {
-    match table_of(alloc, nodes.len(), links) {
+    match short_table_of(alloc, nodes.len(), links) {
         Ok(table) => Ok(table),
         Err(NoTable::Memory) => Err(Fault::Memory),
         Err(NoTable::Clash(clash)) => Err(Fault::Refused(Refusal {

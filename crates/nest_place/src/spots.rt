@@ -37,6 +37,16 @@ pub struct Spots {
     pub lists: Vec<Seq<Part>>,
 }
 
+/// A construct with those round it.
+fn with_outer(alloc: Global, part: Part, outer: &[Part]) -> Result<Seq<Part>, AllocError>
+    ensures { IfOk result (λ list. list ≡ part ∷ outer.now) }
+{
+    let mut list = Vec::with_capacity(alloc, outer.len() + 1)?;
+    list.push(part)?;
+    list.extend_from_slice(outer)?;
+    Seq::of(alloc, &list)
+}
+
 /// Adds the list at a place with one more construct inside.
 fn add(
     alloc: Global,
@@ -48,11 +58,7 @@ fn add(
     ensures place { IfOk result (λ place. place ≡ length lists.old.items) }
     ensures lists { OnOk result (lists.new.items ≡ lists.old.items ++ (part ∷ list_at lists.old.items around) ∷ []) }
 {
-    let mut list = Seq::new(alloc);
-    list.push(part)?;
-    for outer in lists[around].as_slice() {
-        list.push(*outer)?;
-    }
+    let list = with_outer(alloc, part, lists[around].as_slice())?;
     let place = lists.len();
     lists.push(list)?;
     Ok(place)

@@ -14,6 +14,7 @@ ghost use Rattle.profile_rules.specs.Constants.{breaks_x3, breaks_x4};
 ghost use Rattle.profile_check.specs.Data.{block_variables, ArePlans, IsRestRight, IsRight};
 
 use crate::blocks::plans;
+use crate::functions::locals_of;
 use crate::layouts::check_layouts;
 use access_check::check_accesses;
 use buffer_layout::BlockPlan;
@@ -21,6 +22,7 @@ use declaration_check::{Entry, check_declarations};
 use profile_rules::SizePart;
 use spec_constants::{Overrides, check_leaves, check_overrides};
 use spv_decor::Decor;
+use spv_index::Locals;
 use spv_module::{Id, Module};
 use spv_words::Fault;
 use std::alloc::Global;
@@ -61,9 +63,11 @@ fn check_uses(
     alloc: Global,
     module: &Module,
     decor: &Decor,
+    functions: &[Locals],
     overrides: &Overrides,
 ) -> Result<(), Fault>
-    requires { decor.now ≡ «module».now.heads }
+    requires heads { decor.now ≡ «module».now.heads }
+    requires functions { functions.now ≡ «module».now.functions }
     ensures within { OnOk result (leaves_of_module «module».now ≤ limit_number Leaves) }
     ensures accessed { OnOk result (NoRuleBroken (BreaksAccess «module».now) access_rules) }
     ensures known { OnOk result (breaks_x3 «module».now overrides.now.pairs.items ≡ false) }
@@ -71,7 +75,7 @@ fn check_uses(
     ensures refused { IfErr result (IsRestRight «module».now overrides.now.pairs.items) }
 {
     check_leaves(alloc, module)?;
-    check_accesses(alloc, module, decor)?;
+    check_accesses(alloc, module, decor, functions)?;
     check_overrides(alloc, module, decor, &overrides.pairs)?;
     Ok(())
 }
@@ -82,15 +86,18 @@ fn check_uses(
 /// section 2.16.2); by M1 to M5 and A1 to A5, memory, atomics and barriers ("Memory Instructions",
 /// "Atomic Instructions", "Barrier Instructions"); and by X3 and X4, overrides that name no
 /// specialization constant or do not fit theirs. A rule is named only where it is broken at that word,
-/// and a limit only where it is passed. The only other error is want of memory.
+/// and a limit only where it is passed. The only other error is want of memory. `functions` has what
+/// each function of the module defines.
 #[tactic(auto, using(crate::proofs::Causes::rest_causes))]
 pub fn check_rest(
     alloc: Global,
     module: &Module,
     decor: &Decor,
+    functions: &[Locals],
     overrides: &Overrides,
 ) -> Result<(), Fault>
-    requires { decor.now ≡ «module».now.heads }
+    requires heads { decor.now ≡ «module».now.heads }
+    requires functions { functions.now ≡ «module».now.functions }
     ensures within { OnOk result (leaves_of_module «module».now ≤ limit_number Leaves) }
     ensures laid_out { OnOk result ((rule : Rule) (at : ℕ) → BreaksLayout «module».now rule at → ⊥) }
     ensures accessed { OnOk result (NoRuleBroken (BreaksAccess «module».now) access_rules) }
@@ -98,7 +105,7 @@ pub fn check_rest(
     ensures fits { OnOk result (breaks_x4 «module».now overrides.now.pairs.items ≡ false) }
     ensures refused { IfErr result (IsRestRight «module».now overrides.now.pairs.items) }
 {
-    check_uses(alloc, module, decor, overrides)?;
+    check_uses(alloc, module, decor, functions, overrides)?;
     check_layouts(alloc, module, decor)?;
     Ok(())
 }
@@ -130,7 +137,14 @@ pub fn check_data(
     ensures refused { IfErr result (IsRight «module».now (option_map string_bytes options.now.entry) options.now.overrides.pairs.items) }
 {
     let Entry { function, size } = check_declarations(alloc, module, decor, options.entry_name())?;
-    check_uses(alloc, module, decor, &options.overrides)?;
+    let functions = locals_of(alloc, module.functions())?;
+    check_uses(
+        alloc,
+        module,
+        decor,
+        functions.as_slice(),
+        &options.overrides,
+    )?;
     let blocks = plans(alloc, module, decor)?;
     Ok(Profile {
         entry: function,

@@ -3,7 +3,9 @@
 
 mod blocks;
 mod checks;
+mod functions;
 mod layouts;
 
 pub use checks::{Options, Profile, check_data, check_rest};
 pub use declaration_check::{Entry, check_declarations};
+pub use functions::locals_of;

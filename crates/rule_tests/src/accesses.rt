@@ -1,5 +1,6 @@
 // A small module, and what changes of it are refused by.
 use access_check::check_accesses;
+use profile_check::locals_of;
 use sample_modules::{INCREMENT, module_of};
 use spv_decor::Decor;
 use spv_words::{Fault, Rule};
@@ -21,7 +22,8 @@ fn judged(alloc: Global, decorations: &[u32], body: &[u32]) -> Result<(), Fault>
         ],
     )?;
     let decor = Decor::read(alloc, &module)?;
-    check_accesses(alloc, &module, &decor)
+    let functions = locals_of(alloc, module.functions())?;
+    check_accesses(alloc, &module, &decor, functions.as_slice())
 }
 
 #[test]

@@ -1,6 +1,6 @@
 // A small module that is judged, and what it is refused by.
 use layout_rules::Kind;
-use profile_check::{Options, Profile, check_data, check_rest};
+use profile_check::{Options, Profile, check_data, check_rest, locals_of};
 use profile_rules::{Given, SizePart};
 use sample_modules::{INCREMENT, changed, module_of};
 use spec_constants::Overrides;
@@ -31,7 +31,14 @@ fn judged(alloc: Global, place: usize, other: u32, id: u32) -> Result<Profile, F
 fn rest_of(alloc: Global, id: u32) -> Result<(), Fault> {
     let module = module_of(alloc, &[&INCREMENT])?;
     let decor = Decor::read(alloc, &module)?;
-    check_rest(alloc, &module, &decor, &overrides_of(alloc, id)?)
+    let functions = locals_of(alloc, module.functions())?;
+    check_rest(
+        alloc,
+        &module,
+        &decor,
+        functions.as_slice(),
+        &overrides_of(alloc, id)?,
+    )
 }
 
 fn refusal<T: Drop>(judged: Result<T, Fault>) -> Option<(Rule, u32)> {

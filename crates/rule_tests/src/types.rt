@@ -1,4 +1,5 @@
 // A workgroup sum over prefixes, and what changes of it are refused by; types at the limits.
+use profile_check::locals_of;
 use sample_modules::{PREFIX_SUMS, changed, module_of};
 use spv_words::{Fault, Limit, Rule};
 use std::alloc::{AllocError, Global};
@@ -35,7 +36,9 @@ static CASES: [(usize, u32, Rule, u32); 16] = [
 ];
 
 fn check(alloc: Global, words: &[u32]) -> Result<(), Fault> {
-    check_types(alloc, &module_of(alloc, &[words])?)
+    let module = module_of(alloc, &[words])?;
+    let functions = locals_of(alloc, module.functions())?;
+    check_types(alloc, &module, functions.as_slice())
 }
 
 /// What the sums with another word at a place are refused by.

@@ -1,6 +1,8 @@
 mod Imports
 mod Totals
-mod Counted
+mod Pairs
+mod Targets
+mod Sources
 mod Repeats
 mod Matched
 mod Refused

@@ -13,7 +13,7 @@ use Rattle.spv_types.proofs.Below.{below_is, value_at}
 use Rattle.profile_rules.specs.ValueRules.{match_step, match_before, match_at}
 use Rattle.type_rules.specs.Edges.{pair_cmp}
 use Rattle.type_rules.specs.Matches.{match_of, AreKnown}
-use Rattle.type_rules.proofs.Counted.{same_pair}
+use Rattle.type_rules.proofs.Pairs.{same_pair}
 
 at_value : (gs : List Inst) (b : ℕ) (o : Option Inst) → value_at (match_step gs) (λ c. true) gs o b ≡ option_map_or (λ g. match_at gs g b) o true
 at_value gs b None = refl

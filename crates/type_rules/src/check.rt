@@ -1,5 +1,6 @@
 // The instructions and functions of a module, one by one.
-ghost use Rattle.std.specs.Prelude.{◌≡◌, [], IfOk, IfErr, OnOk, flat_map};
+ghost use Rattle.std.specs.Prelude.{◌≡◌, [], true, IfOk, IfErr, OnOk, flat_map, is_some};
+ghost use Rattle.spv_index.specs.Locals.{block_in};
 ghost use Rattle.std.specs.List.{list_any};
 ghost use Rattle.spv_words.specs.Breaks.{NoRuleBroken};
 ghost use Rattle.profile_rules.specs.Operands.{lacks_type, breaks_t1_of};
@@ -144,12 +145,12 @@ fn check_globals(
 }
 
 /// Whether an instruction of a block, of this group, is at fault.
-fn is_broken_in(
+fn is_broken_in<'b>(
     alloc: Global,
     matching: &mut Matching,
     scope: &Scope,
-    locals: &Locals,
-    edges: &mut LazyEdges,
+    locals: &Locals<'b>,
+    edges: &mut LazyEdges<'b>,
     block: &Block,
     inst: &Inst,
     group: Group,
@@ -157,6 +158,7 @@ fn is_broken_in(
     requires same_module { matching.old ≡ scope.now.m }
     requires edges { edges.old ≡ locals.now }
     requires scope { scope.now ≡ inside scope.now.m locals.now }
+    requires known { is_some (block_in locals.now block.now.label.0) ≡ true }
     ensures value { IfOk result (λ b. b ≡ is_at_fault_in scope.now.m locals.now block.now inst.now group) }
     ensures same { matching.new ≡ matching.old }
     ensures same_edges { edges.new ≡ edges.old }
@@ -170,18 +172,19 @@ fn is_broken_in(
 
 /// Checks an instruction of a block.
 #[tactic(auto, using(crate::proofs::Refused::list_rules))]
-fn check_local(
+fn check_local<'b>(
     alloc: Global,
     matching: &mut Matching,
     scope: &Scope,
-    locals: &Locals,
-    edges: &mut LazyEdges,
+    locals: &Locals<'b>,
+    edges: &mut LazyEdges<'b>,
     block: &Block,
     inst: &Inst,
 ) -> Result<(), Fault>
     requires same_module { matching.old ≡ scope.now.m }
     requires edges { edges.old ≡ locals.now }
     requires scope { scope.now ≡ inside scope.now.m locals.now }
+    requires known { is_some (block_in locals.now block.now.label.0) ≡ true }
     ensures passes { OnOk result (broken_by_local scope.now.m locals.now block.now inst.now ≡ []) }
     ensures refused { IfErr result (IsRefusedBy (broken_by_local scope.now.m locals.now block.now inst.now)) }
     ensures same { matching.new ≡ matching.old }
@@ -194,17 +197,18 @@ fn check_local(
 }
 
 /// Checks the instructions of a block.
-fn check_block(
+fn check_block<'b>(
     alloc: Global,
     matching: &mut Matching,
     scope: &Scope,
-    locals: &Locals,
-    edges: &mut LazyEdges,
+    locals: &Locals<'b>,
+    edges: &mut LazyEdges<'b>,
     block: &Block,
 ) -> Result<(), Fault>
     requires same_module { matching.old ≡ scope.now.m }
     requires edges { edges.old ≡ locals.now }
     requires scope { scope.now ≡ inside scope.now.m locals.now }
+    requires known { is_some (block_in locals.now block.now.label.0) ≡ true }
     ensures passes { OnOk result (broken_by_block scope.now.m locals.now block.now ≡ []) }
     ensures refused { IfErr result (IsRefusedBy (broken_by_block scope.now.m locals.now block.now)) }
     ensures same { matching.new ≡ matching.old }
@@ -217,12 +221,12 @@ fn check_block(
 }
 
 /// Checks the blocks of a function.
-fn check_blocks(
+fn check_blocks<'b>(
     alloc: Global,
     matching: &mut Matching,
     scope: &Scope,
-    locals: &Locals,
-    edges: &mut LazyEdges,
+    locals: &Locals<'b>,
+    edges: &mut LazyEdges<'b>,
 ) -> Result<(), Fault>
     requires same_module { matching.old ≡ scope.now.m }
     requires edges { edges.old ≡ locals.now }
@@ -261,12 +265,12 @@ fn is_lacking_type(scope: &Scope, function: &Function) -> bool
 
 /// Checks a function and its blocks.
 #[tactic(auto, using(crate::proofs::Refused::list_rules))]
-fn check_in_function(
+fn check_in_function<'b>(
     alloc: Global,
     matching: &mut Matching,
     scope: &Scope,
-    locals: &Locals,
-    edges: &mut LazyEdges,
+    locals: &Locals<'b>,
+    edges: &mut LazyEdges<'b>,
 ) -> Result<(), Fault>
     requires same_module { matching.old ≡ scope.now.m }
     requires edges { edges.old ≡ locals.now }
@@ -288,7 +292,7 @@ fn check_with_edges<'a, 'b>(
     matching: &mut Matching,
     index: &'a ModuleIndex<'a>,
     locals: &'a Locals<'b>,
-    edges: &mut LazyEdges,
+    edges: &mut LazyEdges<'b>,
 ) -> Result<(), Fault>
     requires same_module { matching.old ≡ index.now }
     requires edges { edges.old ≡ locals.now }
@@ -301,8 +305,8 @@ fn check_with_edges<'a, 'b>(
     check_in_function(alloc, matching, &scope, locals, edges)
 }
 
-/// Checks a function, with what it defines.
-fn check_with_locals<'a, 'b>(
+/// Checks a function.
+fn check_function<'a, 'b>(
     alloc: Global,
     matching: &mut Matching,
     index: &'a ModuleIndex<'a>,
@@ -317,28 +321,12 @@ fn check_with_locals<'a, 'b>(
     check_with_edges(alloc, matching, index, locals, &mut edges)
 }
 
-/// Checks a function.
-fn check_function<'a>(
-    alloc: Global,
-    matching: &mut Matching,
-    index: &'a ModuleIndex<'a>,
-    function: &Function,
-) -> Result<(), Fault>
-    requires { matching.old ≡ index.now }
-    ensures passes { OnOk result (broken_by_function index.now function.now ≡ []) }
-    ensures refused { IfErr result (IsRefusedBy (broken_by_function index.now function.now)) }
-    ensures same { matching.new ≡ matching.old }
-{
-    let locals = Locals::of(alloc, function)?;
-    check_with_locals(alloc, matching, index, &locals)
-}
-
 /// Checks the functions.
-fn check_functions<'a>(
+fn check_functions<'a, 'b>(
     alloc: Global,
     matching: &mut Matching,
     index: &'a ModuleIndex<'a>,
-    functions: &[Function],
+    functions: &'a [Locals<'b>],
 ) -> Result<(), Fault>
     requires { matching.old ≡ index.now }
     ensures passes { OnOk result (flat_map (broken_by_function index.now) functions.now ≡ []) }
@@ -353,7 +341,12 @@ fn check_functions<'a>(
 
 /// Checks the rules on types, with what is looked up.
 #[tactic(auto, using(crate::proofs::Refused::list_rules))]
-fn check_with_index<'a>(alloc: Global, index: &'a ModuleIndex<'a>) -> Result<(), Fault>
+fn check_with_index<'a, 'b>(
+    alloc: Global,
+    index: &'a ModuleIndex<'a>,
+    functions: &'a [Locals<'b>],
+) -> Result<(), Fault>
+    requires { functions.now ≡ index.now.functions }
     ensures passes { OnOk result (broken index.now ≡ []) }
     ensures refused { IfErr result (IsRefusedBy (broken index.now)) }
 {
@@ -361,16 +354,17 @@ fn check_with_index<'a>(alloc: Global, index: &'a ModuleIndex<'a>) -> Result<(),
     let scope = Scope::outside(index);
     let module = index.module();
     check_globals(alloc, &mut matching, &scope, module.globals())?;
-    check_functions(alloc, &mut matching, index, module.functions())
+    check_functions(alloc, &mut matching, index, functions)
 }
 
 /// Checks the rules on types.
-fn check_rules(alloc: Global, module: &Module) -> Result<(), Fault>
+fn check_rules(alloc: Global, module: &Module, functions: &[Locals]) -> Result<(), Fault>
+    requires { functions.now ≡ «module».now.functions }
     ensures passes { OnOk result (broken «module».now ≡ []) }
     ensures refused { IfErr result (IsRefusedBy (broken «module».now)) }
 {
     let index = ModuleIndex::of(alloc, module)?;
-    check_with_index(alloc, &index)
+    check_with_index(alloc, &index, functions)
 }
 
 /// Checks the types of a module: of its constants, variables and functions, also those that nothing
@@ -378,14 +372,15 @@ fn check_rules(alloc: Global, module: &Module) -> Result<(), Fault>
 ///
 /// It refuses by T1 to T25 where one is broken, at the word where it is, and by `Limit::Types` and
 /// `Limit::Parts` where a type passes them; where several hold, by any. Otherwise there is an error
-/// only for want of memory.
+/// only for want of memory. `functions` has what each function of the module defines.
 #[tactic(auto, using(crate::proofs::Refused::checked_rules))]
-pub fn check_types(alloc: Global, module: &Module) -> Result<(), Fault>
+pub fn check_types(alloc: Global, module: &Module, functions: &[Locals]) -> Result<(), Fault>
+    requires { functions.now ≡ «module».now.functions }
     ensures passes { OnOk result (NoRuleBroken (Broken «module».now) type_rules) }
     ensures within { OnOk result (AreWithin «module».now) }
     ensures unbroken { OnOk result (broken «module».now ≡ []) }
     ensures refused { IfErr result (IsRight «module».now) }
 {
     check_limits(alloc, module)?;
-    check_rules(alloc, module)
+    check_rules(alloc, module, functions)
 }

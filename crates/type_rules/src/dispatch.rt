@@ -1,5 +1,6 @@
 // Each instruction against the rule of its group.
-ghost use Rattle.std.specs.Prelude.{◌≡◌, IfOk};
+ghost use Rattle.std.specs.Prelude.{◌≡◌, true, IfOk, is_some};
+ghost use Rattle.spv_index.specs.Locals.{block_in};
 ghost use Rattle.profile_rules.specs.TypeRules.{rule_of as rule_in, is_value_broken as is_value_at_fault, is_number_broken as is_number_at_fault, is_flow_broken as is_flow_at_fault};
 ghost use Rattle.type_rules.specs.Scopes.{types, inside};
 
@@ -127,17 +128,18 @@ pub fn is_number_broken(scope: &Scope, inst: &Inst, group: Group) -> bool
 }
 
 /// T21 to T24, in a block of a function.
-pub fn is_flow_broken(
+pub fn is_flow_broken<'b>(
     alloc: Global,
     scope: &Scope,
-    locals: &Locals,
-    edges: &mut LazyEdges,
+    locals: &Locals<'b>,
+    edges: &mut LazyEdges<'b>,
     block: &Block,
     inst: &Inst,
     group: Group,
 ) -> Result<bool, Memory>
     requires edges { edges.old ≡ locals.now }
     requires scope { scope.now ≡ inside scope.now.m locals.now }
+    requires known { is_some (block_in locals.now block.now.label.0) ≡ true }
     ensures value { IfOk result (λ b. b ≡ is_flow_at_fault scope.now.m locals.now block.now inst.now group) }
     ensures same { edges.new ≡ edges.old }
 {

@@ -1,40 +1,38 @@
 // The edges between the blocks of a function.
-ghost use Rattle.std.specs.Prelude.{◌≡◌, ◌==◌, ◌&&◌, ◌||◌, not, ℕ, IfOk, OnOk, min, count_by, if◌then◌else◌};
-ghost use Rattle.std.specs.List.{list_any};
-ghost use Rattle.id_map.specs.Entries.{entry_in};
-ghost use Rattle.std.specs.BTreeSet.{contains};
-ghost use Rattle.std.specs.Ordering.{nat_cmp};
-ghost use Rattle.profile_rules.specs.FlowRules.{is_target as is_target_of, targets as targets_in, goes, goes_to, is_predecessor};
-ghost use Rattle.type_rules.specs.Edges.{pair_cmp, count_at, raised, AreCounts, ArePairs};
+ghost use Rattle.std.specs.Prelude.{◌≡◌, ◌==◌, ◌&&◌, ◌||◌, ◌<◌, true, IfOk, OnOk, is_some, length};
+ghost use Rattle.spv_index.specs.Locals.{block_in};
+ghost use Rattle.profile_rules.specs.FlowRules.{is_target as is_target_of, goes, goes_to};
+ghost use Rattle.type_rules.specs.Edges.{sources_of, ends_at as ends_at_place, with_source, IsAddedAt, AreEmpty, AreSources, Adds};
 
-use id_map::IdMap;
+use spv_index::Locals;
 use spv_module::{Block, Function, Inst};
-use spv_words::Memory;
 use std::alloc::{AllocError, Global};
-use std::collections::BTreeSet;
 use std::marker::Model;
 
-/// From which blocks of a function there are edges to each label, and from how many. Contracts see
-/// the function.
+/// A block that goes to another: its place in the function, and its label.
+#[derive(Clone, Copy, Debug)]
+pub struct Source {
+    pub place: usize,
+    pub label: u32,
+}
+
+/// Which blocks of a function go to each of its labels. Contracts see the function.
 #[derive(Drop)]
 pub struct Edges<'a> {
     function: &'a Function,
-    // the source and the target
-    pairs: BTreeSet<(u32, u32)>,
-    counts: IdMap<u64>,
+    // at the place of the first block with a label those that go to it
+    sources: Vec<Vec<Source>>,
 }
 
 impl<'a> Model for Edges<'a> {
-    ghost use Rattle.id_map.specs.Entries.{entry_in};
-    ghost use Rattle.std.specs.BTreeSet.{contains};
     ghost use Rattle.spv_module.specs.declared.inst.Function.{Function};
-    ghost use Rattle.type_rules.specs.Edges.{AreEdges, pair_cmp};
+    ghost use Rattle.type_rules.specs.Edges.{AreSources};
 
     ghost Value = { Function };
 
     ghost view = { λ e. e.function.now };
 
-    ghost invariant = { λ e. AreEdges e.function.now (contains pair_cmp e.pairs) (entry_in e.counts) };
+    ghost invariant = { λ e. AreSources e.function.now e.function.now.blocks e.sources.items };
 }
 
 /// Whether operand k is a label to which an instruction goes.
@@ -50,6 +48,94 @@ fn is_target(op: u16, k: usize) -> bool
     }
 }
 
+/// Whether the last of these stands at this place.
+fn ends_at(sources: &[Source], place: usize) -> bool
+    ensures { result ≡ ends_at_place sources.now place }
+{
+    match sources.last() {
+        None => false,
+        Some(last) => last.place == place,
+    }
+}
+
+/// Adds a block, where it is not the last.
+fn add_source(sources: &mut Vec<Source>, source: Source) -> Result<(), AllocError>
+    ensures { OnOk result (sources.new.items ≡ with_source sources.old.items source) }
+{
+    if ends_at(sources, source.place) {
+        return Ok(());
+    }
+    sources.push(source)?;
+    Ok(())
+}
+
+/// Adds a block to one of these lists.
+fn add_at(lists: &mut Vec<Vec<Source>>, at: usize, source: Source) -> Result<(), AllocError>
+    requires { at < length lists.old.items }
+    ensures { OnOk result (IsAddedAt lists.old.items lists.new.items at source) }
+{
+    add_source(&mut lists[at], source)?;
+    Ok(())
+}
+
+/// Adds a block to those that go to a label.
+#[tactic(auto, using(crate::proofs::Sources::edge_rules))]
+fn add_edge(
+    lists: &mut Vec<Vec<Source>>,
+    locals: &Locals,
+    source: Source,
+    label: u32,
+) -> Result<(), AllocError>
+    requires { length lists.old.items ≡ length locals.now.blocks }
+    ensures { OnOk result (Adds locals.now source (λ x. label == x) lists.old.items lists.new.items) }
+{
+    match locals.block(label) {
+        Some(at) => {
+            add_at(lists, at, source)?;
+            Ok(())
+        }
+        None => Ok(()),
+    }
+}
+
+/// Adds a block to those that go to a label, where operand k of its instruction is a target.
+#[tactic(auto, using(crate::proofs::Sources::operand_rules))]
+fn add_operand(
+    lists: &mut Vec<Vec<Source>>,
+    locals: &Locals,
+    source: Source,
+    op: u16,
+    k: usize,
+    label: u32,
+) -> Result<(), AllocError>
+    requires { length lists.old.items ≡ length locals.now.blocks }
+    ensures { OnOk result (Adds locals.now source (λ x. is_target_of op k && (label == x)) lists.old.items lists.new.items) }
+{
+    if is_target(op, k) {
+        add_edge(lists, locals, source, label)?;
+        Ok(())
+    } else {
+        Ok(())
+    }
+}
+
+/// Adds a block to those that go to the labels of a branch.
+#[tactic(auto, using(crate::proofs::Sources::start_rules))]
+fn add_targets(
+    lists: &mut Vec<Vec<Source>>,
+    locals: &Locals,
+    source: Source,
+    inst: &Inst,
+) -> Result<(), AllocError>
+    requires { length lists.old.items ≡ length locals.now.blocks }
+    ensures { OnOk result (Adds locals.now source (λ x. goes x inst.now) lists.old.items lists.new.items) }
+{
+    for (k, label) in inst.args.as_slice().iter().enumerate() {
+        add_operand(lists, locals, source, inst.op, k, *label)?;
+    }
+    Ok(())
+}
+
 /// Whether this is OpBranch, OpBranchConditional or OpSwitch.
 fn is_branch(op: u16) -> bool
     ensures { result ≡ (((op == 249) || (op == 250)) || (op == 251)) }
@@ -57,165 +143,88 @@ fn is_branch(op: u16) -> bool
     op == 249 || op == 250 || op == 251
 }
 
-/// The labels to which an instruction goes.
-fn targets(alloc: Global, inst: &Inst) -> Result<Vec<u32>, AllocError>
-    ensures { IfOk result (λ v. v.items ≡ targets_in inst.now) }
-{
-    if !is_branch(inst.op) {
-        return Ok(Vec::new(alloc));
-    }
-    inst.args
-        .as_slice()
-        .iter()
-        .enumerate()
-        .filter(|(k, _)| is_target(inst.op, *k))
-        .map(|(_, word)| *word)
-        .collect(alloc)
-}
-
-/// Counts a label once more.
-fn raise(counts: &mut IdMap<u64>, label: u32) -> Result<(), AllocError>
-    ensures { OnOk result ((x : ℕ) → count_at (entry_in counts.new) x ≡ raised (label == x) (count_at (entry_in counts.old) x)) }
-{
-    let count = counts.get(label).unwrap_or(0);
-    counts.insert(label, count.saturating_add(1))?;
-    Ok(())
-}
-
-/// Counts a label where it was not seen.
-fn count_label(
-    seen: &mut BTreeSet<u32>,
-    counts: &mut IdMap<u64>,
-    label: u32,
+/// Adds a block to those that go to the labels of an instruction. Only branches have some.
+fn add_inst(
+    lists: &mut Vec<Vec<Source>>,
+    locals: &Locals,
+    source: Source,
+    inst: &Inst,
 ) -> Result<(), AllocError>
-    ensures seen { OnOk result ((x : ℕ) → contains nat_cmp seen.new x ≡ (contains nat_cmp seen.old x || (label == x))) }
-    ensures counts { OnOk result ((x : ℕ) → count_at (entry_in counts.new) x ≡ raised ((label == x) && not (contains nat_cmp seen.old x)) (count_at (entry_in counts.old) x)) }
+    requires { length lists.old.items ≡ length locals.now.blocks }
+    ensures { OnOk result (Adds locals.now source (λ x. goes x inst.now) lists.old.items lists.new.items) }
 {
-    if !seen.contains(&label) {
-        raise(counts, label)?;
-        seen.insert(label)?;
+    if is_branch(inst.op) {
+        add_targets(lists, locals, source, inst)
+    } else {
+        Ok(())
     }
-    Ok(())
 }
 
-/// Counts each of these labels once, where it was not seen.
-fn count_labels(
-    seen: &mut BTreeSet<u32>,
-    counts: &mut IdMap<u64>,
-    labels: &[u32],
-) -> Result<(), AllocError>
-    ensures seen { OnOk result ((x : ℕ) → contains nat_cmp seen.new x ≡ (contains nat_cmp seen.old x || list_any (λ l. l == x) labels.now)) }
-    ensures counts { OnOk result ((x : ℕ) → count_at (entry_in counts.new) x ≡ raised (list_any (λ l. l == x) labels.now && not (contains nat_cmp seen.old x)) (count_at (entry_in counts.old) x)) }
-{
-    for label in labels {
-        count_label(seen, counts, *label)?;
-    }
-    Ok(())
-}
-
-/// Counts each label to which a block goes once.
-fn count_block(alloc: Global, counts: &mut IdMap<u64>, block: &Block) -> Result<(), AllocError>
-    ensures { OnOk result ((x : ℕ) → count_at (entry_in counts.new) x ≡ raised (goes_to x block.now) (count_at (entry_in counts.old) x)) }
-{
-    let mut seen = BTreeSet::new(alloc);
-    for inst in block.insts.as_slice() {
-        let labels = targets(alloc, inst)?;
-        count_labels(&mut seen, counts, &labels)?;
-    }
-    Ok(())
-}
-
-/// The labels of blocks.
-fn labels_of(alloc: Global, blocks: &[Block]) -> Result<Vec<u32>, AllocError> {
-    blocks.iter().map(|block| block.label.0).collect(alloc)
-}
-
-/// From how many blocks there are edges to each label.
-fn counts_of(alloc: Global, blocks: &[Block]) -> Result<IdMap<u64>, AllocError>
-    ensures { IfOk result (λ counts. AreCounts blocks.now (entry_in counts)) }
-{
-    let mut counts = IdMap::for_ids(alloc, &labels_of(alloc, blocks)?)?;
-    for block in blocks {
-        count_block(alloc, &mut counts, block)?;
-    }
-    Ok(counts)
-}
-
-/// Adds an edge.
-fn add_pair(pairs: &mut BTreeSet<(u32, u32)>, source: u32, label: u32) -> Result<(), AllocError>
-    ensures { OnOk result ((p : ℕ × ℕ) → contains pair_cmp pairs.new p ≡ (contains pair_cmp pairs.old p || ((source == p.0) && (label == p.1)))) }
-{
-    pairs.insert((source, label))?;
-    Ok(())
-}
-
-/// Adds an edge to each of these labels.
-#[tactic(auto, using(crate::proofs::Counted::pair_step))]
-fn add_pairs(
-    pairs: &mut BTreeSet<(u32, u32)>,
-    source: u32,
-    labels: &[u32],
-) -> Result<(), AllocError>
-    ensures { OnOk result ((p : ℕ × ℕ) → contains pair_cmp pairs.new p ≡ (contains pair_cmp pairs.old p || ((source == p.0) && list_any (λ l. l == p.1) labels.now))) }
-{
-    for label in labels {
-        add_pair(pairs, source, *label)?;
-    }
-    Ok(())
-}
-
-/// Adds the edges from a block.
+/// Adds a block to those that go to the labels of its instructions.
+#[tactic(auto, using(crate::proofs::Sources::start_rules))]
 fn add_block(
-    alloc: Global,
-    pairs: &mut BTreeSet<(u32, u32)>,
+    lists: &mut Vec<Vec<Source>>,
+    locals: &Locals,
+    source: Source,
     block: &Block,
 ) -> Result<(), AllocError>
-    ensures { OnOk result ((p : ℕ × ℕ) → contains pair_cmp pairs.new p ≡ (contains pair_cmp pairs.old p || ((block.now.label.0 == p.0) && goes_to p.1 block.now))) }
+    requires { length lists.old.items ≡ length locals.now.blocks }
+    ensures { OnOk result (Adds locals.now source (λ x. goes_to x block.now) lists.old.items lists.new.items) }
 {
     for inst in block.insts.as_slice() {
-        let labels = targets(alloc, inst)?;
-        add_pairs(pairs, block.label.0, &labels)?;
+        add_inst(lists, locals, source, inst)?;
     }
     Ok(())
 }
 
-/// The edges from blocks to labels.
-fn pairs_of(alloc: Global, blocks: &[Block]) -> Result<BTreeSet<(u32, u32)>, AllocError>
-    ensures { IfOk result (λ pairs. ArePairs blocks.now (contains pair_cmp pairs)) }
+/// As many empty lists.
+fn empty_lists(alloc: Global, count: usize) -> Result<Vec<Vec<Source>>, AllocError>
+    ensures { IfOk result (λ lists. AreEmpty count lists.items) }
 {
-    let mut pairs = BTreeSet::new(alloc);
-    for block in blocks {
-        add_block(alloc, &mut pairs, block)?;
+    let mut lists = Vec::with_capacity(alloc, count)?;
+    for _ in 0..count {
+        lists.push(Vec::new(alloc))?;
     }
-    Ok(pairs)
+    Ok(lists)
+}
+
+/// For each block of a function those that go to its label.
+fn lists_of(alloc: Global, locals: &Locals) -> Result<Vec<Vec<Source>>, AllocError>
+    ensures { IfOk result (λ lists. AreSources locals.now locals.now.blocks lists.items) }
+{
+    let blocks = locals.function().blocks.as_slice();
+    let mut lists = empty_lists(alloc, blocks.len())?;
+    for (place, block) in blocks.iter().enumerate() {
+        let source = Source {
+            place,
+            label: block.label.0,
+        };
+        add_block(&mut lists, locals, source, block)?;
+    }
+    Ok(lists)
 }
 
 impl<'a> Edges<'a> {
-    pub fn of(alloc: Global, function: &'a Function) -> Result<Edges<'a>, Memory>
-        ensures { IfOk result (λ e. e ≡ function.now) }
+    pub fn of(alloc: Global, locals: &Locals<'a>) -> Result<Edges<'a>, AllocError>
+        ensures { IfOk result (λ e. e ≡ locals.now) }
     {
-        let blocks = function.blocks.as_slice();
         Ok(Edges {
-            function,
-            pairs: pairs_of(alloc, blocks)?,
-            counts: counts_of(alloc, blocks)?,
+            function: locals.function(),
+            sources: lists_of(alloc, locals)?,
         })
     }
 
-    /// Whether there is an edge from a block with one label to another label.
-    pub fn has(&self, source: u32, target: u32) -> bool
-        ensures { result ≡ is_predecessor self.now target source }
+    /// The blocks that go to a label of the function.
+    #[tactic(auto, using(crate::proofs::Sources::block_inside))]
+    pub fn sources(&self, locals: &Locals, label: u32) -> &[Source]
+        requires same { locals.now ≡ self.now }
+        requires known { is_some (block_in locals.now label) ≡ true }
+        ensures { result.now ≡ sources_of label self.now.blocks }
     {
-        self.pairs.contains(&(source, target))
-    }
-
-    /// Whether there are edges to a label from so many blocks.
-    #[tactic(auto, using(crate::proofs::Counted::told))]
-    pub fn is_count(&self, target: u32, n: usize) -> bool
-        ensures { result ≡ (n == count_by (goes_to target) self.now.blocks) }
-    {
-        let count = self.counts.get(target).unwrap_or(0);
-        n <= self.function.blocks.len() && n as u64 == count
+        match locals.block(label) {
+            Some(at) => self.sources[at].as_slice(),
+            None => &[],
+        }
     }
 }
 
@@ -248,13 +257,14 @@ impl<'a> LazyEdges<'a> {
     }
 
     /// The edges, which `put` gives back.
-    pub fn take(&mut self, alloc: Global) -> Result<Edges<'a>, Memory>
+    pub fn take(&mut self, alloc: Global, locals: &Locals<'a>) -> Result<Edges<'a>, AllocError>
+        requires { locals.now ≡ self.old }
         ensures value { IfOk result (λ e. e ≡ self.old) }
         ensures same { self.new ≡ self.old }
     {
         match self.found.take() {
             Some(edges) => Ok(edges),
-            None => Edges::of(alloc, self.function),
+            None => Edges::of(alloc, locals),
         }
     }
 

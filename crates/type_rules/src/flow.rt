@@ -1,14 +1,18 @@
 // The types of calls, phis, branches and returns.
-ghost use Rattle.std.specs.Prelude.{◌≡◌, IfOk, not, option_and_then};
+ghost use Rattle.std.specs.Prelude.{◌≡◌, ◌==◌, ◌||◌, ℕ, true, IfOk, OnOk, not, nat_le, count_by, is_some, option_and_then};
 ghost use Rattle.std.specs.List.{list_any, zip};
 ghost use Rattle.std.specs.Option.{option_copied};
 ghost use Rattle.spv_decor.specs.Rows.{word as word_of};
 ghost use Rattle.profile_rules.specs.TypeRows.{differ, is_other};
-ghost use Rattle.profile_rules.specs.FlowRules.{callee, is_from_elsewhere as is_elsewhere, function_type as function_type_of, is_miscalled as is_call_other, is_misdeclared as is_function_other, is_predecessor, are_no_predecessors as are_others, are_labels as are_all_labels, every_second as every_second_of, has_repeat as has_a_repeat, breaks_t21, breaks_t21_of, breaks_t22, breaks_t23_branch, breaks_t23_switch, breaks_t24_return, breaks_t24_value};
+ghost use Rattle.std.specs.BTreeSet.{contains};
+ghost use Rattle.std.specs.Ordering.{nat_cmp};
+ghost use Rattle.spv_index.specs.Locals.{block_in};
+ghost use Rattle.type_rules.specs.Edges.{is_source as is_source_label, are_not_sources as are_other_labels};
+ghost use Rattle.profile_rules.specs.FlowRules.{callee, is_from_elsewhere as is_elsewhere, function_type as function_type_of, is_miscalled as is_call_other, is_misdeclared as is_function_other, are_no_predecessors as are_others, are_labels as are_all_labels, every_second as every_second_of, has_repeat as has_a_repeat, breaks_t21, breaks_t21_of, breaks_t22, breaks_t23_branch, breaks_t23_switch, breaks_t24_return, breaks_t24_value};
 ghost use Rattle.type_rules.specs.Scopes.{types};
 
 use crate::composites::{are_other_members, has_other};
-use crate::edges::{Edges, LazyEdges};
+use crate::edges::{Edges, LazyEdges, Source};
 use crate::numbers::behind;
 use crate::scope::{BOOL, INT, Scope, VOID};
 use spv_index::Locals;
@@ -91,8 +95,25 @@ fn every_second(alloc: Global, from: usize, words: &[u32]) -> Result<Vec<u32>, A
         .collect(alloc)
 }
 
-/// Whether a word stands twice in a list.
-fn has_repeat(alloc: Global, words: &[u32]) -> Result<bool, AllocError>
+/// So many words are sought in a list one by one.
+const FEW: usize = 8;
+
+/// Whether a word stands at least twice in a list.
+fn stands_twice(words: &[u32], word: u32) -> bool
+    ensures { result ≡ nat_le 2 (count_by (λ x. x == word) words.now) }
+{
+    words.iter().filter(|other| **other == word).count() >= 2
+}
+
+/// Whether a word stands twice in a list of few.
+fn has_repeat_among_few(words: &[u32]) -> bool
+    ensures { result ≡ has_a_repeat words.now }
+{
+    words.iter().any(|word| stands_twice(words, *word))
+}
+
+/// Whether a word stands twice in a list of many.
+fn has_repeat_among_many(alloc: Global, words: &[u32]) -> Result<bool, AllocError>
     ensures { IfOk result (λ b. b ≡ has_a_repeat words.now) }
 {
     let mut seen = BTreeSet::new(alloc);
@@ -105,6 +126,16 @@ fn has_repeat(alloc: Global, words: &[u32]) -> Result<bool, AllocError>
     Ok(false)
 }
 
+/// Whether a word stands twice in a list.
+fn has_repeat(alloc: Global, words: &[u32]) -> Result<bool, AllocError>
+    ensures { IfOk result (λ b. b ≡ has_a_repeat words.now) }
+{
+    if words.len() > FEW {
+        return has_repeat_among_many(alloc, words);
+    }
+    Ok(has_repeat_among_few(words))
+}
+
 /// Whether these are all labels of the function.
 fn are_labels(locals: &Locals, labels: &[u32]) -> bool
     ensures { result ≡ are_all_labels locals.now labels.now }
@@ -112,26 +143,85 @@ fn are_labels(locals: &Locals, labels: &[u32]) -> bool
     labels.iter().all(|label| locals.block(*label).is_some())
 }
 
-/// Whether one of these is no predecessor of a block.
-fn has_no_predecessor(edges: &Edges, label: u32, labels: &[u32]) -> bool
-    ensures { result ≡ list_any (λ l. not (is_predecessor edges.now label l)) labels.now }
+/// Whether one of these blocks has this label.
+fn is_source(sources: &[Source], label: u32) -> bool
+    ensures { result ≡ is_source_label sources.now label }
 {
-    labels.iter().any(|l| !edges.has(*l, label))
+    sources.iter().any(|source| source.label == label)
+}
+
+/// Whether one of these few labels is that of none of these blocks.
+fn has_other_among_few(sources: &[Source], labels: &[u32]) -> bool
+    ensures { result ≡ list_any (λ l. not (is_source_label sources.now l)) labels.now }
+{
+    labels.iter().any(|label| !is_source(sources, *label))
+}
+
+/// Adds the label of a block to a set.
+fn add_label(labels: &mut BTreeSet<u32>, source: &Source) -> Result<(), AllocError>
+    ensures { OnOk result ((x : ℕ) → contains nat_cmp labels.new x ≡ (contains nat_cmp labels.old x || (source.now.label == x))) }
+{
+    labels.insert(source.label)?;
+    Ok(())
+}
+
+/// The labels of these blocks.
+fn labels_of(alloc: Global, sources: &[Source]) -> Result<BTreeSet<u32>, AllocError>
+    ensures { IfOk result (λ labels. (l : ℕ) → contains nat_cmp labels l ≡ is_source_label sources.now l) }
+{
+    let mut labels = BTreeSet::new(alloc);
+    for source in sources {
+        add_label(&mut labels, source)?;
+    }
+    Ok(labels)
+}
+
+/// Whether one of these many labels is that of none of these blocks.
+fn has_other_among_many(
+    alloc: Global,
+    sources: &[Source],
+    labels: &[u32],
+) -> Result<bool, AllocError>
+    ensures { IfOk result (λ b. b ≡ list_any (λ l. not (is_source_label sources.now l)) labels.now) }
+{
+    let known = labels_of(alloc, sources)?;
+    Ok(labels.iter().any(|label| !known.contains(label)))
+}
+
+/// Whether one of these labels is that of none of these blocks.
+fn has_other_label(alloc: Global, sources: &[Source], labels: &[u32]) -> Result<bool, AllocError>
+    ensures { IfOk result (λ b. b ≡ list_any (λ l. not (is_source_label sources.now l)) labels.now) }
+{
+    if labels.len() > FEW {
+        return has_other_among_many(alloc, sources, labels);
+    }
+    Ok(has_other_among_few(sources, labels))
+}
+
+/// Whether these are not the labels of these blocks, each once.
+fn are_not_sources(alloc: Global, sources: &[Source], labels: &[u32]) -> Result<bool, AllocError>
+    ensures { IfOk result (λ b. b ≡ are_other_labels sources.now labels.now) }
+{
+    if labels.len() != sources.len() {
+        return Ok(true);
+    }
+    Ok(has_repeat(alloc, labels)? || has_other_label(alloc, sources, labels)?)
 }
 
 /// Whether these are not the predecessors of a block, each once.
+#[tactic(auto, using(crate::proofs::Sources::asked_of_sources))]
 fn are_no_predecessors(
     alloc: Global,
+    locals: &Locals,
     edges: &Edges,
     label: u32,
     labels: &[u32],
 ) -> Result<bool, AllocError>
-    ensures { IfOk result (λ b. b ≡ are_others edges.now label labels.now) }
+    requires same { edges.now ≡ locals.now }
+    requires known { is_some (block_in locals.now label) ≡ true }
+    ensures { IfOk result (λ b. b ≡ are_others locals.now label labels.now) }
 {
-    if !edges.is_count(label, labels.len()) {
-        return Ok(true);
-    }
-    Ok(has_repeat(alloc, labels)? || has_no_predecessor(edges, label, labels))
+    are_not_sources(alloc, edges.sources(locals, label), labels)
 }
 
 /// Whether the labels of a phi are labels, but not the predecessors of its block, each once.
@@ -142,29 +232,31 @@ fn is_from_elsewhere(
     label: u32,
     inst: &Inst,
 ) -> Result<bool, AllocError>
-    requires { edges.now ≡ locals.now }
+    requires same { edges.now ≡ locals.now }
+    requires known { is_some (block_in locals.now label) ≡ true }
     ensures { IfOk result (λ b. b ≡ is_elsewhere locals.now label inst.now) }
 {
     let labels = every_second(alloc, 1, inst.args.as_slice())?;
     if !are_labels(locals, &labels) {
         return Ok(false);
     }
-    are_no_predecessors(alloc, edges, label, &labels)
+    are_no_predecessors(alloc, locals, edges, label, &labels)
 }
 
 /// The same, with the edges as they are kept.
-fn is_from_elsewhere_in(
+fn is_from_elsewhere_in<'b>(
     alloc: Global,
-    locals: &Locals,
-    edges: &mut LazyEdges,
+    locals: &Locals<'b>,
+    edges: &mut LazyEdges<'b>,
     label: u32,
     inst: &Inst,
 ) -> Result<bool, Memory>
-    requires { edges.old ≡ locals.now }
+    requires edges { edges.old ≡ locals.now }
+    requires known { is_some (block_in locals.now label) ≡ true }
     ensures value { IfOk result (λ b. b ≡ is_elsewhere locals.now label inst.now) }
     ensures same { edges.new ≡ edges.old }
 {
-    let found = edges.take(alloc)?;
+    let found = edges.take(alloc, locals)?;
     let answer = is_from_elsewhere(alloc, locals, &found, label, inst);
     edges.put(found);
     Ok(answer?)
@@ -179,15 +271,16 @@ fn has_other_value(alloc: Global, scope: &Scope, inst: &Inst) -> Result<bool, Al
 }
 
 /// T22: OpPhi.
-pub fn is_phi_broken(
+pub fn is_phi_broken<'b>(
     alloc: Global,
     scope: &Scope,
-    locals: &Locals,
-    edges: &mut LazyEdges,
+    locals: &Locals<'b>,
+    edges: &mut LazyEdges<'b>,
     block: &Block,
     inst: &Inst,
 ) -> Result<bool, Memory>
-    requires { edges.old ≡ locals.now }
+    requires edges { edges.old ≡ locals.now }
+    requires known { is_some (block_in locals.now block.now.label.0) ≡ true }
     ensures value { IfOk result (λ b. b ≡ breaks_t22 scope.now.m.heads scope.now.m.globals (types scope.now) locals.now block.now inst.now) }
     ensures same { edges.new ≡ edges.old }
 {

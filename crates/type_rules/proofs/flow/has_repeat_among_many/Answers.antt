@@ -3,7 +3,7 @@ use Rattle.std.specs.BTreeSet.{contains}
 use Rattle.std.specs.Ordering.{nat_cmp}
 use Rattle.std.proofs.lemmas.List.{take_all}
 use Rattle.type_rules.proofs.Repeats.{seen_more, repeats, repeats_not}
-use Rattle.type_rules.proofs.flow.has_repeat.Goals as goal
+use Rattle.type_rules.proofs.flow.has_repeat_among_many.Goals as goal
 
 pub returns-then-contains : goal.returns-then-contains
 returns-then-contains c =
