@@ -1,33 +1,28 @@
 -- The passes over the results, a step at a time.
-use Rattle.std.proofs.Common.{◌≡◌, ◌<◌, ◌+◌, ◌++◌, ◌∙◌, ℕ, suc, Bool, List, [], ◌∷◌, length, get_or, take, drop, map, refl, ap, sym, subst, Option, true, false, not, ◌&&◌}
-use Rattle.std.specs.Prelude.{fold, flat_map}
-use Rattle.std.proofs.lemmas.Bool.{and_from, not_from_false}
-use Rattle.std.proofs.lemmas.List.{append_assoc, at_drop_more}
-use Rattle.std.proofs.lemmas.List.Sums.{fold_more}
+use Rattle.std.proofs.Common.{◌≡◌, ◌<◌, ◌+◌, ◌==◌, ◌++◌, ◌∙◌, ℕ, Bool, List, [], ◌∷◌, length, get_or, drop, filter, map, refl, ap, sym, subst, inl, inr, Option, true, false, not, ◌&&◌}
+use Rattle.std.specs.Prelude.{fold, flat_map, slice_index, sum_by}
+use Rattle.std.specs.List.{enumerate_from}
+use Rattle.std.proofs.lemmas.Bool.{and_from, cases_Bool, not_from_false}
+use Rattle.std.proofs.lemmas.List.{append_assoc, append-nil, at_drop_more, map-append}
+use Rattle.std.proofs.lemmas.List.Elements.{filter-append}
+use Rattle.std.proofs.lemmas.List.Sums.{fold-append, sum_by-append}
+use Rattle.id_map.specs.Entries.{entry_in}
 use Rattle.spv_module.specs.declared.inst.Inst.{Inst}
+use Rattle.spv_module.specs.declared.inst.Block.{Block}
 use Rattle.spv_module.specs.declared.inst.Function.{Function}
 use Rattle.use_chains.specs.declared.slot.SlotPlace.{SlotPlace}
-use Rattle.hoist_plan.specs.declared.form.Form.{Form}
-use Rattle.hoist_plan.specs.declared.rows.Row.{Row}
-use Rattle.hoist_plan.specs.Kept.{placed}
-use Rattle.hoist_plan.specs.Plan.{Known, Placed, own_height, raised, known, nothing, with_result, operand_if, with_operand, with_carried, carried_from, with_told, form_with}
+use Rattle.use_chains.specs.Links.{Link}
+use Rattle.hoist_plan.specs.declared.row.Chain.{Chain}
+use Rattle.hoist_plan.specs.declared.row.Row.{Row}
+use Rattle.hoist_plan.specs.declared.forms.Forms.{Forms}
+use Rattle.hoist_plan.specs.Kept.{chains_among, chains_of, known_in, placed, placed_chain, places_in}
+use Rattle.hoist_plan.specs.Plan.{Known, Placed, own_height, raised, operand_if, with_carried, carried_from, is_chain_opcode, mentions_of, result_of, results_of_block, results}
 
 pub raise_more : (f : Function) (h : ℕ) (old new : ℕ → Option ℕ) (places : List SlotPlace) (k : ℕ) (d : SlotPlace) → k < length places → ((n : ℕ) → new n ≡ raised f h old (get_or places k d) n) → (n : ℕ) → fold (raised f h) new (drop (k + 1) places) n ≡ fold (raised f h) old (drop k places) n
 raise_more f h old new places k d less e n =
     let same : new ≡ raised f h old (get_or places k d) = λ i x. e x i in
     ap (λ (hs : ℕ → Option ℕ). fold (raised f h) hs (drop (k + 1) places) n) same
     ∙ sym (at_drop_more (λ (ps : List SlotPlace). fold (raised f h) old ps n) places k d less)
-
-fold_map : {A B C : Type 0} (g : B → C → B) (p : A → C) (b : B) (xs : List A) → fold g b (map p xs) ≡ fold (λ k x. g k (p x)) b xs
-fold_map g p b [] = refl
-fold_map g p b (x ∷ xs) = fold_map g p (g b (p x)) xs
-
-known_more : (gs : List Inst) (f : Function) (rows : List Row) (k : ℕ) (r : Row) → k < length rows → r ≡ get_or rows k r → known gs f (map placed (take (k + 1) rows)) ≡ with_result gs f (known gs f (map placed (take k rows))) (placed r)
-known_more gs f rows k r less is =
-    fold_map (with_result gs f) placed nothing (take (k + 1) rows)
-    ∙ (fold_more (λ (b : Known) (r : Row). with_result gs f b (placed r)) nothing rows k r less
-    ∙ (ap (λ (b : Known). with_result gs f b (placed (get_or rows k r))) (sym (fold_map (with_result gs f) placed nothing (take k rows)))
-    ∙ ap (λ (x : Row). with_result gs f (known gs f (map placed (take k rows))) (placed x)) (sym is)))
 
 -- a value without a variable has raised its mentions
 pub operand_raised : (f : Function) (operands : ℕ → Option ℕ) (value named : Bool) (p : Placed) (g : Function) (h : ℕ) (places : List SlotPlace)
@@ -38,34 +33,105 @@ operand_raised f operands value named p g h places on off same height are n =
     ∙ (ap (λ (xs : List SlotPlace). fold (raised f (own_height operands p)) operands xs n) are
     ∙ sym (ap (λ (b : Bool). operand_if b f operands p n) (and_from value (not named) on (not_from_false named off)))))
 
--- what is known of one more result, where the heights and the forms are told
-pub known_step : (gs : List Inst) (f : Function) (rows : List Row) (k : ℕ) (r : Row) (form : Form) (operands operands' : ℕ → Option ℕ) (forms forms' : ℕ → Option Form) → k < length rows → r ≡ get_or rows k r
-    → ((n : ℕ) → operands n ≡ (known gs f (map placed (take k rows))).operands n) → ((n : ℕ) → forms n ≡ (known gs f (map placed (take k rows))).forms n)
-    → ((n : ℕ) → operands' n ≡ with_operand gs f operands (placed r) n) → form ≡ form_with gs f operands (placed r) → ((n : ℕ) → forms' n ≡ with_told forms r.result form n)
-    → ((n : ℕ) → operands' n ≡ (known gs f (map placed (take (k + 1) rows))).operands n) × ((n : ℕ) → forms' n ≡ (known gs f (map placed (take (k + 1) rows))).forms n)
-known_step gs f rows k r form operands operands' forms forms' less is same_operands same_forms now_operands form_is now_forms =
-    let before : Known = known gs f (map placed (take k rows)) in
-    let more = known_more gs f rows k r less is in
-    let heights : operands ≡ (known gs f (map placed (take k rows))).operands = λ i x. same_operands x i in
-    let told : forms ≡ (known gs f (map placed (take k rows))).forms = λ i x. same_forms x i in (
-      λ n. now_operands n ∙ (ap (λ (hs : ℕ → Option ℕ). with_operand gs f hs (placed r) n) heights ∙ sym (ap (λ (b : Known). b.operands n) more)),
-      λ n.
-          now_forms n
-          ∙ (ap (λ (a : Form). with_told forms r.result a n) form_is
-          ∙ (ap (λ (hs : ℕ → Option ℕ). with_told forms r.result (form_with gs f hs (placed r)) n) heights
-          ∙ (ap (λ (fs : ℕ → Option Form). with_told fs r.result (form_with gs f (known gs f (map placed (take k rows))).operands (placed r)) n) told
-          ∙ sym (ap (λ (b : Known). b.forms n) more)))),
-    )
-
-pub carried_more : (f : Function) (rows : List Row) (k j : ℕ) (r : Row) (old new : ℕ → Bool) → j ≡ k + 1 → k < length rows → r ≡ get_or rows k r → ((n : ℕ) → old n ≡ carried_from f (map placed (drop j rows)) n) → ((n : ℕ) → new n ≡ with_carried f old (placed r) n) → (n : ℕ) → new n ≡ carried_from f (map placed (drop k rows)) n
-carried_more f rows k j r old new next less is same e n =
-    let equal : old ≡ carried_from f (map placed (drop (k + 1) rows)) = subst (λ i. old ≡ carried_from f (map placed (drop i rows))) next (λ i x. same x i) in
+pub carried_more : (f : Function) (chains : List Chain) (k j : ℕ) (r : Chain) (old new : ℕ → Bool) → j ≡ k + 1 → k < length chains → r ≡ get_or chains k r → ((n : ℕ) → old n ≡ carried_from f (map placed_chain (drop j chains)) n) → ((n : ℕ) → new n ≡ with_carried f old (placed_chain r) n) → (n : ℕ) → new n ≡ carried_from f (map placed_chain (drop k chains)) n
+carried_more f chains k j r old new next less is same e n =
+    let equal : old ≡ carried_from f (map placed_chain (drop (k + 1) chains)) = subst (λ i. old ≡ carried_from f (map placed_chain (drop i chains))) next (λ i x. same x i) in
     e n
-    ∙ (ap (λ (c : ℕ → Bool). with_carried f c (placed r) n) equal
-    ∙ (ap (λ (x : Row). with_carried f (carried_from f (map placed (drop (k + 1) rows))) (placed x) n) is
-    ∙ sym (at_drop_more (λ (rs : List Row). carried_from f (map placed rs) n) rows k r less)))
+    ∙ (ap (λ (c : ℕ → Bool). with_carried f c (placed_chain r) n) equal
+    ∙ (ap (λ (x : Chain). with_carried f (carried_from f (map placed_chain (drop (k + 1) chains))) (placed_chain x) n) is
+    ∙ sym (at_drop_more (λ (rs : List Chain). carried_from f (map placed_chain rs) n) chains k r less)))
 
--- the list of what comes of some, with one more
-pub one_more : {A B : Type 0} (g : A → List B) (done : List B) (xs : List A) (k : ℕ) (d : A) → k < length xs → (done ++ g (get_or xs k d)) ++ flat_map g (drop (k + 1) xs) ≡ done ++ flat_map g (drop k xs)
-one_more g done xs k d less =
-    append_assoc done (g (get_or xs k d)) (flat_map g (drop (k + 1) xs)) ∙ ap (λ ys. done ++ ys) (sym (at_drop_more (flat_map g) xs k d less))
+-- what comes of one more
+module _ {A B : Type 0} (g : A → List B) (xs : List A) (k : ℕ) (x : A) (less : k < length xs) (at : x ≡ get_or xs k x) where
+  all_more : flat_map g (drop k xs) ≡ g x ++ flat_map g (drop (k + 1) xs)
+  all_more = at_drop_more (flat_map g) xs k x less ∙ ap (λ y. g y ++ flat_map g (drop (k + 1) xs)) (sym at)
+
+  pub list_more : (done : List B) → (done ++ g x) ++ flat_map g (drop (k + 1) xs) ≡ done ++ flat_map g (drop k xs)
+  list_more done = append_assoc done (g x) (flat_map g (drop (k + 1) xs)) ∙ ap (λ ys. done ++ ys) (sym all_more)
+
+  pub sum_more : (f : B → ℕ) → sum_by f (flat_map g (drop k xs)) ≡ sum_by f (g x) + sum_by f (flat_map g (drop (k + 1) xs))
+  sum_more f = ap (sum_by f) all_more ∙ sum_by-append f (g x) (flat_map g (drop (k + 1) xs))
+
+  pub fold_all_more : {K : Type 0} (step : K → B → K) (old new : K) → new ≡ fold step old (g x) → fold step new (flat_map g (drop (k + 1) xs)) ≡ fold step old (flat_map g (drop k xs))
+  fold_all_more step old new is =
+      ap (λ s. fold step s (flat_map g (drop (k + 1) xs))) is ∙ (sym (fold-append step old (g x) (flat_map g (drop (k + 1) xs))) ∙ sym (ap (fold step old) all_more))
+
+-- the same of elements with their numbers
+module _ {A B : Type 0} (g : ℕ × A → List B) (xs : List A) (k : ℕ) (x : A) (less : k < length xs) (at : x ≡ get_or xs k x) where
+  each_more : flat_map g (enumerate_from k (drop k xs)) ≡ g (k, x) ++ flat_map g (enumerate_from (k + 1) (drop (k + 1) xs))
+  each_more = at_drop_more (λ ys. flat_map g (enumerate_from k ys)) xs k x less ∙ ap (λ y. g (k, y) ++ flat_map g (enumerate_from (k + 1) (drop (k + 1) xs))) (sym at)
+
+  pub list_each_more : (done : List B) → (done ++ g (k, x)) ++ flat_map g (enumerate_from (k + 1) (drop (k + 1) xs)) ≡ done ++ flat_map g (enumerate_from k (drop k xs))
+  list_each_more done = append_assoc done (g (k, x)) (flat_map g (enumerate_from (k + 1) (drop (k + 1) xs))) ∙ ap (λ ys. done ++ ys) (sym each_more)
+
+  pub sum_each_more : (f : B → ℕ) → sum_by f (flat_map g (enumerate_from k (drop k xs))) ≡ sum_by f (g (k, x)) + sum_by f (flat_map g (enumerate_from (k + 1) (drop (k + 1) xs)))
+  sum_each_more f = ap (sum_by f) each_more ∙ sum_by-append f (g (k, x)) (flat_map g (enumerate_from (k + 1) (drop (k + 1) xs)))
+
+  pub fold_each_more : {K : Type 0} (step : K → B → K) (old new : K) → new ≡ fold step old (g (k, x)) → fold step new (flat_map g (enumerate_from (k + 1) (drop (k + 1) xs))) ≡ fold step old (flat_map g (enumerate_from k (drop k xs)))
+  fold_each_more step old new is =
+      ap (λ s. fold step s (flat_map g (enumerate_from (k + 1) (drop (k + 1) xs)))) is
+      ∙ (sym (fold-append step old (g (k, x)) (flat_map g (enumerate_from (k + 1) (drop (k + 1) xs)))) ∙ sym (ap (fold step old) each_more))
+
+-- the parts of what comes of each
+flat_parts : {A B : Type 0} (q : B → Bool) (g : A → List B) (xs : List A) → flat_map (λ x. filter q (g x)) xs ≡ filter q (flat_map g xs)
+flat_parts q g [] = refl
+flat_parts q g (x ∷ xs) = ap (λ ys. filter q (g x) ++ ys) (flat_parts q g xs) ∙ sym (filter-append q (g x) (flat_map g xs))
+
+chains_are : (links : List Link) (f : Function) → chains_of links f ≡ filter (λ (p : Placed). is_chain_opcode p.op) (results links f)
+chains_are links f =
+    ap (λ (g : ℕ × Block → List Placed). flat_map g (enumerate_from 0 f.blocks)) (λ i b. flat_parts (λ (p : Placed). is_chain_opcode p.op) (result_of links b.0) b.1.insts i)
+    ∙ flat_parts (λ (p : Placed). is_chain_opcode p.op) (results_of_block links) (enumerate_from 0 f.blocks)
+
+not_carried : (f : Function) (c : ℕ → Bool) (p : Placed) (n : ℕ) → is_chain_opcode p.op ≡ false → with_carried f c p n ≡ c n
+not_carried f c p n other = rw (other, with_carried) refl
+
+-- a result that is no chain is not carried
+chains_alone : (f : Function) (ps : List Placed) (n : ℕ) → carried_from f (filter (λ (p : Placed). is_chain_opcode p.op) ps) n ≡ carried_from f ps n
+chains_alone f [] n = refl
+chains_alone f (p ∷ ps) n =
+    let rest : carried_from f (filter (λ (p : Placed). is_chain_opcode p.op) ps) ≡ carried_from f ps = λ i m. chains_alone f ps m i in
+    elim (cases_Bool (is_chain_opcode p.op)) [
+      | inl chain ↦ rw chain (ap (λ (c : ℕ → Bool). with_carried f c p n) rest)
+      | inr other ↦ rw other (ap (λ (c : ℕ → Bool). c n) rest ∙ sym (not_carried f (carried_from f ps) p n other))
+    ]
+
+pub chains_carried : (links : List Link) (f : Function) (n : ℕ) → carried_from f (chains_of links f) n ≡ carried_from f (results links f) n
+chains_carried links f n = ap (λ ps. carried_from f ps n) (chains_are links f) ∙ chains_alone f (results links f) n
+
+-- the result of an instruction that has one
+of_not : (b c : Bool) → c ≡ not b → c ≡ true → b ≡ false
+of_not true c is e = sym e ∙ is
+of_not false c is e = refl
+
+of_not_false : (b c : Bool) → c ≡ not b → c ≡ false → b ≡ true
+of_not_false true c is e = refl
+of_not_false false c is e = sym e ∙ is
+
+one_result : (links : List Link) (block : ℕ) (i : Inst) → (i.result == 0) ≡ false → placed (mentions_of links i.result) (record { block = block; op = i.op; ty = i.ty; result = i.result; base = slice_index i.args 0 }) ∷ [] ≡ result_of links block i
+one_result links block i some = rw some refl
+
+pub result_is : (links : List Link) (block : ℕ) (i : Inst) (mentions : List SlotPlace) (base : ℕ) (has : Bool) → has ≡ not (i.result == 0) → has ≡ true → mentions ≡ mentions_of links i.result → base ≡ slice_index i.args 0
+    → placed mentions (record { block = block; op = i.op; ty = i.ty; result = i.result; base = base }) ∷ [] ≡ result_of links block i
+result_is links block i mentions base has is on are first =
+    ap (λ ms. placed ms (record { block = block; op = i.op; ty = i.ty; result = i.result; base = base }) ∷ []) are
+    ∙ (ap (λ (b : ℕ). placed (mentions_of links i.result) (record { block = block; op = i.op; ty = i.ty; result = i.result; base = b }) ∷ []) first ∙ one_result links block i (of_not (i.result == 0) has is on))
+
+pub result_none : (links : List Link) (block : ℕ) (i : Inst) (has : Bool) → has ≡ not (i.result == 0) → has ≡ false → [] ≡ result_of links block i
+result_none links block i has is off = let none : (i.result == 0) ≡ true = of_not_false (i.result == 0) has is off in rw none refl
+
+-- a chain is put behind others
+pub chain_more : (chains : List Chain) (ms : List SlotPlace) (c : Chain) (is : Bool) → is ≡ is_chain_opcode c.row.op → is ≡ true → places_in c.mentions ≡ ms → map placed_chain (chains ++ c ∷ []) ≡ map placed_chain chains ++ chains_among (placed ms c.row ∷ [])
+chain_more chains ms c is same on are =
+    let chain : is_chain_opcode c.row.op ≡ true = sym same ∙ on in
+    let alone : placed ms c.row ∷ [] ≡ chains_among (placed ms c.row ∷ []) = rw chain refl in
+    map-append placed_chain chains (c ∷ []) ∙ ap (λ ps. map placed_chain chains ++ ps) (ap (λ xs. placed xs c.row ∷ []) are ∙ alone)
+
+pub chain_none : (done : List Placed) (ms : List SlotPlace) (r : Row) (is : Bool) → is ≡ is_chain_opcode r.op → is ≡ false → done ≡ done ++ chains_among (placed ms r ∷ [])
+chain_none done ms r is same off =
+    let other : is_chain_opcode r.op ≡ false = sym same ∙ off in
+    let none : [] ≡ chains_among (placed ms r ∷ []) = rw other refl in
+    sym (append-nil done) ∙ ap (λ ps. done ++ ps) none
+
+-- what is told, by the entries
+pub known_is : (a : Forms) (k : Known) → ((n : ℕ) → entry_in a.operands n ≡ k.operands n) → ((n : ℕ) → entry_in a.forms n ≡ k.forms n) → known_in a ≡ k
+known_is a k operands forms = λ i. record { operands = λ n. operands n i; forms = λ n. forms n i }

@@ -5,13 +5,13 @@ ghost use Rattle.std.specs.List.{list_any};
 ghost use Rattle.std.specs.BTreeSet.{contains};
 ghost use Rattle.std.specs.Ordering.{nat_cmp};
 ghost use Rattle.hoist_plan.specs.Plan.{carries_by as carries_by_in, carries as carries_in, is_carried_with, is_base_unreached, with_carried, is_chain_opcode as is_chain_op, carried_from};
-ghost use Rattle.hoist_plan.specs.Kept.{placed};
+ghost use Rattle.hoist_plan.specs.Kept.{placed_chain};
 ghost use Rattle.profile_rules.specs.MemoryRules.{is_chain as is_chain_of};
 ghost use Rattle.spv_index.specs.Locals.{inst_in};
 ghost use Rattle.structure_rules.specs.Graph.{graph as graph_of};
 
 use crate::mention::{is_chain, stands_elsewhere, user};
-use crate::rows::Row;
+use crate::row::Chain;
 use spv_index::Locals;
 use spv_module::Inst;
 use spv_words::Memory;
@@ -54,19 +54,21 @@ fn some_carries(
     places.iter().any(|at| carries(locals, carried, block, *at))
 }
 
-fn is_chain_opcode(op: u16) -> bool
+/// OpAccessChain and OpInBoundsAccessChain.
+pub fn is_chain_opcode(op: u16) -> bool
     ensures { result ≡ is_chain_op op }
 {
     op == 65 || op == 66
 }
 
-/// Whether a result is a chain that another block needs, where it is known of those behind it.
-fn is_carried(locals: &Locals, carried: &BTreeSet<u32>, row: &Row) -> bool
-    ensures { result ≡ is_carried_with locals.now (contains nat_cmp carried.now) (placed row.now) }
+/// Whether another block needs a chain, where it is known of those behind it.
+fn is_carried(locals: &Locals, carried: &BTreeSet<u32>, chain: &Chain) -> bool
+    ensures { result ≡ is_carried_with locals.now (contains nat_cmp carried.now) (placed_chain chain.now) }
 {
+    let row = &chain.row;
     is_chain_opcode(row.op)
         && (carried.contains(&row.result)
-            || some_carries(locals, carried, row.block, row.mentions.as_slice()))
+            || some_carries(locals, carried, row.block, chain.mentions.as_slice()))
 }
 
 fn is_reached(graph: &[Node], block: usize) -> bool
@@ -88,47 +90,47 @@ fn add_base(
     locals: &Locals,
     graph: &[Node],
     carried: &mut BTreeSet<u32>,
-    row: &Row,
+    chain: &Chain,
 ) -> Result<(), AllocError>
     requires { graph.now ≡ graph_of locals.now }
-    ensures { OnOk result ((n : ℕ) → contains nat_cmp carried.new n ≡ (contains nat_cmp carried.old n || is_base_unreached locals.now (placed row.now) n)) }
+    ensures { OnOk result ((n : ℕ) → contains nat_cmp carried.new n ≡ (contains nat_cmp carried.old n || is_base_unreached locals.now (placed_chain chain.now) n)) }
 {
-    if !is_reached(graph, row.block) && names_chain(locals, row.base) {
-        carried.insert(row.base)?;
+    if !is_reached(graph, chain.row.block) && names_chain(locals, chain.row.base) {
+        carried.insert(chain.row.base)?;
     }
     Ok(())
 }
 
-/// Adds a result where it is a chain that another block needs.
+/// Adds a chain where another block needs it.
 fn add_if_carried(
     locals: &Locals,
     graph: &[Node],
     carried: &mut BTreeSet<u32>,
-    row: &Row,
+    chain: &Chain,
 ) -> Result<(), AllocError>
     requires { graph.now ≡ graph_of locals.now }
-    ensures { OnOk result ((n : ℕ) → contains nat_cmp carried.new n ≡ with_carried locals.now (contains nat_cmp carried.old) (placed row.now) n) }
+    ensures { OnOk result ((n : ℕ) → contains nat_cmp carried.new n ≡ with_carried locals.now (contains nat_cmp carried.old) (placed_chain chain.now) n) }
 {
-    if is_carried(locals, carried, row) {
-        carried.insert(row.result)?;
-        add_base(locals, graph, carried, row)?;
+    if is_carried(locals, carried, chain) {
+        carried.insert(chain.row.result)?;
+        add_base(locals, graph, carried, chain)?;
     }
     Ok(())
 }
 
-/// The chains among these results that another block needs.
+/// Those of these chains that another block needs.
 pub fn carried(
     alloc: Global,
     locals: &Locals,
     graph: &[Node],
-    rows: &[Row],
+    chains: &[Chain],
 ) -> Result<BTreeSet<u32>, Memory>
     requires { graph.now ≡ graph_of locals.now }
-    ensures { IfOk result (λ carried. (n : ℕ) → contains nat_cmp carried n ≡ carried_from locals.now (map placed rows.now) n) }
+    ensures { IfOk result (λ carried. (n : ℕ) → contains nat_cmp carried n ≡ carried_from locals.now (map placed_chain chains.now) n) }
 {
     let mut carried = BTreeSet::new(alloc);
-    for k in (0..rows.len()).rev() {
-        add_if_carried(locals, graph, &mut carried, &rows[k])?;
+    for k in (0..chains.len()).rev() {
+        add_if_carried(locals, graph, &mut carried, &chains[k])?;
     }
     Ok(carried)
 }

@@ -1,26 +1,45 @@
 // The form of each result.
-ghost use Rattle.std.specs.Prelude.{◌≡◌, ◌&&◌, not, ℕ, IfOk, OnOk, fold, map, max, unwrap_or};
+ghost use Rattle.std.specs.Prelude.{◌≡◌, ◌&&◌, not, ℕ, IfOk, OnOk, [], None, fold, max, unwrap_or};
 ghost use Rattle.std.specs.List.{list_any};
 ghost use Rattle.id_map.specs.Entries.{entry_in};
-ghost use Rattle.hoist_plan.specs.Plan.{is_elsewhere as is_elsewhere_in, wants_variable as wants_variable_in, is_live as is_live_result, is_named_by_use as is_named_by_use_in, is_named as is_named_in, is_hoisted as is_hoisted_in, own_height as own_height_of, form_by, with_told, raised, operand_if, is_value as is_value_in, known as known_of};
+ghost use Rattle.hoist_plan.specs.Plan.{is_elsewhere as is_elsewhere_in, wants_variable as wants_variable_in, is_live as is_live_result, is_named_by_use as is_named_by_use_in, is_named as is_named_in, is_hoisted as is_hoisted_in, own_height as own_height_of, form_by, form_with as form_with_of, with_told, with_operand, raised, operand_if, is_value as is_value_in};
 ghost use Rattle.hoist_plan.specs.Kept.{placed};
 
 use crate::Form;
 use crate::mention::{
     is_always_named, is_elsewhere, is_phi, is_pure, is_value, user, wants_variable,
 };
-use crate::rows::Row;
-use id_map::IdMap;
+use crate::row::Row;
+use id_map::{IdMap, Span};
 use spv_index::Locals;
 use spv_module::{Function, Module};
-use spv_words::Memory;
 use std::alloc::{AllocError, Global};
 use use_chains::SlotPlace;
 
-fn is_live(row: &Row) -> bool
-    ensures { result ≡ is_live_result (placed row.now) }
+/// The forms of some results, and the height of the highest operand of each instruction, among these.
+#[derive(Drop)]
+pub struct Forms {
+    pub operands: IdMap<u32>,
+    pub forms: IdMap<Form>,
+}
+
+impl Forms {
+    /// No forms, with room for those of the ids of a span.
+    pub fn spanning(alloc: Global, ids: Span) -> Result<Forms, AllocError>
+        ensures operands { IfOk result (λ told. (id : ℕ) → entry_in told.operands id ≡ None) }
+        ensures forms { IfOk result (λ told. (id : ℕ) → entry_in told.forms id ≡ None) }
+    {
+        Ok(Forms {
+            operands: IdMap::spanning(alloc, ids)?,
+            forms: IdMap::spanning(alloc, ids)?,
+        })
+    }
+}
+
+fn is_live(row: &Row, mentions: &[SlotPlace]) -> bool
+    ensures { result ≡ is_live_result (placed mentions.now row.now) }
 {
-    row.mentions.len() > 0 || !is_pure(row.op)
+    mentions.len() > 0 || !is_pure(row.op)
 }
 
 fn some_wants(module: &Module, locals: &Locals, block: usize, places: &[SlotPlace]) -> bool
@@ -38,18 +57,18 @@ fn some_elsewhere(locals: &Locals, block: usize, places: &[SlotPlace]) -> bool
 }
 
 /// Whether a result has a variable whatever its height is, if it is a live value.
-fn is_named_by_use(module: &Module, locals: &Locals, row: &Row) -> bool
-    ensures { result ≡ is_named_by_use_in «module».now.globals locals.now (placed row.now) }
+fn is_named_by_use(module: &Module, locals: &Locals, row: &Row, mentions: &[SlotPlace]) -> bool
+    ensures { result ≡ is_named_by_use_in «module».now.globals locals.now (placed mentions.now row.now) }
 {
     is_always_named(row.op)
-        || row.mentions.len() >= 2
-        || some_wants(module, locals, row.block, row.mentions.as_slice())
+        || mentions.len() >= 2
+        || some_wants(module, locals, row.block, mentions)
 }
 
 /// The height of the expression of a result, where the height of its highest operand is known; it is
 /// counted up to 17.
 fn own_height(operands: &IdMap<u32>, row: &Row) -> u32
-    ensures { result ≡ own_height_of (entry_in operands.now) (placed row.now) }
+    ensures { result ≡ own_height_of (entry_in operands.now) (placed [] row.now) }
 {
     // OpUndef
     if row.op == 1 {
@@ -60,30 +79,37 @@ fn own_height(operands: &IdMap<u32>, row: &Row) -> u32
 }
 
 /// Whether a result has a variable, where it is known whether it is a value.
-fn is_named(module: &Module, locals: &Locals, operands: &IdMap<u32>, row: &Row, value: bool) -> bool
+fn is_named(
+    module: &Module,
+    locals: &Locals,
+    operands: &IdMap<u32>,
+    row: &Row,
+    mentions: &[SlotPlace],
+    value: bool,
+) -> bool
     requires { value ≡ is_value_in «module».now.globals row.now.ty }
-    ensures { result ≡ is_named_in «module».now.globals locals.now (entry_in operands.now) (placed row.now) }
+    ensures { result ≡ is_named_in «module».now.globals locals.now (entry_in operands.now) (placed mentions.now row.now) }
 {
     value
-        && is_live(row)
-        && (is_named_by_use(module, locals, row) || own_height(operands, row) == 17)
+        && is_live(row, mentions)
+        && (is_named_by_use(module, locals, row, mentions) || own_height(operands, row) == 17)
 }
 
-fn is_hoisted(locals: &Locals, row: &Row) -> bool
-    ensures { result ≡ is_hoisted_in locals.now (placed row.now) }
+fn is_hoisted(locals: &Locals, row: &Row, mentions: &[SlotPlace]) -> bool
+    ensures { result ≡ is_hoisted_in locals.now (placed mentions.now row.now) }
 {
-    is_phi(row.op) || some_elsewhere(locals, row.block, row.mentions.as_slice())
+    is_phi(row.op) || some_elsewhere(locals, row.block, mentions)
 }
 
 /// The form of a result, where it is known whether it has a variable.
-fn form_with(locals: &Locals, row: &Row, named: bool) -> Form
-    ensures { result ≡ form_by locals.now named (placed row.now) }
+fn form_with(locals: &Locals, row: &Row, mentions: &[SlotPlace], named: bool) -> Form
+    ensures { result ≡ form_by locals.now named (placed mentions.now row.now) }
 {
-    if !is_live(row) {
+    if !is_live(row, mentions) {
         Form::Gone
     } else if !named {
         Form::Forwarded
-    } else if is_hoisted(locals, row) {
+    } else if is_hoisted(locals, row, mentions) {
         Form::Hoisted
     } else {
         Form::Local
@@ -134,39 +160,34 @@ fn add_operand(
     locals: &Locals,
     operands: &mut IdMap<u32>,
     row: &Row,
+    mentions: &[SlotPlace],
     value: bool,
     named: bool,
 ) -> Result<(), AllocError>
-    ensures { OnOk result ((n : ℕ) → entry_in operands.new n ≡ operand_if (value && not named) locals.now (entry_in operands.old) (placed row.now) n) }
+    ensures { OnOk result ((n : ℕ) → entry_in operands.new n ≡ operand_if (value && not named) locals.now (entry_in operands.old) (placed mentions.now row.now) n) }
 {
     if value && !named {
         let height = own_height(operands, row);
-        raise_all(operands, locals.function(), row.mentions.as_slice(), height)?;
+        raise_all(operands, locals.function(), mentions, height)?;
     }
     Ok(())
 }
 
-fn ids_of(alloc: Global, rows: &[Row]) -> Result<Vec<u32>, AllocError> {
-    rows.iter().map(|row| row.result).collect(alloc)
-}
-
-/// The form of each of these results, which stand in text order.
-pub fn forms(
-    alloc: Global,
+/// Adds the form of a result, where those before it in text order are told.
+pub fn add_form(
+    forms: &mut Forms,
     module: &Module,
     locals: &Locals,
-    rows: &[Row],
-) -> Result<IdMap<Form>, Memory>
-    ensures { IfOk result (λ forms. (n : ℕ) → entry_in forms n ≡ (known_of «module».now.globals locals.now (map placed rows.now)).forms n) }
+    row: &Row,
+    mentions: &[SlotPlace],
+) -> Result<(), AllocError>
+    ensures operands { OnOk result ((n : ℕ) → entry_in forms.new.operands n ≡ with_operand «module».now.globals locals.now (entry_in forms.old.operands) (placed mentions.now row.now) n) }
+    ensures forms { OnOk result ((n : ℕ) → entry_in forms.new.forms n ≡ with_told (entry_in forms.old.forms) row.now.result (form_with_of «module».now.globals locals.now (entry_in forms.old.operands) (placed mentions.now row.now)) n) }
 {
-    let ids = ids_of(alloc, rows)?;
-    let mut operands = IdMap::for_ids(alloc, &ids)?;
-    let mut forms = IdMap::for_ids(alloc, &ids)?;
-    for row in rows {
-        let value = is_value(module, row.ty);
-        let named = is_named(module, locals, &operands, row, value);
-        tell(&mut forms, row.result, form_with(locals, row, named))?;
-        add_operand(locals, &mut operands, row, value, named)?;
-    }
-    Ok(forms)
+    let value = is_value(module, row.ty);
+    let named = is_named(module, locals, &forms.operands, row, mentions, value);
+    let form = form_with(locals, row, mentions, named);
+    tell(&mut forms.forms, row.result, form)?;
+    add_operand(locals, &mut forms.operands, row, mentions, value, named)?;
+    Ok(())
 }

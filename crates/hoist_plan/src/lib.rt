@@ -8,6 +8,7 @@ mod forms;
 mod mention;
 mod mentioned;
 mod naming;
+mod row;
 mod rows;
 
 pub use form::Form;

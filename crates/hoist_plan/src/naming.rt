@@ -7,8 +7,7 @@ ghost use Rattle.hoist_plan.specs.Kept.{form_in, is_carried_in, result_id, steps
 
 use crate::Form;
 use crate::carried::carried;
-use crate::forms::forms;
-use crate::rows::results;
+use crate::rows::{Told, results};
 use id_map::IdMap;
 use spv_index::Locals;
 use spv_module::{Id, Module};
@@ -78,9 +77,9 @@ pub fn plan<L: Ledger>(
     ensures steps { OnOk result (steps.new ≡ steps.old + sum_by steps_of (results_in uses.now locals.now)) }
     ensures bound { OnOk result (IsDistinct (λ a b. a == b) (map result_id (results_in uses.now locals.now)) → steps.new ≤ steps.old + (2 * length uses.now + length (results_in uses.now locals.now))) }
 {
-    let rows = results(alloc, locals.function(), uses, steps)?;
+    let Told { forms, chains, .. } = results(alloc, module, locals, uses, steps)?;
     Ok(Naming {
-        forms: forms(alloc, module, locals, &rows)?,
-        carried: carried(alloc, locals, graph, &rows)?,
+        forms: forms.forms,
+        carried: carried(alloc, locals, graph, &chains)?,
     })
 }

@@ -1,26 +1,26 @@
-// The results of a function, with where they are mentioned.
-ghost use Rattle.std.specs.Prelude.{◌≡◌, ◌+◌, ◌*◌, ◌++◌, ◌≤◌, IfOk, OnOk, length, map, sum_by};
-ghost use Rattle.hoist_plan.specs.Plan.{mentions_of, results_of_block, results as results_in};
-ghost use Rattle.hoist_plan.specs.Kept.{placed, places_in, steps_of, AreRising};
+// A walk over the results of a function, with where they are mentioned.
+ghost use Rattle.std.specs.Prelude.{◌≡◌, ◌==◌, not, ◌+◌, ◌*◌, ◌++◌, [], ◌∷◌, IfOk, OnOk, fold, length, map, sum_by};
+ghost use Rattle.hoist_plan.specs.Plan.{mentions_of, nothing, result_of, results_of_block, results as results_in, with_result};
+ghost use Rattle.hoist_plan.specs.Kept.{chains_among, chains_of, chains_of_block, chains_of_inst, known_in, placed, placed_chain, steps_of, AreRising};
 
+use crate::carried::is_chain_opcode;
+use crate::forms::{Forms, add_form};
 use crate::mentioned::Mentioned;
-use spv_module::{Block, Function, Id};
+use crate::row::{Chain, Row};
+use id_map::Span;
+use spv_index::Locals;
+use spv_module::{Block, Id, Inst, Module};
 use spv_words::Memory;
-use std::alloc::Global;
+use std::alloc::{AllocError, Global};
 use std::sync::ledger::Ledger;
 use use_chains::{SlotPlace, Steps, Uses};
 
-/// The result of an instruction: the index of its block, the opcode, its type and its id, its first
-/// operand, which is the base of a chain, and where the linked slots that mention the result stand, in
-/// text order.
+/// What is told of the results so far: their forms, and those that are chains. The places serve each result in turn.
 #[derive(Drop)]
-pub struct Row {
-    pub block: usize,
-    pub op: u16,
-    pub ty: u32,
-    pub result: u32,
-    pub base: u32,
-    pub mentions: Mentioned,
+pub struct Told {
+    pub forms: Forms,
+    pub chains: Vec<Chain>,
+    places: Vec<SlotPlace>,
 }
 
 /// Lists where the linked slots of an id stand, in text order, in place of what was listed.
@@ -43,67 +43,124 @@ fn list_mentions<L: Ledger>(
     Ok(())
 }
 
-/// Where the linked slots of an id stand. The places are listed in a vector that serves each id.
-fn mentioned<L: Ledger>(
-    alloc: Global,
-    places: &mut Vec<SlotPlace>,
-    uses: &Uses,
-    id: Id,
-    steps: &mut Steps<L>,
-) -> Result<Mentioned, Memory>
-    requires { AreRising uses.now }
-    ensures places { IfOk result (λ mentioned. places_in mentioned ≡ mentions_of uses.now id.0) }
-    ensures steps { OnOk result (steps.new ≡ steps.old + (2 * length (mentions_of uses.now id.0) + 1)) }
+fn has_result(inst: &Inst) -> bool
+    ensures { result ≡ not (inst.now.result == 0) }
 {
-    list_mentions(places, uses, id, steps)?;
-    let mentioned = Mentioned::of(alloc, places)?;
-    Ok(mentioned)
+    inst.result != 0
+}
+
+/// Adds a result where it is a chain.
+fn add_chain(
+    alloc: Global,
+    chains: &mut Vec<Chain>,
+    row: Row,
+    places: &[SlotPlace],
+) -> Result<(), AllocError>
+    ensures { OnOk result (map placed_chain chains.new.items ≡ map placed_chain chains.old.items ++ chains_among (placed places.now row ∷ [])) }
+{
+    if !is_chain_opcode(row.op) {
+        return Ok(());
+    }
+    let mentions = Mentioned::of(alloc, places)?;
+    chains.push(Chain { row, mentions })?;
+    Ok(())
+}
+
+/// Adds the result of an instruction, where it has one.
+fn add_result<L: Ledger>(
+    alloc: Global,
+    told: &mut Told,
+    module: &Module,
+    locals: &Locals,
+    uses: &Uses,
+    place: usize,
+    inst: &Inst,
+    steps: &mut Steps<L>,
+) -> Result<(), Memory>
+    requires { AreRising uses.now }
+    ensures known { OnOk result (known_in told.new.forms ≡ fold (with_result «module».now.globals locals.now) (known_in told.old.forms) (result_of uses.now place inst.now)) }
+    ensures chains { OnOk result (map placed_chain told.new.chains.items ≡ map placed_chain told.old.chains.items ++ chains_of_inst uses.now place inst.now) }
+    ensures steps { OnOk result (steps.new ≡ steps.old + sum_by steps_of (result_of uses.now place inst.now)) }
+{
+    if !has_result(inst) {
+        return Ok(());
+    }
+    list_mentions(&mut told.places, uses, Id(inst.result), steps)?;
+    let base = inst.operand(0);
+    let row = Row {
+        block: place,
+        op: inst.op,
+        ty: inst.ty,
+        result: inst.result,
+        base,
+    };
+    add_form(&mut told.forms, module, locals, &row, &told.places)?;
+    add_chain(alloc, &mut told.chains, row, &told.places)?;
+    Ok(())
 }
 
 /// Adds the results of a block.
 fn add_results_of_block<L: Ledger>(
     alloc: Global,
-    rows: &mut Vec<Row>,
-    places: &mut Vec<SlotPlace>,
+    told: &mut Told,
+    module: &Module,
+    locals: &Locals,
     uses: &Uses,
     place: usize,
     block: &Block,
     steps: &mut Steps<L>,
 ) -> Result<(), Memory>
     requires { AreRising uses.now }
-    ensures rows { OnOk result (map placed rows.new.items ≡ map placed rows.old.items ++ results_of_block uses.now (place, block.now)) }
-    ensures steps { OnOk result (steps.new + sum_by steps_of (map placed rows.old.items) ≡ steps.old + sum_by steps_of (map placed rows.new.items)) }
+    ensures known { OnOk result (known_in told.new.forms ≡ fold (with_result «module».now.globals locals.now) (known_in told.old.forms) (results_of_block uses.now (place, block.now))) }
+    ensures chains { OnOk result (map placed_chain told.new.chains.items ≡ map placed_chain told.old.chains.items ++ chains_of_block uses.now (place, block.now)) }
+    ensures steps { OnOk result (steps.new ≡ steps.old + sum_by steps_of (results_of_block uses.now (place, block.now))) }
 {
     for inst in block.insts.as_slice() {
-        if inst.result != 0 {
-            rows.push(Row {
-                block: place,
-                op: inst.op,
-                ty: inst.ty,
-                result: inst.result,
-                base: inst.operand(0),
-                mentions: mentioned(alloc, places, uses, Id(inst.result), steps)?,
-            })?;
-        }
+        add_result(alloc, told, module, locals, uses, place, inst, steps)?;
     }
     Ok(())
 }
 
-/// The results of a function, in text order.
+/// The span of the results of blocks.
+fn ids_of(blocks: &[Block]) -> Span {
+    let mut ids = Span::new();
+    for block in blocks {
+        for inst in block.insts.as_slice() {
+            ids.add(inst.result);
+        }
+    }
+    ids
+}
+
+/// Nothing is told, with room for the results of blocks.
+fn none_for(alloc: Global, blocks: &[Block]) -> Result<Told, AllocError>
+    ensures known { IfOk result (λ told. known_in told.forms ≡ nothing) }
+    ensures chains { IfOk result (λ told. told.chains.items ≡ []) }
+{
+    Ok(Told {
+        forms: Forms::spanning(alloc, ids_of(blocks))?,
+        chains: Vec::new(alloc),
+        places: Vec::new(alloc),
+    })
+}
+
+/// The forms of the results of a function, and those that are chains, in text order.
 pub fn results<L: Ledger>(
     alloc: Global,
-    f: &Function,
+    module: &Module,
+    locals: &Locals,
     uses: &Uses,
     steps: &mut Steps<L>,
-) -> Result<Vec<Row>, Memory>
+) -> Result<Told, Memory>
     requires { AreRising uses.now }
-    ensures rows { IfOk result (λ rows. map placed rows.items ≡ results_in uses.now f.now) }
-    ensures steps { OnOk result (steps.new ≡ steps.old + sum_by steps_of (results_in uses.now f.now)) }
+    ensures known { IfOk result (λ told. known_in told.forms ≡ fold (with_result «module».now.globals locals.now) nothing (results_in uses.now locals.now)) }
+    ensures chains { IfOk result (λ told. map placed_chain told.chains.items ≡ chains_of uses.now locals.now) }
+    ensures steps { OnOk result (steps.new ≡ steps.old + sum_by steps_of (results_in uses.now locals.now)) }
 {
-    let mut rows = Vec::new(alloc);
-    let mut places = Vec::new(alloc);
-    for (place, block) in f.blocks.as_slice().iter().enumerate() {
-        add_results_of_block(alloc, &mut rows, &mut places, uses, place, block, steps)?;
+    let blocks = locals.function().blocks.as_slice();
+    let mut told = none_for(alloc, blocks)?;
+    for (place, block) in blocks.iter().enumerate() {
+        add_results_of_block(alloc, &mut told, module, locals, uses, place, block, steps)?;
     }
-    Ok(rows)
+    Ok(told)
 }

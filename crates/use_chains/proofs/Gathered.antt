@@ -90,3 +90,8 @@ gathered_new ms n ids placed after g absent is =
         | inr apart ↦ let has = g.listed k (omega (arith, less, apart)) in ap is_some (at_old ids x lacks (nth ms k).id has) ∙ has
       ];
     }
+
+-- it is not among those that a search finds
+pub gathered_searched : (ms : List Mention) (n : ℕ) (ids : List ℕ) → AreGathered ms n ids (place_of ids) → is_some (place_of ids (nth ms n).id) ≡ false
+    → AreGathered ms (n + 1) (ids ++ (nth ms n).id ∷ []) (place_of (ids ++ (nth ms n).id ∷ []))
+gathered_searched ms n ids g absent = gathered_new ms n ids (place_of ids) (place_of (ids ++ (nth ms n).id ∷ [])) g absent (at_each ids (nth ms n).id absent)

@@ -7,6 +7,7 @@ pub mod Seen
 pub mod Searching
 pub mod Gathered
 pub mod Built
+pub mod Later
 pub mod Owners
 pub mod Tally
 pub mod Merging

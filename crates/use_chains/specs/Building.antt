@@ -1,5 +1,5 @@
 -- The rows while all slots are linked, and while those that are not live are taken out.
-use Rattle.std.specs.Prelude.{ℕ, ◌≡◌, ◌<◌, ◌≤◌, Bool, true, false, List, Option, None, length, is_some}
+use Rattle.std.specs.Prelude.{ℕ, ◌≡◌, ◌<◌, ◌≤◌, ◌||◌, not, nat_lt, Bool, true, false, List, Option, None, Some, length, is_some}
 use Rattle.use_chains.specs.declared.mention.Mention.{Mention}
 use Rattle.use_chains.specs.declared.rows.Row.{Row}
 use Rattle.use_chains.specs.Chains.{ChainsState, AreApart, ends_of, no_ends, place_of}
@@ -48,3 +48,12 @@ pub record AreKept (ms : List Mention) (links : List Link) : Type 0 where
   pub marks : List Bool
   pub links_are : links ≡ links_kept marks ms
   pub live : AreLiveSlots ms marks
+
+-- a number is below the last of a list
+abbrev pub is_before_last : ℕ → Option ℕ → Bool
+is_before_last k None = false
+is_before_last k (Some last) = nat_lt k last
+
+-- a slot has this number: it is one of an instruction with an effect, or stands before a slot that mentions the result
+abbrev pub is_mentioned_later : ChainsState → ℕ × Mention → Bool
+is_mentioned_later c m = not m.1.is_pure || is_before_last m.0 (ends_of c m.1.result).last

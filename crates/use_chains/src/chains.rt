@@ -21,7 +21,7 @@ pub struct Chains {
     // each once
     ids: Vec<u32>,
     ends: Vec<Ends>,
-    // where the ids stand, unless memory for it was wanting
+    // where the ids stand, unless they are few or memory for it was wanting
     places: Option<Places>,
 }
 
@@ -55,7 +55,7 @@ impl Model for Chains {
 }
 
 /// The place of an id, by a search.
-fn searched(ids: &[u32], id: u32) -> Option<usize>
+pub fn searched(ids: &[u32], id: u32) -> Option<usize>
     ensures place { result ≡ place_of ids.now id }
     ensures within { IfSome result (λ place. place < length ids.now) }
 {
@@ -75,17 +75,14 @@ fn moved(before: Places, from: u32, to: u32, place: usize) -> Option<Places>
 }
 
 impl Chains {
-    /// The lists of these ids, in the same order, where these are the places of the ids.
-    pub fn new(ids: Vec<u32>, ends: Vec<Ends>, places: Places) -> Chains
+    /// The lists of these ids, in the same order, where these are the places of the ids. Without places an id is found by a
+    /// search.
+    pub fn new(ids: Vec<u32>, ends: Vec<Ends>, places: Option<Places>) -> Chains
         requires chains { AreChains ids.items ends.items }
-        requires places { ArePlaced ids.items places }
+        requires places { IfSome places (ArePlaced ids.items) }
         ensures { result ≡ record { ids = ids.items; ends = ends.items } }
     {
-        Chains {
-            ids,
-            ends,
-            places: Some(places),
-        }
+        Chains { ids, ends, places }
     }
 
     /// The place of an id among all.

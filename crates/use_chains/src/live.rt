@@ -7,7 +7,7 @@ ghost use Rattle.use_chains.specs.Search.{nth, defines, AreEarlier, HasEarlier, 
 use crate::Steps;
 use crate::mention::Mention;
 use crate::rows::Rows;
-use id_map::IdMap;
+use id_map::{IdMap, Span};
 use spv_words::Memory;
 use std::alloc::{AllocError, Global};
 use std::sync::ledger::Ledger;
@@ -33,15 +33,19 @@ fn before(last: &mut IdMap<usize>, slot: &Mention, k: usize) -> Result<Option<us
     }
 }
 
-/// The results of the instructions of slots.
-fn results(alloc: Global, slots: &[Mention]) -> Result<Vec<u32>, AllocError> {
-    slots.iter().map(|slot| slot.result).collect(alloc)
+/// The span of the results of the instructions of slots.
+fn results(slots: &[Mention]) -> Span {
+    let mut results = Span::new();
+    for slot in slots {
+        results.add(slot.result);
+    }
+    results
 }
 
 fn definitions(alloc: Global, slots: &[Mention]) -> Result<Defined, AllocError>
     ensures { IfOk result (λ d. AreEarlier slots.now (length slots.now) (entry_in d.last) d.earlier.items) }
 {
-    let mut last = IdMap::for_ids(alloc, &results(alloc, slots)?)?;
+    let mut last = IdMap::spanning(alloc, results(slots))?;
     let mut earlier = Vec::with_capacity(alloc, slots.len())?;
     for (k, slot) in slots.iter().enumerate() {
         earlier.push(before(&mut last, slot, k)?)?;

@@ -11,7 +11,7 @@ use crate::linking::take_out;
 use crate::mention::Mention;
 use crate::retarget::{merge, take_over};
 use crate::rows::Rows;
-use crate::{Slot, SlotPlace, Steps, live, mention};
+use crate::{Slot, SlotPlace, Steps, mention};
 use spv_index::Locals;
 use spv_module::Id;
 use spv_words::Memory;
@@ -60,8 +60,7 @@ fn linked<L: Ledger>(alloc: Global, slots: &[Mention], steps: &mut Steps<L>) -> 
     let mut rows = Rows::new(unlinked(alloc, slots)?);
     let mut chains = empty(alloc, slots)?;
     link_all(&mut rows, &mut chains, slots);
-    let marks = live::live(alloc, slots, &rows, steps)?;
-    drop_dead(&mut rows, &mut chains, slots, &marks, steps);
+    drop_dead(alloc, &mut rows, &mut chains, slots, steps)?;
     Ok(Uses { rows, chains })
 }
 

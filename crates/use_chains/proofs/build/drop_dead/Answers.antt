@@ -1,23 +1,20 @@
-use Rattle.std.proofs.Common.{◌<◌, length, subst, arith}
-use Rattle.use_chains.proofs.Built.{dropped_first, dropped_past, dropped_out}
+use Rattle.std.proofs.Common.{◌≡◌, ◌∙◌, length, sym, true}
+use Rattle.std.specs.List.{enumerate_from, list_all}
+use Rattle.use_chains.specs.Building.{IsDroppedTo, is_mentioned_later}
+use Rattle.use_chains.proofs.Built.{dropped_links}
+use Rattle.use_chains.proofs.Later.{all_kept}
 use Rattle.use_chains.proofs.build.drop_dead.Goals as goal
-use Rattle.use_chains.proofs.build.drop_dead.Goals.{then-not-is_live, else-not-is_live}
 
-pub loop-k-init : goal.loop-k-init
-loop-k-init g c = (c.requires.linked, dropped_first c.args.slots.now c.args.live.now c.args.rows.now c.requires.all, omega arith)
+pub returns-then-are_mentioned_later-clause-kept : goal.returns-then-are_mentioned_later-clause-kept
+returns-then-are_mentioned_later-clause-kept g c =
+    let all : list_all (is_mentioned_later c.args.chains.now) (enumerate_from 0 c.args.slots.now) ≡ true = sym c.are_mentioned_later.ensures ∙ c.if-are_mentioned_later.true in
+    all_kept c.args.slots.now c.args.rows.now c.args.chains.now c.requires.linked c.requires.all all
 
-pub loop-k-preserved : goal.loop-k-preserved
-loop-k-preserved g c =
-    let inside : c.loop-k.k < length c.args.slots.now = subst (λ n. c.loop-k.k < n) c.requires.sized c.loop-k-test.true in
-    elim c.if-not-is_live.branch [
-      | then-not-is_live w ↦ (
-        rw (w.rows-is, w.chains-is) w.take_out.ensures.linked,
-        rw (w.rows-is, w.take_out.ensures.rows) (dropped_out c.args.slots.now c.args.live.now c.loop-k.rows c.loop-k.k c.loop-k.invariant.1 inside w.if-not-is_live.true),
-        rw w.steps-is (omega (arith, w.take_out.ensures.steps, c.loop-k.invariant.2)),
-      )
-      | else-not-is_live w ↦ (
-        rw (w.rows-is, w.chains-is) c.loop-k.invariant.0,
-        rw w.rows-is (dropped_past c.args.slots.now c.args.live.now c.loop-k.rows c.loop-k.k c.loop-k.invariant.1 inside w.if-not-is_live.false),
-        rw w.steps-is (omega (arith, c.loop-k.invariant.2)),
-      )
-    ]
+pub returns-clause-kept : goal.returns-clause-kept
+returns-clause-kept g c =
+    let dropped : IsDroppedTo c.args.slots.now c.in_ok-marks.marks.items c.drop_unmarked.new.rows (length c.args.slots.now) = rw c.deref.ensures.value at c.drop_unmarked.ensures.dropped in
+    record {
+      marks = c.in_ok-marks.marks.items;
+      links_are = dropped_links c.args.slots.now c.in_ok-marks.marks.items c.drop_unmarked.new.rows dropped;
+      live = c.in_ok-marks.ensures.live;
+    }

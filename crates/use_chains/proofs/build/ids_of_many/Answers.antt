@@ -2,8 +2,8 @@ use Rattle.std.proofs.Common.{◌≡◌, ◌==◌, ◌∙◌, ℕ, length, true,
 use Rattle.id_map.specs.Entries.{entry_in}
 use Rattle.use_chains.specs.Search.{nth}
 use Rattle.use_chains.proofs.Gathered.{gathered_known, gathered_new}
-use Rattle.use_chains.proofs.build.ids_of.Goals as goal
-use Rattle.use_chains.proofs.build.ids_of.Goals.{then-not-has+in_ok-insert+in_ok-push, else-not-has}
+use Rattle.use_chains.proofs.build.ids_of_many.Goals as goal
+use Rattle.use_chains.proofs.build.ids_of_many.Goals.{then-not-has+in_ok-insert+in_ok-push, else-not-has}
 
 pub loop-slot-preserved : goal.loop-slot-preserved
 loop-slot-preserved c =

@@ -1,0 +1,22 @@
+// The results of instructions.
+ghost use Rattle.hoist_plan.specs.Kept.{places_in};
+
+use crate::mentioned::Mentioned;
+
+/// The result of an instruction: the index of its block, the opcode, its type and its id, and its first
+/// operand, which is the base of a chain.
+#[derive(Clone, Copy)]
+pub struct Row {
+    pub block: usize,
+    pub op: u16,
+    pub ty: u32,
+    pub result: u32,
+    pub base: u32,
+}
+
+/// A result that is a chain, and where the linked slots that mention it stand, in text order.
+#[derive(Drop)]
+pub struct Chain {
+    pub row: Row,
+    pub mentions: Mentioned,
+}
