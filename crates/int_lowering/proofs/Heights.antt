@@ -29,7 +29,7 @@ use Rattle.int_lowering.specs.declared.built_ins.BuiltIn.TheVariants as built_in
 use Rattle.int_lowering.specs.Operand.{Operand, base_named, type_named, same_elem, converted, as_elem, as_int, with_elem, first, rest, second, third, fourth, highest_operand}
 use Rattle.int_lowering.specs.Term.{call_built_in, unsigned_literal}
 use Rattle.int_lowering.specs.Division.{is_negative, magnitude, quotient, remainder, signed_quotient, signed_remainder, signed_modulo, signs, of_like_signs, of_unlike_signs}
-use Rattle.int_lowering.specs.Lowered.{both_as, function_of_both, function_of, modulo_32, shift_amount, shifted, unary, binary, comparison, compared_as_they_are, logical, clamped, clamp, extracted, inserted, written, written_if_any, lowered_basic}
+use Rattle.int_lowering.specs.Lowered.{both_as, function_of_both, function_of, modulo_32, shift_amount, shifted, unary, binary, comparison, compared_as_they_are, logical, clamped, clamp, extracted, inserted, written, applied, written_if_any, lowered_basic}
 
 -- n + k + 1 is n + (k + 1), and what is below the one is below the other
 within-le : (m k n : ℕ) → m ≤ k → k ≤ n → m ≤ n
@@ -244,18 +244,28 @@ third-le xs = omega (arith, second-le (rest xs), rest-le xs)
 fourth-le : (xs : List Operand) → height (fourth xs).expr ≤ 1 + highest_operand xs
 fourth-le xs = omega (arith, third-le (rest xs), rest-le xs)
 
-found-le : (found : Option Operation) (ty : BasicType) (xs : List Operand) → height (written_if_any found ty xs) ≤ 12 + highest_operand xs
-found-le None ty xs = omega arith
-found-le (Some o) ty xs = omega (arith, written-le o ty (first xs) (second xs) (third xs) (fourth xs) (1 + highest_operand xs) (first-le xs) (second-le xs) (third-le xs) (fourth-le xs))
-
 -- the law: at most 12, so at most 40, higher than the highest operand
-pub height-close : (op ext : ℕ) (ty : BasicType) (xs : List Operand) → height (lowered_basic op ext ty xs) ≤ 12 + highest_operand xs
-height-close op ext ty xs = found-le (operation_of op (ext ∷ [])) ty xs
+pub height-close : (o : Operation) (ty : BasicType) (xs : List Operand) → height (applied o ty xs) ≤ 12 + highest_operand xs
+height-close o ty xs =
+    omega (arith, written-le o ty (first xs) (second xs) (third xs) (fourth xs) (1 + highest_operand xs) (first-le xs) (second-le xs) (third-le xs) (fourth-le xs))
+
+pub height-applied : (o : Operation) (ty : BasicType) (xs : List Operand) → height (applied o ty xs) ≤ 40 + highest_operand xs
+height-applied o ty xs = within-le _ _ _ (height-close o ty xs) (omega arith)
+
+found-le : (found : Option Operation) (ty : BasicType) (xs : List Operand) → height (written_if_any found ty xs) ≤ 40 + highest_operand xs
+found-le None ty xs = omega arith
+found-le (Some o) ty xs = height-applied o ty xs
 
 pub height-lowered_basic : (op ext : ℕ) (ty : BasicType) (xs : List Operand) → height (lowered_basic op ext ty xs) ≤ 40 + highest_operand xs
-height-lowered_basic op ext ty xs = within-le _ _ _ (height-close op ext ty xs) (omega arith)
+height-lowered_basic op ext ty xs = found-le (operation_of op (ext ∷ [])) ty xs
 
--- the same of a call's answer
+-- the same of calls' answers
+pub height-operation : (r : Result Code Memory) (o : Operation) (ty : BasicType) (xs : List Operand) → IfOk r (λ e. expr_of e ≡ applied o ty xs) → IfOk r (λ e. height (expr_of e) ≤ 40 + highest_operand xs)
+height-operation (Ok e) o ty xs is =
+    let P : Expr → Type 0 = λ x. height x ≤ 40 + highest_operand xs in
+    subst P (sym is) (height-applied o ty xs)
+height-operation (Err e) o ty xs is = tt
+
 pub height-result : (r : Result Code Memory) (op ext : ℕ) (ty : BasicType) (xs : List Operand) → IfOk r (λ e. expr_of e ≡ lowered_basic op ext ty xs) → IfOk r (λ e. height (expr_of e) ≤ 40 + highest_operand xs)
 height-result (Ok e) op ext ty xs is =
     let P : Expr → Type 0 = λ x. height x ≤ 40 + highest_operand xs in

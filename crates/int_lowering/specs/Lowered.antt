@@ -137,9 +137,13 @@ written op.Select ty a b c d = choose a.expr b.expr c.expr
 written op.Copy ty a b c d = converted ty a.ty.elem a.expr
 written _ ty a b c d = zero ty
 
+-- the same of a list of operands
+abbrev pub applied : Operation → BasicType → List Operand → Expr
+applied o ty xs = written o ty (first xs) (second xs) (third xs) (fourth xs)
+
 -- the same where there is an operation, and else a zero
 abbrev pub written_if_any : Option Operation → BasicType → List Operand → Expr
-written_if_any (Some o) ty xs = written o ty (first xs) (second xs) (third xs) (fourth xs)
+written_if_any (Some o) ty xs = applied o ty xs
 written_if_any None ty xs = zero ty
 
 -- the same by opcode and, of OpExtInst, by the number in GLSL.std.450

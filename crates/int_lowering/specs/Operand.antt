@@ -65,9 +65,13 @@ same_elem Int Int = true
 same_elem Uint Uint = true
 same_elem _ _ = false
 
+-- a constructor of one argument
+abbrev pub constructed : BasicType → tree.Expr → tree.Expr
+constructed ty e = tree.build (type_named ty) (tree.expr e tree.no_exprs)
+
 -- r(e): an expression whose components are of one type, as a value of another type: itself where it is of that, else a constructor
 abbrev pub converted : BasicType → Elem → tree.Expr → tree.Expr
-converted ty from e = if same_elem ty.elem from then e else tree.build (type_named ty) (tree.expr e tree.no_exprs)
+converted ty from e = if same_elem ty.elem from then e else constructed ty e
 
 -- an operand as components of a type: the literal of a constant, else the operand itself or a constructor
 abbrev pub as_elem : Elem → Operand → tree.Expr

@@ -3,16 +3,17 @@ ghost use Rattle.std.specs.Prelude.{◌≡◌, ◌+◌, ◌≤◌, ◌∷◌, []
 ghost use Rattle.glsl_ast.specs.View.{expr_of};
 ghost use Rattle.glsl_ast.specs.Height.{height};
 ghost use Rattle.op_semantics.specs.Value.{operation_of as operation_by};
-ghost use Rattle.int_lowering.specs.Operand.{operand_of, first, second, third, fourth, highest_operand};
+ghost use Rattle.int_lowering.specs.Operand.{operand_of, highest_operand};
 ghost use Rattle.int_lowering.specs.Lowered as lowered;
 
 use crate::basic::BasicType;
 use crate::built_ins::BuiltIn;
-use crate::operands::{Arg, next_operand};
+use crate::operands::Arg;
 use crate::operations::{
-    binary_operation, clamp, comparison, copy, extract, insert, logical, select, unary,
+    binary_operation, clamp, comparison, copy, extract, function_of_next, insert, logical,
+    logical_not, select, unary,
 };
-use crate::terms::{call_one, literal, not};
+use crate::terms::literal;
 use glsl_ast::Expr;
 use op_semantics::{Operation, extended_operation_of, operation_of};
 use spv_module::Elem;
@@ -35,27 +36,28 @@ pub fn operation(op: u16, ext: u32) -> Option<Operation>
 }
 
 /// The expression of an operation, from the type of its result and its operands.
+#[inline(always)]
 fn write_operation(
     alloc: Global,
     operation: Operation,
     ty: BasicType,
     operands: Vec<Arg>,
 ) -> Result<Expr, Memory>
-    ensures { IfOk result (λ e. expr_of e ≡ lowered.written operation ty (first (map operand_of operands.items)) (second (map operand_of operands.items)) (third (map operand_of operands.items)) (fourth (map operand_of operands.items))) }
+    ensures { IfOk result (λ e. expr_of e ≡ lowered.applied operation ty (map operand_of operands.items)) }
 {
     let args = &mut operands.into_iter();
     match operation {
-        Operation::Unary(op) => unary(alloc, op, ty, next_operand(args)),
+        Operation::Unary(op) => unary(alloc, op, ty, args),
         Operation::Binary(op) => binary_operation(alloc, op, ty, args),
         Operation::Comparison(op) => comparison(alloc, op, args),
         Operation::Logical(op) => logical(alloc, op, args),
-        Operation::LogicalNot => not(alloc, next_operand(args).expr),
+        Operation::LogicalNot => logical_not(alloc, args),
         Operation::Clamp(op) => clamp(alloc, op, ty, args),
         Operation::BitFieldInsert => insert(alloc, ty.elem, args),
         Operation::BitFieldSExtract => extract(alloc, Elem::Int, ty, args),
         Operation::BitFieldUExtract => extract(alloc, Elem::Uint, ty, args),
-        Operation::Any => call_one(alloc, BuiltIn::Any, next_operand(args).expr),
-        Operation::All => call_one(alloc, BuiltIn::All, next_operand(args).expr),
+        Operation::Any => function_of_next(alloc, BuiltIn::Any, args),
+        Operation::All => function_of_next(alloc, BuiltIn::All, args),
         Operation::Select => select(alloc, args),
         Operation::Copy => copy(alloc, ty, args),
         Operation::Undef
@@ -82,6 +84,19 @@ fn write_opcode(
         None => Ok(literal(ty.elem, 0)),
         Some(operation) => write_operation(alloc, operation, ty, operands),
     }
+}
+
+/// What `lower_basic` says of an opcode that stands for this operation.
+pub fn lower_operation(
+    alloc: Global,
+    operation: Operation,
+    ty: BasicType,
+    operands: Vec<Arg>,
+) -> Result<Expr, Memory>
+    ensures lowered { IfOk result (λ e. expr_of e ≡ lowered.applied operation ty (map operand_of operands.items)) }
+    ensures height { IfOk result (λ e. height (expr_of e) ≤ 40 + highest_operand (map operand_of operands.items)) }
+{
+    write_operation(alloc, operation, ty, operands)
 }
 
 /// The expression of an operation whose result is of this type, where GLSL writes it on vectors as on scalars: all operations

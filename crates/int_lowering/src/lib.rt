@@ -12,6 +12,6 @@ mod terms;
 
 pub use basic::{BasicType, basic_type, type_name};
 pub use built_ins::BuiltIn;
-pub use instructions::{lower, lower_basic, operation};
+pub use instructions::{lower, lower_basic, lower_operation, operation};
 pub use operands::Arg;
 pub use terms::literal;

@@ -2,9 +2,9 @@
 ghost use Rattle.std.specs.Prelude.{◌≡◌, IfOk, map};
 ghost use Rattle.std.specs.Vec.Iter.{into_iter_items};
 ghost use Rattle.glsl_ast.specs.View.{expr_of};
-ghost use Rattle.int_lowering.specs.Operand.{operand_of, plain, as_elem, first, rest};
+ghost use Rattle.int_lowering.specs.Operand.{operand_of, plain, as_elem, missing as absent, first, rest};
 
-use crate::basic::{BasicType, basic_type};
+use crate::basic::{BasicType, basic_type, same_elem};
 use crate::terms::{convert, literal};
 use glsl_ast::{Expr, Literal};
 use spv_module::{Elem, Shape};
@@ -30,6 +30,7 @@ pub struct Operand {
 }
 
 impl Operand {
+    #[inline(always)]
     fn new(arg: Arg) -> Operand
         ensures { plain result ≡ operand_of arg }
     {
@@ -37,6 +38,20 @@ impl Operand {
             ty: basic_type(&arg.shape),
             expr: arg.expr,
             word: arg.word,
+        }
+    }
+
+    /// `0u`, which an operand that is not there counts as.
+    fn missing() -> Operand
+        ensures { plain result ≡ absent }
+    {
+        Operand {
+            expr: Expr::Literal(Literal::Uint(0)),
+            ty: BasicType {
+                elem: Elem::Uint,
+                size: None,
+            },
+            word: None,
         }
     }
 
@@ -63,6 +78,17 @@ impl Operand {
         }
     }
 
+    /// The same, for an operator over it.
+    #[inline(always)]
+    pub fn into_boxed(self, alloc: Global, elem: Elem) -> Result<Box<Expr>, Memory>
+        ensures { IfOk result (λ e. expr_of e.value ≡ as_elem elem (plain self)) }
+    {
+        if self.word.is_none() && same_elem(elem, self.ty.elem) {
+            return Ok(Box::new(alloc, self.expr)?);
+        }
+        Ok(Box::new(alloc, self.into_elem(alloc, elem)?)?)
+    }
+
     /// The same of an operand that is mentioned again.
     pub fn to_elem(&self, alloc: Global, elem: Elem) -> Result<Expr, Memory>
         ensures { IfOk result (λ e. expr_of e ≡ as_elem elem (plain self.now)) }
@@ -72,21 +98,23 @@ impl Operand {
 }
 
 /// The next operand, or `0u` where none is left.
+#[inline(always)]
 pub fn next_operand(args: &mut IntoIter<Arg>) -> Operand
     ensures operand { plain result ≡ first (map operand_of (into_iter_items args.old)) }
     ensures rest { map operand_of (into_iter_items args.new) ≡ rest (map operand_of (into_iter_items args.old)) }
 {
     match args.next() {
         Some(arg) => Operand::new(arg),
-        None => Operand {
-            expr: Expr::Literal(Literal::Uint(0)),
-            ty: BasicType {
-                elem: Elem::Uint,
-                size: None,
-            },
-            word: None,
-        },
+        None => Operand::missing(),
     }
+}
+
+/// An operand that is not there, for an operator over it.
+#[inline(never)]
+fn missing_boxed(alloc: Global, elem: Elem) -> Result<Box<Expr>, Memory>
+    ensures { IfOk result (λ e. expr_of e.value ≡ as_elem elem absent) }
+{
+    Operand::missing().into_boxed(alloc, elem)
 }
 
 /// The next operand as components of a type, for an operator over it.
@@ -94,6 +122,8 @@ pub fn next_boxed(alloc: Global, args: &mut IntoIter<Arg>, elem: Elem) -> Result
     ensures boxed { IfOk result (λ e. expr_of e.value ≡ as_elem elem (first (map operand_of (into_iter_items args.old)))) }
     ensures rest { map operand_of (into_iter_items args.new) ≡ rest (map operand_of (into_iter_items args.old)) }
 {
-    let operand = next_operand(args);
-    Ok(Box::new(alloc, operand.into_elem(alloc, elem)?)?)
+    match args.next() {
+        Some(arg) => Operand::new(arg).into_boxed(alloc, elem),
+        None => missing_boxed(alloc, elem),
+    }
 }

@@ -1,19 +1,21 @@
 // The expression of each operation on scalars.
-ghost use Rattle.std.specs.Prelude.{◌≡◌, IfOk, map};
+ghost use Rattle.std.specs.Prelude.{◌≡◌, ◌∷◌, [], IfOk, map};
 ghost use Rattle.std.specs.Vec.Iter.{into_iter_items};
 ghost use Rattle.glsl_ast.specs.View.{expr_of};
 ghost use Rattle.glsl_ast.specs.Tree as tree;
 ghost use Rattle.glsl_ast.specs.declared.expressions.BinOp.TheVariants.{Shr};
 ghost use Rattle.op_semantics.specs.declared.operation.Unary.TheVariants.{BitCount};
-ghost use Rattle.spv_module.specs.declared.tree.Elem.TheVariants.{Int};
+ghost use Rattle.spv_module.specs.declared.tree.Elem.TheVariants.{Int, Uint};
 ghost use Rattle.int_lowering.specs.Operand.{operand_of, plain, converted, first, second, third, fourth};
+ghost use Rattle.int_lowering.specs.Term.{call_built_in as built_in_called};
+ghost use Rattle.int_lowering.specs.Division as division;
 ghost use Rattle.int_lowering.specs.Lowered as lowered;
 
 use crate::basic::{BasicType, same_elem};
 use crate::built_ins::{BuiltIn, call_built_in};
 use crate::division::{magnitude, signed_modulo, signed_quotient, signed_remainder};
 use crate::operands::{Arg, Operand, next_boxed, next_operand};
-use crate::terms::{binary, call_one, call_two, choose, convert, flip, literal};
+use crate::terms::{binary, call_one, call_two, choose, convert, flip, literal, not};
 use glsl_ast::{BinOp, Expr};
 use op_semantics::{Binary, Clamp, Comparison, Logical, Unary};
 use spv_module::Elem;
@@ -44,16 +46,24 @@ fn function_of_both(
     call_two(alloc, function, left, b.into_elem(alloc, elem)?)
 }
 
+/// An operand modulo 32.
+#[tactic(auto, using(glsl_ast::proofs::Views::expr_rows))]
+fn modulo_32(alloc: Global, amount: Operand) -> Result<Expr, Memory>
+    ensures { IfOk result (λ e. expr_of e ≡ lowered.modulo_32 (plain amount)) }
+{
+    let amount = amount.into_boxed(alloc, Elem::Uint)?;
+    let mask = Box::new(alloc, literal(Elem::Uint, 31))?;
+    Ok(Expr::Binary(BinOp::And, amount, mask))
+}
+
 /// A shift amount: the literal of a constant below 32, else taken modulo 32.
+#[inline(always)]
 fn shift_amount(alloc: Global, amount: Operand) -> Result<Expr, Memory>
     ensures { IfOk result (λ e. expr_of e ≡ lowered.shift_amount (plain amount)) }
 {
     match amount.word {
         Some(word) if word < 32 => Ok(literal(Elem::Uint, word)),
-        _ => {
-            let amount = amount.into_elem(alloc, Elem::Uint)?;
-            binary(alloc, BinOp::And, amount, literal(Elem::Uint, 31))
-        }
+        _ => modulo_32(alloc, amount),
     }
 }
 
@@ -97,9 +107,15 @@ fn bit_count(alloc: Global, ty: BasicType, a: Operand) -> Result<Expr, Memory>
 }
 
 /// The operation on one operand, from the type of its result.
-pub fn unary(alloc: Global, op: Unary, ty: BasicType, a: Operand) -> Result<Expr, Memory>
-    ensures { IfOk result (λ e. expr_of e ≡ lowered.unary op ty (plain a)) }
+pub fn unary(
+    alloc: Global,
+    op: Unary,
+    ty: BasicType,
+    args: &mut IntoIter<Arg>,
+) -> Result<Expr, Memory>
+    ensures { IfOk result (λ e. expr_of e ≡ lowered.unary op ty (first (map operand_of (into_iter_items args.old)))) }
 {
+    let a = next_operand(args);
     match op {
         Unary::SNegate => {
             let of = a.into_elem(alloc, ty.elem)?;
@@ -158,6 +174,41 @@ fn converted_function(
     convert(alloc, ty, elem, of)
 }
 
+/// A quotient, converted to the type of the result.
+fn converted_quotient(
+    alloc: Global,
+    ty: BasicType,
+    args: &mut IntoIter<Arg>,
+) -> Result<Expr, Memory>
+    ensures { IfOk result (λ e. expr_of e ≡ converted ty Uint (division.signed_quotient (first (map operand_of (into_iter_items args.old))) (second (map operand_of (into_iter_items args.old))))) }
+{
+    let a = next_operand(args);
+    let of = signed_quotient(alloc, &a, &next_operand(args))?;
+    convert(alloc, ty, Elem::Uint, of)
+}
+
+/// A remainder with the sign of the dividend, converted to the type of the result.
+fn converted_remainder(
+    alloc: Global,
+    ty: BasicType,
+    args: &mut IntoIter<Arg>,
+) -> Result<Expr, Memory>
+    ensures { IfOk result (λ e. expr_of e ≡ converted ty Uint (division.signed_remainder (first (map operand_of (into_iter_items args.old))) (second (map operand_of (into_iter_items args.old))))) }
+{
+    let a = next_operand(args);
+    let of = signed_remainder(alloc, &a, &next_operand(args))?;
+    convert(alloc, ty, Elem::Uint, of)
+}
+
+/// A remainder with the sign of the divisor, converted to the type of the result.
+fn converted_modulo(alloc: Global, ty: BasicType, args: &mut IntoIter<Arg>) -> Result<Expr, Memory>
+    ensures { IfOk result (λ e. expr_of e ≡ converted ty Uint (division.signed_modulo (first (map operand_of (into_iter_items args.old))) (second (map operand_of (into_iter_items args.old))))) }
+{
+    let a = next_operand(args);
+    let of = signed_modulo(alloc, &a, &next_operand(args))?;
+    convert(alloc, ty, Elem::Uint, of)
+}
+
 /// The operation on two operands, from the type of its result.
 pub fn binary_operation(
     alloc: Global,
@@ -173,21 +224,9 @@ pub fn binary_operation(
         Binary::IMul => both_as(alloc, ty.elem, BinOp::Mul, args),
         Binary::UDiv => converted_both(alloc, ty, Elem::Uint, BinOp::Div, args),
         Binary::UMod => converted_both(alloc, ty, Elem::Uint, BinOp::Rem, args),
-        Binary::SDiv => {
-            let a = next_operand(args);
-            let of = signed_quotient(alloc, &a, &next_operand(args))?;
-            convert(alloc, ty, Elem::Uint, of)
-        }
-        Binary::SRem => {
-            let a = next_operand(args);
-            let of = signed_remainder(alloc, &a, &next_operand(args))?;
-            convert(alloc, ty, Elem::Uint, of)
-        }
-        Binary::SMod => {
-            let a = next_operand(args);
-            let of = signed_modulo(alloc, &a, &next_operand(args))?;
-            convert(alloc, ty, Elem::Uint, of)
-        }
+        Binary::SDiv => converted_quotient(alloc, ty, args),
+        Binary::SRem => converted_remainder(alloc, ty, args),
+        Binary::SMod => converted_modulo(alloc, ty, args),
         Binary::ShiftRightLogical => converted_shift(alloc, ty, Elem::Uint, args),
         Binary::ShiftRightArithmetic => converted_shift(alloc, ty, Elem::Int, args),
         Binary::ShiftLeftLogical => shift(alloc, ty.elem, BinOp::Shl, args),
@@ -305,6 +344,23 @@ pub fn insert(alloc: Global, elem: Elem, args: &mut IntoIter<Arg>) -> Result<Exp
     let count = next_operand(args).into_elem(alloc, Elem::Int)?;
     let parts = vec![in alloc; base, insert, offset, count]?;
     call_built_in(alloc, BuiltIn::BitfieldInsert, parts)
+}
+
+pub fn logical_not(alloc: Global, args: &mut IntoIter<Arg>) -> Result<Expr, Memory>
+    ensures { IfOk result (λ e. expr_of e ≡ tree.not (first (map operand_of (into_iter_items args.old))).expr) }
+{
+    not(alloc, next_operand(args).expr)
+}
+
+/// A function of an operand as it is.
+pub fn function_of_next(
+    alloc: Global,
+    function: BuiltIn,
+    args: &mut IntoIter<Arg>,
+) -> Result<Expr, Memory>
+    ensures { IfOk result (λ e. expr_of e ≡ built_in_called function ((first (map operand_of (into_iter_items args.old))).expr ∷ [])) }
+{
+    call_one(alloc, function, next_operand(args).expr)
 }
 
 pub fn select(alloc: Global, args: &mut IntoIter<Arg>) -> Result<Expr, Memory>

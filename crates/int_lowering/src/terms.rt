@@ -2,7 +2,7 @@
 ghost use Rattle.std.specs.Prelude.{◌≡◌, ◌∷◌, [], IfOk};
 ghost use Rattle.glsl_ast.specs.View.{expr_of};
 ghost use Rattle.glsl_ast.specs.Tree as tree;
-ghost use Rattle.int_lowering.specs.Operand.{literal_of, converted};
+ghost use Rattle.int_lowering.specs.Operand.{literal_of, constructed, converted};
 ghost use Rattle.int_lowering.specs.Term.{call_built_in as built_in_called};
 
 use crate::basic::{BasicType, same_elem, type_name};
@@ -69,13 +69,22 @@ pub fn call_two(alloc: Global, function: BuiltIn, a: Expr, b: Expr) -> Result<Ex
     call_built_in(alloc, function, vec![in alloc; a, b]?)
 }
 
-/// An expression whose components are of one type, as a value of another type.
+/// A constructor of one argument.
 #[tactic(auto, using(glsl_ast::proofs::Views::expr_rows))]
+fn construct(alloc: Global, ty: BasicType, of: Expr) -> Result<Expr, Memory>
+    ensures { IfOk result (λ e. expr_of e ≡ constructed ty (expr_of of)) }
+{
+    Expr::build(alloc, type_name(alloc, ty), vec![in alloc; of]?)
+}
+
+/// An expression whose components are of one type, as a value of another type.
+#[inline(always)]
 pub fn convert(alloc: Global, ty: BasicType, from: Elem, of: Expr) -> Result<Expr, Memory>
     ensures { IfOk result (λ e. expr_of e ≡ converted ty from (expr_of of)) }
 {
     if same_elem(ty.elem, from) {
-        return Ok(of);
+        Ok(of)
+    } else {
+        construct(alloc, ty, of)
     }
-    Expr::build(alloc, type_name(alloc, ty), vec![in alloc; of]?)
 }

@@ -15,7 +15,7 @@ use Rattle.op_semantics.specs.declared.operation.Operation.{Operation}
 use Rattle.op_semantics.specs.declared.operation.Operation.TheVariants as op
 use Rattle.int_lowering.specs.declared.basic.BasicType.{BasicType}
 use Rattle.int_lowering.specs.Operand.{Operand, scalar, basic_type, type_named, literal_of, first, highest_operand}
-use Rattle.int_lowering.specs.Lowered.{lowered, lowered_basic}
+use Rattle.int_lowering.specs.Lowered.{applied}
 use Rattle.int_lowering.proofs.Heights.{height-close, base-flat}
 use Rattle.vec_lowering.specs.Named.{Naming, extent_of_length, array_of, shape_type}
 use Rattle.vec_lowering.specs.Component.{component, component_of, each_below, by_component, is_alike, on_basic}
@@ -90,27 +90,27 @@ parts-le : (k : ℕ) (xs : List Operand) → highest_operand (map (component k) 
 parts-le k [] = omega arith
 parts-le k (x ∷ xs) = omega (arith, part-le x.ty.size k x, parts-le k xs)
 
-by_component-le : (o ext : ℕ) (e : Elem) (n : ℕ) (xs : List Operand) → height (by_component o ext e n xs) ≤ 20 + highest_operand xs
-by_component-le o ext e n xs =
-    let each = each-le n (λ k. lowered o ext e (map (component k) xs)) (14 + highest_operand xs)
-    (λ k. within-le _ _ _ (height-close o ext (scalar e) (map (component k) xs)) (omega (arith, parts-le k xs))) in
+by_component-le : (o : Operation) (e : Elem) (n : ℕ) (xs : List Operand) → height (by_component o e n xs) ≤ 20 + highest_operand xs
+by_component-le o e n xs =
+    let each = each-le n (λ k. applied o (scalar e) (map (component k) xs)) (14 + highest_operand xs)
+    (λ k. within-le _ _ _ (height-close o (scalar e) (map (component k) xs)) (omega (arith, parts-le k xs))) in
     omega (arith, each, named-le (record { elem = e; size = Some n }))
 
-close-le : (o ext : ℕ) (ty : BasicType) (xs : List Operand) → height (lowered_basic o ext ty xs) ≤ 20 + highest_operand xs
-close-le o ext ty xs = within-le _ _ _ (height-close o ext ty xs) (omega arith)
+close-le : (o : Operation) (ty : BasicType) (xs : List Operand) → height (applied o ty xs) ≤ 20 + highest_operand xs
+close-le o ty xs = within-le _ _ _ (height-close o ty xs) (omega arith)
 
-sized-le : (o ext : ℕ) (operation : Operation) (e : Elem) (size : Option ℕ) (xs : List Operand) → height (on_basic o ext operation (record { elem = e; size = size }) xs) ≤ 20 + highest_operand xs
-sized-le o ext operation e None xs = close-le o ext (scalar e) xs
-sized-le o ext operation e (Some n) xs =
-    choice-le (is_alike operation (first xs).ty) (lowered_basic o ext (record { elem = e; size = Some n }) xs) (by_component o ext e n xs) (20 + highest_operand xs)
-    (close-le o ext (record { elem = e; size = Some n }) xs) (by_component-le o ext e n xs)
+sized-le : (o : Operation) (e : Elem) (size : Option ℕ) (xs : List Operand) → height (on_basic o (record { elem = e; size = size }) xs) ≤ 20 + highest_operand xs
+sized-le o e None xs = close-le o (scalar e) xs
+sized-le o e (Some n) xs =
+    choice-le (is_alike o (first xs).ty) (applied o (record { elem = e; size = Some n }) xs) (by_component o e n xs) (20 + highest_operand xs)
+    (close-le o (record { elem = e; size = Some n }) xs) (by_component-le o e n xs)
 
 operands-le : (xs : List Argument) → highest_operand (map operand xs) ≤ highest_argument xs
 operands-le [] = omega arith
 operands-le (x ∷ xs) = omega (arith, operands-le xs)
 
-basic-le : (o ext : ℕ) (operation : Operation) (ty : BasicType) (xs : List Argument) → height (on_basic o ext operation ty (map operand xs)) ≤ 40 + highest_argument xs
-basic-le o ext operation ty xs = within-le _ _ _ (sized-le o ext operation ty.elem ty.size (map operand xs)) (omega (arith, operands-le xs))
+basic-le : (o : Operation) (ty : BasicType) (xs : List Argument) → height (on_basic o ty (map operand xs)) ≤ 40 + highest_argument xs
+basic-le o ty xs = within-le _ _ _ (sized-le o ty.elem ty.size (map operand xs)) (omega (arith, operands-le xs))
 
 arguments-le : (xs : List Argument) → heights (exprs_in (map (λ a. a.of) xs)) ≤ highest_argument xs
 arguments-le [] = omega arith
@@ -240,39 +240,39 @@ copied_from-le : (names : Naming) (t : Tree) (xs : List Argument) → depth t �
 copied_from-le names t xs deep =
     within-le _ _ _ (copied-le names t (first_of xs).shape (first_of xs).of) (omega (arith, way-le t, first_of-le xs))
 
-copy_by-le : (names : Naming) (o ext : ℕ) (t : Tree) (xs : List Argument) → depth t ≤ 15 → height (copy_by names o ext t xs) ≤ 40 + highest_argument xs
-copy_by-le names o ext t xs deep =
-    choice-le (o == 400) (copied_from names t xs) (on_arguments o ext op.Copy t xs) (40 + highest_argument xs) (copied_from-le names t xs deep) (basic-le o ext op.Copy (basic_type t) xs)
+copy_by-le : (names : Naming) (o : ℕ) (t : Tree) (xs : List Argument) → depth t ≤ 15 → height (copy_by names o t xs) ≤ 40 + highest_argument xs
+copy_by-le names o t xs deep =
+    choice-le (o == 400) (copied_from names t xs) (on_arguments op.Copy t xs) (40 + highest_argument xs) (copied_from-le names t xs deep) (basic-le op.Copy (basic_type t) xs)
 
-written-le : (names : Naming) (o ext : ℕ) (operation : Operation) (t : Tree) (is : List ℕ) (xs : List Argument) → depth t ≤ 15 → deepest_argument xs ≤ 15 → height (written names o ext operation t is xs) ≤ 40 + highest_argument xs
-written-le names o ext op.CompositeConstruct t is xs deep deeper = constructed-le names t xs
-written-le names o ext op.CompositeExtract t is xs deep deeper = extracted_from-le names is xs deeper
-written-le names o ext op.VectorExtractDynamic t is xs deep deeper = extracted_at-le xs
-written-le names o ext op.VectorShuffle t is xs deep deeper = shuffled_of-le names t is xs
-written-le names o ext op.Copy t is xs deep deeper = copy_by-le names o ext t xs deep
-written-le names o ext (op.Unary f) t is xs deep deeper = basic-le o ext (op.Unary f) (basic_type t) xs
-written-le names o ext (op.Binary f) t is xs deep deeper = basic-le o ext (op.Binary f) (basic_type t) xs
-written-le names o ext (op.Comparison f) t is xs deep deeper = basic-le o ext (op.Comparison f) (basic_type t) xs
-written-le names o ext (op.Logical f) t is xs deep deeper = basic-le o ext (op.Logical f) (basic_type t) xs
-written-le names o ext op.LogicalNot t is xs deep deeper = basic-le o ext op.LogicalNot (basic_type t) xs
-written-le names o ext (op.Clamp f) t is xs deep deeper = basic-le o ext (op.Clamp f) (basic_type t) xs
-written-le names o ext op.BitFieldInsert t is xs deep deeper = basic-le o ext op.BitFieldInsert (basic_type t) xs
-written-le names o ext op.BitFieldSExtract t is xs deep deeper = basic-le o ext op.BitFieldSExtract (basic_type t) xs
-written-le names o ext op.BitFieldUExtract t is xs deep deeper = basic-le o ext op.BitFieldUExtract (basic_type t) xs
-written-le names o ext op.Any t is xs deep deeper = basic-le o ext op.Any (basic_type t) xs
-written-le names o ext op.All t is xs deep deeper = basic-le o ext op.All (basic_type t) xs
-written-le names o ext op.Select t is xs deep deeper = basic-le o ext op.Select (basic_type t) xs
-written-le names o ext op.Undef t is xs deep deeper = basic-le o ext op.Undef (basic_type t) xs
-written-le names o ext op.VectorInsertDynamic t is xs deep deeper = basic-le o ext op.VectorInsertDynamic (basic_type t) xs
-written-le names o ext op.CompositeInsert t is xs deep deeper = basic-le o ext op.CompositeInsert (basic_type t) xs
+written-le : (names : Naming) (o : ℕ) (operation : Operation) (t : Tree) (is : List ℕ) (xs : List Argument) → depth t ≤ 15 → deepest_argument xs ≤ 15 → height (written names o operation t is xs) ≤ 40 + highest_argument xs
+written-le names o op.CompositeConstruct t is xs deep deeper = constructed-le names t xs
+written-le names o op.CompositeExtract t is xs deep deeper = extracted_from-le names is xs deeper
+written-le names o op.VectorExtractDynamic t is xs deep deeper = extracted_at-le xs
+written-le names o op.VectorShuffle t is xs deep deeper = shuffled_of-le names t is xs
+written-le names o op.Copy t is xs deep deeper = copy_by-le names o t xs deep
+written-le names o (op.Unary f) t is xs deep deeper = basic-le (op.Unary f) (basic_type t) xs
+written-le names o (op.Binary f) t is xs deep deeper = basic-le (op.Binary f) (basic_type t) xs
+written-le names o (op.Comparison f) t is xs deep deeper = basic-le (op.Comparison f) (basic_type t) xs
+written-le names o (op.Logical f) t is xs deep deeper = basic-le (op.Logical f) (basic_type t) xs
+written-le names o op.LogicalNot t is xs deep deeper = basic-le op.LogicalNot (basic_type t) xs
+written-le names o (op.Clamp f) t is xs deep deeper = basic-le (op.Clamp f) (basic_type t) xs
+written-le names o op.BitFieldInsert t is xs deep deeper = basic-le op.BitFieldInsert (basic_type t) xs
+written-le names o op.BitFieldSExtract t is xs deep deeper = basic-le op.BitFieldSExtract (basic_type t) xs
+written-le names o op.BitFieldUExtract t is xs deep deeper = basic-le op.BitFieldUExtract (basic_type t) xs
+written-le names o op.Any t is xs deep deeper = basic-le op.Any (basic_type t) xs
+written-le names o op.All t is xs deep deeper = basic-le op.All (basic_type t) xs
+written-le names o op.Select t is xs deep deeper = basic-le op.Select (basic_type t) xs
+written-le names o op.Undef t is xs deep deeper = basic-le op.Undef (basic_type t) xs
+written-le names o op.VectorInsertDynamic t is xs deep deeper = basic-le op.VectorInsertDynamic (basic_type t) xs
+written-le names o op.CompositeInsert t is xs deep deeper = basic-le op.CompositeInsert (basic_type t) xs
 
-found-le : (names : Naming) (o ext : ℕ) (found : Option Operation) (t : Tree) (is : List ℕ) (xs : List Argument) → depth t ≤ 15 → deepest_argument xs ≤ 15 → height (written_if_any names o ext found t is xs) ≤ 40 + highest_argument xs
-found-le names o ext None t is xs deep deeper = omega arith
-found-le names o ext (Some f) t is xs deep deeper = written-le names o ext f t is xs deep deeper
+found-le : (names : Naming) (o : ℕ) (found : Option Operation) (t : Tree) (is : List ℕ) (xs : List Argument) → depth t ≤ 15 → deepest_argument xs ≤ 15 → height (written_if_any names o found t is xs) ≤ 40 + highest_argument xs
+found-le names o None t is xs deep deeper = omega arith
+found-le names o (Some f) t is xs deep deeper = written-le names o f t is xs deep deeper
 
 -- the law
 pub height-lowered_vector : (names : Naming) (o ext : ℕ) (t : Tree) (is : List ℕ) (xs : List Argument) → depth t ≤ 15 → deepest_argument xs ≤ 15 → height (lowered_vector names o ext t is xs) ≤ 40 + highest_argument xs
-height-lowered_vector names o ext t is xs deep deeper = found-le names o ext (operation_of o (ext ∷ [])) t is xs deep deeper
+height-lowered_vector names o ext t is xs deep deeper = found-le names o (operation_of o (ext ∷ [])) t is xs deep deeper
 
 -- the same of a call's answer
 pub height-result : (r : Result Code Memory) (names : Naming) (o ext : ℕ) (t : Tree) (is : List ℕ) (xs : List Argument) → IfOk r (λ e. expr_of e ≡ lowered_vector names o ext t is xs) → IfOk r (λ e. depth t ≤ 15 → deepest_argument xs ≤ 15 → height (expr_of e) ≤ 40 + highest_argument xs)

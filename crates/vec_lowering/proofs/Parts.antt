@@ -11,6 +11,7 @@ use Rattle.glsl_ast.specs.declared.expressions.Expr.{Expr as Code}
 use Rattle.vec_lowering.specs.Named.{Naming}
 use Rattle.int_lowering.specs.declared.operands.Arg.{Arg}
 use Rattle.int_lowering.specs.Operand.{operand_of}
+use Rattle.vec_lowering.specs.Component.{each_below}
 use Rattle.vec_lowering.specs.Composite.{argument_of, operand, nth_or, member_of, copied, copied_parts}
 
 pub nth_in : (l : List Shape) (k : ℕ) (d : Shape) (other : Tree) → k < length l → nth_or (trees_of l) k other ≡ tree_of (get_or l k d)
@@ -48,6 +49,18 @@ pub copies_end : (names : Naming) (l : List Shape) (id : ℕ) (from : Trees) (k 
 copies_end names l id from k e es past = ap (λ m. front es (copied_parts names (trees_of m) id from k e)) (drop_of_length-le l past) ∙ front_all es
 
 pub ruleset copy_rules = (front_push, copies_next, copies_end)
+
+-- one more of the numbers below n
+map_push : (es : List Code) (e : Code) → map expr_of (es ++ e ∷ []) ≡ map expr_of es ++ expr_of e ∷ []
+map_push [] e = refl
+map_push (x ∷ es) e = ap (λ l. expr_of x ∷ l) (map_push es e)
+
+pub pushed_below : (es : List Code) (e : Code) (n : ℕ) (f : ℕ → Expr) → map expr_of es ≡ each_below n f → expr_of e ≡ f n → map expr_of (es ++ e ∷ []) ≡ each_below (n + 1) f
+pushed_below es e n f below is =
+    map_push es e
+    ∙ ap (λ l. l ++ expr_of e ∷ []) below
+    ∙ ap (λ x. each_below n f ++ x ∷ []) is
+    ∙ ap (λ m. each_below m f) (let more : suc n ≡ n + 1 = omega arith in more)
 
 -- operands of basic types, from arguments
 pub operands_of : (l : List Arg) → map operand (map argument_of l) ≡ map operand_of l

@@ -9,7 +9,7 @@ use Rattle.op_semantics.specs.declared.operation.Operation.{Operation}
 use Rattle.op_semantics.specs.declared.operation.Operation.TheVariants as op
 use Rattle.int_lowering.specs.declared.basic.BasicType.{BasicType}
 use Rattle.int_lowering.specs.Operand.{Operand, scalar, type_named, first}
-use Rattle.int_lowering.specs.Lowered.{lowered, lowered_basic}
+use Rattle.int_lowering.specs.Lowered.{applied}
 
 -- the names of components (GLSL 4.60, section 5.5)
 unfoldable pub axis_name : ℕ → Text
@@ -29,9 +29,9 @@ each_below zero f = []
 each_below (suc n) f = each_below n f ++ f n ∷ []
 
 -- a constructor of the operation's components
-abbrev pub by_component : ℕ → ℕ → Elem → ℕ → List Operand → Expr
-by_component op ext e n xs =
-    build (type_named (record { elem = e; size = Some n })) (exprs_in (each_below n (λ k. lowered op ext e (map (component k) xs))))
+abbrev pub by_component : Operation → Elem → ℕ → List Operand → Expr
+by_component o e n xs =
+    build (type_named (record { elem = e; size = Some n })) (exprs_in (each_below n (λ k. applied o (scalar e) (map (component k) xs))))
 
 -- operators that GLSL has on vectors too (GLSL 4.60, section 5.9)
 abbrev pub is_operator : Binary → Bool
@@ -58,6 +58,6 @@ is_alike op.Copy ty = true
 is_alike _ ty = false
 
 -- an operation with a result of a basic type
-abbrev pub on_basic : ℕ → ℕ → Operation → BasicType → List Operand → Expr
-on_basic op ext o ty xs =
-    elim ty.size [ Some n ↦ (if is_alike o (first xs).ty then lowered_basic op ext ty xs else by_component op ext ty.elem n xs) | None ↦ lowered_basic op ext ty xs ]
+abbrev pub on_basic : Operation → BasicType → List Operand → Expr
+on_basic o ty xs =
+    elim ty.size [ Some n ↦ (if is_alike o (first xs).ty then applied o ty xs else by_component o ty.elem n xs) | None ↦ applied o ty xs ]

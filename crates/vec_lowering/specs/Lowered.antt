@@ -25,29 +25,29 @@ abbrev pub copied_from : Naming → Tree → List Argument → Expr
 copied_from names t xs = copied names t (first_of xs).shape (first_of xs).of
 
 -- an operation with a result of a basic type
-abbrev pub on_arguments : ℕ → ℕ → Operation → Tree → List Argument → Expr
-on_arguments opcode ext o t xs = on_basic opcode ext o (basic_type t) (map operand xs)
+abbrev pub on_arguments : Operation → Tree → List Argument → Expr
+on_arguments o t xs = on_basic o (basic_type t) (map operand xs)
 
 -- OpCopyLogical makes a value of another type part by part; OpCopyObject and OpBitcast do not
-abbrev pub copy_by : Naming → ℕ → ℕ → Tree → List Argument → Expr
-copy_by names opcode ext t xs =
+abbrev pub copy_by : Naming → ℕ → Tree → List Argument → Expr
+copy_by names opcode t xs =
     if opcode == 400
     then copied_from names t xs
-    else on_arguments opcode ext op.Copy t xs
+    else on_arguments op.Copy t xs
 
 -- the expression of an operation, from the shape of its result, its literals and its operands in order
-abbrev pub written : Naming → ℕ → ℕ → Operation → Tree → List ℕ → List Argument → Expr
-written names opcode ext op.CompositeConstruct t literals xs = constructed names t xs
-written names opcode ext op.CompositeExtract t literals xs = extracted_from names literals xs
-written names opcode ext op.VectorExtractDynamic t literals xs = extracted_at xs
-written names opcode ext op.VectorShuffle t literals xs = shuffled_of names t literals xs
-written names opcode ext op.Copy t literals xs = copy_by names opcode ext t xs
-written names opcode ext o t literals xs = on_arguments opcode ext o t xs
+abbrev pub written : Naming → ℕ → Operation → Tree → List ℕ → List Argument → Expr
+written names opcode op.CompositeConstruct t literals xs = constructed names t xs
+written names opcode op.CompositeExtract t literals xs = extracted_from names literals xs
+written names opcode op.VectorExtractDynamic t literals xs = extracted_at xs
+written names opcode op.VectorShuffle t literals xs = shuffled_of names t literals xs
+written names opcode op.Copy t literals xs = copy_by names opcode t xs
+written names opcode o t literals xs = on_arguments o t xs
 
-abbrev pub written_if_any : Naming → ℕ → ℕ → Option Operation → Tree → List ℕ → List Argument → Expr
-written_if_any names opcode ext (Some o) t literals xs = written names opcode ext o t literals xs
-written_if_any names opcode ext None t literals xs = zero (basic_type t)
+abbrev pub written_if_any : Naming → ℕ → Option Operation → Tree → List ℕ → List Argument → Expr
+written_if_any names opcode (Some o) t literals xs = written names opcode o t literals xs
+written_if_any names opcode None t literals xs = zero (basic_type t)
 
 -- the same by opcode and, of OpExtInst, by the number in GLSL.std.450
 abbrev pub lowered_vector : Naming → ℕ → ℕ → Tree → List ℕ → List Argument → Expr
-lowered_vector names opcode ext t literals xs = written_if_any names opcode ext (operation_of opcode (ext ∷ [])) t literals xs
+lowered_vector names opcode ext t literals xs = written_if_any names opcode (operation_of opcode (ext ∷ [])) t literals xs

@@ -7,7 +7,7 @@ ghost use Rattle.int_lowering.specs.Operand.{operand_of, basic_type as basic_typ
 ghost use Rattle.vec_lowering.specs.Component as component;
 
 use glsl_ast::Expr;
-use int_lowering::{Arg, BasicType, basic_type, lower, lower_basic, type_name};
+use int_lowering::{Arg, BasicType, basic_type, lower_operation, type_name};
 use op_semantics::{Binary, Operation, Unary};
 use spv_module::{Elem, Shape};
 use spv_words::Memory;
@@ -69,7 +69,7 @@ fn component(alloc: Global, arg: &Arg, k: u32) -> Result<Arg, Memory>
 fn components(alloc: Global, args: &[Arg], k: u32) -> Result<Vec<Arg>, Memory>
     ensures { IfOk result (λ parts. map operand_of parts.items ≡ map (component.component k) (map operand_of args.now)) }
 {
-    let mut parts = Vec::new(alloc);
+    let mut parts = Vec::with_capacity(alloc, args.len())?;
     for arg in args {
         parts.push(component(alloc, arg, k)?)?;
     }
@@ -77,21 +77,22 @@ fn components(alloc: Global, args: &[Arg], k: u32) -> Result<Vec<Arg>, Memory>
 }
 
 /// A constructor of the operation's components.
+#[inline(never)]
 #[tactic(auto, using(glsl_ast::proofs::Views::expr_rows))]
 fn by_component(
     alloc: Global,
-    op: u16,
-    ext: u32,
+    operation: Operation,
     elem: Elem,
     size: u8,
     args: &[Arg],
 ) -> Result<Expr, Memory>
-    ensures { IfOk result (λ e. expr_of e ≡ component.by_component op ext elem size (map operand_of args.now)) }
+    ensures { IfOk result (λ e. expr_of e ≡ component.by_component operation elem size (map operand_of args.now)) }
 {
-    let mut parts = Vec::new(alloc);
+    let mut parts = Vec::with_capacity(alloc, usize::from(size))?;
     for k in 0..size {
         let args = components(alloc, args, u32::from(k))?;
-        parts.push(lower(alloc, op, ext, elem, args)?)?;
+        let ty = BasicType { elem, size: None };
+        parts.push(lower_operation(alloc, operation, ty, args)?)?;
     }
     let size = Some(size);
     Expr::build(alloc, type_name(alloc, BasicType { elem, size }), parts)
@@ -143,20 +144,19 @@ fn first_type(args: &[Arg]) -> BasicType
 }
 
 /// An operation with a result of a basic type.
+#[inline(always)]
 pub fn on_basic(
     alloc: Global,
-    op: u16,
-    ext: u32,
     operation: Operation,
     ty: BasicType,
     args: Vec<Arg>,
 ) -> Result<Expr, Memory>
-    ensures { IfOk result (λ e. expr_of e ≡ component.on_basic op ext operation ty (map operand_of args.items)) }
+    ensures { IfOk result (λ e. expr_of e ≡ component.on_basic operation ty (map operand_of args.items)) }
 {
     match ty.size {
         Some(size) if !is_alike(operation, first_type(&args)) => {
-            by_component(alloc, op, ext, ty.elem, size, &args)
+            by_component(alloc, operation, ty.elem, size, &args)
         }
-        _ => lower_basic(alloc, op, ext, ty, args),
+        _ => lower_operation(alloc, operation, ty, args),
     }
 }

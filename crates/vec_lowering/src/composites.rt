@@ -43,7 +43,7 @@ pub fn construct(
 ) -> Result<Expr, Memory>
     ensures { IfOk result (λ e. expr_of e ≡ composite.constructed (naming_of names.now) (tree_of shape.now) (map composite.argument_of args.items)) }
 {
-    let mut parts = Vec::new(alloc);
+    let mut parts = Vec::with_capacity(alloc, args.len())?;
     for arg in args {
         parts.push(arg.expr)?;
     }
@@ -148,7 +148,7 @@ pub fn shuffle(
     ensures { IfOk result (λ e. expr_of e ≡ composite.shuffled (naming_of names.now) (tree_of shape.now) picks.now (composite.argument_of a.now) (composite.argument_of b.now)) }
 {
     let elem = basic_type(shape).elem;
-    let mut parts = Vec::new(alloc);
+    let mut parts = Vec::with_capacity(alloc, picks.len())?;
     for k in picks {
         parts.push(pick(alloc, elem, a, b, *k)?)?;
     }

@@ -72,57 +72,55 @@ fn copy_first(alloc: Global, names: &Names, shape: &Shape, args: Vec<Arg>) -> Re
 }
 
 /// An operation with a result of a basic type.
+#[inline(always)]
 #[tactic(auto, using(crate::proofs::Parts::operands_of))]
 fn on_arguments(
     alloc: Global,
-    op: u16,
-    ext: u32,
     operation: Operation,
     shape: &Shape,
     operands: Vec<Arg>,
 ) -> Result<Expr, Memory>
-    ensures { IfOk result (λ e. expr_of e ≡ lowered.on_arguments op ext operation (tree_of shape.now) (map argument_of operands.items)) }
+    ensures { IfOk result (λ e. expr_of e ≡ lowered.on_arguments operation (tree_of shape.now) (map argument_of operands.items)) }
 {
-    on_basic(alloc, op, ext, operation, basic_type(shape), operands)
+    on_basic(alloc, operation, basic_type(shape), operands)
 }
 
 /// OpCopyLogical, OpCopyObject or OpBitcast.
 fn copy_by(
     alloc: Global,
     op: u16,
-    ext: u32,
     shape: &Shape,
     operands: Vec<Arg>,
     names: &Names,
 ) -> Result<Expr, Memory>
-    ensures { IfOk result (λ e. expr_of e ≡ lowered.copy_by (naming_of names.now) op ext (tree_of shape.now) (map argument_of operands.items)) }
+    ensures { IfOk result (λ e. expr_of e ≡ lowered.copy_by (naming_of names.now) op (tree_of shape.now) (map argument_of operands.items)) }
 {
     if op == COPY_LOGICAL {
         copy_first(alloc, names, shape, operands)
     } else {
-        on_arguments(alloc, op, ext, Operation::Copy, shape, operands)
+        on_arguments(alloc, Operation::Copy, shape, operands)
     }
 }
 
 /// The expression of an operation, from the shape of its result, its literals and its operands.
+#[inline(always)]
 fn write_operation(
     alloc: Global,
     op: u16,
-    ext: u32,
     operation: Operation,
     shape: &Shape,
     operands: Vec<Arg>,
     extra: &[u32],
     names: &Names,
 ) -> Result<Expr, Memory>
-    ensures { IfOk result (λ e. expr_of e ≡ lowered.written (naming_of names.now) op ext operation (tree_of shape.now) extra.now (map argument_of operands.items)) }
+    ensures { IfOk result (λ e. expr_of e ≡ lowered.written (naming_of names.now) op operation (tree_of shape.now) extra.now (map argument_of operands.items)) }
 {
     match operation {
         Operation::CompositeConstruct => construct(alloc, names, shape, operands),
         Operation::CompositeExtract => extract_first(alloc, names, extra, operands),
         Operation::VectorExtractDynamic => extract_at(alloc, operands),
         Operation::VectorShuffle => shuffle_two(alloc, names, shape, extra, operands),
-        Operation::Copy => copy_by(alloc, op, ext, shape, operands, names),
+        Operation::Copy => copy_by(alloc, op, shape, operands, names),
         Operation::Unary(_)
         | Operation::Binary(_)
         | Operation::Comparison(_)
@@ -137,7 +135,7 @@ fn write_operation(
         | Operation::Select
         | Operation::Undef
         | Operation::VectorInsertDynamic
-        | Operation::CompositeInsert => { on_arguments(alloc, op, ext, operation, shape, operands) }
+        | Operation::CompositeInsert => on_arguments(alloc, operation, shape, operands),
     }
 }
 
@@ -155,9 +153,7 @@ fn write_opcode(
 {
     match operation(op, ext) {
         None => Ok(literal(basic_type(shape).elem, 0)),
-        Some(operation) => {
-            write_operation(alloc, op, ext, operation, shape, operands, extra, names)
-        }
+        Some(operation) => write_operation(alloc, op, operation, shape, operands, extra, names),
     }
 }
 
