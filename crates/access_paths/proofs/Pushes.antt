@@ -1,12 +1,13 @@
 -- The ways of links, with one more link at the end.
 use Rattle.std.proofs.Common.{◌≡◌, ◌==◌, ◌++◌, ◌<◌, ◌≤◌, ◌+◌, ℕ, List, [], ◌∷◌, Option, Some, None, Bool, true, false, length, get_or, refl, ap, sym, subst, append_assoc, ◌∙◌, inl, inr, arith}
-use Rattle.std.specs.Prelude.{reverse}
+use Rattle.std.specs.Prelude.{flat_map, reverse}
 use Rattle.std.specs.Option.{option_map_or}
 use Rattle.std.proofs.lemmas.Bool.Decides.{nat_tests, eqb_tells}
 use Rattle.std.proofs.lemmas.List.{reverse-append, reverse-reverse, length-reverse, get_or_push, get_or_append_left}
 use mathlib.Core.List.{reverse-cons}
+use Rattle.spv_module.specs.declared.inst.Inst.{Inst}
 use Rattle.access_paths.specs.declared.links.Link.{Link}
-use Rattle.access_paths.specs.Links.{way_to, way_in, IsIn, AreBackTo, AreBack}
+use Rattle.access_paths.specs.Links.{way_to, way_in, link_steps, steps_to, IsIn, AreBackTo, AreBack}
 
 -- from the last link of these, the one at the end counts as one more
 pub way_to_none : (rev : List Link) → way_to rev None ≡ []
@@ -75,6 +76,18 @@ step_in links k d back inside =
     let P : List Link → Type 0 = λ ls. IsStep (way_in links) k (get_or ls k d) in
     let inside_turned : k < length (reverse links) = omega (arith, length-reverse links) in
     subst P (reverse-reverse links) (step_to (reverse links) k d back inside_turned)
+
+-- what stands for a link that there is not
+abbrev pub no_link : Link
+no_link = record { chain = 0; stands = 0; indexes = record { ref_ptr = (0, 0); now = [] }; from = None; before = None }
+
+-- a way of no links, and a way of one
+pub no_way : (gs : List Inst) (printed : ℕ) (links : List Link) → steps_to gs printed links None ≡ []
+no_way gs printed links = ap (flat_map (link_steps gs printed)) (way_to_none (reverse links))
+
+pub first_way : (gs : List Inst) (printed k : ℕ) (links : List Link) (l : Link) → IsStep (way_in links) k l → l.before ≡ None → steps_to gs printed links (Some k) ≡ flat_map (link_steps gs printed) (l ∷ [])
+first_way gs printed k links l step none =
+    ap (flat_map (link_steps gs printed)) (step.way_is ∙ ap (λ ls. ls ++ l ∷ []) (ap (way_in links) none ∙ way_to_none (reverse links)))
 
 -- how many links there may be up to this one
 pub falls : (next before : Option ℕ) (k : ℕ) → next ≡ Some k → IsIn k before → option_map_or (λ n. n + 1) before 0 < option_map_or (λ n. n + 1) next 0

@@ -1,7 +1,7 @@
 // The paths of a function's pointers.
-ghost use Rattle.std.specs.Prelude.{◌≡◌, IfOk, flat_map, length};
+ghost use Rattle.std.specs.Prelude.{◌≡◌, ◌<◌, IfOk, Some, flat_map, length};
 ghost use Rattle.access_paths.specs.Ways.{path as path_of};
-ghost use Rattle.access_paths.specs.Links.{AreBack, IsIn, link_steps, way_in};
+ghost use Rattle.access_paths.specs.Links.{AreBack, IsIn, link_steps, steps_to as steps_to_link, way_in};
 ghost use Rattle.access_paths.specs.State.{plain, paths_of};
 
 use crate::indexes::add_steps;
@@ -12,6 +12,7 @@ use spv_module::{Function, Id, Module};
 use spv_words::Memory;
 use std::alloc::{AllocError, Global};
 use std::marker::Model;
+use std::slice::from_ref;
 
 /// The paths of a function's pointers. Contracts see the globals of the module and the function.
 #[derive(Drop)]
@@ -69,6 +70,46 @@ fn steps_of(
     Ok(steps)
 }
 
+/// The steps of the way to a link, printed in the block at a place.
+fn steps_to(
+    alloc: Global,
+    module: &Module,
+    links: &[Link],
+    place: usize,
+    printed: usize,
+) -> Result<Vec<Step>, Memory>
+    requires back { AreBack links.now }
+    requires within { place < length links.now }
+    ensures { IfOk result (λ steps. steps.items ≡ steps_to_link «module».now.globals printed links.now (Some place)) }
+{
+    match links[place].before {
+        None => steps_of(alloc, module, from_ref(&links[place]), printed),
+        Some(_) => {
+            let way = links_to(alloc, links, Some(place))?;
+            steps_of(alloc, module, &way, printed)
+        }
+    }
+}
+
+/// The steps of the way by its last link, printed in the block at a place.
+#[tactic(auto, using(crate::proofs::Pushes::no_way))]
+fn steps_by(
+    alloc: Global,
+    module: &Module,
+    links: &[Link],
+    last: Option<usize>,
+    printed: usize,
+) -> Result<Vec<Step>, Memory>
+    requires back { AreBack links.now }
+    requires within { IsIn (length links.now) last }
+    ensures { IfOk result (λ steps. steps.items ≡ steps_to_link «module».now.globals printed links.now last) }
+{
+    match last {
+        None => Ok(Vec::new(alloc)),
+        Some(place) => steps_to(alloc, module, links, place, printed),
+    }
+}
+
 impl<'a> Paths<'a> {
     /// The paths of the pointers of the function that these are the locals of. There is an error only
     /// for want of memory.
@@ -88,10 +129,9 @@ impl<'a> Paths<'a> {
         ensures { IfOk result (λ p. plain p ≡ path_of self.now.globals self.now.function block pointer.0) }
     {
         let known = self.links.get(pointer.0);
-        let way = links_to(alloc, &self.links.links, known.last)?;
         Ok(forms::Path {
             base: Id(known.base),
-            steps: steps_of(alloc, self.source, &way, block)?,
+            steps: steps_by(alloc, self.source, &self.links.links, known.last, block)?,
         })
     }
 }

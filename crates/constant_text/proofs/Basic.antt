@@ -4,10 +4,9 @@ use Rattle.std.specs.Option.{option_map_or}
 use Rattle.std.proofs.lemmas.Bool.{lt-ltb, le-ltb}
 use Rattle.spv_module.specs.Held.{global}
 use Rattle.spv_module.specs.declared.inst.Inst.{Inst}
-use Rattle.spv_module.specs.declared.tree.Elem.{Elem}
 use Rattle.spv_module.specs.declared.tree.Length.{Length}
-use Rattle.spv_types.specs.Tree.{Tree, Trees, boolean, int, uint, vector, array, runtime, struct}
-use Rattle.spv_types.specs.Types.{elem_of, array_tree, vector_tree, sized_vector, tree_before, tree_at, type_tree, earlier, if_earlier}
+use Rattle.spv_types.specs.Tree.{Tree, Trees, uint, runtime, struct}
+use Rattle.spv_types.specs.Types.{elem_of, array_tree, vector_tree, sized_vector, tree_before, tree_at}
 use Rattle.spv_types.proofs.Below.{tree_before_is}
 use Rattle.text_rules.specs.Outlines.{basic_of}
 
@@ -18,11 +17,11 @@ elem_if gs g false = refl
 part_by : (gs : List Inst) (n id : ℕ) (g : Inst) → global gs id ≡ Some g → option_and_then elem_of (tree_before gs n id) ≡ (if nat_lt g.at n then option_and_then elem_of (tree_at gs g) else None)
 part_by gs n id g e = rw tree_before_is (rw e (elem_if gs g (nat_lt g.at n)))
 
--- the component type of a vector is that of the type with its id, where that stands before
-pub part_before : (gs : List Inst) (n id : ℕ) (g : Inst) → global gs id ≡ Some g → g.at < n → option_and_then elem_of (tree_before gs n id) ≡ option_and_then elem_of (type_tree gs id)
+-- the component type of a vector is that of the instruction with its id, where that stands before
+pub part_before : (gs : List Inst) (n id : ℕ) (g : Inst) → global gs id ≡ Some g → g.at < n → option_and_then elem_of (tree_before gs n id) ≡ option_and_then elem_of (tree_at gs g)
 part_before gs n id g e less =
     let test : nat_lt g.at n ≡ true = lt-ltb g.at n less in
-    part_by gs n id g e ∙ (rw (test, e) refl)
+    part_by gs n id g e ∙ (rw test refl)
 
 pub part_behind : (gs : List Inst) (n id : ℕ) (g : Inst) → global gs id ≡ Some g → n ≤ g.at → option_and_then elem_of (tree_before gs n id) ≡ None
 part_behind gs n id g e past =

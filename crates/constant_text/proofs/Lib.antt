@@ -3,3 +3,4 @@ mod Members
 mod Basic
 mod Outlined
 mod Bases
+mod Decorated

@@ -3,3 +3,4 @@ pub mod Scalars
 pub mod Named
 pub mod Zeros
 pub mod Bases
+pub mod SpecIds

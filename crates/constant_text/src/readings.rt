@@ -1,9 +1,10 @@
 // How the constants of a module are read.
 ghost use Rattle.std.specs.Prelude.{◌≡◌, ◌==◌, [], find, drop, IfOk};
 ghost use Rattle.std.specs.Option.{option_copied};
-ghost use Rattle.std.specs.List.{position_from};
-ghost use Rattle.profile_rules.specs.Constants.{given_to};
+ghost use Rattle.std.specs.List.{list_any, position_from};
+ghost use Rattle.profile_rules.specs.Constants.{given_to, spec_id as spec_id_of};
 ghost use Rattle.profile_rules.specs.Entry.{is_size_composite as is_size_composite_in, is_local_size_id as is_local_size_id_of};
+ghost use Rattle.constant_text.specs.SpecIds.{is_spec_id_row as is_spec_id_row_of};
 ghost use Rattle.text_rules.specs.Constants.{size_ids as size_ids_of, free_spec_id as free_spec_id_of, override_word as override_word_of, has_literal as has_literal_of, reading as reading_of};
 
 use crate::scalars::scalar_type;
@@ -23,6 +24,8 @@ use text_rules::Reading;
 pub struct Readings<'a> {
     pub(crate) source: &'a Module,
     decor: &'a Decor<'a>,
+    // whether any id has a SpecId
+    specialized: bool,
     entry: Id,
     overrides: &'a [(u32, Given)],
     given: BTreeMap<u32, Given>,
@@ -39,7 +42,20 @@ impl<'a> Model for Readings<'a> {
 
     ghost view = { λ r. record { of = r.source.now; entry = r.entry.0; overrides = r.overrides.now } };
 
-    ghost invariant = { λ r. IsHeld (record { of = r.source.now; entry = r.entry.0; overrides = r.overrides.now }) r.decor.now r.given r.parts.now };
+    ghost invariant = { λ r. IsHeld (record { of = r.source.now; entry = r.entry.0; overrides = r.overrides.now }) r.decor.now r.specialized r.given r.parts.now };
+}
+
+/// Whether an instruction is an OpDecorate by SpecId.
+fn is_spec_id_row(inst: &Inst) -> bool
+    ensures { result ≡ is_spec_id_row_of inst.now }
+{
+    inst.op == 71 && inst.operand(1) == 1
+}
+
+fn has_spec_ids(heads: &[Inst]) -> bool
+    ensures { result ≡ list_any is_spec_id_row_of heads.now }
+{
+    heads.iter().any(|inst| is_spec_id_row(inst))
 }
 
 /// Whether a constant gives the size of workgroups (SPIR-V 1.6, BuiltIn WorkgroupSize).
@@ -110,6 +126,7 @@ impl<'a> Readings<'a> {
         Ok(Readings {
             source: module,
             decor,
+            specialized: has_spec_ids(module.heads()),
             entry,
             overrides,
             given: givens(alloc, overrides)?,
@@ -131,11 +148,24 @@ impl<'a> Readings<'a> {
         self.given.get(&spec_id).copied()
     }
 
+    /// The SpecId of a constant.
+    #[inline(always)]
+    #[tactic(auto, using(crate::proofs::Decorated::no_spec_id))]
+    fn spec_id(&self, id: Id) -> Option<u32>
+        ensures { result ≡ spec_id_of self.now.of.heads id.0 }
+    {
+        if self.specialized {
+            self.decor.value(id, 1)
+        } else {
+            None
+        }
+    }
+
     /// The SpecId of a constant that is not overridden (SPIR-V 1.6, Decoration SpecId).
     pub fn free_spec_id(&self, id: Id) -> Option<u32>
         ensures { result ≡ free_spec_id_of self.now id.0 }
     {
-        let spec_id = self.decor.value(id, 1)?;
+        let spec_id = self.spec_id(id)?;
         match self.given(spec_id) {
             None => Some(spec_id),
             Some(_) => None,
@@ -146,7 +176,7 @@ impl<'a> Readings<'a> {
     pub(crate) fn override_word(&self, id: Id) -> Option<u32>
         ensures { result ≡ override_word_of self.now id.0 }
     {
-        let spec_id = self.decor.value(id, 1)?;
+        let spec_id = self.spec_id(id)?;
         match self.given(spec_id) {
             None => None,
             Some(given) => Some(word_given(given)),

@@ -5,8 +5,9 @@ ghost use Rattle.spv_types.specs.Types.{type_tree, tree_at, elem_of};
 
 use spv_module::{Elem, Id, Inst, Module};
 
+/// The scalar type that an instruction declares.
 #[tactic(auto, unfolding(spv_types::specs::Types::kind))]
-fn scalar(inst: &Inst) -> Option<Elem>
+pub(crate) fn scalar(inst: &Inst) -> Option<Elem>
     ensures { (gs : List InstOf) → result ≡ option_and_then elem_of (tree_at gs inst.now) }
 {
     match (inst.op, inst.operand(0), inst.operand(1)) {

@@ -4,45 +4,22 @@ ghost use Rattle.glsl_ast.specs.Tree.{type_name as type_name_tree};
 ghost use Rattle.glsl_ast.specs.View.{base_of, extent_of, type_of};
 ghost use Rattle.spv_types.specs.View.{tree_of};
 ghost use Rattle.text_rules.specs.Constants.{reading as reading_of};
-ghost use Rattle.text_rules.specs.Types.{vector_base as vector_base_of, with_extent as with_extent_of, type_text};
+ghost use Rattle.text_rules.specs.Types.{with_extent as with_extent_of, type_text};
 ghost use Rattle.text_rules.specs.Outlines.{outline as outline_of_type, outline_at as outline_at_of};
 ghost use Rattle.text_rules.specs.Declarations.{extent_by, length_extent, spelling};
-ghost use Rattle.constant_text.specs.Bases.{basic_base as basic_base_of};
 ghost use Rattle.constant_text.specs.Named.{id_names};
 
 use crate::Readings;
+use crate::basics::{basic_at, vector_base};
 use crate::constants::axis_text;
 use crate::names::name;
-use crate::outlines::{basic_at, outline_at};
+use crate::outlines::outline_at;
 use glsl_ast::{Base, Extent, TypeName};
 use name_alloc::{Key, Names};
-use spv_module::{Elem, Id, Inst, Length, Shape};
+use spv_module::{Id, Inst, Length, Shape};
 use spv_words::Memory;
 use std::alloc::Global;
 use text_rules::Reading;
-
-fn vector_base(elem: Elem, size: u8) -> Base
-    ensures { base_of result ≡ vector_base_of elem size }
-{
-    match elem {
-        Elem::Bool => Base::BoolVec(size),
-        Elem::Int => Base::IntVec(size),
-        Elem::Uint => Base::UintVec(size),
-    }
-}
-
-/// The base of a scalar or vector type, and uint of another.
-#[tactic(auto, using(spv_types::proofs::Views::shape_rows))]
-fn basic_base(shape: &Shape) -> Base
-    ensures { base_of result ≡ basic_base_of (tree_of shape.now) }
-{
-    match shape {
-        Shape::Bool => Base::Bool,
-        Shape::Int => Base::Int,
-        Shape::Vector(elem, size) => vector_base(*elem, *size),
-        Shape::Uint | Shape::Array(_, _) | Shape::Runtime(_) | Shape::Struct(_, _) => Base::Uint,
-    }
-}
 
 /// The name of a type that is no array.
 fn plain_type(alloc: Global, base: Base) -> TypeName
@@ -118,6 +95,15 @@ impl Readings<'_> {
         }
     }
 
+    /// The name of the array or struct type that an instruction declares.
+    #[inline(never)]
+    fn outlined_name(&self, alloc: Global, names: &Names, inst: &Inst) -> Result<TypeName, Memory>
+        ensures { IfOk result (λ t. type_of t ≡ type_text (spelling self.now (id_names names.now)) (outline_at_of self.now.of.globals inst.now)) }
+    {
+        let shape = outline_at(alloc, self.module(), inst)?;
+        self.type_name(alloc, names, &shape)
+    }
+
     /// The name of the type that an instruction declares, and `uint` where it declares none.
     #[tactic(auto, unfolding(spv_types::specs::Types::kind), using(crate::proofs::Bases::base_rules))]
     fn type_name_at(&self, alloc: Global, names: &Names, inst: &Inst) -> Result<TypeName, Memory>
@@ -125,14 +111,8 @@ impl Readings<'_> {
     {
         match inst.op {
             // OpTypeArray, OpTypeRuntimeArray, OpTypeStruct
-            28 | 29 | 30 => {
-                let shape = outline_at(alloc, self.module(), inst)?;
-                self.type_name(alloc, names, &shape)
-            }
-            _ => {
-                let shape = basic_at(self.module(), inst);
-                Ok(plain_type(alloc, basic_base(&shape)))
-            }
+            28 | 29 | 30 => self.outlined_name(alloc, names, inst),
+            _ => Ok(plain_type(alloc, basic_at(self.module(), inst).base())),
         }
     }
 

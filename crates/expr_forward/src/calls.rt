@@ -28,7 +28,7 @@ impl Context<'_, '_> {
     fn call_arguments(&self, alloc: Global, block: usize, ids: &[u32]) -> Result<Vec<Expr>, Memory>
         ensures { IfOk result (λ list. map expr_of list.items ≡ map (call_argument_of (scope_of self.now) block) ids.now) }
     {
-        let mut args = Vec::new(alloc);
+        let mut args = Vec::with_capacity(alloc, ids.len())?;
         for id in ids {
             args.push(self.call_argument(alloc, block, Id(*id))?)?;
         }

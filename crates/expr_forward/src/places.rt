@@ -1,10 +1,12 @@
 // How pointers are written: the name of what they lead from, and their steps (GLSL 4.60, sections 5.5 to 5.7).
-ghost use Rattle.std.specs.Prelude.{◌≡◌, ◌∷◌, [], IfOk, map, string_bytes};
+ghost use Rattle.std.specs.Prelude.{◌≡◌, ◌∷◌, [], IfOk, map, string_bytes, unwrap_or};
+ghost use Rattle.profile_rules.specs.MemoryRules.{pointee_of};
 ghost use Rattle.glsl_ast.specs.View.{expr_of, lvalue_of, step_of};
-ghost use Rattle.expr_forward.specs.Paths.{name_in, base_text, place_text as place_text_of, place_expr as place_expr_of, further as further_of};
+ghost use Rattle.expr_forward.specs.Paths.{name_in, base_text, place_text as place_text_of, place_expr as place_expr_of, further as further_of, steps_text};
 ghost use Rattle.expr_forward.specs.Context.{setting_of};
 
 use crate::Context;
+use access_paths::Step;
 use constant_text::name;
 use glsl_ast::{Expr, LStep, LValue};
 use name_alloc::Key;
@@ -40,6 +42,9 @@ pub(crate) fn further(alloc: Global, of: Expr, step: LStep) -> Result<Expr, Memo
 pub(crate) fn walked(alloc: Global, from: Expr, steps: Vec<LStep>) -> Result<Expr, Memory>
     ensures { IfOk result (λ e. expr_of e ≡ further_of (expr_of from) (map step_of steps.items)) }
 {
+    if steps.is_empty() {
+        return Ok(from);
+    }
     let mut expr = from;
     for step in steps {
         expr = further(alloc, expr, step)?;
@@ -58,16 +63,25 @@ impl Context<'_, '_> {
         }
     }
 
+    /// The steps of a path from what a value points to.
+    fn steps_from(&self, alloc: Global, base: Id, steps: &[Step]) -> Result<Vec<LStep>, Memory>
+        ensures { IfOk result (λ list. map step_of list.items ≡ steps_text (setting_of self.now) (unwrap_or (pointee_of self.now.source.of.globals self.now.function base.0) 0) steps.now) }
+    {
+        if steps.is_empty() {
+            return Ok(Vec::new(alloc));
+        }
+        self.steps(alloc, self.pointee(base), steps)
+    }
+
     /// A pointer as the left side of an assignment, in the block at a place (GLSL 4.60, section 5.8). There is an error only for
     /// want of memory.
     pub fn place_text(&self, alloc: Global, block: usize, pointer: Id) -> Result<LValue, Memory>
         ensures { IfOk result (λ l. lvalue_of l ≡ place_text_of (setting_of self.now) block pointer.0) }
     {
         let path = self.paths.path(alloc, block, pointer)?;
-        let from = self.pointee(path.base);
         Ok(LValue {
             name: self.base_name(alloc, path.base)?,
-            steps: self.steps(alloc, from, &path.steps)?,
+            steps: self.steps_from(alloc, path.base, &path.steps)?,
         })
     }
 

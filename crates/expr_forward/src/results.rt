@@ -1,10 +1,11 @@
 // The variables of results.
-ghost use Rattle.std.specs.Prelude.{◌≡◌, ◌++◌, ◌∷◌, [], OnOk, map};
+ghost use Rattle.std.specs.Prelude.{◌≡◌, ◌++◌, ◌∷◌, [], OnOk, Some, map};
 ghost use Rattle.spv_module.specs.Lists.{id};
 ghost use Rattle.name_alloc.specs.declared.claims.Key.TheVariants.{Id as IdKey};
-ghost use Rattle.glsl_ast.specs.Tree.{assign, lvalue};
+ghost use Rattle.glsl_ast.specs.Tree.{assign, declare, lvalue};
 ghost use Rattle.glsl_ast.specs.View.{expr_of, step_of, stmt_of};
-ghost use Rattle.expr_forward.specs.Context.{key_text, scope_of};
+ghost use Rattle.text_rules.specs.Declarations.{type_at};
+ghost use Rattle.expr_forward.specs.Context.{all_names, key_text, scope_of};
 ghost use Rattle.expr_forward.specs.Statements.{is_variable_form as is_variable_form_of, set};
 
 use crate::Context;
@@ -47,8 +48,24 @@ impl Context<'_, '_> {
         Ok(())
     }
 
-    /// Adds what gives a result its value: its variable is declared here, or was declared at the top of the function.
+    /// Adds the declaration of the variable of a result, with its value.
     #[tactic(auto, using(glsl_ast::proofs::Views::stmt_rows))]
+    fn add_declaration(
+        &self,
+        alloc: Global,
+        into: &mut Vec<Stmt>,
+        inst: &Inst,
+        expr: Expr,
+    ) -> Result<(), Memory>
+        ensures { OnOk result (map stmt_of into.new.items ≡ map stmt_of into.old.items ++ declare (type_at self.now.source (all_names self.now.names) inst.now.ty) (key_text self.now.names (IdKey (id inst.now.result))) (Some (expr_of expr)) ∷ []) }
+    {
+        let ty = self.type_name_of(alloc, inst.ty)?;
+        let name = name(alloc, self.names, Key::Id(Id(inst.result)))?;
+        into.push(Stmt::Declare(ty, name, Some(expr)))?;
+        Ok(())
+    }
+
+    /// Adds what gives a result its value: its variable is declared here, or was declared at the top of the function.
     pub(crate) fn add_result(
         &self,
         alloc: Global,
@@ -59,12 +76,7 @@ impl Context<'_, '_> {
         ensures { OnOk result (map stmt_of into.new.items ≡ map stmt_of into.old.items ++ set (scope_of self.now) inst.now (expr_of expr)) }
     {
         match self.plan.of(Id(inst.result)) {
-            Form::Local => {
-                let ty = self.type_name_of(alloc, inst.ty)?;
-                let name = name(alloc, self.names, Key::Id(Id(inst.result)))?;
-                into.push(Stmt::Declare(ty, name, Some(expr)))?;
-                Ok(())
-            }
+            Form::Local => self.add_declaration(alloc, into, inst, expr),
             Form::Hoisted => self.add_assignment(alloc, into, inst, Vec::new(alloc), expr),
             Form::Gone | Form::Forwarded => Ok(()),
         }

@@ -14,7 +14,44 @@ use spv_module::{Id, Inst};
 use spv_words::Memory;
 use std::alloc::Global;
 
+// Of more room than this, what is not used is never touched.
+const FEW: usize = 64;
+
+/// Makes room for so many statements of a block, and for one with which the block ends.
+fn reserve(into: &mut Vec<Stmt>, count: usize) -> Result<(), Memory>
+    ensures { into.new.items ≡ into.old.items }
+{
+    if count > 0 {
+        into.reserve(count.saturating_add(1))?;
+    }
+    Ok(())
+}
+
 impl Context<'_, '_> {
+    /// About how many statements an instruction has.
+    fn room_for(&self, inst: &Inst) -> usize {
+        match InstKind::of(inst.op) {
+            InstKind::Chain | InstKind::Silent => 0,
+            InstKind::Store | InstKind::ControlBarrier | InstKind::MemoryBarrier => 1,
+            InstKind::CompositeInsert | InstKind::VectorInsertDynamic => 2,
+            InstKind::Load | InstKind::Call | InstKind::Atomic | InstKind::Value => {
+                if self.has_variable(inst) { 1 } else { 0 }
+            }
+        }
+    }
+
+    /// About how many statements a block has.
+    fn room(&self, insts: &[Inst]) -> usize {
+        if insts.len() > FEW {
+            return insts.len();
+        }
+        let mut count: usize = 0;
+        for inst in insts {
+            count = count.saturating_add(self.room_for(inst));
+        }
+        count
+    }
+
     fn add_load(
         &self,
         alloc: Global,
@@ -158,8 +195,7 @@ impl Context<'_, '_> {
         ensures { OnOk result (map stmt_of into.new.items ≡ map stmt_of into.old.items ++ block_text_of (scope_of self.now) block) }
     {
         let insts = self.insts_at(block);
-        // most instructions have at most one statement
-        into.reserve(insts.len())?;
+        reserve(into, self.room(insts))?;
         self.add_insts(alloc, into, block, insts)
     }
 

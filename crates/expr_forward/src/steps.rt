@@ -52,6 +52,7 @@ fn is_number(ty: Option<Elem>) -> bool
 
 impl Context<'_, '_> {
     /// The word of an integer constant that is written as a literal.
+    #[inline(never)]
     #[tactic(auto, unfolding(crate::specs::Paths::literal_word))]
     fn literal_word(&self, inst: &Inst) -> Option<u32>
         ensures { result ≡ literal_word_of (setting_of self.now) inst.now }
@@ -65,6 +66,7 @@ impl Context<'_, '_> {
     }
 
     /// The word of an id that is an integer constant, where it is written as a literal.
+    #[inline(always)]
     pub(crate) fn word_at(&self, id: Id) -> Option<u32>
         ensures { result ≡ word_at_of (setting_of self.now) id.0 }
     {
@@ -140,7 +142,7 @@ impl Context<'_, '_> {
     ) -> Result<Vec<LStep>, Memory>
         ensures { IfOk result (λ list. map step_of list.items ≡ steps_text (setting_of self.now) from steps.now) }
     {
-        let mut list = Vec::new(alloc);
+        let mut list = Vec::with_capacity(alloc, steps.len())?;
         let mut ty = from;
         for step in steps {
             list.push(self.step(alloc, ty, *step)?)?;
@@ -198,7 +200,7 @@ impl Context<'_, '_> {
     ) -> Result<Vec<LStep>, Memory>
         ensures { IfOk result (λ list. map step_of list.items ≡ part_steps_of (setting_of self.now) from literals.now) }
     {
-        let mut list = Vec::new(alloc);
+        let mut list = Vec::with_capacity(alloc, literals.len())?;
         let mut ty = from;
         for k in literals {
             list.push(self.part_step(alloc, ty, *k)?)?;

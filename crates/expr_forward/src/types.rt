@@ -16,6 +16,7 @@ use std::alloc::Global;
 
 impl Context<'_, '_> {
     /// The shape of a scalar or vector type, and uint of another type.
+    #[inline(always)]
     pub(crate) fn basic_shape(&self, ty: u32) -> Shape
         ensures { tree_of result ≡ basic_of_type self.now.source.of.globals ty }
     {

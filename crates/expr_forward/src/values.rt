@@ -37,6 +37,7 @@ fn length_of(alloc: Global, array: Expr) -> Result<Expr, Memory>
 }
 
 impl Context<'_, '_> {
+    #[inline(always)]
     #[tactic(auto, using(glsl_ast::proofs::Views::expr_rows))]
     fn variable(&self, alloc: Global, id: Id) -> Result<Expr, Memory>
         ensures { IfOk result (λ e. expr_of e ≡ variable_of (scope_of self.now) id.0) }
@@ -68,6 +69,7 @@ impl Context<'_, '_> {
     }
 
     #[cycle(value)]
+    #[inline(always)]
     fn by_form(&self, alloc: Global, block: usize, deep: u32, id: Id) -> Result<Expr, Memory>
         ensures { IfOk result (λ e. expr_of e ≡ by_form (scope_of self.now) (value_in_of (scope_of self.now) block deep) block id.0 ((scope_of self.now).form id.0)) }
     {
@@ -78,6 +80,7 @@ impl Context<'_, '_> {
     }
 
     #[cycle(value)]
+    #[inline(always)]
     fn forwarded(&self, alloc: Global, block: usize, deep: u32, id: Id) -> Result<Expr, Memory>
         ensures { IfOk result (λ e. expr_of e ≡ forwarded_of (scope_of self.now) (value_in_of (scope_of self.now) block deep) block id.0 (inst_in self.now.function id.0)) }
     {
@@ -100,6 +103,7 @@ impl Context<'_, '_> {
     }
 
     #[cycle(value)]
+    #[inline(always)]
     fn expression_in(
         &self,
         alloc: Global,
@@ -125,6 +129,7 @@ impl Context<'_, '_> {
     }
 
     /// The number of elements of a runtime array, which is a member of a block (GLSL 4.60, section 5.7).
+    #[inline(never)]
     #[tactic(auto, using(glsl_ast::proofs::Views::expr_rows))]
     fn array_length(&self, alloc: Global, block: usize, inst: &Inst) -> Result<Expr, Memory>
         ensures { IfOk result (λ e. expr_of e ≡ length_text (scope_of self.now) block inst.now) }
@@ -139,6 +144,7 @@ impl Context<'_, '_> {
 
     /// A part of a composite, by literals.
     #[cycle(value)]
+    #[inline(never)]
     fn extraction(
         &self,
         alloc: Global,
@@ -157,6 +163,7 @@ impl Context<'_, '_> {
 
     /// A constructor of the operands (GLSL 4.60, section 5.4).
     #[cycle(value)]
+    #[inline(never)]
     #[tactic(auto, using(glsl_ast::proofs::Views::expr_rows))]
     fn construction(
         &self,
@@ -181,7 +188,7 @@ impl Context<'_, '_> {
     ) -> Result<Vec<Expr>, Memory>
         ensures { IfOk result (λ list. map expr_of list.items ≡ map (value_in_of (scope_of self.now) block deep) ids.now) }
     {
-        let mut list = Vec::new(alloc);
+        let mut list = Vec::with_capacity(alloc, ids.len())?;
         for id in ids {
             list.push(self.value_in(alloc, block, deep, Id(*id))?)?;
         }
@@ -190,6 +197,7 @@ impl Context<'_, '_> {
 
     /// A value as one of a type with other structs.
     #[cycle(value)]
+    #[inline(never)]
     fn logical_copy(
         &self,
         alloc: Global,
@@ -223,6 +231,7 @@ impl Context<'_, '_> {
 
     /// An operation on scalars and vectors, with its number where it is an extended one.
     #[cycle(value)]
+    #[inline(always)]
     fn lowered(
         &self,
         alloc: Global,
@@ -244,6 +253,7 @@ impl Context<'_, '_> {
 
     /// The operands of an operation on scalars and vectors.
     #[cycle(value)]
+    #[inline(always)]
     fn arguments(
         &self,
         alloc: Global,

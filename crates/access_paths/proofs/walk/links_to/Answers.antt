@@ -1,12 +1,9 @@
-use Rattle.std.proofs.Common.{◌≡◌, ◌<◌, ◌≤◌, ◌++◌, ℕ, List, [], Option, Some, None, length, get_or, ap, sym, ◌∙◌, arith}
+use Rattle.std.proofs.Common.{◌≡◌, ◌<◌, ◌≤◌, ◌++◌, ℕ, List, Option, Some, length, get_or, ap, sym, ◌∙◌, arith}
 use Rattle.std.specs.Prelude.{reverse}
 use Rattle.access_paths.specs.declared.links.Link.{Link}
 use Rattle.access_paths.specs.Links.{IsIn, way_in}
-use Rattle.access_paths.proofs.Pushes.{IsStep, step_in, in_more, falls, walked, way_to_none}
+use Rattle.access_paths.proofs.Pushes.{IsStep, no_link, step_in, in_more, falls, walked, way_to_none}
 use Rattle.access_paths.proofs.walk.links_to.Goals as goal
-
-abbrev none : Link
-none = record { chain = 0; stands = 0; indexes = record { ref_ptr = (0, 0); now = [] }; from = None; before = None }
 
 inside_of : (n k : ℕ) (next : Option ℕ) → next ≡ Some k → IsIn n next → k < n
 inside_of n k next here inside = rw here at inside
@@ -15,8 +12,8 @@ pub loop-next-smaller : goal.loop-next-smaller
 loop-next-smaller c =
     let ls : List Link = c.args.links.now in
     let k = c.in-Some.place in
-    let step : IsStep (way_in ls) k (get_or ls k none) = step_in ls k none c.requires.back (inside_of (length ls) k c.loop-next.next c.in-Some.is c.loop-next.invariant.within) in
-    falls c.loop-next.next (get_or ls k none).before k c.in-Some.is step.before
+    let step : IsStep (way_in ls) k (get_or ls k no_link) = step_in ls k no_link c.requires.back (inside_of (length ls) k c.loop-next.next c.in-Some.is c.loop-next.invariant.within) in
+    falls c.loop-next.next (get_or ls k no_link).before k c.in-Some.is step.before
 
 pub loop-next-preserved : goal.loop-next-preserved
 loop-next-preserved c =
@@ -24,10 +21,10 @@ loop-next-preserved c =
     let k = c.in-Some.place in
     let inside : k < length ls = inside_of (length ls) k c.loop-next.next c.in-Some.is c.loop-next.invariant.within in
     let le : k ≤ length ls = omega (arith, inside) in
-    let step : IsStep (way_in ls) k (get_or ls k none) = step_in ls k none c.requires.back inside in
+    let step : IsStep (way_in ls) k (get_or ls k no_link) = step_in ls k no_link c.requires.back inside in
     record {
-      within = in_more k (length ls) (get_or ls k none).before le step.before;
-      parts = walked ls c.loop-next.way.items c.push.new.self.items (way_in ls c.args.last) c.loop-next.next k (get_or ls k none) c.in-Some.is step c.in_ok-push.ensures.items c.loop-next.invariant.parts;
+      within = in_more k (length ls) (get_or ls k no_link).before le step.before;
+      parts = walked ls c.loop-next.way.items c.push.new.self.items (way_in ls c.args.last) c.loop-next.next k (get_or ls k no_link) c.in-Some.is step c.in_ok-push.ensures.items c.loop-next.invariant.parts;
     }
 
 pub returns : goal.returns
