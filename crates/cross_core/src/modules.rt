@@ -9,7 +9,7 @@ ghost use Rattle.module_check.specs.Asked.{asked};
 ghost use Rattle.reflection.specs.Report.{IsReport};
 ghost use Rattle.serde_json.specs.View.{view};
 
-use emit_glsl::translate;
+use emit_glsl::{Translation, translate};
 use glsl_ast::Unit;
 use module_check::read_module;
 use profile_check::Options;
@@ -18,8 +18,18 @@ use serde_json::Value;
 use spv_decor::Decor;
 use spv_words::Fault;
 use std::alloc::Global;
+use std::mem::forget;
 
-/// The tree of the text of the module that these bytes are.
+/// The tree of a text. What it was made by is not given back part by part, since the process ends.
+fn tree_of(text: Translation) -> Unit
+    ensures { result ≡ text.entry.unit }
+{
+    let Translation { unit, parts } = text;
+    forget(parts);
+    unit
+}
+
+/// The tree of the text of the module that these bytes are. The module is not given back either.
 pub fn translated(alloc: Global, bytes: &[u8], options: &Options) -> Result<Unit, Fault>
     requires { length bytes.now ≤ limit_number Bytes }
     ensures passes { OnOk result (Conforms bytes.now (asked options.now) × IsWithinLimits bytes.now (asked options.now)) }
@@ -28,7 +38,11 @@ pub fn translated(alloc: Global, bytes: &[u8], options: &Options) -> Result<Unit
 {
     let module = read_module(alloc, bytes)?;
     let decor = Decor::read(alloc, &module)?;
-    translate(alloc, &module, &decor, options)
+    let translation = translate(alloc, &module, &decor, options)?;
+    let unit = tree_of(translation);
+    forget(decor);
+    forget(module);
+    Ok(unit)
 }
 
 /// The report on the module that these bytes are.

@@ -111,7 +111,7 @@ pub fn summarized(alloc: Global, bytes: &[u8], options: &Options) -> Result<Stri
 {
     let module = read_module(alloc, bytes)?;
     let decor = Decor::read(alloc, &module)?;
-    let unit = translate(alloc, &module, &decor, options)?;
-    let text = printed(alloc, &unit)?;
+    let translation = translate(alloc, &module, &decor, options)?;
+    let text = printed(alloc, &translation.unit)?;
     Ok(line(alloc, counts_in(alloc, &module)?, text.bytes())?)
 }

@@ -18,6 +18,6 @@ claimed_by p = record {
   leave = contains nat_cmp p.leave;
   fell = contains nat_cmp p.fell;
   captured = captured_numbers p.source.now.globals (is_carried_in p.naming);
-  targets = λ b. once itself (targets_in p.places.now b);
+  targets = λ b. once itself (targets_in p.places b);
   spares = λ b t. spares_in (moves_in p.moves.items b t);
 }

@@ -35,7 +35,7 @@ order_in orders h = items_at (slice_get orders h)
 abbrev pub plan_in : ContextState → Planned → FunctionPlan
 plan_in c p = record {
   scope = scope_of c;
-  graph = p.places.now;
+  graph = p.places;
   region = region_of p.region;
   moves = moves_in p.moves.items;
   again = contains nat_cmp p.again;

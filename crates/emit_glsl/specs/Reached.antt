@@ -1,9 +1,9 @@
 -- The functions that calls reach, by the plans that the code makes of them, and the unit that it makes.
 use Rattle.std.specs.Prelude.{ℕ, ◌≡◌, ◌==◌, Bool, List, ◌++◌, Option, Some, None, find, flat_map, if◌then◌else◌, map, option_map, option_to_list}
 use Rattle.std.specs.List.{AllZip, list_any, position_from}
-use Rattle.std.specs.BTreeMap.{BTreeMap, get}
-use Rattle.std.specs.BTreeSet.{BTreeSet, contains}
-use Rattle.std.specs.Ordering.{nat_cmp}
+use Rattle.id_map.specs.declared.map.IdMap.{IdMap}
+use Rattle.id_map.specs.declared.set.IdSet.{IdSet}
+use Rattle.id_map.specs.Entries.{entry_in, is_in}
 use Rattle.spv_module.specs.declared.inst.Id.{Id}
 use Rattle.spv_module.specs.declared.inst.Inst.{Inst}
 use Rattle.spv_module.specs.declared.inst.Function.{Function}
@@ -40,14 +40,14 @@ function_in p = p.locals
 
 -- the instructions of a function for which constants and structs are written
 abbrev pub live_in : Planned → List Inst
-live_in p = live_by p.source.now.globals (form_in p.naming) (is_carried_in p.naming) p.places.now p.locals.blocks
+live_in p = live_by p.source.now.globals (form_in p.naming) (is_carried_in p.naming) p.places p.locals.blocks
 
 abbrev pub reached_in : List Planned → Reached
 reached_in ps = record { functions = map function_in ps; live = flat_map live_in ps }
 
 -- the id of a function is among these
-abbrev pub is_in : BTreeSet ℕ → Function → Bool
-is_in ids f = contains nat_cmp ids f.id.0
+abbrev pub is_among : IdSet → Function → Bool
+is_among ids f = is_in ids f.id.0
 
 -- names that are given by what is claimed
 pub record AreNamesOf (s : Source) (r : Reached) (plans : List Plan) (names : Given) : Type 0 where
@@ -72,12 +72,16 @@ or_before before (Some e) = Some e
 abbrev pub plan_with : Source → Given → Globals → Planned → FunctionPlan
 plan_with s names globals p = plan_in (record { source = s; function = p.locals; names = names; globals = globals; plan = p.naming }) p
 
+-- the id of its function
+abbrev pub id_in : Planned → ℕ
+id_in p = p.locals.id.0
+
 abbrev pub has_id : ℕ → Planned → Bool
-has_id n p = p.locals.id.0 == n
+has_id n p = id_in p == n
 
 -- the first plan of a function with each id
-pub record ArePlaces (ps : List Planned) (places : BTreeMap ℕ ℕ) : Type 0 where
-  pub each : (n : ℕ) → get nat_cmp places n ≡ position_from (has_id n) 0 ps
+pub record ArePlaces (ps : List Planned) (places : IdMap ℕ) : Type 0 where
+  pub each : (n : ℕ) → entry_in places n ≡ position_from (has_id n) 0 ps
 
 abbrev pub planned_at : List Planned → ℕ → Option Planned
 planned_at ps n = find (has_id n) ps

@@ -195,7 +195,7 @@ impl BlockText for PlannedFunction<'_, '_> {
     }
 
     fn target(&self, block: usize, number: usize) -> usize {
-        target(self.plan().places, block, number)
+        target(&self.plan().places, block, number)
     }
 
     fn copies(

@@ -93,12 +93,16 @@ impl FunctionClaims for FunctionPlan<'_> {
         self.fell.contains(&block)
     }
 
+    fn has_captured(&self, inst: &Inst) -> bool {
+        is_captured(&self.naming, inst)
+    }
+
     fn captured(&self, alloc: Global, inst: &Inst) -> Result<Vec<u32>, Memory> {
         captured(alloc, self.source, &self.naming, inst)
     }
 
     fn targets(&self, alloc: Global, block: usize) -> Result<Vec<usize>, Memory> {
-        let list = each_once(alloc, targets(self.places, block))?;
+        let list = each_once(alloc, targets(&self.places, block))?;
         Ok(list)
     }
 

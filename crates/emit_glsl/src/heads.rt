@@ -2,8 +2,10 @@
 ghost use Rattle.std.specs.Prelude.{◌≡◌, ◌++◌, IfOk, OnOk, map};
 ghost use Rattle.glsl_ast.specs.View.{stmt_of};
 ghost use Rattle.expr_forward.specs.Context.{scope_of};
+ghost use Rattle.emit_glsl.specs.Planned.{is_captured as is_captured_inst};
 ghost use Rattle.emit_glsl.specs.Functions.{is_variable as is_variable_inst, variable_text as text_of_variable, variables_text, is_hoisted as is_hoisted_form, hoisted_texts, index_of, captured_text, captured_texts_of, captured_texts, in_blocks, top_text};
 
+use crate::named::is_captured;
 use crate::scope::PlannedFunction;
 use glsl_ast::Stmt;
 use hoist_plan::Form;
@@ -82,6 +84,13 @@ impl PlannedFunction<'_, '_> {
         self.declared(alloc, ty, key, None)
     }
 
+    /// Whether an instruction is a chain whose indexes other blocks read from variables.
+    fn is_captured(&self, inst: &Inst) -> bool
+        ensures { result ≡ is_captured_inst (scope_of self.now.context).carried inst.now }
+    {
+        is_captured(&self.plan().naming, inst)
+    }
+
     /// Appends the declarations of these captured indexes of a chain.
     fn add_indexes(
         &self,
@@ -107,6 +116,9 @@ impl PlannedFunction<'_, '_> {
     ) -> Result<(), Memory>
         ensures { OnOk result (map stmt_of out.new.items ≡ map stmt_of out.old.items ++ captured_texts_of (scope_of self.now.context) chain.now) }
     {
+        if !self.is_captured(chain) {
+            return Ok(());
+        }
         let indexes = self.captured(alloc, chain)?;
         self.add_indexes(alloc, chain, indexes.as_slice(), out)?;
         Ok(())

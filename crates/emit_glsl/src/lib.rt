@@ -17,3 +17,4 @@ mod translation;
 mod unit;
 
 pub use translation::translate;
+pub use unit::{Parts, Translation};

@@ -100,6 +100,6 @@ pub fn add_live<'a>(live: &mut Vec<&'a Inst>, plan: &FunctionPlan<'a>) -> Result
     ensures { OnOk result (insts_at live.new.items ≡ insts_at live.old.items ++ live_in plan.now) }
 {
     let blocks = plan.function().blocks.as_slice();
-    add_live_in(live, plan.source, &plan.naming, plan.places, blocks)?;
+    add_live_in(live, plan.source, &plan.naming, &plan.places, blocks)?;
     Ok(())
 }

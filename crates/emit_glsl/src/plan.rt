@@ -36,7 +36,7 @@ use use_chains::{Steps, Uses};
 pub struct FunctionPlan<'a> {
     pub source: &'a Module,
     pub locals: Locals<'a>,
-    pub places: &'a Places,
+    pub places: Places,
     pub naming: Naming,
     pub named: IdSet,
     pub region: Region,
@@ -105,23 +105,23 @@ fn flag_sets(
 }
 
 impl<'a> FunctionPlan<'a> {
-    /// Plans a function whose blocks stand at these places. There is an error only for want of memory.
+    /// Plans a function by what it defines and the places of its blocks. There is an error only for want of memory.
     pub fn of<L: Ledger>(
         alloc: Global,
         module: &'a Module,
-        function: &'a Function,
-        places: &'a Places,
+        locals: Locals<'a>,
+        places: Places,
         steps: &mut Steps<L>,
     ) -> Result<FunctionPlan<'a>, Memory>
-        requires { places.now ≡ graph function.now }
-        ensures { IfOk result (λ p. IsPlanned «module».now function.now p) }
+        requires { places ≡ graph locals }
+        ensures { IfOk result (λ p. IsPlanned «module».now locals.entry p) }
     {
-        let locals = Locals::of(alloc, function)?;
-        let naming = naming_of(alloc, module, &locals, places, steps)?;
-        let region = recover(alloc, function, places)?;
-        let sets = flag_sets(alloc, function, places, &region, &naming)?;
-        let orders = orders_of(alloc, function, places)?;
-        let named = named(alloc, function, places, &naming)?;
+        let function = locals.function();
+        let naming = naming_of(alloc, module, &locals, &places, steps)?;
+        let region = recover(alloc, function, &places)?;
+        let sets = flag_sets(alloc, function, &places, &region, &naming)?;
+        let orders = orders_of(alloc, function, &places)?;
+        let named = named(alloc, function, &places, &naming)?;
         let moves = moves_of(alloc, module, &locals, &naming)?;
         let FlagSets { again, leave, fell } = sets;
         Ok(FunctionPlan {

@@ -1,8 +1,8 @@
 // The parts of a text.
-ghost use Rattle.std.specs.Prelude.{◌≡◌, ◌==◌, ◌||◌, ◌++◌, ℕ, Some, None, filter, flat_map, IfOk, OnOk, map, option_copied, option_map, option_to_list, if◌then◌else◌};
+ghost use Rattle.std.specs.Prelude.{◌≡◌, ◌==◌, ◌++◌, ℕ, Some, None, drop, filter, flat_map, IfOk, OnOk, map, option_copied, option_map, option_to_list, slice_get, if◌then◌else◌};
 ghost use Rattle.std.specs.List.{AllZip, list_any};
-ghost use Rattle.std.specs.BTreeSet.{contains};
-ghost use Rattle.std.specs.Ordering.{nat_cmp};
+ghost use Rattle.std.specs.Vec.Iter.{into_iter_items};
+ghost use Rattle.id_map.specs.Entries.{is_in};
 ghost use Rattle.structure_rules.specs.Graph.{graph};
 ghost use Rattle.glsl_ast.specs.View.{decl_of, expr_of, unit_of as tree_of_unit};
 ghost use Rattle.constant_text.specs.Named.{id_names};
@@ -10,7 +10,7 @@ ghost use Rattle.expr_forward.specs.Globals.{global_in};
 ghost use Rattle.text_items.specs.State.{functions_at, insts_at, reached_of};
 ghost use Rattle.emit_glsl.specs.Claimed.{claimed_by};
 ghost use Rattle.emit_glsl.specs.Plans.{IsPlanned, IsPlannedNext};
-ghost use Rattle.emit_glsl.specs.Reached.{function_in, live_in, reached_in, is_in as is_in_set, IsHead, AreGlobals, or_before, ArePlaces, planned_at, decl_with, decls_at, expr_among, IsWritten, IsMade};
+ghost use Rattle.emit_glsl.specs.Reached.{function_in, id_in, live_in, reached_in, is_among, IsHead, AreGlobals, or_before, ArePlaces, planned_at, decl_with, decls_at, expr_among, IsWritten, IsMade};
 ghost use Rattle.emit_glsl.specs.Translation.{global_expr as expr_of_global};
 ghost use Rattle.emit_glsl.specs.Unit.{called as called_in};
 
@@ -20,103 +20,114 @@ use crate::scope::PlannedFunction;
 use constant_text::Readings;
 use expr_forward::Globals;
 use glsl_ast::{Decl, Expr, Unit};
+use id_map::IdSet;
 use module_check::Conforming;
 use name_alloc::{Names, names};
-use nest_place::Places;
+use nest_place::Places as Nested;
+use profile_check::Entry;
 use spec_constants::Overrides;
 use spv_decor::Decor;
+use spv_index::{Locals, Places, places_of};
 use spv_module::{Function, Id, Inst, Module};
 use spv_words::Memory;
 use std::alloc::{AllocError, Global};
-use std::collections::{BTreeMap, BTreeSet};
 use std::marker::Brand;
 use std::sync::ledger::{Blank, Ledger};
+use std::vec::IntoIter;
 use text_items::{Written, claims, declarations, global_expr};
 use use_chains::Steps;
 
-/// Adds the id of a function.
-fn add_id(ids: &mut BTreeSet<u32>, id: Id) -> Result<(), AllocError>
-    ensures { OnOk result ((n : ℕ) → contains nat_cmp ids.new n ≡ (contains nat_cmp ids.old n || id.0 == n)) }
-{
-    ids.insert(id.0)?;
-    Ok(())
-}
-
 /// The ids of functions as a set.
-fn ids_of(alloc: Global, order: &[Id]) -> Result<BTreeSet<u32>, AllocError>
-    ensures { IfOk result (λ ids. (n : ℕ) → contains nat_cmp ids n ≡ list_any (λ id. id.0 == n) order.now) }
+fn ids_of(alloc: Global, module: &Module, order: &[Id]) -> Result<IdSet, AllocError>
+    ensures { IfOk result (λ ids. (n : ℕ) → is_in ids n ≡ list_any (λ id. id.0 == n) order.now) }
 {
-    let mut ids = BTreeSet::new(alloc);
+    let mut ids = IdSet::below(alloc, module.bound(), order.len())?;
     for id in order {
-        add_id(&mut ids, *id)?;
+        ids.insert(id.0)?;
     }
     Ok(ids)
 }
 
-/// Whether the id of a function is among these.
-fn is_in(ids: &BTreeSet<u32>, function: &Function) -> bool
-    ensures { result ≡ is_in_set ids.now function.now }
-{
-    ids.contains(&function.id.0)
-}
-
-/// Adds the plan of a function with its places, where its id is among these.
+/// Adds the plan of a function by what it defines and its places, where its id is among these.
 fn add_plan<'a, L: Ledger>(
     plans: &mut Vec<FunctionPlan<'a>>,
     alloc: Global,
     module: &'a Module,
-    ids: &BTreeSet<u32>,
-    function: &'a Function,
-    places: &'a Places,
+    ids: &IdSet,
+    locals: Locals<'a>,
+    places: Nested,
     steps: &mut Steps<L>,
 ) -> Result<(), Memory>
-    requires { places.now ≡ graph function.now }
-    ensures { OnOk result (IsPlannedNext «module».now (is_in_set ids.now) function.now plans.old.items plans.new.items) }
+    requires { places ≡ graph locals }
+    ensures { OnOk result (IsPlannedNext «module».now (is_among ids.now) locals.entry plans.old.items plans.new.items) }
 {
-    if is_in(ids, function) {
-        let plan = FunctionPlan::of(alloc, module, function, places, steps)?;
+    if ids.has(locals.function().id.0) {
+        let plan = FunctionPlan::of(alloc, module, locals, places, steps)?;
         plans.push(plan)?;
     }
     Ok(())
+}
+
+/// Adds the plan of a function that has the first of these places, where its id is among these.
+fn add_next<'a, L: Ledger>(
+    plans: &mut Vec<FunctionPlan<'a>>,
+    alloc: Global,
+    module: &'a Module,
+    ids: &IdSet,
+    locals: Locals<'a>,
+    places: &mut IntoIter<Nested>,
+    steps: &mut Steps<L>,
+) -> Result<(), Memory>
+    requires { slice_get (into_iter_items places.old) 0 ≡ Some (graph locals) }
+    ensures plans { OnOk result (IsPlannedNext «module».now (is_among ids.now) locals.entry plans.old.items plans.new.items) }
+    ensures rest { into_iter_items places.new ≡ drop 1 (into_iter_items places.old) }
+{
+    match places.next() {
+        None => Ok(()),
+        Some(own) => add_plan(plans, alloc, module, ids, locals, own, steps),
+    }
 }
 
 /// The plans of those functions whose ids are among these. Each function has places.
 fn plans_with<'a, L: Ledger>(
     alloc: Global,
     module: &'a Module,
-    ids: &BTreeSet<u32>,
-    functions: &'a [Function],
-    places: &'a [Places],
+    ids: &IdSet,
+    count: usize,
+    locals: Vec<Locals<'a>>,
+    places: Vec<Nested>,
     steps: &mut Steps<L>,
 ) -> Result<Vec<FunctionPlan<'a>>, Memory>
-    requires { places.now ≡ map graph functions.now }
-    ensures { IfOk result (λ plans. AllZip (IsPlanned «module».now) (filter (is_in_set ids.now) functions.now) plans.items) }
+    requires { places.items ≡ map graph locals.items }
+    ensures { IfOk result (λ plans. AllZip (IsPlanned «module».now) (filter (is_among ids.now) locals.entry.items) plans.items) }
 {
-    let mut plans = Vec::with_capacity(alloc, ids.len())?;
-    for (k, function) in functions.iter().enumerate() {
-        add_plan(&mut plans, alloc, module, ids, function, &places[k], steps)?;
+    let mut plans = Vec::with_capacity(alloc, count)?;
+    let mut places = places.into_iter();
+    for own in locals {
+        add_next(&mut plans, alloc, module, ids, own, &mut places, steps)?;
     }
     Ok(plans)
 }
 
-/// The plans of the functions with these ids, in the order of the module. Each function of the module has places.
+/// The plans of the functions with these ids, in the order of the module, by what each function of the module defines and its
+/// places.
 fn plans_of<'a, L: Ledger>(
     alloc: Global,
     module: &'a Module,
     order: &[Id],
-    places: &'a [Places],
+    locals: Vec<Locals<'a>>,
+    places: Vec<Nested>,
     blank: Blank,
 ) -> Result<Vec<FunctionPlan<'a>>, Memory>
     requires name { blank.name ≡ L.name }
     requires parts { blank.parts ≡ L.parts }
     requires one { blank.parts ≡ 1 }
-    requires places { places.now ≡ map graph «module».now.functions }
-    ensures { IfOk result (λ plans. AllZip (IsPlanned «module».now) (called_in order.now «module».now.functions) plans.items) }
+    requires places { places.items ≡ map graph locals.items }
+    ensures { IfOk result (λ plans. AllZip (IsPlanned «module».now) (called_in order.now locals.entry.items) plans.items) }
 {
     let mut steps = Steps::<L>::new(blank);
-    let ids = ids_of(alloc, order)?;
-    let functions = module.functions();
-    let plans = plans_with(alloc, module, &ids, functions, places, &mut steps)?;
+    let ids = ids_of(alloc, module, order)?;
+    let plans = plans_with(alloc, module, &ids, order.len(), locals, places, &mut steps)?;
     Ok(plans)
 }
 
@@ -140,6 +151,20 @@ fn live_of<'a>(alloc: Global, plans: &[FunctionPlan<'a>]) -> Result<Vec<&'a Inst
         add_live(&mut live, plan)?;
     }
     Ok(live)
+}
+
+/// What the tree of a text was made by.
+#[derive(Drop)]
+pub struct Parts<'a> {
+    plans: Vec<FunctionPlan<'a>>,
+    names: Names,
+}
+
+/// The text of a module: its tree, and what that was made by, which a caller keeps or lets go with it.
+#[derive(Drop)]
+pub struct Translation<'a> {
+    pub unit: Unit,
+    pub parts: Parts<'a>,
 }
 
 /// The names of a text, and its items before the functions.
@@ -294,17 +319,23 @@ fn globals_of(
     Ok(globals)
 }
 
-/// The places of the plans of functions by their ids, of the first with an id.
-fn places_of(alloc: Global, plans: &[FunctionPlan]) -> Result<BTreeMap<u32, usize>, Memory>
-    ensures { IfOk result (ArePlaces plans.now) }
+/// The ids of the functions of plans.
+fn ids_in(alloc: Global, plans: &[FunctionPlan]) -> Result<Vec<u32>, AllocError>
+    ensures { IfOk result (λ ids. ids.items ≡ map id_in plans.now) }
 {
-    let mut places = BTreeMap::new(alloc);
-    for (place, plan) in plans.iter().enumerate() {
-        let id = plan.function().id.0;
-        if !places.contains_key(&id) {
-            places.insert(id, place)?;
-        }
+    let mut ids = Vec::with_capacity(alloc, plans.len())?;
+    for plan in plans {
+        ids.push(plan.function().id.0)?;
     }
+    Ok(ids)
+}
+
+/// The places of the plans of functions by their ids, of the first with an id.
+fn places_in(alloc: Global, plans: &[FunctionPlan]) -> Result<Places, Memory>
+    ensures { IfOk result (λ places. ArePlaces plans.now places) }
+{
+    let ids = ids_in(alloc, plans)?;
+    let places = places_of(alloc, ids.as_slice())?;
     Ok(places)
 }
 
@@ -328,14 +359,14 @@ fn function_decl<'a, 'b>(
 /// The plan of the function with an id.
 fn plan_at<'a, 'b>(
     plans: &'a [FunctionPlan<'b>],
-    places: &BTreeMap<u32, usize>,
+    places: &Places,
     id: Id,
 ) -> Option<&'a FunctionPlan<'b>>
     requires { ArePlaces plans.now places.now }
     ensures { option_copied result ≡ planned_at plans.now id.0 }
 {
-    let place = places.get(&id.0)?;
-    plans.get(*place)
+    let place = places.get(id.0)?;
+    plans.get(place)
 }
 
 /// Appends the function of a plan, where there is one.
@@ -370,7 +401,7 @@ fn add_placed<'a, 'b>(
     globals: &'a Globals,
     entry: Id,
     plans: &'a [FunctionPlan<'b>],
-    places: &BTreeMap<u32, usize>,
+    places: &Places,
     order: &[Id],
 ) -> Result<(), Memory>
     requires entry { entry.0 ≡ readings.now.entry }
@@ -399,73 +430,83 @@ fn add_functions<'a, 'b>(
     ensures { OnOk result (map decl_of items.new.items ≡ map decl_of items.old.items ++ flat_map (decls_at readings.now names.now globals.now plans.now) order.now) }
 {
     items.reserve(order.len())?;
-    let places = places_of(alloc, plans)?;
+    let places = places_in(alloc, plans)?;
     add_placed(
         items, alloc, readings, names, globals, entry, plans, &places, order,
     )?;
     Ok(())
 }
 
-/// The tree of a text with planned functions.
-fn unit_by<'a>(
+/// A text with planned functions.
+fn text_by<'a>(
     alloc: Global,
     readings: &Readings<'a>,
     decor: &'a Decor<'a>,
-    found: &Conforming,
-    plans: &[FunctionPlan<'a>],
-) -> Result<Unit, Memory>
+    entry: &Entry,
+    order: &[Id],
+    plans: Vec<FunctionPlan<'a>>,
+) -> Result<Translation<'a>, Memory>
     requires decor { decor.now ≡ readings.now.of.heads }
-    requires entry { found.now.entry.function.0 ≡ readings.now.entry }
-    ensures { IfOk result (λ unit. IsWritten readings.now found.now.entry.size.items found.now.order.items plans.now (tree_of_unit unit)) }
+    requires entry { entry.now.function.0 ≡ readings.now.entry }
+    ensures { IfOk result (λ text. IsWritten readings.now entry.now.size.items order.now plans.entry.items (tree_of_unit text.unit)) }
 {
-    let entry = found.entry.function;
-    let head = head_of(alloc, readings, decor, entry, plans)?;
+    let function = entry.function;
+    let planned = plans.as_slice();
+    let head = head_of(alloc, readings, decor, function, planned)?;
     let Head { names, mut items } = head;
     let globals = globals_of(alloc, readings, decor, &names)?;
-    let order = found.order.as_slice();
     add_functions(
-        &mut items, alloc, &*readings, &names, &globals, entry, &*plans, order,
+        &mut items, alloc, &*readings, &names, &globals, function, planned, order,
     )?;
-    let sizes = readings.sizes(alloc, found.entry.size.as_slice())?;
-    Ok(Unit { sizes, items })
+    let sizes = readings.sizes(alloc, entry.size.as_slice())?;
+    let unit = Unit { sizes, items };
+    let parts = Parts { plans, names };
+    Ok(Translation { unit, parts })
 }
 
-/// The tree of a text, by how its constants are read.
-fn planned_unit<'a>(
+/// A text, by how its constants are read.
+fn planned_text<'a>(
     alloc: Global,
     readings: &Readings<'a>,
     decor: &'a Decor<'a>,
-    found: &'a Conforming,
-) -> Result<Unit, Memory>
+    found: Conforming<'a>,
+) -> Result<Translation<'a>, Memory>
     requires decor { decor.now ≡ readings.now.of.heads }
-    requires entry { found.now.entry.function.0 ≡ readings.now.entry }
-    requires places { found.now.places.items ≡ map graph readings.now.of.functions }
-    ensures { IfOk result (λ unit. IsMade readings.now found.now.entry.size.items found.now.order.items (tree_of_unit unit)) }
+    requires entry { found.entry.function.0 ≡ readings.now.entry }
+    requires locals { found.locals.items ≡ readings.now.of.functions }
+    requires places { found.places.items ≡ map graph readings.now.of.functions }
+    ensures { IfOk result (λ text. IsMade readings.now found.entry.entry.size.items found.entry.order.items (tree_of_unit text.unit)) }
 {
     let blank = Blank::new(1);
-    let order = found.order.as_slice();
-    let places = found.places.as_slice();
-    let plans = plans_of::<Brand>(alloc, readings.module(), order, places, blank)?;
-    let unit = unit_by(alloc, readings, decor, found, plans.as_slice())?;
-    Ok(unit)
+    let Conforming {
+        entry,
+        order,
+        places,
+        locals,
+    } = found;
+    let order = order.as_slice();
+    let plans = plans_of::<Brand>(alloc, readings.module(), order, locals, places, blank)?;
+    let text = text_by(alloc, readings, decor, &entry, order, plans)?;
+    Ok(text)
 }
 
-/// The tree of the text of a module that was judged: the size of workgroups, the items in the order of the module, and the
-/// functions, callees first. There is an error only for want of memory.
-pub fn unit_of<'a>(
+/// The text of a module that was judged: the size of workgroups, the items in the order of the module, and the functions,
+/// callees first. There is an error only for want of memory.
+pub fn text_of<'a>(
     alloc: Global,
     module: &'a Module,
     decor: &'a Decor<'a>,
-    found: &'a Conforming,
+    found: Conforming<'a>,
     overrides: &'a Overrides,
-) -> Result<Unit, Memory>
+) -> Result<Translation<'a>, Memory>
     requires decor { decor.now ≡ «module».now.heads }
-    requires places { found.now.places.items ≡ map graph «module».now.functions }
-    ensures { IfOk result (λ unit. IsMade (record { of = «module».now; entry = found.now.entry.function.0; overrides = overrides.now.pairs.items }) found.now.entry.size.items found.now.order.items (tree_of_unit unit)) }
+    requires locals { found.locals.items ≡ «module».now.functions }
+    requires places { found.places.items ≡ map graph «module».now.functions }
+    ensures { IfOk result (λ text. IsMade (record { of = «module».now; entry = found.entry.entry.function.0; overrides = overrides.now.pairs.items }) found.entry.entry.size.items found.entry.order.items (tree_of_unit text.unit)) }
 {
     let entry = found.entry.function;
     let pairs = overrides.pairs.as_slice();
     let readings = Readings::of(alloc, module, decor, entry, pairs)?;
-    let unit = planned_unit(alloc, &readings, decor, found)?;
-    Ok(unit)
+    let text = planned_text(alloc, &readings, decor, found)?;
+    Ok(text)
 }

@@ -61,7 +61,7 @@ fn left_loop(places: &Places, from: usize, to: usize) -> Option<usize>
     requires leads { leads_to to (nth places.now from) ≡ true }
     ensures { result ≡ left_loop_at places.now from to }
 {
-    if is_break(places, from, to) && places.innermost_switch(from).is_some() {
+    if places.innermost_switch(from).is_some() && is_break(places, from, to) {
         loop_header(places.nearest_loop(from))
     } else {
         None

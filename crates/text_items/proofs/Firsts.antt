@@ -1,9 +1,9 @@
--- The operand words that are ids, where these are the first ones.
+-- The operand words that are ids, where these are the first ones, or all.
 use Rattle.std.proofs.Common.{◌≡◌, ◌==◌, ◌&&◌, ◌||◌, ℕ, zero, suc, ◌+◌, ◌≤◌, ◌<◌, Bool, true, false, List, [], ◌∷◌, refl, sym, ap, ◌∙◌, take, arith}
 use Rattle.std.specs.List.{list_any}
 use Rattle.std.proofs.lemmas.Bool.Decides.{nat_tests}
 use Rattle.spv_ops.specs.Operands.{has_id}
-use Rattle.spv_ops.specs.declared.operands.IdWords.TheVariants.{Range}
+use Rattle.spv_ops.specs.declared.operands.IdWords.TheVariants.{Range, OneAndFrom}
 use Rattle.text_rules.specs.Printed.{mentions_from}
 
 past_range : (m k : ℕ) → m ≤ k → has_id (Range 0 m) k ≡ false
@@ -26,3 +26,15 @@ first_from id m k (suc n) (w ∷ ws) so =
 
 pub first_words : (id m : ℕ) (words : List ℕ) → mentions_from (has_id (Range 0 m)) id 0 words ≡ list_any (λ (w : ℕ). w == id) (take m words)
 first_words id m words = first_from id m 0 m words (omega arith)
+
+from_zero : (k : ℕ) → has_id (OneAndFrom 0 0) k ≡ true
+from_zero k = grind (arith, nat_tests)
+
+all_from : (id k : ℕ) (words : List ℕ) → mentions_from (has_id (OneAndFrom 0 0)) id k words ≡ list_any (λ (w : ℕ). w == id) words
+all_from id k [] = refl
+all_from id k (w ∷ ws) =
+    ap (λ (b : Bool). (b && (w == id)) || mentions_from (has_id (OneAndFrom 0 0)) id (k + 1) ws) (from_zero k)
+    ∙ ap (λ (b : Bool). (w == id) || b) (all_from id (k + 1) ws)
+
+pub all_words : (id : ℕ) (words : List ℕ) → mentions_from (has_id (OneAndFrom 0 0)) id 0 words ≡ list_any (λ (w : ℕ). w == id) words
+all_words id words = all_from id 0 words

@@ -31,6 +31,9 @@ fn claim_captured<P: FunctionClaims>(
 ) -> Result<(), Memory>
     ensures { OnOk result (claims_of claims.new.items ≡ claims_of claims.old.items ++ claims_of_captured (P.plan plan.now) inst.now) }
 {
+    if !plan.has_captured(inst) {
+        return Ok(());
+    }
     let numbers = plan.captured(alloc, inst)?;
     for number in &numbers {
         claim_flag(claims, true, Key::Captured(Id(inst.result), *number))?;

@@ -1,5 +1,5 @@
 // The claims of the names of functions, their parameters and their variables.
-ghost use Rattle.std.specs.Prelude.{◌≡◌, ◌++◌, IfOk, OnOk, flat_map};
+ghost use Rattle.std.specs.Prelude.{◌≡◌, ◌++◌, [], IfOk, OnOk, false, flat_map};
 ghost use Rattle.text_rules.specs.Claims.{Plan, claim_id as claim_of_id, claim_function as claims_of_function};
 ghost use Rattle.text_items.specs.Claimed.{claim_own as claim_of_own, claim_param, claim_result, claim_all};
 ghost use Rattle.text_items.specs.View.{claims_of};
@@ -36,6 +36,10 @@ pub trait FunctionClaims {
     /// Whether one needs the flag of a case target that is set where it is fallen into.
     fn fell(&self, block: usize) -> bool
         ensures { result ≡ (plan self.now).fell block };
+
+    /// Whether an instruction may be a chain whose indexes other blocks need.
+    fn has_captured(&self, inst: &Inst) -> bool
+        ensures { result ≡ false → (plan self.now).captured inst.now ≡ [] };
 
     /// The numbers of the indexes of a chain that other blocks need.
     fn captured(&self, alloc: Global, inst: &Inst) -> Result<Vec<u32>, Memory>

@@ -50,13 +50,17 @@ fn first(args: &[u32], count: usize) -> &[u32]
     args.get(..count).unwrap_or(args)
 }
 
-/// Adds those of an instruction's operand words that are ids, in most instructions the first ones.
+/// Adds those of an instruction's operand words that are ids, in most instructions all or the first ones.
 fn add_those(ids: &mut IdSet, words: IdWords, args: &[u32]) -> Result<(), AllocError>
     ensures { OnOk result ((id : ℕ) → is_in ids.new id ≡ (is_in ids.old id || mentions_from (has_id words) id 0 args.now)) }
 {
     match words {
         IdWords::Range(0, count) => {
             add_ids(ids, first(args, count))?;
+            Ok(())
+        }
+        IdWords::OneAndFrom(0, 0) => {
+            add_ids(ids, args)?;
             Ok(())
         }
         _ => add_each(ids, &words, args),

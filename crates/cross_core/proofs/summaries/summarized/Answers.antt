@@ -22,28 +22,28 @@ returns-in_err-module-clause-refused c =
 pub translate-requires-clause-read : goal.translate-requires-clause-read
 translate-requires-clause-read c = read_is c.args.bytes.now c.in_ok-module.module c.in_ok-module.ensures.read
 
-pub returns-in_err-unit-clause-refused : goal.returns-in_err-unit-clause-refused
-returns-in_err-unit-clause-refused c =
+pub returns-in_err-translation-clause-refused : goal.returns-in_err-translation-clause-refused
+returns-in_err-translation-clause-refused c =
     let o : Options = asked c.args.options.now in
-    let is : c.from_residual-in_err-unit.result ≡ Err c.in_err-unit.field-0.0 = search rules in
+    let is : c.from_residual-in_err-translation.result ≡ Err c.in_err-translation.field-0.0 = search rules in
     let P : Result (String Global) Fault → Type 0 = λ r. IfErr r (IsRight c.args.bytes.now o) in
-    subst P (sym is) (faulty c.args.bytes.now c.in_ok-module.module c.in_ok-module.ensures.read o c.in_ok-decor.ensures.passes c.in_err-unit.field-0.0 c.in_err-unit.ensures.refused)
+    subst P (sym is) (faulty c.args.bytes.now c.in_ok-module.module c.in_ok-module.ensures.read o c.in_ok-decor.ensures.passes c.in_err-translation.field-0.0 c.in_err-translation.ensures.refused)
 
 pub returns-clause-passes : goal.returns-clause-passes
-returns-clause-passes c = fine c.args.bytes.now c.in_ok-module.module c.in_ok-module.ensures.read (asked c.args.options.now) c.in_ok-decor.ensures.passes c.requires c.in_ok-unit.ensures.passes
+returns-clause-passes c = fine c.args.bytes.now c.in_ok-module.module c.in_ok-module.ensures.read (asked c.args.options.now) c.in_ok-decor.ensures.passes c.requires c.in_ok-translation.ensures.passes
 
 pub returns-clause-summary : goal.returns-clause-summary
 returns-clause-summary c =
     let m : ModuleState = c.in_ok-module.module in
     let text : Text = c.bytes.result.now in
     let o : Options = asked c.args.options.now in
-    let unit = unit_of c.in_ok-unit.unit in
+    let unit = unit_of c.in_ok-translation.translation.unit in
     let counts = c.in_ok-counts_in.field-0 in (
       text,
       record {
         unit = unit;
-        reads = subst (λ (t : Text). glsl_read t ≡ Some unit) (sym (c.bytes.ensures ∙ c.in_ok-text.ensures)) (reads_back unit c.in_ok-unit.ensures.translation.grammar);
-        translation = subst (λ (m : ModuleState). IsTranslationOf m o unit) c.in_ok-module.ensures.read.made c.in_ok-unit.ensures.translation;
+        reads = subst (λ (t : Text). glsl_read t ≡ Some unit) (sym (c.bytes.ensures ∙ c.in_ok-text.ensures)) (reads_back unit c.in_ok-translation.ensures.translation.grammar);
+        translation = subst (λ (m : ModuleState). IsTranslationOf m o unit) c.in_ok-module.ensures.read.made c.in_ok-translation.ensures.translation;
       },
       c.in_ok-line.ensures ∙ ap (λ n. summary_line n counts.loops text) c.in_ok-counts_in.ensures.blocks ∙ ap (λ n. summary_line (count_blocks is_reached m) n text) c.in_ok-counts_in.ensures.loops
           ∙ ap (λ (m : ModuleState). summary m text) c.in_ok-module.ensures.read.made,

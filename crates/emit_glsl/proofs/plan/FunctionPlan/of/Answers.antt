@@ -1,31 +1,32 @@
-use Rattle.std.proofs.Common.{◌∙◌, List, ap, refl, subst}
+use Rattle.std.proofs.Common.{◌≡◌, ◌∙◌, List, ap, refl, subst}
 use Rattle.spv_module.specs.declared.inst.Function.{Function}
 use Rattle.structure_rules.specs.declared.graph.Node.{Node}
 use Rattle.structure_rules.specs.Graph.{graph}
 use Rattle.hoist_plan.specs.Kept.{form_in}
-use Rattle.phi_copies.specs.Sequence.{IsSequence}
-use Rattle.emit_glsl.specs.Moved.{moves_in}
-use Rattle.emit_glsl.specs.Orders.{order_by}
-use Rattle.emit_glsl.specs.Phis.{pairs, firsts}
+use Rattle.structure_recover.specs.Follows.{IsTree}
+use Rattle.structure_recover.specs.View.{region_of}
+use Rattle.switch_ladder.specs.Flags.{blocks_that, needs_again, needs_leave, needs_fell}
+use Rattle.emit_glsl.specs.Orders.{is_among, order_by}
+use Rattle.emit_glsl.specs.Phis.{phi_blocks}
 use Rattle.emit_glsl.specs.Planned.{is_named_in}
-use Rattle.emit_glsl.specs.Plans.{IsNamed}
 use Rattle.emit_glsl.proofs.plan.FunctionPlan.of.Goals as goal
 
 pub returns : goal.returns
 returns g c =
-    let f = c.args.function.now in
-    let gs = c.args.«module».now.globals in
-    let naming = c.in_ok-naming.naming in
+    let f : Function = c.args.locals in
+    let form = form_in c.in_ok-naming.naming in
+    let own : c.function-function.result.now ≡ f = c.function-function.ensures in
+    let sets = c.in_ok-sets.ensures in
     record {
       of_module = refl;
-      of_function = c.in_ok-locals.ensures;
+      of_function = refl;
       graph_is = c.requires;
-      naming = subst (λ (l : Function). IsNamed gs l (graph l) naming) c.in_ok-locals.ensures c.in_ok-naming.ensures;
-      named = λ n. c.in_ok-named.ensures n ∙ ap (λ (g : List Node). is_named_in (form_in naming) g f.blocks n) c.requires;
-      tree = c.in_ok-region.ensures.follows;
-      moves = λ b t. subst (λ (l : Function). IsSequence (firsts (pairs gs (form_in naming) l b t)) (moves_in c.in_ok-moves.moves.items b t)) c.in_ok-locals.ensures (c.in_ok-moves.ensures b t);
-      again = c.in_ok-sets.ensures.again;
-      leave = c.in_ok-sets.ensures.leave;
-      fell = c.in_ok-sets.ensures.fell;
+      naming = c.in_ok-naming.ensures;
+      named = λ n. c.in_ok-named.ensures n ∙ (ap (λ (g : List Node). is_named_in form g c.function-function.result.now.blocks n) c.requires ∙ ap (λ (l : Function). is_named_in form (graph f) l.blocks n) own);
+      tree = subst (λ (l : Function). IsTree l (region_of c.in_ok-region.region)) own c.in_ok-region.ensures.follows;
+      moves = c.in_ok-moves.ensures;
+      again = λ b. sets.again b ∙ ap (λ (l : Function). is_among (blocks_that (needs_again (graph l)) (graph l)) b) own;
+      leave = λ b. sets.leave b ∙ ap (λ (l : Function). is_among (blocks_that (needs_leave (graph l)) (graph l)) b) own;
+      fell = λ b. sets.fell b ∙ ap (λ (l : Function). is_among (blocks_that (needs_fell (graph l) (phi_blocks form l)) (graph l)) b) own;
       orders = λ h. c.in_ok-orders.ensures h ∙ ap (λ (g : List Node). order_by g h) c.requires;
     }

@@ -1,0 +1,11 @@
+use Rattle.std.proofs.Common.{◌∙◌, ℕ, List, ap, subst}
+use Rattle.profile_rules.specs.declared.given.Given.{Given}
+use Rattle.glsl_ast.specs.View.{unit_of}
+use Rattle.text_rules.specs.Constants.{Source}
+use Rattle.emit_glsl.specs.Reached.{IsMade}
+use Rattle.emit_glsl.proofs.unit.text_of.Goals as goal
+
+pub returns : goal.returns
+returns c =
+    let read = c.in_ok-readings.ensures ∙ ap (λ (pairs : List (ℕ × Given)). record { of = c.args.«module».now; entry = c.args.found.entry.function.0; overrides = pairs }) c.as_slice-pairs.ensures.value in
+    subst (λ (s : Source). IsMade s c.args.found.entry.size.items c.args.found.order.items (unit_of c.in_ok-text.text.unit)) read c.in_ok-text.ensures
