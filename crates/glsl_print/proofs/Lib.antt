@@ -2,3 +2,4 @@ pub mod Levels
 pub mod Parts
 pub mod Steps
 pub mod Reading
+pub mod Blanks

@@ -37,10 +37,23 @@ fn op_mark(op: BinOp) -> Mark
     }
 }
 
-/// Prints an expression. Each operation stands in parentheses.
+/// Prints an expression. Most are names.
 #[cycle(expression)]
+#[inline(always)]
 #[tactic(auto, using(glsl_ast::proofs::Views::expr_rows))]
 pub fn print_expr<K: Sink>(expr: &Expr, sink: &mut K, page: &mut Page)
+    ensures { Goes K.written K.faults K.wants sink.old page.old (expr_text (expr_of expr.now)) sink.new page.new }
+{
+    match expr {
+        Expr::Name(name) => page.put(name.as_bytes(), sink),
+        _ => print_tree(expr, sink, page),
+    }
+}
+
+/// Prints an expression with those that stand in it. Each operation stands in parentheses.
+#[cycle(expression)]
+#[tactic(auto, using(glsl_ast::proofs::Views::expr_rows))]
+fn print_tree<K: Sink>(expr: &Expr, sink: &mut K, page: &mut Page)
     ensures { Goes K.written K.faults K.wants sink.old page.old (expr_text (expr_of expr.now)) sink.new page.new }
 {
     match expr {
@@ -81,6 +94,7 @@ pub fn print_expr<K: Sink>(expr: &Expr, sink: &mut K, page: &mut Page)
 
 /// Prints an expression, and what follows it.
 #[cycle(expression)]
+#[inline(always)]
 pub fn print_part<K: Sink>(expr: &Expr, after: Mark, sink: &mut K, page: &mut Page)
     ensures { Goes K.written K.faults K.wants sink.old page.old (expr_text (expr_of expr.now) ++ mark_text after) sink.new page.new }
 {

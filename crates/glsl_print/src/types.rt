@@ -12,8 +12,18 @@ use glsl_ast::{Base, Extent, Literal, TypeName};
 use glsl_grammar::Mark;
 use itoa::Buffer;
 
-/// Prints a number in decimal.
+/// Prints a number in decimal. Many have one digit.
 pub fn print_number<K: Sink>(number: u32, sink: &mut K, page: &mut Page)
+    ensures { Goes K.written K.faults K.wants sink.old page.old (decimal number) sink.new page.new }
+{
+    if number < 10 {
+        page.put(&[48 + number as u8], sink);
+    } else {
+        print_digits(number, sink, page);
+    }
+}
+
+fn print_digits<K: Sink>(number: u32, sink: &mut K, page: &mut Page)
     ensures { Goes K.written K.faults K.wants sink.old page.old (decimal number) sink.new page.new }
 {
     let mut buffer = Buffer::new();

@@ -1,7 +1,11 @@
 -- A struct's name in the set of those that are declared.
-use Rattle.std.proofs.Common.{◌≡◌, ◌||◌, Bool, true, false, List, cond, bytes_eq, refl, sym, ap, subst, ◌∙◌, Vec, Global, String, string_bytes}
-use Rattle.std.specs.BTreeSet.{BTreeSet, Updates}
+use Rattle.std.proofs.Common.{◌≡◌, ◌||◌, not, Bool, true, false, [], cond, bytes_eq, refl, sym, ap, ◌∙◌, Vec, Global, String, string_bytes}
+use Rattle.std.specs.BTreeSet.{BTreeSet, Updates, btree_set_len}
+use Rattle.std.specs.Cmp.Lexicographic.{slice_cmp}
+use Rattle.std.specs.List.{list_any}
+use Rattle.std.specs.Ordering.{nat_cmp, is_eq}
 use Rattle.std.specs.String.{string_cmp}
+use Rattle.std.proofs.lemmas.List.{nil_from_length}
 use Rattle.std.proofs.lemmas.Map.Text.{btree_set_updates_text}
 use Rattle.glsl_ast.specs.Tree.{Text}
 use Rattle.glsl_ast.specs.View.{decl_of}
@@ -20,3 +24,9 @@ declared_more old new name key fields item is same updates w =
     ∙ (either (bytes_eq (string_bytes key) w) (declares old w)
     ∙ (ap (λ bs. bytes_eq bs w || declares old w) same
     ∙ ap (λ i. declared_after (declares old) (decl_of i) w) (sym is)))
+
+-- where there is no struct, none has the name
+pub none_declared : (names : BTreeSet (String Global)) (w : Text) (e : Bool) → btree_set_len names ≡ 0 → e ≡ true → not e ≡ declares names w
+none_declared names w e none is =
+    let keys : names.keys ≡ [] = nil_from_length names.keys none in
+    ap not is ∙ sym (ap (λ ks. list_any (λ k. is_eq (slice_cmp nat_cmp w (string_bytes k))) ks) keys)

@@ -1,5 +1,5 @@
 -- What passes the tests is in the grammar.
-use Rattle.std.proofs.Common.{◌≡◌, ◌^◌, ◌<◌, ◌≤◌, ◌&&◌, ◌==◌, not, Bool, true, false, List, [], ◌∷◌, length, Option, Some, None, ℕ, nat_lt, nat_le, bytes_eq, refl, ap, subst, arith}
+use Rattle.std.proofs.Common.{◌≡◌, ◌^◌, ◌≤◌, ◌&&◌, ◌==◌, not, true, List, [], ◌∷◌, length, Option, Some, None, ℕ, nat_lt, nat_le, refl, subst, arith}
 use Rattle.std.specs.List.{list_all}
 use Rattle.std.proofs.lemmas.Bool.{and_parts, not-true, ltb-true, leb-true, eqb-false}
 use Rattle.glsl_ast.specs.Tree as tree
@@ -14,7 +14,7 @@ use Rattle.glsl_ast.specs.declared.items.BlockPlace.TheVariants as place
 use Rattle.glsl_grammar.specs.InGrammar.{IsInGrammar}
 use Rattle.glsl_grammar.specs.Read.{is_declared, names_after}
 use Rattle.glsl_grammar.specs.Scopes.{IsFree, IsDeclaredBase, IsDeclaredType, IsDeclaredExpr, AreDeclaredExprs, AreDeclaredSteps, IsDeclaredLValue, IsDeclaredValue, has_arms, IsDeclaredStmt, AreDeclaredStmts, AreDeclaredArms, AreDeclaredFields, AreDeclaredMembers, AreDeclaredParams, IsDeclaredResult, IsDeclaredDecl, AreDeclaredDecls, AreAxes, IsDeclared}
-use Rattle.glsl_grammar.specs.Spelled.{IsName, FitsWord, IsVectorSize, IsSpelledExtent, AreSpelledExtents, IsSpelledBase, IsSpelledType, IsSpelledLiteral, IsSpelledExpr, AreSpelledExprs, AreSpelledSteps, IsSpelledLValue, IsSpelledIfSome, AreSpelledLabels, IsSpelledStmt, AreSpelledStmts, AreSpelledArms, AreSpelledFields, AreSpelledMembers, AreSpelledParams, IsSpelledPlace, IsSpelledResult, IsSpelledId, IsSpelledDecl, AreSpelledDecls, AreSpelledSizes, IsSpelled}
+use Rattle.glsl_grammar.specs.Spelled.{IsName, FitsWord, IsVectorSize, IsSpelledExtent, AreSpelledExtents, IsSpelledBase, IsSpelledType, IsSpelledLiteral, IsSpelledExpr, AreSpelledExprs, AreSpelledSteps, IsSpelledLValue, IsSpelledIfSome, AreSpelledLabels, IsSpelledStmt, AreSpelledStmts, AreSpelledArms, AreSpelledFields, AreSpelledMembers, AreSpelledParams, IsSpelledPlace, IsSpelledResult, IsSpelledId, IsSpelledDecl, AreSpelledDecls, AreSpelledSizes}
 use Rattle.text_check.specs.Words.{is_name, is_free, declared_after}
 use Rattle.text_check.specs.Parts.{is_spelled, is_literal, is_extent, is_vector_size, is_base, is_type, is_expr, are_exprs, is_value}
 use Rattle.text_check.specs.Statements.{is_step, is_lvalue, is_label, has_some, is_stmt, are_stmts, are_arms}

@@ -45,12 +45,12 @@ in_rows (row ∷ rows) t =
     found_is (bytes_eq t row.0) row.1 (token_in rows t)
     ∙ ap (λ b. bytes_eq t row.0 || b) (in_rows rows t)
 
-abbrev each : {A : Type 0} → List A → (A → Text) → List Text
+abbrev pub each : {A : Type 0} → List A → (A → Text) → List Text
 each [] f = []
 each (x ∷ xs) f = f x ∷ each xs f
 
 -- the words of the table
-abbrev table : List Text
+abbrev pub table : List Text
 table = each KEYWORDS (λ k. k.now)
 
 pub are_keywords : (t : Text) → list_any (λ w. bytes_eq t w) table ≡ is_keyword t

@@ -3,3 +3,4 @@ pub mod Keywords
 pub mod Declared
 pub mod NameTests
 pub mod Grammar
+pub mod LetterAndDigits

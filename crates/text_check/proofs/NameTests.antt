@@ -1,5 +1,5 @@
 -- What passes the tests of names is a name.
-use Rattle.std.proofs.Common.{◌≡◌, ◌&&◌, not, Bool, true, false, [], ◌∷◌, Option, Some, None, refl}
+use Rattle.std.proofs.Common.{◌≡◌, ◌&&◌, not, true, false, [], ◌∷◌, Option, Some, None, refl}
 use Rattle.std.specs.List.{list_all}
 use Rattle.std.specs.Prelude.{is_some}
 use Rattle.std.proofs.lemmas.Bool.{and_parts, not-true, false≢true, true≢false}

@@ -1,5 +1,5 @@
 -- Tests of statements: whether each is in the grammar. `declared` tells which names structs have.
-use Rattle.std.specs.Prelude.{◌&&◌, ◌==◌, not, Bool, true, List, length, Option, Some, None}
+use Rattle.std.specs.Prelude.{◌&&◌, ◌==◌, not, Bool, true, List, length}
 use Rattle.std.specs.List.{list_all}
 use Rattle.glsl_ast.specs.Tree as tree
 use Rattle.glsl_ast.specs.Tree.{Text, LStep, LValue, lvalue, Stmt, Stmts, no_stmts, Arms, no_arms}

@@ -16,6 +16,11 @@ abbrev pub begins_word : Text → Bool
 begins_word [] = false
 begins_word (c ∷ w) = not (is_digit c)
 
+-- a letter or `_`, and digits behind it
+abbrev pub is_letter_and_digits : Text → Bool
+is_letter_and_digits [] = false
+is_letter_and_digits (c ∷ w) = (is_word c && not (is_digit c)) && list_all is_digit w
+
 -- a word that begins with no digit, and no keyword
 unfoldable pub is_name : Text → Bool
 is_name w = begins_word w && list_all is_word w && not (is_keyword w)

@@ -8,10 +8,23 @@ use crate::names::{Structs, is_free, is_name};
 use crate::types::{is_literal, is_type};
 use glsl_ast::Expr;
 
-/// Whether the expression is in the grammar, where these structs are declared.
+/// Whether the expression is in the grammar, where these structs are declared. Most are names.
 #[cycle(expression)]
+#[inline(always)]
 #[tactic(auto, using(glsl_ast::proofs::Views::expr_rows))]
 pub fn is_expr(structs: &Structs, expr: &Expr) -> bool
+    ensures { result ≡ test.is_expr (declares structs.now) (expr_of expr.now) }
+{
+    match expr {
+        Expr::Name(name) => is_free(structs, name),
+        _ => is_tree(structs, expr),
+    }
+}
+
+/// Whether the expression, and each that stands in it, is in the grammar.
+#[cycle(expression)]
+#[tactic(auto, using(glsl_ast::proofs::Views::expr_rows))]
+fn is_tree(structs: &Structs, expr: &Expr) -> bool
     ensures { result ≡ test.is_expr (declares structs.now) (expr_of expr.now) }
 {
     match expr {

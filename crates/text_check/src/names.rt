@@ -1,9 +1,9 @@
 // Names, and those of them that structs have (GLSL 4.60, sections 3.6 and 3.7).
-ghost use Rattle.std.specs.Prelude.{◌≡◌, OnOk};
+ghost use Rattle.std.specs.Prelude.{◌≡◌, ◌&&◌, not, OnOk};
 ghost use Rattle.std.specs.List.{list_all};
 ghost use Rattle.glsl_ast.specs.Tree.{Text};
 ghost use Rattle.glsl_ast.specs.View.{decl_of};
-ghost use Rattle.glsl_grammar.specs.Lex.{is_word};
+ghost use Rattle.glsl_grammar.specs.Lex.{is_digit, is_word};
 ghost use Rattle.text_check.specs.Words as words;
 ghost use Rattle.text_check.specs.Words.{declares, declared_after};
 
@@ -74,7 +74,7 @@ fn begins_word(text: &[u8]) -> bool
     }
 }
 
-/// Whether the byte is a letter, a digit or `_`: most bytes of names are digits.
+/// Whether the byte is a letter, a digit or `_`.
 #[inline]
 #[tactic(auto, unfolding(glsl_grammar::specs::Lex::is_word))]
 fn is_word_byte(byte: u8) -> bool
@@ -90,16 +90,59 @@ fn are_word_bytes(text: &[u8]) -> bool
     text.iter().all(|byte| is_word_byte(*byte))
 }
 
-/// Whether the text is a name: a word that begins with no digit, and none that the grammar has a meaning for.
+/// Whether the byte is a letter or `_`.
+#[inline]
+#[tactic(auto, unfolding(glsl_grammar::specs::Lex::is_digit, glsl_grammar::specs::Lex::is_word))]
+fn is_letter(byte: u8) -> bool
+    ensures { result ≡ (is_word byte && not (is_digit byte)) }
+{
+    byte.is_ascii_alphabetic() || byte == b'_'
+}
+
+#[tactic(auto, unfolding(glsl_grammar::specs::Lex::is_digit))]
+fn are_digits(text: &[u8]) -> bool
+    ensures { result ≡ list_all is_digit text.now }
+{
+    text.iter().all(|byte| byte.is_ascii_digit())
+}
+
+/// Whether the text is a letter or `_`, and digits behind it, as in `v12` or `x`.
+fn is_letter_and_digits(text: &[u8]) -> bool
+    ensures { result ≡ words.is_letter_and_digits text.now }
+{
+    match text {
+        [] => false,
+        [first, digits @ ..] => is_letter(*first) && are_digits(digits),
+    }
+}
+
+/// Whether the text is a word that begins with no digit, and none that the grammar has a meaning for.
+#[inline(never)]
 #[tactic(auto, unfolding(crate::specs::Words::is_name))]
-pub fn is_name(text: &str) -> bool
+fn is_free_word(text: &str) -> bool
     ensures { result ≡ words.is_name text.now }
 {
     begins_word(text.as_bytes()) && are_word_bytes(text.as_bytes()) && !is_keyword(text)
 }
 
-/// Whether a struct has the name.
+/// Whether the text is a name. Most names are a letter and digits, which no keyword is.
+#[inline]
+pub fn is_name(text: &str) -> bool
+    ensures { result ≡ words.is_name text.now }
+{
+    is_letter_and_digits(text.as_bytes()) || is_free_word(text)
+}
+
+/// Whether a struct has the name. Most texts have no struct.
+#[inline]
 pub fn is_declared(structs: &Structs, name: &str) -> bool
+    ensures { result ≡ declares structs.now name.now }
+{
+    !structs.is_empty() && has_name(structs, name)
+}
+
+#[inline(never)]
+fn has_name(structs: &Structs, name: &str) -> bool
     ensures { result ≡ declares structs.now name.now }
 {
     structs.contains(name)

@@ -6,10 +6,23 @@ ghost use Rattle.glsl_ast.specs.View.{expr_of, exprs_of};
 use crate::types::is_low_type;
 use glsl_ast::Expr;
 
-/// Whether the expression is at most so high.
+/// Whether the expression is at most so high. Most are names.
+#[cycle(expression)]
+#[inline(always)]
+#[tactic(auto, using(glsl_ast::proofs::Views::expr_rows, crate::proofs::Low::low_rules))]
+pub fn is_low_expr(expr: &Expr, limit: u32) -> bool
+    ensures { result ≡ nat_le (height (expr_of expr.now)) limit }
+{
+    match expr {
+        Expr::Name(_) => 2 <= limit,
+        _ => is_low_tree(expr, limit),
+    }
+}
+
+/// Whether the expression, with each that stands in it, is at most so high.
 #[cycle(expression)]
 #[tactic(auto, using(glsl_ast::proofs::Views::expr_rows, crate::proofs::Low::low_rules, crate::proofs::Low::expr_high))]
-pub fn is_low_expr(expr: &Expr, limit: u32) -> bool
+fn is_low_tree(expr: &Expr, limit: u32) -> bool
     ensures { result ≡ nat_le (height (expr_of expr.now)) limit }
 {
     if limit == 0 {

@@ -1,6 +1,5 @@
-use Rattle.std.proofs.Common.{◌≡◌, ◌+◌, ◌*◌, drop, option_map}
-use Rattle.glsl_ast.specs.Size.{stmt_size, stmts_size, arms_size}
-use Rattle.glsl_ast.specs.View.{stmt_of, stmts_of, arms_of}
+use Rattle.std.proofs.Common.{◌≡◌, drop}
+use Rattle.glsl_ast.specs.View.{stmts_of, arms_of}
 use Rattle.text_check.specs.Statements.{are_stmts, are_arms}
 use Rattle.text_check.specs.Words.{declares}
 use Rattle.text_check.proofs.statements.+statement.Given as goal
