@@ -53,6 +53,7 @@ impl<V: Copy> IdMap<V> {
     }
 
     /// The value of an id.
+    #[inline(always)]
     pub fn get(&self, id: u32) -> Option<V>
         ensures { result ≡ entry_in self.now id }
     {
@@ -63,6 +64,7 @@ impl<V: Copy> IdMap<V> {
     }
 
     /// Whether an id has a value.
+    #[inline(always)]
     pub fn has(&self, id: u32) -> bool
         ensures { result ≡ is_some (entry_in self.now id) }
     {
@@ -70,6 +72,7 @@ impl<V: Copy> IdMap<V> {
     }
 
     /// Gives an id a value, in place of the one that it had. There is an error only for want of memory.
+    #[inline(always)]
     pub fn insert(&mut self, id: u32, value: V) -> Result<(), AllocError>
         ensures { OnOk result ((other : ℕ) → entry_in self.new other ≡ (if id == other then Some value else entry_in self.old other)) }
     {

@@ -63,6 +63,7 @@ impl Span {
 }
 
 /// The number of the slot of an id, where it has one of so many slots from the least id on.
+#[inline(always)]
 #[tactic(auto, unfolding(crate::specs::Entries::slot_in))]
 pub fn slot(least: u32, count: usize, id: u32) -> Option<usize>
     ensures slot { result ≡ slot_in least count id }

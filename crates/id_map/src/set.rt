@@ -32,6 +32,7 @@ impl IdSet {
     }
 
     /// Whether an id is in the set.
+    #[inline(always)]
     pub fn has(&self, id: u32) -> bool
         ensures { result ≡ is_in self.now id }
     {
@@ -39,6 +40,7 @@ impl IdSet {
     }
 
     /// Puts an id into the set. There is an error only for want of memory.
+    #[inline(always)]
     pub fn insert(&mut self, id: u32) -> Result<(), AllocError>
         ensures { OnOk result ((other : ℕ) → is_in self.new other ≡ (is_in self.old other || (id == other))) }
     {

@@ -2,7 +2,7 @@
 ghost use Rattle.std.specs.Prelude.{◌≡◌};
 
 use spv_index::Locals;
-use spv_module::{Block, Function, Id, Inst, Seq};
+use spv_module::{Args, Block, Function, Id, Inst, Seq};
 use spv_words::Memory;
 use std::alloc::{AllocError, Global};
 use std::marker::Brand;
@@ -66,16 +66,12 @@ static PHIS: [(u32, &'static [Row]); 3] = [
 ];
 
 fn inst(alloc: Global, row: Row) -> Result<Inst, AllocError> {
-    let mut args = Seq::new(alloc);
-    for word in row.2 {
-        args.push(*word)?;
-    }
     Ok(Inst {
         op: row.0,
         at: 0,
         ty: 0,
         result: row.1,
-        args,
+        args: Args::of(alloc, row.2)?,
     })
 }
 

@@ -22,6 +22,7 @@ pub fn global_type(module: &Module, id: u32) -> Option<u32>
 }
 
 /// The type of a value that the function defines.
+#[inline(always)]
 fn local_type(locals: &Locals, id: u32) -> Option<u32>
     ensures { result ≡ local_type_of locals.now id }
 {
@@ -33,6 +34,7 @@ fn local_type(locals: &Locals, id: u32) -> Option<u32>
 
 /// The type of a value: of a global, or of what the function defines; `None` exactly where neither has
 /// this id as a value with a type.
+#[inline(always)]
 pub fn type_in(module: &Module, locals: &Locals, id: u32) -> Option<u32>
     ensures { result ≡ type_of «module».now.globals locals.now id }
 {

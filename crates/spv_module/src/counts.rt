@@ -1,5 +1,5 @@
 // The rules on strings, on opcodes and on numbers of words.
-ghost use Rattle.std.specs.Prelude.{◌≡◌, ◌<◌, ℕ, length, IfErr, OnOk, MatchOption, MatchBool, false, true};
+ghost use Rattle.std.specs.Prelude.{◌≡◌, ◌<◌, ℕ, length, IfErr, IfOk, OnOk, MatchOption, MatchBool, false, true};
 ghost use Rattle.spv_words.specs.Words.{insts, nth_inst};
 ghost use Rattle.spv_words.specs.declared.rule.Rule.TheVariants.{W9, P1, P2};
 ghost use Rattle.spv_ops.specs.Operands.{is_inner_op as is_inner};
@@ -8,7 +8,8 @@ ghost use Rattle.spv_module.specs.Broken.{IsCause, IsRight, IsUnbroken, LacksTex
 
 use crate::decode::{refused, word};
 use spv_ops::{OpShape, is_inner_op, literals_of, shape_of};
-use spv_words::{Fault, Rule, Words};
+use spv_words::{Fault, Memory, Rule, Words};
+use std::alloc::Global;
 
 // OpName, OpMemberName, OpExtInstImport and OpEntryPoint, and where their strings begin.
 static TEXTS: [(u16, usize); 4] = [(5, 2), (6, 3), (11, 2), (15, 3)];
@@ -20,26 +21,27 @@ fn text_place(opcode: u16) -> Option<usize>
 }
 
 /// Whether an instruction has a string with no end, or one that is not UTF-8.
-fn lacks_text(words: &Words, i: usize) -> bool
+fn lacks_text(alloc: Global, words: &Words, i: usize) -> Result<bool, Memory>
     requires { i < length (insts words.now) }
-    ensures { MatchBool result (LacksText words.now (nth_inst words.now i)) (LacksText words.now (nth_inst words.now i) → ⊥) }
+    ensures { IfOk result (λ lacks. MatchBool lacks (LacksText words.now (nth_inst words.now i)) (LacksText words.now (nth_inst words.now i) → ⊥)) }
 {
-    match text_place(words.at(i).opcode) {
-        None => false,
-        Some(k) => match words.text(i, k) {
-            Ok(_) => false,
-            Err(_) => true,
-        },
+    let Some(k) = text_place(words.at(i).opcode) else {
+        return Ok(false);
+    };
+    match words.text(alloc, i, k) {
+        Ok(_) => Ok(false),
+        Err(Fault::Refused(_)) => Ok(true),
+        Err(Fault::Limit(_) | Fault::Memory) => Err(Memory),
     }
 }
 
 /// The rule on strings (SPIR-V 1.6, section 2.2, "Literal").
-pub fn check_texts(words: &Words) -> Result<(), Fault>
+pub fn check_texts(alloc: Global, words: &Words) -> Result<(), Fault>
     ensures fine { OnOk result (IsUnbroken words.now W9) }
     ensures refused { IfErr result (IsRight words.now) }
 {
     for i in 0..words.count() {
-        if lacks_text(words, i) {
+        if lacks_text(alloc, words, i)? {
             return Err(refused(Rule::W9, words, i));
         }
     }

@@ -4,7 +4,7 @@ ghost use Rattle.spv_words.specs.Words.{insts, nth_inst};
 ghost use Rattle.spv_ops.specs.Table.{count_of};
 ghost use Rattle.spv_module.specs.Inst.{word as word_of, inst_of, has_type as type_of_opcode, has_result as result_of_opcode};
 
-use crate::{Inst, Seq};
+use crate::{Args, Inst};
 use spv_ops::shape_of;
 use spv_words::{Fault, Refusal, Rule, Words};
 use std::alloc::{AllocError, Global};
@@ -89,6 +89,7 @@ pub fn operands_in(words: &[u32], outcome: Outcome) -> &[u32]
 }
 
 /// An instruction with its operands.
+#[inline(always)]
 pub fn decoded(alloc: Global, words: &Words, i: usize) -> Result<Inst, AllocError>
     requires { i < length (insts words.now) }
     ensures { IfOk result (λ inst. inst ≡ inst_of words.now (nth_inst words.now i)) }
@@ -96,7 +97,7 @@ pub fn decoded(alloc: Global, words: &Words, i: usize) -> Result<Inst, AllocErro
     let inst = words.at(i);
     let own = words.inst_words(i);
     let outcome = outcome_of(inst.opcode);
-    let args = Seq::of(alloc, operands_in(own, outcome))?;
+    let args = Args::of(alloc, operands_in(own, outcome))?;
     Ok(Inst {
         op: inst.opcode,
         at: inst.start,

@@ -1,7 +1,7 @@
 // Instructions, blocks and functions.
 ghost use Rattle.std.specs.Prelude.{◌≡◌, slice_index};
 
-use crate::Seq;
+use crate::{Args, Seq};
 
 /// An id of the module (SPIR-V 1.6, section 2.2).
 #[derive(Clone, Copy, Debug, PartialEq, Eq)]
@@ -15,11 +15,12 @@ pub struct Inst {
     pub at: u32,
     pub ty: u32,
     pub result: u32,
-    pub args: Seq<u32>,
+    pub args: Args,
 }
 
 impl Inst {
     /// Operand word k, of those behind the type and the result, or 0 where there are fewer.
+    #[inline(always)]
     pub fn operand(&self, k: usize) -> u32
         ensures { result ≡ slice_index self.now.args k }
     {

@@ -142,7 +142,7 @@ pub fn kinds_of(alloc: Global, words: &Words) -> Result<Vec<Kind>, Fault>
     ensures refused { IfErr result (IsCause words.now) }
 {
     let marks = imports(alloc, words)?;
-    let mut list = Vec::new(alloc);
+    let mut list = Vec::with_capacity(alloc, words.count())?;
     for i in 0..words.count() {
         list.push(kind_among(words, i, &marks))?;
     }

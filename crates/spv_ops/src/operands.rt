@@ -49,6 +49,7 @@ impl IdWords {
 
 /// Which operands of an instruction with these operand words are ids. Of a SpecConstantOp none is
 /// where its opcode may not stand there.
+#[inline(always)]
 #[tactic(auto, unfolding(crate::specs::Operands::is_id))]
 pub fn id_words(opcode: u16, args: &[u32]) -> IdWords
     ensures { (k : ℕ) → has_id result k ≡ is_id opcode args.now k }

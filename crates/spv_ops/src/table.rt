@@ -1,5 +1,6 @@
 // The table of opcodes, and the way to a row of it.
 ghost use Rattle.std.specs.Prelude.{◌≡◌, ◌==◌, IfSome, IsTrue, find, slice_get};
+ghost use Rattle.std.specs.Option.{option_copied};
 ghost use Rattle.spv_ops.specs.Table.{row_of as row_in_table, shape_of as shape_in_table, operands_of as operands_in_table, has_room, is_rising, are_placed, at_place};
 
 use crate::OpClass::{Barrier, Call, Debug, Flow, Global, Head, Memory, Pure};
@@ -140,7 +141,7 @@ static TABLE: [Row; 125] = [
 ];
 
 // For each opcode the place of its row; of one that has none, the place of another row.
-static PLACES: [usize; 401] = [
+static PLACES: [u8; 401] = [
     0, 1, 2, 3, 4, 5, 6, 7, 8, 0, 9, 10, 11, 0, 12, 13, 14, 15, 0, 16, 17, 18, 0, 19, 0, 0, 0, 0,
     20, 21, 22, 0, 23, 24, 0, 0, 0, 0, 0, 0, 0, 25, 26, 27, 28, 0, 29, 0, 30, 31, 32, 33, 34, 0,
     35, 36, 37, 38, 0, 39, 0, 40, 41, 0, 0, 42, 43, 0, 44, 0, 0, 45, 46, 0, 0, 0, 0, 47, 48, 49,
@@ -159,6 +160,7 @@ static PLACES: [usize; 401] = [
 ];
 
 /// The shape of an opcode, or none where the table lacks it.
+#[inline(always)]
 #[tactic(auto, using(crate::proofs::Rows::shape_room))]
 pub fn shape_of(opcode: u16) -> Option<OpShape>
     ensures row { result ≡ shape_in_table opcode }
@@ -167,6 +169,7 @@ pub fn shape_of(opcode: u16) -> Option<OpShape>
     shape_in_row(opcode)
 }
 
+#[inline(always)]
 #[tactic(auto, unfolding(crate::specs::Table::shape_of))]
 fn shape_in_row(opcode: u16) -> Option<OpShape>
     ensures { result ≡ shape_in_table opcode }
@@ -181,6 +184,7 @@ fn shape_in_row(opcode: u16) -> Option<OpShape>
 }
 
 /// Which operands of an opcode are ids. Of one that the table lacks none is.
+#[inline(always)]
 #[tactic(auto, unfolding(crate::specs::Table::operands_of))]
 pub fn operands_of(opcode: u16) -> Operands
     ensures { result ≡ operands_in_table opcode }
@@ -188,18 +192,20 @@ pub fn operands_of(opcode: u16) -> Operands
     row_of(opcode).map_or(IdsFirst(0), |row| row.6)
 }
 
+#[inline(always)]
 #[tactic(auto, unfolding(crate::specs::Table::row_of))]
-fn row_of(opcode: u16) -> Option<Row>
-    ensures { result ≡ row_in_table opcode }
+fn row_of(opcode: u16) -> Option<&'static Row>
+    ensures { option_copied result ≡ row_in_table opcode }
 {
     find_row(&TABLE, &PLACES, opcode)
 }
 
 /// The row of an opcode, where these are the places of the rows by their opcodes.
-fn find_row(rows: &[Row], places: &[usize], opcode: u16) -> Option<Row>
+#[inline(always)]
+fn find_row<'a>(rows: &'a [Row], places: &[u8], opcode: u16) -> Option<&'a Row>
     requires rising { IsTrue (is_rising rows.now) }
     requires places { IsTrue (are_placed 0 rows.now places.now) }
-    ensures { result ≡ find (λ r. r.0 == opcode) rows.now }
+    ensures { option_copied result ≡ find (λ r. r.0 == opcode) rows.now }
 {
     match place_of(places, opcode) {
         None => None,
@@ -207,18 +213,20 @@ fn find_row(rows: &[Row], places: &[usize], opcode: u16) -> Option<Row>
     }
 }
 
-fn place_of(places: &[usize], opcode: u16) -> Option<usize>
+#[inline(always)]
+fn place_of(places: &[u8], opcode: u16) -> Option<u8>
     ensures { result ≡ slice_get places.now opcode }
 {
     places.get(opcode as usize).copied()
 }
 
 /// The row at a place, where it is that of the opcode.
-fn row_at(rows: &[Row], place: usize, opcode: u16) -> Option<Row>
-    ensures { result ≡ at_place rows.now place opcode }
+#[inline(always)]
+fn row_at(rows: &[Row], place: u8, opcode: u16) -> Option<&Row>
+    ensures { option_copied result ≡ at_place rows.now place opcode }
 {
-    match rows.get(place) {
-        Some(row) if row.0 == opcode => Some(*row),
+    match rows.get(usize::from(place)) {
+        Some(row) if row.0 == opcode => Some(row),
         Some(_) | None => None,
     }
 }
