@@ -116,4 +116,7 @@ pub graph_sized : (f : Function) → length (graph f) ≡ length f.blocks
 unfolding graph
 graph_sized f = length_told (reached (nodes f)) (nodes f) (length_reached (nodes f)) ∙ length_nodes f
 
-pub ruleset graph_rules = (graph_within, graph_reached, graph_sized)
+pub sized_reached : (marks : List Bool) (ns : List Node) → marks ≡ reached ns → length marks ≡ length ns
+sized_reached marks ns is = ap length is ∙ length_reached ns
+
+pub ruleset graph_rules = (graph_within, graph_reached, graph_sized, sized_reached)

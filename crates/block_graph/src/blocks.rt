@@ -1,12 +1,13 @@
 // The nodes of a function's blocks.
-ghost use Rattle.std.specs.Prelude.{◌≡◌, ◌++◌, IfOk, OnOk, find, map, take};
+ghost use Rattle.std.specs.Prelude.{◌≡◌, IfOk, find, map};
 ghost use Rattle.std.specs.Option.{option_copied};
+ghost use Rattle.structure_rules.specs.declared.graph.Exit.TheVariants.{Branch, Conditional};
 ghost use Rattle.structure_rules.specs.Graph.{is_merge as is_merge_inst, is_terminator as is_terminator_inst, merge_inst as merge_inst_of, terminator as terminator_of, word_of as word_of_inst, index_of, seconds, exit_by, labels_by, target_labels, merge_by, node_by, nodes as nodes_of};
 
 use crate::labels::Labels;
-use spv_module::{Block, Function, Inst, Seq};
+use spv_module::{Block, Function, Inst};
 use std::alloc::{AllocError, Global};
-use structure_rules::{Exit, Merge, Node};
+use structure_rules::{Exit, Merge, Node, Targets};
 
 /// Whether this is OpLoopMerge or OpSelectionMerge.
 fn is_merge(inst: &Inst) -> bool
@@ -78,67 +79,60 @@ fn exit_of(inst: Option<&Inst>) -> Exit
     }
 }
 
-/// The first words, at most so many.
-#[tactic(auto, using(crate::proofs::Targets::first_rules))]
-fn first(words: &[u32], most: usize) -> &[u32]
-    ensures { result.now ≡ take most words.now }
-{
-    &words[..most.min(words.len())]
-}
-
-/// Adds the blocks with these labels.
-fn add_targets(targets: &mut Seq<usize>, labels: &Labels, named: &[u32]) -> Result<(), AllocError>
-    ensures { OnOk result (targets.new ≡ targets.old ++ map (index_of labels.now) named.now) }
-{
-    for label in named {
-        targets.push(labels.index(*label))?;
-    }
-    Ok(())
-}
-
-/// Adds the blocks whose labels are the second of each two words.
-fn add_seconds(targets: &mut Seq<usize>, labels: &Labels, words: &[u32]) -> Result<(), AllocError>
-    ensures { OnOk result (targets.new ≡ targets.old ++ map (index_of labels.now) (seconds words.now)) }
+/// The blocks whose labels are the second of each two words.
+fn seconds_of(alloc: Global, labels: &Labels, words: &[u32]) -> Result<Vec<usize>, AllocError>
+    ensures { IfOk result (λ targets. targets.items ≡ map (index_of labels.now) (seconds words.now)) }
 {
     let mut rest = words;
+    let mut targets = Vec::with_capacity(alloc, words.len() / 2)?;
     while let [_, label, after @ ..] = rest {
         targets.push(labels.index(*label))?;
         rest = after;
     }
-    Ok(())
+    Ok(targets)
 }
 
-/// Adds the blocks to which a terminator of this kind leads.
-fn add_exits(
-    targets: &mut Seq<usize>,
-    labels: &Labels,
-    exit: Exit,
-    args: &[u32],
-) -> Result<(), AllocError>
-    ensures { OnOk result (targets.new ≡ targets.old ++ map (index_of labels.now) (labels_by exit args.now)) }
+/// The block of an OpBranch with these operands.
+fn branch_target(alloc: Global, labels: &Labels, args: &[u32]) -> Targets
+    ensures { result ≡ map (index_of labels.now) (labels_by Branch args.now) }
+{
+    match args {
+        [label, ..] => Targets::one(labels.index(*label)),
+        [] => Targets::listed(Vec::new(alloc)),
+    }
+}
+
+/// The blocks of an OpBranchConditional with these operands.
+fn conditional_targets(alloc: Global, labels: &Labels, args: &[u32]) -> Targets
+    ensures { result ≡ map (index_of labels.now) (labels_by Conditional args.now) }
+{
+    match args {
+        [_, taken, other, ..] => Targets::two(labels.index(*taken), labels.index(*other)),
+        [_, taken] => Targets::one(labels.index(*taken)),
+        _ => Targets::listed(Vec::new(alloc)),
+    }
+}
+
+/// The blocks to which a terminator of this kind leads.
+fn exits_of(alloc: Global, labels: &Labels, exit: Exit, args: &[u32]) -> Result<Targets, AllocError>
+    ensures { IfOk result (λ targets. targets ≡ map (index_of labels.now) (labels_by exit args.now)) }
 {
     match exit {
-        Exit::Branch => add_targets(targets, labels, first(args, 1)),
-        Exit::Conditional => match args {
-            [_, named @ ..] => add_targets(targets, labels, first(named, 2)),
-            [] => Ok(()),
-        },
-        Exit::Switch => add_seconds(targets, labels, args),
-        Exit::Leave => Ok(()),
+        Exit::Branch => Ok(branch_target(alloc, labels, args)),
+        Exit::Conditional => Ok(conditional_targets(alloc, labels, args)),
+        Exit::Switch => Ok(Targets::listed(seconds_of(alloc, labels, args)?)),
+        Exit::Leave => Ok(Targets::listed(Vec::new(alloc))),
     }
 }
 
 /// The blocks to which a terminator leads.
-fn targets_of(alloc: Global, labels: &Labels, inst: Option<&Inst>) -> Result<Seq<usize>, AllocError>
+fn targets_of(alloc: Global, labels: &Labels, inst: Option<&Inst>) -> Result<Targets, AllocError>
     ensures { IfOk result (λ targets. targets ≡ map (index_of labels.now) (target_labels (option_copied inst.entry))) }
 {
-    let mut targets = Seq::new(alloc);
-    let Some(terminator) = inst else {
-        return Ok(targets);
-    };
-    let args = terminator.args.as_slice();
-    add_exits(&mut targets, labels, exit_of(inst), args)?;
-    Ok(targets)
+    match inst {
+        None => Ok(Targets::listed(Vec::new(alloc))),
+        Some(terminator) => exits_of(alloc, labels, exit_of(inst), terminator.args.as_slice()),
+    }
 }
 
 /// The node of a block.

@@ -9,18 +9,15 @@ use spv_module::Function;
 use std::alloc::{AllocError, Global};
 use structure_rules::Node;
 
-/// The nodes, told which of them are reached.
-fn tell(alloc: Global, nodes: Vec<Node>, marks: &[bool]) -> Result<Vec<Node>, AllocError>
-    ensures { IfOk result (λ graph. graph.items ≡ told marks.now nodes.items) }
+/// Tells the nodes which of them are reached.
+#[tactic(auto, using(crate::proofs::Told::told_rules))]
+fn tell(nodes: &mut Vec<Node>, marks: &[bool])
+    requires { length marks.now ≡ length nodes.old.items }
+    ensures { nodes.new.items ≡ told marks.now nodes.old.items }
 {
-    marks
-        .iter()
-        .zip(nodes)
-        .map(|(mark, node)| Node {
-            reached: *mark,
-            ..node
-        })
-        .collect(alloc)
+    for (block, mark) in marks.iter().enumerate() {
+        nodes[block].reached = *mark;
+    }
 }
 
 /// The control-flow graph of a function: a node for each of its blocks, which tells whether the block
@@ -34,7 +31,8 @@ pub fn control_flow(alloc: Global, function: &Function) -> Result<Vec<Node>, All
     ensures within { IfOk result (λ graph. AreWithin graph.items) }
     ensures reached { IfOk result (λ graph. AreReached graph.items) }
 {
-    let nodes = nodes(alloc, function)?;
+    let mut nodes = nodes(alloc, function)?;
     let marks = reached(alloc, &nodes)?;
-    tell(alloc, nodes, &marks)
+    tell(&mut nodes, &marks);
+    Ok(nodes)
 }

@@ -41,7 +41,11 @@ pub fn reached(alloc: Global, nodes: &[Node]) -> Result<Vec<bool>, AllocError>
         return Ok(marks);
     }
     marks[0] = true;
-    let mut order = vec![in alloc; 0]?;
+    if nodes.len() == 1 {
+        return Ok(marks);
+    }
+    let mut order = Vec::with_capacity(alloc, nodes.len())?;
+    order.push(0)?;
     let mut place = 0;
     while place < order.len() {
         visit(nodes, place, &mut marks, &mut order)?;

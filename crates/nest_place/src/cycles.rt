@@ -1,14 +1,14 @@
 // Cycles of falls.
-ghost use Rattle.std.specs.Prelude.{◌≡◌, ◌<◌, length, MatchBool, IfOk, OnOk, IfErr};
+ghost use Rattle.std.specs.Prelude.{◌≡◌, ◌<◌, length, true, MatchBool, IfOk, OnOk, IfErr};
 ghost use Rattle.spv_words.specs.declared.rule.Rule.TheVariants.{K11};
 ghost use Rattle.structure_rules.specs.Structure.{fall_links as fall_links_of};
+ghost use Rattle.structure_rules.specs.Graph.{nth};
 ghost use Rattle.block_graph.specs.Within.{AreWithin};
 ghost use Rattle.nest_place.specs.Checks.{IsUnbroken, IsBroken};
 ghost use Rattle.nest_place.specs.Links.{IsTable};
-ghost use Rattle.nest_place.specs.Nests.{IsOrigin, AllInside};
+ghost use Rattle.nest_place.specs.Nests.{AllInside};
 ghost use Rattle.nest_place.specs.Cycles.{entry as entry_of, Returns, AreInverse, AreHeights, FallsOnCycle, SomeCyclic};
 
-use crate::kinds::Origin;
 use crate::nest::Nest;
 use spv_words::{Fault, Refusal, Rule};
 use std::alloc::{AllocError, Global};
@@ -92,17 +92,18 @@ fn is_on_cycle(next: &[Option<usize>], heights: &[Option<usize>], from: usize) -
 #[tactic(auto, using(crate::proofs::Turning::falls_rules))]
 fn falls_on_cycle(
     nest: &Nest,
-    origin: &Origin,
+    block: usize,
     to: usize,
     next: &[Option<usize>],
     heights: &[Option<usize>],
 ) -> bool
-    requires origin { IsOrigin nest.now origin.now.block origin.now }
-    requires inside { to < length nest.now }
+    requires inside { block < length nest.now }
+    requires reached { (nth nest.now block).reached ≡ true }
+    requires target { to < length nest.now }
     requires heights { AreHeights next.now heights.now }
-    ensures { MatchBool result (FallsOnCycle nest.now next.now origin.now.block to) (FallsOnCycle nest.now next.now origin.now.block to → ⊥) }
+    ensures { MatchBool result (FallsOnCycle nest.now next.now block to) (FallsOnCycle nest.now next.now block to → ⊥) }
 {
-    match nest.falls_from(origin, to) {
+    match nest.falls_from(block, to) {
         None => false,
         Some(from) => is_on_cycle(next, heights, from),
     }
@@ -111,18 +112,19 @@ fn falls_on_cycle(
 /// Whether an edge to one of these blocks falls from a case target on a cycle.
 fn is_cyclic(
     nest: &Nest,
-    origin: &Origin,
+    block: usize,
     targets: &[usize],
     next: &[Option<usize>],
     heights: &[Option<usize>],
 ) -> bool
-    requires origin { IsOrigin nest.now origin.now.block origin.now }
-    requires inside { AllInside (length nest.now) targets.now }
+    requires inside { block < length nest.now }
+    requires reached { (nth nest.now block).reached ≡ true }
+    requires targets { AllInside (length nest.now) targets.now }
     requires heights { AreHeights next.now heights.now }
-    ensures { MatchBool result (SomeCyclic nest.now next.now origin.now.block targets.now) (SomeCyclic nest.now next.now origin.now.block targets.now → ⊥) }
+    ensures { MatchBool result (SomeCyclic nest.now next.now block targets.now) (SomeCyclic nest.now next.now block targets.now → ⊥) }
 {
     for target in targets {
-        if falls_on_cycle(nest, origin, *target, next, heights) {
+        if falls_on_cycle(nest, block, *target, next, heights) {
             return true;
         }
     }
@@ -144,15 +146,7 @@ pub fn check_cycles(
     ensures refused { IfErr result (IsBroken nest.now K11) }
 {
     for (block, node) in nest.nodes().iter().enumerate() {
-        if node.reached
-            && is_cyclic(
-                nest,
-                &nest.origin(block),
-                node.targets.as_slice(),
-                next,
-                heights,
-            )
-        {
+        if node.reached && is_cyclic(nest, block, node.targets.as_slice(), next, heights) {
             return Err(Fault::Refused(Refusal {
                 rule: Rule::K11,
                 at: node.exit_at,

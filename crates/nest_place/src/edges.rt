@@ -1,26 +1,27 @@
 // Rules on the kinds of edges.
-ghost use Rattle.std.specs.Prelude.{◌≡◌, ◌<◌, length, OnOk, IfErr};
+ghost use Rattle.std.specs.Prelude.{◌≡◌, ◌<◌, length, true, OnOk, IfErr};
 ghost use Rattle.std.specs.List.{list_all};
 ghost use Rattle.spv_words.specs.declared.rule.Rule.TheVariants.{K7, K8};
 ghost use Rattle.structure_rules.specs.declared.graph.EdgeKind.TheVariants.{Enter};
+ghost use Rattle.structure_rules.specs.Graph.{nth};
 ghost use Rattle.structure_rules.specs.EdgeKinds.{has_kind, has_some_kind as edge_has_kind};
 ghost use Rattle.block_graph.specs.Within.{AreWithin};
 ghost use Rattle.nest_place.specs.Checks.{IsUnbroken, IsBroken};
-ghost use Rattle.nest_place.specs.Nests.{IsOrigin, AllInside};
+ghost use Rattle.nest_place.specs.Nests.{AllInside};
 
-use crate::kinds::Origin;
 use crate::nest::Nest;
 use crate::spots::is_loose;
 use spv_words::{Fault, Refusal, Rule};
 
 /// Whether the edge to this block has a kind.
 #[tactic(auto, using(crate::proofs::Origins::some_kind))]
-fn has_some_kind(nest: &Nest, origin: &Origin, to: usize) -> bool
-    requires origin { IsOrigin nest.now origin.now.block origin.now }
-    requires inside { to < length nest.now }
-    ensures { result ≡ edge_has_kind nest.now origin.now.block to }
+fn has_some_kind(nest: &Nest, block: usize, to: usize) -> bool
+    requires inside { block < length nest.now }
+    requires reached { (nth nest.now block).reached ≡ true }
+    requires target { to < length nest.now }
+    ensures { result ≡ edge_has_kind nest.now block to }
 {
-    match nest.kind(origin, to) {
+    match nest.kind(block, to) {
         None => false,
         Some(_) => true,
     }
@@ -28,13 +29,14 @@ fn has_some_kind(nest: &Nest, origin: &Origin, to: usize) -> bool
 
 /// Whether each edge to these blocks has a kind.
 #[tactic(auto, using(crate::proofs::Reading::all_rules))]
-fn have_kinds(nest: &Nest, origin: &Origin, targets: &[usize]) -> bool
-    requires origin { IsOrigin nest.now origin.now.block origin.now }
-    requires inside { AllInside (length nest.now) targets.now }
-    ensures { result ≡ list_all (edge_has_kind nest.now origin.now.block) targets.now }
+fn have_kinds(nest: &Nest, block: usize, targets: &[usize]) -> bool
+    requires inside { block < length nest.now }
+    requires reached { (nth nest.now block).reached ≡ true }
+    requires targets { AllInside (length nest.now) targets.now }
+    ensures { result ≡ list_all (edge_has_kind nest.now block) targets.now }
 {
     for target in targets {
-        if !has_some_kind(nest, origin, *target) {
+        if !has_some_kind(nest, block, *target) {
             return false;
         }
     }
@@ -43,12 +45,12 @@ fn have_kinds(nest: &Nest, origin: &Origin, targets: &[usize]) -> bool
 
 /// Whether each edge to these blocks enters one.
 #[tactic(auto, using(crate::proofs::Reading::all_rules))]
-fn enter_all(nest: &Nest, origin: &Origin, targets: &[usize]) -> bool
+fn enter_all(nest: &Nest, block: usize, targets: &[usize]) -> bool
     requires { AllInside (length nest.now) targets.now }
-    ensures { result ≡ list_all (λ t. has_kind nest.now origin.now.block t Enter) targets.now }
+    ensures { result ≡ list_all (λ t. has_kind nest.now block t Enter) targets.now }
 {
     for target in targets {
-        if !nest.enters(origin, *target) {
+        if !nest.enters(block, *target) {
             return false;
         }
     }
@@ -63,7 +65,7 @@ pub fn check_kinds(nest: &Nest) -> Result<(), Fault>
     ensures refused { IfErr result (IsBroken nest.now K7) }
 {
     for (block, node) in nest.nodes().iter().enumerate() {
-        if node.reached && !have_kinds(nest, &nest.origin(block), node.targets.as_slice()) {
+        if node.reached && !have_kinds(nest, block, node.targets.as_slice()) {
             return Err(Fault::Refused(Refusal {
                 rule: Rule::K7,
                 at: node.exit_at,
@@ -81,10 +83,7 @@ pub fn check_loose(nest: &Nest) -> Result<(), Fault>
     ensures refused { IfErr result (IsBroken nest.now K8) }
 {
     for (block, node) in nest.nodes().iter().enumerate() {
-        if node.reached
-            && is_loose(node)
-            && enter_all(nest, &nest.origin(block), node.targets.as_slice())
-        {
+        if node.reached && is_loose(node) && enter_all(nest, block, node.targets.as_slice()) {
             return Err(Fault::Refused(Refusal {
                 rule: Rule::K8,
                 at: node.exit_at,

@@ -1,5 +1,5 @@
 // Falls from one case construct into another.
-ghost use Rattle.std.specs.Prelude.{◌≡◌, ◌<◌, ◌++◌, length, Some, IfOk, OnOk, IfErr, map};
+ghost use Rattle.std.specs.Prelude.{◌≡◌, ◌<◌, ◌++◌, length, true, Some, IfOk, OnOk, IfErr, map};
 ghost use Rattle.std.specs.List.{filter_map};
 ghost use Rattle.spv_words.specs.declared.rule.Rule.TheVariants.{K9, K10, K11};
 ghost use Rattle.structure_rules.specs.Graph.{edges, nth};
@@ -8,11 +8,10 @@ ghost use Rattle.spv_words.specs.Breaks.{NoRuleBroken};
 ghost use Rattle.block_graph.specs.Within.{AreWithin};
 ghost use Rattle.nest_place.specs.Checks.{IsUnbroken, IsBroken, IsFineBefore};
 ghost use Rattle.nest_place.specs.Links.{IsTable, IsSingle, turned_links};
-ghost use Rattle.nest_place.specs.Nests.{IsOrigin, AllInside};
+ghost use Rattle.nest_place.specs.Nests.{AllInside};
 ghost use Rattle.nest_place.specs.Spots.{IsGrounded};
 
 use crate::cycles::{check_cycles, heights};
-use crate::kinds::Origin;
 use crate::links::{Link, NoTable, table_of};
 use crate::nest::Nest;
 use spv_words::{Fault, Refusal, Rule};
@@ -24,15 +23,16 @@ use std::alloc::{AllocError, Global};
 fn add_falls(
     links: &mut Vec<Link>,
     nest: &Nest,
-    origin: &Origin,
+    block: usize,
     targets: &[usize],
 ) -> Result<(), AllocError>
-    requires origin { IsOrigin nest.now origin.now.block origin.now }
-    requires inside { AllInside (length nest.now) targets.now }
-    ensures { OnOk result (links.new.items ≡ links.old.items ++ filter_map (fall_link nest.now origin.now.block) targets.now) }
+    requires inside { block < length nest.now }
+    requires reached { (nth nest.now block).reached ≡ true }
+    requires targets { AllInside (length nest.now) targets.now }
+    ensures { OnOk result (links.new.items ≡ links.old.items ++ filter_map (fall_link nest.now block) targets.now) }
 {
     for target in targets {
-        if let Some(from) = nest.falls_from(origin, *target) {
+        if let Some(from) = nest.falls_from(block, *target) {
             links.push((from, *target))?;
         }
     }
@@ -50,7 +50,7 @@ fn add_block(links: &mut Vec<Link>, nest: &Nest, block: usize) -> Result<(), All
     if !node.reached {
         return Ok(());
     }
-    add_falls(links, nest, &nest.origin(block), node.targets.as_slice())
+    add_falls(links, nest, block, node.targets.as_slice())
 }
 
 /// The falls from reached blocks.

@@ -65,21 +65,21 @@ impl Places {
     }
 
     /// The nearest loop round the edges of a reached block: its body, or its continue construct.
-    #[tactic(auto, using(crate::proofs::Origins::origin_rules, crate::proofs::Outward::reached_inside))]
+    #[tactic(auto, using(crate::proofs::Outward::reached_inside))]
     pub fn nearest_loop(&self, block: usize) -> Option<Part>
         requires { (nth self.now block).reached ≡ true }
         ensures { result ≡ nearest_loop_at self.now block }
     {
-        self.nest.origin(block).nearest
+        self.nest.nearest_loop(block)
     }
 
     /// The innermost switch round the edges of a reached block, with no loop between.
-    #[tactic(auto, using(crate::proofs::Origins::origin_rules, crate::proofs::Outward::reached_inside))]
+    #[tactic(auto, using(crate::proofs::Outward::reached_inside))]
     pub fn innermost_switch(&self, block: usize) -> Option<usize>
         requires { (nth self.now block).reached ≡ true }
         ensures { result ≡ innermost_switch_at self.now block }
     {
-        self.nest.origin(block).switch
+        self.nest.innermost_switch(block)
     }
 
     /// The case target into which the construct of this one falls through, where there is one (GLSL
@@ -124,6 +124,7 @@ impl Places {
     }
 
     /// What an edge of a reached block does (SPIR-V 1.6, section 2.11). It has this kind and no other.
+    #[inline(always)]
     #[tactic(auto, using(crate::proofs::Verdict::kind_rules))]
     pub fn edge(&self, from: usize, to: usize) -> EdgeKind
         requires reached { (nth self.now from).reached ≡ true }
@@ -131,7 +132,6 @@ impl Places {
         ensures kind { has_kind self.now from to result ≡ true }
         ensures only { (k : EdgeKindOf) → has_kind self.now from to k ≡ true → k ≡ result }
     {
-        let origin = self.nest.origin(from);
-        self.nest.kind(&origin, to).unwrap()
+        self.nest.kind(from, to).unwrap()
     }
 }

@@ -3,8 +3,8 @@ ghost use Rattle.std.specs.Prelude.{◌≡◌, ◌==◌, ◌<◌, not, length, t
 ghost use Rattle.std.specs.Option.{option_and_then};
 ghost use Rattle.structure_rules.specs.Graph.{nth, is_value as is_value_of, is_switch as is_switch_exit, merge_named as merge_named_by, continue_named as continue_named_by};
 ghost use Rattle.structure_rules.specs.Nesting.{inner as inner_of, role as role_of};
-ghost use Rattle.structure_rules.specs.EdgeKinds.{is_if as is_if_part, is_loop as is_loop_part, body_header as body_header_of, continue_header as continue_header_of, loop_header as loop_header_of, if_header as if_header_of, case_switch as case_switch_of, case_target as case_target_of, merges_to as merges_to_block, continues_to as continues_to_block, is_back as is_back_edge, is_continue as is_continue_edge, is_break as is_break_edge, is_switch_break as is_switch_break_edge, is_merge_edge as is_merge, is_fall as is_fall_edge, is_enter as is_enter_edge, case_of as case_of_role, entered_from as entered_from_role, are_same as are_same_values, has_kind, has_some_kind};
-ghost use Rattle.nest_place.specs.Nests.{IsOrigin};
+ghost use Rattle.structure_rules.specs.EdgeKinds.{innermost as innermost_of, innermost_switch as innermost_switch_of, is_if as is_if_part, is_loop as is_loop_part, body_header as body_header_of, continue_header as continue_header_of, loop_header as loop_header_of, if_header as if_header_of, case_switch as case_switch_of, case_target as case_target_of, merges_to as merges_to_block, continues_to as continues_to_block, is_back as is_back_edge, is_continue as is_continue_edge, is_break as is_break_edge, is_switch_break as is_switch_break_edge, is_merge_edge as is_merge, is_fall as is_fall_edge, is_enter as is_enter_edge, case_of as case_of_role, entered_from as entered_from_role, are_same as are_same_values, has_kind, has_some_kind};
+ghost use Rattle.nest_place.specs.Nests.{IsOrigin, has_outer_kind};
 
 use crate::forms::is_switch;
 use structure_rules::{EdgeKind, Exit, Merge, Node, Part, Role};
@@ -12,7 +12,7 @@ use structure_rules::{EdgeKind, Exit, Merge, Node, Part, Role};
 /// What is round the edges of a block: the block, the nearest loop or continue construct, the
 /// innermost construct, and the innermost switch before the nearest loop.
 #[derive(Clone, Copy, Debug)]
-pub struct Origin {
+struct Origin {
     pub block: usize,
     pub nearest: Option<Part>,
     pub innermost: Option<Part>,
@@ -148,7 +148,7 @@ fn continues_to(nodes: &[Node], block: usize, header: Option<usize>) -> bool
 }
 
 /// The nearest loop or continue construct among these, from inside out.
-fn nearest_loop(parts: &[Part]) -> Option<Part>
+pub fn nearest_loop(parts: &[Part]) -> Option<Part>
     ensures { result ≡ find is_loop_part parts.now }
 {
     parts.iter().copied().find(|part| is_loop(*part))
@@ -183,18 +183,36 @@ fn innermost_switch(block: usize, exit: Exit, parts: &[Part]) -> Option<usize>
     }
 }
 
+/// The innermost construct round the edges of a block that lies in these constructs inside.
+pub fn innermost_at(nodes: &[Node], block: usize, parts: &[Part]) -> Option<Part>
+    requires inside { block < length nodes.now }
+    requires parts { parts.now ≡ inner_of nodes.now block }
+    ensures { result ≡ innermost_of nodes.now block }
+{
+    innermost(nodes[block].exit, parts)
+}
+
+/// The innermost switch round the edges of a block that lies in these constructs inside, with no loop
+/// between.
+pub fn switch_at(nodes: &[Node], block: usize, parts: &[Part]) -> Option<usize>
+    requires inside { block < length nodes.now }
+    requires parts { parts.now ≡ inner_of nodes.now block }
+    ensures { result ≡ innermost_switch_of nodes.now block }
+{
+    innermost_switch(block, nodes[block].exit, parts)
+}
+
 /// What is round the edges of a block that lies in these constructs inside.
-pub fn origin_of(nodes: &[Node], block: usize, parts: &[Part]) -> Origin
+fn origin_of(nodes: &[Node], block: usize, parts: &[Part]) -> Origin
     requires inside { block < length nodes.now }
     requires parts { parts.now ≡ inner_of nodes.now block }
     ensures { IsOrigin nodes.now block result }
 {
-    let exit = nodes[block].exit;
     Origin {
         block,
         nearest: nearest_loop(parts),
-        innermost: innermost(exit, parts),
-        switch: innermost_switch(block, exit, parts),
+        innermost: innermost_at(nodes, block, parts),
+        switch: switch_at(nodes, block, parts),
     }
 }
 
@@ -259,48 +277,43 @@ fn is_switch_break(nodes: &[Node], origin: &Origin, to: usize) -> bool
     merges_to(nodes, to, origin.switch)
 }
 
-/// Whether the innermost construct is a selection, and the block its merge block.
-#[tactic(auto, using(crate::proofs::Origins::origin_rules))]
-fn is_merge_edge(nodes: &[Node], origin: &Origin, to: usize) -> bool
-    requires { IsOrigin nodes.now origin.now.block origin.now }
-    ensures { result ≡ is_merge nodes.now origin.now.block to }
+/// Whether the innermost construct round the edges of the first block is a selection, and the other
+/// block its merge block.
+fn is_merge_edge(nodes: &[Node], block: usize, innermost: Option<Part>, to: usize) -> bool
+    requires { innermost ≡ innermost_of nodes.now block }
+    ensures { result ≡ is_merge nodes.now block to }
 {
-    merges_to(nodes, to, if_header(origin.innermost))
+    merges_to(nodes, to, if_header(innermost))
 }
 
-/// Whether the innermost construct is a case construct, and the block, which has this role, another
-/// case target of its switch.
-#[tactic(auto, using(crate::proofs::Origins::origin_rules))]
-pub fn is_fall(nodes: &[Node], origin: &Origin, to: usize, role: Role) -> bool
-    requires origin { IsOrigin nodes.now origin.now.block origin.now }
+/// Whether the innermost construct round the edges of the first block is a case construct, and the
+/// other block, which has this role, another case target of its switch.
+pub fn is_fall(nodes: &[Node], block: usize, innermost: Option<Part>, to: usize, role: Role) -> bool
+    requires innermost { innermost ≡ innermost_of nodes.now block }
     requires role { role ≡ role_of nodes.now to }
-    ensures { result ≡ is_fall_edge nodes.now origin.now.block to }
+    ensures { result ≡ is_fall_edge nodes.now block to }
 {
-    are_same(case_switch(origin.innermost), case_of(role))
-        && !is_value(to, case_target(origin.innermost))
+    are_same(case_switch(innermost), case_of(role)) && !is_value(to, case_target(innermost))
 }
 
 /// Whether the block, which has this role, is no merge block and no continue target, and the edge
 /// begins at its parent.
-pub fn is_enter(nodes: &[Node], origin: &Origin, to: usize, role: Role) -> bool
+pub fn is_enter(nodes: &[Node], block: usize, to: usize, role: Role) -> bool
     requires role { role ≡ role_of nodes.now to }
-    ensures { result ≡ is_enter_edge nodes.now origin.now.block to }
+    ensures { result ≡ is_enter_edge nodes.now block to }
 {
-    is_value(origin.block, entered_from(role))
+    is_value(block, entered_from(role))
 }
 
-/// The kind of the edge to a block with this role, where it has one.
-#[tactic(auto, using(crate::proofs::Origins::kind_rules))]
-pub fn kind_of(nodes: &[Node], origin: &Origin, to: usize, role: Role) -> Option<EdgeKind>
+/// The kind of an edge that enters no block and merges no selection, where it has one.
+#[inline(never)]
+#[tactic(auto, using(crate::proofs::Origins::origin_rules, crate::proofs::Origins::outer_rules))]
+fn outer_kind(nodes: &[Node], origin: &Origin, to: usize, role: Role) -> Option<EdgeKind>
     requires origin { IsOrigin nodes.now origin.now.block origin.now }
     requires role { role ≡ role_of nodes.now to }
-    ensures { MatchOption result (has_some_kind nodes.now origin.now.block to ≡ false) (λ kind. has_kind nodes.now origin.now.block to kind ≡ true) }
+    ensures { MatchOption result (has_outer_kind nodes.now origin.now.block to ≡ false) (λ kind. has_kind nodes.now origin.now.block to kind ≡ true) }
 {
-    if is_enter(nodes, origin, to, role) {
-        Some(EdgeKind::Enter)
-    } else if is_merge_edge(nodes, origin, to) {
-        Some(EdgeKind::Merge)
-    } else if is_switch_break(nodes, origin, to) {
+    if is_switch_break(nodes, origin, to) {
         Some(EdgeKind::SwitchBreak)
     } else if is_break(nodes, origin, to) {
         Some(EdgeKind::Break)
@@ -308,9 +321,34 @@ pub fn kind_of(nodes: &[Node], origin: &Origin, to: usize, role: Role) -> Option
         Some(EdgeKind::Continue)
     } else if is_back(nodes, origin, to) {
         Some(EdgeKind::Back)
-    } else if is_fall(nodes, origin, to, role) {
+    } else if is_fall(nodes, origin.block, origin.innermost, to, role) {
         Some(EdgeKind::Fall)
     } else {
         None
     }
+}
+
+/// The kind of the edge from a block that lies in these constructs inside to a block with this role,
+/// where it has one.
+#[inline(always)]
+#[tactic(auto, using(crate::proofs::Origins::kind_rules))]
+pub fn kind_of(
+    nodes: &[Node],
+    block: usize,
+    parts: &[Part],
+    to: usize,
+    role: Role,
+) -> Option<EdgeKind>
+    requires inside { block < length nodes.now }
+    requires parts { parts.now ≡ inner_of nodes.now block }
+    requires role { role ≡ role_of nodes.now to }
+    ensures { MatchOption result (has_some_kind nodes.now block to ≡ false) (λ kind. has_kind nodes.now block to kind ≡ true) }
+{
+    if is_enter(nodes, block, to, role) {
+        return Some(EdgeKind::Enter);
+    }
+    if is_merge_edge(nodes, block, innermost_at(nodes, block, parts), to) {
+        return Some(EdgeKind::Merge);
+    }
+    outer_kind(nodes, &origin_of(nodes, block, parts), to, role)
 }

@@ -12,6 +12,7 @@ mod judge;
 mod kinds;
 mod links;
 mod nest;
+mod outer;
 mod parents;
 mod spots;
 

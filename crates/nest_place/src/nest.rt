@@ -2,13 +2,14 @@
 ghost use Rattle.std.specs.Prelude.{◌≡◌, ◌<◌, length, true, IfOk, OnOk, IfErr, MatchOption, false};
 ghost use Rattle.structure_rules.specs.Graph.{nth};
 ghost use Rattle.structure_rules.specs.Nesting.{place as place_of, inner as inner_of, role as role_of};
-ghost use Rattle.structure_rules.specs.EdgeKinds.{has_kind, has_some_kind, is_enter as is_enter_edge};
+ghost use Rattle.structure_rules.specs.EdgeKinds.{has_kind, has_some_kind, is_enter as is_enter_edge, nearest_loop as nearest_loop_of, innermost_switch as innermost_switch_of};
 ghost use Rattle.structure_rules.specs.Structure.{falls_from as falls_from_target};
 ghost use Rattle.nest_place.specs.Steps.{AreRoles};
 ghost use Rattle.nest_place.specs.Spots.{IsGrounded, IsShallow, IsDeepFault};
-ghost use Rattle.nest_place.specs.Nests.{IsOrigin};
 
-use crate::kinds::{Origin, case_target, is_enter, is_fall, kind_of, origin_of};
+use crate::kinds::{
+    case_target, innermost_at, is_enter, is_fall, kind_of, nearest_loop, switch_at,
+};
 use crate::spots::{Spots, place_blocks};
 use spv_words::Fault;
 use std::alloc::Global;
@@ -90,42 +91,55 @@ impl Nest {
         self.spots.lists[spot.inner].as_slice()
     }
 
-    /// What is round the edges of a reached block.
-    pub fn origin(&self, block: usize) -> Origin
+    /// The nearest loop round the edges of a reached block.
+    pub fn nearest_loop(&self, block: usize) -> Option<Part>
         requires inside { block < length self.now }
         requires reached { (nth self.now block).reached ≡ true }
-        ensures { IsOrigin self.now block result }
+        ensures { result ≡ nearest_loop_of self.now block }
     {
-        origin_of(&self.nodes, block, self.inner(block))
+        nearest_loop(self.inner(block))
     }
 
-    /// The kind of an edge, where it has one.
-    pub fn kind(&self, origin: &Origin, to: usize) -> Option<EdgeKind>
-        requires origin { IsOrigin self.now origin.now.block origin.now }
-        requires inside { to < length self.now }
-        ensures { MatchOption result (has_some_kind self.now origin.now.block to ≡ false) (λ kind. has_kind self.now origin.now.block to kind ≡ true) }
+    /// The innermost switch round the edges of a reached block, with no loop between.
+    pub fn innermost_switch(&self, block: usize) -> Option<usize>
+        requires inside { block < length self.now }
+        requires reached { (nth self.now block).reached ≡ true }
+        ensures { result ≡ innermost_switch_of self.now block }
     {
-        kind_of(&self.nodes, origin, to, self.role(to))
+        switch_at(&self.nodes, block, self.inner(block))
+    }
+
+    /// The kind of an edge of a reached block, where it has one.
+    #[inline(always)]
+    pub fn kind(&self, block: usize, to: usize) -> Option<EdgeKind>
+        requires inside { block < length self.now }
+        requires reached { (nth self.now block).reached ≡ true }
+        requires target { to < length self.now }
+        ensures { MatchOption result (has_some_kind self.now block to ≡ false) (λ kind. has_kind self.now block to kind ≡ true) }
+    {
+        kind_of(&self.nodes, block, self.inner(block), to, self.role(to))
     }
 
     /// Whether an edge enters a block: the block is no merge block and no continue target, and the edge
     /// begins at its parent.
-    pub fn enters(&self, origin: &Origin, to: usize) -> bool
+    pub fn enters(&self, block: usize, to: usize) -> bool
         requires { to < length self.now }
-        ensures { result ≡ is_enter_edge self.now origin.now.block to }
+        ensures { result ≡ is_enter_edge self.now block to }
     {
-        is_enter(&self.nodes, origin, to, self.role(to))
+        is_enter(&self.nodes, block, to, self.role(to))
     }
 
-    /// The case target in whose construct an edge begins, where the edge falls into another.
-    #[tactic(auto, using(crate::proofs::Origins::origin_rules))]
-    pub fn falls_from(&self, origin: &Origin, to: usize) -> Option<usize>
-        requires origin { IsOrigin self.now origin.now.block origin.now }
-        requires inside { to < length self.now }
-        ensures { result ≡ falls_from_target self.now origin.now.block to }
+    /// The case target in whose construct an edge of a reached block begins, where the edge falls into
+    /// another.
+    pub fn falls_from(&self, block: usize, to: usize) -> Option<usize>
+        requires inside { block < length self.now }
+        requires reached { (nth self.now block).reached ≡ true }
+        requires target { to < length self.now }
+        ensures { result ≡ falls_from_target self.now block to }
     {
-        if is_fall(&self.nodes, origin, to, self.role(to)) {
-            case_target(origin.innermost)
+        let innermost = innermost_at(&self.nodes, block, self.inner(block));
+        if is_fall(&self.nodes, block, innermost, to, self.role(to)) {
+            case_target(innermost)
         } else {
             None
         }

@@ -6,8 +6,8 @@ ghost use Rattle.nest_place.specs.Steps.{AreRoles};
 ghost use Rattle.nest_place.specs.Spots.{list_at, part_list, Extends, IsSpot, AreSpots, IsGrounded, IsParentSpot, parent_spot as parent_spot_of, IsPlaced, IsShallow, IsDeepFault};
 
 use crate::forms::{is_conditional, is_selection};
+use crate::outer::Constructs;
 use crate::parents::parent;
-use spv_module::Seq;
 use spv_words::{Fault, Limit};
 use std::alloc::{AllocError, Global};
 use structure_rules::{Merge, Node, Part, Role};
@@ -34,23 +34,13 @@ const NOWHERE: Spot = Spot {
 #[derive(Drop)]
 pub struct Spots {
     pub spots: Vec<Spot>,
-    pub lists: Vec<Seq<Part>>,
-}
-
-/// A construct with those round it.
-fn with_outer(alloc: Global, part: Part, outer: &[Part]) -> Result<Seq<Part>, AllocError>
-    ensures { IfOk result (λ list. list ≡ part ∷ outer.now) }
-{
-    let mut list = Vec::with_capacity(alloc, outer.len() + 1)?;
-    list.push(part)?;
-    list.extend_from_slice(outer)?;
-    Seq::of(alloc, &list)
+    pub lists: Vec<Constructs>,
 }
 
 /// Adds the list at a place with one more construct inside.
 fn add(
     alloc: Global,
-    lists: &mut Vec<Seq<Part>>,
+    lists: &mut Vec<Constructs>,
     part: Part,
     around: usize,
 ) -> Result<usize, AllocError>
@@ -58,7 +48,7 @@ fn add(
     ensures place { IfOk result (λ place. place ≡ length lists.old.items) }
     ensures lists { OnOk result (lists.new.items ≡ lists.old.items ++ (part ∷ list_at lists.old.items around) ∷ []) }
 {
-    let list = with_outer(alloc, part, lists[around].as_slice())?;
+    let list = Constructs::within(alloc, part, lists[around].as_slice())?;
     let place = lists.len();
     lists.push(list)?;
     Ok(place)
@@ -108,7 +98,7 @@ fn place_of(
     role: Role,
     block: usize,
     spot: Spot,
-    lists: &mut Vec<Seq<Part>>,
+    lists: &mut Vec<Constructs>,
 ) -> Result<(usize, usize), AllocError>
     requires known { IsParentSpot nodes.now role lists.old.items spot }
     requires some { 0 < vec_len lists.old }
@@ -139,7 +129,7 @@ fn spot_of(
     role: Role,
     block: usize,
     spots: &[Spot],
-    lists: &mut Vec<Seq<Part>>,
+    lists: &mut Vec<Constructs>,
 ) -> Result<Spot, Fault>
     requires inside { block < length nodes.now }
     requires reached { (nth nodes.now block).reached ≡ true }
@@ -183,7 +173,7 @@ pub fn place_blocks(alloc: Global, nodes: &[Node], roles: &[Role]) -> Result<Spo
     ensures limit { IfErr result (IsDeepFault nodes.now) }
 {
     let mut lists = Vec::new(alloc);
-    lists.push(Seq::new(alloc))?;
+    lists.push(Constructs::none(alloc))?;
     let mut spots = Vec::with_capacity(alloc, nodes.len())?;
     for (block, node) in nodes.iter().enumerate() {
         let spot = if node.reached {

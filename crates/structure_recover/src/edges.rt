@@ -53,6 +53,7 @@ pub fn heads_loop(places: &Places, block: usize) -> bool
 }
 
 /// Where control goes on by an edge.
+#[inline(always)]
 #[tactic(auto, using(crate::proofs::Onward::edge_rules))]
 pub fn along(places: &Places, from: usize, to: usize) -> Next
     requires reached { (nth places.now from).reached ≡ true }
@@ -68,6 +69,7 @@ pub fn along(places: &Places, from: usize, to: usize) -> Next
 }
 
 /// Where control goes on by the edge to this target of a block.
+#[inline(always)]
 #[tactic(auto, using(crate::proofs::Onward::target_rules))]
 pub fn along_target(places: &Places, from: usize, number: usize) -> Next
     requires reached { (nth places.now from).reached ≡ true }

@@ -1,3 +1,4 @@
+pub mod Held
 pub mod Graph
 pub mod Nesting
 pub mod EdgeKinds

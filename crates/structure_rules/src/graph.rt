@@ -1,5 +1,5 @@
 // The control-flow graph of a function, and its constructs.
-use spv_module::Seq;
+use crate::targets::Targets;
 
 /// What the merge instruction of a block names: nothing where it has none; the merge block of
 /// OpSelectionMerge; the merge block and the continue target of OpLoopMerge. Each is the index of a
@@ -31,7 +31,7 @@ pub struct Node {
     pub merge_at: u32,
     pub exit: Exit,
     pub exit_at: u32,
-    pub targets: Seq<usize>,
+    pub targets: Targets,
     pub reached: bool,
 }
 

@@ -2,5 +2,7 @@
 #![tactic(auto)]
 
 mod graph;
+mod targets;
 
 pub use graph::{EdgeKind, Exit, Merge, Node, Part, Role};
+pub use targets::Targets;

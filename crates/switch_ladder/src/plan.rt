@@ -69,6 +69,7 @@ fn left_loop(places: &Places, from: usize, to: usize) -> Option<usize>
 }
 
 /// Adds a block, if there is one.
+#[inline(always)]
 fn add(blocks: &mut BTreeSet<usize>, block: Option<usize>) -> Result<(), AllocError>
     ensures { OnOk result ((q : ℕ) → contains nat_cmp blocks.new q ≡ (contains nat_cmp blocks.old q || is_value q block)) }
 {

@@ -3,7 +3,7 @@ use Rattle.nest_place.specs.Cycles.{FallsOnCycle}
 use Rattle.nest_place.proofs.cycles.is_cyclic.Goals as goal
 
 pub loop-target-preserved : goal.loop-target-preserved
-loop-target-preserved c = below_more (λ k. FallsOnCycle c.args.nest.now c.args.next.now c.args.origin.now.block (get_or c.args.targets.now k 0) → ⊥) c.loop-target.target-index c.loop-target.invariant c.if-falls_on_cycle.ensures
+loop-target-preserved c = below_more (λ k. FallsOnCycle c.args.nest.now c.args.next.now c.args.block (get_or c.args.targets.now k 0) → ⊥) c.loop-target.target-index c.loop-target.invariant c.if-falls_on_cycle.ensures
 
 pub returns : goal.returns
 returns c = λ some.

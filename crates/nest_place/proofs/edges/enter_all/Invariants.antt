@@ -5,4 +5,4 @@ use Rattle.structure_rules.specs.EdgeKinds.{has_kind}
 use Rattle.nest_place.proofs.edges.enter_all.Given as goal
 
 abbrev pub invariant-loop-target : goal.invariant-loop-target
-invariant-loop-target l = list_all (λ t. has_kind l.nest l.origin.block t Enter) (take l.target-index l.targets) ≡ true
+invariant-loop-target l = list_all (λ t. has_kind l.nest l.block t Enter) (take l.target-index l.targets) ≡ true
