@@ -103,6 +103,7 @@ fn vector_type(module: &Module, inst: &Inst) -> Basic
 }
 
 /// The scalar or vector type that an instruction declares, and uint where it declares another.
+#[inline(always)]
 #[tactic(auto, unfolding(spv_types::specs::Types::kind), using(crate::proofs::Basic::other_rules))]
 pub(crate) fn basic_at(module: &Module, inst: &Inst) -> Basic
     ensures { basic_tree result ≡ basic_at_of «module».now.globals inst.now }
@@ -117,6 +118,7 @@ pub(crate) fn basic_at(module: &Module, inst: &Inst) -> Basic
 }
 
 /// The shape of a scalar or vector type, and uint of another type.
+#[inline(always)]
 #[tactic(auto, using(spv_types::proofs::Views::shape_rows))]
 pub fn basic_shape(module: &Module, ty: u32) -> Shape
     ensures { tree_of result ≡ basic_of_type «module».now.globals ty }

@@ -7,7 +7,7 @@ ghost use Rattle.constant_text.specs.Named.{id_names};
 
 use crate::Readings;
 use crate::names::name;
-use glsl_ast::Expr;
+use glsl_ast::{Expr, Name};
 use name_alloc::{Key, Names};
 use spv_module::{Id, Inst};
 use spv_words::Memory;
@@ -37,14 +37,14 @@ pub(crate) fn axis_text(axis: usize) -> &'static str
 fn group_size(alloc: Global) -> Result<Expr, Memory>
     ensures { IfOk result (λ e. expr_of e ≡ name_tree group_size_text) }
 {
-    Ok(Expr::Name(String::from_str(alloc, "gl_WorkGroupSize")?))
+    Ok(Expr::Name(Name::from_str(alloc, "gl_WorkGroupSize")?))
 }
 
 #[tactic(auto, using(glsl_ast::proofs::Views::expr_rows))]
 fn group_size_part(alloc: Global, axis: usize) -> Result<Expr, Memory>
     ensures { IfOk result (λ e. expr_of e ≡ member_tree (name_tree group_size_text) (axis_text_of axis)) }
 {
-    let axis = String::from_str(alloc, axis_text(axis))?;
+    let axis = Name::from_str(alloc, axis_text(axis))?;
     let size = group_size(alloc)?;
     Ok(Expr::Member(Box::new(alloc, size)?, axis))
 }

@@ -162,6 +162,7 @@ impl<'a> Readings<'a> {
     }
 
     /// The SpecId of a constant that is not overridden (SPIR-V 1.6, Decoration SpecId).
+    #[inline(always)]
     pub fn free_spec_id(&self, id: Id) -> Option<u32>
         ensures { result ≡ free_spec_id_of self.now id.0 }
     {
@@ -201,6 +202,7 @@ impl<'a> Readings<'a> {
     /// How the constant that an instruction defines is read. The composite that gives the size of workgroups is
     /// `gl_WorkGroupSize`. Another has a literal, where it is a scalar, is not calculated, and has no SpecId or is overridden. One
     /// with a SpecId that is not overridden is a component of `gl_WorkGroupSize`, where it is such a part, and else has a name.
+    #[inline(always)]
     pub fn reading(&self, inst: &Inst) -> Reading
         ensures { result ≡ reading_of self.now inst.now }
     {

@@ -14,7 +14,7 @@ use crate::basics::{basic_at, vector_base};
 use crate::constants::axis_text;
 use crate::names::name;
 use crate::outlines::outline_at;
-use glsl_ast::{Base, Extent, TypeName};
+use glsl_ast::{Base, Extent, Name, TypeName};
 use name_alloc::{Key, Names};
 use spv_module::{Id, Inst, Length, Shape};
 use spv_words::Memory;
@@ -53,7 +53,7 @@ impl Readings<'_> {
             }
             Reading::GroupSize => Ok(Extent::Number(0)),
             Reading::GroupSizePart(axis) => {
-                Ok(Extent::Size(String::from_str(alloc, axis_text(axis))?))
+                Ok(Extent::Size(Name::from_str(alloc, axis_text(axis))?))
             }
         }
     }
@@ -119,6 +119,7 @@ impl Readings<'_> {
     /// The name of the type with an id, and `uint` of what is none. There is an error only for want of memory.
     ///
     /// The cost does not grow with the members of structs.
+    #[inline(always)]
     pub fn type_name_of(&self, alloc: Global, names: &Names, ty: u32) -> Result<TypeName, Memory>
         ensures { IfOk result (λ t. type_of t ≡ type_text (spelling self.now (id_names names.now)) (outline_of_type self.now.of.globals ty)) }
     {

@@ -5,7 +5,7 @@ ghost use Rattle.glsl_ast.specs.Tree.{name as name_tree};
 ghost use Rattle.glsl_ast.specs.View.{expr_of, stmt_of};
 ghost use Rattle.control_text.specs.Statements.{flags, set_flag as set_flag_text, declare_flag as declare_flag_text};
 
-use glsl_ast::{Base, Expr, LValue, Literal, Stmt, TypeName};
+use glsl_ast::{Base, Expr, LValue, Literal, Name, Stmt, TypeName};
 use spv_words::Memory;
 use std::alloc::Global;
 
@@ -14,7 +14,7 @@ use std::alloc::Global;
 pub fn named(alloc: Global, flag: &str) -> Result<Expr, Memory>
     ensures { IfOk result (λ e. expr_of e ≡ name_tree flag.now) }
 {
-    Ok(Expr::Name(String::from_str(alloc, flag)?))
+    Ok(Expr::Name(Name::from_str(alloc, flag)?))
 }
 
 /// `flag = true;`
@@ -23,7 +23,7 @@ pub fn set_flag(alloc: Global, flag: &str) -> Result<Stmt, Memory>
     ensures { IfOk result (λ s. stmt_of s ≡ set_flag_text flag.now true) }
 {
     let place = LValue {
-        name: String::from_str(alloc, flag)?,
+        name: Name::from_str(alloc, flag)?,
         steps: Vec::new(alloc),
     };
     Ok(Stmt::Assign(place, Expr::Literal(Literal::Truth(true))))
@@ -38,7 +38,7 @@ fn declare_flag(alloc: Global, flag: &str) -> Result<Stmt, Memory>
         base: Base::Bool,
         extents: Vec::new(alloc),
     };
-    let name = String::from_str(alloc, flag)?;
+    let name = Name::from_str(alloc, flag)?;
     let value = Expr::Literal(Literal::Truth(false));
     Ok(Stmt::Declare(ty, name, Some(value)))
 }

@@ -123,6 +123,7 @@ fn item_text<B: BlockText>(
 }
 
 /// The statements of a branch of a conditional, with the copies of the edge to it.
+#[inline(always)]
 #[cycle(text)]
 fn branch<B: BlockText>(
     alloc: Global,
@@ -227,9 +228,25 @@ fn continued_loop<B: BlockText>(
     loop_text(alloc, blocks, head, inside, out)
 }
 
+/// Appends what is left out in the first turn of a loop, and the statement that sets its flag.
+#[tactic(auto, using(glsl_ast::proofs::Views::stmt_rows))]
+fn later_turns(
+    alloc: Global,
+    flag: &str,
+    text: Vec<Stmt>,
+    out: &mut Vec<Stmt>,
+) -> Result<(), Memory>
+    ensures { OnOk result (map stmt_of out.new.items ≡ map stmt_of out.old.items ++ text_of_turn (Some flag.now) (map stmt_of text.items)) }
+{
+    let test = named(alloc, flag)?;
+    out.push(Stmt::If(test, text, None))?;
+    let set = set_flag(alloc, flag)?;
+    out.push(set)?;
+    Ok(())
+}
+
 /// Appends the continue construct of a loop, which is left out in the first turn.
 #[cycle(text)]
-#[tactic(auto, using(glsl_ast::proofs::Views::stmt_rows))]
 fn turn<B: BlockText>(
     alloc: Global,
     blocks: &B,
@@ -244,9 +261,7 @@ fn turn<B: BlockText>(
     };
     let mut text = Vec::new(alloc);
     region_text(alloc, blocks, in_loop(head, true), cont, &mut text)?;
-    out.push(Stmt::If(named(alloc, flag)?, text, None))?;
-    out.push(set_flag(alloc, flag)?)?;
-    Ok(())
+    later_turns(alloc, flag, text, out)
 }
 
 /// Appends a switch.

@@ -1,7 +1,8 @@
 -- What each kind of expression, of statement and of arm stands for.
-use Rattle.std.proofs.Common.{◌≡◌, Option, Some, None, rules, Box, Vec, Global, String, string_bytes, option_map}
+use Rattle.std.proofs.Common.{◌≡◌, Option, Some, None, rules, Box, Vec, Global, option_map}
 use Rattle.glsl_ast.specs.Tree as tree
-use Rattle.glsl_ast.specs.View.{type_of, expr_of, exprs_of, lvalue_of, stmt_of, stmts_of, arm_of, arms_of}
+use Rattle.glsl_ast.specs.View.{name_text, type_of, expr_of, exprs_of, lvalue_of, stmt_of, stmts_of, arm_of, arms_of}
+use Rattle.glsl_ast.specs.declared.names.Name.{Name}
 use Rattle.glsl_ast.specs.declared.types.TypeName.{TypeName}
 use Rattle.glsl_ast.specs.declared.expressions.BinOp.{BinOp}
 use Rattle.glsl_ast.specs.declared.expressions.Literal.{Literal}
@@ -15,13 +16,13 @@ use Rattle.glsl_ast.specs.declared.statements.Arm.{Arm}
 pub expr-Literal : (l : Literal) → expr_of (expr.Literal l) ≡ tree.literal l
 expr-Literal l = search (rules, expr_lemmas)
 
-pub expr-Name : (w : String Global) → expr_of (expr.Name w) ≡ tree.name (string_bytes w)
+pub expr-Name : (w : Name) → expr_of (expr.Name w) ≡ tree.name (name_text w)
 expr-Name w = search (rules, expr_lemmas)
 
 pub expr-Build : (t : Box TypeName Global) (args : Vec Expr Global) → expr_of (expr.Build t args) ≡ tree.build (type_of t.value) (exprs_of args.items)
 expr-Build t args = search (rules, expr_lemmas)
 
-pub expr-Call : (w : Box (String Global) Global) (args : Vec Expr Global) → expr_of (expr.Call w args) ≡ tree.Expr.call (string_bytes w.value) (exprs_of args.items)
+pub expr-Call : (w : Box Name Global) (args : Vec Expr Global) → expr_of (expr.Call w args) ≡ tree.Expr.call (name_text w.value) (exprs_of args.items)
 expr-Call w args = search (rules, expr_lemmas)
 
 pub expr-Not : (e : Box Expr Global) → expr_of (expr.Not e) ≡ tree.not (expr_of e.value)
@@ -36,7 +37,7 @@ expr-Binary op a b = search (rules, expr_lemmas)
 pub expr-Choose : (c a b : Box Expr Global) → expr_of (expr.Choose c a b) ≡ tree.choose (expr_of c.value) (expr_of a.value) (expr_of b.value)
 expr-Choose c a b = search (rules, expr_lemmas)
 
-pub expr-Member : (e : Box Expr Global) (w : String Global) → expr_of (expr.Member e w) ≡ tree.Expr.member (expr_of e.value) (string_bytes w)
+pub expr-Member : (e : Box Expr Global) (w : Name) → expr_of (expr.Member e w) ≡ tree.Expr.member (expr_of e.value) (name_text w)
 expr-Member e w = search (rules, expr_lemmas)
 
 pub expr-Index : (a b : Box Expr Global) → expr_of (expr.Index a b) ≡ tree.Expr.index (expr_of a.value) (expr_of b.value)
@@ -47,13 +48,13 @@ expr-Length e = search (rules, expr_lemmas)
 
 pub ruleset expr_rows = (expr-Literal, expr-Name, expr-Build, expr-Call, expr-Not, expr-Flip, expr-Binary, expr-Choose, expr-Member, expr-Index, expr-Length)
 
-pub stmt-Declare : (t : TypeName) (w : String Global) (value : Option Expr) → stmt_of (stmt.Declare t w value) ≡ tree.declare (type_of t) (string_bytes w) (option_map expr_of value)
+pub stmt-Declare : (t : TypeName) (w : Name) (value : Option Expr) → stmt_of (stmt.Declare t w value) ≡ tree.declare (type_of t) (name_text w) (option_map expr_of value)
 stmt-Declare t w value = search (rules, stmt_lemmas)
 
 pub stmt-Assign : (l : LValue) (e : Expr) → stmt_of (stmt.Assign l e) ≡ tree.assign (lvalue_of l) (expr_of e)
 stmt-Assign l e = search (rules, stmt_lemmas)
 
-pub stmt-Call : (w : String Global) (args : Vec Expr Global) → stmt_of (stmt.Call w args) ≡ tree.Stmt.call (string_bytes w) (exprs_of args.items)
+pub stmt-Call : (w : Name) (args : Vec Expr Global) → stmt_of (stmt.Call w args) ≡ tree.Stmt.call (name_text w) (exprs_of args.items)
 stmt-Call w args = search (rules, stmt_lemmas)
 
 pub stmt-When : (e : Expr) (a : Vec Stmt Global) → stmt_of (stmt.If e a None) ≡ tree.when (expr_of e) (stmts_of a.items)

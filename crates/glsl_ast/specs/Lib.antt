@@ -1,3 +1,4 @@
+pub mod Short
 pub mod Tree
 pub mod View
 pub mod Size

@@ -1,6 +1,10 @@
 -- The plain tree that a value of the code's types stands for.
-use Rattle.std.specs.Prelude.{List, Some, None, map, option_map, string_bytes}
+use Rattle.std.specs.Prelude.{List, Some, None, map, option_map}
+use Rattle.std.specs.Rc.{rc_str_bytes}
+use Rattle.glsl_ast.specs.Short.{short_text}
 use Rattle.glsl_ast.specs.Tree as tree
+use Rattle.glsl_ast.specs.declared.names.Name.{Name}
+use Rattle.glsl_ast.specs.declared.names.Name.TheVariants as name
 use Rattle.glsl_ast.specs.declared.types.Base.{Base}
 use Rattle.glsl_ast.specs.declared.types.Base.TheVariants as base
 use Rattle.glsl_ast.specs.declared.types.Extent.{Extent}
@@ -21,6 +25,11 @@ use Rattle.glsl_ast.specs.declared.items.Decl.{Decl}
 use Rattle.glsl_ast.specs.declared.items.Decl.TheVariants as decl
 use Rattle.glsl_ast.specs.declared.items.Unit.{Unit as Whole}
 
+-- the bytes of a name
+abbrev pub name_text : Name → tree.Text
+name_text (name.Short w) = short_text w
+name_text (name.Long w) = rc_str_bytes w
+
 abbrev pub base_of : Base → tree.Base
 base_of base.Bool = tree.boolean
 base_of base.Int = tree.int
@@ -28,27 +37,27 @@ base_of base.Uint = tree.uint
 base_of (base.BoolVec n) = tree.bool_vec n
 base_of (base.IntVec n) = tree.int_vec n
 base_of (base.UintVec n) = tree.uint_vec n
-base_of (base.Struct name) = tree.Base.struct (string_bytes name)
+base_of (base.Struct w) = tree.Base.struct (name_text w)
 
 abbrev pub extent_of : Extent → tree.Extent
 extent_of extent.Open = tree.open_end
 extent_of (extent.Number n) = tree.number n
-extent_of (extent.Name w) = tree.named (string_bytes w)
-extent_of (extent.Size w) = tree.size (string_bytes w)
+extent_of (extent.Name w) = tree.named (name_text w)
+extent_of (extent.Size w) = tree.size (name_text w)
 
 abbrev pub type_of : TypeName → tree.TypeName
 type_of t = tree.type_name (base_of t.base) (map extent_of t.extents.items)
 
 abbrev pub expr_step : Expr-F tree.Expr → tree.Expr
 expr_step (Expr-F.Literal l) = tree.literal l
-expr_step (Expr-F.Name w) = tree.name (string_bytes w)
+expr_step (Expr-F.Name w) = tree.name (name_text w)
 expr_step (Expr-F.Build t args) = tree.build (type_of t.value) (tree.exprs_in args.items)
-expr_step (Expr-F.Call w args) = tree.Expr.call (string_bytes w.value) (tree.exprs_in args.items)
+expr_step (Expr-F.Call w args) = tree.Expr.call (name_text w.value) (tree.exprs_in args.items)
 expr_step (Expr-F.Not e) = tree.not e.value
 expr_step (Expr-F.Flip e) = tree.flip e.value
 expr_step (Expr-F.Binary op a b) = tree.binary op a.value b.value
 expr_step (Expr-F.Choose c a b) = tree.choose c.value a.value b.value
-expr_step (Expr-F.Member e w) = tree.Expr.member e.value (string_bytes w)
+expr_step (Expr-F.Member e w) = tree.Expr.member e.value (name_text w)
 expr_step (Expr-F.Index a b) = tree.Expr.index a.value b.value
 expr_step (Expr-F.Length e) = tree.length_of e.value
 
@@ -59,16 +68,16 @@ abbrev pub exprs_of : List Expr → tree.Exprs
 exprs_of l = tree.exprs_in (map expr_of l)
 
 abbrev pub step_of : LStep → tree.LStep
-step_of (step.Member w) = tree.LStep.member (string_bytes w)
+step_of (step.Member w) = tree.LStep.member (name_text w)
 step_of (step.Index e) = tree.LStep.index (expr_of e)
 
 abbrev pub lvalue_of : LValue → tree.LValue
-lvalue_of l = tree.lvalue (string_bytes l.name) (map step_of l.steps.items)
+lvalue_of l = tree.lvalue (name_text l.name) (map step_of l.steps.items)
 
 abbrev pub stmt_step : Stmt-F tree.Stmt tree.Arm → tree.Stmt
-stmt_step (Stmt-F.Declare t w value) = tree.declare (type_of t) (string_bytes w) (option_map expr_of value)
+stmt_step (Stmt-F.Declare t w value) = tree.declare (type_of t) (name_text w) (option_map expr_of value)
 stmt_step (Stmt-F.Assign l e) = tree.assign (lvalue_of l) (expr_of e)
-stmt_step (Stmt-F.Call w args) = tree.Stmt.call (string_bytes w) (exprs_of args.items)
+stmt_step (Stmt-F.Call w args) = tree.Stmt.call (name_text w) (exprs_of args.items)
 stmt_step (Stmt-F.If e a None) = tree.when (expr_of e) (tree.stmts_in a.items)
 stmt_step (Stmt-F.If e a (Some b)) = tree.either (expr_of e) (tree.stmts_in a.items) (tree.stmts_in b.items)
 stmt_step (Stmt-F.For a) = tree.loop (tree.stmts_in a.items)
@@ -93,21 +102,21 @@ abbrev pub arms_of : List Arm → tree.Arms
 arms_of l = tree.arms_in (map arm_of l)
 
 abbrev pub field_of : Field → tree.Field
-field_of f = tree.field (type_of f.ty) (string_bytes f.name)
+field_of f = tree.field (type_of f.ty) (name_text f.name)
 
 abbrev pub member_of : Member → tree.Member
-member_of m = tree.Member.member m.offset m.quals.items (type_of m.ty) (string_bytes m.name)
+member_of m = tree.Member.member m.offset m.quals.items (type_of m.ty) (name_text m.name)
 
 abbrev pub param_of : Param → tree.Param
-param_of p = tree.param p.inout (type_of p.ty) (string_bytes p.name)
+param_of p = tree.param p.inout (type_of p.ty) (name_text p.name)
 
 abbrev pub decl_of : Decl → tree.Decl
-decl_of (decl.Struct name fields) = tree.Decl.struct (string_bytes name) (map field_of fields.items)
-decl_of (decl.Const id ty name value) = tree.constant id (type_of ty) (string_bytes name) (expr_of value)
-decl_of (decl.Shared ty name) = tree.shared (type_of ty) (string_bytes name)
-decl_of (decl.Global ty name value) = tree.global (type_of ty) (string_bytes name) (expr_of value)
-decl_of (decl.Block place rules quals buffer name members instance) = tree.block place rules quals.items buffer (string_bytes name) (map member_of members.items) (string_bytes instance)
-decl_of (decl.Function result name params body) = tree.function (option_map type_of result) (string_bytes name) (map param_of params.items) (stmts_of body.items)
+decl_of (decl.Struct w fields) = tree.Decl.struct (name_text w) (map field_of fields.items)
+decl_of (decl.Const id ty w value) = tree.constant id (type_of ty) (name_text w) (expr_of value)
+decl_of (decl.Shared ty w) = tree.shared (type_of ty) (name_text w)
+decl_of (decl.Global ty w value) = tree.global (type_of ty) (name_text w) (expr_of value)
+decl_of (decl.Block place rules quals buffer w members instance) = tree.block place rules quals.items buffer (name_text w) (map member_of members.items) (name_text instance)
+decl_of (decl.Function result w params body) = tree.function (option_map type_of result) (name_text w) (map param_of params.items) (stmts_of body.items)
 
 abbrev pub unit_of : Whole → tree.TranslationUnit
 unit_of u = tree.translation_unit u.sizes.items (map decl_of u.items.items)

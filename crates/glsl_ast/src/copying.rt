@@ -17,7 +17,7 @@ impl Base {
             Base::BoolVec(size) => Base::BoolVec(*size),
             Base::IntVec(size) => Base::IntVec(*size),
             Base::UintVec(size) => Base::UintVec(*size),
-            Base::Struct(name) => Base::Struct(name.clone()?),
+            Base::Struct(name) => Base::Struct(name.shared()?),
         })
     }
 }
@@ -29,8 +29,8 @@ impl Extent {
         Ok(match self {
             Extent::Open => Extent::Open,
             Extent::Number(length) => Extent::Number(*length),
-            Extent::Name(name) => Extent::Name(name.clone()?),
-            Extent::Size(axis) => Extent::Size(axis.clone()?),
+            Extent::Name(name) => Extent::Name(name.shared()?),
+            Extent::Size(axis) => Extent::Size(axis.shared()?),
         })
     }
 }
@@ -59,15 +59,11 @@ impl Expr {
     {
         Ok(match self {
             Expr::Literal(literal) => Expr::Literal(*literal),
-            Expr::Name(name) => Expr::Name(name.clone()?),
+            Expr::Name(name) => Expr::Name(name.shared()?),
             Expr::Build(ty, args) => {
                 Expr::build(alloc, ty.clone_in(alloc)?, clone_all(args, alloc)?)?
             }
-            Expr::Call(name, args) => Expr::call(
-                alloc,
-                (**name).clone()?,
-                clone_all(args, alloc)?,
-            )?,
+            Expr::Call(name, args) => Expr::call(alloc, name.shared()?, clone_all(args, alloc)?)?,
             Expr::Not(of) => Expr::Not(of.boxed(alloc)?),
             Expr::Flip(of) => Expr::Flip(of.boxed(alloc)?),
             Expr::Binary(op, left, right) => {
@@ -76,7 +72,7 @@ impl Expr {
             Expr::Choose(test, yes, no) => {
                 Expr::Choose(test.boxed(alloc)?, yes.boxed(alloc)?, no.boxed(alloc)?)
             }
-            Expr::Member(of, name) => Expr::Member(of.boxed(alloc)?, name.clone()?),
+            Expr::Member(of, name) => Expr::Member(of.boxed(alloc)?, name.shared()?),
             Expr::Index(of, at) => Expr::Index(of.boxed(alloc)?, at.boxed(alloc)?),
             Expr::Length(of) => Expr::Length(of.boxed(alloc)?),
         })

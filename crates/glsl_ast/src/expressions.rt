@@ -1,9 +1,9 @@
 // Expressions.
-ghost use Rattle.std.specs.Prelude.{◌≡◌, IfOk, string_bytes};
+ghost use Rattle.std.specs.Prelude.{◌≡◌, IfOk};
 ghost use Rattle.glsl_ast.specs.Tree.{build};
-ghost use Rattle.glsl_ast.specs.View.{expr_of, exprs_of, type_of};
+ghost use Rattle.glsl_ast.specs.View.{name_text, expr_of, exprs_of, type_of};
 
-use crate::TypeName;
+use crate::{Name, TypeName};
 use spv_words::Memory;
 use std::alloc::Global;
 
@@ -47,14 +47,14 @@ pub enum BinOp {
 #[derive(Drop)]
 pub enum Expr {
     Literal(Literal),
-    Name(String),
+    Name(Name),
     Build(Box<TypeName>, Vec<Expr>),
-    Call(Box<String>, Vec<Expr>),
+    Call(Box<Name>, Vec<Expr>),
     Not(Box<Expr>),
     Flip(Box<Expr>),
     Binary(BinOp, Box<Expr>, Box<Expr>),
     Choose(Box<Expr>, Box<Expr>, Box<Expr>),
-    Member(Box<Expr>, String),
+    Member(Box<Expr>, Name),
     Index(Box<Expr>, Box<Expr>),
     Length(Box<Expr>),
 }
@@ -69,9 +69,10 @@ impl Expr {
     }
 
     /// A call with these arguments (GLSL 4.60, section 5.11). There is an error only where there is no memory for it.
+    #[inline(always)]
     #[tactic(auto, using(crate::proofs::Views::expr_rows))]
-    pub fn call(alloc: Global, name: String, args: Vec<Expr>) -> Result<Expr, Memory>
-        ensures { IfOk result (λ e. expr_of e ≡ Rattle.glsl_ast.specs.Tree.Expr.call (string_bytes name) (exprs_of args.items)) }
+    pub fn call(alloc: Global, name: Name, args: Vec<Expr>) -> Result<Expr, Memory>
+        ensures { IfOk result (λ e. expr_of e ≡ Rattle.glsl_ast.specs.Tree.Expr.call (name_text name) (exprs_of args.items)) }
     {
         Ok(Expr::Call(Box::new(alloc, name)?, args))
     }

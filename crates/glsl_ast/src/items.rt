@@ -1,5 +1,5 @@
 // The whole text and its items.
-use crate::{Expr, Stmt, TypeName};
+use crate::{Expr, Name, Stmt, TypeName};
 
 /// A text: the sizes of the workgroup, and the items.
 #[derive(Drop)]
@@ -21,22 +21,22 @@ pub struct Size {
 #[derive(Drop)]
 pub enum Decl {
     Struct {
-        name: String,
+        name: Name,
         fields: Vec<Field>,
     },
     Const {
         id: Option<u32>,
         ty: TypeName,
-        name: String,
+        name: Name,
         value: Expr,
     },
     Shared {
         ty: TypeName,
-        name: String,
+        name: Name,
     },
     Global {
         ty: TypeName,
-        name: String,
+        name: Name,
         value: Expr,
     },
     Block {
@@ -44,13 +44,13 @@ pub enum Decl {
         rules: BlockRules,
         quals: Vec<Qual>,
         buffer: bool,
-        name: String,
+        name: Name,
         members: Vec<Member>,
-        instance: String,
+        instance: Name,
     },
     Function {
         result: Option<TypeName>,
-        name: String,
+        name: Name,
         params: Vec<Param>,
         body: Vec<Stmt>,
     },
@@ -60,7 +60,7 @@ pub enum Decl {
 #[derive(Drop)]
 pub struct Field {
     pub ty: TypeName,
-    pub name: String,
+    pub name: Name,
 }
 
 /// Where a block is bound: to a set and a binding, or as push constants.
@@ -93,7 +93,7 @@ pub struct Member {
     pub offset: u32,
     pub quals: Vec<Qual>,
     pub ty: TypeName,
-    pub name: String,
+    pub name: Name,
 }
 
 /// A parameter of a function.
@@ -101,5 +101,5 @@ pub struct Member {
 pub struct Param {
     pub inout: bool,
     pub ty: TypeName,
-    pub name: String,
+    pub name: Name,
 }

@@ -1,17 +1,17 @@
 // Statements.
-use crate::{Expr, Literal, TypeName};
+use crate::{Expr, Literal, Name, TypeName};
 
 /// A place that is assigned: a name, and the way from it.
 #[derive(Drop)]
 pub struct LValue {
-    pub name: String,
+    pub name: Name,
     pub steps: Vec<LStep>,
 }
 
 /// One step from a place to a part of it.
 #[derive(Drop)]
 pub enum LStep {
-    Member(String),
+    Member(Name),
     Index(Expr),
 }
 
@@ -26,9 +26,9 @@ pub enum Label {
 #[cycle(statement)]
 #[derive(Drop)]
 pub enum Stmt {
-    Declare(TypeName, String, Option<Expr>),
+    Declare(TypeName, Name, Option<Expr>),
     Assign(LValue, Expr),
-    Call(String, Vec<Expr>),
+    Call(Name, Vec<Expr>),
     If(Expr, Vec<Stmt>, Option<Vec<Stmt>>),
     For(Vec<Stmt>),
     Switch(Expr, Vec<Arm>),

@@ -1,4 +1,5 @@
 // Types as they are spelled.
+use crate::Name;
 
 /// The name of a type: what it is an array of, and its extents, the outermost first (GLSL 4.60, section 4.1).
 #[derive(Drop)]
@@ -16,7 +17,7 @@ pub enum Base {
     BoolVec(u8),
     IntVec(u8),
     UintVec(u8),
-    Struct(String),
+    Struct(Name),
 }
 
 /// The length of an array: none, a number, a constant's name, or a component of `gl_WorkGroupSize`.
@@ -24,6 +25,6 @@ pub enum Base {
 pub enum Extent {
     Open,
     Number(u32),
-    Name(String),
-    Size(String),
+    Name(Name),
+    Size(Name),
 }

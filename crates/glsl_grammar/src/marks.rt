@@ -100,6 +100,7 @@ pub enum Mark {
 
 impl Mark {
     /// The bytes of the piece.
+    #[inline(always)]
     #[tactic(auto, unfolding(crate::specs::Marks::mark_text))]
     pub fn bytes(self) -> &'static [u8]
         ensures { result.now ≡ mark_text self }

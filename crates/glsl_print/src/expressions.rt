@@ -111,6 +111,7 @@ fn print_unary<K: Sink>(sign: Mark, of: &Expr, sink: &mut K, page: &mut Page)
 }
 
 /// Prints arguments in parentheses.
+#[inline(always)]
 #[cycle(expression)]
 pub fn print_args<K: Sink>(args: &[Expr], sink: &mut K, page: &mut Page)
     ensures { Goes K.written K.faults K.wants sink.old page.old (mark_text Mark.Open ++ args_text (exprs_of args.now)) sink.new page.new }

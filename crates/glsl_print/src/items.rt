@@ -2,7 +2,7 @@
 ghost use Rattle.std.specs.Prelude.{◌≡◌, ◌++◌, map, option_map};
 ghost use Rattle.std.specs.Fmt.{decimal};
 ghost use Rattle.glsl_ast.specs.Tree as tree;
-ghost use Rattle.glsl_ast.specs.View.{type_of, expr_of, field_of, member_of, param_of, stmts_of, decl_of};
+ghost use Rattle.glsl_ast.specs.View.{name_text, type_of, expr_of, field_of, member_of, param_of, stmts_of, decl_of};
 ghost use Rattle.glsl_grammar.specs.Layout.{rules_mark as mark_of_rules, kind_mark as mark_of_kind, inout_text, qual_mark as mark_of_qual, place_text, quals_text, field_text, fields_text, member_text, members_text, param_text, params_text, more_params_text, result_type_text, const_text, body_text, decl_text, decls_text};
 ghost use Rattle.glsl_grammar.specs.Marks.{mark_text};
 ghost use Rattle.glsl_print.specs.Parts.{named_text, value_text, memory_text, instance_text, block_text, head_text, offset_text};
@@ -14,12 +14,14 @@ use crate::page::Page;
 use crate::statements::print_body;
 use crate::types::{print_number, print_type};
 use cc_outside::Sink;
-use glsl_ast::{BlockPlace, BlockRules, Decl, Expr, Field, Member, Param, Qual, Stmt, TypeName};
+use glsl_ast::{
+    BlockPlace, BlockRules, Decl, Expr, Field, Member, Name, Param, Qual, Stmt, TypeName,
+};
 use glsl_grammar::Mark;
 
 // Prints a type and a name.
-fn print_named<K: Sink>(ty: &TypeName, name: &str, sink: &mut K, page: &mut Page)
-    ensures { Goes K.written K.faults K.wants sink.old page.old (named_text (type_of ty.now) name.now) sink.new page.new }
+fn print_named<K: Sink>(ty: &TypeName, name: &Name, sink: &mut K, page: &mut Page)
+    ensures { Goes K.written K.faults K.wants sink.old page.old (named_text (type_of ty.now) (name_text name.now)) sink.new page.new }
 {
     print_type(ty, sink, page);
     page.put_mark(Mark::Space, sink);
@@ -144,13 +146,13 @@ fn kind_mark(buffer: bool) -> Mark
 
 // Prints a block from its name on.
 fn print_block<K: Sink>(
-    name: &str,
+    name: &Name,
     members: &[Member],
-    instance: &str,
+    instance: &Name,
     sink: &mut K,
     page: &mut Page,
 )
-    ensures { Goes K.written K.faults K.wants sink.old page.old (block_text name.now (map member_of members.now) instance.now) sink.new page.new }
+    ensures { Goes K.written K.faults K.wants sink.old page.old (block_text (name_text name.now) (map member_of members.now) (name_text instance.now)) sink.new page.new }
 {
     page.put(name.as_bytes(), sink);
     page.put_mark(Mark::FieldsOpen, sink);
@@ -158,8 +160,8 @@ fn print_block<K: Sink>(
     print_instance(instance, sink, page);
 }
 
-fn print_instance<K: Sink>(instance: &str, sink: &mut K, page: &mut Page)
-    ensures { Goes K.written K.faults K.wants sink.old page.old (instance_text instance.now) sink.new page.new }
+fn print_instance<K: Sink>(instance: &Name, sink: &mut K, page: &mut Page)
+    ensures { Goes K.written K.faults K.wants sink.old page.old (instance_text (name_text instance.now)) sink.new page.new }
 {
     page.put_mark(Mark::InstanceOpen, sink);
     page.put(instance.as_bytes(), sink);
@@ -174,6 +176,7 @@ fn print_inout<K: Sink>(inout: bool, sink: &mut K, page: &mut Page)
     }
 }
 
+#[inline(always)]
 fn print_param<K: Sink>(param: &Param, sink: &mut K, page: &mut Page)
     ensures { Goes K.written K.faults K.wants sink.old page.old (param_text (param_of param.now)) sink.new page.new }
 {
@@ -213,8 +216,8 @@ fn print_result<K: Sink>(ty: &Option<TypeName>, sink: &mut K, page: &mut Page)
 }
 
 // Prints a function's name and parameters, up to its body.
-fn print_head<K: Sink>(name: &str, params: &[Param], sink: &mut K, page: &mut Page)
-    ensures { Goes K.written K.faults K.wants sink.old page.old (head_text name.now (map param_of params.now)) sink.new page.new }
+fn print_head<K: Sink>(name: &Name, params: &[Param], sink: &mut K, page: &mut Page)
+    ensures { Goes K.written K.faults K.wants sink.old page.old (head_text (name_text name.now) (map param_of params.now)) sink.new page.new }
 {
     page.put(name.as_bytes(), sink);
     page.put_mark(Mark::Open, sink);
@@ -247,12 +250,12 @@ fn print_const_start<K: Sink>(id: Option<u32>, sink: &mut K, page: &mut Page)
 fn print_const<K: Sink>(
     id: Option<u32>,
     ty: &TypeName,
-    name: &str,
+    name: &Name,
     value: &Expr,
     sink: &mut K,
     page: &mut Page,
 )
-    ensures { Goes K.written K.faults K.wants sink.old page.old (decl_text (tree.constant id (type_of ty.now) name.now (expr_of value.now))) sink.new page.new }
+    ensures { Goes K.written K.faults K.wants sink.old page.old (decl_text (tree.constant id (type_of ty.now) (name_text name.now) (expr_of value.now))) sink.new page.new }
 {
     print_const_start(id, sink, page);
     print_named(ty, name, sink, page);
@@ -261,21 +264,21 @@ fn print_const<K: Sink>(
 
 fn print_function<K: Sink>(
     ty: &Option<TypeName>,
-    name: &str,
+    name: &Name,
     params: &[Param],
     body: &[Stmt],
     sink: &mut K,
     page: &mut Page,
 )
-    ensures { Goes K.written K.faults K.wants sink.old page.old (decl_text (tree.function (option_map type_of ty.now) name.now (map param_of params.now) (stmts_of body.now))) sink.new page.new }
+    ensures { Goes K.written K.faults K.wants sink.old page.old (decl_text (tree.function (option_map type_of ty.now) (name_text name.now) (map param_of params.now) (stmts_of body.now))) sink.new page.new }
 {
     print_result(ty, sink, page);
     print_head(name, params, sink, page);
     print_function_body(body, sink, page);
 }
 
-fn print_struct<K: Sink>(name: &str, fields: &[Field], sink: &mut K, page: &mut Page)
-    ensures { Goes K.written K.faults K.wants sink.old page.old (decl_text (tree.Decl.struct name.now (map field_of fields.now))) sink.new page.new }
+fn print_struct<K: Sink>(name: &Name, fields: &[Field], sink: &mut K, page: &mut Page)
+    ensures { Goes K.written K.faults K.wants sink.old page.old (decl_text (tree.Decl.struct (name_text name.now) (map field_of fields.now))) sink.new page.new }
 {
     page.put_mark(Mark::Struct, sink);
     page.put(name.as_bytes(), sink);

@@ -1,7 +1,7 @@
 // Statements.
-ghost use Rattle.std.specs.Prelude.{◌≡◌, ◌++◌, suc, map, option_map, string_bytes};
+ghost use Rattle.std.specs.Prelude.{◌≡◌, ◌++◌, suc, map, option_map};
 ghost use Rattle.glsl_ast.specs.Tree as tree;
-ghost use Rattle.glsl_ast.specs.View.{type_of, expr_of, step_of, lvalue_of, stmt_of, stmts_of, arm_of, arms_of};
+ghost use Rattle.glsl_ast.specs.View.{name_text, type_of, expr_of, step_of, lvalue_of, stmt_of, stmts_of, arm_of, arms_of};
 ghost use Rattle.glsl_grammar.specs.Layout.{expr_text, indent_text, type_text, steps_text, lvalue_text, start_text, result_text, label_text, labels_text, stmt_text, body_text, arms_text};
 ghost use Rattle.glsl_grammar.specs.Marks.{mark_text};
 ghost use Rattle.glsl_print.specs.Level.{level_of};
@@ -13,7 +13,7 @@ use crate::level::Level;
 use crate::page::Page;
 use crate::types::{print_literal, print_type};
 use cc_outside::Sink;
-use glsl_ast::{Arm, Expr, LStep, LValue, Label, Stmt, TypeName};
+use glsl_ast::{Arm, Expr, LStep, LValue, Label, Name, Stmt, TypeName};
 use glsl_grammar::Mark;
 
 // Prints four blanks for each level.
@@ -76,12 +76,12 @@ fn print_start<K: Sink>(value: &Option<Expr>, sink: &mut K, page: &mut Page)
 
 fn print_declare<K: Sink>(
     ty: &TypeName,
-    name: &str,
+    name: &Name,
     value: &Option<Expr>,
     sink: &mut K,
     page: &mut Page,
 )
-    ensures { Goes K.written K.faults K.wants sink.old page.old (type_text (type_of ty.now) ++ (mark_text Mark.Space ++ (name.now ++ start_text (option_map expr_of value.now)))) sink.new page.new }
+    ensures { Goes K.written K.faults K.wants sink.old page.old (type_text (type_of ty.now) ++ (mark_text Mark.Space ++ (name_text name.now ++ start_text (option_map expr_of value.now)))) sink.new page.new }
 {
     print_type(ty, sink, page);
     page.put_mark(Mark::Space, sink);

@@ -54,6 +54,7 @@ fn hex_digits(number: u32) -> [u8; 8]
 }
 
 /// Prints a literal.
+#[inline(always)]
 pub fn print_literal<K: Sink>(literal: Literal, sink: &mut K, page: &mut Page)
     ensures { Goes K.written K.faults K.wants sink.old page.old (literal_text literal) sink.new page.new }
 {
@@ -73,6 +74,7 @@ pub fn print_literal<K: Sink>(literal: Literal, sink: &mut K, page: &mut Page)
 }
 
 // Prints a vector type: its word, and how many components it has.
+#[inline(always)]
 fn print_vector<K: Sink>(word: Mark, size: u8, sink: &mut K, page: &mut Page)
     ensures { Goes K.written K.faults K.wants sink.old page.old (mark_text word ++ decimal size) sink.new page.new }
 {

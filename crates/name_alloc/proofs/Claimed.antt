@@ -1,17 +1,18 @@
 -- A space after a claim.
 use Rattle.std.proofs.Common.{◌≡◌, ◌<◌, ◌≤◌, ◌+◌, ◌-◌, ◌^◌, ◌||◌, ℕ, Bool, true, false, List, Bor, Option, None, Some, IsSome, is_some, option_map, refl, ap, sym, ◌∙◌, inl, inr, arith, subst, bytes_eq}
-use Rattle.indexmap.specs.IndexMap.{get_by_text}
 use Rattle.std.specs.Map.{update}
 use Rattle.std.proofs.lemmas.Bool.{cases_Bool, false_from_ne_true, false≢true}
 use Rattle.std.proofs.lemmas.Bool.Decides.{eqb_tells}
 use Rattle.std.proofs.lemmas.Slice.Eq.{bytes_eq-Decides}
+use Rattle.glsl_ast.specs.View.{name_text}
+use Rattle.glsl_ast.specs.declared.names.Name.{Name}
 use Rattle.name_alloc.specs.Naming.{numbered, first_free, free_name}
-use Rattle.name_alloc.specs.Taken.{Held, is_held, held_count, claimed_name, IsNext, IsPut, IsSkipping, IsClaimed, KeepsPlaces}
+use Rattle.name_alloc.specs.Taken.{number_at, Held, is_held, held_count, claimed_name, IsNext, IsPut, IsSkipping, IsClaimed, KeepsPlaces}
 use Rattle.name_alloc.proofs.First.{skips_taken, first_bounds, below_taken, all_taken}
 use Rattle.name_alloc.proofs.Crowd.{numbered_apart, one_free}
 
 abbrev Puts : Held → Held → List ℕ → ℕ → Type 0
-Puts old new base n = (t : List ℕ) → get_by_text new t ≡ update bytes_eq (get_by_text old) base (Some n) t
+Puts old new base n = (t : List ℕ) → number_at new t ≡ update bytes_eq (number_at old) base (Some n) t
 
 or_true : (a : Bool) → (a || true) ≡ true
 or_true true = refl
@@ -52,14 +53,14 @@ skips_put old new base v skips put more own = record {
             let m : v ≡ n = some_same v n e in
             subst (λ b. IsNext (is_held new) (held_count new) b n) at (subst (λ k. IsNext (is_held new) (held_count new) base k) m own)
         | inr w ↦
-            let e : get_by_text old t ≡ Some n = rw (put t, w) at h in
+            let e : number_at old t ≡ Some n = rw (put t, w) at h in
             let was = skips.next t n e in
             record { least = was.least; most = omega (arith, was.most, more); below = λ k low high. stays old new base v put (numbered t k) (was.below k low high) }
       ];
 }
 
 -- the base was free
-pub claimed_base : (old new : Held) (base : List ℕ) → IsSkipping old → get_by_text old base ≡ None → IsPut old new base 2 → IsClaimed old new base base
+pub claimed_base : (old new : Held) (base : List ℕ) → IsSkipping old → number_at old base ≡ None → IsPut old new base 2 → IsClaimed old new base base
 claimed_base old new base skips free put =
     let open_base : is_held old base ≡ false = rw free refl in
     let count : held_count new ≡ held_count old + 1 = rw open_base at put.count in
@@ -74,7 +75,7 @@ claimed_base old new base skips free put =
     }
 
 -- the number that is found is the first free one, and it is free
-number_is : (old : Held) (base : List ℕ) (start number : ℕ) → IsSkipping old → get_by_text old base ≡ Some start → number ≡ first_free (λ k. is_held old (numbered base k)) (held_count old + 2 - start) start → number ≡ first_free (λ k. is_held old (numbered base k)) (held_count old) 2
+number_is : (old : Held) (base : List ℕ) (start number : ℕ) → IsSkipping old → number_at old base ≡ Some start → number ≡ first_free (λ k. is_held old (numbered base k)) (held_count old + 2 - start) start → number ≡ first_free (λ k. is_held old (numbered base k)) (held_count old) 2
 number_is old base start number skips at found =
     let was = skips.next base start at in
     let count : held_count old + 2 - 2 ≡ held_count old = omega arith in
@@ -92,7 +93,7 @@ keeps_both : (old mid new : Held) → KeepsPlaces old mid → KeepsPlaces mid ne
 keeps_both old mid new first second = record { each = λ place text h. second.each place text (first.each place text h) }
 
 -- the base was taken
-claimed_number : (old mid new : Held) (base name : List ℕ) (start number : ℕ) → IsSkipping old → held_count old < 2 ^ 63 → get_by_text old base ≡ Some start
+claimed_number : (old mid new : Held) (base name : List ℕ) (start number : ℕ) → IsSkipping old → held_count old < 2 ^ 63 → number_at old base ≡ Some start
     → number ≡ first_free (λ k. is_held old (numbered base k)) (held_count old + 2 - start) start → name ≡ numbered base number
     → IsPut old mid name 2 → IsPut mid new base (number + 1) → IsClaimed old new base name
 claimed_number old mid new base name start number skips small at found is name_put base_put =
@@ -103,7 +104,7 @@ claimed_number old mid new base name start number skips small at found is name_p
     let open_name : is_held old name ≡ false = rw is free in
     let more : held_count mid ≡ held_count old + 1 = rw open_name at name_put.count in
     let apart : bytes_eq name base ≡ false = rw is (numbered_apart base number) in
-    let base_stays : get_by_text mid base ≡ Some start = rw (put base, apart) at in
+    let base_stays : number_at mid base ≡ Some start = rw (put base, apart) at in
     let still : is_held mid base ≡ true = rw base_stays refl in
     let same_count : held_count new ≡ held_count mid + 0 = rw still at base_put.count in
     let all : held_count new ≡ held_count old + 1 = omega (arith, same_count, more) in
@@ -149,7 +150,7 @@ held_again old new base v put taken t =
     ]
 
 -- the base was taken, and is put again before the search
-pub claimed_again : (old first mid new : Held) (base name : List ℕ) (start number : ℕ) → IsSkipping old → held_count old < 2 ^ 63 → get_by_text old base ≡ Some start
+pub claimed_again : (old first mid new : Held) (base name : List ℕ) (start number : ℕ) → IsSkipping old → held_count old < 2 ^ 63 → number_at old base ≡ Some start
     → IsPut old first base 2 → number ≡ first_free (λ k. is_held first (numbered base k)) (held_count old + 2 - start) start → name ≡ numbered base number
     → IsPut first mid name 2 → IsPut mid new base (number + 1) → IsClaimed old new base name
 claimed_again old first mid new base name start number skips small at again found is name_put base_put =
@@ -165,7 +166,7 @@ claimed_again old first mid new base name start number skips small at again foun
     let two : held_count old ≡ held_count first + 2 - 2 = omega (arith, count) in
     let found_first : number ≡ first_free (λ k. is_held first (numbered base k)) (held_count first + 2 - 2) 2 =
     subst (λ m. number ≡ first_free (λ k. is_held first (numbered base k)) m 2) two number_first in
-    let at_first : get_by_text first base ≡ Some 2 = rw (again.puts base, same_text base) refl in
+    let at_first : number_at first base ≡ Some 2 = rw (again.puts base, same_text base) refl in
     let skips_first : IsSkipping first =
     skips_put old first base 2 skips again.puts (omega (arith, count)) (record { least = omega arith; most = omega arith; below = λ k low high. absurd (omega (arith, low, high)) }) in
     let got : IsClaimed first new base name = claimed_number first mid new base name 2 number skips_first (omega (arith, small, count)) at_first found_first is name_put base_put in
@@ -184,7 +185,7 @@ pub claimed_is_name : (old new : Held) (base name : List ℕ) → IsClaimed old 
 claimed_is_name old new base name c = subst (IsClaimed old new base) c.name_is c
 
 -- a text that is found is there
-pub some_text : (found : Option (Bor (List ℕ))) (text : List ℕ) → option_map (λ t. t.now) found ≡ Some text → IsSome found
+pub some_text : (found : Option (Bor Name)) (text : List ℕ) → option_map (λ t. name_text t.now) found ≡ Some text → IsSome found
 some_text None text h = absurd (false≢true (ap is_some h))
 some_text (Some t) text h = refl
 

@@ -1,10 +1,10 @@
 -- Among as many numbers as there are names, and one more, one is free.
-use Rattle.std.proofs.Common.{◌≡◌, ◌<◌, ◌≤◌, ◌+◌, ◌^◌, ◌++◌, codes, ℕ, zero, suc, true, false, List, [], ◌∷◌, length, refl, ap, sym, ◌∙◌, inl, inr, arith, is_some, bytes_eq, string_bytes}
+use Rattle.std.proofs.Common.{◌≡◌, ◌<◌, ◌≤◌, ◌+◌, ◌^◌, ◌++◌, codes, ℕ, zero, suc, true, false, List, [], ◌∷◌, length, refl, ap, sym, ◌∙◌, inl, inr, arith, is_some, bytes_eq}
 use Rattle.std.specs.List.{list_any, IsDistinct, AllByRecursion}
 use Rattle.std.specs.Map.{lookup}
 use Rattle.std.specs.Fmt.{decimal}
-use Rattle.std.specs.declared.string.String.{String}
-use Rattle.std.specs.declared.alloc.Global.{Global}
+use Rattle.glsl_ast.specs.View.{name_text}
+use Rattle.glsl_ast.specs.declared.names.Name.{Name}
 use Rattle.std.proofs.lemmas.Bool.{cases_Bool, false_from_ne_true, false≢true}
 use Rattle.std.proofs.lemmas.Fmt.{decimal_injective}
 use Rattle.std.proofs.lemmas.List.{append_cancel_left, length-append}
@@ -58,19 +58,19 @@ all_held space base (suc many) n all q h =
       | inr t ↦ all_held space base many (n + 1) (λ k low high. all k (omega (arith, low)) (omega (arith, high))) q (rw t at h)
     ]
 
-abbrev texts : List (String Global × ℕ) → List (List ℕ)
+abbrev texts : List (Name × ℕ) → List (List ℕ)
 texts [] = []
-texts (e ∷ es) = string_bytes e.0 ∷ texts es
+texts (e ∷ es) = name_text e.0 ∷ texts es
 
-length_texts : (es : List (String Global × ℕ)) → length (texts es) ≡ length es
+length_texts : (es : List (Name × ℕ)) → length (texts es) ≡ length es
 length_texts [] = refl
 length_texts (e ∷ es) = ap suc (length_texts es)
 
 -- a name is held where it is among the names
-held_is_among : (es : List (String Global × ℕ)) (q : List ℕ) → is_some (lookup (λ k. bytes_eq q (string_bytes k)) es) ≡ list_any (bytes_eq q) (texts es)
+held_is_among : (es : List (Name × ℕ)) (q : List ℕ) → is_some (lookup (λ k. bytes_eq q (name_text k)) es) ≡ list_any (bytes_eq q) (texts es)
 held_is_among [] q = refl
 held_is_among (e ∷ es) q =
-    elim (cases_Bool (bytes_eq q (string_bytes e.0))) [
+    elim (cases_Bool (bytes_eq q (name_text e.0))) [
       | inl t ↦ rw t refl
       | inr t ↦ rw t (held_is_among es q)
     ]

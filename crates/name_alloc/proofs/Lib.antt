@@ -6,6 +6,7 @@ pub mod Lettered
 pub mod Lawful
 pub mod Crowd
 pub mod Standing
+pub mod Updated
 pub mod Claimed
 pub mod Placed
 pub mod Named

@@ -1,6 +1,5 @@
 -- Spaces and names after a claim.
 use Rattle.std.proofs.Common.{rules, ◌≡◌, ◌+◌, ◌||◌, ◌==◌, ◌⊎◌, ℕ, Bool, true, false, cond, List, [], ◌∷◌, Option, None, Some, is_some, option_map, refl, ap, sym, ◌∙◌, inl, inr, arith, subst, bytes_eq, option_and_then}
-use Rattle.indexmap.specs.IndexMap.{get_by_text}
 use Rattle.std.specs.Ordering.{nat_cmp, is_eq}
 use Rattle.std.specs.BTreeMap.{get}
 use Rattle.std.proofs.lemmas.Bool.{cases_Bool, false≢true}
@@ -12,7 +11,7 @@ use Rattle.name_alloc.specs.Naming.{space_of, same_space, free_name, claim_base,
 use Rattle.name_alloc.specs.Keys.{same_key}
 use Rattle.name_alloc.specs.Law.{IsNameFor}
 use Rattle.name_alloc.proofs.Lawful.{name_for}
-use Rattle.name_alloc.specs.Taken.{Held, is_held, held_count, text_at, IsSkipping, IsClaimed}
+use Rattle.name_alloc.specs.Taken.{Held, number_at, is_held, held_count, text_at, IsSkipping, IsClaimed}
 use Rattle.name_alloc.specs.declared.space.Spaces.{Spaces}
 use Rattle.name_alloc.specs.declared.places.Places.{Places}
 use Rattle.name_alloc.specs.Places.{place_in}
@@ -51,7 +50,7 @@ space_none : (held : Held) → held.entries ≡ [] → IsSpaceOf None held
 space_none held empty = record {
   has = λ text. rw empty refl;
   count = rw empty refl;
-  skipping = λ skips. record { next = λ base next h. none_some next (let nothing : get_by_text held base ≡ None = rw empty refl in sym nothing ∙ h) };
+  skipping = λ skips. record { next = λ base next h. none_some next (let nothing : number_at held base ≡ None = rw empty refl in sym nothing ∙ h) };
   texts = λ place. rw empty refl;
 }
 

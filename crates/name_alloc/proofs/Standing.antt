@@ -1,19 +1,19 @@
 -- Where names stand in a space after a put.
-use Rattle.std.proofs.Common.{◌≡◌, ◌+◌, ℕ, zero, suc, Bool, true, List, [], ◌∷◌, Option, Some, is_some, ap, sym, inl, inr, refl, arith, option_map, slice_get, string_bytes}
+use Rattle.std.proofs.Common.{◌≡◌, ◌+◌, ℕ, zero, suc, Bool, true, List, [], ◌∷◌, Option, Some, is_some, ap, sym, inl, inr, refl, arith, option_map, slice_get}
 use Rattle.std.specs.List.{position_or_len}
 use Rattle.std.specs.Map.{keys_of}
-use Rattle.std.specs.declared.string.String.{String}
-use Rattle.std.specs.declared.alloc.Global.{Global}
+use Rattle.glsl_ast.specs.View.{name_text}
+use Rattle.glsl_ast.specs.declared.names.Name.{Name}
 use Rattle.std.proofs.lemmas.Bool.{cases_Bool, false≢true}
 use Rattle.indexmap.specs.IndexMap.{insert_entry}
 
 abbrev pub Entries : Type 0
-Entries = List (String Global × ℕ)
+Entries = List (Name × ℕ)
 
 abbrev pub text_of : Entries → ℕ → Option (List ℕ)
-text_of es place = option_map (λ e. string_bytes e.0) (slice_get es place)
+text_of es place = option_map (λ e. name_text e.0) (slice_get es place)
 
-module _ (eq : String Global → String Global → Bool) (name : String Global) (number : ℕ) where
+module _ (eq : Name → Name → Bool) (name : Name) (number : ℕ) where
   -- what stands at a place stays there
   pub stays_at : (es : Entries) (place : ℕ) (text : List ℕ) → text_of es place ≡ Some text → text_of (insert_entry eq es name number) place ≡ Some text
   stays_at [] place text h = absurd (false≢true (ap is_some h))
@@ -29,7 +29,7 @@ module _ (eq : String Global → String Global → Bool) (name : String Global) 
       ]
 
   -- and the name stands where it was put
-  pub stands_at : ((a b : String Global) → eq a b ≡ true → string_bytes a ≡ string_bytes b) → (es : Entries) → text_of (insert_entry eq es name number) (position_or_len (eq name) (keys_of es)) ≡ Some (string_bytes name)
+  pub stands_at : ((a b : Name) → eq a b ≡ true → name_text a ≡ name_text b) → (es : Entries) → text_of (insert_entry eq es name number) (position_or_len (eq name) (keys_of es)) ≡ Some (name_text name)
   stands_at tells [] = refl
   stands_at tells (e ∷ es) =
       elim (cases_Bool (eq name e.0)) [

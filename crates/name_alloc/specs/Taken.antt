@@ -1,25 +1,29 @@
 -- The names that a space holds.
-use Rattle.std.specs.Prelude.{ℕ, ◌≡◌, ◌+◌, ◌<◌, ◌≤◌, ◌||◌, ◌⊎◌, Bool, true, false, List, Option, Some, is_some, bytes_eq, option_map, slice_get, string_bytes, if◌then◌else◌}
+use Rattle.std.specs.Prelude.{ℕ, ◌≡◌, ◌+◌, ◌<◌, ◌≤◌, ◌||◌, ◌⊎◌, Bool, true, false, List, Option, Some, is_some, bytes_eq, option_map, slice_get, if◌then◌else◌}
 use Rattle.std.specs.Map.{update}
-use Rattle.indexmap.specs.IndexMap.{IndexMap, get_by_text, index_map_len}
-use Rattle.std.specs.declared.string.String.{String}
-use Rattle.std.specs.declared.alloc.Global.{Global}
+use Rattle.indexmap.specs.IndexMap.{IndexMap, get_by, index_map_len}
+use Rattle.glsl_ast.specs.View.{name_text}
+use Rattle.glsl_ast.specs.declared.names.Name.{Name}
 use Rattle.std.specs.declared.hash.BuildHasherDefault.{BuildHasherDefault}
 use Rattle.std.specs.declared.hash.FoldHasher.{FoldHasher}
 use Rattle.name_alloc.specs.Naming.{numbered, free_name}
 
 abbrev pub Held : Type 0
-Held = IndexMap (String Global) ℕ (BuildHasherDefault FoldHasher)
+Held = IndexMap Name ℕ (BuildHasherDefault FoldHasher)
+
+-- the number that is tried first behind a name that is held
+abbrev pub number_at : Held → List ℕ → Option ℕ
+number_at space text = get_by (λ k. bytes_eq text (name_text k)) space
 
 abbrev pub is_held : Held → List ℕ → Bool
-is_held space text = is_some (get_by_text space text)
+is_held space text = is_some (number_at space text)
 
 abbrev pub held_count : Held → ℕ
 held_count space = index_map_len space
 
 -- the name at a place
 abbrev pub text_at : Held → ℕ → Option (List ℕ)
-text_at space place = option_map (λ e. string_bytes e.0) (slice_get space.entries place)
+text_at space place = option_map (λ e. name_text e.0) (slice_get space.entries place)
 
 -- each name keeps its place
 pub record KeepsPlaces (old new : Held) : Type 0 where
@@ -27,7 +31,7 @@ pub record KeepsPlaces (old new : Held) : Type 0 where
 
 -- the number is put at the text
 pub record IsPut (old new : Held) (text : List ℕ) (number : ℕ) : Type 0 where
-  pub puts : (t : List ℕ) → get_by_text new t ≡ update bytes_eq (get_by_text old) text (Some number) t
+  pub puts : (t : List ℕ) → number_at new t ≡ update bytes_eq (number_at old) text (Some number) t
   pub count : held_count new ≡ held_count old + (if is_held old text then 0 else 1)
   pub places : KeepsPlaces old new
 
@@ -39,7 +43,7 @@ pub record IsNext (taken : List ℕ → Bool) (count : ℕ) (base : List ℕ) (n
 
 -- so it is with the number of each name that is held
 pub record IsSkipping (space : Held) : Type 0 where
-  pub next : (base : List ℕ) (next : ℕ) → get_by_text space base ≡ Some next → IsNext (is_held space) (held_count space) base next
+  pub next : (base : List ℕ) (next : ℕ) → number_at space base ≡ Some next → IsNext (is_held space) (held_count space) base next
 
 -- the name that a base takes
 abbrev pub claimed_name : Held → List ℕ → List ℕ

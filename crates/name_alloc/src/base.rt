@@ -1,19 +1,18 @@
 // The base of a claim's name.
 ghost use Rattle.std.specs.Prelude.{◌≡◌, ◌++◌, false, map, option_map, IfOk, string_bytes};
 ghost use Rattle.std.specs.Fmt.{decimal};
+ghost use Rattle.glsl_ast.specs.View.{name_text};
 ghost use Rattle.name_alloc.specs.Base.{worded as as_word, single as as_single, ends_low as as_ends_low, trimmed as as_trimmed, cleaned as as_cleaned, given_base, guarded as as_guarded, is_barred as barred, base_of, IsLetter};
 
 use crate::claims::Key;
 use crate::reserved::{begins_reserved, is_reserved};
+use glsl_ast::Name;
 use itoa::Buffer;
 use spv_words::Memory;
 use std::alloc::{AllocError, Global};
 
 /// As many bytes of a given name are kept.
 const KEPT: usize = 64;
-
-/// The room that a letter and a number take.
-const SHORT: usize = 11;
 
 /// The byte, or `_` where it is no letter, digit or `_`.
 fn worded(byte: u8) -> u8
@@ -86,36 +85,28 @@ fn is_barred(text: &str) -> bool
 }
 
 /// The text, with `n_` before it where it is no name.
-fn guarded(alloc: Global, text: String) -> Result<String, AllocError>
-    ensures { IfOk result (λ base. string_bytes base ≡ as_guarded (string_bytes text)) }
+fn guarded(alloc: Global, text: String) -> Result<Name, Memory>
+    ensures { IfOk result (λ base. name_text base ≡ as_guarded (string_bytes text)) }
 {
     if is_barred(text.as_str()) {
-        return format!(in alloc; "n_{text}");
+        return Ok(Name::joined(alloc, "n_", text.as_str())?);
     }
-    Ok(text)
+    Ok(Name::from_string(text)?)
 }
 
 /// The word with the number behind it.
-fn worded_number(alloc: Global, word: &str, number: u32) -> Result<String, AllocError>
-    ensures { IfOk result (λ text. string_bytes text ≡ word.now ++ decimal number) }
+fn worded_number(alloc: Global, word: &str, number: u32) -> Result<Name, Memory>
+    ensures { IfOk result (λ name. name_text name ≡ word.now ++ decimal number) }
 {
     let mut digits = Buffer::new();
-    let mut text = String::with_capacity(alloc, SHORT)?;
-    text.push_str(word)?;
-    text.push_str(digits.format(number))?;
-    Ok(text)
+    Ok(Name::joined(alloc, word, digits.format(number))?)
 }
 
 /// The given name cleaned, or the letter with the number where nothing is left of it. No word begins with a letter and a
 /// digit.
-fn named(
-    alloc: Global,
-    given: &Option<Vec<u8>>,
-    letter: &str,
-    number: u32,
-) -> Result<String, Memory>
+fn named(alloc: Global, given: &Option<Vec<u8>>, letter: &str, number: u32) -> Result<Name, Memory>
     requires { IsLetter letter.now }
-    ensures { IfOk result (λ base. string_bytes base ≡ given_base (option_map (λ v. v.items) given.now) letter.now number) }
+    ensures { IfOk result (λ base. name_text base ≡ given_base (option_map (λ v. v.items) given.now) letter.now number) }
 {
     let text = match given {
         None => String::new(alloc),
@@ -130,18 +121,18 @@ fn named(
 /// The base of a key: the name that the module gives to an id or a member, and a word for what has
 /// none.
 #[tactic(auto, unfolding(crate::specs::Base::base_of))]
-pub fn base(alloc: Global, key: Key, given: &Option<Vec<u8>>) -> Result<String, Memory>
-    ensures { IfOk result (λ base. string_bytes base ≡ base_of key (option_map (λ v. v.items) given.now)) }
+pub fn base(alloc: Global, key: Key, given: &Option<Vec<u8>>) -> Result<Name, Memory>
+    ensures { IfOk result (λ base. name_text base ≡ base_of key (option_map (λ v. v.items) given.now)) }
 {
     match key {
-        Key::Main => Ok(String::from_str(alloc, "main")?),
+        Key::Main => Ok(Name::from_str(alloc, "main")?),
         Key::Id(id) => named(alloc, given, "v", id.0),
         Key::Block(_, block) => named(alloc, given, "v", block.0),
         Key::Member(_, member) => named(alloc, given, "m", member),
-        Key::Again(_) => Ok(String::from_str(alloc, "again")?),
-        Key::Leave(_) => Ok(String::from_str(alloc, "leave")?),
-        Key::Fell(_) => Ok(String::from_str(alloc, "fell")?),
-        Key::Captured(_, _) => Ok(String::from_str(alloc, "at")?),
-        Key::Spare(_, _, _) => Ok(String::from_str(alloc, "spare")?),
+        Key::Again(_) => Ok(Name::from_str(alloc, "again")?),
+        Key::Leave(_) => Ok(Name::from_str(alloc, "leave")?),
+        Key::Fell(_) => Ok(Name::from_str(alloc, "fell")?),
+        Key::Captured(_, _) => Ok(Name::from_str(alloc, "at")?),
+        Key::Spare(_, _, _) => Ok(Name::from_str(alloc, "spare")?),
     }
 }

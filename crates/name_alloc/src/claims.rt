@@ -1,11 +1,13 @@
 // Claims of names, and the names that they get.
 ghost use Rattle.std.specs.Prelude.{◌≡◌, option_map};
+ghost use Rattle.glsl_ast.specs.View.{name_text};
 ghost use Rattle.name_alloc.specs.Lookup.{name_in};
 ghost use Rattle.name_alloc.specs.declared.claims.Key.TheVariants.{Id as IdOf};
 ghost use Rattle.name_alloc.specs.Naming.{space_of as space_of_key};
 
 use crate::places::Places;
 use crate::space::Spaces;
+use glsl_ast::Name;
 use spv_module::Id;
 use std::hash::{Hash, Hasher};
 
@@ -90,8 +92,8 @@ pub struct Names {
 impl Names {
     /// The name of a key: `None` exactly where the key was not claimed.
     #[inline(always)]
-    pub fn of(&self, key: Key) -> Option<&str>
-        ensures { option_map (λ name. name.now) result ≡ name_in self.now key }
+    pub fn of(&self, key: Key) -> Option<&Name>
+        ensures { option_map (λ name. name_text name.now) result ≡ name_in self.now key }
     {
         match key {
             Key::Id(id) => self.of_id(id),
@@ -102,8 +104,8 @@ impl Names {
     /// The name of an id: most names that are asked for.
     #[inline(never)]
     #[tactic(auto, unfolding(crate::specs::Lookup::name_in))]
-    fn of_id(&self, id: Id) -> Option<&str>
-        ensures { option_map (λ name. name.now) result ≡ name_in self.now (IdOf id) }
+    fn of_id(&self, id: Id) -> Option<&Name>
+        ensures { option_map (λ name. name_text name.now) result ≡ name_in self.now (IdOf id) }
     {
         match self.places.of_id(id) {
             None => None,
@@ -114,8 +116,8 @@ impl Names {
     /// The name of a key, by its space.
     #[inline(never)]
     #[tactic(auto, unfolding(crate::specs::Lookup::name_in))]
-    fn of_other(&self, key: Key) -> Option<&str>
-        ensures { option_map (λ name. name.now) result ≡ name_in self.now key }
+    fn of_other(&self, key: Key) -> Option<&Name>
+        ensures { option_map (λ name. name_text name.now) result ≡ name_in self.now key }
     {
         match self.places.of(key) {
             None => None,

@@ -1,5 +1,5 @@
 // The names of claims in their order.
-ghost use Rattle.std.specs.Prelude.{◌≡◌, ◌++◌, false, List, Some, IfOk, OnOk, is_some, string_bytes};
+ghost use Rattle.std.specs.Prelude.{◌≡◌, ◌++◌, false, List, Some, IfOk, OnOk, is_some};
 ghost use Rattle.name_alloc.specs.declared.claims.Claim.{Claim};
 ghost use Rattle.name_alloc.specs.declared.claims.Key.{Key};
 ghost use Rattle.name_alloc.specs.Naming.{name_of, claim_name, is_claimed, space_of as space_of_key};

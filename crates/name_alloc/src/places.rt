@@ -49,6 +49,7 @@ impl Places {
     }
 
     /// The place of a key's name.
+    #[inline(always)]
     pub fn of(&self, key: Key) -> Option<usize>
         ensures { result ≡ place_in self.now key }
     {

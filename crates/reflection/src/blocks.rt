@@ -74,7 +74,7 @@ fn member_value(alloc: Global, member: &Member) -> Result<Value, AllocError>
     ensures { IfOk result (λ v. view v ≡ member_data (member_of member.now)) }
 {
     let ty = type_name(alloc, &member.ty)?;
-    json!(in alloc; {"name": &member.name, "offset": member.offset, "type": ty})
+    json!(in alloc; {"name": member.name.as_str(), "offset": member.offset, "type": ty})
 }
 
 fn members(alloc: Global, members: &[Member]) -> Result<Vec<Value>, AllocError>
@@ -105,7 +105,7 @@ fn block_value(alloc: Global, item: &Decl) -> Result<Option<Value>, AllocError>
             "kind": kind_of(*place, *buffer),
             "layout": rules_of(*rules),
             "members": members(alloc, parts)?,
-            "name": name,
+            "name": name.as_str(),
             "qualifiers": qualifiers(alloc, quals)?,
             "set": optional(set_of(*place)),
         })?)),
@@ -133,7 +133,7 @@ fn shared_value(alloc: Global, item: &Decl) -> Result<Option<Value>, AllocError>
     match item {
         Decl::Shared { ty, name } => {
             let ty = type_name(alloc, ty)?;
-            Ok(Some(json!(in alloc; {"name": name, "type": ty})?))
+            Ok(Some(json!(in alloc; {"name": name.as_str(), "type": ty})?))
         }
         _ => Ok(None),
     }

@@ -54,7 +54,9 @@ fn declared_value(alloc: Global, item: &Decl) -> Result<Option<Value>, AllocErro
         } => {
             let default = default_value(value);
             let ty = type_name(alloc, ty)?;
-            Ok(Some(json!(in alloc; {"default": default, "id": *id, "name": name, "type": ty})?))
+            Ok(Some(
+                json!(in alloc; {"default": default, "id": *id, "name": name.as_str(), "type": ty})?,
+            ))
         }
         _ => Ok(None),
     }

@@ -20,7 +20,7 @@ fn base_text(alloc: Global, base: &Base) -> Result<String, AllocError>
         Base::BoolVec(size) => format!(in alloc; "bvec{size}"),
         Base::IntVec(size) => format!(in alloc; "ivec{size}"),
         Base::UintVec(size) => format!(in alloc; "uvec{size}"),
-        Base::Struct(name) => name.clone(),
+        Base::Struct(name) => String::from_str(alloc, name.as_str()),
     }
 }
 
@@ -32,8 +32,14 @@ fn push_extent(text: &mut String, extent: &Extent) -> Result<(), AllocError>
     match extent {
         Extent::Open => text.push_str("[]"),
         Extent::Number(length) => write!(text, "[{length}]"),
-        Extent::Name(name) => write!(text, "[{name}]"),
-        Extent::Size(axis) => write!(text, "[gl_WorkGroupSize.{axis}]"),
+        Extent::Name(name) => {
+            let name = name.as_str();
+            write!(text, "[{name}]")
+        }
+        Extent::Size(axis) => {
+            let axis = axis.as_str();
+            write!(text, "[gl_WorkGroupSize.{axis}]")
+        }
     }
 }
 

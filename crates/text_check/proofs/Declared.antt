@@ -8,7 +8,8 @@ use Rattle.std.specs.String.{string_cmp}
 use Rattle.std.proofs.lemmas.List.{nil_from_length}
 use Rattle.std.proofs.lemmas.Map.Text.{btree_set_updates_text}
 use Rattle.glsl_ast.specs.Tree.{Text}
-use Rattle.glsl_ast.specs.View.{decl_of}
+use Rattle.glsl_ast.specs.View.{name_text, decl_of}
+use Rattle.glsl_ast.specs.declared.names.Name.{Name}
 use Rattle.glsl_ast.specs.declared.items.Field.{Field}
 use Rattle.glsl_ast.specs.declared.items.Decl.{Decl}
 use Rattle.glsl_ast.specs.declared.items.Decl.TheVariants.{Struct}
@@ -18,7 +19,7 @@ either : (b x : Bool) → cond b true x ≡ (b || x)
 either true x = refl
 either false x = refl
 
-pub declared_more : (old new : BTreeSet (String Global)) (name key : String Global) (fields : Vec Field Global) (item : Decl) → item ≡ Struct name fields → string_bytes key ≡ string_bytes name → Updates string_cmp old new key true → (w : Text) → declares new w ≡ declared_after (declares old) (decl_of item) w
+pub declared_more : (old new : BTreeSet (String Global)) (name : Name) (key : String Global) (fields : Vec Field Global) (item : Decl) → item ≡ Struct name fields → string_bytes key ≡ name_text name → Updates string_cmp old new key true → (w : Text) → declares new w ≡ declared_after (declares old) (decl_of item) w
 declared_more old new name key fields item is same updates w =
     btree_set_updates_text (string_bytes key) old new true updates w
     ∙ (either (bytes_eq (string_bytes key) w) (declares old w)

@@ -43,6 +43,7 @@ fn is_tree(structs: &Structs, expr: &Expr) -> bool
 }
 
 /// Whether each of the expressions is in the grammar.
+#[inline(always)]
 #[cycle(expression)]
 pub fn are_exprs(structs: &Structs, exprs: &[Expr]) -> bool
     ensures { result ≡ test.are_exprs (declares structs.now) (exprs_of exprs.now) }
@@ -56,6 +57,7 @@ pub fn are_exprs(structs: &Structs, exprs: &[Expr]) -> bool
 }
 
 /// Whether the expression, if there is one, is in the grammar.
+#[inline(always)]
 pub fn is_value(structs: &Structs, value: &Option<Expr>) -> bool
     ensures { result ≡ test.is_value (declares structs.now) (option_map expr_of value.now) }
 {

@@ -2,7 +2,7 @@
 ghost use Rattle.std.specs.Prelude.{◌≡◌, map, option_map, IfOk};
 ghost use Rattle.std.specs.List.{list_all};
 ghost use Rattle.glsl_ast.specs.Tree as tree;
-ghost use Rattle.glsl_ast.specs.View.{type_of, expr_of, stmts_of, field_of, member_of, param_of, decl_of};
+ghost use Rattle.glsl_ast.specs.View.{name_text, type_of, expr_of, stmts_of, field_of, member_of, param_of, decl_of};
 ghost use Rattle.text_check.specs.Items as test;
 ghost use Rattle.text_check.specs.Words.{declares};
 
@@ -10,13 +10,14 @@ use crate::expressions::is_expr;
 use crate::names::{Structs, declare, is_name};
 use crate::statements::are_stmts;
 use crate::types::{is_spelled, is_type};
-use glsl_ast::{BlockPlace, Decl, Expr, Field, Member, Param, Stmt, TypeName};
+use glsl_ast::{BlockPlace, Decl, Expr, Field, Member, Name, Param, Stmt, TypeName};
 use spv_words::Memory;
 use std::alloc::Global;
 
 /// Whether the type and the name are in the grammar.
-fn is_named(structs: &Structs, ty: &TypeName, name: &str) -> bool
-    ensures { result ≡ test.is_named (declares structs.now) (type_of ty.now) name.now }
+#[inline(always)]
+fn is_named(structs: &Structs, ty: &TypeName, name: &Name) -> bool
+    ensures { result ≡ test.is_named (declares structs.now) (type_of ty.now) (name_text name.now) }
 {
     is_type(structs, ty) && is_name(name)
 }
@@ -91,14 +92,14 @@ fn is_id(id: Option<u32>) -> bool
 }
 
 /// Whether the parts of a variable or a constant that has a value are in the grammar.
-fn is_valued(structs: &Structs, ty: &TypeName, name: &str, value: &Expr) -> bool
-    ensures { result ≡ test.is_valued (declares structs.now) (type_of ty.now) name.now (expr_of value.now) }
+fn is_valued(structs: &Structs, ty: &TypeName, name: &Name, value: &Expr) -> bool
+    ensures { result ≡ test.is_valued (declares structs.now) (type_of ty.now) (name_text name.now) (expr_of value.now) }
 {
     is_named(structs, ty, name) && is_expr(structs, value)
 }
 
-fn is_block(structs: &Structs, name: &str, members: &[Member], instance: &str) -> bool
-    ensures { result ≡ test.is_block (declares structs.now) name.now (map member_of members.now) instance.now }
+fn is_block(structs: &Structs, name: &Name, members: &[Member], instance: &Name) -> bool
+    ensures { result ≡ test.is_block (declares structs.now) (name_text name.now) (map member_of members.now) (name_text instance.now) }
 {
     is_name(name) && is_name(instance) && are_members(structs, members)
 }
@@ -107,11 +108,11 @@ fn is_block(structs: &Structs, name: &str, members: &[Member], instance: &str) -
 fn is_function(
     structs: &Structs,
     ty: &Option<TypeName>,
-    name: &str,
+    name: &Name,
     params: &[Param],
     body: &[Stmt],
 ) -> bool
-    ensures { result ≡ test.is_item (declares structs.now) (tree.function (option_map type_of ty.now) name.now (map param_of params.now) (stmts_of body.now)) }
+    ensures { result ≡ test.is_item (declares structs.now) (tree.function (option_map type_of ty.now) (name_text name.now) (map param_of params.now) (stmts_of body.now)) }
 {
     is_result(structs, ty)
         && is_name(name)
@@ -158,7 +159,7 @@ pub fn are_items(alloc: Global, items: &[Decl]) -> Result<bool, Memory>
         if !is_item(&structs, item) {
             return Ok(false);
         }
-        declare(&mut structs, item)?;
+        declare(alloc, &mut structs, item)?;
     }
     Ok(true)
 }

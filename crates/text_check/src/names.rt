@@ -2,13 +2,14 @@
 ghost use Rattle.std.specs.Prelude.{◌≡◌, ◌&&◌, not, OnOk};
 ghost use Rattle.std.specs.List.{list_all};
 ghost use Rattle.glsl_ast.specs.Tree.{Text};
-ghost use Rattle.glsl_ast.specs.View.{decl_of};
+ghost use Rattle.glsl_ast.specs.View.{name_text, decl_of};
 ghost use Rattle.glsl_grammar.specs.Lex.{is_digit, is_word};
 ghost use Rattle.text_check.specs.Words as words;
 ghost use Rattle.text_check.specs.Words.{declares, declared_after};
 
-use glsl_ast::Decl;
+use glsl_ast::{Decl, Name};
 use spv_words::Memory;
+use std::alloc::Global;
 use std::collections::BTreeSet;
 use word_search::is_among;
 
@@ -125,42 +126,43 @@ fn is_free_word(text: &str) -> bool
     begins_word(text.as_bytes()) && are_word_bytes(text.as_bytes()) && !is_keyword(text)
 }
 
-/// Whether the text is a name. Most names are a letter and digits, which no keyword is.
+/// Whether it is a name of the grammar. Most names are a letter and digits, which no keyword is.
 #[inline]
-pub fn is_name(text: &str) -> bool
-    ensures { result ≡ words.is_name text.now }
+pub fn is_name(name: &Name) -> bool
+    ensures { result ≡ words.is_name (name_text name.now) }
 {
-    is_letter_and_digits(text.as_bytes()) || is_free_word(text)
+    is_letter_and_digits(name.as_bytes()) || is_free_word(name.as_str())
 }
 
 /// Whether a struct has the name. Most texts have no struct.
 #[inline]
-pub fn is_declared(structs: &Structs, name: &str) -> bool
-    ensures { result ≡ declares structs.now name.now }
+pub fn is_declared(structs: &Structs, name: &Name) -> bool
+    ensures { result ≡ declares structs.now (name_text name.now) }
 {
     !structs.is_empty() && has_name(structs, name)
 }
 
 #[inline(never)]
-fn has_name(structs: &Structs, name: &str) -> bool
-    ensures { result ≡ declares structs.now name.now }
+fn has_name(structs: &Structs, name: &Name) -> bool
+    ensures { result ≡ declares structs.now (name_text name.now) }
 {
-    structs.contains(name)
+    structs.contains(name.as_str())
 }
 
-/// Whether the text is a name that no struct has.
-pub fn is_free(structs: &Structs, name: &str) -> bool
-    ensures { result ≡ words.is_free (declares structs.now) name.now }
+/// Whether it is a name of the grammar that no struct has.
+#[inline(always)]
+pub fn is_free(structs: &Structs, name: &Name) -> bool
+    ensures { result ≡ words.is_free (declares structs.now) (name_text name.now) }
 {
     is_name(name) && !is_declared(structs, name)
 }
 
 /// Adds the name of an item that is a struct.
-pub fn declare(structs: &mut Structs, item: &Decl) -> Result<(), Memory>
+pub fn declare(alloc: Global, structs: &mut Structs, item: &Decl) -> Result<(), Memory>
     ensures { OnOk result ((w : Text) → declares structs.new w ≡ declared_after (declares structs.old) (decl_of item.now) w) }
 {
     if let Decl::Struct { name, .. } = item {
-        structs.insert(name.clone()?)?;
+        structs.insert(String::from_str(alloc, name.as_str())?)?;
     }
     Ok(())
 }

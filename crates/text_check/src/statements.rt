@@ -2,7 +2,7 @@
 ghost use Rattle.std.specs.Prelude.{◌≡◌, ◌&&◌, option_map};
 ghost use Rattle.std.specs.List.{list_all};
 ghost use Rattle.glsl_ast.specs.Tree as tree;
-ghost use Rattle.glsl_ast.specs.View.{type_of, expr_of, step_of, lvalue_of, stmt_of, stmts_of, arms_of};
+ghost use Rattle.glsl_ast.specs.View.{name_text, type_of, expr_of, step_of, lvalue_of, stmt_of, stmts_of, arms_of};
 ghost use Rattle.glsl_grammar.specs.Scopes.{has_arms};
 ghost use Rattle.text_check.specs.Statements as test;
 ghost use Rattle.text_check.specs.Words.{declares};
@@ -10,7 +10,7 @@ ghost use Rattle.text_check.specs.Words.{declares};
 use crate::expressions::{are_exprs, is_expr, is_value};
 use crate::names::{Structs, is_free, is_name};
 use crate::types::{is_literal, is_type};
-use glsl_ast::{Arm, Expr, LStep, LValue, Label, Stmt, TypeName};
+use glsl_ast::{Arm, Expr, LStep, LValue, Label, Name, Stmt, TypeName};
 
 fn is_step(structs: &Structs, step: &LStep) -> bool
     ensures { result ≡ test.is_step (declares structs.now) (step_of step.now) }
@@ -34,8 +34,8 @@ fn is_lvalue(structs: &Structs, place: &LValue) -> bool
     is_free(structs, &place.name) && are_steps(structs, &place.steps)
 }
 
-fn is_declaration(structs: &Structs, ty: &TypeName, name: &str, value: &Option<Expr>) -> bool
-    ensures { result ≡ test.is_stmt (declares structs.now) (tree.declare (type_of ty.now) name.now (option_map expr_of value.now)) }
+fn is_declaration(structs: &Structs, ty: &TypeName, name: &Name, value: &Option<Expr>) -> bool
+    ensures { result ≡ test.is_stmt (declares structs.now) (tree.declare (type_of ty.now) (name_text name.now) (option_map expr_of value.now)) }
 {
     is_type(structs, ty) && is_name(name) && is_value(structs, value)
 }

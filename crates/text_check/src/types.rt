@@ -36,6 +36,7 @@ fn is_extent(extent: &Extent) -> bool
     }
 }
 
+#[inline(always)]
 fn are_extents(extents: &[Extent]) -> bool
     ensures { result ≡ list_all (λ e. test.is_extent (extent_of e)) extents.now }
 {
@@ -61,6 +62,7 @@ fn is_base(structs: &Structs, base: &Base) -> bool
 }
 
 /// Whether the type is in the grammar, where these structs are declared.
+#[inline(always)]
 #[tactic(auto, using(crate::proofs::Lists::list_rules))]
 pub fn is_type(structs: &Structs, ty: &TypeName) -> bool
     ensures { result ≡ test.is_type (declares structs.now) (type_of ty.now) }

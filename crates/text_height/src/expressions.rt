@@ -45,6 +45,7 @@ fn is_low_tree(expr: &Expr, limit: u32) -> bool
 }
 
 /// Whether each of the expressions is at most so high.
+#[inline(always)]
 #[cycle(expression)]
 #[tactic(auto, using(crate::proofs::Low::low_rules))]
 pub fn are_low_exprs(exprs: &[Expr], limit: u32) -> bool

@@ -1,6 +1,6 @@
 // Expressions on vectors and composites, with ample memory.
 use crate::names::{is_name, named};
-use glsl_ast::{Base, Expr, Extent};
+use glsl_ast::{Base, Expr, Extent, Name};
 use int_lowering::Arg;
 use name_alloc::Key;
 use spv_module::{Elem, Id, Length, Shape};
@@ -22,7 +22,7 @@ fn item(alloc: Global, id: u32) -> Result<Shape, Fail> {
 }
 
 fn variable(alloc: Global, name: &str, shape: Shape) -> Result<Vec<Arg>, Fail> {
-    let expr = Expr::Name(String::from_str(alloc, name)?);
+    let expr = Expr::Name(Name::from_str(alloc, name)?);
     let word = None;
     Ok(vec![in alloc; Arg { expr, shape, word }]?)
 }

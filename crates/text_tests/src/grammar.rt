@@ -1,21 +1,22 @@
 // Units that are in the grammar, and units that are not.
-use glsl_ast::{Base, Decl, Expr, Extent, Field, Size, TypeName, Unit};
-use std::alloc::{AllocError, Global};
+use glsl_ast::{Base, Decl, Expr, Extent, Field, Name, Size, TypeName, Unit};
+use spv_words::Memory;
+use std::alloc::Global;
 use std::test::Fail;
 use text_check::is_in_grammar;
 
-fn text(alloc: Global, name: &str) -> Result<String, AllocError> {
-    String::from_str(alloc, name)
+fn text(alloc: Global, name: &str) -> Result<Name, Memory> {
+    Name::from_str(alloc, name)
 }
 
-fn struct_type(alloc: Global, name: &str) -> Result<TypeName, AllocError> {
+fn struct_type(alloc: Global, name: &str) -> Result<TypeName, Memory> {
     Ok(TypeName {
         base: Base::Struct(text(alloc, name)?),
         extents: vec![in alloc; Extent::Number(4)]?,
     })
 }
 
-fn pair(alloc: Global, name: &str, field: &str) -> Result<Decl, AllocError> {
+fn pair(alloc: Global, name: &str, field: &str) -> Result<Decl, Memory> {
     let ty = TypeName {
         base: Base::UintVec(2),
         extents: Vec::new(alloc),
@@ -31,7 +32,7 @@ fn pair(alloc: Global, name: &str, field: &str) -> Result<Decl, AllocError> {
 }
 
 /// A constant array of a struct, whose one element is the name of a value.
-fn array(alloc: Global, of: &str, value: &str) -> Result<Decl, AllocError> {
+fn array(alloc: Global, of: &str, value: &str) -> Result<Decl, Memory> {
     let value = Expr::Name(text(alloc, value)?);
     Ok(Decl::Const {
         id: None,
@@ -51,7 +52,7 @@ fn decides(
     field: &str,
     of: &str,
     value: &str,
-) -> Result<Option<bool>, AllocError> {
+) -> Result<Option<bool>, Memory> {
     let size = Size {
         axis: 0,
         by_id: false,

@@ -36,7 +36,7 @@ fn are_named(alloc: Global, rows: &[(Key, &str, &str)]) -> Result<bool, Memory> 
     }
     let names = named(alloc, &given)?;
     for (key, _, name) in rows {
-        if names.of(*key) != Some(*name) {
+        if names.of(*key).map(|text| text.as_str()) != Some(*name) {
             return Ok(false);
         }
     }
@@ -54,7 +54,12 @@ fn is_named_behind(alloc: Global, count: u32, name: &str) -> Result<bool, Memory
         key: Key::Main,
         given: None,
     })?;
-    Ok(names(alloc, &claims)?.of(Key::Id(Id(count))) == Some(name))
+    Ok(
+        names(alloc, &claims)?
+            .of(Key::Id(Id(count)))
+            .map(|text| text.as_str())
+            == Some(name),
+    )
 }
 
 #[test]

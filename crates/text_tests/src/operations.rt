@@ -1,10 +1,11 @@
 // Operations on scalars as text.
 use crate::printed::const_text;
-use glsl_ast::{Base, Expr};
+use glsl_ast::{Base, Expr, Name};
 use int_lowering::{Arg, BasicType, basic_type, literal, lower, lower_basic, operation, type_name};
 use op_semantics::{Operation, Unary};
 use spv_module::{Elem, Shape};
-use std::alloc::{AllocError, Global};
+use spv_words::Memory;
+use std::alloc::Global;
 use std::test::Fail;
 
 // An operand: a variable, or a constant that prints as a literal.
@@ -22,10 +23,10 @@ fn shape(elem: Elem) -> Shape {
     }
 }
 
-fn arg(alloc: Global, given: Given) -> Result<Arg, AllocError> {
+fn arg(alloc: Global, given: Given) -> Result<Arg, Memory> {
     Ok(match given {
         Given::Var(name, elem) => Arg {
-            expr: Expr::Name(String::from_str(alloc, name)?),
+            expr: Expr::Name(Name::from_str(alloc, name)?),
             shape: shape(elem),
             word: None,
         },
@@ -37,7 +38,7 @@ fn arg(alloc: Global, given: Given) -> Result<Arg, AllocError> {
     })
 }
 
-fn args(alloc: Global, given: &[Given]) -> Result<Vec<Arg>, AllocError> {
+fn args(alloc: Global, given: &[Given]) -> Result<Vec<Arg>, Memory> {
     let mut args = Vec::new(alloc);
     for given in given {
         args.push(arg(alloc, *given)?)?;
@@ -117,7 +118,7 @@ fn operations_on_vectors(rt: HostRuntime) -> Result<(), Fail> {
     let alloc = rt.alloc();
     let ty = basic_type(&Shape::Vector(Elem::Int, 2));
     assert_eq!(rt; (ty.elem, ty.size), (Elem::Int, Some(2)));
-    let name = Expr::Name(String::from_str(alloc, "v")?);
+    let name = Expr::Name(Name::from_str(alloc, "v")?);
     let shape = Shape::Vector(Elem::Int, 2);
     let word = None;
     let args = vec![in alloc;

@@ -1,9 +1,10 @@
 // Units as text.
 use cc_outside::{MemorySink, Sink, SteadySink};
-use glsl_ast::{Base, Decl, Expr, Extent, Size, Stmt, TypeName, Unit};
+use glsl_ast::{Base, Decl, Expr, Extent, Name, Size, Stmt, TypeName, Unit};
 use glsl_grammar::Mark;
 use glsl_print::{PrintEnd, print};
-use std::alloc::{AllocError, Global};
+use spv_words::Memory;
+use std::alloc::Global;
 use std::test::Fail;
 use text_check::is_in_grammar;
 
@@ -15,7 +16,7 @@ fn print_unit<K: Sink>(alloc: Global, unit: &Unit, sink: &mut K) -> Result<(), P
     }
 }
 
-fn unit(alloc: Global, item: Decl) -> Result<Unit, AllocError> {
+fn unit(alloc: Global, item: Decl) -> Result<Unit, Memory> {
     let size = Size {
         axis: 2,
         by_id: false,
@@ -27,12 +28,12 @@ fn unit(alloc: Global, item: Decl) -> Result<Unit, AllocError> {
     })
 }
 
-fn const_unit(alloc: Global, base: Base, value: Expr) -> Result<Unit, AllocError> {
+fn const_unit(alloc: Global, base: Base, value: Expr) -> Result<Unit, Memory> {
     let ty = TypeName {
         base,
         extents: Vec::new(alloc),
     };
-    let name = String::from_str(alloc, "c")?;
+    let name = Name::from_str(alloc, "c")?;
     let constant = Decl::Const {
         id: None,
         ty,
@@ -59,7 +60,7 @@ fn a_copy_of_an_expression(rt: HostRuntime) -> Result<(), Fail> {
         base: Base::Int,
         extents: vec![in alloc; Extent::Number(1)]?,
     };
-    let name = Expr::Name(String::from_str(alloc, "a")?);
+    let name = Expr::Name(Name::from_str(alloc, "a")?);
     let built = Expr::Build(Box::new(alloc, ty)?, vec![in alloc; name]?);
     let copy = built.clone_in(alloc).ok().ok_or("no memory")?;
     let text = const_text(alloc, Base::Int, copy)?;
@@ -69,14 +70,14 @@ fn a_copy_of_an_expression(rt: HostRuntime) -> Result<(), Fail> {
 }
 
 // A function of a thousand statements.
-fn long_unit(alloc: Global) -> Result<Unit, AllocError> {
+fn long_unit(alloc: Global) -> Result<Unit, Memory> {
     let mut body = Vec::new(alloc);
     for _ in 0..1000 {
         body.push(Stmt::Break)?;
     }
     let main = Decl::Function {
         result: None,
-        name: String::from_str(alloc, "main")?,
+        name: Name::from_str(alloc, "main")?,
         params: Vec::new(alloc),
         body,
     };

@@ -1,4 +1,5 @@
-use Rattle.std.proofs.Common.{None, Some, refl, sym, ◌∙◌, string_bytes}
+use Rattle.std.proofs.Common.{None, Some, refl, sym, ◌∙◌}
+use Rattle.glsl_ast.specs.View.{name_text}
 use Rattle.name_alloc.specs.declared.space.Spaces.{Spaces}
 use Rattle.name_alloc.specs.Taken.{claimed_name}
 use Rattle.name_alloc.proofs.Named.{space_some, back_text, back_members, named_now, named_at}
@@ -14,7 +15,7 @@ pub returns-in_ok-place-in-None-clause-named : goal.returns-in_ok-place-in-None-
 returns-in_ok-place-in-None-clause-named c =
     let old = c.args.spaces.now in
     let now = c.claim.new.space in
-    let base = string_bytes c.in_ok-base.base in
+    let base = name_text c.in_ok-base.base in
     let new : Spaces = record { text = now; members = old.members } in
     named_now old None old.text now base (claimed_name old.text base) new (space_some old.text) c.in_ok-place-in-None.ensures.claimed (back_text old now new refl refl)
     c.args.claimed.now c.requires (sym c.in-None.is ∙ c.space_of.ensures) c.in_ok-base.ensures
@@ -23,7 +24,7 @@ pub returns-in_ok-place-in-None-clause-stands : goal.returns-in_ok-place-in-None
 returns-in_ok-place-in-None-clause-stands c =
     let old = c.args.spaces.now in
     let now = c.claim.new.space in
-    let base = string_bytes c.in_ok-base.base in
+    let base = name_text c.in_ok-base.base in
     let new : Spaces = record { text = now; members = old.members } in
     named_at old None old.text now base (claimed_name old.text base) new (space_some old.text) c.in_ok-place-in-None.ensures.claimed (back_text old now new refl refl)
     c.args.claimed.now c.in_ok-place-in-None.place (sym c.in-None.is ∙ c.space_of.ensures) c.in_ok-base.ensures c.in_ok-place-in-None.ensures.stands
@@ -33,7 +34,7 @@ returns-in_ok-insert-in-Some-clause-named c =
     let old = c.args.spaces.now in
     let held = c.held_in-held.result in
     let now = c.claim-in-Some.new.space in
-    let base = string_bytes c.in_ok-base.base in
+    let base = name_text c.in_ok-base.base in
     let new : Spaces = record { text = old.text; members = c.insert.new.self } in
     named_now old (Some c.in-Some.block) held now base (claimed_name held base) new c.held_in-held.ensures.space c.in_ok-place-in-Some.ensures.claimed
     (back_members old c.in-Some.block held c.held_in-held.new.members now new c.held_in-held.ensures refl c.in_ok-insert-in-Some.ensures.updates.0)
@@ -44,7 +45,7 @@ returns-in_ok-insert-in-Some-clause-stands c =
     let old = c.args.spaces.now in
     let held = c.held_in-held.result in
     let now = c.claim-in-Some.new.space in
-    let base = string_bytes c.in_ok-base.base in
+    let base = name_text c.in_ok-base.base in
     let new : Spaces = record { text = old.text; members = c.insert.new.self } in
     named_at old (Some c.in-Some.block) held now base (claimed_name held base) new c.held_in-held.ensures.space c.in_ok-place-in-Some.ensures.claimed
     (back_members old c.in-Some.block held c.held_in-held.new.members now new c.held_in-held.ensures refl c.in_ok-insert-in-Some.ensures.updates.0)
