@@ -69,7 +69,8 @@ pub place_in_part : {X : Type 0} (p : Inst → Bool) (f : X → List Inst) (xs :
 place_in_part p f xs k x v inside is here =
     rw (places_parts p f xs) (in_part (λ y. places p (f y)) xs k x v inside is here)
 
-any_weaker : {X : Type 0} (p q : X → Bool) → ((x : X) → q x ≡ false → p x ≡ false) → (xs : List X) → list_any q xs ≡ false → list_any p xs ≡ false
+-- what is weaker than a test that none passes
+pub any_weaker : {X : Type 0} (p q : X → Bool) → ((x : X) → q x ≡ false → p x ≡ false) → (xs : List X) → list_any q xs ≡ false → list_any p xs ≡ false
 any_weaker p q weaker [] none = refl
 any_weaker p q weaker (x ∷ xs) none =
     let parts = or_parts (q x) (list_any q xs) none in

@@ -1,5 +1,5 @@
 // The rules on memory, atomics and barriers.
-ghost use Rattle.std.specs.Prelude.{◌≡◌, false, List, find, IfOk, IfErr, OnOk};
+ghost use Rattle.std.specs.Prelude.{◌≡◌, ◌||◌, false, List, find, IfOk, IfErr, OnOk};
 ghost use Rattle.std.specs.List.{list_any};
 ghost use Rattle.std.specs.BTreeSet.{contains};
 ghost use Rattle.std.specs.Ordering.{nat_cmp};
@@ -8,6 +8,8 @@ ghost use Rattle.spv_module.specs.declared.inst.Inst.{Inst};
 ghost use Rattle.spv_index.specs.Locals.{insts_of};
 ghost use Rattle.profile_rules.specs.MemoryRules.{breaks_m2, breaks_m3, is_read_only as is_read_only_class};
 ghost use Rattle.profile_rules.specs.AccessRules.{breaks, access_rules, Broken, IsRight};
+ghost use Rattle.id_map.specs.Entries.{is_in};
+ghost use Rattle.access_check.specs.Pointed.{HasPointersAmong, is_access as is_access_inst};
 ghost use Rattle.access_check.specs.Accesses.{memory_rules, atomic_rules, AreAllWays, IsDecorated, is_at_fault, IsFaultIn};
 
 use crate::atomics::{
@@ -17,8 +19,10 @@ use crate::atomics::{
 use crate::calls::has_other_argument;
 use crate::memory_operands::has_other_mask;
 use crate::pointer_way::{has_row, is_known, ways_where};
+use crate::pointers::pointers_of;
 use crate::stray_pointers::has_stray_pointer;
 use crate::values::class_of;
+use id_map::IdSet;
 use spv_decor::Decor;
 use spv_index::Locals;
 use spv_module::{Inst, Module};
@@ -184,7 +188,7 @@ fn atomic_rule(module: &Module, locals: &Locals, inst: &Inst) -> Option<Rule>
 }
 
 /// The first rule that an instruction breaks.
-fn broken_rule(
+fn access_rule(
     alloc: Global,
     module: &Module,
     decor: &Decor,
@@ -201,20 +205,65 @@ fn broken_rule(
     }
 }
 
+/// OpLoad, OpStore, a barrier or an atomic.
+fn is_access(inst: &Inst) -> bool
+    ensures { result ≡ is_access_inst inst.now }
+{
+    matches!(inst.op, 61 | 62 | 224 | 225) || is_atomic(inst)
+}
+
+/// Whether one of these is among the pointers.
+fn has_some(pointers: &IdSet, ids: &[u32]) -> bool
+    ensures { result ≡ list_any (is_in pointers.now) ids.now }
+{
+    ids.iter().any(|id| pointers.has(*id))
+}
+
+/// Whether an instruction accesses memory or mentions one of these pointers.
+fn may_break(pointers: &IdSet, inst: &Inst) -> bool
+    ensures { result ≡ (is_access_inst inst.now || list_any (is_in pointers.now) inst.now.args) }
+{
+    is_access(inst) || has_some(pointers, inst.args.as_slice())
+}
+
+/// The same, where no other ids than these are pointers: what accesses no memory and mentions no
+/// pointer breaks none.
+fn broken_rule(
+    alloc: Global,
+    module: &Module,
+    decor: &Decor,
+    locals: &Locals,
+    ways: &Ways,
+    pointers: &IdSet,
+    inst: &Inst,
+) -> Result<Option<Rule>, AllocError>
+    requires ways { AreAllWays decor.now «module».now.globals locals.now ways.now }
+    requires pointers { HasPointersAmong «module».now.globals locals.now (is_in pointers.now) }
+    ensures { IfOk result (λ rule. rule ≡ find (λ r. breaks decor.now «module».now.globals locals.now r inst.now) access_rules) }
+{
+    if may_break(pointers, inst) {
+        access_rule(alloc, module, decor, locals, ways, inst)
+    } else {
+        Ok(None)
+    }
+}
+
 fn check_insts(
     alloc: Global,
     module: &Module,
     decor: &Decor,
     locals: &Locals,
     ways: &Ways,
+    pointers: &IdSet,
     insts: &[Inst],
 ) -> Result<(), Fault>
-    requires { AreAllWays decor.now «module».now.globals locals.now ways.now }
+    requires ways { AreAllWays decor.now «module».now.globals locals.now ways.now }
+    requires pointers { HasPointersAmong «module».now.globals locals.now (is_in pointers.now) }
     ensures passes { OnOk result (list_any (is_at_fault decor.now «module».now.globals locals.now) insts.now ≡ false) }
     ensures refused { IfErr result (IsFaultIn decor.now «module».now.globals locals.now insts.now) }
 {
     for inst in insts {
-        if let Some(rule) = broken_rule(alloc, module, decor, locals, ways, inst)? {
+        if let Some(rule) = broken_rule(alloc, module, decor, locals, ways, pointers, inst)? {
             return Err(Fault::Refused(Refusal { rule, at: inst.at }));
         }
     }
@@ -227,14 +276,24 @@ fn check_function(
     decor: &Decor,
     locals: &Locals,
     decorated: Decorated,
+    pointers: &IdSet,
 ) -> Result<(), Fault>
-    requires { IsDecorated decor.now decorated }
+    requires decorated { IsDecorated decor.now decorated }
+    requires pointers { HasPointersAmong «module».now.globals locals.now (is_in pointers.now) }
     ensures passes { OnOk result (list_any (is_at_fault decor.now «module».now.globals locals.now) (insts_of locals.now) ≡ false) }
     ensures refused { IfErr result (IsFaultIn decor.now «module».now.globals locals.now (insts_of locals.now)) }
 {
     let ways = ways_of(alloc, module, decor, locals, decorated)?;
     for block in locals.function().blocks.as_slice() {
-        check_insts(alloc, module, decor, locals, &ways, block.insts.as_slice())?;
+        check_insts(
+            alloc,
+            module,
+            decor,
+            locals,
+            &ways,
+            pointers,
+            block.insts.as_slice(),
+        )?;
     }
     Ok(())
 }
@@ -257,8 +316,9 @@ pub fn check_accesses(
     ensures refused { IfErr result (IsRight «module».now) }
 {
     let decorated = Decorated::of(module);
+    let pointers = pointers_of(alloc, module)?;
     for function in functions {
-        check_function(alloc, module, decor, function, decorated)?;
+        check_function(alloc, module, decor, function, decorated, &pointers)?;
     }
     Ok(())
 }

@@ -115,6 +115,7 @@ fn pointee_of(module: &Module, locals: &Locals, id: u32) -> Option<u32>
 
 /// Whether a pointer leads through a decorated variable or member, where these pointers of the
 /// function do.
+#[inline(always)]
 pub fn is_known(
     module: &Module,
     decor: &Decor,

@@ -7,6 +7,7 @@ use spv_index::{Locals, pointer, type_in};
 use spv_module::{Id, Module};
 
 /// The storage class of what a value points to, where it is a pointer (SPIR-V 1.6, section 3.7).
+#[inline(always)]
 pub fn class_of(module: &Module, locals: &Locals, id: u32) -> Option<u32>
     ensures { result ≡ class_in «module».now.globals locals.now id }
 {
@@ -15,6 +16,7 @@ pub fn class_of(module: &Module, locals: &Locals, id: u32) -> Option<u32>
 }
 
 /// Whether a value is a pointer.
+#[inline(always)]
 pub fn is_pointer(module: &Module, locals: &Locals, id: u32) -> bool
     ensures { result ≡ is_pointer_in «module».now.globals locals.now id }
 {

@@ -123,6 +123,7 @@ fn pointee_leaves(module: &Module, counts: &Counts, ty: u32) -> u64
 }
 
 /// The scalars that an instruction counts.
+#[inline(always)]
 fn inst_leaves(module: &Module, counts: &Counts, inst: &Inst) -> u64
     ensures { result ≡ leaves_of_inst «module».now.globals (known counts.now) inst.now }
 {
@@ -142,6 +143,7 @@ fn inst_leaves(module: &Module, counts: &Counts, inst: &Inst) -> u64
     }
 }
 
+#[inline(always)]
 fn insts_leaves(module: &Module, counts: &Counts, insts: &[Inst]) -> u64
     ensures { result ≡ min cap (sum_by (leaves_of_inst «module».now.globals (known counts.now)) insts.now) }
 {

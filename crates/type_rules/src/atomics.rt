@@ -19,6 +19,7 @@ pub fn points_to_other(scope: &Scope, pointer: u32, ty: u32) -> bool
 }
 
 /// Whether a value is not of the type to which a pointer points.
+#[inline(always)]
 pub fn is_no_content(scope: &Scope, pointer: u32, id: u32) -> bool
     ensures { result ≡ is_other_content scope.now.m.globals (types scope.now) pointer id }
 {

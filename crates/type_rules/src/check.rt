@@ -18,7 +18,7 @@ use crate::operands::{is_global, is_lacking};
 use crate::scope::Scope;
 use profile_rules::{Group, Need};
 use spv_index::Locals;
-use spv_module::{Block, Function, Inst, Module, Seq};
+use spv_module::{Args, Block, Function, Inst, Module};
 use spv_types::check_limits;
 use spv_words::{Fault, Memory, Refusal, Rule};
 use std::alloc::{AllocError, Global};
@@ -62,17 +62,6 @@ fn check_as(matching: &mut Matching, scope: &Scope, inst: &Inst, op: u32) -> Res
     refuse_if(is_broken, rule_of(group), inst.at)
 }
 
-/// These words.
-fn copied(alloc: Global, words: &[u32]) -> Result<Seq<u32>, AllocError>
-    ensures { IfOk result (λ s. s ≡ words.now) }
-{
-    let mut list = Seq::new(alloc);
-    for word in words {
-        list.push(*word)?;
-    }
-    Ok(list)
-}
-
 /// An OpSpecConstantOp without the opcode inside.
 fn inner(alloc: Global, inst: &Inst) -> Result<Inst, AllocError>
     ensures { IfOk result (λ i. i ≡ inner_of inst.now) }
@@ -82,7 +71,7 @@ fn inner(alloc: Global, inst: &Inst) -> Result<Inst, AllocError>
         at: inst.at,
         ty: inst.ty,
         result: inst.result,
-        args: copied(alloc, behind(inst, 1))?,
+        args: Args::of(alloc, behind(inst, 1))?,
     })
 }
 

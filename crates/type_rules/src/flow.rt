@@ -84,6 +84,7 @@ pub fn is_function_broken(scope: &Scope, function: &Function) -> bool
 }
 
 /// Every second word, from the first (0) or the second (1) on.
+#[inline(always)]
 fn every_second(alloc: Global, from: usize, words: &[u32]) -> Result<Vec<u32>, AllocError>
     ensures { IfOk result (λ v. v.items ≡ every_second_of from words.now) }
 {

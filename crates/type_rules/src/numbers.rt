@@ -51,6 +51,7 @@ fn is_other_count(scope: &Scope, op: u16, n: u32, like: u32, id: u32) -> bool
 }
 
 /// Whether one of these is not made of n scalars that this opcode declares, as those of a known type are.
+#[inline(always)]
 fn has_count_unlike(scope: &Scope, op: u16, n: u32, like: u32, ids: &[u32]) -> bool
     requires { scalars op scope.now like ≡ Some n }
     ensures { result ≡ list_any (λ id. is_not_number n (scalars_of op scope.now id)) ids.now }
@@ -66,6 +67,7 @@ pub fn has_no_int(scope: &Scope, ids: &[u32]) -> bool
 }
 
 /// Whether a result is no int, or a value is no int with as many components.
+#[inline(always)]
 fn are_unlike_ints(scope: &Scope, ty: u32, ids: &[u32]) -> bool
     ensures { result ≡ are_unlike scope.now.m.globals (types scope.now) ty ids.now }
 {

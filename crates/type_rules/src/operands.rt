@@ -134,6 +134,7 @@ pub fn is_global(scope: &Scope, before: u32, need: Need, id: u32) -> bool
 }
 
 /// Whether a parameter or an instruction of the function is a value.
+#[inline(always)]
 fn is_local(locals: &Locals, id: u32) -> bool
     ensures { result ≡ is_local_value locals.now id }
 {
@@ -157,6 +158,7 @@ fn is_result_before(locals: &Locals, before: u32, id: u32) -> bool
 }
 
 /// Whether a value is there before a word. Most are results of instructions, so these are asked first.
+#[inline(always)]
 #[tactic(auto, using(crate::proofs::Needed::in_any_order))]
 fn is_value_before(scope: &Scope, locals: &Locals, before: u32, id: u32) -> bool
     ensures { result ≡ is_there_in_function scope.now.m locals.now before Need.Value id }
@@ -167,6 +169,7 @@ fn is_value_before(scope: &Scope, locals: &Locals, before: u32, id: u32) -> bool
 }
 
 /// Whether there is, for an instruction of a function at a word, what is needed.
+#[inline(always)]
 #[tactic(auto, using(crate::proofs::Needed::none_suits))]
 fn is_there_in(scope: &Scope, locals: &Locals, before: u32, need: Need, id: u32) -> bool
     ensures { result ≡ is_there_in_function scope.now.m locals.now before need id }
@@ -184,6 +187,7 @@ fn is_there_in(scope: &Scope, locals: &Locals, before: u32, need: Need, id: u32)
 }
 
 /// Whether what is needed is there.
+#[inline(always)]
 fn is_there(scope: &Scope, before: u32, need: Need, id: u32) -> bool
     ensures { result ≡ there scope.now before need id }
 {

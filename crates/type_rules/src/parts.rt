@@ -51,6 +51,7 @@ fn further(scope: &Scope, reached: Reached, k: u32) -> Reached
 }
 
 /// What indexes lead to in a composite, if its type is known.
+#[inline(always)]
 fn part_of(scope: &Scope, ty: Option<u32>, indexes: &[u32]) -> Reached
     ensures { result ≡ part_in scope.now.m.globals ty indexes.now }
 {

@@ -104,6 +104,7 @@ impl<'a, 'b> Scope<'a, 'b> {
     }
 
     /// The type of the value with this id.
+    #[inline(always)]
     pub fn type_of(&self, id: u32) -> Option<u32>
         ensures { result ≡ types self.now id }
     {
@@ -145,6 +146,7 @@ impl<'a, 'b> Scope<'a, 'b> {
     }
 
     /// Whether a value's type is not declared by this opcode.
+    #[inline(always)]
     pub fn value_fails(&self, op: u16, id: u32) -> bool
         ensures { result ≡ value_fails (λ g. g.op == op) self.now.m.globals (types self.now) id }
     {
@@ -155,6 +157,7 @@ impl<'a, 'b> Scope<'a, 'b> {
     }
 
     /// Whether a value is of another type than this.
+    #[inline(always)]
     pub fn is_other(&self, ty: u32, id: u32) -> bool
         ensures { result ≡ is_other self.now.m.globals (types self.now) ty id }
     {
@@ -202,6 +205,7 @@ impl<'a, 'b> Scope<'a, 'b> {
     }
 
     /// The same of a value's type.
+    #[inline(always)]
     pub fn count_of(&self, op: u16, id: u32) -> Option<u32>
         ensures { result ≡ scalars_of op self.now id }
     {
@@ -229,6 +233,7 @@ impl<'a, 'b> Scope<'a, 'b> {
     }
 
     /// The type to which a value points.
+    #[inline(always)]
     pub fn pointee_of(&self, id: u32) -> Option<u32>
         ensures { result ≡ pointee_of self.now.m.globals (types self.now) id }
     {
