@@ -1,5 +1,5 @@
 // The form of each result.
-ghost use Rattle.std.specs.Prelude.{◌≡◌, ◌&&◌, not, ℕ, IfOk, OnOk, [], None, fold, max, unwrap_or};
+ghost use Rattle.std.specs.Prelude.{◌≡◌, ◌==◌, ◌&&◌, not, ℕ, IfOk, OnOk, [], None, fold, length, max, unwrap_or};
 ghost use Rattle.std.specs.List.{list_any};
 ghost use Rattle.id_map.specs.Entries.{entry_in};
 ghost use Rattle.hoist_plan.specs.Plan.{is_elsewhere as is_elsewhere_in, wants_variable as wants_variable_in, is_live as is_live_result, is_named_by_use as is_named_by_use_in, is_named as is_named_in, is_hoisted as is_hoisted_in, own_height as own_height_of, form_by, form_with as form_with_of, with_told, with_operand, raised, operand_if, is_value as is_value_in};
@@ -19,7 +19,7 @@ use use_chains::SlotPlace;
 /// The forms of some results, and the height of the highest operand of each instruction, among these.
 #[derive(Drop)]
 pub struct Forms {
-    pub operands: IdMap<u32>,
+    pub operands: IdMap<u8>,
     pub forms: IdMap<Form>,
 }
 
@@ -50,9 +50,19 @@ fn some_wants(module: &Module, locals: &Locals, block: usize, places: &[SlotPlac
         .any(|at| wants_variable(module, locals, block, *at))
 }
 
+/// Whether a block is the only one: then nothing is mentioned elsewhere.
+fn is_alone(locals: &Locals, block: usize) -> bool
+    ensures { result ≡ ((block == 0) && (length locals.now.blocks == 1)) }
+{
+    block == 0 && locals.function().blocks.len() == 1
+}
+
 fn some_elsewhere(locals: &Locals, block: usize, places: &[SlotPlace]) -> bool
     ensures { result ≡ list_any (is_elsewhere_in locals.now block) places.now }
 {
+    if is_alone(locals, block) {
+        return false;
+    }
     places.iter().any(|at| is_elsewhere(locals, block, *at))
 }
 
@@ -67,7 +77,7 @@ fn is_named_by_use(module: &Module, locals: &Locals, row: &Row, mentions: &[Slot
 
 /// The height of the expression of a result, where the height of its highest operand is known; it is
 /// counted up to 17.
-fn own_height(operands: &IdMap<u32>, row: &Row) -> u32
+fn own_height(operands: &IdMap<u8>, row: &Row) -> u8
     ensures { result ≡ own_height_of (entry_in operands.now) (placed [] row.now) }
 {
     // OpUndef
@@ -82,7 +92,7 @@ fn own_height(operands: &IdMap<u32>, row: &Row) -> u32
 fn is_named(
     module: &Module,
     locals: &Locals,
-    operands: &IdMap<u32>,
+    operands: &IdMap<u8>,
     row: &Row,
     mentions: &[SlotPlace],
     value: bool,
@@ -126,10 +136,10 @@ fn tell(forms: &mut IdMap<Form>, id: u32, form: Form) -> Result<(), AllocError>
 
 /// The highest operand of the instruction at a place is at least this high.
 fn raise(
-    operands: &mut IdMap<u32>,
+    operands: &mut IdMap<u8>,
     f: &Function,
     at: SlotPlace,
-    height: u32,
+    height: u8,
 ) -> Result<(), AllocError>
     ensures { OnOk result ((n : ℕ) → entry_in operands.new n ≡ raised f.now height (entry_in operands.old) at n) }
 {
@@ -141,10 +151,10 @@ fn raise(
 }
 
 fn raise_all(
-    operands: &mut IdMap<u32>,
+    operands: &mut IdMap<u8>,
     f: &Function,
     places: &[SlotPlace],
-    height: u32,
+    height: u8,
 ) -> Result<(), AllocError>
     ensures { OnOk result ((n : ℕ) → entry_in operands.new n ≡ fold (raised f.now height) (entry_in operands.old) places.now n) }
 {
@@ -158,7 +168,7 @@ fn raise_all(
 /// variable.
 fn add_operand(
     locals: &Locals,
-    operands: &mut IdMap<u32>,
+    operands: &mut IdMap<u8>,
     row: &Row,
     mentions: &[SlotPlace],
     value: bool,

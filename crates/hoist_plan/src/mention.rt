@@ -41,8 +41,8 @@ pub fn is_chain(inst: &Inst) -> bool
 pub fn user(f: &Function, at: SlotPlace) -> Option<&Inst>
     ensures { option_copied result ≡ user_of f.now at }
 {
-    let block = f.blocks.as_slice().get(at.block)?;
-    block.insts.as_slice().get(at.inst)
+    let block = f.blocks.as_slice().get(at.block as usize)?;
+    block.insts.as_slice().get(at.inst as usize)
 }
 
 /// The label that stands behind a value of an OpPhi, 0 where there is none.
@@ -63,9 +63,11 @@ fn mention_block(locals: &Locals, at: SlotPlace, inst: &Inst) -> usize
     ensures { result ≡ mention_block_of locals.now at inst.now }
 {
     if is_phi(inst.op) {
-        locals.block(label_behind(inst, at.arg)).unwrap_or(at.block)
+        locals
+            .block(label_behind(inst, at.arg as usize))
+            .unwrap_or(at.block as usize)
     } else {
-        at.block
+        at.block as usize
     }
 }
 

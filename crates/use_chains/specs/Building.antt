@@ -1,8 +1,9 @@
 -- The rows while all slots are linked, and while those that are not live are taken out.
-use Rattle.std.specs.Prelude.{ℕ, ◌≡◌, ◌<◌, ◌≤◌, ◌||◌, not, nat_lt, Bool, true, false, List, Option, None, Some, length, is_some}
+use Rattle.std.specs.Prelude.{ℕ, ◌≡◌, ◌<◌, ◌≤◌, ◌||◌, not, nat_lt, Bool, true, false, List, Option, None, Some, IfSome, length}
 use Rattle.use_chains.specs.declared.mention.Mention.{Mention}
 use Rattle.use_chains.specs.declared.rows.Row.{Row}
-use Rattle.use_chains.specs.Chains.{ChainsState, AreApart, ends_of, no_ends, place_of}
+use Rattle.use_chains.specs.declared.lists.Lists.{Lists}
+use Rattle.use_chains.specs.Chains.{ChainsState, AreChains, ArePlaced, ends_of, no_ends}
 use Rattle.use_chains.specs.Linked.{row}
 use Rattle.use_chains.specs.Search.{nth, is_marked, AreLiveSlots}
 use Rattle.use_chains.specs.Links.{Link, links_kept}
@@ -15,15 +16,13 @@ free_row m = record { place = m.place; id = m.id; linked = false; prev = None; n
 abbrev pub IsEmpty : ChainsState → Type 0
 IsEmpty c = (id : ℕ) → ends_of c id ≡ no_ends
 
--- each slot's id has a list
-abbrev pub AreListed : List Mention → List ℕ → Type 0
-AreListed ms ids = (k : ℕ) → k < length ms → is_some (place_of ids (nth ms k).id) ≡ true
+abbrev pub state_of : Lists → ChainsState
+state_of l = record { ids = l.ids.items; ends = l.ends.items }
 
--- the ids of the first n slots are gathered, each at one place
-pub record AreGathered (ms : List Mention) (n : ℕ) (ids : List ℕ) (placed : ℕ → Option ℕ) : Type 0 where
-  pub places_are : (id : ℕ) → placed id ≡ place_of ids id
-  pub apart : AreApart ids
-  pub listed : (k : ℕ) → k < n → is_some (place_of ids (nth ms k).id) ≡ true
+-- each id stands at one place, which is kept unless the ids are few, and has a list
+pub record AreLists (l : Lists) : Type 0 where
+  pub chains : AreChains l.ids.items l.ends.items
+  pub placed : IfSome l.places (ArePlaced l.ids.items)
 
 -- the rows are the slots
 pub record AreRows (ms : List Mention) (rows : List Row) : Type 0 where

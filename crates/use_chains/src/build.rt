@@ -1,19 +1,16 @@
 // All slots of a function, linked, without those of instructions that are not live.
-ghost use Rattle.std.specs.Prelude.{◌≡◌, ◌+◌, ◌*◌, ◌<◌, ◌≤◌, ◌^◌, ℕ, length, IfOk, OnOk, IfSome, None, map, is_some, true};
+ghost use Rattle.std.specs.Prelude.{◌≡◌, ◌+◌, ◌*◌, ◌<◌, ◌≤◌, ◌^◌, length, IfOk, OnOk, None, map};
 ghost use Rattle.std.specs.List.{enumerate_from, list_all};
-ghost use Rattle.id_map.specs.Entries.{entry_in};
-ghost use Rattle.use_chains.specs.Chains.{AreApart, ArePlaced, place_of};
 ghost use Rattle.use_chains.specs.Linked.{AreLinked, links_from};
-ghost use Rattle.use_chains.specs.Building.{free_row, IsEmpty, AreGathered, AreListed, AreKept, IsLinkedTo, IsDroppedTo, is_mentioned_later as is_mentioned_later_in};
+ghost use Rattle.use_chains.specs.Building.{free_row, state_of, AreLists, IsEmpty, AreKept, IsLinkedTo, IsDroppedTo, is_mentioned_later as is_mentioned_later_in};
 
 use crate::Steps;
-use crate::chains::{Chains, Ends, searched};
+use crate::chains::Chains;
 use crate::linking::{append, take_out};
+use crate::lists::Lists;
 use crate::live::live;
 use crate::mention::Mention;
 use crate::rows::{Row, Rows};
-use id_map::{IdMap, Span};
-use spv_index::Places;
 use spv_words::Memory;
 use std::alloc::{AllocError, Global};
 use std::sync::ledger::Ledger;
@@ -34,96 +31,20 @@ pub fn unlinked(alloc: Global, slots: &[Mention]) -> Result<Vec<Row>, AllocError
         .collect(alloc)
 }
 
-/// Among the ids of fewer mentions than these one is found by a search.
-const FEW: usize = 48;
-
-/// No ids, with room for those that slots mention.
-fn no_places(alloc: Global, slots: &[Mention]) -> Result<Places, AllocError>
-    ensures { IfOk result (λ places. (id : ℕ) → entry_in places id ≡ None) }
-{
-    let mut ids = Span::new();
-    for slot in slots {
-        ids.add(slot.id);
-    }
-    IdMap::spanning(alloc, ids)
-}
-
-/// Whether an id is among these.
-fn is_listed(ids: &[u32], id: u32) -> bool
-    ensures { result ≡ is_some (place_of ids.now id) }
-{
-    searched(ids, id).is_some()
-}
-
-/// The ids that few slots mention, each once.
-fn ids_of_few(alloc: Global, slots: &[Mention]) -> Result<Vec<u32>, AllocError>
-    ensures { IfOk result (λ ids. AreGathered slots.now (length slots.now) ids.items (place_of ids.items)) }
-{
-    let mut ids = Vec::with_capacity(alloc, slots.len())?;
-    for slot in slots {
-        if !is_listed(&ids, slot.id) {
-            ids.push(slot.id)?;
-        }
-    }
-    Ok(ids)
-}
-
-/// The ids that slots mention, each once, and their places.
-fn ids_of_many(alloc: Global, slots: &[Mention]) -> Result<(Vec<u32>, Places), Memory>
-    ensures { IfOk result (λ found. AreGathered slots.now (length slots.now) found.0.items (entry_in found.1)) }
-{
-    let mut ids = Vec::with_capacity(alloc, slots.len())?;
-    let mut places = no_places(alloc, slots)?;
-    for slot in slots {
-        if !places.has(slot.id) {
-            places.insert(slot.id, ids.len())?;
-            ids.push(slot.id)?;
-        }
-    }
-    Ok((ids, places))
-}
-
-/// The ids that slots mention, each once, and their places, unless they are few.
-fn ids_of(alloc: Global, slots: &[Mention]) -> Result<(Vec<u32>, Option<Places>), Memory>
-    ensures apart { IfOk result (λ found. AreApart found.0.items) }
-    ensures listed { IfOk result (λ found. AreListed slots.now found.0.items) }
-    ensures places { IfOk result (λ found. IfSome found.1 (ArePlaced found.0.items)) }
-{
-    if slots.len() < FEW {
-        Ok((ids_of_few(alloc, slots)?, None))
-    } else {
-        let (ids, places) = ids_of_many(alloc, slots)?;
-        Ok((ids, Some(places)))
-    }
-}
-
-/// An empty list for each id that a slot mentions.
-pub fn empty(alloc: Global, slots: &[Mention]) -> Result<Chains, Memory>
-    ensures empty { IfOk result IsEmpty }
-    ensures listed { IfOk result (λ c. AreListed slots.now c.ids) }
-{
-    let (ids, places) = ids_of(alloc, slots)?;
-    let none = Ends {
-        first: None,
-        last: None,
-        count: 0,
-    };
-    let ends = vec![in alloc; none; ids.len()]?;
-    Ok(Chains::new(ids, ends, places))
-}
-
 /// Links all slots, each behind those that mention the same id.
-pub fn link_all(rows: &mut Rows, chains: &mut Chains, slots: &[Mention])
+pub fn link_all(rows: &mut Rows, lists: &mut Lists, slots: &[Mention]) -> Result<(), AllocError>
     requires rows { rows.old ≡ map free_row slots.now }
-    requires empty { IsEmpty chains.old }
-    requires listed { AreListed slots.now chains.old.ids }
+    requires lists { AreLists lists.old }
+    requires empty { IsEmpty (state_of lists.old) }
     requires few { length slots.now < 2 ^ 32 }
-    ensures linked { AreLinked rows.new chains.new }
-    ensures all { IsLinkedTo slots.now rows.new (length slots.now) }
+    ensures lists { OnOk result (AreLists lists.new) }
+    ensures linked { OnOk result (AreLinked rows.new (state_of lists.new)) }
+    ensures all { OnOk result (IsLinkedTo slots.now rows.new (length slots.now)) }
 {
     for (k, slot) in slots.iter().enumerate() {
-        append(rows, chains, k, slot.id);
+        append(rows, lists, k as u32, slot.id)?;
     }
+    Ok(())
 }
 
 /// Takes out the slots that are not marked. That is at most one step a slot.
@@ -157,7 +78,7 @@ fn is_mentioned_later(chains: &Chains, k: usize, slot: &Mention) -> bool
     }
     match chains.of(slot.result).last {
         None => false,
-        Some(last) => k < last,
+        Some(last) => k < last as usize,
     }
 }
 

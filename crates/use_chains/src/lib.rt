@@ -4,6 +4,7 @@
 mod build;
 mod chains;
 mod linking;
+mod lists;
 mod live;
 mod mention;
 mod retarget;

@@ -1,12 +1,15 @@
 // Taking a slot out of the list of an id, and putting it into one.
-ghost use Rattle.std.specs.Prelude.{◌≡◌, ◌+◌, ◌<◌, ◌^◌, length, None, true, false, is_some};
+ghost use Rattle.std.specs.Prelude.{◌≡◌, ◌+◌, ◌<◌, ◌^◌, length, None, OnOk, true, false, is_some};
+ghost use Rattle.use_chains.specs.Building.{AreLists, state_of};
 ghost use Rattle.use_chains.specs.Chains.{ends_of, place_of};
 ghost use Rattle.use_chains.specs.Order.{IsFirst, IsLast};
 ghost use Rattle.use_chains.specs.Linked.{AreLinked, row, names, taken_out, put_in as put_in_rows, shortened as shortened_ends};
 
 use crate::Steps;
 use crate::chains::{Chains, Ends, lengthened};
+use crate::lists::Lists;
 use crate::rows::{Row, Rows};
+use std::alloc::AllocError;
 use std::sync::ledger::Ledger;
 
 /// The ends of a list from which a slot was taken.
@@ -55,10 +58,10 @@ pub fn take_out<L: Ledger>(
 pub fn put_in(
     rows: &mut Rows,
     chains: &mut Chains,
-    k: usize,
+    k: u32,
     id: u32,
-    prev: Option<usize>,
-    next: Option<usize>,
+    prev: Option<u32>,
+    next: Option<u32>,
 )
     requires linked { AreLinked rows.old chains.old }
     requires there { k < length rows.old }
@@ -71,26 +74,27 @@ pub fn put_in(
     ensures rows { rows.new ≡ put_in_rows rows.old k id prev next }
     ensures ids { chains.new.ids ≡ chains.old.ids }
 {
-    rows.link(k, id, prev, next);
+    rows.link(k as usize, id, prev, next);
     rows.set_next(prev, Some(k));
     rows.set_prev(next, Some(k));
     chains.put(id, lengthened(chains.of(id), k, prev, next));
 }
 
 /// Puts a slot that is not linked behind all others in the list of an id.
-pub fn append(rows: &mut Rows, chains: &mut Chains, k: usize, id: u32)
-    requires linked { AreLinked rows.old chains.old }
+pub fn append(rows: &mut Rows, lists: &mut Lists, k: u32, id: u32) -> Result<(), AllocError>
+    requires lists { AreLists lists.old }
+    requires linked { AreLinked rows.old (state_of lists.old) }
     requires there { k < length rows.old }
     requires free { (row rows.old k).linked ≡ false }
-    requires last { IsLast (names rows.old id) k (ends_of chains.old id).last }
+    requires last { IsLast (names rows.old id) k (ends_of (state_of lists.old) id).last }
     requires none { IsFirst (names rows.old id) (k + 1) None }
-    requires listed { is_some (place_of chains.old.ids id) ≡ true }
     requires few { length rows.old < 2 ^ 32 }
-    ensures linked { AreLinked rows.new chains.new }
-    ensures rows { rows.new ≡ put_in_rows rows.old k id (ends_of chains.old id).last None }
-    ensures ids { chains.new.ids ≡ chains.old.ids }
+    ensures lists { OnOk result (AreLists lists.new) }
+    ensures linked { OnOk result (AreLinked rows.new (state_of lists.new)) }
+    ensures rows { OnOk result (rows.new ≡ put_in_rows rows.old k id (ends_of (state_of lists.old) id).last None) }
 {
-    let last = chains.append(id, k);
-    rows.link(k, id, last, None);
+    let last = lists.append(id, k)?;
+    rows.link(k as usize, id, last, None);
     rows.set_next(last, Some(k));
+    Ok(())
 }

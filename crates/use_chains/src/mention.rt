@@ -1,5 +1,5 @@
 // The slots of a function.
-ghost use Rattle.std.specs.Prelude.{◌≡◌, ◌<◌, ◌++◌, ℕ, false, OnOk, IfOk, slice_index_or, length};
+ghost use Rattle.std.specs.Prelude.{◌≡◌, ◌<◌, ◌++◌, ◌^◌, ℕ, false, OnOk, IfOk, slice_index_or, length};
 ghost use Rattle.std.specs.List.{enumerate_from};
 ghost use Rattle.spv_ops.specs.Operands.{has_id, is_id};
 ghost use Rattle.use_chains.specs.Slots.{is_pure as is_pure_opcode, is_value as is_value_operand, is_label_reached as is_reached_label, is_slot as is_slot_of, is_taken as is_taken_by, slots_of_inst, slots_of_block, slots as slots_in};
@@ -90,10 +90,11 @@ fn add_slots_of_inst(
     slots: &mut Vec<Mention>,
     locals: &Locals,
     reached: &[bool],
-    block: usize,
-    place: usize,
+    block: u32,
+    place: u32,
     inst: &Inst,
 ) -> Result<(), AllocError>
+    requires { length inst.now.args < 2 ^ 32 }
     ensures { OnOk result (slots.new.items ≡ slots.old.items ++ slots_of_inst locals.now reached.now block (place, inst.now)) }
 {
     let is_pure = is_pure(inst.op);
@@ -104,7 +105,7 @@ fn add_slots_of_inst(
                 place: SlotPlace {
                     block,
                     inst: place,
-                    arg: k,
+                    arg: k as u32,
                 },
                 id: *id,
                 result: inst.result,
@@ -122,14 +123,18 @@ fn add_slots_of_block(
     reached: &[bool],
     place: usize,
     block: &Block,
-) -> Result<(), AllocError>
+) -> Result<(), Memory>
+    requires { place < 2 ^ 32 }
     ensures { OnOk result (slots.new.items ≡ slots.old.items ++ slots_of_block locals.now reached.now (place, block.now)) }
 {
     if !reached.get(place).copied().unwrap_or(false) {
         return Ok(());
     }
     for (n, inst) in block.insts.as_slice().iter().enumerate() {
-        add_slots_of_inst(slots, locals, reached, place, n, inst)?;
+        if n > u32::MAX as usize || inst.args.len() > u32::MAX as usize {
+            return Err(Memory);
+        }
+        add_slots_of_inst(slots, locals, reached, place as u32, n as u32, inst)?;
     }
     Ok(())
 }
@@ -151,6 +156,9 @@ pub fn slots(alloc: Global, locals: &Locals, reached: &[bool]) -> Result<Vec<Men
 {
     let blocks = locals.function().blocks.as_slice();
     let mut slots = Vec::with_capacity(alloc, operands(blocks))?;
+    if blocks.len() > u32::MAX as usize {
+        return Err(Memory);
+    }
     for (place, block) in blocks.iter().enumerate() {
         add_slots_of_block(&mut slots, locals, reached, place, block)?;
     }

@@ -3,11 +3,11 @@ ghost use Rattle.std.specs.Prelude.{◌≡◌, ◌+◌, ◌*◌, ◌^◌, ◌<�
 ghost use Rattle.use_chains.specs.Links.{chain, next_link, link_at, has_slot, is_in_chain, is_linked, retargeted, without_slot, AreLiveLinks};
 ghost use Rattle.use_chains.specs.Slots.{slots};
 ghost use Rattle.use_chains.specs.Building.{AreKept};
-ghost use Rattle.use_chains.specs.Linked.{IsSmall};
 
-use crate::build::{drop_dead, empty, link_all, unlinked};
+use crate::build::{drop_dead, link_all, unlinked};
 use crate::chains::Chains;
 use crate::linking::take_out;
+use crate::lists::Lists;
 use crate::mention::Mention;
 use crate::retarget::{merge, take_over};
 use crate::rows::Rows;
@@ -41,14 +41,10 @@ impl Model for Uses {
     ghost invariant = { λ u. AreUses u.rows u.chains };
 }
 
-fn slot_of(k: Option<usize>) -> Option<Slot>
-    requires { IsSmall k }
+fn slot_of(k: Option<u32>) -> Option<Slot>
     ensures { option_map (λ s. s.0) result ≡ k }
 {
-    match k {
-        None => None,
-        Some(k) => Some(Slot(k as u32)),
-    }
+    k.map(Slot)
 }
 
 /// The slots of live instructions, linked.
@@ -58,8 +54,9 @@ fn linked<L: Ledger>(alloc: Global, slots: &[Mention], steps: &mut Steps<L>) -> 
     ensures steps { OnOk result (steps.new ≤ steps.old + 3 * length slots.now) }
 {
     let mut rows = Rows::new(unlinked(alloc, slots)?);
-    let mut chains = empty(alloc, slots)?;
-    link_all(&mut rows, &mut chains, slots);
+    let mut lists = Lists::new(alloc, slots)?;
+    link_all(&mut rows, &mut lists, slots)?;
+    let mut chains = Chains::new(lists.ids, lists.ends, lists.places);
     drop_dead(alloc, &mut rows, &mut chains, slots, steps)?;
     Ok(Uses { rows, chains })
 }
@@ -71,7 +68,8 @@ impl Uses {
     /// An instruction is live where it has an effect or a live instruction of a reached block mentions
     /// its result. A phi mentions its value in the block that the pair names, and only where that block
     /// is reached. The call takes at most three steps for each operand of the reached blocks, live or
-    /// not. There is an error only for want of memory, or where 2^32 operands or more are to be linked.
+    /// not. There is an error only for want of memory, or where 2^32 operands or more are to be linked, or
+    /// the function has as many blocks, a reached block as many instructions or one of these as many operands.
     pub fn build<L: Ledger>(
         alloc: Global,
         locals: &Locals,
