@@ -1,3 +1,4 @@
 mod StatementsExample
 pub mod Further
 pub mod Deep
+pub mod Operators

@@ -8,16 +8,20 @@ use Rattle.name_alloc.specs.declared.claims.Key.TheVariants.{Id, Block, Member}
 use Rattle.name_alloc.specs.declared.claims.Names.{Names as Given}
 use Rattle.name_alloc.specs.Lookup.{name_in}
 use Rattle.hoist_plan.specs.Kept.{NamingState, form_in, is_carried_in}
-use Rattle.glsl_ast.specs.Tree.{Text, literal}
+use Rattle.glsl_ast.specs.Tree.{Expr, Text, literal}
+use Rattle.int_lowering.specs.declared.basic.BasicType.{BasicType}
+use Rattle.int_lowering.specs.Operand.{Operand, basic_type}
 use Rattle.glsl_ast.specs.declared.expressions.Literal.TheVariants.{Uint}
 use Rattle.vec_lowering.specs.Composite as composite
 use Rattle.vec_lowering.specs.Named.{naming_of}
 use Rattle.vec_lowering.specs.Lowered.{lowered_vector}
 use Rattle.text_rules.specs.Constants.{Source}
 use Rattle.text_rules.specs.Declarations.{Names}
+use Rattle.text_rules.specs.Outlines.{basic}
 use Rattle.constant_text.specs.Named.{id_names}
-use Rattle.expr_forward.specs.Scope.{Setting, Scope, Argument}
+use Rattle.expr_forward.specs.Scope.{Setting, Scope, Argument, globals}
 use Rattle.expr_forward.specs.Globals.{global_in}
+use Rattle.expr_forward.specs.Values.{argument}
 use Rattle.expr_forward.specs.declared.globals.Globals.{Globals}
 
 pub record ContextState : Type 0 where
@@ -43,6 +47,14 @@ all_names names = record {
 -- an operand, as the lowering of operations takes it
 abbrev pub operand : Argument → composite.Argument
 operand a = record { of = a.expr; shape = a.shape; word = a.word }
+
+-- the type of the values of a scalar or vector type
+abbrev pub basic_in : Scope → ℕ → BasicType
+basic_in w ty = basic_type (basic (globals w) ty)
+
+-- an operand of an operation that is written with an operator, where values are written so
+abbrev pub read_operand : Scope → (ℕ → Expr) → ℕ → Operand
+read_operand w value n = composite.operand (operand (argument w value n))
 
 -- what is known where a pointer is written
 abbrev pub setting_of : ContextState → Setting

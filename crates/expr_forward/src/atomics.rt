@@ -8,7 +8,7 @@ ghost use Rattle.expr_forward.specs.Statements.{atomic_name as atomic_name_of, a
 
 use crate::Context;
 use constant_text::scalar_type;
-use glsl_ast::{BinOp, Expr, Stmt};
+use glsl_ast::{BinOp, Expr, Name, Stmt};
 use int_lowering::literal;
 use spv_module::{Elem, Id, Inst};
 use spv_words::Memory;
@@ -85,6 +85,7 @@ impl Context<'_, '_> {
         Ok(args)
     }
 
+    #[inline(never)]
     #[tactic(auto, using(glsl_ast::proofs::Views::stmt_rows, glsl_ast::proofs::Views::expr_rows))]
     pub(crate) fn add_atomic(
         &self,
@@ -95,7 +96,7 @@ impl Context<'_, '_> {
     ) -> Result<(), Memory>
         ensures { OnOk result (map stmt_of into.new.items ≡ map stmt_of into.old.items ++ atomic_text (scope_of self.now) block inst.now) }
     {
-        let function = String::from_str(alloc, atomic_name(inst.op))?;
+        let function = Name::from_str(alloc, atomic_name(inst.op))?;
         let args = self.atomic_arguments(alloc, block, inst)?;
         // OpAtomicStore has no result
         if inst.op == 228 {

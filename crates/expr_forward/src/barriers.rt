@@ -5,7 +5,7 @@ ghost use Rattle.expr_forward.specs.Context.{scope_of};
 ghost use Rattle.expr_forward.specs.Statements.{bare_call, control_barrier_text, memory_barrier, memory_barrier_text, semantics as semantics_of};
 
 use crate::Context;
-use glsl_ast::Stmt;
+use glsl_ast::{Name, Stmt};
 use spv_module::{Id, Inst};
 use spv_words::Memory;
 use std::alloc::Global;
@@ -15,7 +15,7 @@ use std::alloc::Global;
 fn add_call(alloc: Global, into: &mut Vec<Stmt>, function: &str) -> Result<(), Memory>
     ensures { OnOk result (map stmt_of into.new.items ≡ map stmt_of into.old.items ++ bare_call function.now) }
 {
-    let function = String::from_str(alloc, function)?;
+    let function = Name::from_str(alloc, function)?;
     into.push(Stmt::Call(function, Vec::new(alloc)))?;
     Ok(())
 }
@@ -41,6 +41,7 @@ impl Context<'_, '_> {
         self.word_at(id).unwrap_or(0)
     }
 
+    #[inline(never)]
     pub(crate) fn add_memory_barrier(
         &self,
         alloc: Global,
@@ -52,6 +53,7 @@ impl Context<'_, '_> {
         add_memory_barriers(alloc, into, self.semantics(Id(inst.operand(1))))
     }
 
+    #[inline(never)]
     pub(crate) fn add_control_barrier(
         &self,
         alloc: Global,

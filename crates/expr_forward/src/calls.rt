@@ -44,6 +44,7 @@ impl Context<'_, '_> {
             .map_or(false, |inst| inst.op == 19)
     }
 
+    #[inline(never)]
     #[tactic(auto, using(glsl_ast::proofs::Views::stmt_rows, glsl_ast::proofs::Views::expr_rows))]
     pub(crate) fn add_function_call(
         &self,

@@ -75,6 +75,7 @@ impl<'a, 'b> Context<'a, 'b> {
     }
 
     /// The type of a value, and 0 of an id that is none.
+    #[inline(always)]
     pub fn type_of(&self, id: Id) -> u32
         ensures { result ≡ unwrap_or (type_in_of self.now.source.of.globals self.now.function id.0) 0 }
     {
@@ -82,6 +83,7 @@ impl<'a, 'b> Context<'a, 'b> {
     }
 
     /// The type of what a value points to, where it is a pointer.
+    #[inline(always)]
     fn pointee_if_any(&self, id: Id) -> Option<u32>
         ensures { result ≡ pointee_of self.now.source.of.globals self.now.function id.0 }
     {

@@ -33,6 +33,7 @@ impl Context<'_, '_> {
     }
 
     /// OpCompositeInsert.
+    #[inline(never)]
     pub(crate) fn add_composite_insert(
         &self,
         alloc: Global,
@@ -59,6 +60,7 @@ impl Context<'_, '_> {
     }
 
     /// OpVectorInsertDynamic.
+    #[inline(never)]
     pub(crate) fn add_vector_insert(
         &self,
         alloc: Global,

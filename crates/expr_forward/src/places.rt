@@ -1,14 +1,14 @@
 // How pointers are written: the name of what they lead from, and their steps (GLSL 4.60, sections 5.5 to 5.7).
-ghost use Rattle.std.specs.Prelude.{◌≡◌, ◌∷◌, [], IfOk, map, string_bytes, unwrap_or};
+ghost use Rattle.std.specs.Prelude.{◌≡◌, ◌∷◌, [], IfOk, map, unwrap_or};
 ghost use Rattle.profile_rules.specs.MemoryRules.{pointee_of};
-ghost use Rattle.glsl_ast.specs.View.{expr_of, lvalue_of, step_of};
+ghost use Rattle.glsl_ast.specs.View.{name_text, expr_of, lvalue_of, step_of};
 ghost use Rattle.expr_forward.specs.Paths.{name_in, base_text, place_text as place_text_of, place_expr as place_expr_of, further as further_of, steps_text};
 ghost use Rattle.expr_forward.specs.Context.{setting_of};
 
 use crate::Context;
 use access_paths::Step;
 use constant_text::name;
-use glsl_ast::{Expr, LStep, LValue};
+use glsl_ast::{Expr, LStep, LValue, Name};
 use name_alloc::Key;
 use spv_module::Id;
 use spv_words::Memory;
@@ -16,12 +16,12 @@ use std::alloc::Global;
 
 /// The name that an expression is, and nothing of another.
 #[tactic(auto, using(glsl_ast::proofs::Views::expr_rows))]
-fn name_of(alloc: Global, expr: &Expr) -> Result<String, Memory>
-    ensures { IfOk result (λ w. string_bytes w ≡ name_in (expr_of expr.now)) }
+fn name_of(alloc: Global, expr: &Expr) -> Result<Name, Memory>
+    ensures { IfOk result (λ w. name_text w ≡ name_in (expr_of expr.now)) }
 {
     match expr {
-        Expr::Name(name) => Ok(name.clone()?),
-        _ => Ok(String::new(alloc)),
+        Expr::Name(name) => Ok(name.shared()?),
+        _ => Ok(Name::from_str(alloc, "")?),
     }
 }
 
@@ -38,6 +38,7 @@ pub(crate) fn further(alloc: Global, of: Expr, step: LStep) -> Result<Expr, Memo
 }
 
 /// What steps lead to.
+#[inline(always)]
 #[tactic(auto, using(crate::proofs::Further::further_rules))]
 pub(crate) fn walked(alloc: Global, from: Expr, steps: Vec<LStep>) -> Result<Expr, Memory>
     ensures { IfOk result (λ e. expr_of e ≡ further_of (expr_of from) (map step_of steps.items)) }
@@ -54,8 +55,8 @@ pub(crate) fn walked(alloc: Global, from: Expr, steps: Vec<LStep>) -> Result<Exp
 
 impl Context<'_, '_> {
     /// The name of what a path leads from: that of what is built in, else its own.
-    fn base_name(&self, alloc: Global, id: Id) -> Result<String, Memory>
-        ensures { IfOk result (λ w. string_bytes w ≡ base_text (setting_of self.now) id.0) }
+    fn base_name(&self, alloc: Global, id: Id) -> Result<Name, Memory>
+        ensures { IfOk result (λ w. name_text w ≡ base_text (setting_of self.now) id.0) }
     {
         match self.globals.of(id) {
             Some(expr) => name_of(alloc, expr),

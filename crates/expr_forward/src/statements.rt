@@ -52,6 +52,7 @@ impl Context<'_, '_> {
         count
     }
 
+    #[inline(never)]
     fn add_load(
         &self,
         alloc: Global,
@@ -65,6 +66,7 @@ impl Context<'_, '_> {
         self.add_result(alloc, into, inst, place)
     }
 
+    #[inline(never)]
     #[tactic(auto, using(glsl_ast::proofs::Views::stmt_rows))]
     fn add_store(
         &self,
@@ -82,6 +84,7 @@ impl Context<'_, '_> {
     }
 
     /// Adds the value of an operation, where it has a variable.
+    #[inline(always)]
     fn add_value(
         &self,
         alloc: Global,
@@ -130,6 +133,7 @@ impl Context<'_, '_> {
         Ok(())
     }
 
+    #[inline(never)]
     fn add_captures(&self, alloc: Global, into: &mut Vec<Stmt>, inst: &Inst) -> Result<(), Memory>
         ensures { OnOk result (map stmt_of into.new.items ≡ map stmt_of into.old.items ++ chain_text (scope_of self.now) inst.now) }
     {
@@ -140,6 +144,7 @@ impl Context<'_, '_> {
     }
 
     /// Adds the statements of an instruction. A value without a variable has none.
+    #[inline(always)]
     fn add_inst(
         &self,
         alloc: Global,

@@ -8,7 +8,7 @@ ghost use Rattle.expr_forward.specs.Context.{setting_of};
 use crate::Context;
 use access_paths::Step;
 use constant_text::{Reading, is_constant, name, scalar_type};
-use glsl_ast::{Expr, LStep, Literal};
+use glsl_ast::{Expr, LStep, Literal, Name};
 use name_alloc::Key;
 use spv_module::{Elem, Id, Inst};
 use spv_words::Memory;
@@ -91,7 +91,7 @@ impl Context<'_, '_> {
         let size = self.vector_size(ty);
         match self.word_at(id) {
             Some(k) if k < size => {
-                let component = String::from_str(alloc, component_text(k))?;
+                let component = Name::from_str(alloc, component_text(k))?;
                 Ok(LStep::Member(component))
             }
             Some(_) | None => Ok(LStep::Index(self.index_expr(alloc, id)?)),
@@ -164,14 +164,14 @@ impl Context<'_, '_> {
 
     /// The step from a composite of a type to the part with a number.
     #[tactic(auto, using(glsl_ast::proofs::Views::expr_rows))]
-    fn part_step(&self, alloc: Global, ty: u32, k: u32) -> Result<LStep, Memory>
+    pub(crate) fn part_step(&self, alloc: Global, ty: u32, k: u32) -> Result<LStep, Memory>
         ensures { IfOk result (λ s. step_of s ≡ part_step_of (setting_of self.now) ty k) }
     {
         let op = self.module().global(Id(ty)).map_or(0, |inst| inst.op);
         match op {
             // OpTypeVector, OpTypeStruct
             23 => {
-                let component = String::from_str(alloc, component_text(k))?;
+                let component = Name::from_str(alloc, component_text(k))?;
                 Ok(LStep::Member(component))
             }
             30 => {

@@ -3,8 +3,10 @@ ghost use Rattle.std.specs.Prelude.{◌≡◌, ◌∷◌, [], IfOk, map};
 ghost use Rattle.glsl_ast.specs.Tree.{build, exprs_in, length_of as length_tree, type_name, uint};
 ghost use Rattle.glsl_ast.specs.View.{expr_of};
 ghost use Rattle.spv_index.specs.Locals.{inst_in};
+ghost use Rattle.int_lowering.specs.Operand.{as_elem};
+ghost use Rattle.int_lowering.specs.Operator.{operated as operated_on, shift_amount};
 ghost use Rattle.vec_lowering.specs.Composite.{argument_of};
-ghost use Rattle.expr_forward.specs.Context.{operand, scope_of};
+ghost use Rattle.expr_forward.specs.Context.{basic_in, operand, read_operand, scope_of};
 ghost use Rattle.expr_forward.specs.Values.{argument as argument_in, by_form, construction_text, deepest, expression as expression_of, extraction_text, forwarded as forwarded_of, length_text, logical_copy_text, operation_text, value as value_of, value_in as value_in_of, variable as variable_of, whole_argument as whole_argument_in};
 
 use crate::operands::{after_one, after_two, literal_words, value_words};
@@ -13,12 +15,12 @@ use crate::{Context, OperationKind};
 use constant_text::name;
 use glsl_ast::{Base, Expr, LStep, TypeName};
 use hoist_plan::Form;
-use int_lowering::Arg;
+use int_lowering::{Arg, BasicType, Operator, basic_type, convert, literal, modulo_32};
 use name_alloc::Key;
-use spv_module::{Id, Inst};
+use spv_module::{Elem, Id, Inst};
 use spv_words::Memory;
 use std::alloc::Global;
-use vec_lowering::lower_vector;
+use vec_lowering::{lower_vector, operator};
 
 // A value whose expression would be higher has a variable.
 const DEEPEST: u32 = 17;
@@ -91,6 +93,7 @@ impl Context<'_, '_> {
     }
 
     /// The expression of an operation, in the block at a place.
+    #[inline(never)]
     pub(crate) fn expression(
         &self,
         alloc: Global,
@@ -124,7 +127,10 @@ impl Context<'_, '_> {
             OperationKind::Extended => {
                 self.lowered(alloc, block, deep, inst.operand(1), inst, after_two(args))
             }
-            OperationKind::Plain => self.lowered(alloc, block, deep, 0, inst, args),
+            OperationKind::Plain => match args {
+                [a, b] => self.on_two(alloc, block, deep, inst, Id(*a), Id(*b)),
+                _ => self.lowered(alloc, block, deep, 0, inst, args),
+            },
         }
     }
 
@@ -156,9 +162,11 @@ impl Context<'_, '_> {
     {
         let composite = Id(inst.operand(0));
         let of = self.value_in(alloc, block, deep, composite)?;
-        let literals = after_one(inst.args.as_slice());
-        let steps = self.part_steps(alloc, self.type_of(composite), literals)?;
-        walked(alloc, of, steps)
+        let ty = self.type_of(composite);
+        match after_one(inst.args.as_slice()) {
+            [k] => further(alloc, of, self.part_step(alloc, ty, *k)?),
+            literals => walked(alloc, of, self.part_steps(alloc, ty, literals)?),
+        }
     }
 
     /// A constructor of the operands (GLSL 4.60, section 5.4).
@@ -249,6 +257,116 @@ impl Context<'_, '_> {
         lower_vector(
             alloc, inst.op, number, shape, operands, literals, self.names,
         )
+    }
+
+    /// The type of the values of a scalar or vector type, where those of another are known.
+    #[inline(always)]
+    fn basic_like(&self, ty: u32, known: u32, of: BasicType) -> BasicType
+        requires { of ≡ basic_in (scope_of self.now) known }
+        ensures { result ≡ basic_in (scope_of self.now) ty }
+    {
+        if ty == known {
+            of
+        } else {
+            basic_type(&self.basic_shape(ty))
+        }
+    }
+
+    /// An operation on two operands: their operator, where it is written with one.
+    #[cycle(value)]
+    #[inline(always)]
+    fn on_two(
+        &self,
+        alloc: Global,
+        block: usize,
+        deep: u32,
+        inst: &Inst,
+        a: Id,
+        b: Id,
+    ) -> Result<Expr, Memory>
+        ensures { IfOk result (λ e. expr_of e ≡ operation_text (scope_of self.now) (value_in_of (scope_of self.now) block deep) 0 inst.now (a.0 ∷ b.0 ∷ [])) }
+    {
+        let ty = basic_type(&self.basic_shape(inst.ty));
+        match operator(inst.op, ty) {
+            Some(operator) => self.operated(alloc, block, deep, operator, inst.ty, ty, a, b),
+            None => self.lowered(alloc, block, deep, 0, inst, &[a.0, b.0]),
+        }
+    }
+
+    /// An operator over two operands, as a value of a type.
+    #[cycle(value)]
+    #[inline(always)]
+    fn operated(
+        &self,
+        alloc: Global,
+        block: usize,
+        deep: u32,
+        operator: Operator,
+        known: u32,
+        ty: BasicType,
+        a: Id,
+        b: Id,
+    ) -> Result<Expr, Memory>
+        requires { ty ≡ basic_in (scope_of self.now) known }
+        ensures { IfOk result (λ e. expr_of e ≡ operated_on operator ty (read_operand (scope_of self.now) (value_in_of (scope_of self.now) block deep) a.0) (read_operand (scope_of self.now) (value_in_of (scope_of self.now) block deep) b.0)) }
+    {
+        let left = self.operand_as(alloc, block, deep, operator.elem, known, ty, a)?;
+        let left = Box::new(alloc, left)?;
+        let right = if operator.shifts {
+            self.amount(alloc, block, deep, known, ty, b)?
+        } else {
+            self.operand_as(alloc, block, deep, operator.elem, known, ty, b)?
+        };
+        operator.over(alloc, ty, left, Box::new(alloc, right)?)
+    }
+
+    /// A shift amount: the literal of a constant below 32, else taken modulo 32.
+    #[cycle(value)]
+    fn amount(
+        &self,
+        alloc: Global,
+        block: usize,
+        deep: u32,
+        known: u32,
+        ty: BasicType,
+        id: Id,
+    ) -> Result<Expr, Memory>
+        requires { ty ≡ basic_in (scope_of self.now) known }
+        ensures { IfOk result (λ e. expr_of e ≡ shift_amount (read_operand (scope_of self.now) (value_in_of (scope_of self.now) block deep) id.0)) }
+    {
+        match self.word_at(id) {
+            Some(word) if word < 32 => Ok(literal(Elem::Uint, word)),
+            _ => {
+                let of = self.operand_as(alloc, block, deep, Elem::Uint, known, ty, id)?;
+                modulo_32(alloc, of)
+            }
+        }
+    }
+
+    /// An operand as components of a type: the literal of a constant, else its value or a constructor.
+    #[cycle(value)]
+    fn operand_as(
+        &self,
+        alloc: Global,
+        block: usize,
+        deep: u32,
+        elem: Elem,
+        known: u32,
+        ty: BasicType,
+        id: Id,
+    ) -> Result<Expr, Memory>
+        requires { ty ≡ basic_in (scope_of self.now) known }
+        ensures { IfOk result (λ e. expr_of e ≡ as_elem elem (read_operand (scope_of self.now) (value_in_of (scope_of self.now) block deep) id.0)) }
+    {
+        match self.word_at(id) {
+            Some(word) => Ok(literal(elem, word)),
+            None => {
+                let from = self.basic_like(self.type_of(id), known, ty);
+                let size = from.size;
+                let of = self.value_in(alloc, block, deep, id)?;
+                convert(alloc, BasicType { elem, size }, from.elem, of)
+            }
+        }
     }
 
     /// The operands of an operation on scalars and vectors.

@@ -29,7 +29,8 @@ use Rattle.int_lowering.specs.declared.built_ins.BuiltIn.TheVariants as built_in
 use Rattle.int_lowering.specs.Operand.{Operand, base_named, type_named, same_elem, converted, as_elem, as_int, with_elem, first, rest, second, third, fourth, highest_operand}
 use Rattle.int_lowering.specs.Term.{call_built_in, unsigned_literal}
 use Rattle.int_lowering.specs.Division.{is_negative, magnitude, quotient, remainder, signed_quotient, signed_remainder, signed_modulo, signs, of_like_signs, of_unlike_signs}
-use Rattle.int_lowering.specs.Lowered.{both_as, function_of_both, function_of, modulo_32, shift_amount, shifted, unary, binary, comparison, compared_as_they_are, logical, clamped, clamp, extracted, inserted, written, applied, written_if_any, lowered_basic}
+use Rattle.int_lowering.specs.Operator.{modulo_32, shift_amount}
+use Rattle.int_lowering.specs.Lowered.{both_as, function_of_both, function_of, unary, binary, comparison, compared_as_they_are, logical, clamped, clamp, extracted, inserted, written, applied, written_if_any, lowered_basic}
 
 -- n + k + 1 is n + (k + 1), and what is below the one is below the other
 within-le : (m k n : ℕ) → m ≤ k → k ≤ n → m ≤ n
@@ -78,6 +79,10 @@ masked-le s n h = omega (arith, as_elem-le elem.Uint s n h)
 amount-le : (word : Option ℕ) (ty : BasicType) (of : Expr) (n : ℕ) → height of ≤ n → height (shift_amount (record { expr = of; ty = ty; word = word })) ≤ n + 3
 amount-le (Some w) ty of n h = choice-le _ (unsigned_literal w) (modulo_32 (record { expr = of; ty = ty; word = Some w })) (n + 3) (omega arith) (masked-le (record { expr = of; ty = ty; word = Some w }) n h)
 amount-le None ty of n h = masked-le (record { expr = of; ty = ty; word = None }) n h
+
+-- a shift of an operand as components of a type
+abbrev shifted : Elem → BinOp → Operand → Operand → Expr
+shifted e o a s = tree.binary o (as_elem e a) (shift_amount s)
 
 shifted-le : (e : Elem) (o : BinOp) (a s : Operand) (n : ℕ) → height a.expr ≤ n → height s.expr ≤ n → height (shifted e o a s) ≤ n + 4
 shifted-le e o a s n p q = omega (arith, as_elem-le e a n p, amount-le s.word s.ty s.expr n q)

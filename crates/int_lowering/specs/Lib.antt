@@ -1,4 +1,5 @@
 pub mod Operand
 pub mod Term
+pub mod Operator
 pub mod Division
 pub mod Lowered

@@ -1,18 +1,18 @@
 -- The expression of each operation on scalars, which stands for vectors too where GLSL's operators do (GLSL 4.60, section 5.9).
-use Rattle.std.specs.Prelude.{ℕ, nat_lt, List, [], ◌∷◌, Option, Some, None, if◌then◌else◌}
+use Rattle.std.specs.Prelude.{ℕ, List, [], ◌∷◌, Option, Some, None, if◌then◌else◌}
 use Rattle.spv_module.specs.declared.tree.Elem.{Elem}
 use Rattle.spv_module.specs.declared.tree.Elem.TheVariants as elem
 use Rattle.glsl_ast.specs.Tree.{Expr, literal, not, flip, choose}
 use Rattle.glsl_ast.specs.Tree as tree
 use Rattle.glsl_ast.specs.declared.expressions.BinOp.{BinOp}
-use Rattle.glsl_ast.specs.declared.expressions.BinOp.TheVariants.{Add, Sub, Mul, Div, Rem, Shl, Shr, And, Or, Xor, Less, LessEqual, Greater, GreaterEqual, Equal, NotEqual, Both, Either}
+use Rattle.glsl_ast.specs.declared.expressions.BinOp.TheVariants.{Sub, Equal, NotEqual, Both, Either}
 use Rattle.op_semantics.specs.Value.{operation_of}
 use Rattle.op_semantics.specs.declared.operation.Unary.{Unary}
 use Rattle.op_semantics.specs.declared.operation.Unary.TheVariants.{SNegate, Not, BitReverse, BitCount, SAbs, SSign, FindILsb, FindSMsb, FindUMsb}
 use Rattle.op_semantics.specs.declared.operation.Binary.{Binary}
-use Rattle.op_semantics.specs.declared.operation.Binary.TheVariants.{IAdd, ISub, IMul, UDiv, SDiv, UMod, SRem, SMod, ShiftRightLogical, ShiftRightArithmetic, ShiftLeftLogical, BitwiseOr, BitwiseXor, BitwiseAnd, UMin, SMin, UMax, SMax}
+use Rattle.op_semantics.specs.declared.operation.Binary.TheVariants.{SDiv, SRem, SMod, UMin, SMin, UMax, SMax}
 use Rattle.op_semantics.specs.declared.operation.Comparison.{Comparison}
-use Rattle.op_semantics.specs.declared.operation.Comparison.TheVariants.{IEqual, INotEqual, UGreaterThan, SGreaterThan, UGreaterThanEqual, SGreaterThanEqual, ULessThan, SLessThan, ULessThanEqual, SLessThanEqual}
+use Rattle.op_semantics.specs.declared.operation.Comparison.TheVariants.{INotEqual}
 use Rattle.op_semantics.specs.declared.operation.Logical.{Logical}
 use Rattle.op_semantics.specs.declared.operation.Logical.TheVariants.{LogicalEqual, LogicalNotEqual, LogicalOr, LogicalAnd}
 use Rattle.op_semantics.specs.declared.operation.Clamp.{Clamp}
@@ -22,8 +22,10 @@ use Rattle.op_semantics.specs.declared.operation.Operation.TheVariants as op
 use Rattle.int_lowering.specs.declared.basic.BasicType.{BasicType}
 use Rattle.int_lowering.specs.declared.built_ins.BuiltIn.{BuiltIn}
 use Rattle.int_lowering.specs.declared.built_ins.BuiltIn.TheVariants as built_in
-use Rattle.int_lowering.specs.Operand.{Operand, scalar, literal_of, same_elem, converted, as_elem, as_uint, as_int, first, second, third, fourth}
-use Rattle.int_lowering.specs.Term.{call_built_in, unsigned_literal}
+use Rattle.int_lowering.specs.Operand.{Operand, scalar, literal_of, same_elem, converted, as_elem, as_int, first, second, third, fourth}
+use Rattle.int_lowering.specs.Term.{call_built_in}
+use Rattle.int_lowering.specs.declared.operators.Operator.{Operator}
+use Rattle.int_lowering.specs.Operator.{arithmetic_operator, comparison_operator, operated}
 use Rattle.int_lowering.specs.Division.{magnitude, signed_quotient, signed_remainder, signed_modulo}
 
 -- an operator on both operands as components of a type, and a function of both
@@ -35,16 +37,6 @@ function_of_both e f a b = call_built_in f (as_elem e a ∷ as_elem e b ∷ [])
 
 abbrev pub function_of : Elem → BuiltIn → Operand → Expr
 function_of e f a = call_built_in f (as_elem e a ∷ [])
-
--- a shift amount: the literal of a constant below 32, else taken modulo 32
-abbrev pub modulo_32 : Operand → Expr
-modulo_32 s = tree.binary And (as_uint s) (unsigned_literal 31)
-
-abbrev pub shift_amount : Operand → Expr
-shift_amount s = elim s.word [ Some w ↦ (if nat_lt w 32 then unsigned_literal w else modulo_32 s) | None ↦ modulo_32 s ]
-
-abbrev pub shifted : Elem → BinOp → Operand → Operand → Expr
-shifted e o a s = tree.binary o (as_elem e a) (shift_amount s)
 
 -- an operation on one operand, from the type of its result
 abbrev pub unary : Unary → BasicType → Operand → Expr
@@ -58,41 +50,42 @@ unary FindILsb ty a = converted ty elem.Int (function_of elem.Uint built_in.Find
 unary FindSMsb ty a = converted ty elem.Int (function_of elem.Int built_in.FindMsb a)
 unary FindUMsb ty a = converted ty elem.Int (function_of elem.Uint built_in.FindMsb a)
 
+-- the zero of a scalar type
+abbrev pub zero : BasicType → Expr
+zero ty = literal (literal_of ty.elem 0)
+
+-- an operation on two operands that is no operator, from the type of its result
+abbrev pub called : Binary → BasicType → Operand → Operand → Expr
+called SDiv ty a b = converted ty elem.Uint (signed_quotient a b)
+called SRem ty a b = converted ty elem.Uint (signed_remainder a b)
+called SMod ty a b = converted ty elem.Uint (signed_modulo a b)
+called UMin ty a b = converted ty elem.Uint (function_of_both elem.Uint built_in.Min a b)
+called SMin ty a b = converted ty elem.Int (function_of_both elem.Int built_in.Min a b)
+called UMax ty a b = converted ty elem.Uint (function_of_both elem.Uint built_in.Max a b)
+called SMax ty a b = converted ty elem.Int (function_of_both elem.Int built_in.Max a b)
+called _ ty a b = zero ty
+
+abbrev pub binary_by : Option Operator → Binary → BasicType → Operand → Operand → Expr
+binary_by (Some o) op ty a b = operated o ty a b
+binary_by None op ty a b = called op ty a b
+
 abbrev pub binary : Binary → BasicType → Operand → Operand → Expr
-binary IAdd ty a b = both_as ty.elem Add a b
-binary ISub ty a b = both_as ty.elem Sub a b
-binary IMul ty a b = both_as ty.elem Mul a b
-binary UDiv ty a b = converted ty elem.Uint (both_as elem.Uint Div a b)
-binary SDiv ty a b = converted ty elem.Uint (signed_quotient a b)
-binary UMod ty a b = converted ty elem.Uint (both_as elem.Uint Rem a b)
-binary SRem ty a b = converted ty elem.Uint (signed_remainder a b)
-binary SMod ty a b = converted ty elem.Uint (signed_modulo a b)
-binary ShiftRightLogical ty a s = converted ty elem.Uint (shifted elem.Uint Shr a s)
-binary ShiftRightArithmetic ty a s = converted ty elem.Int (shifted elem.Int Shr a s)
-binary ShiftLeftLogical ty a s = shifted ty.elem Shl a s
-binary BitwiseOr ty a b = both_as ty.elem Or a b
-binary BitwiseXor ty a b = both_as ty.elem Xor a b
-binary BitwiseAnd ty a b = both_as ty.elem And a b
-binary UMin ty a b = converted ty elem.Uint (function_of_both elem.Uint built_in.Min a b)
-binary SMin ty a b = converted ty elem.Int (function_of_both elem.Int built_in.Min a b)
-binary UMax ty a b = converted ty elem.Uint (function_of_both elem.Uint built_in.Max a b)
-binary SMax ty a b = converted ty elem.Int (function_of_both elem.Int built_in.Max a b)
+binary o ty a b = binary_by (arithmetic_operator o ty.elem) o ty a b
 
 -- equal words are compared as they are where they are of one type
 abbrev pub compared_as_they_are : BinOp → Operand → Operand → Expr
 compared_as_they_are o a b = if same_elem a.ty.elem b.ty.elem then tree.binary o a.expr b.expr else both_as elem.Uint o a b
 
+abbrev pub compared : Comparison → Operand → Operand → Expr
+compared INotEqual a b = compared_as_they_are NotEqual a b
+compared _ a b = compared_as_they_are Equal a b
+
+abbrev pub comparison_by : Option Operator → Comparison → Operand → Operand → Expr
+comparison_by (Some o) op a b = operated o (scalar elem.Bool) a b
+comparison_by None op a b = compared op a b
+
 abbrev pub comparison : Comparison → Operand → Operand → Expr
-comparison IEqual a b = compared_as_they_are Equal a b
-comparison INotEqual a b = compared_as_they_are NotEqual a b
-comparison UGreaterThan a b = both_as elem.Uint Greater a b
-comparison SGreaterThan a b = both_as elem.Int Greater a b
-comparison UGreaterThanEqual a b = both_as elem.Uint GreaterEqual a b
-comparison SGreaterThanEqual a b = both_as elem.Int GreaterEqual a b
-comparison ULessThan a b = both_as elem.Uint Less a b
-comparison SLessThan a b = both_as elem.Int Less a b
-comparison ULessThanEqual a b = both_as elem.Uint LessEqual a b
-comparison SLessThanEqual a b = both_as elem.Int LessEqual a b
+comparison o a b = comparison_by (comparison_operator o) o a b
 
 abbrev pub logical : Logical → Operand → Operand → Expr
 logical LogicalEqual a b = tree.binary Equal a.expr b.expr
@@ -107,10 +100,6 @@ clamped e x low high = call_built_in built_in.Min (function_of_both e built_in.M
 abbrev pub clamp : Clamp → BasicType → Operand → Operand → Operand → Expr
 clamp UClamp ty x low high = converted ty elem.Uint (clamped elem.Uint x low high)
 clamp SClamp ty x low high = converted ty elem.Int (clamped elem.Int x low high)
-
--- the zero of a scalar type
-abbrev pub zero : BasicType → Expr
-zero ty = literal (literal_of ty.elem 0)
 
 -- a bit field, read with or without a sign
 abbrev pub extracted : Elem → BasicType → Operand → Operand → Operand → Expr

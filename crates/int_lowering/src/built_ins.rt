@@ -1,10 +1,10 @@
 // The functions that GLSL has.
-ghost use Rattle.std.specs.Prelude.{◌≡◌, IfOk, List, string_bytes};
+ghost use Rattle.std.specs.Prelude.{◌≡◌, IfOk, List};
 ghost use Rattle.glsl_ast.specs.View.{expr_of, exprs_of};
 ghost use Rattle.glsl_ast.specs.Tree.{Expr as Tree, call};
 ghost use Rattle.int_lowering.specs.Term.{built_in_name};
 
-use glsl_ast::Expr;
+use glsl_ast::{Expr, Name};
 use spv_words::Memory;
 use std::alloc::Global;
 
@@ -52,5 +52,5 @@ pub(crate) fn call_built_in(
 ) -> Result<Expr, Memory>
     ensures { IfOk result (λ e. expr_of e ≡ Tree.call (built_in_name function) (exprs_of args.items)) }
 {
-    Expr::call(alloc, String::from_str(alloc, spelling(function))?, args)
+    Expr::call(alloc, Name::from_str(alloc, spelling(function))?, args)
 }

@@ -8,10 +8,12 @@ mod division;
 mod instructions;
 mod operands;
 mod operations;
+mod operators;
 mod terms;
 
 pub use basic::{BasicType, basic_type, type_name};
 pub use built_ins::BuiltIn;
 pub use instructions::{lower, lower_basic, lower_operation, operation};
 pub use operands::Arg;
-pub use terms::literal;
+pub use operators::{Operator, arithmetic_operator, comparison_operator, modulo_32};
+pub use terms::{convert, literal};

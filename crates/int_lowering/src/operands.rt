@@ -3,8 +3,10 @@ ghost use Rattle.std.specs.Prelude.{◌≡◌, IfOk, map};
 ghost use Rattle.std.specs.Vec.Iter.{into_iter_items};
 ghost use Rattle.glsl_ast.specs.View.{expr_of};
 ghost use Rattle.int_lowering.specs.Operand.{operand_of, plain, as_elem, missing as absent, first, rest};
+ghost use Rattle.int_lowering.specs.Operator.{shift_amount as amount_of};
 
 use crate::basic::{BasicType, basic_type, same_elem};
+use crate::operators::modulo_32;
 use crate::terms::{convert, literal};
 use glsl_ast::{Expr, Literal};
 use spv_module::{Elem, Shape};
@@ -66,6 +68,7 @@ impl Operand {
     }
 
     /// The operand as components of a type: the literal of a constant, else itself or a constructor.
+    #[inline(always)]
     pub fn into_elem(self, alloc: Global, elem: Elem) -> Result<Expr, Memory>
         ensures { IfOk result (λ e. expr_of e ≡ as_elem elem (plain self)) }
     {
@@ -126,4 +129,24 @@ pub fn next_boxed(alloc: Global, args: &mut IntoIter<Arg>, elem: Elem) -> Result
         Some(arg) => Operand::new(arg).into_boxed(alloc, elem),
         None => missing_boxed(alloc, elem),
     }
+}
+
+/// A shift amount: the literal of a constant below 32, else taken modulo 32.
+#[inline(always)]
+fn shift_amount(alloc: Global, amount: Operand) -> Result<Expr, Memory>
+    ensures { IfOk result (λ e. expr_of e ≡ amount_of (plain amount)) }
+{
+    match amount.word {
+        Some(word) if word < 32 => Ok(literal(Elem::Uint, word)),
+        _ => modulo_32(alloc, amount.into_elem(alloc, Elem::Uint)?),
+    }
+}
+
+/// The next operand as a shift amount.
+pub fn next_amount(alloc: Global, args: &mut IntoIter<Arg>) -> Result<Box<Expr>, Memory>
+    ensures boxed { IfOk result (λ e. expr_of e.value ≡ amount_of (first (map operand_of (into_iter_items args.old)))) }
+    ensures rest { map operand_of (into_iter_items args.new) ≡ rest (map operand_of (into_iter_items args.old)) }
+{
+    let amount = shift_amount(alloc, next_operand(args))?;
+    Ok(Box::new(alloc, amount)?)
 }

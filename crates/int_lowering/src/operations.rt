@@ -3,9 +3,9 @@ ghost use Rattle.std.specs.Prelude.{◌≡◌, ◌∷◌, [], IfOk, map};
 ghost use Rattle.std.specs.Vec.Iter.{into_iter_items};
 ghost use Rattle.glsl_ast.specs.View.{expr_of};
 ghost use Rattle.glsl_ast.specs.Tree as tree;
-ghost use Rattle.glsl_ast.specs.declared.expressions.BinOp.TheVariants.{Shr};
 ghost use Rattle.op_semantics.specs.declared.operation.Unary.TheVariants.{BitCount};
 ghost use Rattle.spv_module.specs.declared.tree.Elem.TheVariants.{Int, Uint};
+ghost use Rattle.int_lowering.specs.Operator.{second_operand, operated as operated_on};
 ghost use Rattle.int_lowering.specs.Operand.{operand_of, plain, converted, first, second, third, fourth};
 ghost use Rattle.int_lowering.specs.Term.{call_built_in as built_in_called};
 ghost use Rattle.int_lowering.specs.Division as division;
@@ -14,7 +14,8 @@ ghost use Rattle.int_lowering.specs.Lowered as lowered;
 use crate::basic::{BasicType, same_elem};
 use crate::built_ins::{BuiltIn, call_built_in};
 use crate::division::{magnitude, signed_modulo, signed_quotient, signed_remainder};
-use crate::operands::{Arg, Operand, next_boxed, next_operand};
+use crate::operands::{Arg, Operand, next_amount, next_boxed, next_operand};
+use crate::operators::{Operator, arithmetic_operator, comparison_operator};
 use crate::terms::{binary, call_one, call_two, choose, convert, flip, literal, not};
 use glsl_ast::{BinOp, Expr};
 use op_semantics::{Binary, Clamp, Comparison, Logical, Unary};
@@ -23,13 +24,34 @@ use spv_words::Memory;
 use std::alloc::Global;
 use std::vec::IntoIter;
 
-/// An operator on two operands as components of a type.
-#[tactic(auto, using(glsl_ast::proofs::Views::expr_rows))]
-fn both_as(alloc: Global, elem: Elem, op: BinOp, args: &mut IntoIter<Arg>) -> Result<Expr, Memory>
-    ensures { IfOk result (λ e. expr_of e ≡ lowered.both_as elem op (first (map operand_of (into_iter_items args.old))) (second (map operand_of (into_iter_items args.old)))) }
+/// The next operand, as an operator reads its second one.
+#[inline(always)]
+fn next_second(
+    alloc: Global,
+    operator: Operator,
+    args: &mut IntoIter<Arg>,
+) -> Result<Box<Expr>, Memory>
+    ensures { IfOk result (λ e. expr_of e.value ≡ second_operand operator (first (map operand_of (into_iter_items args.old)))) }
 {
-    let left = next_boxed(alloc, args, elem)?;
-    Ok(Expr::Binary(op, left, next_boxed(alloc, args, elem)?))
+    if operator.shifts {
+        next_amount(alloc, args)
+    } else {
+        next_boxed(alloc, args, operator.elem)
+    }
+}
+
+/// An operator on two operands, as a value of this type.
+fn operated(
+    alloc: Global,
+    operator: Operator,
+    ty: BasicType,
+    args: &mut IntoIter<Arg>,
+) -> Result<Expr, Memory>
+    ensures { IfOk result (λ e. expr_of e ≡ operated_on operator ty (first (map operand_of (into_iter_items args.old))) (second (map operand_of (into_iter_items args.old)))) }
+{
+    let left = next_boxed(alloc, args, operator.elem)?;
+    let right = next_second(alloc, operator, args)?;
+    operator.over(alloc, ty, left, right)
 }
 
 /// A function of two operands as components of a type.
@@ -44,37 +66,6 @@ fn function_of_both(
 {
     let left = a.into_elem(alloc, elem)?;
     call_two(alloc, function, left, b.into_elem(alloc, elem)?)
-}
-
-/// An operand modulo 32.
-#[tactic(auto, using(glsl_ast::proofs::Views::expr_rows))]
-fn modulo_32(alloc: Global, amount: Operand) -> Result<Expr, Memory>
-    ensures { IfOk result (λ e. expr_of e ≡ lowered.modulo_32 (plain amount)) }
-{
-    let amount = amount.into_boxed(alloc, Elem::Uint)?;
-    let mask = Box::new(alloc, literal(Elem::Uint, 31))?;
-    Ok(Expr::Binary(BinOp::And, amount, mask))
-}
-
-/// A shift amount: the literal of a constant below 32, else taken modulo 32.
-#[inline(always)]
-fn shift_amount(alloc: Global, amount: Operand) -> Result<Expr, Memory>
-    ensures { IfOk result (λ e. expr_of e ≡ lowered.shift_amount (plain amount)) }
-{
-    match amount.word {
-        Some(word) if word < 32 => Ok(literal(Elem::Uint, word)),
-        _ => modulo_32(alloc, amount),
-    }
-}
-
-/// A shift of an operand as components of a type.
-#[tactic(auto, using(glsl_ast::proofs::Views::expr_rows))]
-fn shift(alloc: Global, elem: Elem, op: BinOp, args: &mut IntoIter<Arg>) -> Result<Expr, Memory>
-    ensures { IfOk result (λ e. expr_of e ≡ lowered.shifted elem op (first (map operand_of (into_iter_items args.old))) (second (map operand_of (into_iter_items args.old)))) }
-{
-    let left = next_boxed(alloc, args, elem)?;
-    let amount = shift_amount(alloc, next_operand(args))?;
-    Ok(Expr::Binary(op, left, Box::new(alloc, amount)?))
 }
 
 /// A function of an operand as components of a type.
@@ -132,33 +123,6 @@ pub fn unary(
     }
 }
 
-/// An operator on two operands as components of a type, converted to the type of the result.
-fn converted_both(
-    alloc: Global,
-    ty: BasicType,
-    elem: Elem,
-    op: BinOp,
-    args: &mut IntoIter<Arg>,
-) -> Result<Expr, Memory>
-    ensures { IfOk result (λ e. expr_of e ≡ converted ty elem (lowered.both_as elem op (first (map operand_of (into_iter_items args.old))) (second (map operand_of (into_iter_items args.old))))) }
-{
-    let of = both_as(alloc, elem, op, args)?;
-    convert(alloc, ty, elem, of)
-}
-
-/// A shift to the right, converted to the type of the result.
-fn converted_shift(
-    alloc: Global,
-    ty: BasicType,
-    elem: Elem,
-    args: &mut IntoIter<Arg>,
-) -> Result<Expr, Memory>
-    ensures { IfOk result (λ e. expr_of e ≡ converted ty elem (lowered.shifted elem Shr (first (map operand_of (into_iter_items args.old))) (second (map operand_of (into_iter_items args.old))))) }
-{
-    let of = shift(alloc, elem, BinOp::Shr, args)?;
-    convert(alloc, ty, elem, of)
-}
-
 /// A function of two operands as components of a type, converted to the type of the result.
 fn converted_function(
     alloc: Global,
@@ -209,6 +173,37 @@ fn converted_modulo(alloc: Global, ty: BasicType, args: &mut IntoIter<Arg>) -> R
     convert(alloc, ty, Elem::Uint, of)
 }
 
+/// The operation on two operands that is no operator, from the type of its result.
+fn called(
+    alloc: Global,
+    op: Binary,
+    ty: BasicType,
+    args: &mut IntoIter<Arg>,
+) -> Result<Expr, Memory>
+    ensures { IfOk result (λ e. expr_of e ≡ lowered.called op ty (first (map operand_of (into_iter_items args.old))) (second (map operand_of (into_iter_items args.old)))) }
+{
+    match op {
+        Binary::SDiv => converted_quotient(alloc, ty, args),
+        Binary::SRem => converted_remainder(alloc, ty, args),
+        Binary::SMod => converted_modulo(alloc, ty, args),
+        Binary::UMin => converted_function(alloc, ty, Elem::Uint, BuiltIn::Min, args),
+        Binary::SMin => converted_function(alloc, ty, Elem::Int, BuiltIn::Min, args),
+        Binary::UMax => converted_function(alloc, ty, Elem::Uint, BuiltIn::Max, args),
+        Binary::SMax => converted_function(alloc, ty, Elem::Int, BuiltIn::Max, args),
+        Binary::IAdd
+        | Binary::ISub
+        | Binary::IMul
+        | Binary::UDiv
+        | Binary::UMod
+        | Binary::ShiftRightLogical
+        | Binary::ShiftRightArithmetic
+        | Binary::ShiftLeftLogical
+        | Binary::BitwiseOr
+        | Binary::BitwiseXor
+        | Binary::BitwiseAnd => Ok(literal(ty.elem, 0)),
+    }
+}
+
 /// The operation on two operands, from the type of its result.
 pub fn binary_operation(
     alloc: Global,
@@ -218,25 +213,9 @@ pub fn binary_operation(
 ) -> Result<Expr, Memory>
     ensures { IfOk result (λ e. expr_of e ≡ lowered.binary op ty (first (map operand_of (into_iter_items args.old))) (second (map operand_of (into_iter_items args.old)))) }
 {
-    match op {
-        Binary::IAdd => both_as(alloc, ty.elem, BinOp::Add, args),
-        Binary::ISub => both_as(alloc, ty.elem, BinOp::Sub, args),
-        Binary::IMul => both_as(alloc, ty.elem, BinOp::Mul, args),
-        Binary::UDiv => converted_both(alloc, ty, Elem::Uint, BinOp::Div, args),
-        Binary::UMod => converted_both(alloc, ty, Elem::Uint, BinOp::Rem, args),
-        Binary::SDiv => converted_quotient(alloc, ty, args),
-        Binary::SRem => converted_remainder(alloc, ty, args),
-        Binary::SMod => converted_modulo(alloc, ty, args),
-        Binary::ShiftRightLogical => converted_shift(alloc, ty, Elem::Uint, args),
-        Binary::ShiftRightArithmetic => converted_shift(alloc, ty, Elem::Int, args),
-        Binary::ShiftLeftLogical => shift(alloc, ty.elem, BinOp::Shl, args),
-        Binary::BitwiseOr => both_as(alloc, ty.elem, BinOp::Or, args),
-        Binary::BitwiseXor => both_as(alloc, ty.elem, BinOp::Xor, args),
-        Binary::BitwiseAnd => both_as(alloc, ty.elem, BinOp::And, args),
-        Binary::UMin => converted_function(alloc, ty, Elem::Uint, BuiltIn::Min, args),
-        Binary::SMin => converted_function(alloc, ty, Elem::Int, BuiltIn::Min, args),
-        Binary::UMax => converted_function(alloc, ty, Elem::Uint, BuiltIn::Max, args),
-        Binary::SMax => converted_function(alloc, ty, Elem::Int, BuiltIn::Max, args),
+    match arithmetic_operator(op, ty.elem) {
+        Some(operator) => operated(alloc, operator, ty, args),
+        None => called(alloc, op, ty, args),
     }
 }
 
@@ -254,20 +233,27 @@ fn compared_as_they_are(alloc: Global, op: BinOp, args: &mut IntoIter<Arg>) -> R
     }
 }
 
+/// The comparison of equality, or of difference.
+fn compared(alloc: Global, op: Comparison, args: &mut IntoIter<Arg>) -> Result<Expr, Memory>
+    ensures { IfOk result (λ e. expr_of e ≡ lowered.compared op (first (map operand_of (into_iter_items args.old))) (second (map operand_of (into_iter_items args.old)))) }
+{
+    let op = match op {
+        Comparison::INotEqual => BinOp::NotEqual,
+        _ => BinOp::Equal,
+    };
+    compared_as_they_are(alloc, op, args)
+}
+
 pub fn comparison(alloc: Global, op: Comparison, args: &mut IntoIter<Arg>) -> Result<Expr, Memory>
     ensures { IfOk result (λ e. expr_of e ≡ lowered.comparison op (first (map operand_of (into_iter_items args.old))) (second (map operand_of (into_iter_items args.old)))) }
 {
-    match op {
-        Comparison::IEqual => compared_as_they_are(alloc, BinOp::Equal, args),
-        Comparison::INotEqual => compared_as_they_are(alloc, BinOp::NotEqual, args),
-        Comparison::UGreaterThan => both_as(alloc, Elem::Uint, BinOp::Greater, args),
-        Comparison::SGreaterThan => both_as(alloc, Elem::Int, BinOp::Greater, args),
-        Comparison::UGreaterThanEqual => both_as(alloc, Elem::Uint, BinOp::GreaterEqual, args),
-        Comparison::SGreaterThanEqual => both_as(alloc, Elem::Int, BinOp::GreaterEqual, args),
-        Comparison::ULessThan => both_as(alloc, Elem::Uint, BinOp::Less, args),
-        Comparison::SLessThan => both_as(alloc, Elem::Int, BinOp::Less, args),
-        Comparison::ULessThanEqual => both_as(alloc, Elem::Uint, BinOp::LessEqual, args),
-        Comparison::SLessThanEqual => both_as(alloc, Elem::Int, BinOp::LessEqual, args),
+    let ty = BasicType {
+        elem: Elem::Bool,
+        size: None,
+    };
+    match comparison_operator(op) {
+        Some(operator) => operated(alloc, operator, ty, args),
+        None => compared(alloc, op, args),
     }
 }
 

@@ -1,2 +1,3 @@
 pub mod Parts
 pub mod Heights
+pub mod WithOperator

@@ -3,3 +3,4 @@ pub mod Component
 pub mod Composite
 pub mod Lowered
 pub mod Depth
+pub mod Operators

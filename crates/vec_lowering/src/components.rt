@@ -6,7 +6,7 @@ ghost use Rattle.glsl_ast.specs.Tree.{Expr as Tree};
 ghost use Rattle.int_lowering.specs.Operand.{operand_of, basic_type as basic_type_of, scalar, first};
 ghost use Rattle.vec_lowering.specs.Component as component;
 
-use glsl_ast::Expr;
+use glsl_ast::{Expr, Name};
 use int_lowering::{Arg, BasicType, basic_type, lower_operation, type_name};
 use op_semantics::{Binary, Operation, Unary};
 use spv_module::{Elem, Shape};
@@ -30,7 +30,7 @@ fn axis_text(k: u32) -> &'static str
 pub fn axis(alloc: Global, of: Expr, k: u32) -> Result<Expr, Memory>
     ensures { IfOk result (λ e. expr_of e ≡ Tree.member (expr_of of) (component.axis_name k)) }
 {
-    let name = String::from_str(alloc, axis_text(k))?;
+    let name = Name::from_str(alloc, axis_text(k))?;
     Ok(Expr::Member(Box::new(alloc, of)?, name))
 }
 

@@ -165,6 +165,7 @@ fn write_opcode(
 /// `op` is the opcode, `ext`, of OpExtInst, the number in GLSL.std.450, and `extra` the literals of the instruction. A struct and
 /// a member have the names of their keys. An operand that is not there counts as `0u`, and of an opcode that is none of these
 /// operations the expression is a zero. There is an error only for want of memory.
+#[inline(always)]
 pub fn lower_vector(
     alloc: Global,
     op: u16,

@@ -7,6 +7,8 @@ mod composites;
 mod copies;
 mod instructions;
 mod names;
+mod operators;
 
 pub use instructions::lower_vector;
 pub use names::shape_type;
+pub use operators::operator;

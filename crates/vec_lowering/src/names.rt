@@ -1,25 +1,25 @@
 // The names of structs and members, and of types.
-ghost use Rattle.std.specs.Prelude.{◌≡◌, IfOk, string_bytes};
+ghost use Rattle.std.specs.Prelude.{◌≡◌, IfOk};
 ghost use Rattle.spv_types.specs.View.{tree_of};
 ghost use Rattle.spv_types.specs.Tree.{array};
-ghost use Rattle.glsl_ast.specs.View.{extent_of, type_of};
+ghost use Rattle.glsl_ast.specs.View.{name_text, extent_of, type_of};
 ghost use Rattle.vec_lowering.specs.Named.{naming_of, text_or_none, extent_of_length, array_of, shape_type as type_of_shape};
 
-use glsl_ast::{Base, Extent, TypeName};
+use glsl_ast::{Base, Extent, Name, TypeName};
 use int_lowering::{basic_type, type_name};
 use name_alloc::{Key, Names};
 use spv_module::{Length, Shape};
 use spv_words::Memory;
 use std::alloc::Global;
 
-/// The name of a key, as text of its own.
+/// The name of a key, to stand in the tree.
 #[tactic(auto, unfolding(crate::specs::Named::naming_of))]
-pub(crate) fn name(alloc: Global, names: &Names, key: Key) -> Result<String, Memory>
-    ensures { IfOk result (λ w. string_bytes w ≡ text_or_none (naming_of names.now key)) }
+pub(crate) fn name(alloc: Global, names: &Names, key: Key) -> Result<Name, Memory>
+    ensures { IfOk result (λ w. name_text w ≡ text_or_none (naming_of names.now key)) }
 {
     match names.of(key) {
-        None => Ok(String::new(alloc)),
-        Some(name) => Ok(String::from_str(alloc, name)?),
+        None => Ok(Name::from_str(alloc, "")?),
+        Some(name) => Ok(name.shared()?),
     }
 }
 

@@ -7,10 +7,12 @@ use Rattle.vec_lowering.specs.Named.{naming_of}
 use Rattle.vec_lowering.specs.Composite.{Argument, argument_of}
 use Rattle.vec_lowering.specs.Lowered.{lowered_vector}
 use Rattle.text_rules.specs.Declarations.{shape_at}
-use Rattle.expr_forward.specs.Context.{ContextState, operand, scope_of}
+use Rattle.int_lowering.specs.Operand.{basic_type}
+use Rattle.expr_forward.specs.Context.{ContextState, basic_in, operand, scope_of}
 use Rattle.expr_forward.specs.Values.{value_in, whole_argument}
 use Rattle.expr_forward.specs.Globals.{global_in}
 use Rattle.expr_forward.proofs.Deep.{value_of_global}
+use Rattle.expr_forward.proofs.Operators.{with_operator}
 use Rattle.expr_forward.proofs.context.Context.+value.Goals as goal
 
 pub logical_copy-returns : goal.logical_copy-returns
@@ -28,3 +30,10 @@ value_in-returns-in-Some t c =
     let positive : 0 < c.args.deep = omega arith in
     let value_is = value_of_global (scope_of c.args.self.now) c.args.block c.args.deep c.args.id.0 (expr_of c.in-Some.expr.now) positive there in
     subst (λ (x : Expr). IfOk c.clone_in.result (λ e. expr_of e ≡ x)) (sym value_is) c.clone_in.ensures
+
+pub on_two-returns-in-Some : goal.on_two-returns-in-Some
+on_two-returns-in-Some t c =
+    let w = scope_of c.args.self.now in
+    let same : c.basic_type-ty.result ≡ basic_in w c.args.inst.now.ty = c.basic_type-ty.ensures ∙ ap basic_type c.basic_shape.ensures in
+    let law = with_operator c.args.self.now (value_in w c.args.block c.args.deep) c.args.inst.now c.args.a.0 c.args.b.0 c.in-Some.operator c.basic_type-ty.result same (sym c.in-Some.ensures) in
+    subst (λ (x : Expr). IfOk c.operated.result (λ e. expr_of e ≡ x)) (sym law) c.operated.ensures
