@@ -1,4 +1,6 @@
 pub mod Numbered
+mod Unasked
+mod Spared
 pub mod Singled
 pub mod Firsts
 pub mod Phied
@@ -10,3 +12,4 @@ pub mod Made
 pub mod Pushed
 pub mod Twos
 pub mod One
+pub mod Lone

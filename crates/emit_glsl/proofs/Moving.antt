@@ -77,7 +77,7 @@ or_left : (a x : Bool) → (a || (false || false)) ≡ x → a ≡ x
 or_left true x e = e
 or_left false x e = e
 
-at_is : (a b : ℕ) → is_at (nat_cmp a) b ≡ (a == b)
+pub at_is : (a b : ℕ) → is_at (nat_cmp a) b ≡ (a == b)
 at_is a b = grind (arith, nat_tests)
 
 -- one more of the blocks from which edges come

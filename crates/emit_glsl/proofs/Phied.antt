@@ -10,7 +10,7 @@ use Rattle.emit_glsl.specs.Phis.{is_block, pair_with, comes_from, values_in, giv
 abbrev pub one : List Inst → Function → ℕ → ℕ → ℕ → ℕ → List Pair
 one gs f b r v l = if is_block b (block_in f l) then pair_with gs r (v, l) ∷ [] else []
 
-given_step : (gs : List Inst) (f : Function) (b r v l : ℕ) (rest : List ℕ) → given_words gs f b r (v ∷ l ∷ rest) ≡ one gs f b r v l ++ given_words gs f b r rest
+pub given_step : (gs : List Inst) (f : Function) (b r v l : ℕ) (rest : List ℕ) → given_words gs f b r (v ∷ l ∷ rest) ≡ one gs f b r v l ++ given_words gs f b r rest
 given_step gs f b r v l rest = step (is_block b (block_in f l))
   where
     step : (x : Bool) → map (pair_with gs r) (if x then (v, l) ∷ filter (comes_from f b) (values_in rest) else filter (comes_from f b) (values_in rest)) ≡ (if x then pair_with gs r (v, l) ∷ [] else []) ++ given_words gs f b r rest

@@ -1,4 +1,5 @@
 pub mod Functions
+pub mod Spares
 pub mod Once
 pub mod Phis
 pub mod Moved

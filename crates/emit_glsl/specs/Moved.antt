@@ -42,6 +42,16 @@ AreMovesFor gs form f block moves = (b : ℕ) → IsSequence (firsts (pairs_into
 abbrev pub single : Pair → List Move
 single p = if is_proper p then Set p.0 p.1 ∷ [] else []
 
+-- the move of the first of these pairs
+abbrev pub first_moves : List Pair → List Move
+first_moves [] = []
+first_moves (p ∷ ps) = single p
+
+-- the moves that are there, or else that of the first pair that is left
+abbrev pub left_moves : Option (Vec Move Global) → List Pair → List Move
+left_moves None ps = first_moves ps
+left_moves (Some moves) ps = moves.items
+
 -- two pairs, one copied after the other: the second does not read what the first is given
 abbrev pub go_in_order : Pair → Pair → Bool
 go_in_order p q = is_proper p && (is_proper q && (not (target q == target p) && not (is_var (target p) q.1)))

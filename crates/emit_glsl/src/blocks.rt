@@ -1,8 +1,8 @@
 // What is written of a function's blocks and edges.
-ghost use Rattle.std.specs.Prelude.{◌≡◌, ◌∷◌, [], IfOk, option_map, string_bytes};
+ghost use Rattle.std.specs.Prelude.{◌≡◌, ◌∷◌, [], IfOk, option_map};
 ghost use Rattle.std.specs.Option.{option_copied};
 ghost use Rattle.glsl_ast.specs.Tree.{name as name_tree};
-ghost use Rattle.glsl_ast.specs.View.{expr_of, stmt_of};
+ghost use Rattle.glsl_ast.specs.View.{name_text, expr_of, stmt_of};
 ghost use Rattle.structure_rules.specs.Graph.{nth};
 ghost use Rattle.name_alloc.specs.declared.claims.Key.{Key as KeyOf};
 ghost use Rattle.name_alloc.specs.declared.claims.Key.TheVariants.{Id as IdKey, Spare as SpareKey};
@@ -17,7 +17,7 @@ use crate::scope::PlannedFunction;
 use block_graph::terminator;
 use constant_text::int_literal;
 use control_text::BlockText;
-use glsl_ast::{Expr, LValue, Literal, Stmt};
+use glsl_ast::{Expr, LValue, Literal, Name, Stmt};
 use name_alloc::Key;
 use phi_copies::{Move, Src, Var};
 use spv_module::{Elem, Function, Id, Inst};
@@ -71,8 +71,8 @@ fn case_literal(ty: Option<Elem>, word: u32) -> Literal
 
 impl PlannedFunction<'_, '_> {
     /// The variable of a phi, or of what a phi is given.
-    fn variable(&self, alloc: Global, variable: Var) -> Result<String, Memory>
-        ensures { IfOk result (λ n. string_bytes n ≡ key_text self.now.context.names (IdKey (id_of variable.0))) }
+    fn variable(&self, alloc: Global, variable: Var) -> Result<Name, Memory>
+        ensures { IfOk result (λ n. name_text n ≡ key_text self.now.context.names (IdKey (id_of variable.0))) }
     {
         self.name(alloc, Key::Id(Id(variable.0)))
     }

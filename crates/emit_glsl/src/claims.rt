@@ -1,8 +1,13 @@
 // The names that a function claims.
-ghost use Rattle.std.specs.Prelude.{◌≡◌, IfOk, map, min};
+ghost use Rattle.std.specs.Prelude.{◌≡◌, [], IfOk, false, flat_map, map, min};
+ghost use Rattle.std.specs.List.{list_any};
 ghost use Rattle.hoist_plan.specs.Kept.{is_carried_in};
 ghost use Rattle.phi_copies.specs.Sequence.{is_save as is_save_move};
 ghost use Rattle.emit_glsl.specs.Planned.{spares_in, captured_numbers, number_in};
+ghost use Rattle.emit_glsl.specs.Spares.{saves_any as saves_any_of, has_saves_to};
+ghost use Rattle.emit_glsl.specs.Claimed.{claimed_by};
+ghost use Rattle.emit_glsl.specs.Functions.{targets_in};
+ghost use Rattle.text_rules.specs.Claims.{claim_spares};
 
 use crate::named::is_captured;
 use crate::nodes::targets;
@@ -68,9 +73,37 @@ fn captured(
     Ok(numbers)
 }
 
-impl FunctionClaims for FunctionPlan<'_> {
-    ghost use Rattle.emit_glsl.specs.Claimed.{claimed_by};
+/// Whether moves save a variable in a spare.
+fn saves_any(moves: &[Move]) -> bool
+    ensures { result ≡ saves_any_of moves.now }
+{
+    spares(moves) != 0
+}
 
+/// Whether the moves of an edge save a variable in a spare.
+fn saves_to(plan: &FunctionPlan, from: usize, to: usize) -> bool
+    ensures { result ≡ has_saves_to plan.now from to }
+{
+    saves_any(plan.moves_of(from, to))
+}
+
+/// Whether the moves of an edge that leaves a block save a variable in a spare.
+fn has_saves(plan: &FunctionPlan, block: usize) -> bool
+    ensures { result ≡ list_any (has_saves_to plan.now block) (targets_in plan.now.places block) }
+{
+    let targets = targets(&plan.places, block);
+    targets.iter().any(|target| saves_to(plan, block, *target))
+}
+
+/// Whether a block claims spares.
+fn has_spares(plan: &FunctionPlan, block: usize) -> bool
+    ensures { result ≡ false → flat_map (claim_spares (claimed_by plan.now) block) ((claimed_by plan.now).targets block) ≡ [] }
+{
+    let found = has_saves(plan, block);
+    found
+}
+
+impl FunctionClaims for FunctionPlan<'_> {
     ghost plan = { claimed_by };
 
     fn function(&self) -> &Function {
@@ -104,6 +137,10 @@ impl FunctionClaims for FunctionPlan<'_> {
     fn targets(&self, alloc: Global, block: usize) -> Result<Vec<usize>, Memory> {
         let list = each_once(alloc, targets(&self.places, block))?;
         Ok(list)
+    }
+
+    fn has_spares(&self, block: usize) -> bool {
+        has_spares(self, block)
     }
 
     fn spares(&self, from: usize, to: usize) -> u32 {

@@ -13,6 +13,7 @@ mod once;
 mod orders;
 mod plan;
 mod scope;
+mod single;
 mod translation;
 mod unit;
 

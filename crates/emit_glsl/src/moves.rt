@@ -1,14 +1,15 @@
 // The moves of the edges into blocks with phis (SPIR-V 1.6, section 2.11).
-ghost use Rattle.std.specs.Prelude.{◌≡◌, ◌++◌, ◌∷◌, ◌==◌, [], ℕ, None, drop, IfOk, OnOk, if◌then◌else◌};
+ghost use Rattle.std.specs.Prelude.{◌≡◌, ◌++◌, ◌∷◌, ◌==◌, [], ℕ, None, drop, length, IfOk, OnOk, if◌then◌else◌};
 ghost use Rattle.std.specs.List.{AllZip, flat_map, enumerate_from};
 ghost use Rattle.hoist_plan.specs.Kept.{form_in};
 ghost use Rattle.phi_copies.specs.Sequence.{IsSequence, is_var, is_proper as is_proper_pair};
-ghost use Rattle.emit_glsl.specs.Phis.{is_live_phi as is_live_phi_in, has_live_phi as has_live_phi_in, phi_block, phi_blocks as phi_blocks_of, is_constant_id as is_constant_id_in, source_by as source_by_constant, source_of, is_block, given_by, pairs_into, pairs as pairs_of_edge, firsts as first_pairs};
+ghost use Rattle.emit_glsl.specs.Phis.{is_live_phi as is_live_phi_in, has_live_phi as has_live_phi_in, live_phis, phi_block, phi_blocks as phi_blocks_of, is_constant_id as is_constant_id_in, source_by as source_by_constant, source_of, is_block, given_by, pairs_into, pairs as pairs_of_edge, firsts as first_pairs};
 ghost use Rattle.std.specs.BTreeMap.{get, is_at, keys};
 ghost use Rattle.std.specs.Ordering.{nat_cmp};
 ghost use Rattle.emit_glsl.specs.Moved.{items_at, pairs_from, moves_in, single, both, go_in_order as go_in_order_pairs, AreListed, AreMovesFor};
 
 use crate::once::is_new;
+use crate::single::{first_phi, moves_of_phi, phi_count};
 use constant_text::is_constant;
 use hoist_plan::{Form, Naming};
 use phi_copies::{Move, Src, Var, copies};
@@ -32,7 +33,7 @@ pub fn is_gone(form: Form) -> bool
 }
 
 /// Whether an instruction is an OpPhi that is live.
-fn is_live_phi(naming: &Naming, inst: &Inst) -> bool
+pub fn is_live_phi(naming: &Naming, inst: &Inst) -> bool
     ensures { result ≡ is_live_phi_in (form_in naming.now) inst.now }
 {
     inst.op == 245 && !is_gone(naming.of(Id(inst.result)))
@@ -103,7 +104,7 @@ fn source_by(constant: bool, value: u32) -> Src
 }
 
 /// What a phi is given: the value of a variable, or that of a constant of the module.
-fn source(module: &Module, value: u32) -> Src
+pub fn source(module: &Module, value: u32) -> Src
     ensures { result ≡ source_of «module».now.globals value }
 {
     source_by(is_constant_id(module, value), value)
@@ -154,7 +155,7 @@ fn add_pair(
 }
 
 /// The words behind these.
-fn behind(words: &[u32], count: usize) -> &[u32]
+pub fn behind(words: &[u32], count: usize) -> &[u32]
     ensures { result.now ≡ drop count words.now }
 {
     words.get(count..).unwrap_or(&[])
@@ -257,7 +258,7 @@ fn go_in_order(pair: (Var, Src), other: (Var, Src)) -> bool
 }
 
 /// The move of a single pair, where its two sides are not one variable.
-fn single_move(alloc: Global, pair: (Var, Src)) -> Result<Vec<Move>, Memory>
+pub fn single_move(alloc: Global, pair: (Var, Src)) -> Result<Vec<Move>, Memory>
     ensures { IfOk result (λ moves. moves.items ≡ single pair) }
 {
     let mut moves = Vec::new(alloc);
@@ -338,8 +339,8 @@ fn moves_from(alloc: Global, pairs: &Pairs, blocks: &[usize]) -> Result<Moves, M
     Ok(moves)
 }
 
-/// The moves of the edges into a block.
-fn moves_into(
+/// The moves of the edges into a block with several live phis.
+fn moves_of_several(
     alloc: Global,
     module: &Module,
     locals: &Locals,
@@ -354,6 +355,46 @@ fn moves_into(
     Ok(moves)
 }
 
+/// The moves of the edges into a block with one live phi.
+fn moves_of_one(
+    alloc: Global,
+    module: &Module,
+    locals: &Locals,
+    naming: &Naming,
+    block: &Block,
+) -> Result<Moves, Memory>
+    requires { length (live_phis (form_in naming.now) block.now) ≡ 1 }
+    ensures { IfOk result (λ moves. AreMovesFor «module».now.globals (form_in naming.now) locals.now block.now moves) }
+{
+    match first_phi(naming, block) {
+        None => moves_of_several(alloc, module, locals, naming, block),
+        Some(phi) => {
+            let moves = moves_of_phi(alloc, module, locals, phi)?;
+            Ok(moves)
+        }
+    }
+}
+
+/// The moves of the edges into a block.
+fn moves_into(
+    alloc: Global,
+    module: &Module,
+    locals: &Locals,
+    naming: &Naming,
+    block: &Block,
+) -> Result<Moves, Memory>
+    ensures { IfOk result (λ moves. AreMovesFor «module».now.globals (form_in naming.now) locals.now block.now moves) }
+{
+    let count = phi_count(naming, block);
+    if count == 0 {
+        return Ok(BTreeMap::new(alloc));
+    }
+    if count == 1 {
+        return moves_of_one(alloc, module, locals, naming, block);
+    }
+    moves_of_several(alloc, module, locals, naming, block)
+}
+
 /// The moves of the edges into each of these blocks.
 fn moves_to(
     alloc: Global,
@@ -364,7 +405,7 @@ fn moves_to(
 ) -> Result<Vec<Moves>, Memory>
     ensures { IfOk result (λ moves. AllZip (AreMovesFor «module».now.globals (form_in naming.now) locals.now) blocks.now moves.items) }
 {
-    let mut moves = Vec::new(alloc);
+    let mut moves = Vec::with_capacity(alloc, blocks.len())?;
     for block in blocks {
         let own = moves_into(alloc, module, locals, naming, block)?;
         moves.push(own)?;

@@ -1,9 +1,9 @@
 // Where a function is written.
-ghost use Rattle.std.specs.Prelude.{◌≡◌, IfOk, is_some, map, option_map, string_bytes};
+ghost use Rattle.std.specs.Prelude.{◌≡◌, IfOk, is_some, map, option_map};
 ghost use Rattle.spv_index.specs.Pointers.{pointee as pointee_of};
 ghost use Rattle.name_alloc.specs.Lookup.{name_in};
 ghost use Rattle.glsl_ast.specs.Tree.{declare};
-ghost use Rattle.glsl_ast.specs.View.{expr_of, stmt_of, type_of as type_name_of_code};
+ghost use Rattle.glsl_ast.specs.View.{name_text, expr_of, stmt_of, type_of as type_name_of_code};
 ghost use Rattle.text_rules.specs.Declarations.{initial as initial_of, pointee_at as pointee_at_of, type_at};
 ghost use Rattle.expr_forward.specs.Context.{all_names, key_text, scope_of};
 ghost use Rattle.expr_forward.specs.Scope.{type_of as type_in_scope};
@@ -13,7 +13,7 @@ ghost use Rattle.emit_glsl.specs.Functions.{constant_text, elem_at, index_of};
 use crate::plan::FunctionPlan;
 use constant_text::{Readings, name, scalar_type};
 use expr_forward::{Context, Globals};
-use glsl_ast::{Expr, Stmt, TypeName};
+use glsl_ast::{Expr, Name, Stmt, TypeName};
 use name_alloc::{Key, Names};
 use spv_index::pointer;
 use spv_module::{Elem, Id, Inst, Module};
@@ -96,12 +96,16 @@ impl<'a, 'b> PlannedFunction<'a, 'b> {
     pub fn given(&self, key: Key) -> Option<&str>
         ensures { option_map (λ n. n.now) result ≡ name_in self.now.context.names key }
     {
-        self.names.of(key)
+        match self.names.of(key) {
+            None => None,
+            Some(name) => Some(name.as_str()),
+        }
     }
 
-    /// The name of a key, as text of its own.
-    pub fn name(&self, alloc: Global, key: Key) -> Result<String, Memory>
-        ensures { IfOk result (λ n. string_bytes n ≡ key_text self.now.context.names key) }
+    /// The name of a key, to stand in the tree.
+    #[inline(always)]
+    pub fn name(&self, alloc: Global, key: Key) -> Result<Name, Memory>
+        ensures { IfOk result (λ n. name_text n ≡ key_text self.now.context.names key) }
     {
         name(alloc, self.names, key)
     }

@@ -1,5 +1,5 @@
 // The parts of a text.
-ghost use Rattle.std.specs.Prelude.{◌≡◌, ◌==◌, ◌++◌, ℕ, Some, None, drop, filter, flat_map, IfOk, OnOk, map, option_copied, option_map, option_to_list, slice_get, if◌then◌else◌};
+ghost use Rattle.std.specs.Prelude.{◌≡◌, ◌==◌, ◌++◌, ℕ, true, Some, None, drop, filter, flat_map, IfOk, OnOk, map, option_copied, option_map, option_to_list, slice_get, if◌then◌else◌};
 ghost use Rattle.std.specs.List.{AllZip, list_any};
 ghost use Rattle.std.specs.Vec.Iter.{into_iter_items};
 ghost use Rattle.id_map.specs.Entries.{is_in};
@@ -7,6 +7,7 @@ ghost use Rattle.structure_rules.specs.Graph.{graph};
 ghost use Rattle.glsl_ast.specs.View.{decl_of, expr_of, unit_of as tree_of_unit};
 ghost use Rattle.constant_text.specs.Named.{id_names};
 ghost use Rattle.expr_forward.specs.Globals.{global_in};
+ghost use Rattle.text_items.specs.Asked.{is_asked};
 ghost use Rattle.text_items.specs.State.{functions_at, insts_at, reached_of};
 ghost use Rattle.emit_glsl.specs.Claimed.{claimed_by};
 ghost use Rattle.emit_glsl.specs.Plans.{IsPlanned, IsPlannedNext};
@@ -34,7 +35,7 @@ use std::alloc::{AllocError, Global};
 use std::marker::Brand;
 use std::sync::ledger::{Blank, Ledger};
 use std::vec::IntoIter;
-use text_items::{Written, claims, declarations, global_expr};
+use text_items::{Written, asks_live, claims, declarations, global_expr};
 use use_chains::Steps;
 
 /// The ids of functions as a set.
@@ -153,6 +154,24 @@ fn live_of<'a>(alloc: Global, plans: &[FunctionPlan<'a>]) -> Result<Vec<&'a Inst
     Ok(live)
 }
 
+/// The live instructions of planned functions, where what is written may depend on them; else none.
+fn live_if_asked<'a>(
+    alloc: Global,
+    readings: &Readings,
+    decor: &Decor,
+    plans: &[FunctionPlan<'a>],
+) -> Result<Vec<&'a Inst>, Memory>
+    requires { decor.now ≡ readings.now.of.heads }
+    ensures { IfOk result (λ live. list_any (is_asked readings.now) readings.now.of.globals ≡ true → insts_at live.items ≡ flat_map live_in plans.now) }
+{
+    if asks_live(readings, decor) {
+        let live = live_of(alloc, plans)?;
+        Ok(live)
+    } else {
+        Ok(Vec::new(alloc))
+    }
+}
+
 /// What the tree of a text was made by.
 #[derive(Drop)]
 pub struct Parts<'a> {
@@ -222,7 +241,7 @@ fn head_with<'a>(
     requires entry { entry.0 ≡ readings.now.entry }
     ensures { IfOk result (IsHead readings.now (record { functions = functions_at functions.now; live = flat_map live_in plans.now }) (map claimed_by plans.now)) }
 {
-    let live = live_of(alloc, plans)?;
+    let live = live_if_asked(alloc, readings, decor, plans)?;
     let head = head_by(
         alloc,
         readings,
@@ -285,6 +304,15 @@ fn put_if_any(globals: &mut Globals, id: Id, expr: Option<Expr>) -> Result<(), M
     }
 }
 
+/// One more than the greatest result of instructions, or the greatest word.
+fn end_of(insts: &[Inst]) -> u32 {
+    let mut end = 0u32;
+    for inst in insts {
+        end = end.max(inst.result.saturating_add(1));
+    }
+    end
+}
+
 /// The expressions by which the globals are read whose ids are results of these instructions.
 fn globals_among(
     alloc: Global,
@@ -296,7 +324,7 @@ fn globals_among(
     requires { decor.now ≡ readings.now.of.heads }
     ensures { IfOk result (λ globals. (n : ℕ) → global_in globals n ≡ expr_among readings.now names.now insts.now n) }
 {
-    let mut globals = Globals::new(alloc, readings.module().bound(), insts.len())?;
+    let mut globals = Globals::new(alloc, end_of(insts), insts.len())?;
     for inst in insts {
         let id = Id(inst.result);
         let expr = global_of(alloc, readings, decor, names, id)?;

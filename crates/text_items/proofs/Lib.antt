@@ -5,3 +5,4 @@ pub mod Joined
 pub mod Taken
 pub mod Fits
 pub mod Firsts
+pub mod Unasked

@@ -5,3 +5,4 @@ pub mod Plain
 pub mod Blocks
 pub mod Claimed
 pub mod View
+pub mod Asked

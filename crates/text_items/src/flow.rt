@@ -95,6 +95,23 @@ fn claim_edges<P: FunctionClaims>(
     Ok(())
 }
 
+/// Adds the spares of the edges that leave a block.
+fn claim_own_spares<P: FunctionClaims>(
+    alloc: Global,
+    claims: &mut Vec<Claim>,
+    plan: &P,
+    from: usize,
+) -> Result<(), Memory>
+    ensures { OnOk result (claims_of claims.new.items ≡ claims_of claims.old.items ++ flat_map (claims_of_spares (P.plan plan.now) from) ((P.plan plan.now).targets from)) }
+{
+    if !plan.has_spares(from) {
+        return Ok(());
+    }
+    let targets = plan.targets(alloc, from)?;
+    claim_edges(claims, plan, from, &targets)?;
+    Ok(())
+}
+
 /// Adds what a block claims besides: flags, captured indexes, and the spares of the edges that leave it.
 fn claim_flow<P: FunctionClaims>(
     alloc: Global,
@@ -109,8 +126,7 @@ fn claim_flow<P: FunctionClaims>(
     claim_flag(claims, plan.leave(index), Key::Leave(block.label))?;
     claim_flag(claims, plan.fell(index), Key::Fell(block.label))?;
     claim_indexes(alloc, claims, plan, block.insts.as_slice())?;
-    let targets = plan.targets(alloc, index)?;
-    claim_edges(claims, plan, index, &targets)?;
+    claim_own_spares(alloc, claims, plan, index)?;
     Ok(())
 }
 
@@ -183,7 +199,7 @@ pub fn claims<P: FunctionClaims>(
     requires { entry.0 ≡ written.now.source.entry }
     ensures { IfOk result (λ claims. claims_of claims.items ≡ all_claims written.now.source written.now.reached (map P.plan plans.now)) }
 {
-    let mut claims = Vec::with_capacity(alloc, written.live_count())?;
+    let mut claims = Vec::with_capacity(alloc, written.inst_count())?;
     claim_flag(&mut claims, true, Key::Main)?;
     claim_globals(alloc, &mut claims, written)?;
     claim_functions(alloc, &mut claims, written, entry, plans)?;

@@ -1,6 +1,6 @@
 // The claims of the names of functions, their parameters and their variables.
 ghost use Rattle.std.specs.Prelude.{◌≡◌, ◌++◌, [], IfOk, OnOk, false, flat_map};
-ghost use Rattle.text_rules.specs.Claims.{Plan, claim_id as claim_of_id, claim_function as claims_of_function};
+ghost use Rattle.text_rules.specs.Claims.{Plan, claim_id as claim_of_id, claim_spares, claim_function as claims_of_function};
 ghost use Rattle.text_items.specs.Claimed.{claim_own as claim_of_own, claim_param, claim_result, claim_all};
 ghost use Rattle.text_items.specs.View.{claims_of};
 
@@ -48,6 +48,10 @@ pub trait FunctionClaims {
     /// The blocks to which one leads, each once, in the order of its terminator.
     fn targets(&self, alloc: Global, block: usize) -> Result<Vec<usize>, Memory>
         ensures { IfOk result (λ targets. targets.items ≡ (plan self.now).targets block) };
+
+    /// Whether the copies of an edge that leaves a block may need spares.
+    fn has_spares(&self, block: usize) -> bool
+        ensures { result ≡ false → flat_map (claim_spares (plan self.now) block) ((plan self.now).targets block) ≡ [] };
 
     /// How many spares the copies of an edge need.
     fn spares(&self, from: usize, to: usize) -> u32

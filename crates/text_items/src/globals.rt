@@ -5,7 +5,7 @@ ghost use Rattle.constant_text.specs.Named.{id_names};
 ghost use Rattle.text_items.specs.Globals.{built_in_text, is_input as is_input_variable, global_by};
 
 use constant_text::{Readings, is_constant};
-use glsl_ast::Expr;
+use glsl_ast::{Expr, Name};
 use name_alloc::Names;
 use spv_decor::Decor;
 use spv_module::{Id, Inst};
@@ -53,5 +53,5 @@ pub fn global_expr(
     }
     // BuiltIn
     let number = decor.value(Id(inst.result), 11).unwrap_or(0);
-    Ok(Some(Expr::Name(String::from_str(alloc, built_in(number))?)))
+    Ok(Some(Expr::Name(Name::from_str(alloc, built_in(number))?)))
 }

@@ -1,6 +1,7 @@
 // What of a module is written before the functions of its text, and the names that the text claims.
 #![tactic(auto)]
 
+mod asked;
 mod blocks;
 mod calculated;
 mod constants;
@@ -19,6 +20,7 @@ mod types;
 mod variables;
 mod written;
 
+pub use asked::asks_live;
 pub use constants::type_at;
 pub use flow::claims;
 pub use functions::FunctionClaims;

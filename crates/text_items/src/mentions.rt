@@ -51,6 +51,7 @@ fn first(args: &[u32], count: usize) -> &[u32]
 }
 
 /// Adds those of an instruction's operand words that are ids, in most instructions all or the first ones.
+#[inline(always)]
 fn add_those(ids: &mut IdSet, words: IdWords, args: &[u32]) -> Result<(), AllocError>
     ensures { OnOk result ((id : ℕ) → is_in ids.new id ≡ (is_in ids.old id || mentions_from (has_id words) id 0 args.now)) }
 {
@@ -68,6 +69,7 @@ fn add_those(ids: &mut IdSet, words: IdWords, args: &[u32]) -> Result<(), AllocE
 }
 
 /// Adds the ids that an instruction mentions.
+#[inline(always)]
 pub fn add_mentions(ids: &mut IdSet, inst: &Inst) -> Result<(), AllocError>
     ensures { OnOk result ((id : ℕ) → is_in ids.new id ≡ (is_in ids.old id || mentions inst.now id)) }
 {
@@ -95,6 +97,7 @@ fn add_blocks(ids: &mut IdSet, blocks: &[Block]) -> Result<(), AllocError>
 }
 
 /// Adds those of instructions that stand anywhere.
+#[inline(never)]
 pub fn add_all(ids: &mut IdSet, insts: &[&Inst]) -> Result<(), AllocError>
     ensures { OnOk result ((id : ℕ) → is_in ids.new id ≡ (is_in ids.old id || list_any (λ i. mentions i id) (insts_at insts.now))) }
 {
@@ -104,25 +107,43 @@ pub fn add_all(ids: &mut IdSet, insts: &[&Inst]) -> Result<(), AllocError>
     Ok(())
 }
 
-/// The empty set of ids of a module, with slots in proportion to its globals and these instructions.
-pub fn no_ids(alloc: Global, readings: &Readings, live: &[&Inst]) -> Result<IdSet, AllocError>
+/// How many instructions a function has.
+fn insts_in(function: &Function) -> usize {
+    let mut count = 0usize;
+    for block in function.blocks.as_slice() {
+        count = count.saturating_add(block.insts.len());
+    }
+    count
+}
+
+/// How many instructions functions have.
+pub fn count_insts(functions: &[&Function]) -> usize {
+    let mut count = 0usize;
+    for function in functions {
+        count = count.saturating_add(insts_in(*function));
+    }
+    count
+}
+
+/// The empty set of ids of a module, with slots in proportion to its globals and to so many instructions.
+pub fn no_ids(alloc: Global, readings: &Readings, insts: usize) -> Result<IdSet, AllocError>
     ensures { IfOk result (λ ids. (id : ℕ) → is_in ids id ≡ false) }
 {
     let module = readings.module();
-    let count = module.globals().len().saturating_add(live.len());
+    let count = module.globals().len().saturating_add(insts);
     IdSet::below(alloc, module.bound(), count)
 }
 
-/// The ids that functions mention, of which these instructions are live.
+/// The ids that functions with so many instructions mention.
 pub fn mentioned(
     alloc: Global,
     readings: &Readings,
     functions: &[&Function],
-    live: &[&Inst],
+    insts: usize,
 ) -> Result<IdSet, AllocError>
     ensures { IfOk result (λ ids. (id : ℕ) → is_in ids id ≡ is_mentioned_in (functions_at functions.now) id) }
 {
-    let mut ids = no_ids(alloc, readings, live)?;
+    let mut ids = no_ids(alloc, readings, insts)?;
     for function in functions {
         add_blocks(&mut ids, function.blocks.as_slice())?;
     }

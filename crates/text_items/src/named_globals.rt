@@ -28,6 +28,7 @@ fn given(alloc: Global, name: Option<&[u8]>) -> Result<Option<Vec<u8>>, Memory>
 }
 
 /// Adds the claim of a key, with the name that the module gives it.
+#[inline(always)]
 fn add(alloc: Global, claims: &mut Vec<Claim>, key: Key, name: Option<&[u8]>) -> Result<(), Memory>
     ensures { OnOk result (claims_of claims.new.items ≡ claims_of claims.old.items ++ (key, option_map (λ n. n.now) name.entry) ∷ []) }
 {
@@ -37,6 +38,7 @@ fn add(alloc: Global, claims: &mut Vec<Claim>, key: Key, name: Option<&[u8]>) ->
 }
 
 /// Adds the claim of an id.
+#[inline(always)]
 pub fn claim_id(
     alloc: Global,
     claims: &mut Vec<Claim>,

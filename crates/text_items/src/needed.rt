@@ -41,6 +41,7 @@ fn add_lengths(needed: &mut IdSet, globals: &[Inst]) -> Result<(), AllocError>
 }
 
 /// Adds what a Private variable that is written begins with.
+#[inline(never)]
 fn add_initializers(
     needed: &mut IdSet,
     mentioned: &IdSet,
@@ -57,6 +58,7 @@ fn add_initializers(
 }
 
 /// Whether a constant is declared, where the text needs these.
+#[inline(always)]
 pub fn declares(readings: &Readings, needed: &IdSet, inst: &Inst) -> bool
     ensures { result ≡ declares_constant readings.now (is_in needed.now) inst.now }
 {
@@ -66,6 +68,7 @@ pub fn declares(readings: &Readings, needed: &IdSet, inst: &Inst) -> bool
 }
 
 /// Adds what a constant mentions, where it is declared.
+#[inline(never)]
 #[tactic(auto, using(crate::proofs::Built::needed_is))]
 fn add_operands(readings: &Readings, needed: &mut IdSet, inst: &Inst) -> Result<(), AllocError>
     ensures { OnOk result ((id : ℕ) → is_in needed.new id ≡ needed_with readings.now (is_in needed.old) inst.now id) }
@@ -97,7 +100,7 @@ pub fn needed(
     ensures { IfOk result (λ needed. (id : ℕ) → is_in needed id ≡ needed_from readings.now (needed_first readings.now (is_in mentioned.now) (insts_at live.now)) readings.now.of.globals id) }
 {
     let globals = readings.module().globals();
-    let mut needed = no_ids(alloc, readings, live)?;
+    let mut needed = no_ids(alloc, readings, live.len())?;
     add_all(&mut needed, live)?;
     add_lengths(&mut needed, globals)?;
     add_initializers(&mut needed, mentioned, globals)?;

@@ -1,9 +1,9 @@
 // What of a module is written.
-ghost use Rattle.std.specs.Prelude.{◌≡◌, IfOk, length};
+ghost use Rattle.std.specs.Prelude.{◌≡◌, IfOk};
 ghost use Rattle.text_rules.specs.Printed.{is_written_variable, is_declared_constant, is_written_struct};
 ghost use Rattle.text_items.specs.State.{reached_of};
 
-use crate::mentions::mentioned;
+use crate::mentions::{count_insts, mentioned};
 use crate::needed::{declares, is_written, needed};
 use crate::types::written_structs;
 use constant_text::Readings;
@@ -22,6 +22,7 @@ pub struct Written<'a, 'b> {
     decor: &'b Decor<'b>,
     functions: &'a [&'b Function],
     live: &'a [&'b Inst],
+    inst_count: usize,
     // the ids that the functions mention; the constants that the text needs; the structs of what is written
     mentioned: IdSet,
     needed: IdSet,
@@ -53,7 +54,8 @@ impl<'a, 'b> Written<'a, 'b> {
         requires { decor.now ≡ readings.now.of.heads }
         ensures { IfOk result (λ w. w ≡ record { source = readings.now; reached = reached_of functions.now live.now }) }
     {
-        let mentioned = mentioned(alloc, readings, functions, live)?;
+        let inst_count = count_insts(functions);
+        let mentioned = mentioned(alloc, readings, functions, inst_count)?;
         let needed = needed(alloc, readings, &mentioned, live)?;
         let structs = written_structs(alloc, readings, &mentioned, &needed, functions, live)?;
         Ok(Written {
@@ -61,6 +63,7 @@ impl<'a, 'b> Written<'a, 'b> {
             decor,
             functions,
             live,
+            inst_count,
             mentioned,
             needed,
             structs,
@@ -85,11 +88,9 @@ impl<'a, 'b> Written<'a, 'b> {
         self.readings.module()
     }
 
-    /// How many instructions are live.
-    pub(crate) fn live_count(&self) -> usize
-        ensures { result ≡ length self.now.reached.live }
-    {
-        self.live.len()
+    /// How many instructions the functions have.
+    pub(crate) fn inst_count(&self) -> usize {
+        self.inst_count
     }
 
     /// Whether a global instruction is a variable that is written: one that a function mentions, and that is not built in.

@@ -5,7 +5,7 @@ use Rattle.phi_copies.specs.Sequence.{Pair, IsSequence}
 use Rattle.emit_glsl.specs.Phis.{firsts}
 use Rattle.emit_glsl.specs.Moved.{items_at}
 use Rattle.emit_glsl.proofs.Moving.{listed}
-use Rattle.emit_glsl.proofs.moves.moves_into.Goals as goal
+use Rattle.emit_glsl.proofs.moves.moves_of_several.Goals as goal
 
 pub moves_from-requires : goal.moves_from-requires
 moves_from-requires c = listed c.in_ok-pairs.pairs c.as_slice.result.now (c.as_slice.ensures.value ∙ c.in_ok-blocks.ensures)

@@ -1,0 +1,44 @@
+// Whether it matters which instructions are live.
+ghost use Rattle.std.specs.Prelude.{◌≡◌, ◌==◌, ◌&&◌, not};
+ghost use Rattle.std.specs.List.{list_any};
+ghost use Rattle.spv_index.specs.ValueTypes.{is_block};
+ghost use Rattle.text_rules.specs.Constants.{is_constant as is_constant_global, reading};
+ghost use Rattle.text_rules.specs.Printed.{is_named};
+ghost use Rattle.text_items.specs.Asked.{is_asked as is_asked_global};
+
+use constant_text::{Reading, Readings, is_constant};
+use spv_decor::Decor;
+use spv_module::{Id, Inst};
+
+/// Whether this is a constant that is read by its name.
+fn is_named_constant(readings: &Readings, inst: &Inst) -> bool
+    ensures { result ≡ (is_constant_global inst.now && is_named (reading readings.now inst.now)) }
+{
+    is_constant(inst) && matches!(readings.reading(inst), Reading::Named)
+}
+
+/// Whether this is a struct that is no Block.
+fn is_plain_struct(decor: &Decor, inst: &Inst) -> bool
+    ensures { result ≡ ((inst.now.op == 30) && not (is_block decor.now inst.now.result)) }
+{
+    // OpTypeStruct; Block
+    inst.op == 30 && decor.value(Id(inst.result), 2).is_none()
+}
+
+/// Whether this is a global that is written only where it is asked for: a constant that is read by its name, or a struct that is no
+/// Block.
+fn is_asked(readings: &Readings, decor: &Decor, inst: &Inst) -> bool
+    requires { decor.now ≡ readings.now.of.heads }
+    ensures { result ≡ is_asked_global readings.now inst.now }
+{
+    is_named_constant(readings, inst) || is_plain_struct(decor, inst)
+}
+
+/// Whether what is written of a module may depend on which instructions are live.
+pub fn asks_live(readings: &Readings, decor: &Decor) -> bool
+    requires { decor.now ≡ readings.now.of.heads }
+    ensures { result ≡ list_any (is_asked_global readings.now) readings.now.of.globals }
+{
+    let globals = readings.module().globals();
+    globals.iter().any(|inst| is_asked(readings, decor, inst))
+}
