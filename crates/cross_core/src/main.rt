@@ -13,12 +13,24 @@ mod top;
 
 use cc_outside::{StdSink, StdSource};
 use endings::Ending;
+use std::alloc::{AllocError, Global};
 use std::process::ExitCode;
 use std::{env, io};
+
+// 31 MiB: the allocator looks at no freed block above 32.
+const KEPT_WORDS: usize = 4063232;
+
+/// Takes a large block and gives it back untouched. From then on the C library's allocator keeps freed blocks up to that size
+/// for later ones, where it would give each large one back to the system and ask for new pages. It is no loss where there is
+/// no such block.
+fn keep_freed_blocks(alloc: Global) {
+    let _block: Result<Vec<u64>, AllocError> = Vec::with_capacity(alloc, KEPT_WORDS);
+}
 
 /// Carries out the process's command line over its standard streams. It fails where a word is not UTF-8, and for want of
 /// memory.
 fn status_of(rt: &HostRuntime) -> Result<u8, io::Error> {
+    keep_freed_blocks(rt.alloc());
     let mut all = Vec::new(rt.alloc());
     for word in env::args(rt)? {
         all.push(word)?;
