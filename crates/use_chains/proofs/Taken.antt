@@ -1,5 +1,10 @@
 -- A filter over what is left of a list, one item further.
-use Rattle.std.proofs.Common.{◌≡◌, ◌<◌, ◌+◌, ℕ, Bool, true, false, List, [], ◌∷◌, ◌++◌, length, get_or, drop, map, filter, ap, sym, ◌∙◌, cond}
+use Rattle.std.proofs.Common.{◌≡◌, ◌<◌, ◌+◌, ◌==◌, ◌&&◌, ◌||◌, ℕ, Bool, true, false, List, [], ◌∷◌, ◌++◌, length, get_or, drop, map, filter, refl, ap, sym, subst, ◌∙◌, cond}
+use Rattle.std.proofs.lemmas.Bool.{and_left, and_right, both_ways, ne_eqb}
+use Rattle.spv_module.specs.declared.inst.Inst.{Inst}
+use Rattle.spv_module.specs.declared.inst.Function.{Function}
+use Rattle.spv_ops.specs.Operands.{is_id}
+use Rattle.use_chains.specs.Slots.{has_labels, is_slot, is_taken, is_value, mention, slots_of_inst}
 use Rattle.std.specs.List.{enumerate_from}
 use Rattle.std.proofs.lemmas.List.{drop_more, append_assoc}
 
@@ -18,3 +23,16 @@ taken_no {X} {Y} test f done xs k d inside e =
     let here : map f (filter test (enumerate_from k (drop k xs))) ≡ map f (filter test rest) =
     ap (λ ys. map f (filter test (enumerate_from k ys))) (drop_more xs k d inside) ∙ ap (λ b. map f (cond b ((k, get_or xs k d) ∷ filter test rest) (filter test rest))) e in
     ap (λ ys. done ++ ys) (sym here)
+
+none_taken : {X : Type 0} (test : ℕ × X → Bool) (n : ℕ) (xs : List X) → ((k : ℕ) (x : X) → test (k, x) ≡ false) → filter test (enumerate_from n xs) ≡ []
+none_taken test n [] none = refl
+none_taken test n (x ∷ xs) none = ap (λ b. cond b ((n, x) ∷ filter test (enumerate_from (n + 1) xs)) (filter test (enumerate_from (n + 1) xs))) (none n x) ∙ none_taken test (n + 1) xs none
+
+no_value : (op k : ℕ) → has_labels op ≡ true → is_value op k ≡ false
+no_value op k e =
+    let other : (op == 245) ≡ false = ne_eqb op 245 (λ same. both_ways (has_labels 245) refl (subst (λ o. has_labels o ≡ true) same e)) in
+    rw (other, e) refl
+
+-- what mentions labels alone has no slots
+pub no_slots : (f : Function) (reached : List Bool) (b n : ℕ) (i : Inst) → has_labels i.op ≡ true → slots_of_inst f reached b (n, i) ≡ []
+no_slots f reached b n i e = ap (map (mention b n i)) (none_taken (λ (operand : ℕ × ℕ). is_slot f reached i operand.0) 0 i.args (λ k x. and_right (is_id i.op i.args k) (is_value i.op k && is_taken f reached i k) (and_left (is_value i.op k) (is_taken f reached i k) (no_value i.op k e))))

@@ -21,11 +21,15 @@ is_pure_class _ = false
 abbrev pub is_pure : ℕ → Bool
 is_pure op = option_map_or (λ (s : OpShape). is_pure_class s.class) (shape_of op) false
 
+-- OpLoopMerge, OpSelectionMerge, OpBranch
+abbrev pub has_labels : ℕ → Bool
+has_labels op = (op == 246) || ((op == 247) || (op == 249))
+
 -- an operand id with this number is no label, no called function and no import: of an OpPhi every second is a label; of OpLoopMerge, OpSelectionMerge and OpBranch all are; of OpBranchConditional and OpSwitch all but the first; the first of OpExtInst is an import and of OpFunctionCall a function
 abbrev pub is_value : ℕ → ℕ → Bool
 is_value op k =
     if op == 245 then k % 2 == 0 else
-    (if (op == 246) || ((op == 247) || (op == 249)) then false else
+    (if has_labels op then false else
     (if (op == 250) || (op == 251) then k == 0 else
     (if (op == 12) || (op == 57) then not (k == 0) else true)))
 

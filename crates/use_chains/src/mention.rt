@@ -1,8 +1,8 @@
 // The slots of a function.
-ghost use Rattle.std.specs.Prelude.{◌≡◌, ◌<◌, ◌++◌, ◌^◌, ℕ, false, OnOk, IfOk, slice_index_or, length};
+ghost use Rattle.std.specs.Prelude.{◌≡◌, ◌<◌, ◌+◌, ◌++◌, ◌^◌, slice_index, ℕ, false, OnOk, IfOk, slice_index_or, length};
 ghost use Rattle.std.specs.List.{enumerate_from};
 ghost use Rattle.spv_ops.specs.Operands.{has_id, is_id};
-ghost use Rattle.use_chains.specs.Slots.{is_pure as is_pure_opcode, is_value as is_value_operand, is_label_reached as is_reached_label, is_slot as is_slot_of, is_taken as is_taken_by, slots_of_inst, slots_of_block, slots as slots_in};
+ghost use Rattle.use_chains.specs.Slots.{is_pure as is_pure_opcode, has_labels as has_labels_opcode, is_value as is_value_operand, is_label_reached as is_reached_label, is_slot as is_slot_of, is_taken as is_taken_by, slots_of_inst, slots_of_block, slots as slots_in};
 
 use crate::SlotPlace;
 use spv_index::Locals;
@@ -34,6 +34,13 @@ fn is_pure(op: u16) -> bool
     shape_of(op).map_or(false, |shape| is_pure_class(shape.class))
 }
 
+/// OpLoopMerge, OpSelectionMerge and OpBranch, whose operands are labels.
+fn has_labels(op: u16) -> bool
+    ensures { result ≡ has_labels_opcode op }
+{
+    op == 246 || op == 247 || op == 249
+}
+
 /// Whether an operand that is an id is no label, no function and no import.
 fn is_value(op: u16, k: usize) -> bool
     ensures { result ≡ is_value_operand op k }
@@ -60,13 +67,21 @@ fn is_label_reached(locals: &Locals, reached: &[bool], label: u32) -> bool
     }
 }
 
+/// The word behind an operand, 0 where there is none.
+fn word_behind(inst: &Inst, k: usize) -> u32
+    requires { k < length inst.now.args }
+    ensures { result ≡ slice_index inst.now.args (k + 1) }
+{
+    let args = inst.args.as_slice();
+    args.get(k + 1).copied().unwrap_or(0)
+}
+
 /// Whether an operand that is no label counts: that of an OpPhi where its block is reached.
 fn is_taken(locals: &Locals, reached: &[bool], inst: &Inst, k: usize) -> bool
     requires { k < length inst.now.args }
     ensures { result ≡ is_taken_by locals.now reached.now inst.now k }
 {
-    let args = inst.args.as_slice();
-    inst.op != 245 || is_label_reached(locals, reached, args.get(k + 1).copied().unwrap_or(0))
+    inst.op != 245 || is_label_reached(locals, reached, word_behind(inst, k))
 }
 
 /// Which operands of an instruction are ids.
@@ -97,6 +112,9 @@ fn add_slots_of_inst(
     requires { length inst.now.args < 2 ^ 32 }
     ensures { OnOk result (slots.new.items ≡ slots.old.items ++ slots_of_inst locals.now reached.now block (place, inst.now)) }
 {
+    if has_labels(inst.op) {
+        return Ok(());
+    }
     let is_pure = is_pure(inst.op);
     let ids = ids_of(inst);
     for (k, id) in inst.args.as_slice().iter().enumerate() {
@@ -139,13 +157,11 @@ fn add_slots_of_block(
     Ok(())
 }
 
-/// How many operands there are in blocks.
-fn operands(blocks: &[Block]) -> usize {
+/// For how many slots there is room at first: most instructions mention at most two values.
+fn room_for(blocks: &[Block]) -> usize {
     let mut count: usize = 0;
     for block in blocks {
-        for inst in block.insts.as_slice() {
-            count = count.saturating_add(inst.args.len());
-        }
+        count = count.saturating_add(block.insts.len().saturating_mul(2));
     }
     count
 }
@@ -155,7 +171,7 @@ pub fn slots(alloc: Global, locals: &Locals, reached: &[bool]) -> Result<Vec<Men
     ensures { IfOk result (λ slots. slots.items ≡ slots_in locals.now reached.now) }
 {
     let blocks = locals.function().blocks.as_slice();
-    let mut slots = Vec::with_capacity(alloc, operands(blocks))?;
+    let mut slots = Vec::with_capacity(alloc, room_for(blocks))?;
     if blocks.len() > u32::MAX as usize {
         return Err(Memory);
     }
