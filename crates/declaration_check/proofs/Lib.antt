@@ -5,3 +5,4 @@ pub mod HeldTypes
 pub mod Judged
 pub mod Groups
 pub mod SpecIds
+pub mod Asked

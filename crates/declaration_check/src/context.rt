@@ -1,17 +1,18 @@
 // A module with what is kept beside it so that questions about it are answered quickly.
-ghost use Rattle.std.specs.Prelude.{◌≡◌, IfOk, map};
+ghost use Rattle.std.specs.Prelude.{◌≡◌, ℕ, IfOk, map};
 ghost use Rattle.std.specs.Option.{option_copied};
 ghost use Rattle.spv_module.specs.Held.{global};
 ghost use Rattle.spv_decor.specs.Rows.{value_of};
-ghost use Rattle.spv_decor.specs.Decorations.{local_insts};
 ghost use Rattle.spv_index.specs.ValueTypes.{is_block, is_no_value_type};
 ghost use Rattle.spv_index.specs.Pointers.{storage_class, pointee};
 ghost use Rattle.profile_rules.specs.TypeRows.{type_row};
-ghost use Rattle.profile_rules.specs.Places.{is_defined_elsewhere, body_insts};
+ghost use Rattle.profile_rules.specs.Places.{is_among, is_defined_elsewhere};
+ghost use Rattle.profile_rules.specs.TypeForm.{value_types as value_types_in};
+ghost use Rattle.declaration_check.specs.Kept.{inner_variables, variables_of};
 
 use crate::elsewhere::defined_elsewhere;
 use crate::kernel::is_type;
-use crate::rows::{behind, body_rows};
+use crate::rows::{Values, behind, values_of};
 use id_map::IdSet;
 use spv_decor::Decor;
 use spv_index::{Pointer, ValueTypes, pointer};
@@ -25,7 +26,10 @@ use std::marker::Model;
 pub struct Context<'a> {
     module: &'a Module,
     decor: &'a Decor<'a>,
-    body: Vec<&'a Inst>,
+    variables: Vec<&'a Inst>,
+    // how many of these stand outside functions
+    outer: usize,
+    types: Vec<u32>,
     elsewhere: IdSet,
     value_types: ValueTypes<'a>,
 }
@@ -41,7 +45,7 @@ impl<'a> Model for Context<'a> {
 
     ghost view = { λ c. c.«module».now };
 
-    ghost invariant = { λ c. IsContext c.«module».now c.decor.now (map (λ i. i.now) c.body.items) (is_in c.elsewhere) c.value_types };
+    ghost invariant = { λ c. IsContext c.«module».now c.decor.now (map (λ i. i.now) c.variables.items) c.outer c.types.items (is_in c.elsewhere) c.value_types };
 }
 
 impl<'a> Context<'a> {
@@ -54,13 +58,18 @@ impl<'a> Context<'a> {
         requires { decor.now ≡ «module».now.heads }
         ensures { IfOk result (λ context. context ≡ «module».now) }
     {
-        let body = body_rows(alloc, module)?;
-        let elsewhere = defined_elsewhere(alloc, module, body.len())?;
+        let Values {
+            variables,
+            outer,
+            types,
+        } = values_of(alloc, module)?;
         Ok(Context {
             module,
             decor,
-            body,
-            elsewhere,
+            variables,
+            outer,
+            types,
+            elsewhere: defined_elsewhere(alloc, module)?,
             value_types: ValueTypes::of(alloc, module)?,
         })
     }
@@ -93,19 +102,26 @@ impl<'a> Context<'a> {
         self.module.functions()
     }
 
-    /// The global instructions, and then those of the functions.
-    pub fn body(&self) -> &[&'a Inst]
-        ensures { map (λ i. i.now) result.now ≡ body_insts self.now }
+    /// The variables: those outside functions, and then those of the functions.
+    pub fn variables(&self) -> &[&'a Inst]
+        ensures { map (λ i. i.now) result.now ≡ variables_of self.now }
     {
-        &self.body
+        &self.variables
     }
 
-    /// The instructions of the functions.
+    /// The variables of the functions.
     #[tactic(auto, using(crate::proofs::Finds::behind_front))]
-    pub fn locals(&self) -> &[&'a Inst]
-        ensures { map (λ i. i.now) result.now ≡ local_insts self.now }
+    pub fn local_variables(&self) -> &[&'a Inst]
+        ensures { map (λ i. i.now) result.now ≡ inner_variables self.now }
     {
-        behind(&self.body, self.module.globals().len())
+        behind(&self.variables, self.outer)
+    }
+
+    /// The types of the constants, and of the values that are computed in functions.
+    pub fn types_of_values(&self) -> &[u32]
+        ensures { (id : ℕ) → is_among result.now id ≡ is_among (value_types_in self.now) id }
+    {
+        &self.types
     }
 
     /// The global instruction with this result.

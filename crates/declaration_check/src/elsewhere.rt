@@ -46,12 +46,30 @@ fn add_function(ids: &mut IdSet, function: &Function) -> Result<(), AllocError>
     Ok(())
 }
 
+/// How many instructions a function has.
+fn size_of(function: &Function) -> usize {
+    let mut size: usize = 0;
+    for block in function.blocks.as_slice() {
+        size = size.saturating_add(block.insts.len());
+    }
+    size
+}
+
+/// How many instructions some functions have.
+fn count_of(functions: &[Function]) -> usize {
+    let mut count: usize = 0;
+    for function in functions {
+        count = count.saturating_add(size_of(function));
+    }
+    count
+}
+
 /// The ids of imports, functions, parameters and labels, and the results of the functions'
-/// instructions, where the module has about so many instructions.
-pub fn defined_elsewhere(alloc: Global, module: &Module, insts: usize) -> Result<IdSet, AllocError>
+/// instructions.
+pub fn defined_elsewhere(alloc: Global, module: &Module) -> Result<IdSet, AllocError>
     ensures { IfOk result (λ ids. (id : ℕ) → is_in ids id ≡ is_defined_elsewhere «module».now id) }
 {
-    let mut ids = IdSet::below(alloc, module.bound(), insts)?;
+    let mut ids = IdSet::below(alloc, module.bound(), count_of(module.functions()))?;
     add_results(&mut ids, module.heads())?;
     for function in module.functions() {
         add_function(&mut ids, function)?;

@@ -1,8 +1,9 @@
 // What the types of a module are used for.
-ghost use Rattle.std.specs.Prelude.{◌≡◌, ◌==◌, ◌++◌, ◌∷◌, ◌||◌, ℕ, ◌-◌, ◌&&◌, length, take, map, flat_map, IfOk, OnOk};
+ghost use Rattle.std.specs.Prelude.{◌≡◌, ◌==◌, ◌++◌, ◌∷◌, ◌||◌, ℕ, ◌-◌, ◌&&◌, length, take, map, flat_map, filter_map, IfOk, OnOk};
 ghost use Rattle.id_map.specs.Entries.{is_in as has_id};
 ghost use Rattle.profile_rules.specs.Places.{is_among};
-ghost use Rattle.profile_rules.specs.TypeForm.{parts_of as parts_in, pointee_by as pointee_of, pointees as pointees_in, value_type as value_type_of, value_types as value_types_in, signature, signature_types as signature_types_in, block_misuses as block_misuses_in, is_storage_block as is_storage_block_in, fixed_parts as fixed_parts_in, runtime_misuses as runtime_misuses_in, other_types as other_types_in, is_held};
+ghost use Rattle.profile_rules.specs.TypeForm.{parts_of as parts_in, pointee_by as pointee_of, pointees as pointees_in, signature, signature_types as signature_types_in, is_storage_block as is_storage_block_in, fixed_parts as fixed_parts_in, is_held};
+ghost use Rattle.declaration_check.specs.Kept.{variables_of};
 ghost use Rattle.declaration_check.specs.Classes.{is_in, AreMisuses, AreHolders};
 
 use crate::context::Context;
@@ -47,11 +48,11 @@ fn pointee_by(context: &Context, classes: Classes, inst: &Inst) -> Option<u32>
 
 /// The types that variables of such classes point to.
 #[tactic(auto, using(crate::proofs::Finds::chosen_rules))]
-fn pointees(alloc: Global, context: &Context, classes: Classes) -> Result<Vec<u32>, AllocError>
-    ensures { IfOk result (λ ids. ids.items ≡ pointees_in context.now (is_in classes)) }
+fn pointees_of(alloc: Global, context: &Context, classes: Classes) -> Result<Vec<u32>, AllocError>
+    ensures { IfOk result (λ ids. ids.items ≡ filter_map (pointee_of context.now.globals (is_in classes)) (variables_of context.now)) }
 {
     let mut ids = Vec::new(alloc);
-    for inst in context.body() {
+    for inst in context.variables() {
         if let Some(id) = pointee_by(context, classes, *inst) {
             ids.push(id)?;
         }
@@ -59,29 +60,12 @@ fn pointees(alloc: Global, context: &Context, classes: Classes) -> Result<Vec<u3
     Ok(ids)
 }
 
-/// The type of a constant, or of a value that is computed in a function.
-fn value_type(inst: &Inst) -> Option<u32>
-    ensures { result ≡ value_type_of inst.now }
+/// The same, among all instructions.
+#[tactic(auto, using(crate::proofs::Asked::pointees_same))]
+fn pointees(alloc: Global, context: &Context, classes: Classes) -> Result<Vec<u32>, AllocError>
+    ensures { IfOk result (λ ids. ids.items ≡ pointees_in context.now (is_in classes)) }
 {
-    if is_variable(inst) {
-        None
-    } else {
-        Some(inst.ty)
-    }
-}
-
-/// The types of the constants, and of the values that are computed in functions.
-#[tactic(auto, using(crate::proofs::Finds::chosen_rules))]
-fn value_types(alloc: Global, context: &Context) -> Result<Vec<u32>, AllocError>
-    ensures { IfOk result (λ ids. ids.items ≡ value_types_in context.now) }
-{
-    let mut ids = Vec::new(alloc);
-    for inst in context.body() {
-        if let Some(id) = value_type(*inst) {
-            ids.push(id)?;
-        }
-    }
-    Ok(ids)
+    pointees_of(alloc, context, classes)
 }
 
 fn type_of_parameter(param: &(Id, Id)) -> u32
@@ -178,13 +162,13 @@ fn set_of(alloc: Global, context: &Context, ids: &[u32]) -> Result<IdSet, AllocE
     Ok(set)
 }
 
-/// All that is no use of a Block struct.
-fn block_misuses(alloc: Global, context: &Context) -> Result<Vec<u32>, AllocError>
-    ensures { IfOk result (λ ids. ids.items ≡ block_misuses_in context.now) }
+/// All that is no use of a Block struct, where values have these types.
+fn block_misuses(alloc: Global, context: &Context, types: &[u32]) -> Result<Vec<u32>, AllocError>
+    ensures { IfOk result (λ ids. ids.items ≡ flat_map parts_in context.now.globals ++ pointees_in context.now (is_in Classes.OtherThanBlock) ++ types.now ++ signature_types_in context.now) }
 {
     let mut ids = all_parts(alloc, context)?;
     ids.extend_from_slice(&pointees(alloc, context, Classes::OtherThanBlock)?)?;
-    ids.extend_from_slice(&value_types(alloc, context)?)?;
+    ids.extend_from_slice(types)?;
     ids.extend_from_slice(&signature_types(alloc, context)?)?;
     Ok(ids)
 }
@@ -232,9 +216,9 @@ fn all_fixed_parts(alloc: Global, context: &Context, others: &IdSet) -> Result<V
     Ok(ids)
 }
 
-/// All that is no use of a runtime array.
-fn runtime_misuses(alloc: Global, context: &Context) -> Result<Vec<u32>, AllocError>
-    ensures { IfOk result (λ ids. ids.items ≡ runtime_misuses_in context.now) }
+/// All that is no use of a runtime array, where values have these types.
+fn runtime_misuses(alloc: Global, context: &Context, types: &[u32]) -> Result<Vec<u32>, AllocError>
+    ensures { IfOk result (λ ids. ids.items ≡ flat_map (fixed_parts_in context.now) context.now.globals ++ pointees_in context.now (is_in Classes.Any) ++ types.now ++ signature_types_in context.now) }
 {
     let others = set_of(
         alloc,
@@ -243,7 +227,7 @@ fn runtime_misuses(alloc: Global, context: &Context) -> Result<Vec<u32>, AllocEr
     )?;
     let mut ids = all_fixed_parts(alloc, context, &others)?;
     ids.extend_from_slice(&pointees(alloc, context, Classes::Any)?)?;
-    ids.extend_from_slice(&value_types(alloc, context)?)?;
+    ids.extend_from_slice(types)?;
     ids.extend_from_slice(&signature_types(alloc, context)?)?;
     Ok(ids)
 }
@@ -259,9 +243,12 @@ pub struct Misuses {
 pub fn find_misuses(alloc: Global, context: &Context) -> Result<Misuses, AllocError>
     ensures { IfOk result (λ uses. AreMisuses context.now (has_id uses.blocks) (has_id uses.runtimes)) }
 {
+    let types = context.types_of_values();
+    let blocks = block_misuses(alloc, context, types)?;
+    let runtimes = runtime_misuses(alloc, context, types)?;
     Ok(Misuses {
-        blocks: set_of(alloc, context, &block_misuses(alloc, context)?)?,
-        runtimes: set_of(alloc, context, &runtime_misuses(alloc, context)?)?,
+        blocks: set_of(alloc, context, &blocks)?,
+        runtimes: set_of(alloc, context, &runtimes)?,
     })
 }
 
@@ -290,12 +277,13 @@ fn held(alloc: Global, context: &Context, types: &[u32]) -> Result<IdSet, AllocE
     Ok(set)
 }
 
-/// The types of what may not hold an array whose length is a specialization constant.
-fn other_types(alloc: Global, context: &Context) -> Result<Vec<u32>, AllocError>
-    ensures { IfOk result (λ ids. ids.items ≡ other_types_in context.now) }
+/// The types of what may not hold an array whose length is a specialization constant, where values have
+/// these types.
+fn other_types(alloc: Global, context: &Context, types: &[u32]) -> Result<Vec<u32>, AllocError>
+    ensures { IfOk result (λ ids. ids.items ≡ pointees_in context.now (is_in Classes.OtherThanWorkgroup) ++ types.now) }
 {
     let mut ids = pointees(alloc, context, Classes::OtherThanWorkgroup)?;
-    ids.extend_from_slice(&value_types(alloc, context)?)?;
+    ids.extend_from_slice(types)?;
     Ok(ids)
 }
 
@@ -312,7 +300,7 @@ pub fn find_holders(alloc: Global, context: &Context) -> Result<Holders, AllocEr
     ensures { IfOk result (λ h. AreHolders context.now (has_id h.workgroup) (has_id h.others)) }
 {
     let workgroup = pointees(alloc, context, Classes::Workgroup)?;
-    let others = other_types(alloc, context)?;
+    let others = other_types(alloc, context, context.types_of_values())?;
     Ok(Holders {
         workgroup: held(alloc, context, &workgroup)?,
         others: held(alloc, context, &others)?,

@@ -4,11 +4,11 @@ ghost use Rattle.std.specs.Option.{option_copied, option_map_or};
 ghost use Rattle.spv_module.specs.Held.{global};
 ghost use Rattle.spv_index.specs.Pointers.{storage_class};
 ghost use Rattle.spv_decor.specs.Rows.{value_of};
-ghost use Rattle.spv_decor.specs.Decorations.{local_insts};
 ghost use Rattle.spv_words.specs.declared.rule.Rule.TheVariants.{P13, P14, P15, P16};
-ghost use Rattle.profile_rules.specs.Places.{body_insts, is_among, is_constant as is_constant_op, is_variable as is_variable_row};
+ghost use Rattle.profile_rules.specs.Places.{is_among, is_constant as is_constant_op, is_variable as is_variable_row};
 ghost use Rattle.profile_rules.specs.Variables.{classes, is_other_class as is_other_class_in, is_misclassed as is_misclassed_in, is_pointee, pointed_type as pointed_type_in, inputs, is_other_input_type as is_other_input_type_in, is_other_input as is_other_input_in, is_buffer as is_buffer_row, is_push as is_push_row, is_no_block as is_no_block_in, is_unbound as is_unbound_in, is_other_block as is_other_block_in, is_of_other_type as is_of_other_type_in, is_other_value as is_other_value_in, is_other_initializer as is_other_initializer_in, p13, p14, p15, p16};
 ghost use Rattle.declaration_check.specs.Checked.{IsChecked};
+ghost use Rattle.declaration_check.specs.Kept.{inner_variables, variables_of};
 
 use crate::context::Context;
 use crate::refusal::refuse_at;
@@ -68,9 +68,9 @@ fn first_misclassed_outside<'a>(context: &Context<'a>) -> Option<&'a Inst>
 
 #[tactic(auto, using(crate::proofs::Finds::behind_rules))]
 fn first_misclassed_inside<'a>(context: &Context<'a>) -> Option<&'a Inst>
-    ensures { option_copied result ≡ find (is_misclassed_in true context.now.globals) (local_insts context.now) }
+    ensures { option_copied result ≡ find (is_misclassed_in true context.now.globals) (inner_variables context.now) }
 {
-    for inst in context.locals() {
+    for inst in context.local_variables() {
         if is_misclassed(context, true, *inst) {
             return Some(*inst);
         }
@@ -142,9 +142,9 @@ fn is_other_input(context: &Context, inst: &Inst) -> bool
 
 #[tactic(auto, using(crate::proofs::Finds::behind_rules))]
 fn first_other_input<'a>(context: &Context<'a>) -> Option<&'a Inst>
-    ensures { option_copied result ≡ find (is_other_input_in context.now.heads context.now.globals) (body_insts context.now) }
+    ensures { option_copied result ≡ find (is_other_input_in context.now.heads context.now.globals) (variables_of context.now) }
 {
-    for inst in context.body() {
+    for inst in context.variables() {
         if is_other_input(context, *inst) {
             return Some(*inst);
         }
@@ -206,10 +206,10 @@ fn is_other_block(context: &Context, pushes: usize, inst: &Inst) -> bool
 /// How many PushConstant variables there are.
 #[tactic(auto, using(crate::proofs::Finds::count_rules))]
 fn count_pushes(context: &Context) -> usize
-    ensures { result ≡ count_by is_push_row (body_insts context.now) }
+    ensures { result ≡ count_by is_push_row (variables_of context.now) }
 {
     let mut count = 0;
-    for inst in context.body() {
+    for inst in context.variables() {
         if is_push(*inst) {
             count += 1;
         }
@@ -219,9 +219,9 @@ fn count_pushes(context: &Context) -> usize
 
 #[tactic(auto, using(crate::proofs::Finds::behind_rules))]
 fn first_other_block<'a>(context: &Context<'a>, pushes: usize) -> Option<&'a Inst>
-    ensures { option_copied result ≡ find (is_other_block_in context.now.heads context.now.globals pushes) (body_insts context.now) }
+    ensures { option_copied result ≡ find (is_other_block_in context.now.heads context.now.globals pushes) (variables_of context.now) }
 {
-    for inst in context.body() {
+    for inst in context.variables() {
         if is_other_block(context, pushes, *inst) {
             return Some(*inst);
         }
@@ -230,7 +230,7 @@ fn first_other_block<'a>(context: &Context<'a>, pushes: usize) -> Option<&'a Ins
 }
 
 fn block_fault<'a>(context: &Context<'a>) -> Option<&'a Inst>
-    ensures { option_copied result ≡ find (is_other_block_in context.now.heads context.now.globals (count_by is_push_row (body_insts context.now))) (body_insts context.now) }
+    ensures { option_copied result ≡ find (is_other_block_in context.now.heads context.now.globals (count_by is_push_row (variables_of context.now))) (variables_of context.now) }
 {
     let pushes = count_pushes(context);
     first_other_block(context, pushes)
@@ -283,9 +283,9 @@ fn is_other_initializer(context: &Context, inst: &Inst) -> bool
 
 #[tactic(auto, using(crate::proofs::Finds::behind_rules))]
 fn first_other_initializer<'a>(context: &Context<'a>) -> Option<&'a Inst>
-    ensures { option_copied result ≡ find (is_other_initializer_in context.now) (body_insts context.now) }
+    ensures { option_copied result ≡ find (is_other_initializer_in context.now) (variables_of context.now) }
 {
-    for inst in context.body() {
+    for inst in context.variables() {
         if is_other_initializer(context, *inst) {
             return Some(*inst);
         }
