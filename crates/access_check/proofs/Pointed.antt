@@ -1,9 +1,9 @@
 -- What is among the pointers of a module, and what breaks no rule where no operand is.
-use Rattle.std.proofs.Common.{◌≡◌, ◌<◌, ◌==◌, ◌&&◌, ◌||◌, ◌+◌, ◌++◌, ℕ, zero, suc, Bool, true, false, List, [], ◌∷◌, Option, Some, None, is_some, cond, length, drop, get_or, refl, ap, sym, ◌∙◌, arith, subst, if◌then◌else◌, not}
-use Rattle.std.specs.Prelude.{option_and_then, option_map}
+use Rattle.std.proofs.Common.{◌≡◌, ◌<◌, ◌==◌, ◌&&◌, ◌||◌, ◌+◌, ◌++◌, ℕ, zero, suc, Bool, true, false, List, [], ◌∷◌, Option, Some, None, is_some, cond, length, drop, get_or, refl, ap, sym, ◌∙◌, arith, inl, inr, subst, if◌then◌else◌, not}
+use Rattle.std.specs.Prelude.{option_and_then, option_map, slice_index}
 use Rattle.std.specs.Option.{option_map_or, option_or}
 use Rattle.std.specs.List.{list_any, find, flat_map, enumerate_from}
-use Rattle.std.proofs.lemmas.Bool.{or_parts, or_from, and_left, and_right}
+use Rattle.std.proofs.lemmas.Bool.{or_parts, or_from, or_cases, and_parts, and_left, and_right}
 use Rattle.std.proofs.lemmas.Bool.Decides.{nat_tests}
 use Rattle.std.proofs.lemmas.List.Folds.{list_any-append}
 use Rattle.std.proofs.lemmas.List.Concat.{flat_map-cons}
@@ -18,12 +18,12 @@ use Rattle.spv_module.specs.declared.inst.Block.{Block}
 use Rattle.spv_module.specs.declared.inst.Function.{Function}
 use Rattle.spv_decor.specs.Rows.{word}
 use Rattle.spv_index.specs.Locals.{typed, insts_of, inst_in, parameter_in, global_type, local_type}
-use Rattle.spv_index.specs.Pointers.{storage_class}
+use Rattle.spv_index.specs.Pointers.{as_pointer, storage_class}
 use Rattle.profile_rules.specs.MemoryRules.{is_pointer, is_own_memory, is_other_pointer, is_atomic, is_read_only, class_of, is_through, non_writable, non_readable, repeats, is_stray_pointer, may_be_pointer, breaks_m1, breaks_m2, breaks_m3, breaks_m4, breaks_m5, constant_word}
 use Rattle.profile_rules.specs.AtomicRules.{is_other_value, is_scope, is_relaxed, is_semantics, leads_elsewhere, breaks_a1, breaks_a2, breaks_a3, breaks_a4, breaks_a5}
 use Rattle.profile_rules.specs.AccessRules.{breaks, access_rules}
-use Rattle.access_check.specs.Pointed.{is_pointer_type, makes_pointer, takes_pointer, has_pointer, is_some_pointer, HasPointersAmong, is_access}
-use Rattle.access_check.proofs.Faults.{any_weaker}
+use Rattle.access_check.specs.Pointed.{is_pointer_type, makes_pointer, takes_pointer, has_pointer, is_some_pointer, declares, HasPointersAmong, is_access}
+use Rattle.access_check.proofs.Faults.{any_weaker, found_passes}
 
 -- what is found passes no test that none of those passes
 found_fails : {X : Type 0} (p q : X → Bool) (xs : List X) (x : X) → find p xs ≡ Some x → list_any (λ y. q y && p y) xs ≡ false → q x ≡ false
@@ -68,10 +68,10 @@ module _ (gs : List Inst) where
   no_class_of None no_pointer = refl
   no_class_of (Some p) no_pointer = no_pointer p refl
 
-  no_pointer_in : (f : Function) (id : ℕ) → list_any (makes_pointer gs id) gs ≡ false → has_pointer gs id f ≡ false → is_pointer gs f id ≡ false
+  no_pointer_in : (f : Function) (id : ℕ) → list_any (makes_pointer (is_pointer_type gs) id) gs ≡ false → has_pointer (is_pointer_type gs) id f ≡ false → is_pointer gs f id ≡ false
   no_pointer_in f id outside inside =
-      let parts = or_parts (list_any (takes_pointer gs id) f.params) (list_any (λ (b : Block). list_any (makes_pointer gs id) b.insts) f.blocks) inside in
-      let insts : list_any (makes_pointer gs id) (insts_of f) ≡ false = any_parts (makes_pointer gs id) (λ (b : Block). b.insts) f.blocks parts.1 in
+      let parts = or_parts (list_any (takes_pointer (is_pointer_type gs) id) f.params) (list_any (λ (b : Block). list_any (makes_pointer (is_pointer_type gs) id) b.insts) f.blocks) inside in
+      let insts : list_any (makes_pointer (is_pointer_type gs) id) (insts_of f) ≡ false = any_parts (makes_pointer (is_pointer_type gs) id) (λ (b : Block). b.insts) f.blocks parts.1 in
       let is_one : Inst → Bool = λ i. i.result == id in
       let own : Inst → Bool = λ i. is_pointer_type gs i.ty in
       let by_global : HasNoClass (global_type gs id) = no_class_typed (global gs id) (λ i found. found_fails is_one own gs i found outside) in
@@ -80,12 +80,42 @@ module _ (gs : List Inst) where
       no_class_of (find (λ (p : Id × Id). p.0.0 == id) f.params) (λ p found. found_fails (λ (q : Id × Id). q.0.0 == id) (λ (q : Id × Id). is_pointer_type gs q.1.0) f.params p found parts.0) in
       no_class_or (global_type gs id) (local_type f id) by_global (no_class_or (parameter_in f id) (option_and_then typed (inst_in f id)) by_param by_inst)
 
+-- an id is that of a pointer type where an instruction declares it
+declared_some : (gs xs : List Inst) (ty : ℕ) → list_any (declares gs ty) xs ≡ true → is_pointer_type gs ty ≡ true
+declared_some gs [] ty some = cc
+declared_some gs (x ∷ xs) ty some =
+    elim (or_cases (declares gs ty x) (list_any (declares gs ty) xs) some) [
+      | inl here ↦ here_is x here
+      | inr later ↦ declared_some gs xs ty later
+    ]
+  where
+    here_is : (x : Inst) → declares gs ty x ≡ true → is_pointer_type gs ty ≡ true
+    here_is x here =
+        let parts = and_parts (is_pointer_type gs x.result) (x.result == ty) here in
+        let same : x.result ≡ ty = grind (arith, nat_tests, parts.1) in
+        ap (is_pointer_type gs) (sym same) ∙ parts.0
+
+declared_none : (gs : List Inst) (ty : ℕ) (found : Option Inst) → global gs ty ≡ found → list_any (declares gs ty) gs ≡ false → is_pointer_type gs ty ≡ false
+declared_none gs ty None is none = ap (λ (o : Option Inst). is_some (option_map (λ (g : Inst). slice_index g.args 0) (option_and_then as_pointer o))) is
+declared_none gs ty (Some g) is none =
+    let other : is_pointer_type gs g.result ≡ false = found_fails (λ (h : Inst). h.result == ty) (λ (h : Inst). is_pointer_type gs h.result) gs g is none in
+    let own : (g.result == ty) ≡ true = found_passes (λ (h : Inst). h.result == ty) gs g is in
+    let same : g.result ≡ ty = grind (arith, nat_tests, own) in
+    ap (is_pointer_type gs) (sym same) ∙ other
+
+pub declared : (gs : List Inst) (ty : ℕ) → list_any (declares gs ty) gs ≡ is_pointer_type gs ty
+declared gs ty = by (list_any (declares gs ty) gs) refl
+  where
+    by : (b : Bool) → list_any (declares gs ty) gs ≡ b → list_any (declares gs ty) gs ≡ is_pointer_type gs ty
+    by true is = is ∙ sym (declared_some gs gs ty is)
+    by false is = is ∙ sym (declared_none gs ty (global gs ty) refl is)
+
 -- those of the module have those of each function
 pub has_those : (m : ModuleState) (fs : List Function) (k : ℕ) (f : Function) (known : ℕ → Bool) → fs ≡ m.functions → k < length fs → f ≡ get_or fs k f → ((id : ℕ) → known id ≡ is_some_pointer m id) → HasPointersAmong m.globals f known
 has_those m fs k f known all inside is same id none =
-    let P : List Function → Type 0 = λ l. list_any (has_pointer m.globals id) l ≡ false in
-    let parts = or_parts (list_any (makes_pointer m.globals id) m.globals) (list_any (has_pointer m.globals id) m.functions) (sym (same id) ∙ none) in
-    no_pointer_in m.globals f id parts.0 (any_at (has_pointer m.globals id) fs k f inside is (subst P (sym all) parts.1))
+    let P : List Function → Type 0 = λ l. list_any (has_pointer (is_pointer_type m.globals) id) l ≡ false in
+    let parts = or_parts (list_any (makes_pointer (is_pointer_type m.globals) id) m.globals) (list_any (has_pointer (is_pointer_type m.globals) id) m.functions) (sym (same id) ∙ none) in
+    no_pointer_in m.globals f id parts.0 (any_at (has_pointer (is_pointer_type m.globals) id) fs k f inside is (subst P (sym all) parts.1))
 
 any_behind : (p : ℕ → Bool) (xs : List ℕ) → list_any p xs ≡ false → list_any p (drop 1 xs) ≡ false
 any_behind p [] none = refl

@@ -142,9 +142,11 @@ fn memory_rule(
     decor: &Decor,
     locals: &Locals,
     ways: &Ways,
+    pointers: &IdSet,
     inst: &Inst,
 ) -> Result<Option<Rule>, AllocError>
-    requires { AreAllWays decor.now «module».now.globals locals.now ways.now }
+    requires ways { AreAllWays decor.now «module».now.globals locals.now ways.now }
+    requires pointers { HasPointersAmong «module».now.globals locals.now (is_in pointers.now) }
     ensures { IfOk result (λ rule. rule ≡ find (λ r. breaks decor.now «module».now.globals locals.now r inst.now) memory_rules) }
 {
     if has_other_mask(inst) {
@@ -159,7 +161,7 @@ fn memory_rule(
     if has_other_argument(alloc, module, locals, inst)? {
         return Ok(Some(Rule::M4));
     }
-    if has_stray_pointer(module, locals, inst) {
+    if has_stray_pointer(module, locals, pointers, inst) {
         return Ok(Some(Rule::M5));
     }
     Ok(None)
@@ -194,12 +196,14 @@ fn access_rule(
     decor: &Decor,
     locals: &Locals,
     ways: &Ways,
+    pointers: &IdSet,
     inst: &Inst,
 ) -> Result<Option<Rule>, AllocError>
-    requires { AreAllWays decor.now «module».now.globals locals.now ways.now }
+    requires ways { AreAllWays decor.now «module».now.globals locals.now ways.now }
+    requires pointers { HasPointersAmong «module».now.globals locals.now (is_in pointers.now) }
     ensures { IfOk result (λ rule. rule ≡ find (λ r. breaks decor.now «module».now.globals locals.now r inst.now) access_rules) }
 {
-    match memory_rule(alloc, module, decor, locals, ways, inst)? {
+    match memory_rule(alloc, module, decor, locals, ways, pointers, inst)? {
         Some(rule) => Ok(Some(rule)),
         None => Ok(atomic_rule(module, locals, inst)),
     }
@@ -242,7 +246,7 @@ fn broken_rule(
     ensures { IfOk result (λ rule. rule ≡ find (λ r. breaks decor.now «module».now.globals locals.now r inst.now) access_rules) }
 {
     if may_break(pointers, inst) {
-        access_rule(alloc, module, decor, locals, ways, inst)
+        access_rule(alloc, module, decor, locals, ways, pointers, inst)
     } else {
         Ok(None)
     }

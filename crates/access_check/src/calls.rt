@@ -1,5 +1,5 @@
 // The rule on the arguments of calls.
-ghost use Rattle.std.specs.Prelude.{◌≡◌, drop, IfOk};
+ghost use Rattle.std.specs.Prelude.{◌≡◌, ◌==◌, ◌&&◌, drop, IfOk};
 ghost use Rattle.std.specs.List.{list_any};
 ghost use Rattle.profile_rules.specs.MemoryRules.{is_own_memory as is_own_memory_in, is_other_pointer as is_other_pointer_in, is_pointer as is_pointer_in, repeats, breaks_m4};
 
@@ -31,9 +31,39 @@ fn has_other_pointer(module: &Module, locals: &Locals, args: &[u32]) -> bool
     args.iter().any(|id| is_other_pointer(module, locals, *id))
 }
 
-/// Whether a pointer stands among these arguments twice.
+fn is_among(ids: &[u32], id: u32) -> bool
+    ensures { result ≡ list_any (λ other. other == id) ids.now }
+{
+    ids.iter().any(|other| *other == id)
+}
+
+/// Whether this is a pointer, and stands among these as well.
+#[tactic(auto, using(crate::proofs::Repeats::in_any_order))]
+fn stands_again(module: &Module, locals: &Locals, id: u32, others: &[u32]) -> bool
+    ensures { result ≡ (is_pointer_in «module».now.globals locals.now id && list_any (λ other. other == id) others.now) }
+{
+    is_among(others, id) && is_pointer(module, locals, id)
+}
+
+/// So many arguments are sought in a list one by one.
+const FEW: usize = 8;
+
+/// Whether a pointer stands among few arguments twice.
+#[tactic(auto, using(crate::proofs::Repeats::repeats_first))]
+fn repeats_among_few(module: &Module, locals: &Locals, args: &[u32]) -> bool
+    ensures { result ≡ repeats (is_pointer_in «module».now.globals locals.now) args.now }
+{
+    match args {
+        [] => false,
+        [id, rest @ ..] => {
+            stands_again(module, locals, *id, rest) || repeats_among_few(module, locals, rest)
+        }
+    }
+}
+
+/// Whether a pointer stands among many arguments twice.
 #[tactic(auto, using(crate::proofs::Repeats::repeat_rules))]
-fn repeats_pointer(
+fn repeats_among_many(
     alloc: Global,
     module: &Module,
     locals: &Locals,
@@ -49,6 +79,21 @@ fn repeats_pointer(
         seen.insert(*id)?;
     }
     Ok(false)
+}
+
+/// Whether a pointer stands among these arguments twice.
+fn repeats_pointer(
+    alloc: Global,
+    module: &Module,
+    locals: &Locals,
+    args: &[u32],
+) -> Result<bool, AllocError>
+    ensures { IfOk result (λ broken. broken ≡ repeats (is_pointer_in «module».now.globals locals.now) args.now) }
+{
+    if args.len() > FEW {
+        return repeats_among_many(alloc, module, locals, args);
+    }
+    Ok(repeats_among_few(module, locals, args))
 }
 
 pub fn arguments(inst: &Inst) -> &[u32]
