@@ -64,6 +64,13 @@ impl Places {
         self.nest.nodes()
     }
 
+    /// The graph alone; the memory of what was known of the constructs round its blocks is given back.
+    pub fn into_nodes(self) -> Vec<Node>
+        ensures { result.items ≡ self }
+    {
+        self.nest.into_nodes()
+    }
+
     /// The nearest loop round the edges of a reached block: its body, or its continue construct.
     #[tactic(auto, using(crate::proofs::Outward::reached_inside))]
     pub fn nearest_loop(&self, block: usize) -> Option<Part>

@@ -61,6 +61,13 @@ impl Nest {
         &self.nodes
     }
 
+    /// The graph alone.
+    pub fn into_nodes(self) -> Vec<Node>
+        ensures { result.items ≡ self }
+    {
+        self.nodes
+    }
+
     /// What a block is to its parent.
     fn role(&self, block: usize) -> Role
         requires { block < length self.now }
