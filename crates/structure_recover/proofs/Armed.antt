@@ -1,16 +1,12 @@
--- The targets of a switch are the keys of the table of its literals.
-use Rattle.std.proofs.Common.{◌≡◌, ◌≢◌, ◌<◌, ◌≤◌, ◌+◌, ◌==◌, ◌||◌, ℕ, zero, suc, Bool, true, false, List, [], ◌∷◌, ◌++◌, length, get_or, map, filter, drop, if◌then◌else◌, Option, Some, None, Vec, Global, refl, ap, sym, ◌∙◌, subst, inl, inr, arith, is_some}
+-- The targets of a switch are its arms' targets, in the order in which they stand in the function.
+use Rattle.std.proofs.Common.{◌≡◌, ◌≢◌, ◌<◌, ◌≤◌, ◌+◌, ◌==◌, ◌||◌, ℕ, zero, suc, Bool, true, false, List, [], ◌∷◌, length, get_or, map, filter, drop, if◌then◌else◌, Option, refl, ap, sym, ◌∙◌, subst, inl, inr, arith}
 use Rattle.std.specs.List.{list_any, range_with_len, slice_get, zip}
-use Rattle.std.specs.List.Sorted.{IsStrictlySortedBy}
-use Rattle.std.specs.Ordering.{nat_cmp, is_eq, MatchOrdering}
+use Rattle.std.specs.List.Sorted.{IsStrictlyIncreasing, IsStrictlySortedBy}
+use Rattle.std.specs.Ordering.{nat_cmp, MatchOrdering}
 use Rattle.std.specs.declared.cmp.Ordering.{Ordering}
 use Rattle.std.specs.declared.cmp.Ordering.TheVariants.{Less, Equal, Greater}
-use Rattle.std.specs.Map.{keys_of}
-use Rattle.std.specs.BTreeMap.{BTreeMap, get, IsOrdered, is_at}
-use Rattle.std.proofs.lemmas.Cmp.{ranked, nat_cmp_total, eq_by_cmp_equiv}
-use Rattle.std.proofs.lemmas.Map.Entries.{lookup_from_place}
-use Rattle.std.proofs.lemmas.Map.Keys.{IsDistinct-from_sorted}
-use Rattle.std.proofs.lemmas.Map.Made.{is_some-lookup}
+use Rattle.std.proofs.lemmas.Cmp.{ranked}
+use Rattle.std.proofs.lemmas.Map.Keys.{sorted_from_strictly_increasing}
 use Rattle.std.proofs.lemmas.Bool.Decides.{eqb_tells}
 use Rattle.spv_module.specs.declared.inst.Function.{Function}
 use Rattle.structure_rules.specs.declared.graph.Node.{Node}
@@ -19,8 +15,8 @@ use Rattle.nest_place.specs.Nests.{IsSound}
 use Rattle.nest_place.proofs.LinkLemmas.{same_nat}
 use Rattle.nest_place.proofs.Verdict.{edge_inside}
 use Rattle.structure_recover.specs.declared.arms.Arm.{Arm}
-use Rattle.structure_recover.specs.Follows.{switch_targets, cases, labels_to, literals_by, last_inst}
-use Rattle.structure_recover.specs.Arms.{IsArm, AreArms, arm_of, labels_of, has_labels}
+use Rattle.structure_recover.specs.Follows.{switch_targets, labels_to, literals_by, last_inst}
+use Rattle.structure_recover.specs.Arms.{IsArm, AreArms, AreLabelled, Adds, target_of}
 use Rattle.structure_recover.proofs.Kids.{not_equal}
 
 -- each number is at least this one, and more than the one before it
@@ -84,89 +80,39 @@ rising_filter p (suc n) i (k ∷ ks) up same low = elim (eqb_tells k i) [
     or_later true b e = refl
     or_later false b e = e
 
-abbrev Entries : Type 0
-Entries = List (ℕ × Vec ℕ Global)
-
-tests_same : (q k : ℕ) → is_at (nat_cmp q) k ≡ (k == q)
-tests_same q k = by_order (nat_cmp q k) (ranked q k (nat_cmp q k) refl)
-  where
-    by_order : (r : Ordering) → MatchOrdering r (q < k) (q ≡ k) (k < q) → is_eq r ≡ (k == q)
-    by_order Less m = sym (not_equal k q (λ e. omega (arith, e, m)))
-    by_order Equal m = sym (ap (λ x. x == q) (sym m) ∙ same_nat q)
-    by_order Greater m = sym (not_equal k q (λ e. omega (arith, e, m)))
-
-any_same : (q : ℕ) (ks : List ℕ) → list_any (is_at (nat_cmp q)) ks ≡ list_any (λ k. k == q) ks
-any_same q ks = ap (λ p. list_any p ks) (λ i k. tests_same q k i)
-
-has_some : (o : Option (Vec ℕ Global)) → has_labels o ≡ is_some o
-has_some None = refl
-has_some (Some v) = refl
-
--- the keys of a table
-key_test : (m : BTreeMap ℕ (Vec ℕ Global)) (q : ℕ) → list_any (λ k. k == q) (keys_of m.entries) ≡ has_labels (get nat_cmp m q)
-key_test m q = sym (has_some (get nat_cmp m q) ∙ (is_some-lookup (is_at (nat_cmp q)) m.entries ∙ any_same q (keys_of m.entries)))
-
--- what case targets are among are targets
-zip_in : (ts ls : List ℕ) (q : ℕ) → list_any (λ (c : ℕ × ℕ). c.0 == q) (zip (drop 1 ts) ls) ≡ true → list_any (λ t. t == q) ts ≡ true
-zip_in [] ls q e = cc
-zip_in (t ∷ ts) ls q e = or_later (t == q) (list_any (λ t. t == q) ts) (inner ts ls e)
+-- an arm's target is among the targets
+any_target : (arms : List Arm) (k : ℕ) (d : Arm) → k < length arms → list_any (λ t. t == (get_or arms k d).target) (map target_of arms) ≡ true
+any_target [] k d less = absurd (omega (arith, less))
+any_target (a ∷ arms) zero d less = ap (λ b. b || list_any (λ t. t == a.target) (map target_of arms)) (same_nat a.target)
+any_target (a ∷ arms) (suc k) d less = or_later (a.target == (get_or arms k d).target) (list_any (λ t. t == (get_or arms k d).target) (map target_of arms)) (any_target arms k d (omega (arith, less)))
   where
     or_later : (a b : Bool) → b ≡ true → (a || b) ≡ true
     or_later true b e = refl
     or_later false b e = e
 
-    inner : (ts ls : List ℕ) → list_any (λ (c : ℕ × ℕ). c.0 == q) (zip ts ls) ≡ true → list_any (λ t. t == q) ts ≡ true
-    inner [] ls e = cc
-    inner (t ∷ ts) [] e = cc
-    inner (t ∷ ts) (l ∷ ls) e = by_test (t == q) e (inner ts ls)
-      where
-        by_test : (b : Bool) → (b || list_any (λ (c : ℕ × ℕ). c.0 == q) (zip ts ls)) ≡ true → (list_any (λ (c : ℕ × ℕ). c.0 == q) (zip ts ls) ≡ true → list_any (λ t. t == q) ts ≡ true) → (b || list_any (λ t. t == q) ts) ≡ true
-        by_test true e rest = refl
-        by_test false e rest = rest e
-
-absorbed : (a b : Bool) → (b ≡ true → a ≡ true) → (a || b) ≡ a
-absorbed true b imp = refl
-absorbed false true imp = let never = imp refl in cc
-absorbed false false imp = refl
-
-at_place : (default : Option ℕ) (es : Entries) (i : ℕ) (d : Arm) → i < length (map (arm_of default) es) → (e : ℕ × Vec ℕ Global) × (slice_get es i ≡ Some e) × (get_or (map (arm_of default) es) i d ≡ arm_of default e)
-at_place default [] i d less = absurd (omega (arith, less))
-at_place default (e ∷ es) zero d less = (e, refl, refl)
-at_place default (e ∷ es) (suc i) d less = at_place default es i d (omega (arith, less))
-
-keys_are : (default : Option ℕ) (es : Entries) → map (λ (a : Arm). a.target) (map (arm_of default) es) ≡ keys_of es
-keys_are default [] = refl
-keys_are default (e ∷ es) = ap (λ ks. e.0 ∷ ks) (keys_are default es)
-
-pub are_arms : (f : Function) (g : List Node) (h : ℕ) (m n : BTreeMap ℕ (Vec ℕ Global)) (ts : List ℕ) (cs : List (ℕ × ℕ)) (default : Option ℕ) (arms : List Arm)
-    → IsSound g → (nth g h).reached ≡ true → ts ≡ (nth g h).targets → cs ≡ cases f g h → default ≡ slice_get ts 0
-    → ((q : ℕ) → has_labels (get nat_cmp m q) ≡ list_any (λ t. t == q) ts) → ((q : ℕ) → labels_of (get nat_cmp m q) ≡ [])
-    → ((q : ℕ) → has_labels (get nat_cmp n q) ≡ (has_labels (get nat_cmp m q) || list_any (λ (c : ℕ × ℕ). c.0 == q) cs)) → ((q : ℕ) → labels_of (get nat_cmp n q) ≡ labels_of (get nat_cmp m q) ++ labels_to cs q)
-    → IsOrdered nat_cmp n → arms ≡ map (arm_of default) n.entries → AreArms f g h arms
-are_arms f g h m n ts cs default arms sound here ts_is cs_is default_is old_keys old_labels keys labels ordered is =
-    subst (AreArms f g h) (sym is) (record { targets = keys_are default n.entries ∙ keys_filter; each = each })
+pub are_arms : (f : Function) (g : List Node) (h : ℕ) (order ts ls : List ℕ) (default : Option ℕ) (bare arms : List Arm)
+    → IsSound g → (nth g h).reached ≡ true → ts ≡ (nth g h).targets → ls ≡ literals_by (last_inst (slice_get f.blocks h)) → default ≡ slice_get ts 0
+    → IsStrictlyIncreasing order → ((q : ℕ) → list_any (λ t. t == q) order ≡ list_any (λ t. t == q) ts)
+    → map target_of bare ≡ order → AreLabelled default [] bare → Adds (zip (drop 1 ts) ls) bare arms → AreArms f g h arms
+are_arms f g h order ts ls default bare arms sound here ts_is ls_is default_is up same targets labelled adds = record { targets = all_targets ∙ order_filter; each = each }
   where
-    leads : (q : ℕ) → has_labels (get nat_cmp n q) ≡ leads_to q (nth g h)
-    leads q =
-        keys q ∙ (ap (λ b. b || list_any (λ (c : ℕ × ℕ). c.0 == q) cs) (old_keys q)
-        ∙ (absorbed (list_any (λ t. t == q) ts) (list_any (λ (c : ℕ × ℕ). c.0 == q) cs) (λ e. zip_in ts (literals_by (last_inst (slice_get f.blocks h))) q (subst (λ x. list_any (λ (c : ℕ × ℕ). c.0 == q) x ≡ true) (cs_is ∙ ap (λ x. zip (drop 1 x) (literals_by (last_inst (slice_get f.blocks h)))) (sym ts_is)) e))
-        ∙ ap (list_any (λ t. t == q)) ts_is))
+    leads : (q : ℕ) → list_any (λ t. t == q) order ≡ leads_to q (nth g h)
+    leads q = same q ∙ ap (list_any (λ t. t == q)) ts_is
 
-    keys_filter : keys_of n.entries ≡ switch_targets g h
-    keys_filter =
-        rising_filter (λ t. leads_to t (nth g h)) (length g) 0 (keys_of n.entries) (rises (keys_of n.entries) 0 ordered (λ k rest e. omega arith))
-        (λ t a b. key_test n t ∙ leads t) (λ t e. let less = edge_inside g h t sound here (sym (leads t) ∙ (sym (key_test n t) ∙ e)) in omega (arith, less))
+    all_targets : map (λ (a : Arm). a.target) arms ≡ order
+    all_targets = adds.targets ∙ targets
 
-    found : (i : ℕ) (e : ℕ × Vec ℕ Global) → slice_get n.entries i ≡ Some e → get nat_cmp n e.0 ≡ Some e.1
-    found i e at = lookup_from_place (eq_by_cmp_equiv nat_cmp_total) n.entries i e.0 e.1 (IsDistinct-from_sorted nat_cmp (keys_of n.entries) ordered) at
+    order_filter : order ≡ switch_targets g h
+    order_filter =
+        rising_filter (λ t. leads_to t (nth g h)) (length g) 0 order (rises order 0 (sorted_from_strictly_increasing order up) (λ k rest e. omega arith))
+        (λ t a b. leads t) (λ t e. let less = edge_inside g h t sound here (sym (leads t) ∙ e) in omega (arith, less))
 
-    each : (k : ℕ) (d : Arm) → k < length (map (arm_of default) n.entries) → IsArm f g h (get_or (map (arm_of default) n.entries) k d)
+    each : (k : ℕ) (d : Arm) → k < length arms → IsArm f g h (get_or arms k d)
     each k d less =
-        let at = at_place default n.entries k d less in
-        let e = at.0 in
-        let get_is = found k e at.1 in
-        subst (IsArm f g h) (sym at.2) (record {
-          leads = sym (leads e.0) ∙ ap has_labels get_is;
-          labels = sym (ap labels_of get_is) ∙ (labels e.0 ∙ (ap (λ q. q ++ labels_to cs e.0) (old_labels e.0) ∙ ap (λ x. labels_to x e.0) cs_is));
-          default = ap (is_value e.0) (default_is ∙ ap (λ x. slice_get x 0) ts_is);
-        })
+        let a = get_or arms k d in
+        let is = (adds.labelled default [] labelled).each k d less in
+        record {
+          leads = sym (leads a.target) ∙ (ap (list_any (λ t. t == a.target)) (sym all_targets) ∙ any_target arms k d less);
+          labels = is.labels ∙ ap (λ x. labels_to x a.target) (ap (λ x. zip (drop 1 x) ls) ts_is ∙ ap (zip (drop 1 (nth g h).targets)) ls_is);
+          default = is.mark ∙ ap (is_value a.target) (default_is ∙ ap (λ x. slice_get x 0) ts_is);
+        }

@@ -6,4 +6,5 @@ pub mod Rounds
 pub mod Counting
 pub mod Kids
 pub mod Standing
+pub mod Labelled
 pub mod Armed

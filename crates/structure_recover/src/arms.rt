@@ -1,12 +1,10 @@
 // The targets of a switch.
-ghost use Rattle.std.specs.Prelude.{◌≡◌, ◌==◌, ◌||◌, ◌++◌, map, ℕ, List, [], Some, None, true, IfOk, OnOk, drop, slice_get, if◌then◌else◌};
-ghost use Rattle.std.specs.Option.{option_map_or};
+ghost use Rattle.std.specs.Prelude.{◌≡◌, ◌==◌, ◌∷◌, map, ℕ, [], Option, IfOk, OnOk, drop, slice_get, true};
 ghost use Rattle.std.specs.List.{list_any, zip};
-ghost use Rattle.std.specs.Ordering.{nat_cmp};
-ghost use Rattle.std.specs.BTreeMap.{get, IsOrdered};
+ghost use Rattle.std.specs.List.Sorted.{IsStrictlyIncreasing};
 ghost use Rattle.structure_rules.specs.Graph.{nth};
-ghost use Rattle.structure_recover.specs.Follows.{firsts, literals_by, last_inst, labels_to, cases as cases_of};
-ghost use Rattle.structure_recover.specs.Arms.{AreArms, arm_of, labels_of, has_labels};
+ghost use Rattle.structure_recover.specs.Follows.{firsts, literals_by, last_inst};
+ghost use Rattle.structure_recover.specs.Arms.{AreArms, AreLabelled, Adds, first_literal as first_of_cases, target_of};
 
 use crate::edges::node;
 use block_graph::terminator;
@@ -14,7 +12,6 @@ use nest_place::Places;
 use spv_module::Function;
 use spv_words::Memory;
 use std::alloc::{AllocError, Global};
-use std::collections::BTreeMap;
 
 /// A target of OpSwitch, the literals with this target in the order of the operands, and whether it is
 /// the default.
@@ -25,32 +22,19 @@ pub struct Arm {
     pub default: bool,
 }
 
-/// The first of each two words.
-fn first_words(alloc: Global, words: &[u32]) -> Result<Vec<u32>, AllocError>
-    ensures { IfOk result (λ literals. literals.items ≡ firsts words.now) }
-{
-    let mut rest = words;
-    let mut literals = Vec::with_capacity(alloc, words.len() / 2)?;
-    while let [literal, _, after @ ..] = rest {
-        literals.push(*literal)?;
-        rest = after;
-    }
-    Ok(literals)
-}
-
-/// The literals among the operands of OpSwitch, behind its selector and default.
-fn literals_in(alloc: Global, args: &[u32]) -> Result<Vec<u32>, AllocError>
-    ensures { IfOk result (λ literals. literals.items ≡ firsts (drop 2 args.now)) }
+/// The cases among the operands of OpSwitch, behind its selector and default.
+fn cases_in(args: &[u32]) -> &[u32]
+    ensures { result.now ≡ drop 2 args.now }
 {
     match args {
-        [_, _, cases @ ..] => first_words(alloc, cases),
-        _ => Ok(Vec::new(alloc)),
+        [_, _, cases @ ..] => cases,
+        _ => &[],
     }
 }
 
-/// The literals of an OpSwitch, in the order of the operands.
-fn literals(alloc: Global, f: &Function, head: usize) -> Result<Vec<u32>, AllocError>
-    ensures { IfOk result (λ literals. literals.items ≡ literals_by (last_inst (slice_get f.now.blocks head))) }
+/// The cases of an OpSwitch, each a literal with a label, in the order of the operands.
+fn cases_of(f: &Function, head: usize) -> &[u32]
+    ensures { firsts result.now ≡ literals_by (last_inst (slice_get f.now.blocks head)) }
 {
     match f
         .blocks
@@ -58,21 +42,9 @@ fn literals(alloc: Global, f: &Function, head: usize) -> Result<Vec<u32>, AllocE
         .get(head)
         .and_then(|block| terminator(block))
     {
-        None => Ok(Vec::new(alloc)),
-        Some(inst) => literals_in(alloc, inst.args.as_slice()),
+        None => &[],
+        Some(inst) => cases_in(inst.args.as_slice()),
     }
-}
-
-/// A table with these targets, and no literal yet.
-fn target_table(alloc: Global, targets: &[usize]) -> Result<BTreeMap<usize, Vec<u32>>, AllocError>
-    ensures keys { IfOk result (λ table. (q : ℕ) → has_labels (get nat_cmp table q) ≡ list_any (λ t. t == q) targets.now) }
-    ensures empty { IfOk result (λ table. (q : ℕ) → labels_of (get nat_cmp table q) ≡ []) }
-{
-    let mut table = BTreeMap::new(alloc);
-    for target in targets {
-        table.entry(*target)?.or_insert(Vec::new(alloc));
-    }
-    Ok(table)
 }
 
 /// The targets behind the first, which is the default.
@@ -85,79 +57,99 @@ fn case_targets(targets: &[usize]) -> &[usize]
     }
 }
 
-/// The targets and the literals in pairs.
-fn pairs(
-    alloc: Global,
-    targets: &[usize],
-    literals: &[u32],
-) -> Result<Vec<(usize, u32)>, AllocError>
-    ensures { IfOk result (λ pairs. pairs.items ≡ zip targets.now literals.now) }
-{
-    targets
-        .iter()
-        .zip(literals)
-        .map(|(target, literal)| (*target, *literal))
-        .collect(alloc)
-}
-
-/// The literals of an OpSwitch, each with the block to which it leads.
-fn cases(
-    alloc: Global,
-    f: &Function,
-    places: &Places,
-    head: usize,
-) -> Result<Vec<(usize, u32)>, AllocError>
-    requires { (nth places.now head).reached ≡ true }
-    ensures { IfOk result (λ cases. cases.items ≡ cases_of f.now places.now head) }
-{
-    let literals = literals(alloc, f, head)?;
-    let targets = case_targets(node(places, head).targets.as_slice());
-    let cases = pairs(alloc, targets, literals.as_slice())?;
-    Ok(cases)
-}
-
-/// Adds the literals, each to those with its target.
-fn add_literals(
-    table: &mut BTreeMap<usize, Vec<u32>>,
-    alloc: Global,
-    cases: &[(usize, u32)],
-) -> Result<(), AllocError>
-    ensures keys { OnOk result ((q : ℕ) → has_labels (get nat_cmp table.new q) ≡ (has_labels (get nat_cmp table.old q) || list_any (λ (c : ℕ × ℕ). c.0 == q) cases.now)) }
-    ensures labels { OnOk result ((q : ℕ) → labels_of (get nat_cmp table.new q) ≡ labels_of (get nat_cmp table.old q) ++ labels_to cases.now q) }
-{
-    for (target, literal) in cases {
-        table
-            .entry(*target)?
-            .or_insert(Vec::new(alloc))
-            .push(*literal)?;
-    }
-    Ok(())
-}
-
-/// The targets in a table, one of which is the default.
-fn arms_in(
-    alloc: Global,
-    table: BTreeMap<usize, Vec<u32>>,
-    default: Option<usize>,
-) -> Result<Vec<Arm>, AllocError>
-    ensures arms { IfOk result (λ arms. arms.items ≡ map (arm_of default) table.entries) }
-    ensures ordered { IsOrdered nat_cmp table }
-{
-    table
-        .into_iter()
-        .map(|(target, labels)| Arm {
-            target,
-            labels,
-            default: default == Some(target),
-        })
-        .collect(alloc)
-}
-
 /// The first target, which is the default.
 fn default_target(targets: &[usize]) -> Option<usize>
     ensures { result ≡ slice_get targets.now 0 }
 {
     targets.first().copied()
+}
+
+/// These blocks in the order in which they stand in the function, each once.
+fn in_function(alloc: Global, targets: &[usize]) -> Result<Vec<usize>, AllocError>
+    ensures up { IfOk result (λ order. IsStrictlyIncreasing order.items) }
+    ensures same { IfOk result (λ order. (q : ℕ) → list_any (λ t. t == q) order.items ≡ list_any (λ t. t == q) targets.now) }
+{
+    let mut order = Vec::from_slice(alloc, targets)?;
+    order.sort_unstable();
+    order.dedup();
+    Ok(order)
+}
+
+/// The targets, one of which is the default, without literals.
+fn bare_arms(alloc: Global, order: &[usize], default: Option<usize>) -> Result<Vec<Arm>, AllocError>
+    ensures targets { IfOk result (λ arms. map target_of arms.items ≡ order.now) }
+    ensures bare { IfOk result (λ arms. AreLabelled default [] arms.items) }
+{
+    let mut arms = Vec::with_capacity(alloc, order.len())?;
+    for target in order {
+        arms.push(Arm {
+            target: *target,
+            labels: Vec::new(alloc),
+            default: default == Some(*target),
+        })?;
+    }
+    Ok(arms)
+}
+
+/// Adds a literal to those with its target.
+fn add_literal(
+    arms: &mut Vec<Arm>,
+    order: &[usize],
+    target: usize,
+    literal: u32,
+) -> Result<(), AllocError>
+    requires order { map target_of arms.old.items ≡ order.now }
+    requires up { IsStrictlyIncreasing order.now }
+    ensures { OnOk result (Adds ((target, literal) ∷ []) arms.old.items arms.new.items) }
+{
+    match order.binary_search(&target) {
+        Ok(place) => {
+            arms[place].labels.push(literal)?;
+            Ok(())
+        }
+        Err(_) => Ok(()),
+    }
+}
+
+/// The literal of the first case.
+fn first_literal(cases: &[u32]) -> Option<u32>
+    ensures { result ≡ first_of_cases cases.now }
+{
+    match cases {
+        [literal, _, ..] => Some(*literal),
+        _ => None,
+    }
+}
+
+/// The cases behind the first.
+fn later_cases(cases: &[u32]) -> &[u32]
+    ensures { result.now ≡ drop 2 cases.now }
+{
+    cases.get(2..).unwrap_or(&[])
+}
+
+/// Adds the literals of cases, which lead to these targets, each to those with its target.
+fn add_literals(
+    arms: &mut Vec<Arm>,
+    order: &[usize],
+    targets: &[usize],
+    cases: &[u32],
+) -> Result<(), AllocError>
+    requires order { map target_of arms.old.items ≡ order.now }
+    requires up { IsStrictlyIncreasing order.now }
+    ensures { OnOk result (Adds (zip targets.now (firsts cases.now)) arms.old.items arms.new.items) }
+{
+    let mut rest = cases;
+    for target in targets {
+        match first_literal(rest) {
+            None => return Ok(()),
+            Some(literal) => {
+                add_literal(arms, order, *target, literal)?;
+                rest = later_cases(rest);
+            }
+        }
+    }
+    Ok(())
 }
 
 /// The targets of a switch, in the order in which they stand in the function.
@@ -171,9 +163,8 @@ pub fn arms_of(
     ensures { IfOk result (λ arms. AreArms f.now places.now head arms.items) }
 {
     let targets = node(places, head).targets.as_slice();
-    let mut table = target_table(alloc, targets)?;
-    let cases = cases(alloc, f, places, head)?;
-    add_literals(&mut table, alloc, cases.as_slice())?;
-    let arms = arms_in(alloc, table, default_target(targets))?;
+    let order = in_function(alloc, targets)?;
+    let mut arms = bare_arms(alloc, &order, default_target(targets))?;
+    add_literals(&mut arms, &order, case_targets(targets), cases_of(f, head))?;
     Ok(arms)
 }

@@ -1,5 +1,5 @@
 // From blocks to regions.
-ghost use Rattle.std.specs.Prelude.{◌≡◌, true, false, IfOk};
+ghost use Rattle.std.specs.Prelude.{◌≡◌, ◌++◌, ◌∷◌, [], true, false, IfOk, OnOk};
 ghost use Rattle.structure_rules.specs.Graph.{graph, nth, is_conditional, is_switch};
 ghost use Rattle.structure_recover.specs.Tree.{head as head_of, is_loop};
 ghost use Rattle.structure_recover.specs.View.{region_of, item_of};
@@ -15,8 +15,27 @@ use crate::region::{Exit, Group, Item, Region};
 use nest_place::Places;
 use spv_module::Function;
 use spv_words::Memory;
-use std::alloc::Global;
+use std::alloc::{AllocError, Global};
 use structure_rules::Exit as Terminator;
+
+/// For how many items a region has room at first, where control goes on so behind the first.
+fn room(next: Next) -> usize {
+    match next {
+        Next::Stop(_) => 1,
+        Next::At(_) => 2,
+    }
+}
+
+/// Appends an item, behind which control goes on so.
+fn put(items: &mut Vec<Item>, item: Item, next: Next) -> Result<(), AllocError>
+    ensures { OnOk result (items.new.items ≡ items.old.items ++ item ∷ []) }
+{
+    if items.is_empty() {
+        items.reserve_exact(room(next))?;
+    }
+    items.push(item)?;
+    Ok(())
+}
 
 /// A region.
 #[cycle(recover)]
@@ -31,8 +50,9 @@ fn region(alloc: Global, f: &Function, places: &Places, from: Next) -> Result<Re
         match next {
             Next::Stop(exit) => return Ok(Region { items, exit }),
             Next::At(start) => {
-                items.push(item_at(alloc, f, places, start)?)?;
+                let item = item_at(alloc, f, places, start)?;
                 next = behind(f, places, start);
+                put(&mut items, item, next)?;
             }
         }
     }
@@ -121,7 +141,7 @@ fn switch(alloc: Global, f: &Function, places: &Places, head: usize) -> Result<I
     ensures follows { IfOk result (λ i. FollowsItem f.now places.now (item_of i)) }
 {
     let arms = arms_of(alloc, f, places, head)?;
-    let mut groups = Vec::new(alloc);
+    let mut groups = Vec::with_capacity(alloc, arms.len())?;
     for arm in arms {
         let body = region(alloc, f, places, along(places, head, arm.target))?;
         groups.push(Group {

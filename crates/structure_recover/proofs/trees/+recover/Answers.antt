@@ -18,7 +18,7 @@ region-loop-next-preserved t c =
     record {
       less = omega (arith, less, old);
       reached = later_reached g _ c.behind-next.result c.behind-next.ensures.later;
-      follows = goes_on c.args.f.now g c.loop-next.items.items c.push.new.self.items c.in_ok-item_at-in-At.field-0 c.in-At.start c.loop-next.next c.behind-next.result c.args.from c.in-At.is c.in_ok-push-in-At.ensures.items c.in_ok-item_at-in-At.ensures.stands c.in_ok-item_at-in-At.ensures.follows c.behind-next.ensures.behind c.loop-next.invariant.follows;
+      follows = goes_on c.args.f.now g c.loop-next.items.items c.put.new.items.items c.in_ok-item-in-At.item c.in-At.start c.loop-next.next c.behind-next.result c.args.from c.in-At.is c.in_ok-put-in-At.ensures c.in_ok-item-in-At.ensures.stands c.in_ok-item-in-At.ensures.follows c.behind-next.ensures.behind c.loop-next.invariant.follows;
     }
 
 pub switch-loop-arm-preserved : goal.switch-loop-arm-preserved
