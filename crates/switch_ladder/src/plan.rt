@@ -2,6 +2,7 @@
 ghost use Rattle.std.specs.Prelude.{◌≡◌, ◌<◌, ◌==◌, ◌&&◌, ◌||◌, ℕ, true, length, is_some, IfOk, OnOk};
 ghost use Rattle.std.specs.BTreeSet.{contains};
 ghost use Rattle.std.specs.List.{list_any};
+ghost use Rattle.std.specs.List.Sorted.{IsSorted};
 ghost use Rattle.std.specs.Option.{option_and_then};
 ghost use Rattle.std.specs.Ordering.{nat_cmp};
 ghost use Rattle.structure_rules.specs.Graph.{graph, nth, edges, leads_to, is_value};
@@ -114,22 +115,30 @@ fn left_loops(alloc: Global, places: &Places) -> Result<BTreeSet<usize>, AllocEr
     Ok(loops)
 }
 
-/// The blocks as a set.
-fn set_of(alloc: Global, blocks: &[usize]) -> Result<BTreeSet<usize>, AllocError>
-    ensures { IfOk result (λ set. (q : ℕ) → contains nat_cmp set q ≡ list_any (λ b. b == q) blocks.now) }
+/// The blocks in the order in which they stand in the function.
+fn sorted(alloc: Global, blocks: &[usize]) -> Result<Vec<usize>, AllocError>
+    ensures up { IfOk result (λ sorted. IsSorted nat_cmp sorted.items) }
+    ensures same { IfOk result (λ sorted. (q : ℕ) → list_any (λ b. b == q) sorted.items ≡ list_any (λ b. b == q) blocks.now) }
 {
-    let mut set = BTreeSet::new(alloc);
-    for block in blocks {
-        add(&mut set, Some(*block))?;
-    }
-    Ok(set)
+    let mut sorted = Vec::from_slice(alloc, blocks)?;
+    sorted.sort_unstable();
+    Ok(sorted)
+}
+
+/// Whether the block is among these, which stand in the order of the function.
+fn is_among(sorted: &[usize], block: usize) -> bool
+    requires { IsSorted nat_cmp sorted.now }
+    ensures { result ≡ list_any (λ b. b == block) sorted.now }
+{
+    sorted.binary_search(&block).is_ok()
 }
 
 /// Whether the block is a case target that is fallen into, and is among those that have a phi.
-fn needs_fell(places: &Places, phis: &BTreeSet<usize>, block: usize) -> bool
-    ensures { result ≡ (is_some (fallen_from places.now block) && contains nat_cmp phis.now block) }
+fn needs_fell(places: &Places, phis: &[usize], block: usize) -> bool
+    requires { IsSorted nat_cmp phis.now }
+    ensures { result ≡ (is_some (fallen_from places.now block) && list_any (λ b. b == block) phis.now) }
 {
-    places.fallen_from(block).is_some() && phis.contains(&block)
+    places.fallen_from(block).is_some() && is_among(phis, block)
 }
 
 /// The flags that a function needs, where these are its places, the tree of its control flow, and its blocks with a
@@ -147,7 +156,7 @@ pub fn flags(
     ensures fell { IfOk result (λ plan. plan.fell.items ≡ blocks_that (needs_fell_at (graph f.now) phi_blocks.now) (graph f.now)) }
 {
     let left = left_loops(alloc, places)?;
-    let phis = set_of(alloc, phi_blocks)?;
+    let phis = sorted(alloc, phi_blocks)?;
     let mut plan = FlagPlan {
         again: Vec::new(alloc),
         leave: Vec::new(alloc),
