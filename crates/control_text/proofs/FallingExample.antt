@@ -1,5 +1,5 @@
 -- The statements of a case that is fallen into, with copies on the edges, computed.
-use Rattle.std.specs.Prelude.{ℕ, ◌≡◌, ◌==◌, true, false, List, [], ◌∷◌, None, Some, refl, codes, if◌then◌else◌}
+use Rattle.std.specs.Prelude.{ℕ, ◌≡◌, ◌==◌, true, false, [], ◌∷◌, None, Some, refl, codes, if◌then◌else◌}
 use Rattle.structure_rules.specs.declared.graph.EdgeKind.TheVariants.{SwitchBreak, Fall}
 use Rattle.structure_recover.specs.declared.region.Exit.TheVariants.{Edge, Return}
 use Rattle.structure_recover.specs.Tree.{Region, ends, item, plain, switch, none, group}

@@ -3,3 +3,4 @@ mod FallingExample
 pub mod Rows
 pub mod Orders
 pub mod Steps
+pub mod Standing

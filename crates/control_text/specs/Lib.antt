@@ -1,3 +1,4 @@
 pub mod Statements
 pub mod Size
 pub mod Written
+pub mod Rising

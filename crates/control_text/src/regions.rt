@@ -300,7 +300,7 @@ fn groups_text<B: BlockText>(
     ensures text { IfOk result (λ cases. map group_written cases.arms.items ≡ text_of_groups (B.blocks blocks.now) place head (groups_of (map group_of groups.now))) }
     ensures breaks { IfOk result (λ cases. cases.breaks ≡ groups_have_break (groups_of (map group_of groups.now))) }
 {
-    let mut arms = Vec::new(alloc);
+    let mut arms = Vec::with_capacity(alloc, groups.len())?;
     let mut breaks = false;
     for group in groups {
         let labels = labels_text(alloc, blocks, head, &group.labels, group.default)?;

@@ -1,9 +1,10 @@
 // The parts of a switch.
-ghost use Rattle.std.specs.Prelude.{◌≡◌, ◌++◌, [], ◌∷◌, IfOk, OnOk, map};
+ghost use Rattle.std.specs.Prelude.{◌≡◌, ◌++◌, [], ◌∷◌, IfOk, OnOk, map, true, None};
 ghost use Rattle.structure_recover.specs.View.{region_of, group_of, groups_of};
 ghost use Rattle.glsl_ast.specs.View.{stmt_of, arm_of};
 ghost use Rattle.control_text.specs.Statements.{labels_text as text_of_labels, entering_case as text_of_entering_case, fell_flags as text_of_fell_flags, behind_switch as text_of_behind_switch, in_order as arms_in_order, by_target};
 ghost use Rattle.control_text.specs.Written.{group_written};
+ghost use Rattle.control_text.specs.Rising.{target_of, stand_so, is_behind as is_behind_of};
 
 use crate::block_text::BlockText;
 use crate::edges::entering;
@@ -11,7 +12,7 @@ use crate::flags::{declare, named};
 use crate::place::Place;
 use glsl_ast::{Arm, Expr, Label, Stmt};
 use spv_words::Memory;
-use std::alloc::Global;
+use std::alloc::{AllocError, Global};
 use std::collections::BTreeMap;
 use structure_recover::{Group, Region};
 
@@ -25,7 +26,7 @@ pub fn labels_text<B: BlockText>(
 ) -> Result<Vec<Label>, Memory>
     ensures { IfOk result (λ labels. labels.items ≡ text_of_labels (B.blocks blocks.now) header words.now default) }
 {
-    let mut labels = Vec::new(alloc);
+    let mut labels = Vec::with_capacity(alloc, words.len() + usize::from(default))?;
     for word in words {
         labels.push(Label::Case(blocks.case(header, *word)))?;
     }
@@ -51,7 +52,7 @@ pub fn entering_case<B: BlockText>(
         return entering(alloc, blocks, header, target, body, out);
     };
     let fell = Box::new(alloc, named(alloc, flag)?)?;
-    let mut copies = Vec::new(alloc);
+    let mut copies = Vec::with_capacity(alloc, 1)?;
     entering(alloc, blocks, header, target, body, &mut copies)?;
     out.push(Stmt::If(Expr::Not(fell), copies, None))?;
     Ok(())
@@ -93,18 +94,52 @@ pub fn behind_switch<B: BlockText>(
     let Some(flag) = blocks.leave(header) else {
         return Ok(());
     };
-    let mut leaving = Vec::new(alloc);
+    let mut leaving = Vec::with_capacity(alloc, 1)?;
     leaving.push(Stmt::Break)?;
     out.push(Stmt::If(named(alloc, flag)?, leaving, None))?;
     Ok(())
 }
 
-/// The groups in an order of their targets.
-pub fn in_order(
+/// Whether the target stands behind the one before it.
+fn is_behind(before: Option<usize>, target: usize) -> bool
+    ensures { result ≡ is_behind_of before target }
+{
+    match before {
+        None => true,
+        Some(before) => before < target,
+    }
+}
+
+/// Whether the groups stand in this order already, and their targets rise.
+fn stand_in_order(order: &[usize], groups: &[(usize, Arm)]) -> bool
+    ensures { result ≡ true → stand_so None order.now (map target_of groups.now) ≡ true }
+{
+    if order.len() != groups.len() {
+        return false;
+    }
+    let mut before = None;
+    for (place, target) in order.iter().enumerate() {
+        if groups[place].0 != *target || !is_behind(before, *target) {
+            return false;
+        }
+        before = Some(*target);
+    }
+    true
+}
+
+/// The groups as they stand.
+fn as_they_stand(alloc: Global, groups: Vec<(usize, Arm)>) -> Result<Vec<Arm>, AllocError>
+    ensures { IfOk result (λ arms. arms.items ≡ map (λ g. g.1) groups.items) }
+{
+    groups.into_iter().map(|(_, arm)| arm).collect(alloc)
+}
+
+/// The groups, each brought to its place in an order of their targets.
+fn reordered(
     alloc: Global,
     order: &[usize],
     groups: Vec<(usize, Arm)>,
-) -> Result<Vec<Arm>, Memory>
+) -> Result<Vec<Arm>, AllocError>
     ensures { IfOk result (λ arms. map arm_of arms.items ≡ arms_in_order order.now (by_target (map group_written groups.items))) }
 {
     let mut by_target: BTreeMap<usize, Arm> = groups.into_iter().collect(alloc)?;
@@ -114,5 +149,22 @@ pub fn in_order(
             arms.push(arm)?;
         }
     }
+    Ok(arms)
+}
+
+/// The groups in an order of their targets.
+#[tactic(auto, using(crate::proofs::Standing::stands))]
+pub fn in_order(
+    alloc: Global,
+    order: &[usize],
+    groups: Vec<(usize, Arm)>,
+) -> Result<Vec<Arm>, Memory>
+    ensures { IfOk result (λ arms. map arm_of arms.items ≡ arms_in_order order.now (by_target (map group_written groups.items))) }
+{
+    if stand_in_order(order, &groups) {
+        let arms = as_they_stand(alloc, groups)?;
+        return Ok(arms);
+    }
+    let arms = reordered(alloc, order, groups)?;
     Ok(arms)
 }

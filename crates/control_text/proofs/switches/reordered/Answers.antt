@@ -10,8 +10,8 @@ use Rattle.glsl_ast.specs.declared.statements.Arm.{Arm}
 use Rattle.control_text.specs.Statements.{in_order, by_target}
 use Rattle.control_text.specs.Written.{group_written}
 use Rattle.control_text.proofs.Orders.{arms_at, map_is, order_more, pushed_some, pushed_none}
-use Rattle.control_text.proofs.switches.in_order.Goals as goal
-use Rattle.control_text.proofs.switches.in_order.Goals.{in-Some+in_ok-push, in_default}
+use Rattle.control_text.proofs.switches.reordered.Goals as goal
+use Rattle.control_text.proofs.switches.reordered.Goals.{in-Some+in_ok-push, in_default}
 
 pub loop-target-init : goal.loop-target-init
 loop-target-init c =
