@@ -17,12 +17,21 @@ use std::alloc::Global;
 // Of more room than this, what is not used is never touched.
 const FEW: usize = 64;
 
+// A list with fewer statements gets room for no more than those that are known to come.
+const SHORT: usize = 8;
+
 /// Makes room for so many statements of a block, and for one with which the block ends.
 fn reserve(into: &mut Vec<Stmt>, count: usize) -> Result<(), Memory>
     ensures { into.new.items ≡ into.old.items }
 {
-    if count > 0 {
-        into.reserve(count.saturating_add(1))?;
+    if count == 0 {
+        return Ok(());
+    }
+    let more = count.saturating_add(1);
+    if into.len() < SHORT {
+        into.reserve_exact(more)?;
+    } else {
+        into.reserve(more)?;
     }
     Ok(())
 }
