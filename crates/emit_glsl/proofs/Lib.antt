@@ -3,6 +3,7 @@ mod Unasked
 mod Spared
 pub mod Singled
 pub mod Firsts
+pub mod Edges
 pub mod Phied
 pub mod Moving
 pub mod Ordered

@@ -1,8 +1,8 @@
 -- The moves of one phi.
-use Rattle.std.proofs.Common.{◌≡◌, ◌==◌, ◌<◌, ◌≤◌, ℕ, Bool, true, false, List, [], ◌∷◌, ◌++◌, Option, Some, None, is_some, cond, if◌then◌else◌, length, get_or, drop, map, filter, find, refl, sym, ◌∙◌, ap, subst, arith}
-use Rattle.std.specs.List.{flat_map}
-use Rattle.std.specs.BTreeMap.{BTreeMap, get, is_at}
-use Rattle.std.specs.Ordering.{nat_cmp}
+use Rattle.std.proofs.Common.{◌≡◌, ◌==◌, ◌<◌, ◌≤◌, ◌+◌, ◌||◌, ℕ, zero, suc, Bool, true, false, List, [], ◌∷◌, ◌++◌, Option, Some, None, is_some, cond, if◌then◌else◌, length, get_or, drop, map, filter, find, refl, sym, ◌∙◌, ap, subst, arith}
+use Rattle.std.specs.Prelude.{slice_get}
+use Rattle.std.specs.Option.{option_map_or}
+use Rattle.std.specs.List.{enumerate_from, flat_map, list_any}
 use Rattle.std.specs.declared.vec.Vec.{Vec}
 use Rattle.std.specs.declared.alloc.Global.{Global}
 use Rattle.std.proofs.lemmas.Bool.{eqb-true, eq-eqb}
@@ -13,47 +13,13 @@ use Rattle.spv_module.specs.declared.inst.Function.{Function}
 use Rattle.hoist_plan.specs.declared.form.Form.{Form}
 use Rattle.phi_copies.specs.declared.moves.Move.{Move}
 use Rattle.phi_copies.specs.Sequence.{Pair, target, IsSequence}
+use Rattle.emit_glsl.specs.declared.edge_moves.Moves.{Moves}
 use Rattle.emit_glsl.specs.Once.{with_id, once_by, no_id}
-use Rattle.emit_glsl.specs.Phis.{is_live_phi, live_phis, is_block, pair_with, values_in, comes_from, given_words, given_by, pairs_into, firsts}
-use Rattle.emit_glsl.specs.Moved.{items_at, single, first_moves, left_moves, AreMovesFor}
-use Rattle.emit_glsl.proofs.Moving.{none_left, at_is}
+use Rattle.emit_glsl.specs.Phis.{is_live_phi, live_phis, has_live_phi, phi_block, phi_blocks, is_block, pair_with, values_in, comes_from, given_words, given_by, pairs_into, pairs, firsts}
+use Rattle.emit_glsl.specs.Moved.{items_at, moves_from, moves_in, single, first_moves, left_moves, AreMovesFor}
+use Rattle.emit_glsl.proofs.Moving.{none_left}
 use Rattle.emit_glsl.proofs.One.{single_moves}
 use Rattle.emit_glsl.proofs.Phied.{one, given_step, given_few}
-
-abbrev pub Moves : Type 0
-Moves = BTreeMap ℕ (Vec Move Global)
-
-any_left : (o : Option (Vec Move Global)) (ps qs : List Pair) → is_some o ≡ true → left_moves o ps ≡ left_moves o qs
-any_left (Some m) ps qs some = refl
-any_left None ps qs some = cc
-
-none_there : (o : Option (Vec Move Global)) → is_some o ≡ false → o ≡ None
-none_there None e = refl
-none_there (Some m) e = cc
-
--- an edge that has a move keeps it
-pub first_kept : (moves : Moves) (from : ℕ) (pair : Pair) → is_some (get nat_cmp moves from) ≡ true
-    → (b : ℕ) (ps : List Pair) → left_moves (get nat_cmp moves b) ps ≡ left_moves (get nat_cmp moves b) ((if from == b then pair ∷ [] else []) ++ ps)
-first_kept moves from pair some b ps = step (from == b) refl
-  where
-    step : (x : Bool) → (from == b) ≡ x → left_moves (get nat_cmp moves b) ps ≡ left_moves (get nat_cmp moves b) ((if x then pair ∷ [] else []) ++ ps)
-    step true e = any_left (get nat_cmp moves b) ps (pair ∷ ps) (subst (λ q. is_some (get nat_cmp moves q) ≡ true) (eqb-true from b e) some)
-    step false e = refl
-
--- another has its first
-pub first_put : (old new : Moves) (from : ℕ) (pair : Pair) (own : Vec Move Global) → is_some (get nat_cmp old from) ≡ false → own.items ≡ single pair
-    → ((b : ℕ) → get nat_cmp new b ≡ cond (is_at (nat_cmp from) b) (Some own) (get nat_cmp old b))
-    → (b : ℕ) (ps : List Pair) → left_moves (get nat_cmp new b) ps ≡ left_moves (get nat_cmp old b) ((if from == b then pair ∷ [] else []) ++ ps)
-first_put old new from pair own free made put b ps = step (from == b) refl
-  where
-    found : (x : Bool) → (from == b) ≡ x → get nat_cmp new b ≡ cond x (Some own) (get nat_cmp old b)
-    found x e = put b ∙ ap (λ y. cond y (Some own) (get nat_cmp old b)) (at_is from b ∙ e)
-
-    step : (x : Bool) → (from == b) ≡ x → left_moves (get nat_cmp new b) ps ≡ left_moves (get nat_cmp old b) ((if x then pair ∷ [] else []) ++ ps)
-    step true e =
-        let none : get nat_cmp old b ≡ None = none_there (get nat_cmp old b) (subst (λ q. is_some (get nat_cmp old q) ≡ false) (eqb-true from b e) free) in
-        ap (λ o. left_moves o ps) (found true e) ∙ (made ∙ sym (ap (λ o. left_moves o (pair ∷ ps)) none))
-    step false e = ap (λ o. left_moves o ps) (found false e)
 
 -- the operands of a phi, two at a time
 pub given_two : (gs : List Inst) (f : Function) (b r : ℕ) (words : List ℕ) → 2 ≤ length words → given_words gs f b r words ≡ one gs f b r (get_or words 0 0) (get_or words 1 0) ++ given_words gs f b r (drop 2 words)
@@ -92,7 +58,7 @@ first_sequence gs f b phi = first_by gs phi.result (filter (comes_from f b) (val
 pub only_given : {A B : Type 0} (g : A → List B) (xs : List A) (x : A) → xs ≡ x ∷ [] → flat_map g xs ≡ g x
 only_given g xs x is = ap (flat_map g) is ∙ append-nil (g x)
 
-no_items : {A : Type 0} (zs : List A) → length zs ≡ 0 → zs ≡ []
+pub no_items : {A : Type 0} (zs : List A) → length zs ≡ 0 → zs ≡ []
 no_items [] e = refl
 no_items (z ∷ zs) e = absurd (omega (arith, e))
 
@@ -105,7 +71,31 @@ only_found p (y ∷ ys) x size found = step (p y) (only_found p ys x) size found
     step false later few first = later few first
 
 -- the moves of the edges into a block with one live phi
-pub moves_one : (gs : List Inst) (form : ℕ → Form) (f : Function) (block : Block) (phi : Inst) (moves : Moves) → length (live_phis form block) ≡ 1 → find (is_live_phi form) block.insts ≡ Some phi → ((b : ℕ) → IsSequence (firsts (given_by gs f b phi)) (items_at (get nat_cmp moves b))) → AreMovesFor gs form f block moves
+pub moves_one : (gs : List Inst) (form : ℕ → Form) (f : Function) (block : Block) (phi : Inst) (moves : Moves) → length (live_phis form block) ≡ 1 → find (is_live_phi form) block.insts ≡ Some phi → ((b : ℕ) → IsSequence (firsts (given_by gs f b phi)) (items_at (moves_from moves b))) → AreMovesFor gs form f block moves
 moves_one gs form f block phi moves size found made b =
     let all : pairs_into gs form f b block ≡ given_by gs f b phi = only_given (given_by gs f b) (live_phis form block) phi (only_found (is_live_phi form) block.insts phi size found) in
-    subst (λ (ps : List Pair). IsSequence (firsts ps) (items_at (get nat_cmp moves b))) (sym all) (made b)
+    subst (λ (ps : List Pair). IsSequence (firsts ps) (items_at (moves_from moves b))) (sym all) (made b)
+
+-- a function without live phis
+none_kept : {A : Type 0} (p : A → Bool) (xs : List A) → list_any p xs ≡ false → filter p xs ≡ []
+none_kept p [] none = refl
+none_kept p (x ∷ xs) none = step (p x) (none_kept p xs) none
+  where
+    step : (b : Bool) → (list_any p xs ≡ false → filter p xs ≡ []) → (b || list_any p xs) ≡ false → (if b then x ∷ filter p xs else filter p xs) ≡ []
+    step true rest e = cc
+    step false rest e = rest e
+
+no_pairs : (gs : List Inst) (form : ℕ → Form) (f : Function) (b n : ℕ) (blocks : List Block) (t : ℕ) → flat_map (phi_block form) (enumerate_from n blocks) ≡ [] → option_map_or (pairs_into gs form f b) (slice_get blocks t) [] ≡ []
+no_pairs gs form f b n [] t none = refl
+no_pairs gs form f b n (x ∷ xs) t none = step (has_live_phi form x) t (no_pairs gs form f b (n + 1) xs) refl none
+  where
+    step : (y : Bool) (t : ℕ) → ((u : ℕ) → flat_map (phi_block form) (enumerate_from (n + 1) xs) ≡ [] → option_map_or (pairs_into gs form f b) (slice_get xs u) [] ≡ [])
+        → has_live_phi form x ≡ y → (if y then n ∷ [] else []) ++ flat_map (phi_block form) (enumerate_from (n + 1) xs) ≡ [] → option_map_or (pairs_into gs form f b) (slice_get (x ∷ xs) t) [] ≡ []
+    step true t rest e all = cc
+    step false zero rest e all = ap (flat_map (given_by gs f b)) (none_kept (is_live_phi form) x.insts e)
+    step false (suc u) rest e all = rest u all
+
+pub no_moves : (gs : List Inst) (form : ℕ → Form) (f : Function) (moves : List Moves) → phi_blocks form f ≡ [] → moves ≡ [] → (b t : ℕ) → IsSequence (firsts (pairs gs form f b t)) (moves_in moves b t)
+no_moves gs form f moves none empty b t =
+    subst (λ (ms : List Moves). IsSequence (firsts (pairs gs form f b t)) (moves_in ms b t)) (sym empty)
+    (subst (λ (ps : List Pair). IsSequence (firsts ps) []) (sym (no_pairs gs form f b 0 f.blocks t none)) none_left)

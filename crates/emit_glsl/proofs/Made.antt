@@ -93,12 +93,12 @@ module _ (s : Source) (names : Given) (globals : Globals) (found : Naming) where
   module _ (f : Function) (p : Planned) (is : IsPlanned s.of f p) where
     claim_is : claimed_by p ≡ claims_by s (plain p)
     claim_is =
-        let named : (n : ℕ) → (claimed_by p).is_named n ≡ is_named_in (form_in p.naming) p.places p.locals.blocks n =
-        λ n. is.named n ∙ (ap (λ (g : List Node). is_named_in (form_in p.naming) g f.blocks n) (sym is.graph_is) ∙ ap (λ (l : Function). is_named_in (form_in p.naming) p.places l.blocks n) (sym is.of_function)) in
+        let named : (n : ℕ) → (claimed_by p).is_named n ≡ is_named_in (form_in p.naming) p.nodes.items p.locals.blocks n =
+        λ n. is.named n ∙ (ap (λ (g : List Node). is_named_in (form_in p.naming) g f.blocks n) (sym is.graph_is) ∙ ap (λ (l : Function). is_named_in (form_in p.naming) p.nodes.items l.blocks n) (sym is.of_function)) in
         λ i. record (claimed_by p) { is_named = λ n. named n i; captured = captured_numbers (ap (λ (m : ModuleState). m.globals) is.of_module i) (is_carried_in p.naming) }
 
     live_is : live_in p ≡ live_of s (plain p)
-    live_is = ap (λ (m : ModuleState). live_by m.globals (form_in p.naming) (is_carried_in p.naming) p.places p.locals.blocks) is.of_module
+    live_is = ap (λ (m : ModuleState). live_by m.globals (form_in p.naming) (is_carried_in p.naming) p.nodes.items p.locals.blocks) is.of_module
 
     module _ (names_are : name_in names ≡ found) (globals_are : AreGlobals s names globals) where
       lowering_is : naming_of names ≡ found

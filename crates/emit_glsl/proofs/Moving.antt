@@ -18,8 +18,10 @@ use Rattle.spv_module.specs.declared.inst.Function.{Function}
 use Rattle.hoist_plan.specs.declared.form.Form.{Form}
 use Rattle.phi_copies.specs.declared.moves.Move.{Move}
 use Rattle.phi_copies.specs.Sequence.{Pair, IsSequence, IsLeft}
+use Rattle.emit_glsl.specs.declared.edge_moves.Moves.{Moves}
 use Rattle.emit_glsl.specs.Phis.{pairs_into, pairs, firsts}
-use Rattle.emit_glsl.specs.Moved.{items_at, moves_in, PairsByBlock, pairs_from, AreListed, AreMovesFor}
+use Rattle.emit_glsl.proofs.Edges.{same}
+use Rattle.emit_glsl.specs.Moved.{items_at, or_moves, moves_in, PairsByBlock, pairs_from, AreListed, AreMovesFor}
 
 -- no copies make no moves
 pub none_left : IsSequence [] []
@@ -34,7 +36,7 @@ pub record AreMovesOf (pairs : PairsByBlock) (done : List ℕ) (b : ℕ) (found 
   pub rest : list_any (λ c. c == b) done ≡ false → found ≡ None
 
 -- the moves of the edges into each block
-abbrev pub AreMovesInto : List Inst → (ℕ → Form) → Function → List Block → List (BTreeMap ℕ (Vec Move Global)) → Type 0
+abbrev pub AreMovesInto : List Inst → (ℕ → Form) → Function → List Block → List (Moves) → Type 0
 AreMovesInto gs form f blocks moves = AllZip (AreMovesFor gs form f) blocks moves
 
 pub zip_push : {A B : Type 0} (R : A → B → Type 0) (xs : List A) (ys : List B) (x : A) (y : B) → AllZip R xs ys → R x y → AllZip R (xs ++ x ∷ []) (ys ++ y ∷ [])
@@ -43,7 +45,7 @@ zip_push R [] (z ∷ ys) x y all now = absurd all
 zip_push R (w ∷ xs) [] x y all now = absurd all
 zip_push R (w ∷ xs) (z ∷ ys) x y all now = (all.0, zip_push R xs ys x y all.1 now)
 
-pub zipped : (gs : List Inst) (form : ℕ → Form) (f : Function) (blocks : List Block) (moves : List (BTreeMap ℕ (Vec Move Global))) → AreMovesInto gs form f blocks moves
+pub zipped : (gs : List Inst) (form : ℕ → Form) (f : Function) (blocks : List Block) (moves : List (Moves)) → AreMovesInto gs form f blocks moves
     → (b t : ℕ) → IsSequence (firsts (option_map_or (pairs_into gs form f b) (slice_get blocks t) [])) (moves_in moves b t)
 zipped gs form f [] [] all b t = none_left
 zipped gs form f [] (m ∷ ms) all b t = absurd all
@@ -77,12 +79,15 @@ or_left : (a x : Bool) → (a || (false || false)) ≡ x → a ≡ x
 or_left true x e = e
 or_left false x e = e
 
+some_none : (m : Vec Move Global) → Some m ≡ None → ⊥
+some_none m e = cc
+
 pub at_is : (a b : ℕ) → is_at (nat_cmp a) b ≡ (a == b)
 at_is a b = grind (arith, nat_tests)
 
 -- one more of the blocks from which edges come
 pub moved_more : (given : PairsByBlock) (blocks : List ℕ) (i from b : ℕ) (old new : Option (Vec Move Global)) (moves : Vec Move Global) → i < length blocks → from ≡ get_or blocks i 0
-    → IsSequence (firsts (pairs_from given from)) moves.items → new ≡ cond (is_at (nat_cmp from) b) (Some moves) old
+    → IsSequence (firsts (pairs_from given from)) moves.items → new ≡ or_moves old (if from == b then Some moves else None)
     → AreMovesOf given (take i blocks) b old → AreMovesOf given (take (i + 1) blocks) b new
 moved_more given blocks i from b old new moves less at made put before = step (from == b) refl
   where
@@ -91,22 +96,28 @@ moved_more given blocks i from b old new moves less at made put before = step (f
         ap (list_any (λ c. c == b)) (take_more blocks i 0 less ∙ ap (λ y. take i blocks ++ y ∷ []) (sym at))
         ∙ (list_any-append (λ c. c == b) (take i blocks) (from ∷ []) ∙ ap (λ y. list_any (λ c. c == b) (take i blocks) || (y || false)) e)
 
-    found : (x : Bool) → (from == b) ≡ x → new ≡ cond x (Some moves) old
-    found x e = put ∙ ap (λ y. cond y (Some moves) old) (at_is from b ∙ e)
+    found : (x : Bool) → (from == b) ≡ x → new ≡ or_moves old (if x then Some moves else None)
+    found x e = put ∙ ap (λ y. or_moves old (if y then Some moves else None)) e
+
+    Made : Option (Vec Move Global) → Type 0
+    Made o = IsSequence (firsts (pairs_from given b)) (items_at o)
+
+    own : from ≡ b → Made (Some moves)
+    own same = subst (λ (n : ℕ). IsSequence (firsts (pairs_from given n)) moves.items) same made
+
+    first : (o : Option (Vec Move Global)) (d : Bool) → list_any (λ c. c == b) (take i blocks) ≡ d → AreMovesOf given (take i blocks) b o → from ≡ b → Made (or_moves o (Some moves))
+    first None d e are same = own same
+    first (Some m) true e are same = are.made e
+    first (Some m) false e are same = absurd (some_none m (are.rest e))
 
     step : (x : Bool) → (from == b) ≡ x → AreMovesOf given (take (i + 1) blocks) b new
     step true e = record {
-      made = λ h.
-          let P : Option (Vec Move Global) → Type 0 = λ o. IsSequence (firsts (pairs_from given b)) (items_at o) in
-          let Q : ℕ → Type 0 = λ n. IsSequence (firsts (pairs_from given n)) moves.items in
-          subst P (sym (found true e)) (subst Q (eqb-true from b e) made);
+      made = λ h. subst Made (sym (found true e)) (first old (list_any (λ c. c == b) (take i blocks)) refl before (eqb-true from b e));
       rest = λ h. absurd (or_true (list_any (λ c. c == b) (take i blocks)) (sym (grown true e) ∙ h));
     }
     step false e = record {
-      made = λ h.
-          let P : Option (Vec Move Global) → Type 0 = λ o. IsSequence (firsts (pairs_from given b)) (items_at o) in
-          subst P (sym (found false e)) (before.made (or_left (list_any (λ c. c == b) (take i blocks)) true (sym (grown false e) ∙ h)));
-      rest = λ h. found false e ∙ before.rest (or_left (list_any (λ c. c == b) (take i blocks)) false (sym (grown false e) ∙ h));
+      made = λ h. subst Made (sym (found false e ∙ sym (same old))) (before.made (or_left (list_any (λ c. c == b) (take i blocks)) true (sym (grown false e) ∙ h)));
+      rest = λ h. (found false e ∙ sym (same old)) ∙ before.rest (or_left (list_any (λ c. c == b) (take i blocks)) false (sym (grown false e) ∙ h));
     }
 
 -- one more pair of the edge from a block
@@ -136,7 +147,7 @@ listed given blocks are = λ b has.
     ap (list_any (λ c. c == b)) are ∙ (sym (any_same b (keys given)) ∙ (sym (is_some-lookup (is_at (nat_cmp b)) given.entries) ∙ has))
 
 -- and one block more into which edges lead
-pub moves_push : (gs : List Inst) (form : ℕ → Form) (f : Function) (blocks : List Block) (i : ℕ) (d : Block) (moves : List (BTreeMap ℕ (Vec Move Global))) (new : BTreeMap ℕ (Vec Move Global)) → i < length blocks
+pub moves_push : (gs : List Inst) (form : ℕ → Form) (f : Function) (blocks : List Block) (i : ℕ) (d : Block) (moves : List (Moves)) (new : Moves) → i < length blocks
     → AreMovesFor gs form f (get_or blocks i d) new → AreMovesInto gs form f (take i blocks) moves → AreMovesInto gs form f (take (i + 1) blocks) (moves ++ new ∷ [])
 moves_push gs form f blocks i d moves new less now before =
     subst (λ bs. AreMovesInto gs form f bs (moves ++ new ∷ [])) (sym (take_more blocks i d less)) (zip_push (AreMovesFor gs form f) (take i blocks) moves (get_or blocks i d) new before now)

@@ -46,5 +46,5 @@ none_of p b test is seen (t ∷ ts) h =
     (λ q. none_of p b test is q ts (right_false (test t) (list_any test ts) h))
     (seen t)
 
-pub no_spares : (p : Planned) (b : ℕ) → list_any (has_saves_to p b) (targets_in p.places b) ≡ false → flat_map (claim_spares (claimed_by p) b) ((claimed_by p).targets b) ≡ []
-no_spares p b h = none_of (claimed_by p) b (has_saves_to p b) (λ t. refl) no_id (targets_in p.places b) h
+pub no_spares : (p : Planned) (b : ℕ) → list_any (has_saves_to p b) (targets_in p.nodes.items b) ≡ false → flat_map (claim_spares (claimed_by p) b) ((claimed_by p).targets b) ≡ []
+no_spares p b h = none_of (claimed_by p) b (has_saves_to p b) (λ t. refl) no_id (targets_in p.nodes.items b) h

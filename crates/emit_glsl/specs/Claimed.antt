@@ -1,6 +1,4 @@
 -- What a plan of a function claims names for.
-use Rattle.std.specs.BTreeSet.{contains}
-use Rattle.std.specs.Ordering.{nat_cmp}
 use Rattle.id_map.specs.Entries.{is_in}
 use Rattle.hoist_plan.specs.Kept.{is_carried_in}
 use Rattle.text_rules.specs.Claims.{Plan}
@@ -8,16 +6,17 @@ use Rattle.emit_glsl.specs.declared.plan.FunctionPlan.{FunctionPlan as Planned}
 use Rattle.emit_glsl.specs.Planned.{captured_numbers, spares_in}
 use Rattle.emit_glsl.specs.Once.{once, itself}
 use Rattle.emit_glsl.specs.Functions.{targets_in}
+use Rattle.emit_glsl.specs.Flagged.{has_again, has_leave, has_fell}
 use Rattle.emit_glsl.specs.Moved.{moves_in}
 
 abbrev pub claimed_by : Planned → Plan
 claimed_by p = record {
   function = p.locals;
   is_named = is_in p.named;
-  again = contains nat_cmp p.again;
-  leave = contains nat_cmp p.leave;
-  fell = contains nat_cmp p.fell;
+  again = has_again p.flags;
+  leave = has_leave p.flags;
+  fell = has_fell p.flags;
   captured = captured_numbers p.source.now.globals (is_carried_in p.naming);
-  targets = λ b. once itself (targets_in p.places b);
+  targets = λ b. once itself (targets_in p.nodes.items b);
   spares = λ b t. spares_in (moves_in p.moves.items b t);
 }

@@ -4,6 +4,7 @@ pub mod Once
 pub mod Phis
 pub mod Moved
 pub mod Orders
+pub mod Flagged
 pub mod Planned
 pub mod Plans
 pub mod Claimed

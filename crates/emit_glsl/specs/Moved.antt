@@ -1,5 +1,5 @@
 -- The moves of edges, and what they are made from, as the code keeps them.
-use Rattle.std.specs.Prelude.{ℕ, ◌≡◌, ◌==◌, ◌&&◌, not, true, Bool, List, [], ◌∷◌, if◌then◌else◌, is_some, Option, Some, None, option_and_then, slice_get}
+use Rattle.std.specs.Prelude.{ℕ, ◌≡◌, ◌==◌, ◌&&◌, not, true, Bool, List, [], ◌∷◌, if◌then◌else◌, is_some, Option, Some, None, option_and_then, option_map, find, slice_get}
 use Rattle.std.specs.BTreeMap.{BTreeMap, get}
 use Rattle.std.specs.Ordering.{nat_cmp}
 use Rattle.std.specs.List.{list_any}
@@ -12,6 +12,8 @@ use Rattle.hoist_plan.specs.declared.form.Form.{Form}
 use Rattle.phi_copies.specs.Sequence.{Pair, IsSequence, target, is_var, is_proper}
 use Rattle.phi_copies.specs.declared.moves.Move.{Move}
 use Rattle.phi_copies.specs.declared.moves.Move.TheVariants.{Set}
+use Rattle.emit_glsl.specs.declared.edge_moves.Moves.{Moves}
+use Rattle.emit_glsl.specs.declared.edge_moves.Moves.TheVariants.{Few, Many}
 use Rattle.emit_glsl.specs.Phis.{pairs_into, firsts}
 
 -- what a list has that may be there
@@ -19,9 +21,27 @@ abbrev pub items_at : {A : Type 0} → Option (Vec A Global) → List A
 items_at None = []
 items_at (Some list) = list.items
 
+-- what is there, or else what comes after it
+abbrev pub or_moves : Option (Vec Move Global) → Option (Vec Move Global) → Option (Vec Move Global)
+or_moves None next = next
+or_moves (Some moves) next = Some moves
+
+-- the edge comes from a block
+abbrev pub is_from : ℕ → ℕ × Vec Move Global → Bool
+is_from b e = e.0 == b
+
+-- the first moves of the edge from a block in a list
+abbrev pub first_from : List (ℕ × Vec Move Global) → ℕ → Option (Vec Move Global)
+first_from list b = option_map (λ (e : ℕ × Vec Move Global). e.1) (find (is_from b) list)
+
+-- the moves of the edge from a block
+abbrev pub moves_from : Moves → ℕ → Option (Vec Move Global)
+moves_from (Few list) b = first_from list.items b
+moves_from (Many tree) b = get nat_cmp tree b
+
 -- the moves of an edge, where the moves of the edges into each block stand by the blocks from which they come
-abbrev pub moves_in : List (BTreeMap ℕ (Vec Move Global)) → ℕ → ℕ → List Move
-moves_in moves b t = items_at (option_and_then (λ (from : BTreeMap ℕ (Vec Move Global)). get nat_cmp from b) (slice_get moves t))
+abbrev pub moves_in : List Moves → ℕ → ℕ → List Move
+moves_in moves b t = items_at (option_and_then (λ (m : Moves). moves_from m b) (slice_get moves t))
 
 -- the pairs of the edge from a block
 abbrev pub PairsByBlock : Type 0
@@ -35,8 +55,8 @@ abbrev pub AreListed : PairsByBlock → List ℕ → Type 0
 AreListed pairs blocks = (b : ℕ) → is_some (get nat_cmp pairs b) ≡ true → list_any (λ c. c == b) blocks ≡ true
 
 -- the moves of the edges into a block, by the blocks from which these come
-abbrev pub AreMovesFor : List Inst → (ℕ → Form) → Function → Block → BTreeMap ℕ (Vec Move Global) → Type 0
-AreMovesFor gs form f block moves = (b : ℕ) → IsSequence (firsts (pairs_into gs form f b block)) (items_at (get nat_cmp moves b))
+abbrev pub AreMovesFor : List Inst → (ℕ → Form) → Function → Block → Moves → Type 0
+AreMovesFor gs form f block moves = (b : ℕ) → IsSequence (firsts (pairs_into gs form f b block)) (items_at (moves_from moves b))
 
 -- the move of a single pair
 abbrev pub single : Pair → List Move

@@ -1,7 +1,6 @@
 -- What the code's plan of a function says.
-use Rattle.std.specs.Prelude.{ℕ, ◌≡◌, ◌<◌, ◌==◌, ◌&&◌, ◌||◌, true, false, Bool, List, [], ◌∷◌, filter, length, map, min, Option, Some, None, option_and_then, if◌then◌else◌, slice_get}
+use Rattle.std.specs.Prelude.{ℕ, ◌≡◌, ◌<◌, ◌≤◌, ◌==◌, ◌&&◌, ◌||◌, true, false, Bool, List, [], ◌∷◌, filter, length, map, min, Option, Some, None, option_and_then, if◌then◌else◌, slice_get}
 use Rattle.std.specs.BTreeMap.{BTreeMap, get}
-use Rattle.std.specs.BTreeSet.{contains}
 use Rattle.std.specs.Ordering.{nat_cmp}
 use Rattle.std.specs.Option.{option_map_or}
 use Rattle.std.specs.List.{enumerate_from, list_any}
@@ -26,22 +25,30 @@ use Rattle.expr_forward.specs.Context.{ContextState, scope_of}
 use Rattle.emit_glsl.specs.declared.plan.FunctionPlan.{FunctionPlan as Planned}
 use Rattle.emit_glsl.specs.Functions.{FunctionPlan}
 use Rattle.emit_glsl.specs.Phis.{is_gone}
+use Rattle.emit_glsl.specs.Orders.{order_by}
+use Rattle.emit_glsl.specs.Flagged.{has_again, has_leave, has_fell}
 use Rattle.emit_glsl.specs.Moved.{items_at, moves_in}
 
-abbrev pub order_in : List (Vec ℕ Global) → ℕ → List ℕ
-order_in orders h = items_at (slice_get orders h)
+-- the order of the targets of a switch, where there is one
+abbrev pub order_in : BTreeMap ℕ (Vec ℕ Global) → ℕ → List ℕ
+order_in orders h = items_at (get nat_cmp orders h)
+
+-- the orders of the first n blocks
+pub record AreOrdersBelow (g : List Node) (n : ℕ) (orders : BTreeMap ℕ (Vec ℕ Global)) : Type 0 where
+  pub below : (h : ℕ) → h < n → order_in orders h ≡ order_by g h
+  pub past : (h : ℕ) → n ≤ h → order_in orders h ≡ []
 
 -- the plan of a function, where it is written
 abbrev pub plan_in : ContextState → Planned → FunctionPlan
 plan_in c p = record {
   scope = scope_of c;
-  graph = p.places;
+  graph = p.nodes.items;
   region = region_of p.region;
   moves = moves_in p.moves.items;
-  again = contains nat_cmp p.again;
-  leave = contains nat_cmp p.leave;
-  fell = contains nat_cmp p.fell;
-  order = order_in p.orders.items;
+  again = has_again p.flags;
+  leave = has_leave p.flags;
+  fell = has_fell p.flags;
+  order = order_in p.orders;
 }
 
 -- the result of an instruction has a name: that of an OpVariable, of a value that is declared at the top of the function, and of one that is declared in a block that is reached

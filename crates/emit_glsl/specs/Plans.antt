@@ -1,8 +1,6 @@
 -- The plan of a function that the code makes.
 use Rattle.std.specs.Prelude.{ℕ, ◌≡◌, ◌++◌, ◌∷◌, [], Bool, List, map, if◌then◌else◌}
 use Rattle.std.specs.List.{AllZip}
-use Rattle.std.specs.BTreeSet.{contains}
-use Rattle.std.specs.Ordering.{nat_cmp}
 use Rattle.id_map.specs.Entries.{is_in}
 use Rattle.spv_module.specs.State.{ModuleState}
 use Rattle.spv_module.specs.declared.inst.Inst.{Inst}
@@ -19,6 +17,7 @@ use Rattle.emit_glsl.specs.declared.plan.FunctionPlan.{FunctionPlan as Planned}
 use Rattle.switch_ladder.specs.Flags.{blocks_that, needs_again, needs_leave, needs_fell}
 use Rattle.emit_glsl.specs.Phis.{pairs, firsts, phi_blocks}
 use Rattle.emit_glsl.specs.Orders.{is_among, order_by}
+use Rattle.emit_glsl.specs.Flagged.{has_again, has_leave, has_fell}
 use Rattle.emit_glsl.specs.Moved.{moves_in}
 use Rattle.emit_glsl.specs.Planned.{is_reached_node, order_in, is_named_in}
 
@@ -32,15 +31,15 @@ pub record IsNamed (gs : List Inst) (f : Function) (g : List Node) (naming : Nam
 pub record IsPlanned (m : ModuleState) (f : Function) (p : Planned) : Type 0 where
   pub of_module : p.source.now ≡ m
   pub of_function : p.locals ≡ f
-  pub graph_is : p.places ≡ graph f
+  pub graph_is : p.nodes.items ≡ graph f
   pub naming : IsNamed m.globals f (graph f) p.naming
   pub named : (n : ℕ) → is_in p.named n ≡ is_named_in (form_in p.naming) (graph f) f.blocks n
   pub tree : IsTree f (region_of p.region)
   pub moves : (b t : ℕ) → IsSequence (firsts (pairs m.globals (form_in p.naming) f b t)) (moves_in p.moves.items b t)
-  pub again : (b : ℕ) → contains nat_cmp p.again b ≡ is_among (blocks_that (needs_again (graph f)) (graph f)) b
-  pub leave : (b : ℕ) → contains nat_cmp p.leave b ≡ is_among (blocks_that (needs_leave (graph f)) (graph f)) b
-  pub fell : (b : ℕ) → contains nat_cmp p.fell b ≡ is_among (blocks_that (needs_fell (graph f) (phi_blocks (form_in p.naming) f)) (graph f)) b
-  pub orders : (h : ℕ) → order_in p.orders.items h ≡ order_by (graph f) h
+  pub again : (b : ℕ) → has_again p.flags b ≡ is_among (blocks_that (needs_again (graph f)) (graph f)) b
+  pub leave : (b : ℕ) → has_leave p.flags b ≡ is_among (blocks_that (needs_leave (graph f)) (graph f)) b
+  pub fell : (b : ℕ) → has_fell p.flags b ≡ is_among (blocks_that (needs_fell (graph f) (phi_blocks (form_in p.naming) f)) (graph f)) b
+  pub orders : (h : ℕ) → order_in p.orders h ≡ order_by (graph f) h
 
 -- the plans of functions that pass, after those of others
 pub record IsPlannedNext (m : ModuleState) (passes : Function → Bool) (f : Function) (old new : List Planned) : Type 0 where

@@ -40,7 +40,7 @@ function_in p = p.locals
 
 -- the instructions of a function for which constants and structs are written
 abbrev pub live_in : Planned → List Inst
-live_in p = live_by p.source.now.globals (form_in p.naming) (is_carried_in p.naming) p.places p.locals.blocks
+live_in p = live_by p.source.now.globals (form_in p.naming) (is_carried_in p.naming) p.nodes.items p.locals.blocks
 
 abbrev pub reached_in : List Planned → Reached
 reached_in ps = record { functions = map function_in ps; live = flat_map live_in ps }

@@ -12,6 +12,7 @@ ghost use Rattle.expr_forward.specs.Context.{key_text, scope_of};
 ghost use Rattle.emit_glsl.specs.Functions.{name_expr, source_expr, set_variable as variable_set, terminator_at, operand_in, first_operand as operand_of, returned as returned_in, case_by, target_of, when, saved_text, move_text as text_of_move};
 ghost use Rattle.emit_glsl.specs.Planned.{plan_in};
 
+use crate::flag_sets::{again_at, fell_at, leave_at};
 use crate::nodes::target;
 use crate::scope::PlannedFunction;
 use block_graph::terminator;
@@ -23,6 +24,19 @@ use phi_copies::{Move, Src, Var};
 use spv_module::{Elem, Function, Id, Inst};
 use spv_words::Memory;
 use std::alloc::Global;
+
+// A list with fewer statements gets room for no more than those that are known to come.
+const SHORT: usize = 8;
+
+/// Makes room for so many statements, and for one behind them.
+fn reserve(out: &mut Vec<Stmt>, count: usize) -> Result<(), Memory>
+    ensures { out.new.items ≡ out.old.items }
+{
+    if count > 0 && out.len() < SHORT {
+        out.reserve_exact(count.saturating_add(1))?;
+    }
+    Ok(())
+}
 
 /// The terminator of a block.
 fn terminator_of(function: &Function, block: usize) -> Option<&Inst>
@@ -195,7 +209,7 @@ impl BlockText for PlannedFunction<'_, '_> {
     }
 
     fn target(&self, block: usize, number: usize) -> usize {
-        target(&self.plan().places, block, number)
+        target(self.plan().nodes.as_slice(), block, number)
     }
 
     fn copies(
@@ -206,6 +220,7 @@ impl BlockText for PlannedFunction<'_, '_> {
         out: &mut Vec<Stmt>,
     ) -> Result<(), Memory> {
         let moves = self.plan().moves_of(from, to);
+        reserve(out, moves.len())?;
         for step in moves {
             out.push(self.move_text(alloc, from, to, *step)?)?;
         }
@@ -213,17 +228,17 @@ impl BlockText for PlannedFunction<'_, '_> {
     }
 
     fn again(&self, header: usize) -> Option<&str> {
-        let needed = self.plan().again.contains(&header);
+        let needed = again_at(&self.plan().flags, header);
         self.flag(needed, Key::Again(label(self.plan().function(), header)))
     }
 
     fn leave(&self, header: usize) -> Option<&str> {
-        let needed = self.plan().leave.contains(&header);
+        let needed = leave_at(&self.plan().flags, header);
         self.flag(needed, Key::Leave(label(self.plan().function(), header)))
     }
 
     fn fell(&self, target: usize) -> Option<&str> {
-        let needed = self.plan().fell.contains(&target);
+        let needed = fell_at(&self.plan().flags, target);
         self.flag(needed, Key::Fell(label(self.plan().function(), target)))
     }
 

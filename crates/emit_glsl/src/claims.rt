@@ -9,6 +9,7 @@ ghost use Rattle.emit_glsl.specs.Claimed.{claimed_by};
 ghost use Rattle.emit_glsl.specs.Functions.{targets_in};
 ghost use Rattle.text_rules.specs.Claims.{claim_spares};
 
+use crate::flag_sets::{again_at, fell_at, leave_at};
 use crate::named::is_captured;
 use crate::nodes::targets;
 use crate::once::each_once;
@@ -89,9 +90,9 @@ fn saves_to(plan: &FunctionPlan, from: usize, to: usize) -> bool
 
 /// Whether the moves of an edge that leaves a block save a variable in a spare.
 fn has_saves(plan: &FunctionPlan, block: usize) -> bool
-    ensures { result ≡ list_any (has_saves_to plan.now block) (targets_in plan.now.places block) }
+    ensures { result ≡ list_any (has_saves_to plan.now block) (targets_in plan.now.nodes.items block) }
 {
-    let targets = targets(&plan.places, block);
+    let targets = targets(plan.nodes.as_slice(), block);
     targets.iter().any(|target| saves_to(plan, block, *target))
 }
 
@@ -115,15 +116,15 @@ impl FunctionClaims for FunctionPlan<'_> {
     }
 
     fn again(&self, block: usize) -> bool {
-        self.again.contains(&block)
+        again_at(&self.flags, block)
     }
 
     fn leave(&self, block: usize) -> bool {
-        self.leave.contains(&block)
+        leave_at(&self.flags, block)
     }
 
     fn fell(&self, block: usize) -> bool {
-        self.fell.contains(&block)
+        fell_at(&self.flags, block)
     }
 
     fn has_captured(&self, inst: &Inst) -> bool {
@@ -135,7 +136,7 @@ impl FunctionClaims for FunctionPlan<'_> {
     }
 
     fn targets(&self, alloc: Global, block: usize) -> Result<Vec<usize>, Memory> {
-        let list = each_once(alloc, targets(&self.places, block))?;
+        let list = each_once(alloc, targets(self.nodes.as_slice(), block))?;
         Ok(list)
     }
 

@@ -3,6 +3,8 @@
 
 mod blocks;
 mod claims;
+mod edge_moves;
+mod flag_sets;
 mod functions;
 mod heads;
 mod live;

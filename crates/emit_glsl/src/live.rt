@@ -10,10 +10,10 @@ use crate::named::{is_captured, is_live};
 use crate::nodes::is_reached;
 use crate::plan::FunctionPlan;
 use hoist_plan::Naming;
-use nest_place::Places;
 use spv_module::{Block, Id, Inst, Module};
 use spv_words::Memory;
 use std::alloc::AllocError;
+use structure_rules::Node;
 
 /// Whether a type is an array or a struct.
 fn is_composite(module: &Module, ty: u32) -> bool
@@ -69,13 +69,13 @@ fn add_live_at<'a>(
     live: &mut Vec<&'a Inst>,
     module: &Module,
     naming: &Naming,
-    places: &Places,
+    nodes: &[Node],
     index: usize,
     block: &'a Block,
 ) -> Result<(), AllocError>
-    ensures { OnOk result (insts_at live.new.items ≡ insts_at live.old.items ++ live_at «module».now.globals (form_in naming.now) (is_carried_in naming.now) places.now (index, block.now)) }
+    ensures { OnOk result (insts_at live.new.items ≡ insts_at live.old.items ++ live_at «module».now.globals (form_in naming.now) (is_carried_in naming.now) nodes.now (index, block.now)) }
 {
-    add_live_of(live, module, naming, is_reached(places, index), block)?;
+    add_live_of(live, module, naming, is_reached(nodes, index), block)?;
     Ok(())
 }
 
@@ -84,13 +84,13 @@ fn add_live_in<'a>(
     live: &mut Vec<&'a Inst>,
     module: &Module,
     naming: &Naming,
-    places: &Places,
+    nodes: &[Node],
     blocks: &'a [Block],
 ) -> Result<(), AllocError>
-    ensures { OnOk result (insts_at live.new.items ≡ insts_at live.old.items ++ live_by «module».now.globals (form_in naming.now) (is_carried_in naming.now) places.now blocks.now) }
+    ensures { OnOk result (insts_at live.new.items ≡ insts_at live.old.items ++ live_by «module».now.globals (form_in naming.now) (is_carried_in naming.now) nodes.now blocks.now) }
 {
     for (index, block) in blocks.iter().enumerate() {
-        add_live_at(live, module, naming, places, index, block)?;
+        add_live_at(live, module, naming, nodes, index, block)?;
     }
     Ok(())
 }
@@ -100,6 +100,12 @@ pub fn add_live<'a>(live: &mut Vec<&'a Inst>, plan: &FunctionPlan<'a>) -> Result
     ensures { OnOk result (insts_at live.new.items ≡ insts_at live.old.items ++ live_in plan.now) }
 {
     let blocks = plan.function().blocks.as_slice();
-    add_live_in(live, plan.source, &plan.naming, &plan.places, blocks)?;
+    add_live_in(
+        live,
+        plan.source,
+        &plan.naming,
+        plan.nodes.as_slice(),
+        blocks,
+    )?;
     Ok(())
 }

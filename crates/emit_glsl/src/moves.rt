@@ -6,8 +6,10 @@ ghost use Rattle.phi_copies.specs.Sequence.{IsSequence, is_var, is_proper as is_
 ghost use Rattle.emit_glsl.specs.Phis.{is_live_phi as is_live_phi_in, has_live_phi as has_live_phi_in, live_phis, phi_block, phi_blocks as phi_blocks_of, is_constant_id as is_constant_id_in, source_by as source_by_constant, source_of, is_block, given_by, pairs_into, pairs as pairs_of_edge, firsts as first_pairs};
 ghost use Rattle.std.specs.BTreeMap.{get, is_at, keys};
 ghost use Rattle.std.specs.Ordering.{nat_cmp};
-ghost use Rattle.emit_glsl.specs.Moved.{items_at, pairs_from, moves_in, single, both, go_in_order as go_in_order_pairs, AreListed, AreMovesFor};
+ghost use Rattle.emit_glsl.specs.Moved.{items_at, first_from, pairs_from, moves_in, single, both, go_in_order as go_in_order_pairs, AreListed, AreMovesFor};
 
+use crate::edge_moves::Moves;
+use crate::flag_sets::are_none;
 use crate::once::is_new;
 use crate::single::{first_phi, moves_of_phi, phi_count};
 use constant_text::is_constant;
@@ -21,9 +23,6 @@ use std::collections::{BTreeMap, BTreeSet};
 
 /// What the variables of phis are given by the edges into a block: pairs by the blocks from which these come.
 type Pairs = BTreeMap<usize, Vec<(Var, Src)>>;
-
-/// The moves of the edges into a block, by the blocks from which these come.
-pub type Moves = BTreeMap<usize, Vec<Move>>;
 
 /// Whether no live instruction mentions a result.
 pub fn is_gone(form: Form) -> bool
@@ -261,10 +260,11 @@ fn go_in_order(pair: (Var, Src), other: (Var, Src)) -> bool
 pub fn single_move(alloc: Global, pair: (Var, Src)) -> Result<Vec<Move>, Memory>
     ensures { IfOk result (λ moves. moves.items ≡ single pair) }
 {
-    let mut moves = Vec::new(alloc);
-    if is_proper(pair) {
-        moves.push(Move::Set(pair.0, pair.1))?;
+    if !is_proper(pair) {
+        return Ok(Vec::new(alloc));
     }
+    let mut moves = Vec::with_capacity(alloc, 1)?;
+    moves.push(Move::Set(pair.0, pair.1))?;
     Ok(moves)
 }
 
@@ -327,14 +327,18 @@ fn origins(alloc: Global, pairs: &Pairs) -> Result<Vec<usize>, AllocError>
 }
 
 /// The moves of the edges from these blocks.
-fn moves_from(alloc: Global, pairs: &Pairs, blocks: &[usize]) -> Result<Moves, Memory>
+fn moves_from(
+    alloc: Global,
+    pairs: &Pairs,
+    blocks: &[usize],
+) -> Result<Vec<(usize, Vec<Move>)>, Memory>
     requires { AreListed pairs.now blocks.now }
-    ensures { IfOk result (λ moves. (b : ℕ) → IsSequence (first_pairs (pairs_from pairs.now b)) (items_at (get nat_cmp moves b))) }
+    ensures { IfOk result (λ moves. (b : ℕ) → IsSequence (first_pairs (pairs_from pairs.now b)) (items_at (first_from moves.items b))) }
 {
-    let mut moves = BTreeMap::new(alloc);
+    let mut moves = Vec::with_capacity(alloc, blocks.len())?;
     for from in blocks {
         let list = moves_by(alloc, list_from(pairs, *from))?;
-        moves.insert(*from, list)?;
+        moves.push((*from, list))?;
     }
     Ok(moves)
 }
@@ -351,7 +355,8 @@ fn moves_of_several(
 {
     let pairs = pairs_of(alloc, module, locals, naming, block)?;
     let blocks = origins(alloc, &pairs)?;
-    let moves = moves_from(alloc, &pairs, blocks.as_slice())?;
+    let list = moves_from(alloc, &pairs, blocks.as_slice())?;
+    let moves = Moves::of(alloc, list)?;
     Ok(moves)
 }
 
@@ -369,7 +374,8 @@ fn moves_of_one(
     match first_phi(naming, block) {
         None => moves_of_several(alloc, module, locals, naming, block),
         Some(phi) => {
-            let moves = moves_of_phi(alloc, module, locals, phi)?;
+            let list = moves_of_phi(alloc, module, locals, phi)?;
+            let moves = Moves::of(alloc, list)?;
             Ok(moves)
         }
     }
@@ -387,7 +393,7 @@ fn moves_into(
 {
     let count = phi_count(naming, block);
     if count == 0 {
-        return Ok(BTreeMap::new(alloc));
+        return Ok(Moves::Few(Vec::new(alloc)));
     }
     if count == 1 {
         return moves_of_one(alloc, module, locals, naming, block);
@@ -413,15 +419,21 @@ fn moves_to(
     Ok(moves)
 }
 
-/// The moves of the edges into each block of a function: what makes the live phis of the block take their values at once.
+/// The moves of the edges into each block of a function with these blocks with live phis, and none where there are no such
+/// blocks: what makes the live phis of a block take their values at once.
 pub fn moves_of(
     alloc: Global,
     module: &Module,
     locals: &Locals,
     naming: &Naming,
+    phi_blocks: &[usize],
 ) -> Result<Vec<Moves>, Memory>
+    requires { phi_blocks.now ≡ phi_blocks_of (form_in naming.now) locals.now }
     ensures { IfOk result (λ moves. (b t : ℕ) → IsSequence (first_pairs (pairs_of_edge «module».now.globals (form_in naming.now) locals.now b t)) (moves_in moves.items b t)) }
 {
+    if are_none(phi_blocks) {
+        return Ok(Vec::new(alloc));
+    }
     let blocks = locals.function().blocks.as_slice();
     let moves = moves_to(alloc, module, locals, naming, blocks)?;
     Ok(moves)

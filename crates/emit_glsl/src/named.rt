@@ -10,11 +10,11 @@ use crate::moves::is_gone;
 use crate::nodes::is_reached;
 use hoist_plan::{Form, Naming};
 use id_map::IdSet;
-use nest_place::Places;
 use spv_module::{Block, Function, Id, Inst};
 use spv_ops::{OpClass, shape_of};
 use spv_words::Memory;
 use std::alloc::{AllocError, Global};
+use structure_rules::Node;
 
 /// Whether a result of a form has a name, where it stands in a block that is reached, or is that of an OpVariable.
 fn has_name_of(form: Form, reached: bool, variable: bool) -> bool
@@ -56,13 +56,13 @@ fn add_named(
 fn add_named_at(
     ids: &mut Vec<u32>,
     naming: &Naming,
-    places: &Places,
+    nodes: &[Node],
     index: usize,
     block: &Block,
 ) -> Result<(), AllocError>
-    ensures { OnOk result ((id : ℕ) → list_any (λ n. n == id) ids.new.items ≡ (list_any (λ n. n == id) ids.old.items || block_names (form_in naming.now) places.now id (index, block.now))) }
+    ensures { OnOk result ((id : ℕ) → list_any (λ n. n == id) ids.new.items ≡ (list_any (λ n. n == id) ids.old.items || block_names (form_in naming.now) nodes.now id (index, block.now))) }
 {
-    add_named(ids, naming, is_reached(places, index), block)?;
+    add_named(ids, naming, is_reached(nodes, index), block)?;
     Ok(())
 }
 
@@ -70,14 +70,14 @@ fn add_named_at(
 fn named_in(
     alloc: Global,
     blocks: &[Block],
-    places: &Places,
+    nodes: &[Node],
     naming: &Naming,
 ) -> Result<Vec<u32>, AllocError>
-    ensures { IfOk result (λ ids. (id : ℕ) → list_any (λ n. n == id) ids.items ≡ is_named_in (form_in naming.now) places.now blocks.now id) }
+    ensures { IfOk result (λ ids. (id : ℕ) → list_any (λ n. n == id) ids.items ≡ is_named_in (form_in naming.now) nodes.now blocks.now id) }
 {
     let mut ids = Vec::new(alloc);
     for (index, block) in blocks.iter().enumerate() {
-        add_named_at(&mut ids, naming, places, index, block)?;
+        add_named_at(&mut ids, naming, nodes, index, block)?;
     }
     Ok(ids)
 }
@@ -97,12 +97,12 @@ fn id_set(alloc: Global, ids: &[u32]) -> Result<IdSet, AllocError>
 pub fn named(
     alloc: Global,
     function: &Function,
-    places: &Places,
+    nodes: &[Node],
     naming: &Naming,
 ) -> Result<IdSet, Memory>
-    ensures { IfOk result (λ ids. (id : ℕ) → is_in ids id ≡ is_named_in (form_in naming.now) places.now function.now.blocks id) }
+    ensures { IfOk result (λ ids. (id : ℕ) → is_in ids id ≡ is_named_in (form_in naming.now) nodes.now function.now.blocks id) }
 {
-    let ids = named_in(alloc, function.blocks.as_slice(), places, naming)?;
+    let ids = named_in(alloc, function.blocks.as_slice(), nodes, naming)?;
     let set = id_set(alloc, ids.as_slice())?;
     Ok(set)
 }

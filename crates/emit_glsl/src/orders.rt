@@ -1,24 +1,24 @@
 // In which order the targets of switches are written.
-ghost use Rattle.std.specs.Prelude.{◌≡◌, ◌<◌, ◌++◌, ◌||◌, ◌==◌, ℕ, true, IfOk, OnOk, flat_map, length, map};
+ghost use Rattle.std.specs.Prelude.{◌≡◌, ◌<◌, ◌++◌, ◌||◌, ◌==◌, ◌+◌, ℕ, true, IfOk, OnOk, flat_map, length, map};
 ghost use Rattle.std.specs.BTreeSet.{contains};
 ghost use Rattle.std.specs.Ordering.{nat_cmp};
 ghost use Rattle.structure_rules.specs.Graph.{graph, nth};
 ghost use Rattle.switch_ladder.specs.Ladder.{items_of};
 ghost use Rattle.structure_recover.specs.Follows.{switch_targets};
 ghost use Rattle.emit_glsl.specs.Orders.{is_among, others_of, order_with as order_with_targets, order_of as order_at, order_by, is_reached_switch as is_reached_switch_node};
-ghost use Rattle.emit_glsl.specs.Planned.{order_in};
+ghost use Rattle.emit_glsl.specs.Planned.{order_in, AreOrdersBelow};
 
 use nest_place::Places;
 use spv_module::Function;
 use spv_words::Memory;
 use std::alloc::{AllocError, Global};
-use std::collections::BTreeSet;
+use std::collections::{BTreeMap, BTreeSet};
 use structure_recover::{Arm, arms_of};
 use structure_rules::{Exit, Node};
 use switch_ladder::chains;
 
-/// For each block the order of its targets, where it is a switch that is reached.
-pub type Orders = Vec<Vec<usize>>;
+/// For each switch that is reached the order of its targets.
+pub type Orders = BTreeMap<usize, Vec<usize>>;
 
 /// Adds blocks.
 fn add_all(blocks: &mut Vec<usize>, more: &[usize]) -> Result<(), AllocError>
@@ -28,11 +28,11 @@ fn add_all(blocks: &mut Vec<usize>, more: &[usize]) -> Result<(), AllocError>
     Ok(())
 }
 
-/// The blocks of chains, one behind the other.
-fn chained(alloc: Global, chains: &[Vec<usize>]) -> Result<Vec<usize>, AllocError>
+/// The blocks of chains, one behind the other, with room for so many.
+fn chained(alloc: Global, chains: &[Vec<usize>], count: usize) -> Result<Vec<usize>, AllocError>
     ensures { IfOk result (λ blocks. blocks.items ≡ flat_map items_of chains.now) }
 {
-    let mut blocks = Vec::new(alloc);
+    let mut blocks = Vec::with_capacity(alloc, count)?;
     for chain in chains {
         add_all(&mut blocks, chain.as_slice())?;
     }
@@ -78,7 +78,7 @@ fn add_others(
 fn order_with(alloc: Global, chains: &[Vec<usize>], arms: &[Arm]) -> Result<Vec<usize>, AllocError>
     ensures { IfOk result (λ order. order.items ≡ order_with_targets (flat_map items_of chains.now) (map (λ a. a.target) arms.now)) }
 {
-    let mut order = chained(alloc, chains)?;
+    let mut order = chained(alloc, chains, arms.len())?;
     let set = set_of(alloc, order.as_slice())?;
     add_others(&mut order, arms, &set)?;
     Ok(order)
@@ -108,34 +108,35 @@ fn is_reached_switch(node: &Node) -> bool
     node.reached && matches!(node.exit, Exit::Switch)
 }
 
-/// The order of the targets of a block, where it is a switch that is reached.
-fn order_if_any(
+/// Adds the order of the targets of a block, where it is a switch that is reached.
+fn add_order(
+    orders: &mut Orders,
     alloc: Global,
     function: &Function,
     places: &Places,
     header: usize,
-) -> Result<Vec<usize>, Memory>
+) -> Result<(), Memory>
     requires graph { places.now ≡ graph function.now }
     requires within { header < length places.now }
-    ensures { IfOk result (λ order. order.items ≡ order_by places.now header) }
+    requires below { AreOrdersBelow places.now header orders.old }
+    ensures { OnOk result (AreOrdersBelow places.now (header + 1) orders.new) }
 {
     if is_reached_switch(&places.nodes()[header]) {
         let order = order_of(alloc, function, places, header)?;
-        Ok(order)
-    } else {
-        Ok(Vec::new(alloc))
+        orders.insert(header, order)?;
     }
+    Ok(())
 }
 
-/// The orders of the targets of blocks.
+/// The orders of the targets of the switches that are reached.
+#[tactic(auto, using(crate::proofs::Ordered::order_rules))]
 pub fn orders_of(alloc: Global, function: &Function, places: &Places) -> Result<Orders, Memory>
     requires { places.now ≡ graph function.now }
-    ensures { IfOk result (λ orders. (h : ℕ) → order_in orders.items h ≡ order_by places.now h) }
+    ensures { IfOk result (λ orders. (h : ℕ) → order_in orders h ≡ order_by places.now h) }
 {
-    let mut orders = Vec::new(alloc);
+    let mut orders = BTreeMap::new(alloc);
     for header in 0..places.nodes().len() {
-        let order = order_if_any(alloc, function, places, header)?;
-        orders.push(order)?;
+        add_order(&mut orders, alloc, function, places, header)?;
     }
     Ok(orders)
 }

@@ -136,7 +136,7 @@ fn plans_of<'a, L: Ledger>(
 fn functions_of<'a>(alloc: Global, plans: &[FunctionPlan<'a>]) -> Result<Vec<&'a Function>, Memory>
     ensures { IfOk result (λ list. functions_at list.items ≡ map function_in plans.now) }
 {
-    let mut functions = Vec::new(alloc);
+    let mut functions = Vec::with_capacity(alloc, plans.len())?;
     for plan in plans {
         functions.push(plan.function())?;
     }

@@ -7,5 +7,5 @@ use Rattle.emit_glsl.proofs.live.add_live_in.Given as goal
 
 abbrev pub invariant-loop-index : goal.invariant-loop-index
 invariant-loop-index l =
-    insts_at l.live.items ++ flat_map (live_at l.module.globals (form_in l.naming) (is_carried_in l.naming) l.places) (enumerate_from l.index (drop l.index l.blocks))
-    ≡ insts_at l.initial.live.items ++ live_by l.module.globals (form_in l.naming) (is_carried_in l.naming) l.places l.blocks
+    insts_at l.live.items ++ flat_map (live_at l.module.globals (form_in l.naming) (is_carried_in l.naming) l.nodes) (enumerate_from l.index (drop l.index l.blocks))
+    ≡ insts_at l.initial.live.items ++ live_by l.module.globals (form_in l.naming) (is_carried_in l.naming) l.nodes l.blocks

@@ -1,8 +1,7 @@
 use Rattle.std.proofs.Common.{ℕ, take}
-use Rattle.std.specs.BTreeMap.{get}
-use Rattle.std.specs.Ordering.{nat_cmp}
+use Rattle.emit_glsl.specs.Moved.{first_from}
 use Rattle.emit_glsl.proofs.Moving.{AreMovesOf}
 use Rattle.emit_glsl.proofs.moves.moves_from.Given as goal
 
 abbrev pub invariant-loop-from : goal.invariant-loop-from
-invariant-loop-from l = (b : ℕ) → AreMovesOf l.pairs (take l.from-index l.blocks) b (get nat_cmp l.moves b)
+invariant-loop-from l = (b : ℕ) → AreMovesOf l.pairs (take l.from-index l.blocks) b (first_from l.moves.items b)

@@ -1,10 +1,7 @@
 use Rattle.std.proofs.Common.{◌+◌, ℕ, List, arith, subst, sym, take}
-use Rattle.std.specs.BTreeMap.{BTreeMap}
-use Rattle.std.specs.declared.vec.Vec.{Vec}
-use Rattle.std.specs.declared.alloc.Global.{Global}
-use Rattle.phi_copies.specs.declared.moves.Move.{Move}
 use Rattle.spv_module.specs.declared.inst.Block.{Block}
 use Rattle.hoist_plan.specs.Kept.{form_in}
+use Rattle.emit_glsl.specs.declared.edge_moves.Moves.{Moves}
 use Rattle.emit_glsl.specs.Moved.{AreMovesFor}
 use Rattle.emit_glsl.proofs.Moving.{AreMovesInto, moves_push}
 use Rattle.emit_glsl.proofs.moves.moves_to.Goals as goal
@@ -14,4 +11,4 @@ loop-block-preserved c =
     let b : Block = c.block-item.result in
     let pushed = moves_push c.args.«module».now.globals (form_in c.args.naming.now) c.args.locals.now c.args.blocks.now c.loop-block.block-index b c.loop-block.moves.items c.in_ok-own.own (omega arith)
     (subst (λ (x : Block). AreMovesFor c.args.«module».now.globals (form_in c.args.naming.now) c.args.locals.now x c.in_ok-own.own) c.block-item.is c.in_ok-own.ensures) c.loop-block.invariant in
-    subst (λ (ms : List (BTreeMap ℕ (Vec Move Global))). AreMovesInto c.args.«module».now.globals (form_in c.args.naming.now) c.args.locals.now (take (c.loop-block.block-index + 1) c.args.blocks.now) ms) (sym c.in_ok-push.ensures.items) pushed
+    subst (λ (ms : List Moves). AreMovesInto c.args.«module».now.globals (form_in c.args.naming.now) c.args.locals.now (take (c.loop-block.block-index + 1) c.args.blocks.now) ms) (sym c.in_ok-push.ensures.items) pushed

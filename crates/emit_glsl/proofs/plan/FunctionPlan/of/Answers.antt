@@ -1,4 +1,4 @@
-use Rattle.std.proofs.Common.{◌≡◌, ◌∙◌, List, ap, refl, subst}
+use Rattle.std.proofs.Common.{◌≡◌, ◌∙◌, List, ℕ, ap, refl, subst}
 use Rattle.spv_module.specs.declared.inst.Function.{Function}
 use Rattle.structure_rules.specs.declared.graph.Node.{Node}
 use Rattle.structure_rules.specs.Graph.{graph}
@@ -16,17 +16,20 @@ returns g c =
     let f : Function = c.args.locals in
     let form = form_in c.in_ok-naming.naming in
     let own : c.function-function.result.now ≡ f = c.function-function.ensures in
-    let sets = c.in_ok-sets.ensures in
+    let nodes_are : c.into_nodes-nodes.result.items ≡ graph f = c.into_nodes-nodes.ensures ∙ c.requires in
+    let read : c.as_slice-2.result.now ≡ graph f = c.as_slice-2.ensures.value ∙ nodes_are in
+    let phis_are : c.as_slice.result.now ≡ phi_blocks form f = c.as_slice.ensures.value ∙ (c.in_ok-phis.ensures ∙ ap (phi_blocks form) own) in
+    let flags = c.in_ok-flags.ensures in
     record {
       of_module = refl;
       of_function = refl;
-      graph_is = c.requires;
+      graph_is = nodes_are;
       naming = c.in_ok-naming.ensures;
-      named = λ n. c.in_ok-named.ensures n ∙ (ap (λ (g : List Node). is_named_in form g c.function-function.result.now.blocks n) c.requires ∙ ap (λ (l : Function). is_named_in form (graph f) l.blocks n) own);
+      named = λ n. c.in_ok-named.ensures n ∙ (ap (λ (g : List Node). is_named_in form g c.function-function.result.now.blocks n) read ∙ ap (λ (l : Function). is_named_in form (graph f) l.blocks n) own);
       tree = subst (λ (l : Function). IsTree l (region_of c.in_ok-region.region)) own c.in_ok-region.ensures.follows;
       moves = c.in_ok-moves.ensures;
-      again = λ b. sets.again b ∙ ap (λ (l : Function). is_among (blocks_that (needs_again (graph l)) (graph l)) b) own;
-      leave = λ b. sets.leave b ∙ ap (λ (l : Function). is_among (blocks_that (needs_leave (graph l)) (graph l)) b) own;
-      fell = λ b. sets.fell b ∙ ap (λ (l : Function). is_among (blocks_that (needs_fell (graph l) (phi_blocks form l)) (graph l)) b) own;
+      again = λ b. flags.again b ∙ ap (λ (l : Function). is_among (blocks_that (needs_again (graph l)) (graph l)) b) own;
+      leave = λ b. flags.leave b ∙ ap (λ (l : Function). is_among (blocks_that (needs_leave (graph l)) (graph l)) b) own;
+      fell = λ b. flags.fell b ∙ (ap (λ (l : Function). is_among (blocks_that (needs_fell (graph l) c.as_slice.result.now) (graph l)) b) own ∙ ap (λ (ps : List ℕ). is_among (blocks_that (needs_fell (graph f) ps) (graph f)) b) phis_are);
       orders = λ h. c.in_ok-orders.ensures h ∙ ap (λ (g : List Node). order_by g h) c.requires;
     }
