@@ -1,6 +1,16 @@
--- What is needed, in whatever order it is looked for.
-use Rattle.std.proofs.Common.{◌≡◌, ◌||◌, Bool, true, false, Option, Some, None, refl}
-use Rattle.std.specs.Option.{option_map_or}
+-- What is needed, in whatever order it is looked for, and of which operands.
+use Rattle.std.proofs.Common.{◌≡◌, ◌≤◌, ◌<◌, ◌+◌, ◌%◌, ◌==◌, ◌&&◌, ◌||◌, ℕ, zero, suc, not, nat_lt, Bool, true, false, List, [], ◌∷◌, length, take, Option, Some, None, refl, ap, ◌∙◌, sym, arith, if◌then◌else◌}
+use Rattle.std.specs.Option.{option_map_or, unwrap_or}
+use Rattle.std.specs.List.{list_any, enumerate_from}
+use Rattle.std.proofs.Math.Seq.{take-nil}
+use Rattle.std.proofs.lemmas.Bool.Decides.{nat_tests}
+use Rattle.spv_ops.specs.Operands.{is_id}
+use Rattle.spv_ops.specs.declared.operands.IdWords.TheVariants.{Range, OneAndFrom}
+use Rattle.spv_module.specs.declared.inst.Inst.{Inst}
+use Rattle.profile_rules.specs.declared.groups.Need.{Need}
+use Rattle.profile_rules.specs.declared.groups.Need.TheVariants.{PhiValue, Label, Value}
+use Rattle.profile_rules.specs.Operands.{needs_of, need, first_or, lacks_operand}
+use Rattle.type_rules.specs.Needed.{AreNeeds, AreBelow, lacks_of}
 
 pub in_any_order : (r g p : Bool) → (r || (g || p)) ≡ (g || (p || r))
 in_any_order true true p = refl
@@ -10,6 +20,71 @@ in_any_order false true p = refl
 in_any_order false false true = refl
 in_any_order false false false = refl
 
+pub last_first : (x y z : Bool) → (z && (x && y)) ≡ (x && (y && z))
+last_first true y true = elim y as (λ b. b ≡ (b && true)) [ true ↦ refl | false ↦ refl ]
+last_first true y false = elim y as (λ b. false ≡ (b && false)) [ true ↦ refl | false ↦ refl ]
+last_first false y true = refl
+last_first false y false = refl
+
 pub none_suits : {X : Type 0} (o : Option X) → option_map_or (λ x. false) o false ≡ false
 none_suits None = refl
 none_suits (Some x) = refl
+
+same_needs : (o : Option (Need × Need)) (k : ℕ) → option_map_or (first_or k) o Value ≡ first_or k (unwrap_or o (Value, Value))
+same_needs None k = elim (k == 0) as (λ b. Value ≡ (if b then Value else Value)) [ true ↦ refl | false ↦ refl ]
+same_needs (Some needs) k = refl
+
+-- what the table says, and values where it says nothing
+pub needs_are : (op : ℕ) (needs : Need × Need) → (op == 245) ≡ false → needs ≡ unwrap_or (needs_of op) (Value, Value) → AreNeeds op needs
+needs_are op needs no_phi is = record {
+  each = λ k.
+      ap (λ b. if b then (if k % 2 == 0 then PhiValue else Label) else option_map_or (first_or k) (needs_of op) Value) no_phi
+      ∙ same_needs (needs_of op) k
+      ∙ ap (first_or k) (sym is);
+}
+
+pub range_below : (many n : ℕ) → AreBelow (Range 0 n) many n
+range_below many n = record { all = λ k inside. grind (arith, nat_tests) }
+
+pub from_first : (many one : ℕ) → AreBelow (OneAndFrom one 0) many many
+from_first many one = record { all = λ k inside. grind (arith, nat_tests, inside) }
+
+below_suc : (j n : ℕ) → nat_lt (suc j) (suc n) ≡ nat_lt j n
+below_suc j n = grind (arith, nat_tests)
+
+below_none : (j : ℕ) → nat_lt j 0 ≡ false
+below_none j = grind (arith, nat_tests)
+
+module _ (there : Need → ℕ → Bool) (i : Inst) where
+  none_lack : (k : ℕ) (ids : List ℕ) → ((j : ℕ) → j < length ids → is_id i.op i.args (k + j) ≡ false) → false ≡ list_any (lacks_operand there i) (enumerate_from k ids)
+  none_lack k [] no_ids = refl
+  none_lack k (id ∷ ids) no_ids =
+      let first : k + 0 ≡ k = omega arith in
+      let here : is_id i.op i.args k ≡ false = ap (is_id i.op i.args) (sym first) ∙ no_ids 0 (omega arith) in
+      none_lack (k + 1) ids (λ j inside. let next : k + 1 + j ≡ k + suc j = omega arith in ap (is_id i.op i.args) next ∙ no_ids (suc j) (omega (arith, inside)))
+      ∙ ap (λ b. (b && not (there (need i.op k) id)) || list_any (lacks_operand there i) (enumerate_from (k + 1) ids)) (sym here)
+
+  module _ (needs : Need × Need) (are : (k : ℕ) → need i.op k ≡ first_or k needs) where
+    others_lack : (k n : ℕ) (ids : List ℕ) → 1 ≤ k → ((j : ℕ) → j < length ids → is_id i.op i.args (k + j) ≡ nat_lt j n) → list_any (λ other. not (there needs.1 other)) (take n ids) ≡ list_any (lacks_operand there i) (enumerate_from k ids)
+    others_lack k n [] above same = ap (list_any (λ other. not (there needs.1 other))) (take-nil n)
+    others_lack k zero (id ∷ ids) above same = none_lack k (id ∷ ids) (λ j inside. same j inside ∙ below_none j)
+    others_lack k (suc n) (id ∷ ids) above same =
+        let first : k + 0 ≡ k = omega arith in
+        let some : nat_lt 0 (suc n) ≡ true = grind (arith, nat_tests) in
+        let here : is_id i.op i.args k ≡ true = ap (is_id i.op i.args) (sym first) ∙ same 0 (omega arith) ∙ some in
+        let later : (k == 0) ≡ false = grind (arith, nat_tests, above) in
+        let which : need i.op k ≡ needs.1 = are k ∙ ap (λ b. if b then needs.0 else needs.1) later in
+        ap (λ b. not (there needs.1 id) || b) (others_lack (k + 1) n ids (omega (arith, above)) (λ j inside. let next : k + 1 + j ≡ k + suc j = omega arith in ap (is_id i.op i.args) next ∙ same (suc j) (omega (arith, inside)) ∙ below_suc j n))
+        ∙ ap (λ x. not (there x id) || list_any (lacks_operand there i) (enumerate_from (k + 1) ids)) (sym which)
+        ∙ ap (λ b. (b && not (there (need i.op k) id)) || list_any (lacks_operand there i) (enumerate_from (k + 1) ids)) (sym here)
+
+    -- where the first n operands are the ids
+    pub first_lack : (n : ℕ) (ids : List ℕ) → ((j : ℕ) → j < length ids → is_id i.op i.args j ≡ nat_lt j n) → lacks_of there needs (take n ids) ≡ list_any (lacks_operand there i) (enumerate_from 0 ids)
+    first_lack n [] same = ap (lacks_of there needs) (take-nil n)
+    first_lack zero (id ∷ ids) same = none_lack 0 (id ∷ ids) (λ j inside. let from : 0 + j ≡ j = omega arith in ap (is_id i.op i.args) from ∙ same j inside ∙ below_none j)
+    first_lack (suc n) (id ∷ ids) same =
+        let some : nat_lt 0 (suc n) ≡ true = grind (arith, nat_tests) in
+        let here : is_id i.op i.args 0 ≡ true = same 0 (omega arith) ∙ some in
+        ap (λ b. not (there needs.0 id) || b) (others_lack 1 n ids (omega arith) (λ j inside. let next : 1 + j ≡ suc j = omega arith in ap (is_id i.op i.args) next ∙ same (suc j) (omega (arith, inside)) ∙ below_suc j n))
+        ∙ ap (λ x. not (there x id) || list_any (lacks_operand there i) (enumerate_from 1 ids)) (sym (are 0))
+        ∙ ap (λ b. (b && not (there (need i.op 0) id)) || list_any (lacks_operand there i) (enumerate_from 1 ids)) (sym here)

@@ -5,8 +5,6 @@ use Rattle.std.specs.Option.{option_map}
 use Rattle.std.proofs.lemmas.Bool.Decides.{nat_tests}
 use Rattle.spv_ops.proofs.Rows.{both}
 use Rattle.profile_rules.specs.declared.groups.Group.{Group}
-use Rattle.profile_rules.specs.declared.groups.Need.{Need}
-use Rattle.profile_rules.specs.Operands.{needs_of, need_rows}
 use Rattle.profile_rules.specs.TypeRules.{group_in, groups}
 use Rattle.type_rules.specs.Groups.{each}
 
@@ -35,9 +33,3 @@ pub no_group : (opcode : ℕ) → 401 ≤ opcode → group_in opcode ≡ None
 unfolding group_in
 no_group opcode large =
     ap (option_map (λ (r : ℕ × Group). r.1)) (none_between (λ (r : ℕ × Group). r.0) groups 401 (opcode + 1) opcode refl large (omega arith))
-
--- no opcode between these has needs of its own
-pub no_needs : (opcode : ℕ) → 60 ≤ opcode → opcode < 246 → needs_of opcode ≡ None
-unfolding needs_of
-no_needs opcode above below =
-    ap (option_map (λ (r : ℕ × Need × Need). (r.1, r.2))) (none_between (λ (r : ℕ × Need × Need). r.0) need_rows 60 246 opcode refl above below)

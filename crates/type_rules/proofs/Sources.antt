@@ -2,8 +2,6 @@
 use Rattle.std.proofs.Common.{◌≡◌, ◌==◌, ◌&&◌, ◌||◌, ◌<◌, ◌≤◌, ◌+◌, ◌-◌, ◌++◌, not, ℕ, zero, suc, Bool, true, false, List, [], ◌∷◌, Option, Some, None, is_some, length, map, take, get_or, nat_lt, cond, refl, ap, sym, ◌∙◌, arith, inl, inr, subst}
 use Rattle.std.specs.List.{filter, enumerate_from, list_any, list_all, count_by, position_from, slice_get}
 use Rattle.std.specs.Option.{option_map_or}
-use Rattle.std.specs.declared.alloc.Global.{Global}
-use Rattle.std.specs.Prelude.{Vec}
 use Rattle.std.proofs.lemmas.List.{take_more, take_all, append-nil, map-append, get_or_default}
 use Rattle.std.proofs.lemmas.List.Elements.{filter-append}
 use Rattle.std.proofs.lemmas.List.Folds.{list_any-append}
@@ -15,8 +13,9 @@ use Rattle.spv_module.specs.declared.inst.Function.{Function}
 use Rattle.spv_index.specs.Locals.{block_in}
 use Rattle.profile_rules.specs.FlowRules.{is_target, targets, goes, goes_to, is_predecessor, are_no_predecessors, has_repeat}
 use Rattle.type_rules.specs.declared.edges.Source.{Source}
+use Rattle.type_rules.specs.declared.edges.Sources.{Sources}
 use Rattle.type_rules.proofs.Targets.{no_targets}
-use Rattle.type_rules.specs.Edges.{source_at, sources_of, is_source, are_not_sources, ends_at, with_source, source_if, IsAddedAt, AreEmpty, AreSources, AreSourcesWith, Adds}
+use Rattle.type_rules.specs.Edges.{list_of, source_at, sources_of, is_source, are_not_sources, ends_at, with_source, source_if, IsAddedAt, AreEmpty, AreSources, AreSourcesWith, Adds}
 
 -- where the first that passes stands
 position_at : {X : Type 0} (p : X → Bool) (n : ℕ) (xs : List X) (k : ℕ) → position_from p n xs ≡ Some k → (j : ℕ) × (k ≡ n + j) × (j < length xs) × (option_map_or p (slice_get xs j) false ≡ true)
@@ -165,7 +164,7 @@ is_itself : (a : ℕ) → (a == a) ≡ true
 is_itself a = grind (arith, nat_tests)
 
 -- a label that a block of the function has
-pub edge_added : (f : Function) (s : Source) (label k : ℕ) (old new : List (Vec Source Global)) → block_in f label ≡ Some k → IsAddedAt old new k s → Adds f s (λ x. label == x) old new
+pub edge_added : (f : Function) (s : Source) (label k : ℕ) (old new : List Sources) → block_in f label ≡ Some k → IsAddedAt old new k s → Adds f s (λ x. label == x) old new
 edge_added f s label k old new found more = record {
   size = more.size;
   step = λ done some was. record {
@@ -176,7 +175,7 @@ edge_added f s label k old new found more = record {
           | inl w ↦
               let same : j ≡ k = let e : Some j ≡ Some k = sym at ∙ ap (block_in f) (sym w.1) ∙ found in cc in
               let yes : (some x || (label == x)) ≡ true = or_yes (some x) (label == x) w.0 in
-              let P : ℕ → Type 0 = λ i. (get_or new i d).items ≡ sources_of x done ++ source_if (some x || (label == x)) s in
+              let P : ℕ → Type 0 = λ i. list_of (get_or new i d) ≡ sources_of x done ++ source_if (some x || (label == x)) s in
               subst P (sym same)
               (more.own d
               ∙ ap (λ xs. with_source xs s) (was.each x k d (ap (block_in f) (sym w.1) ∙ found))
@@ -185,7 +184,7 @@ edge_added f s label k old new found more = record {
           | inr w ↦
               let other : j ≡ k → ⊥ = λ e. w.1 (same_label f label x k found (at ∙ ap Some e)) in
               let no : (some x || (label == x)) ≡ some x = or_no (some x) (label == x) w.0 in
-              ap (λ (v : Vec Source Global). v.items) (more.others j d other)
+              ap list_of (more.others j d other)
               ∙ was.each x j d at
               ∙ ap (λ b. sources_of x done ++ source_if b s) (sym no)
         ];
@@ -193,7 +192,7 @@ edge_added f s label k old new found more = record {
 }
 
 -- a label that no block has
-pub edge_nowhere : (f : Function) (s : Source) (label : ℕ) (old : List (Vec Source Global)) → block_in f label ≡ None → Adds f s (λ x. label == x) old old
+pub edge_nowhere : (f : Function) (s : Source) (label : ℕ) (old : List Sources) → block_in f label ≡ None → Adds f s (λ x. label == x) old old
 edge_nowhere f s label old none = record {
   size = refl;
   step = λ done some was. record {
@@ -208,7 +207,7 @@ edge_nowhere f s label old none = record {
 }
 
 -- more by another test that says the same
-adds_same : (f : Function) (s : Source) (p q : ℕ → Bool) (old new : List (Vec Source Global)) → ((x : ℕ) → p x ≡ q x) → Adds f s p old new → Adds f s q old new
+adds_same : (f : Function) (s : Source) (p q : ℕ → Bool) (old new : List Sources) → ((x : ℕ) → p x ≡ q x) → Adds f s p old new → Adds f s q old new
 adds_same f s p q old new same more = record {
   size = more.size;
   step = λ done some was.
@@ -229,7 +228,7 @@ or_false true = refl
 or_false false = refl
 
 -- nothing more
-pub adds_none : (f : Function) (s : Source) (old : List (Vec Source Global)) → Adds f s (λ x. false) old old
+pub adds_none : (f : Function) (s : Source) (old : List Sources) → Adds f s (λ x. false) old old
 adds_none f s old = record {
   size = refl;
   step = λ done some was. record {
@@ -239,7 +238,7 @@ adds_none f s old = record {
   };
 }
 
-adds_both : (f : Function) (s : Source) (p q : ℕ → Bool) (old mid new : List (Vec Source Global)) → Adds f s p old mid → Adds f s q mid new → Adds f s (λ x. p x || q x) old new
+adds_both : (f : Function) (s : Source) (p q : ℕ → Bool) (old mid new : List Sources) → Adds f s p old mid → Adds f s q mid new → Adds f s (λ x. p x || q x) old new
 adds_both f s p q old mid new first second = record {
   size = second.size ∙ first.size;
   step = λ done some was.
@@ -257,15 +256,15 @@ any_more p xs i x inside is =
     sym (ap (list_any p) front ∙ list_any-append p (take i xs) (x ∷ []) ∙ ap (λ b. list_any p (take i xs) || b) (sym (or_false (p x))))
 
 -- one more item that goes to labels
-pub adds_more : {X : Type 0} (f : Function) (s : Source) (p : ℕ → X → Bool) (xs : List X) (i : ℕ) (x : X) (old mid new : List (Vec Source Global)) → i < length xs → x ≡ get_or xs i x → Adds f s (λ l. list_any (p l) (take i xs)) old mid → Adds f s (λ l. p l x) mid new → Adds f s (λ l. list_any (p l) (take (i + 1) xs)) old new
+pub adds_more : {X : Type 0} (f : Function) (s : Source) (p : ℕ → X → Bool) (xs : List X) (i : ℕ) (x : X) (old mid new : List Sources) → i < length xs → x ≡ get_or xs i x → Adds f s (λ l. list_any (p l) (take i xs)) old mid → Adds f s (λ l. p l x) mid new → Adds f s (λ l. list_any (p l) (take (i + 1) xs)) old new
 adds_more f s p xs i x old mid new inside is first second =
     adds_same f s (λ l. list_any (p l) (take i xs) || p l x) (λ l. list_any (p l) (take (i + 1) xs)) old new (λ l. any_more (p l) xs i x inside is) (adds_both f s (λ l. list_any (p l) (take i xs)) (λ l. p l x) old mid new first second)
 
 -- an operand that is a target, or none
-pub operand_added : (f : Function) (s : Source) (label : ℕ) (b : Bool) (old new : List (Vec Source Global)) → b ≡ true → Adds f s (λ x. label == x) old new → Adds f s (λ x. b && (label == x)) old new
+pub operand_added : (f : Function) (s : Source) (label : ℕ) (b : Bool) (old new : List Sources) → b ≡ true → Adds f s (λ x. label == x) old new → Adds f s (λ x. b && (label == x)) old new
 operand_added f s label b old new there more = adds_same f s (λ x. label == x) (λ x. b && (label == x)) old new (λ x. ap (λ t. t && (label == x)) (sym there)) more
 
-pub operand_passed : (f : Function) (s : Source) (label : ℕ) (b : Bool) (old : List (Vec Source Global)) → b ≡ false → Adds f s (λ x. b && (label == x)) old old
+pub operand_passed : (f : Function) (s : Source) (label : ℕ) (b : Bool) (old : List Sources) → b ≡ false → Adds f s (λ x. b && (label == x)) old old
 operand_passed f s label b old never = adds_same f s (λ x. false) (λ x. b && (label == x)) old old (λ x. ap (λ t. t && (label == x)) (sym never)) (adds_none f s old)
 
 -- the labels to which the first operands go
@@ -289,21 +288,21 @@ goes_more op args i w label inside is =
     ∙ ap (λ b. list_any hit (map word (filter test front)) || b) (goes_one op label (i, w)))
 
 -- one more operand
-pub operand_more : (f : Function) (s : Source) (op : ℕ) (args : List ℕ) (i w : ℕ) (old mid new : List (Vec Source Global)) → i < length args → w ≡ get_or args i w → Adds f s (goes_by op (take i args)) old mid → Adds f s (λ x. is_target op i && (w == x)) mid new → Adds f s (goes_by op (take (i + 1) args)) old new
+pub operand_more : (f : Function) (s : Source) (op : ℕ) (args : List ℕ) (i w : ℕ) (old mid new : List Sources) → i < length args → w ≡ get_or args i w → Adds f s (goes_by op (take i args)) old mid → Adds f s (λ x. is_target op i && (w == x)) mid new → Adds f s (goes_by op (take (i + 1) args)) old new
 operand_more f s op args i w old mid new inside is first second =
     let e : suc i ≡ i + 1 = omega arith in
     let P : ℕ → Type 0 = λ n. Adds f s (goes_by op (take n args)) old new in
     subst P e (adds_same f s (λ x. goes_by op (take i args) x || (is_target op i && (w == x))) (goes_by op (take (suc i) args)) old new (λ x. goes_more op args i w x inside is) (adds_both f s (goes_by op (take i args)) (λ x. is_target op i && (w == x)) old mid new first second))
 
 -- no block yet
-pub sources_none : (f : Function) (lists : List (Vec Source Global)) → AreEmpty (length f.blocks) lists → AreSources f [] lists
+pub sources_none : (f : Function) (lists : List Sources) → AreEmpty (length f.blocks) lists → AreSources f [] lists
 sources_none f lists empty = record {
   size = empty.size;
   each = λ label k d at. empty.each k d (block_inside f label k at);
 }
 
 -- one more block
-pub block_more : (f : Function) (s : Source) (bs : List Block) (i : ℕ) (b : Block) (old new : List (Vec Source Global)) → i < length bs → b ≡ get_or bs i b → s ≡ source_at (i, b) → length (take i bs) ≡ i → AreSources f (take i bs) old → Adds f s (λ x. goes_to x b) old new → AreSources f (take (i + 1) bs) new
+pub block_more : (f : Function) (s : Source) (bs : List Block) (i : ℕ) (b : Block) (old new : List Sources) → i < length bs → b ≡ get_or bs i b → s ≡ source_at (i, b) → length (take i bs) ≡ i → AreSources f (take i bs) old → Adds f s (λ x. goes_to x b) old new → AreSources f (take (i + 1) bs) new
 block_more f s bs i b old new inside is here sized was more =
     let start : AreSourcesWith f s (take i bs) (λ x. false) old = record {
       size = was.size;
@@ -363,7 +362,7 @@ asked_of_sources f label labels =
     ∙ ap (λ b. (not (length labels == count_by (goes_to label) f.blocks) || has_repeat labels) || b) others
 
 -- what is no branch goes nowhere
-pub inst_passed : (f : Function) (s : Source) (i : Inst) (old : List (Vec Source Global)) → (((i.op == 249) || (i.op == 250)) || (i.op == 251)) ≡ false → Adds f s (λ x. goes x i) old old
+pub inst_passed : (f : Function) (s : Source) (i : Inst) (old : List Sources) → (((i.op == 249) || (i.op == 250)) || (i.op == 251)) ≡ false → Adds f s (λ x. goes x i) old old
 inst_passed f s i old other =
     adds_same f s (λ x. false) (λ x. goes x i) old old (λ x. sym (ap (list_any (λ l. l == x)) (no_targets i other))) (adds_none f s old)
 
@@ -379,10 +378,10 @@ pub ruleset edge_rules = (edge_nowhere, block_inside)
 pub ruleset operand_rules = (operand_passed)
 
 -- all operands, and all instructions
-pub adds_targets : (f : Function) (s : Source) (i : Inst) (k : ℕ) (old new : List (Vec Source Global)) → length i.args ≤ k → Adds f s (goes_by i.op (take k i.args)) old new → Adds f s (λ x. goes x i) old new
+pub adds_targets : (f : Function) (s : Source) (i : Inst) (k : ℕ) (old new : List Sources) → length i.args ≤ k → Adds f s (goes_by i.op (take k i.args)) old new → Adds f s (λ x. goes x i) old new
 adds_targets f s i k old new all more = subst (λ args. Adds f s (goes_by i.op args) old new) (take_all k i.args all) more
 
-pub adds_insts : (f : Function) (s : Source) (b : Block) (insts : List Inst) (k : ℕ) (old new : List (Vec Source Global)) → insts ≡ b.insts → length insts ≤ k → Adds f s (λ x. list_any (goes x) (take k insts)) old new → Adds f s (λ x. goes_to x b) old new
+pub adds_insts : (f : Function) (s : Source) (b : Block) (insts : List Inst) (k : ℕ) (old new : List Sources) → insts ≡ b.insts → length insts ≤ k → Adds f s (λ x. list_any (goes x) (take k insts)) old new → Adds f s (λ x. goes_to x b) old new
 adds_insts f s b insts k old new is all more = subst (λ list. Adds f s (λ x. list_any (goes x) list) old new) (take_all k insts all ∙ is) more
 
 pub ruleset start_rules = (adds_none)

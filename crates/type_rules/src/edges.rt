@@ -1,13 +1,14 @@
 // The edges between the blocks of a function.
-ghost use Rattle.std.specs.Prelude.{◌≡◌, ◌==◌, ◌&&◌, ◌||◌, ◌<◌, true, IfOk, OnOk, is_some, length};
+ghost use Rattle.std.specs.Prelude.{◌≡◌, ◌==◌, ◌&&◌, ◌||◌, ◌++◌, ◌∷◌, [], ◌<◌, true, IfOk, OnOk, is_some, length};
 ghost use Rattle.spv_index.specs.Locals.{block_in};
 ghost use Rattle.profile_rules.specs.FlowRules.{is_target as is_target_of, goes, goes_to};
-ghost use Rattle.type_rules.specs.Edges.{sources_of, ends_at as ends_at_place, with_source, IsAddedAt, AreEmpty, AreSources, Adds};
+ghost use Rattle.type_rules.specs.Edges.{list_of, sources_of, ends_at as ends_at_place, with_source, IsAddedAt, AreEmpty, AreSources, Adds};
 
 use spv_index::Locals;
 use spv_module::{Block, Function, Inst};
 use std::alloc::{AllocError, Global};
 use std::marker::Model;
+use std::slice::from_ref;
 
 /// A block that goes to another: its place in the function, and its label.
 #[derive(Clone, Copy, Debug)]
@@ -16,12 +17,34 @@ pub struct Source {
     pub label: u32,
 }
 
+/// Some blocks. Most labels have one or two, which need no list.
+#[derive(Drop)]
+enum Sources {
+    Nowhere,
+    One(Source),
+    Two([Source; 2]),
+    Many(Vec<Source>),
+}
+
+impl Sources {
+    fn as_slice(&self) -> &[Source]
+        ensures { result.now ≡ list_of self.now }
+    {
+        match self {
+            Sources::Nowhere => &[],
+            Sources::One(source) => from_ref(source),
+            Sources::Two(pair) => pair,
+            Sources::Many(list) => list.as_slice(),
+        }
+    }
+}
+
 /// Which blocks of a function go to each of its labels. Contracts see the function.
 #[derive(Drop)]
 pub struct Edges<'a> {
     function: &'a Function,
     // at the place of the first block with a label those that go to it
-    sources: Vec<Vec<Source>>,
+    sources: Vec<Sources>,
 }
 
 impl<'a> Model for Edges<'a> {
@@ -58,30 +81,62 @@ fn ends_at(sources: &[Source], place: usize) -> bool
     }
 }
 
-/// Adds a block, where it is not the last.
-fn add_source(sources: &mut Vec<Source>, source: Source) -> Result<(), AllocError>
-    ensures { OnOk result (sources.new.items ≡ with_source sources.old.items source) }
+/// A list of two blocks and another.
+fn listed(alloc: Global, pair: &[Source], source: Source) -> Result<Vec<Source>, AllocError>
+    ensures { IfOk result (λ list. list.items ≡ pair.now ++ source ∷ []) }
 {
-    if ends_at(sources, source.place) {
-        return Ok(());
-    }
-    sources.push(source)?;
+    let mut list = Vec::with_capacity(alloc, 4)?;
+    list.extend_from_slice(pair)?;
+    list.push(source)?;
+    Ok(list)
+}
+
+/// Puts a block behind the others.
+fn push(alloc: Global, sources: &mut Sources, source: Source) -> Result<(), AllocError>
+    ensures { OnOk result (list_of sources.new ≡ list_of sources.old ++ source ∷ []) }
+{
+    let more = match sources {
+        Sources::Nowhere => Sources::One(source),
+        Sources::One(first) => Sources::Two([*first, source]),
+        Sources::Two(pair) => Sources::Many(listed(alloc, pair, source)?),
+        Sources::Many(list) => {
+            list.push(source)?;
+            return Ok(());
+        }
+    };
+    *sources = more;
     Ok(())
 }
 
+/// Adds a block, where it is not the last.
+fn add_source(alloc: Global, sources: &mut Sources, source: Source) -> Result<(), AllocError>
+    ensures { OnOk result (list_of sources.new ≡ with_source (list_of sources.old) source) }
+{
+    if ends_at(sources.as_slice(), source.place) {
+        return Ok(());
+    }
+    push(alloc, sources, source)
+}
+
 /// Adds a block to one of these lists.
-fn add_at(lists: &mut Vec<Vec<Source>>, at: usize, source: Source) -> Result<(), AllocError>
+fn add_at(
+    alloc: Global,
+    lists: &mut Vec<Sources>,
+    at: usize,
+    source: Source,
+) -> Result<(), AllocError>
     requires { at < length lists.old.items }
     ensures { OnOk result (IsAddedAt lists.old.items lists.new.items at source) }
 {
-    add_source(&mut lists[at], source)?;
+    add_source(alloc, &mut lists[at], source)?;
     Ok(())
 }
 
 /// Adds a block to those that go to a label.
 #[tactic(auto, using(crate::proofs::Sources::edge_rules))]
 fn add_edge(
-    lists: &mut Vec<Vec<Source>>,
+    alloc: Global,
+    lists: &mut Vec<Sources>,
     locals: &Locals,
     source: Source,
     label: u32,
@@ -91,7 +146,7 @@ fn add_edge(
 {
     match locals.block(label) {
         Some(at) => {
-            add_at(lists, at, source)?;
+            add_at(alloc, lists, at, source)?;
             Ok(())
         }
         None => Ok(()),
@@ -101,7 +156,8 @@ fn add_edge(
 /// Adds a block to those that go to a label, where operand k of its instruction is a target.
 #[tactic(auto, using(crate::proofs::Sources::operand_rules))]
 fn add_operand(
-    lists: &mut Vec<Vec<Source>>,
+    alloc: Global,
+    lists: &mut Vec<Sources>,
     locals: &Locals,
     source: Source,
     op: u16,
@@ -112,7 +168,7 @@ fn add_operand(
     ensures { OnOk result (Adds locals.now source (λ x. is_target_of op k && (label == x)) lists.old.items lists.new.items) }
 {
     if is_target(op, k) {
-        add_edge(lists, locals, source, label)?;
+        add_edge(alloc, lists, locals, source, label)?;
         Ok(())
     } else {
         Ok(())
@@ -122,7 +178,8 @@ fn add_operand(
 /// Adds a block to those that go to the labels of a branch.
 #[tactic(auto, using(crate::proofs::Sources::start_rules))]
 fn add_targets(
-    lists: &mut Vec<Vec<Source>>,
+    alloc: Global,
+    lists: &mut Vec<Sources>,
     locals: &Locals,
     source: Source,
     inst: &Inst,
@@ -131,7 +188,7 @@ fn add_targets(
     ensures { OnOk result (Adds locals.now source (λ x. goes x inst.now) lists.old.items lists.new.items) }
 {
     for (k, label) in inst.args.as_slice().iter().enumerate() {
-        add_operand(lists, locals, source, inst.op, k, *label)?;
+        add_operand(alloc, lists, locals, source, inst.op, k, *label)?;
     }
     Ok(())
 }
@@ -145,7 +202,8 @@ fn is_branch(op: u16) -> bool
 
 /// Adds a block to those that go to the labels of an instruction. Only branches have some.
 fn add_inst(
-    lists: &mut Vec<Vec<Source>>,
+    alloc: Global,
+    lists: &mut Vec<Sources>,
     locals: &Locals,
     source: Source,
     inst: &Inst,
@@ -154,7 +212,7 @@ fn add_inst(
     ensures { OnOk result (Adds locals.now source (λ x. goes x inst.now) lists.old.items lists.new.items) }
 {
     if is_branch(inst.op) {
-        add_targets(lists, locals, source, inst)
+        add_targets(alloc, lists, locals, source, inst)
     } else {
         Ok(())
     }
@@ -163,7 +221,8 @@ fn add_inst(
 /// Adds a block to those that go to the labels of its instructions.
 #[tactic(auto, using(crate::proofs::Sources::start_rules))]
 fn add_block(
-    lists: &mut Vec<Vec<Source>>,
+    alloc: Global,
+    lists: &mut Vec<Sources>,
     locals: &Locals,
     source: Source,
     block: &Block,
@@ -172,24 +231,24 @@ fn add_block(
     ensures { OnOk result (Adds locals.now source (λ x. goes_to x block.now) lists.old.items lists.new.items) }
 {
     for inst in block.insts.as_slice() {
-        add_inst(lists, locals, source, inst)?;
+        add_inst(alloc, lists, locals, source, inst)?;
     }
     Ok(())
 }
 
 /// As many empty lists.
-fn empty_lists(alloc: Global, count: usize) -> Result<Vec<Vec<Source>>, AllocError>
+fn empty_lists(alloc: Global, count: usize) -> Result<Vec<Sources>, AllocError>
     ensures { IfOk result (λ lists. AreEmpty count lists.items) }
 {
     let mut lists = Vec::with_capacity(alloc, count)?;
     for _ in 0..count {
-        lists.push(Vec::new(alloc))?;
+        lists.push(Sources::Nowhere)?;
     }
     Ok(lists)
 }
 
 /// For each block of a function those that go to its label.
-fn lists_of(alloc: Global, locals: &Locals) -> Result<Vec<Vec<Source>>, AllocError>
+fn lists_of(alloc: Global, locals: &Locals) -> Result<Vec<Sources>, AllocError>
     ensures { IfOk result (λ lists. AreSources locals.now locals.now.blocks lists.items) }
 {
     let blocks = locals.function().blocks.as_slice();
@@ -199,7 +258,7 @@ fn lists_of(alloc: Global, locals: &Locals) -> Result<Vec<Vec<Source>>, AllocErr
             place,
             label: block.label.0,
         };
-        add_block(&mut lists, locals, source, block)?;
+        add_block(alloc, &mut lists, locals, source, block)?;
     }
     Ok(lists)
 }

@@ -1,5 +1,5 @@
 // What the operand ids of an instruction have to be, and where they have to stand.
-ghost use Rattle.std.specs.Prelude.{◌≡◌, ◌==◌, ◌&&◌, nat_lt, ℕ, find, false, option_map, is_some};
+ghost use Rattle.std.specs.Prelude.{◌≡◌, ◌&&◌, not, nat_lt, ℕ, false, is_some, take, IfSome};
 ghost use Rattle.std.specs.Option.{option_map_or};
 ghost use Rattle.std.specs.List.{list_any, enumerate_from};
 ghost use Rattle.spv_ops.specs.Operands.{has_id, is_id};
@@ -7,6 +7,7 @@ ghost use Rattle.spv_module.specs.Inst.{has_type as has_type_by};
 ghost use Rattle.spv_index.specs.Locals.{typed, inst_in};
 ghost use Rattle.profile_rules.specs.Operands.{needs_of as needs_by, need as need_by, type_need as type_need_by, suits as suits_need, is_global as is_global_before, is_local as is_local_value, is_there_in as is_there_in_function, lacks_operand as lacks_operand_by, lacks};
 ghost use Rattle.type_rules.specs.Scopes.{there};
+ghost use Rattle.type_rules.specs.Needed.{AreNeeds, AreBelow, lacks_of as lacks_those};
 
 use crate::scope::Scope;
 use profile_rules::Need;
@@ -14,54 +15,40 @@ use spv_index::Locals;
 use spv_module::Inst;
 use spv_ops::{IdWords, id_words, shape_of};
 
-// What the first operand id has to be, and the others: OpExtInst; OpTypeVector, OpTypeArray,
-// OpTypeRuntimeArray, OpTypeStruct, OpTypePointer, OpTypeFunction; OpConstantComposite,
-// OpSpecConstantComposite, OpSpecConstantOp; OpFunctionCall; OpVariable; OpLoopMerge,
-// OpSelectionMerge, OpBranch, OpBranchConditional, OpSwitch.
-static NEEDS: [(u16, Need, Need); 17] = [
-    (12, Need::Import, Need::Value),
-    (23, Need::AnyType, Need::AnyType),
-    (28, Need::AnyType, Need::Constant),
-    (29, Need::AnyType, Need::AnyType),
-    (30, Need::AnyType, Need::AnyType),
-    (32, Need::AnyType, Need::AnyType),
-    (33, Need::AnyType, Need::AnyType),
-    (44, Need::Constant, Need::Constant),
-    (51, Need::Constant, Need::Constant),
-    (52, Need::Constant, Need::Constant),
-    (57, Need::Callee, Need::Value),
-    (59, Need::Constant, Need::Constant),
-    (246, Need::Label, Need::Label),
-    (247, Need::Label, Need::Label),
-    (249, Need::Label, Need::Label),
-    (250, Need::Value, Need::Label),
-    (251, Need::Value, Need::Label),
-];
-
-fn find_needs(rows: &[(u16, Need, Need)], op: u16) -> Option<(Need, Need)>
-    ensures { result ≡ option_map (λ r. (r.1, r.2)) (find (λ r. r.0 == op) rows.now) }
-{
-    rows.iter()
-        .find(|row| row.0 == op)
-        .map(|row| (row.1, row.2))
-}
-
+/// What the first operand id of an opcode has to be, and the others, where that is not a value.
 #[tactic(auto, unfolding(profile_rules::specs::Operands::needs_of))]
 fn needs_in_table(op: u16) -> Option<(Need, Need)>
     ensures { result ≡ needs_by op }
 {
-    find_needs(&NEEDS, op)
+    match op {
+        // OpExtInst
+        12 => Some((Need::Import, Need::Value)),
+        // OpTypeVector, OpTypeRuntimeArray, OpTypeStruct, OpTypePointer, OpTypeFunction
+        23 | 29 | 30 | 32 | 33 => Some((Need::AnyType, Need::AnyType)),
+        // OpTypeArray
+        28 => Some((Need::AnyType, Need::Constant)),
+        // OpConstantComposite, OpSpecConstantComposite, OpSpecConstantOp, OpVariable
+        44 | 51 | 52 | 59 => Some((Need::Constant, Need::Constant)),
+        // OpFunctionCall
+        57 => Some((Need::Callee, Need::Value)),
+        // OpLoopMerge, OpSelectionMerge, OpBranch
+        246 | 247 | 249 => Some((Need::Label, Need::Label)),
+        // OpBranchConditional, OpSwitch
+        250 | 251 => Some((Need::Value, Need::Label)),
+        _ => None,
+    }
 }
 
-/// What the operands of an opcode have to be. No opcode from 60 to 245 is in the table.
-#[tactic(auto, using(crate::proofs::Placed::no_needs))]
+/// What the first operand id of an opcode has to be, and the others; of OpPhi values and labels
+/// alternate.
+#[tactic(auto, using(crate::proofs::Needed::needs_are))]
 fn needs_of(op: u16) -> Option<(Need, Need)>
-    ensures { result ≡ needs_by op }
+    ensures { IfSome result (AreNeeds op) }
 {
-    if op >= 60 && op < 246 {
+    if op == 245 {
         return None;
     }
-    needs_in_table(op)
+    Some(needs_in_table(op).unwrap_or((Need::Value, Need::Value)))
 }
 
 /// What operand k has to be where it is an id. Values and labels of OpPhi alternate.
@@ -75,7 +62,7 @@ fn need(op: u16, k: usize) -> Need
             Need::Label
         };
     }
-    match needs_of(op) {
+    match needs_in_table(op) {
         Some((first, rest)) => if k == 0 { first } else { rest },
         None => Need::Value,
     }
@@ -205,15 +192,79 @@ fn lacks_operand(scope: &Scope, inst: &Inst, ids: IdWords, k: usize, id: u32) ->
     ids.has(k) && !is_there(scope, inst.at, need(inst.op, k), id)
 }
 
+/// Whether one of these operands is not there.
+fn lacks_some(scope: &Scope, inst: &Inst, ids: IdWords, args: &[u32]) -> bool
+    requires { (j : ℕ) → has_id ids j ≡ is_id inst.now.op inst.now.args j }
+    ensures { result ≡ list_any (lacks_operand_by (there scope.now inst.now.at) inst.now) (enumerate_from 0 args.now) }
+{
+    args.iter()
+        .enumerate()
+        .any(|(k, id)| lacks_operand(scope, inst, ids, k, *id))
+}
+
+/// Whether one of these is not there before a word.
+fn lacks_each(scope: &Scope, before: u32, need: Need, ids: &[u32]) -> bool
+    ensures { result ≡ list_any (λ id. not (there scope.now before need id)) ids.now }
+{
+    ids.iter().any(|id| !is_there(scope, before, need, *id))
+}
+
+/// Whether one of these is not there before a word, where the first is needed as one thing, and the
+/// others as another.
+fn lacks_of(scope: &Scope, before: u32, needs: (Need, Need), ids: &[u32]) -> bool
+    ensures { result ≡ lacks_those (there scope.now before) needs ids.now }
+{
+    match ids {
+        [] => false,
+        [id, rest @ ..] => {
+            !is_there(scope, before, needs.0, *id) || lacks_each(scope, before, needs.1, rest)
+        }
+    }
+}
+
+/// How many operands are ids, where these stand before all literals.
+#[tactic(auto, using(crate::proofs::Needed::range_below, crate::proofs::Needed::from_first))]
+fn count_ids(ids: IdWords, many: usize) -> Option<usize>
+    ensures { IfSome result (AreBelow ids many) }
+{
+    match ids {
+        IdWords::Range(from, end) => if from == 0 { Some(end) } else { None },
+        IdWords::OneAndFrom(_, from) => if from == 0 { Some(many) } else { None },
+        IdWords::Alternate => None,
+    }
+}
+
+/// The first so many of these, or all.
+fn first(ids: &[u32], n: usize) -> &[u32]
+    ensures { result.now ≡ take n ids.now }
+{
+    &ids[..n.min(ids.len())]
+}
+
+/// Whether an operand is not there, where the first has to be one thing, and the others another. Of
+/// most instructions the ids stand before all literals.
+fn lacks_by(scope: &Scope, inst: &Inst, needs: (Need, Need), ids: IdWords) -> bool
+    requires ids { (j : ℕ) → has_id ids j ≡ is_id inst.now.op inst.now.args j }
+    requires needs { AreNeeds inst.now.op needs }
+    ensures { result ≡ list_any (lacks_operand_by (there scope.now inst.now.at) inst.now) (enumerate_from 0 inst.now.args) }
+{
+    let args = inst.args.as_slice();
+    match count_ids(ids, args.len()) {
+        Some(n) => lacks_of(scope, inst.at, needs, first(args, n)),
+        None => lacks_some(scope, inst, ids, args),
+    }
+}
+
 /// Whether an operand is not there.
 fn lacks_operands(scope: &Scope, inst: &Inst) -> bool
     ensures { result ≡ list_any (lacks_operand_by (there scope.now inst.now.at) inst.now) (enumerate_from 0 inst.now.args) }
 {
     let args = inst.args.as_slice();
     let ids = id_words(inst.op, args);
-    args.iter()
-        .enumerate()
-        .any(|(k, id)| lacks_operand(scope, inst, ids, k, *id))
+    match needs_of(inst.op) {
+        Some(needs) => lacks_by(scope, inst, needs, ids),
+        None => lacks_some(scope, inst, ids, args),
+    }
 }
 
 /// T1: whether the result type or an operand of an instruction is not there.

@@ -138,11 +138,12 @@ impl<'a, 'b> Scope<'a, 'b> {
         }
     }
 
-    /// Whether these are two types, and not the same.
+    /// Whether these are two types, and not the same. Most ids that are asked about are the same.
+    #[tactic(auto, using(crate::proofs::Needed::last_first))]
     pub fn differ(&self, a: u32, b: u32) -> bool
         ensures { result ≡ differ self.now.m.globals a b }
     {
-        self.type_row(a).is_some() && self.type_row(b).is_some() && a != b
+        a != b && self.type_row(a).is_some() && self.type_row(b).is_some()
     }
 
     /// Whether a value's type is not declared by this opcode.
