@@ -18,25 +18,13 @@ use crate::scope::PlannedFunction;
 use block_graph::terminator;
 use constant_text::int_literal;
 use control_text::BlockText;
+use expr_forward::reserve;
 use glsl_ast::{Expr, LValue, Literal, Name, Stmt};
 use name_alloc::Key;
 use phi_copies::{Move, Src, Var};
 use spv_module::{Elem, Function, Id, Inst};
 use spv_words::Memory;
 use std::alloc::Global;
-
-// A list with fewer statements gets room for no more than those that are known to come.
-const SHORT: usize = 8;
-
-/// Makes room for so many statements, and for one behind them.
-fn reserve(out: &mut Vec<Stmt>, count: usize) -> Result<(), Memory>
-    ensures { out.new.items ≡ out.old.items }
-{
-    if count > 0 && out.len() < SHORT {
-        out.reserve_exact(count.saturating_add(1))?;
-    }
-    Ok(())
-}
 
 /// The terminator of a block.
 fn terminator_of(function: &Function, block: usize) -> Option<&Inst>

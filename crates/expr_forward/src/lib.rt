@@ -19,3 +19,4 @@ mod values;
 pub use context::Context;
 pub use globals::Globals;
 pub use kinds::{InstKind, OperationKind};
+pub use statements::reserve;

@@ -20,8 +20,9 @@ const FEW: usize = 64;
 // A list with fewer statements gets room for no more than those that are known to come.
 const SHORT: usize = 8;
 
-/// Makes room for so many statements of a block, and for one with which the block ends.
-fn reserve(into: &mut Vec<Stmt>, count: usize) -> Result<(), Memory>
+/// Makes room for so many statements behind those of a list, and for one with which a block ends. There is an error only where
+/// there is no memory for it.
+pub fn reserve(into: &mut Vec<Stmt>, count: usize) -> Result<(), Memory>
     ensures { into.new.items ≡ into.old.items }
 {
     if count == 0 {
