@@ -1,5 +1,5 @@
 -- What is among the pointers of a module, and what breaks no rule where no operand is.
-use Rattle.std.proofs.Common.{◌≡◌, ◌<◌, ◌==◌, ◌&&◌, ◌||◌, ◌+◌, ◌++◌, ℕ, zero, suc, Bool, true, false, List, [], ◌∷◌, Option, Some, None, is_some, cond, length, drop, get_or, refl, ap, sym, ◌∙◌, arith, inl, inr, subst, if◌then◌else◌, not}
+use Rattle.std.proofs.Common.{◌≡◌, ◌<◌, ◌==◌, ◌&&◌, ◌||◌, ◌+◌, ℕ, zero, suc, Bool, true, false, List, [], ◌∷◌, Option, Some, None, is_some, cond, length, drop, get_or, refl, ap, sym, ◌∙◌, arith, inl, inr, subst, if◌then◌else◌, not}
 use Rattle.std.specs.Prelude.{option_and_then, option_map, slice_index}
 use Rattle.std.specs.Option.{option_map_or, option_or}
 use Rattle.std.specs.List.{list_any, find, flat_map, enumerate_from}
@@ -19,8 +19,8 @@ use Rattle.spv_module.specs.declared.inst.Function.{Function}
 use Rattle.spv_decor.specs.Rows.{word}
 use Rattle.spv_index.specs.Locals.{typed, insts_of, inst_in, parameter_in, global_type, local_type}
 use Rattle.spv_index.specs.Pointers.{as_pointer, storage_class}
-use Rattle.profile_rules.specs.MemoryRules.{is_pointer, is_own_memory, is_other_pointer, is_atomic, is_read_only, class_of, is_through, non_writable, non_readable, repeats, is_stray_pointer, may_be_pointer, breaks_m1, breaks_m2, breaks_m3, breaks_m4, breaks_m5, constant_word}
-use Rattle.profile_rules.specs.AtomicRules.{is_other_value, is_scope, is_relaxed, is_semantics, leads_elsewhere, breaks_a1, breaks_a2, breaks_a3, breaks_a4, breaks_a5}
+use Rattle.profile_rules.specs.MemoryRules.{is_pointer, is_own_memory, is_other_pointer, is_atomic, is_read_only, class_of, is_through, non_writable, non_readable, repeats, is_stray_pointer, may_be_pointer, breaks_m1, breaks_m2, breaks_m3, breaks_m4, breaks_m5}
+use Rattle.profile_rules.specs.AtomicRules.{is_other_value, is_scope, is_relaxed, is_semantics, breaks_a1, breaks_a2, breaks_a3, breaks_a4, breaks_a5}
 use Rattle.profile_rules.specs.AccessRules.{breaks, access_rules}
 use Rattle.access_check.specs.Pointed.{is_pointer_type, makes_pointer, takes_pointer, has_pointer, is_some_pointer, declares, HasPointersAmong, is_access}
 use Rattle.access_check.proofs.Faults.{any_weaker, found_passes}

@@ -2,15 +2,15 @@
 use Rattle.std.proofs.Common.{◌≡◌, ◌==◌, ◌&&◌, ◌||◌, ℕ, Bool, true, false, List, [], ◌∷◌, Option, Some, None, is_some, drop, cond, refl, ap, sym, ◌∙◌, arith, if◌then◌else◌}
 use Rattle.std.specs.Prelude.{option_and_then}
 use Rattle.std.specs.Option.{option_map_or}
-use Rattle.std.specs.List.{list_any, find, fold}
+use Rattle.std.specs.List.{find, fold}
 use Rattle.std.proofs.lemmas.Bool.{or_parts}
 use Rattle.std.proofs.lemmas.Bool.Decides.{nat_tests}
 use Rattle.spv_module.specs.Held.{global}
 use Rattle.spv_module.specs.declared.inst.Inst.{Inst}
 use Rattle.spv_module.specs.declared.inst.Function.{Function}
 use Rattle.spv_index.specs.Locals.{insts_of}
-use Rattle.spv_decor.specs.Rows.{Key, key_of, is_same, has_key, first_row, word}
-use Rattle.profile_rules.specs.MemoryRules.{with_way, is_chain, is_struct, is_decorated, is_member_decorated, is_decorated_global, constant_word, leads_to_member, passes_member, pointee_of, step_type, is_through}
+use Rattle.spv_decor.specs.Rows.{Key, key_of, has_key, first_row, word}
+use Rattle.profile_rules.specs.MemoryRules.{with_way, is_chain, is_struct, is_decorated, is_member_decorated, is_decorated_global, constant_word, leads_to_member, passes_member, pointee_of, step_type}
 use Rattle.access_check.specs.Ways.{AreWays, decorates, has_row}
 
 -- a row that is about something else

@@ -6,7 +6,7 @@ use Rattle.structure_recover.specs.View.{item_of, region_of}
 use Rattle.structure_recover.specs.declared.region.Region.{Region}
 use Rattle.structure_recover.specs.declared.region.Item.{Item}
 use Rattle.structure_recover.specs.declared.region.Exit.{Exit}
-use Rattle.structure_recover.proofs.Views.{region_is, group_is, item_plain}
+use Rattle.structure_recover.proofs.Views.{region_is, group_is}
 use Rattle.glsl_ast.specs.Tree.{Expr, Stmt, when, either, stmts_in}
 use Rattle.glsl_ast.specs.View.{stmt_of}
 use Rattle.glsl_ast.specs.declared.statements.Stmt.{Stmt as StmtValue}

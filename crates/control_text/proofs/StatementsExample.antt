@@ -4,7 +4,7 @@ use Rattle.structure_rules.specs.declared.graph.EdgeKind.TheVariants.{SwitchBrea
 use Rattle.structure_recover.specs.declared.region.Exit.TheVariants.{Edge, Return}
 use Rattle.structure_recover.specs.Tree.{Region, ends, item, plain, loop_on, switch, none, group}
 use Rattle.glsl_ast.specs.Tree as text
-use Rattle.glsl_ast.specs.Tree.{Expr, Stmt, assign, when, give, stmts_in, lvalue, name}
+use Rattle.glsl_ast.specs.Tree.{Stmt, assign, when, give, stmts_in, lvalue, name}
 use Rattle.glsl_ast.specs.declared.expressions.Literal.TheVariants.{Uint}
 use Rattle.glsl_ast.specs.declared.statements.Label.TheVariants.{Case, Default}
 use Rattle.control_text.specs.Statements.{Blocks, function_text, set_flag, declare_flag}

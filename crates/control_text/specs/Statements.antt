@@ -8,7 +8,7 @@ use Rattle.structure_recover.specs.declared.region.Exit.{Exit}
 use Rattle.structure_recover.specs.declared.region.Exit.TheVariants.{Edge, Return, Lost, Closed}
 use Rattle.structure_recover.specs.Tree.{Region, ends, item, Item, plain, choose, loose, loop, loop_on, switch, Groups, none, group}
 use Rattle.glsl_ast.specs.Tree as text
-use Rattle.glsl_ast.specs.Tree.{Text, Expr, Stmt, declare, assign, when, either, give, Stmts, no_stmts, stmt, stmts_in, lvalue, type_name, boolean, literal, name, not}
+use Rattle.glsl_ast.specs.Tree.{Text, Expr, Stmt, declare, assign, when, either, give, stmts_in, lvalue, type_name, boolean, literal, name, not}
 use Rattle.glsl_ast.specs.declared.expressions.Literal.{Literal}
 use Rattle.glsl_ast.specs.declared.expressions.Literal.TheVariants.{Truth}
 use Rattle.glsl_ast.specs.declared.statements.Label.{Label}

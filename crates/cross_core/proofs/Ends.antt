@@ -1,5 +1,5 @@
 -- Why commands end as they do.
-use Rattle.std.proofs.Common.{◌≡◌, ◌≤◌, ◌<◌, ◌⊎◌, length, inl, inr, ℕ, List, [], ◌∷◌, Option, None, Some, IfSome, IsSome, refl, sym, subst, arith}
+use Rattle.std.proofs.Common.{◌≡◌, ◌≤◌, ◌⊎◌, length, inl, inr, ℕ, List, Option, None, Some, IfSome, refl, sym, subst, arith}
 use Rattle.spv_words.specs.declared.rule.Fault.{Fault}
 use Rattle.spv_words.specs.declared.rule.Fault.TheVariants.{Refused as RefusedFault, Limit as LimitFault, Memory as NoMemory}
 use Rattle.spv_words.specs.declared.rule.Limit.{Limit as AnyLimit}
@@ -7,7 +7,7 @@ use Rattle.spv_words.specs.declared.rule.Limit.TheVariants as limit
 use Rattle.spv_words.specs.Limit.{limit_number}
 use Rattle.std.specs.Io.KnownBytes.{IsAtEnd}
 use Rattle.cc_outside.specs.Causes.{Rose}
-use Rattle.conformance.specs.Rules.{Options, Breaks, Conforms, Exceeds, IsRight, IsWithinLimits}
+use Rattle.conformance.specs.Rules.{Options, Conforms, Exceeds, IsRight, IsWithinLimits}
 use Rattle.conformance.proofs.Considered.{is_broken}
 use Rattle.cross_core.specs.State.{CommandState}
 use Rattle.cross_core.specs.declared.endings.Ending.{Ending}

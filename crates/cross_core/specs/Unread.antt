@@ -1,5 +1,5 @@
 -- Why words are no command.
-use Rattle.std.specs.Prelude.{ℕ, ◌≡◌, List, Option, None}
+use Rattle.std.specs.Prelude.{◌≡◌, Option, None}
 use Rattle.spec_constants.specs.declared.overrides.Unparsed.{Unparsed}
 use Rattle.spec_constants.specs.declared.overrides.Unparsed.TheVariants.{Usage, Memory}
 

@@ -1,6 +1,6 @@
 -- What is asked of variables alone, and what is collected of the others.
-use Rattle.std.proofs.Common.{◌≡◌, ◌<◌, ◌==◌, ◌&&◌, ◌||◌, ◌+◌, ◌++◌, ℕ, Bool, true, false, List, [], ◌∷◌, Option, Some, None, cond, length, take, get_or, map, refl, ap, sym, ◌∙◌, arith, subst, append_assoc, append-nil, if◌then◌else◌}
-use Rattle.std.specs.List.{list_any, find, filter, filter_map, cons_option, count_by, flat_map}
+use Rattle.std.proofs.Common.{◌≡◌, ◌<◌, ◌==◌, ◌&&◌, ◌||◌, ◌+◌, ◌++◌, ℕ, Bool, true, false, List, [], ◌∷◌, Option, Some, None, cond, length, take, get_or, refl, ap, sym, ◌∙◌, arith, subst, append_assoc, append-nil, if◌then◌else◌}
+use Rattle.std.specs.List.{find, filter, filter_map, cons_option, count_by, flat_map}
 use Rattle.std.specs.Borrow.{Bor}
 use Rattle.std.proofs.lemmas.List.{take_more, length-map}
 use Rattle.std.proofs.lemmas.List.Folds.{list_any-append}
@@ -8,7 +8,6 @@ use Rattle.std.proofs.lemmas.List.Elements.{filter-append, filter_map-append}
 use Rattle.std.proofs.lemmas.List.Concat.{flat_map-cons}
 use Rattle.std.proofs.lemmas.List.Sums.{sum_by-cons}
 use Rattle.std.proofs.lemmas.Grind.{flat_map-append}
-use Rattle.id_map.specs.Entries.{is_in}
 use Rattle.spv_module.specs.State.{ModuleState}
 use Rattle.spv_module.specs.declared.inst.Inst.{Inst}
 use Rattle.spv_module.specs.declared.inst.Block.{Block}
@@ -17,7 +16,7 @@ use Rattle.spv_decor.specs.Decorations.{local_insts}
 use Rattle.spv_decor.specs.Rows.{word}
 use Rattle.spv_index.specs.Pointers.{pointee}
 use Rattle.profile_rules.specs.Places.{is_among, is_variable, body_insts}
-use Rattle.profile_rules.specs.TypeForm.{pointee_by, pointees, value_type, value_types, parts_of, held, is_held, with_parts}
+use Rattle.profile_rules.specs.TypeForm.{pointee_by, pointees, value_type, parts_of, held, is_held}
 use Rattle.profile_rules.specs.Variables.{is_misclassed, is_other_input, is_push, is_other_block, is_other_initializer}
 use Rattle.declaration_check.specs.declared.rows.Rows.{Rows}
 use Rattle.declaration_check.specs.Kept.{outer_variables, inner_variables, variables_of, variables_in, AreKept, WithMore, AreValues}

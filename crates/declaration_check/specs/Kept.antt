@@ -1,5 +1,5 @@
 -- What is collected from the instructions of a module: its variables, and the types of its other values, each once.
-use Rattle.std.specs.Prelude.{ℕ, ◌≡◌, ◌||◌, ◌++◌, Bool, true, List, map, length}
+use Rattle.std.specs.Prelude.{ℕ, ◌≡◌, ◌||◌, ◌++◌, true, List, map, length}
 use Rattle.std.specs.Borrow.{Bor}
 use Rattle.std.specs.List.{filter, filter_map}
 use Rattle.id_map.specs.Entries.{is_in}

@@ -1,6 +1,6 @@
 -- The expressions of globals, one instruction after another.
 use Rattle.std.proofs.Common.{◌≡◌, ◌<◌, ◌==◌, ◌||◌, ◌+◌, ℕ, Bool, true, false, List, [], ◌∷◌, Option, Some, None, cond, get_or, length, take, refl, sym, ◌∙◌, ap, if◌then◌else◌}
-use Rattle.std.specs.Prelude.{find, option_and_then}
+use Rattle.std.specs.Prelude.{option_and_then}
 use Rattle.std.specs.List.{list_any}
 use Rattle.std.proofs.lemmas.Bool.{eqb-true}
 use Rattle.std.proofs.lemmas.List.Folds.{list_any_more}

@@ -1,11 +1,11 @@
 -- The moves of one phi.
-use Rattle.std.proofs.Common.{◌≡◌, ◌==◌, ◌<◌, ◌≤◌, ◌+◌, ◌||◌, ℕ, zero, suc, Bool, true, false, List, [], ◌∷◌, ◌++◌, Option, Some, None, is_some, cond, if◌then◌else◌, length, get_or, drop, map, filter, find, refl, sym, ◌∙◌, ap, subst, arith}
+use Rattle.std.proofs.Common.{◌≡◌, ◌==◌, ◌≤◌, ◌+◌, ◌||◌, ℕ, zero, suc, Bool, true, false, List, [], ◌∷◌, ◌++◌, Option, Some, None, cond, if◌then◌else◌, length, get_or, drop, map, filter, find, refl, sym, ◌∙◌, ap, subst, arith}
 use Rattle.std.specs.Prelude.{slice_get}
 use Rattle.std.specs.Option.{option_map_or}
 use Rattle.std.specs.List.{enumerate_from, flat_map, list_any}
 use Rattle.std.specs.declared.vec.Vec.{Vec}
 use Rattle.std.specs.declared.alloc.Global.{Global}
-use Rattle.std.proofs.lemmas.Bool.{eqb-true, eq-eqb}
+use Rattle.std.proofs.lemmas.Bool.{eq-eqb}
 use Rattle.std.proofs.lemmas.List.{append-nil}
 use Rattle.spv_module.specs.declared.inst.Inst.{Inst}
 use Rattle.spv_module.specs.declared.inst.Block.{Block}
@@ -15,11 +15,11 @@ use Rattle.phi_copies.specs.declared.moves.Move.{Move}
 use Rattle.phi_copies.specs.Sequence.{Pair, target, IsSequence}
 use Rattle.emit_glsl.specs.declared.edge_moves.Moves.{Moves}
 use Rattle.emit_glsl.specs.Once.{with_id, once_by, no_id}
-use Rattle.emit_glsl.specs.Phis.{is_live_phi, live_phis, has_live_phi, phi_block, phi_blocks, is_block, pair_with, values_in, comes_from, given_words, given_by, pairs_into, pairs, firsts}
+use Rattle.emit_glsl.specs.Phis.{is_live_phi, live_phis, has_live_phi, phi_block, phi_blocks, pair_with, values_in, comes_from, given_words, given_by, pairs_into, pairs, firsts}
 use Rattle.emit_glsl.specs.Moved.{items_at, moves_from, moves_in, single, first_moves, left_moves, AreMovesFor}
 use Rattle.emit_glsl.proofs.Moving.{none_left}
 use Rattle.emit_glsl.proofs.One.{single_moves}
-use Rattle.emit_glsl.proofs.Phied.{one, given_step, given_few}
+use Rattle.emit_glsl.proofs.Phied.{one, given_step}
 
 -- the operands of a phi, two at a time
 pub given_two : (gs : List Inst) (f : Function) (b r : ℕ) (words : List ℕ) → 2 ≤ length words → given_words gs f b r words ≡ one gs f b r (get_or words 0 0) (get_or words 1 0) ++ given_words gs f b r (drop 2 words)

@@ -1,5 +1,5 @@
 -- What the code makes of planned functions is the unit of the definitions.
-use Rattle.std.proofs.Common.{◌≡◌, ◌==◌, ℕ, Bool, true, false, List, [], ◌∷◌, ◌++◌, Option, Some, None, cond, map, refl, sym, ◌∙◌, ap}
+use Rattle.std.proofs.Common.{◌≡◌, ℕ, Bool, true, false, List, [], ◌∷◌, ◌++◌, Option, Some, None, cond, map, refl, sym, ◌∙◌, ap}
 use Rattle.std.specs.Prelude.{find, flat_map, option_map, option_to_list}
 use Rattle.std.specs.List.{AllZip}
 use Rattle.std.proofs.lemmas.List.{map-append}
@@ -32,9 +32,9 @@ use Rattle.emit_glsl.specs.Functions.{FunctionPlan, function_decl}
 use Rattle.emit_glsl.specs.Planned.{captured_numbers, is_named_in}
 use Rattle.emit_glsl.specs.Plans.{IsPlanned}
 use Rattle.emit_glsl.specs.Live.{live_by}
-use Rattle.emit_glsl.specs.Reached.{function_in, live_in, reached_in, plan_with, has_id, planned_at, decl_with, decls_at, AreGlobals, IsWritten, IsMade}
-use Rattle.emit_glsl.specs.Translation.{Naming, id_text, global_expr, plan_scope, scope_by, scope_of, IsPlanOf}
-use Rattle.emit_glsl.specs.Unit.{unit_text, item_names_of, claims_by, live_of, reached_of, called, has_id as has_id_of, plan_at, in_order, source_of, IsUnitOf}
+use Rattle.emit_glsl.specs.Reached.{function_in, live_in, reached_in, plan_with, planned_at, decls_at, AreGlobals, IsWritten, IsMade}
+use Rattle.emit_glsl.specs.Translation.{Naming, id_text, global_expr, scope_by, scope_of, IsPlanOf}
+use Rattle.emit_glsl.specs.Unit.{item_names_of, claims_by, live_of, reached_of, called, has_id as has_id_of, plan_at, in_order, source_of, IsUnitOf}
 
 -- lists side by side
 zip_each : {A B C : Type 0} (R : A → B → Type 0) (Q : A → C → Type 0) (g : B → C) → ((a : A) (b : B) → R a b → Q a (g b)) → (xs : List A) (ys : List B) → AllZip R xs ys → AllZip Q xs (map g ys)

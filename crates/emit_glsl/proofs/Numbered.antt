@@ -1,5 +1,5 @@
 -- The numbers of captured indexes.
-use Rattle.std.proofs.Common.{◌≡◌, ◌∙◌, ℕ, Bool, true, false, List, [], ◌∷◌, if◌then◌else◌, map, refl, sym, ap}
+use Rattle.std.proofs.Common.{◌≡◌, ◌∙◌, ℕ, Bool, true, List, [], ◌∷◌, if◌then◌else◌, map, refl, sym, ap}
 use Rattle.spv_module.specs.declared.inst.Id.{Id}
 use Rattle.spv_module.specs.declared.inst.Inst.{Inst}
 use Rattle.access_paths.specs.Ways.{captured_indexes}

@@ -1,5 +1,5 @@
 -- The moves of a single pair.
-use Rattle.std.proofs.Common.{◌≡◌, ◌==◌, ◌<◌, ◌≤◌, ◌&&◌, ◌||◌, ℕ, zero, Bool, true, false, not, List, [], ◌∷◌, None, filter, length, get_or, refl, sym, ◌∙◌, ap, inl, arith, subst, suc, if◌then◌else◌}
+use Rattle.std.proofs.Common.{◌≡◌, ◌==◌, ◌<◌, ◌≤◌, ◌&&◌, ◌||◌, ℕ, zero, Bool, true, false, not, List, [], ◌∷◌, filter, length, get_or, refl, sym, ◌∙◌, ap, inl, arith, subst, suc, if◌then◌else◌}
 use Rattle.std.proofs.lemmas.Bool.{eq-eqb, and_parts}
 use Rattle.std.proofs.lemmas.Bool.Decides.{nat_tests}
 use Rattle.std.proofs.lemmas.List.Sums.{count_by_more_no}
@@ -8,7 +8,7 @@ use Rattle.phi_copies.specs.declared.moves.Src.{Src}
 use Rattle.phi_copies.specs.declared.moves.Src.TheVariants.{Var as Variable, Constant}
 use Rattle.phi_copies.specs.declared.moves.Move.{Move}
 use Rattle.phi_copies.specs.declared.moves.Move.TheVariants.{Set}
-use Rattle.phi_copies.specs.Sequence.{Pair, target, is_var, is_proper, is_set, reads, readers, IsLeft, IsReady, IsFirst, IsCopyNext, AreNext, IsSequence, move_of, spare_of}
+use Rattle.phi_copies.specs.Sequence.{Pair, target, is_var, is_proper, is_set, reads, readers, IsLeft, IsReady, IsCopyNext, AreNext, IsSequence, move_of, spare_of}
 use Rattle.emit_glsl.proofs.Moving.{none_left}
 use Rattle.emit_glsl.specs.Moved.{single, both, go_in_order}
 use Rattle.emit_glsl.specs.Phis.{firsts}

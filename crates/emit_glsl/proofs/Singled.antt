@@ -1,8 +1,8 @@
 -- One step of a list with each key once, and its end.
-use Rattle.std.proofs.Common.{◌≡◌, ◌==◌, ◌<◌, ◌≤◌, ◌+◌, ℕ, Bool, true, false, not, List, [], ◌∷◌, ◌++◌, if◌then◌else◌, length, get_or, drop, refl, sym, ◌∙◌, ap, subst, inl, inr, ◌⊎◌, arith}
+use Rattle.std.proofs.Common.{◌≡◌, ◌==◌, ◌<◌, ◌≤◌, ◌+◌, ℕ, Bool, true, false, not, List, [], ◌∷◌, ◌++◌, if◌then◌else◌, length, get_or, drop, refl, sym, ◌∙◌, ap, subst}
 use Rattle.std.proofs.lemmas.List.{append-nil, append_assoc, drop_more, drop_all}
-use Rattle.std.proofs.lemmas.Bool.{eq-eqb, eqb-true}
-use Rattle.emit_glsl.specs.Once.{with_id, once_by, once, no_id}
+use Rattle.std.proofs.lemmas.Bool.{eqb-true}
+use Rattle.emit_glsl.specs.Once.{with_id, once_by}
 
 true_false : true ≡ false → ⊥
 true_false e = cc

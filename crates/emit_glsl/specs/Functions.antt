@@ -1,5 +1,5 @@
 -- A function of the text, from what is planned of it (GLSL 4.60, section 6.1).
-use Rattle.std.specs.Prelude.{ℕ, ◌==◌, ◌&&◌, ◌||◌, Bool, true, false, List, [], ◌∷◌, ◌++◌, filter, find, flat_map, map, is_some, Option, Some, None, option_map, option_and_then, unwrap_or, if◌then◌else◌, drop, slice_get, slice_index}
+use Rattle.std.specs.Prelude.{ℕ, ◌==◌, Bool, true, false, List, [], ◌++◌, filter, flat_map, map, is_some, Option, Some, None, option_map, option_and_then, unwrap_or, if◌then◌else◌, slice_get, slice_index}
 use Rattle.std.specs.Option.{option_map_or}
 use Rattle.spv_module.specs.Held.{global}
 use Rattle.spv_module.specs.Lists.{id}
@@ -7,7 +7,6 @@ use Rattle.spv_module.specs.declared.inst.Id.{Id as IdOf}
 use Rattle.spv_module.specs.declared.inst.Inst.{Inst}
 use Rattle.spv_module.specs.declared.inst.Block.{Block}
 use Rattle.spv_module.specs.declared.inst.Function.{Function}
-use Rattle.spv_index.specs.Locals.{insts_of, block_in}
 use Rattle.spv_index.specs.Pointers.{pointee}
 use Rattle.spv_module.specs.declared.tree.Elem.{Elem}
 use Rattle.spv_module.specs.declared.tree.Elem.TheVariants as elem
@@ -18,7 +17,7 @@ use Rattle.structure_recover.specs.Tree.{Region}
 use Rattle.name_alloc.specs.declared.claims.Key.{Key}
 use Rattle.name_alloc.specs.declared.claims.Key.TheVariants.{Main, Id, Again, Leave, Fell, Captured, Spare}
 use Rattle.hoist_plan.specs.declared.form.Form.{Form}
-use Rattle.hoist_plan.specs.declared.form.Form.TheVariants.{Gone, Forwarded, Local, Hoisted}
+use Rattle.hoist_plan.specs.declared.form.Form.TheVariants.{Hoisted}
 use Rattle.phi_copies.specs.declared.moves.Src.{Src}
 use Rattle.phi_copies.specs.declared.moves.Src.TheVariants.{Var as Variable, Constant}
 use Rattle.phi_copies.specs.declared.moves.Var.{Var}
@@ -27,10 +26,10 @@ use Rattle.phi_copies.specs.declared.moves.Move.TheVariants.{Set, Save, Restore}
 use Rattle.glsl_ast.specs.Tree.{Text, Expr, name, Stmt, declare, assign, stmts_in, lvalue, TypeName, Param, param, Decl, function}
 use Rattle.glsl_ast.specs.declared.expressions.Literal.{Literal}
 use Rattle.glsl_ast.specs.declared.expressions.Literal.TheVariants.{Uint}
-use Rattle.text_rules.specs.Constants.{Source, int_literal}
+use Rattle.text_rules.specs.Constants.{int_literal}
 use Rattle.text_rules.specs.Declarations.{initial, pointee_at, type_at}
 use Rattle.text_rules.specs.Claims.{label}
-use Rattle.expr_forward.specs.Scope.{Scope, globals, inst_at, type_of}
+use Rattle.expr_forward.specs.Scope.{Scope, globals, type_of}
 use Rattle.expr_forward.specs.Values.{value}
 use Rattle.expr_forward.specs.Statements.{block_text, is_void, captured_of}
 use Rattle.control_text.specs.Statements.{Blocks, function_text}

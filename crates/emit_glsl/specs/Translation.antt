@@ -17,7 +17,7 @@ use Rattle.glsl_ast.specs.declared.expressions.Literal.TheVariants.{Uint}
 use Rattle.text_rules.specs.Constants.{Source}
 use Rattle.text_rules.specs.Declarations.{Names}
 use Rattle.text_items.specs.Globals.{global_by}
-use Rattle.expr_forward.specs.Scope.{Scope, Argument}
+use Rattle.expr_forward.specs.Scope.{Scope}
 use Rattle.expr_forward.specs.Context.{operand}
 use Rattle.vec_lowering.specs.Lowered.{lowered_vector}
 use Rattle.emit_glsl.specs.Functions.{FunctionPlan}

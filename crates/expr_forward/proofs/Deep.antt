@@ -1,5 +1,5 @@
 -- The value with an id, by what is known of it.
-use Rattle.std.proofs.Common.{◌≡◌, ℕ, zero, suc, ◌-◌, ◌<◌, Option, Some, None, refl, arith}
+use Rattle.std.proofs.Common.{◌≡◌, ℕ, zero, suc, ◌-◌, ◌<◌, Some, None, refl, arith}
 use native.Mathlib.Numerals.{unary_clauses}
 use Rattle.glsl_ast.specs.Tree.{Expr}
 use Rattle.expr_forward.specs.Scope.{Scope}

@@ -1,16 +1,14 @@
 -- The statements of a block, computed: the element with an invocation's number is read, increased and written.
-use Rattle.std.specs.Prelude.{ℕ, ◌≡◌, ◌==◌, ◌||◌, true, false, List, [], ◌∷◌, ◌++◌, None, Some, Option, refl, codes, if◌then◌else◌}
+use Rattle.std.specs.Prelude.{ℕ, ◌≡◌, ◌==◌, ◌||◌, false, List, [], ◌∷◌, None, Some, refl, codes, if◌then◌else◌}
 use Rattle.spv_module.specs.State.{ModuleState}
 use Rattle.spv_module.specs.declared.inst.Inst.{Inst}
 use Rattle.spv_module.specs.declared.inst.Function.{Function}
 use Rattle.spv_types.specs.Types.{kind, below}
-use Rattle.spv_types.specs.Tree.{Tree}
 use Rattle.spv_decor.specs.Rows.{key_of}
 use Rattle.profile_rules.specs.Constants.{constant_kind}
 use Rattle.name_alloc.specs.declared.claims.Key.{Key}
-use Rattle.name_alloc.specs.declared.claims.Key.TheVariants.{Id, Member, Captured}
-use Rattle.hoist_plan.specs.declared.form.Form.{Form}
-use Rattle.hoist_plan.specs.declared.form.Form.TheVariants.{Gone, Forwarded, Local, Hoisted}
+use Rattle.name_alloc.specs.declared.claims.Key.TheVariants.{Id, Member}
+use Rattle.hoist_plan.specs.declared.form.Form.TheVariants.{Forwarded, Local}
 use Rattle.glsl_ast.specs.Tree as text
 use Rattle.glsl_ast.specs.Tree.{Text, Expr, name, literal, binary, member, index, declare, assign, lvalue, type_name, uint}
 use Rattle.glsl_ast.specs.declared.expressions.Literal.TheVariants.{Uint}

@@ -1,10 +1,9 @@
 -- What contracts see of what is known where a function is written.
-use Rattle.std.specs.Prelude.{ℕ, Bool, [], List, map, unwrap_or}
+use Rattle.std.specs.Prelude.{ℕ, [], map, unwrap_or}
 use Rattle.spv_module.specs.Lists.{id}
-use Rattle.spv_module.specs.declared.inst.Inst.{Inst}
 use Rattle.spv_module.specs.declared.inst.Function.{Function}
 use Rattle.name_alloc.specs.declared.claims.Key.{Key}
-use Rattle.name_alloc.specs.declared.claims.Key.TheVariants.{Id, Block, Member}
+use Rattle.name_alloc.specs.declared.claims.Key.TheVariants.{Block, Member}
 use Rattle.name_alloc.specs.declared.claims.Names.{Names as Given}
 use Rattle.name_alloc.specs.Lookup.{name_in}
 use Rattle.hoist_plan.specs.Kept.{NamingState, form_in, is_carried_in}

@@ -1,14 +1,11 @@
 -- What is known where a block of a function is written.
-use Rattle.std.specs.Prelude.{ℕ, ◌==◌, Bool, true, false, List, [], Option, Some, None, find, option_map, option_and_then, unwrap_or, if◌then◌else◌}
-use Rattle.std.specs.Option.{option_map_or, option_or}
+use Rattle.std.specs.Prelude.{ℕ, Bool, List, Option, unwrap_or}
 use Rattle.spv_module.specs.Held.{global}
-use Rattle.spv_module.specs.Lists.{id}
 use Rattle.spv_module.specs.declared.inst.Inst.{Inst}
 use Rattle.spv_module.specs.declared.inst.Function.{Function}
 use Rattle.spv_types.specs.Tree.{Tree}
 use Rattle.spv_index.specs.Locals.{inst_in, type_in}
 use Rattle.name_alloc.specs.declared.claims.Key.{Key}
-use Rattle.name_alloc.specs.declared.claims.Key.TheVariants.{Id, Member, Captured}
 use Rattle.hoist_plan.specs.declared.form.Form.{Form}
 use Rattle.glsl_ast.specs.Tree.{Text, Expr}
 use Rattle.text_rules.specs.Constants.{Source}

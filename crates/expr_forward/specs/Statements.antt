@@ -1,5 +1,5 @@
 -- The statements of a block, an instruction after the other.
-use Rattle.std.specs.Prelude.{ℕ, ◌-◌, ◌==◌, ◌&&◌, ◌||◌, not, nat_le, bit_and, Bool, true, false, List, [], ◌∷◌, ◌++◌, codes, drop, flat_map, map, is_some, Option, Some, None, option_map, option_and_then, unwrap_or, if◌then◌else◌, slice_get, slice_index}
+use Rattle.std.specs.Prelude.{ℕ, ◌==◌, ◌&&◌, ◌||◌, nat_le, bit_and, Bool, true, false, List, [], ◌∷◌, ◌++◌, codes, drop, flat_map, map, is_some, Some, option_and_then, unwrap_or, if◌then◌else◌, slice_get, slice_index}
 use Rattle.std.specs.Option.{option_map_or}
 use Rattle.spv_module.specs.Held.{global}
 use Rattle.spv_module.specs.Lists.{id}
@@ -9,17 +9,17 @@ use Rattle.spv_module.specs.declared.tree.Elem.{Elem}
 use Rattle.spv_module.specs.declared.tree.Elem.TheVariants as elem
 use Rattle.spv_types.specs.Types.{type_tree, elem_of}
 use Rattle.profile_rules.specs.MemoryRules.{pointee_of, is_chain}
-use Rattle.name_alloc.specs.declared.claims.Key.TheVariants.{Id, Member, Captured}
+use Rattle.name_alloc.specs.declared.claims.Key.TheVariants.{Id, Captured}
 use Rattle.hoist_plan.specs.declared.form.Form.{Form}
-use Rattle.hoist_plan.specs.declared.form.Form.TheVariants.{Gone, Forwarded, Local, Hoisted}
+use Rattle.hoist_plan.specs.declared.form.Form.TheVariants.{Local, Hoisted}
 use Rattle.access_paths.specs.Ways.{captured_indexes}
 use Rattle.glsl_ast.specs.Tree as text
-use Rattle.glsl_ast.specs.Tree.{Text, Expr, name, literal, binary, exprs_in, Stmt, declare, assign, LStep, LValue, lvalue}
+use Rattle.glsl_ast.specs.Tree.{Text, Expr, literal, binary, exprs_in, Stmt, declare, assign, LStep, lvalue}
 use Rattle.glsl_ast.specs.declared.expressions.BinOp.TheVariants.{Sub}
 use Rattle.int_lowering.specs.Operand.{literal_of}
 use Rattle.expr_forward.specs.declared.kinds.InstKind.{InstKind}
 use Rattle.expr_forward.specs.declared.kinds.InstKind.TheVariants as kind
-use Rattle.expr_forward.specs.Scope.{Scope, globals, inst_at, type_of}
+use Rattle.expr_forward.specs.Scope.{Scope, globals}
 use Rattle.text_rules.specs.Declarations.{type_at}
 use Rattle.expr_forward.specs.Paths.{index_expr, word_at, part_steps, place_text, place_expr}
 use Rattle.expr_forward.specs.Values.{value, expression}

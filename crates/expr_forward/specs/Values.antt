@@ -1,12 +1,11 @@
 -- How a value is written: by the name of its variable, or by the expression of its operation.
-use Rattle.std.specs.Prelude.{ℕ, zero, suc, ◌==◌, Bool, true, false, List, [], ◌∷◌, drop, map, Option, Some, None, option_map, take, unwrap_or, if◌then◌else◌, slice_index}
-use Rattle.std.specs.Option.{option_map_or}
+use Rattle.std.specs.Prelude.{ℕ, zero, suc, ◌==◌, List, [], ◌∷◌, drop, map, Option, Some, None, take, unwrap_or, if◌then◌else◌, slice_index}
 use Rattle.spv_module.specs.Lists.{id}
 use Rattle.spv_module.specs.declared.inst.Inst.{Inst}
 use Rattle.profile_rules.specs.MemoryRules.{pointee_of}
 use Rattle.name_alloc.specs.declared.claims.Key.TheVariants.{Id, Member}
 use Rattle.hoist_plan.specs.declared.form.Form.{Form}
-use Rattle.hoist_plan.specs.declared.form.Form.TheVariants.{Gone, Forwarded, Local, Hoisted}
+use Rattle.hoist_plan.specs.declared.form.Form.TheVariants.{Forwarded}
 use Rattle.glsl_ast.specs.Tree as text
 use Rattle.glsl_ast.specs.Tree.{Expr, name, build, exprs_in, type_name}
 use Rattle.text_rules.specs.Outlines.{basic}

@@ -1,13 +1,11 @@
 -- Forms and carried chains, computed on small functions.
-use Rattle.std.specs.Prelude.{ℕ, zero, suc, ◌+◌, ◌≡◌, Bool, true, false, List, [], ◌∷◌, ◌++◌, map, refl}
+use Rattle.std.specs.Prelude.{ℕ, zero, suc, ◌+◌, ◌≡◌, true, false, List, [], ◌∷◌, map, refl}
 use Rattle.spv_module.specs.declared.inst.Inst.{Inst}
 use Rattle.spv_module.specs.declared.inst.Block.{Block}
-use Rattle.spv_module.specs.declared.inst.Function.{Function}
 use Rattle.spv_ops.specs.Operands.{is_id}
 use Rattle.spv_ops.specs.Table.{shape_of, operands_of, row_of}
 use Rattle.structure_rules.specs.Graph.{graph, grown, nodes, reach, reached}
 use Rattle.use_chains.specs.Links.{Link}
-use Rattle.hoist_plan.specs.declared.form.Form.{Form}
 use Rattle.hoist_plan.specs.declared.form.Form.TheVariants.{Gone, Forwarded, Local, Hoisted}
 use Rattle.hoist_plan.specs.Plan.{Scope, form, is_carried}
 

@@ -1,12 +1,12 @@
 -- A walk along the slots of an id: which of them are left.
-use Rattle.std.proofs.Common.{◌≡◌, ◌<◌, ◌≤◌, ◌+◌, ◌==◌, ℕ, suc, Bool, true, false, List, [], ◌∷◌, filter, map, refl, ap, sym, ◌∙◌, cond, inl, inr, arith, Option, Some, None}
+use Rattle.std.proofs.Common.{◌≡◌, ◌<◌, ◌≤◌, ◌+◌, ◌==◌, ℕ, suc, Bool, true, false, List, [], ◌∷◌, filter, map, refl, ap, sym, ◌∙◌, inl, inr, arith, Option, Some, None}
 use Rattle.std.specs.Prelude.{nat_le, nat_lt, unwrap_or}
-use Rattle.std.specs.List.{list_any, find}
+use Rattle.std.specs.List.{find}
 use Rattle.std.specs.Option.{option_map}
-use Rattle.std.proofs.lemmas.Bool.{and_parts, and_from, cases_Bool, eqb-true, eq-eqb, ne_eqb, leb-true, le-leb, lt-leb, ltb-true, lt-ltb}
+use Rattle.std.proofs.lemmas.Bool.{and_parts, and_from, cases_Bool, eqb-true, ne_eqb, leb-true, le-leb, lt-leb, ltb-true, lt-ltb}
 use Rattle.use_chains.specs.declared.slot.Slot.{Slot}
 use Rattle.use_chains.specs.declared.slot.SlotPlace.{SlotPlace}
-use Rattle.use_chains.specs.Links.{Link, chain, next_link, link_at, has_slot, is_after}
+use Rattle.use_chains.specs.Links.{Link, chain, next_link, link_at, has_slot}
 use Rattle.hoist_plan.specs.Kept.{are_rising_from}
 
 abbrev pub slot_number : Link → ℕ

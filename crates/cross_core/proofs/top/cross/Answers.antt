@@ -1,7 +1,6 @@
-use Rattle.std.proofs.Common.{◌≡◌, ℕ, List, map, refl, inl, inr, rules}
+use Rattle.std.proofs.Common.{◌≡◌, ℕ, List, map, refl, inl, inr}
 use Rattle.cc_outside.specs.Causes.{Rose}
 use Rattle.cross_core.specs.State.{CommandState}
-use Rattle.cross_core.specs.declared.endings.Ending.{Ending}
 use Rattle.cross_core.specs.declared.endings.Ending.TheVariants.{Memory}
 use Rattle.cross_core.specs.Commands.{command_of}
 use Rattle.cross_core.specs.Answers.{IsAnswer, bytes_of}

@@ -1,5 +1,4 @@
 use Rattle.std.proofs.Common.{inr, refl}
-use Rattle.cc_outside.specs.Causes.{Rose}
 use Rattle.cross_core.specs.Answers.{IsAnswer}
 use Rattle.std.specs.Prelude.{Some}
 use Rattle.cross_core.proofs.Ends.{has_cause, read_to_end}

@@ -1,4 +1,4 @@
-use Rattle.std.proofs.Common.{◌≡◌, ◌==◌, ◌++◌, ◌∙◌, ℕ, List, not, ap}
+use Rattle.std.proofs.Common.{◌==◌, ◌++◌, ◌∙◌, ℕ, List, not, ap}
 use Rattle.profile_rules.specs.TypeForm.{pointees, value_types, other_types, is_held}
 use Rattle.spv_module.specs.State.{ModuleState}
 use Rattle.declaration_check.proofs.Asked.{same_behind, held_same}

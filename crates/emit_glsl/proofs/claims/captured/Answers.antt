@@ -1,4 +1,4 @@
-use Rattle.std.proofs.Common.{◌≡◌, ◌∙◌, sym}
+use Rattle.std.proofs.Common.{◌∙◌, sym}
 use Rattle.hoist_plan.specs.Kept.{is_carried_in}
 use Rattle.emit_glsl.proofs.Numbered.{numbers_captured}
 use Rattle.emit_glsl.proofs.claims.captured.Goals as goal

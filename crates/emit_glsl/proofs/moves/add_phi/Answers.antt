@@ -1,5 +1,4 @@
 use Rattle.std.proofs.Common.{◌≡◌, ◌∙◌, ◌++◌, ◌∷◌, [], ℕ, List, Option, if◌then◌else◌, ap, get_or, refl, subst, sym, arith}
-use Rattle.phi_copies.specs.Sequence.{Pair}
 use Rattle.phi_copies.specs.declared.moves.Src.{Src}
 use Rattle.emit_glsl.specs.Phis.{is_block, source_of, given_words, given_by}
 use Rattle.emit_glsl.specs.Moved.{pairs_from}

@@ -1,4 +1,4 @@
-use Rattle.std.proofs.Common.{◌+◌, ℕ, List, arith, subst, sym, take}
+use Rattle.std.proofs.Common.{◌+◌, List, arith, subst, sym, take}
 use Rattle.spv_module.specs.declared.inst.Block.{Block}
 use Rattle.hoist_plan.specs.Kept.{form_in}
 use Rattle.emit_glsl.specs.declared.edge_moves.Moves.{Moves}

@@ -1,5 +1,5 @@
 use Rattle.std.proofs.Common.{arith}
-use Rattle.emit_glsl.proofs.Twos.{one_once, two_once}
+use Rattle.emit_glsl.proofs.Twos.{one_once}
 use Rattle.emit_glsl.proofs.once.are_few.Goals as goal
 
 pub returns-in-empty : goal.returns-in-empty

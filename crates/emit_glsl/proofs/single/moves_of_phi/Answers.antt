@@ -1,4 +1,4 @@
-use Rattle.std.proofs.Common.{◌≡◌, ◌∙◌, ◌++◌, ◌∷◌, [], ℕ, List, Option, if◌then◌else◌, ap, get_or, drop, refl, subst, sym, arith}
+use Rattle.std.proofs.Common.{◌∙◌, ◌++◌, ◌∷◌, [], ℕ, List, Option, if◌then◌else◌, ap, get_or, drop, subst, sym, arith}
 use Rattle.phi_copies.specs.Sequence.{IsSequence}
 use Rattle.phi_copies.specs.declared.moves.Src.{Src}
 use Rattle.phi_copies.specs.declared.moves.Move.{Move}

@@ -1,4 +1,4 @@
-use Rattle.std.proofs.Common.{◌≡◌, ◌∙◌, subst}
+use Rattle.std.proofs.Common.{◌≡◌, subst}
 use Rattle.glsl_ast.specs.View.{decl_of}
 use Rattle.expr_forward.specs.Context.{ContextState}
 use Rattle.emit_glsl.specs.declared.plan.FunctionPlan.{FunctionPlan}

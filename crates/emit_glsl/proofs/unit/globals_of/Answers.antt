@@ -1,6 +1,5 @@
-use Rattle.std.proofs.Common.{◌≡◌, ◌∙◌, List, ap}
+use Rattle.std.proofs.Common.{◌≡◌, ◌∙◌, ap}
 use Rattle.spv_module.specs.State.{ModuleState}
-use Rattle.spv_module.specs.declared.inst.Inst.{Inst}
 use Rattle.emit_glsl.proofs.Expressed.{among_all}
 use Rattle.emit_glsl.proofs.unit.globals_of.Goals as goal
 

@@ -1,4 +1,4 @@
-use Rattle.std.proofs.Common.{◌≡◌, ◌∷◌, [], ap, sym, ◌∙◌}
+use Rattle.std.proofs.Common.{◌∷◌, [], ap, sym, ◌∙◌}
 use Rattle.glsl_ast.specs.View.{expr_of, step_of}
 use Rattle.expr_forward.specs.Paths.{further}
 use Rattle.expr_forward.proofs.Further.{further_push}

@@ -1,5 +1,5 @@
-use Rattle.std.proofs.Common.{◌≡◌, ◌∙◌, List, ap, arith, map, rules}
-use Rattle.std.specs.Prelude.{sum_by, unwrap_or}
+use Rattle.std.proofs.Common.{◌≡◌, ◌∙◌, List, ap, arith, map}
+use Rattle.std.specs.Prelude.{unwrap_or}
 use Rattle.hoist_plan.specs.declared.form.Form.TheVariants.{Gone}
 use Rattle.hoist_plan.specs.Plan.{Known, Placed, carried_from}
 use Rattle.hoist_plan.specs.Kept.{chains_of, placed_chain}

@@ -1,5 +1,5 @@
 use Rattle.std.proofs.Common.{◌≡◌, ◌<◌, ◌+◌, ◌∙◌, ◌++◌, List, ap, arith, drop, get_or, length, map, subst}
-use Rattle.std.specs.Prelude.{flat_map, sum_by}
+use Rattle.std.specs.Prelude.{flat_map}
 use Rattle.spv_module.specs.declared.inst.Inst.{Inst}
 use Rattle.hoist_plan.specs.Plan.{Placed, result_of, with_result}
 use Rattle.hoist_plan.specs.Kept.{chains_of_inst, known_in, placed_chain, steps_of}

@@ -1,7 +1,6 @@
-use Rattle.std.proofs.Common.{Option, ◌≡◌, ◌∙◌, ◌+◌, ◌*◌, ◌++◌, List, [], ◌∷◌, length, map, ap, sym, subst, arith, true}
+use Rattle.std.proofs.Common.{Option, ◌≡◌, ◌∙◌, ◌+◌, ◌++◌, [], ◌∷◌, length, map, ap, sym, subst, arith, true}
 use Rattle.std.proofs.lemmas.List.{append_assoc}
 use Rattle.use_chains.specs.declared.slot.Slot.{Slot}
-use Rattle.use_chains.specs.declared.slot.SlotPlace.{SlotPlace}
 use Rattle.use_chains.specs.Links.{chain, is_in_chain}
 use Rattle.hoist_plan.proofs.Walking.{at_first, a_step, left, slot_of, place_of}
 use Rattle.hoist_plan.proofs.rows.list_mentions.Goals as goal

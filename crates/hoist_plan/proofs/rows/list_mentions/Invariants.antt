@@ -1,5 +1,5 @@
 use Rattle.std.proofs.Common.{◌≡◌, ◌+◌, ◌*◌, ◌++◌, length, map, true}
-use Rattle.use_chains.specs.Links.{Link, chain, is_in_chain, is_linked}
+use Rattle.use_chains.specs.Links.{chain, is_in_chain, is_linked}
 use Rattle.hoist_plan.specs.Plan.{mentions_of}
 use Rattle.hoist_plan.proofs.Walking.{left, slot_of, place_of}
 use Rattle.hoist_plan.proofs.rows.list_mentions.Given as goal

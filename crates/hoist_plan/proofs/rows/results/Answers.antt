@@ -1,5 +1,5 @@
 use Rattle.std.proofs.Common.{◌≡◌, ◌<◌, ◌+◌, ◌∙◌, ◌++◌, List, ap, arith, drop, get_or, length, map, refl, subst}
-use Rattle.std.specs.Prelude.{flat_map, fold, sum_by}
+use Rattle.std.specs.Prelude.{flat_map, fold}
 use Rattle.std.specs.List.{enumerate_from}
 use Rattle.spv_module.specs.declared.inst.Block.{Block}
 use Rattle.spv_module.specs.declared.inst.Function.{Function}

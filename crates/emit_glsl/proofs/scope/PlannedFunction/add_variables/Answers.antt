@@ -1,4 +1,4 @@
-use Rattle.std.proofs.Common.{◌≡◌, ◌∙◌, ◌+◌, ◌++◌, ◌∷◌, [], List, ap, sym, map, take, subst, Vec, Global, if◌then◌else◌, append-nil}
+use Rattle.std.proofs.Common.{◌≡◌, ◌∙◌, ◌+◌, ◌++◌, ◌∷◌, [], ap, sym, map, take, subst, Vec, Global, if◌then◌else◌, append-nil}
 use Rattle.std.proofs.lemmas.List.{map-append}
 use Rattle.spv_module.specs.declared.inst.Inst.{Inst}
 use Rattle.glsl_ast.specs.Tree as text
