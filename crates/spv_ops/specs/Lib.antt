@@ -1,3 +1,6 @@
-pub mod Table
-pub mod Operands
 pub mod Decorations
+pub mod Enumerants
+pub mod Groups
+pub mod Opcode
+pub mod Operands
+pub mod Shape

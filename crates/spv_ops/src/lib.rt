@@ -1,14 +1,19 @@
-// The opcodes that a module may have: their words, their operands and their classes; the decorations.
+// The opcodes that a module may have: their numbers, their words, their operands and their classes;
+// the decorations.
 #![tactic(auto)]
 
 mod class;
 mod decorations;
-mod inner;
+mod enumerants;
+mod groups;
+mod opcode;
 mod operands;
-mod table;
+mod shape;
 
 pub use class::{OpClass, OpShape};
 pub use decorations::{has_literal, literals_of};
-pub use inner::is_inner_op;
-pub use operands::{IdWords, Operands, id_words};
-pub use table::{operands_of, shape_of};
+pub use enumerants::{
+    BuiltIn, Capability, Decoration, ExecutionMode, ExecutionModel, Scope, StorageClass,
+};
+pub use opcode::Op;
+pub use operands::{IdWords, Operands, id_words, inner_op};

@@ -4,6 +4,8 @@ use Rattle.std.proofs.lemmas.Bool.{and_left, and_right, both_ways, ne_eqb}
 use Rattle.spv_module.specs.declared.inst.Inst.{Inst}
 use Rattle.spv_module.specs.declared.inst.Function.{Function}
 use Rattle.spv_ops.specs.Operands.{is_id}
+use Rattle.spv_ops.specs.declared.Op.{Op}
+use Rattle.spv_ops.specs.declared.Op.TheVariants as op
 use Rattle.use_chains.specs.Slots.{has_labels, is_slot, is_taken, is_value, mention, slots_of_inst}
 use Rattle.std.specs.List.{enumerate_from}
 use Rattle.std.proofs.lemmas.List.{drop_more, append_assoc}
@@ -28,10 +30,9 @@ none_taken : {X : Type 0} (test : ℕ × X → Bool) (n : ℕ) (xs : List X) →
 none_taken test n [] none = refl
 none_taken test n (x ∷ xs) none = ap (λ b. cond b ((n, x) ∷ filter test (enumerate_from (n + 1) xs)) (filter test (enumerate_from (n + 1) xs))) (none n x) ∙ none_taken test (n + 1) xs none
 
-no_value : (op k : ℕ) → has_labels op ≡ true → is_value op k ≡ false
-no_value op k e =
-    let other : (op == 245) ≡ false = ne_eqb op 245 (λ same. both_ways (has_labels 245) refl (subst (λ o. has_labels o ≡ true) same e)) in
-    rw (other, e) refl
+no_value : (o : Op) (k : ℕ) → has_labels o ≡ true → is_value o k ≡ false
+no_value op.Branch k e = refl
+no_value o k e = cc
 
 -- what mentions labels alone has no slots
 pub no_slots : (f : Function) (reached : List Bool) (b n : ℕ) (i : Inst) → has_labels i.op ≡ true → slots_of_inst f reached b (n, i) ≡ []
