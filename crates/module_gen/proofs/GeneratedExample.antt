@@ -1,5 +1,6 @@
 -- The words of a generated module of one piece, written out.
 use Rattle.std.proofs.Common.{◌≡◌, [], ◌∷◌, length, refl}
+use Rattle.spv_ops.specs.Opcode.{number}
 use Rattle.module_gen.specs.Generated.{generated, frame}
 
 pub one_piece : generated 1 ≡
@@ -41,9 +42,9 @@ pub one_piece : generated 1 ≡
     ∷ 0x100fd
     ∷ 0x10038
     ∷ []
-unfolding generated frame
+unfolding generated frame number
 one_piece = refl
 
 pub size_of_three_pieces : length (generated 3) ≡ 249
-unfolding generated frame
+unfolding generated frame number
 size_of_three_pieces = refl

@@ -1,8 +1,8 @@
 -- The pieces that are left after one.
 use Rattle.std.proofs.Common.{◌≡◌, ◌<◌, ◌+◌, ◌-◌, ◌*◌, ◌++◌, ◌∙◌, ℕ, suc, List, [], ◌∷◌, sym, ap, arith, append_assoc}
-use Rattle.module_gen.specs.Assembly.{Instruction, Assembly}
+use Rattle.spv_ops.specs.declared.Op.TheVariants as op
+use Rattle.module_gen.specs.Assembly.{Instruction, Assembly, inst}
 use Rattle.module_gen.specs.Generated.{frame, kind_of, piece, block_after, pieces_from, generated_assembly}
-use Rattle.module_gen.specs.Opcodes.{inst, OpReturn, OpFunctionEnd}
 
 abbrev pub piece_at : ℕ → ℕ → List Instruction
 piece_at k block = piece (kind_of k) (16 + 16 * k) block
@@ -28,5 +28,5 @@ whole_kept before after whole end k block next below was put ends =
     ∙ was
 
 -- what the steps of `generate` make of an empty builder
-pub assembled : (empty framed pieced returned ended : Assembly) (n : ℕ) → empty ≡ record { version = 0x00010300; insts = [] } → framed ≡ record empty { insts = empty.insts ++ frame } → pieced ≡ record framed { insts = framed.insts ++ pieces_from n 1 16 } → returned ≡ record pieced { insts = pieced.insts ++ inst OpReturn [] ∷ [] } → ended ≡ record returned { insts = returned.insts ++ inst OpFunctionEnd [] ∷ [] } → ended ≡ generated_assembly n
-assembled empty framed pieced returned ended n a b c d e = rw (e, d, c, b, a) (simp append_assoc)
+pub assembled : (empty framed pieced ended : Assembly) (n : ℕ) → empty ≡ record { version = 0x00010300; insts = [] } → framed ≡ record empty { insts = empty.insts ++ frame } → pieced ≡ record framed { insts = framed.insts ++ pieces_from n 1 16 } → ended ≡ record pieced { insts = pieced.insts ++ inst op.Return [] ∷ inst op.FunctionEnd [] ∷ [] } → ended ≡ generated_assembly n
+assembled empty framed pieced ended n a b c d = rw (d, c, b, a) (simp append_assoc)

@@ -1,5 +1,7 @@
 -- What a builder was given, and the words of it (SPIR-V 1.6, section 2.3).
 use Rattle.std.specs.Prelude.{ℕ, ◌+◌, ◌*◌, suc, List, ◌∷◌, length, drop, flat_map, map}
+use Rattle.spv_ops.specs.Opcode.{number}
+use Rattle.spv_ops.specs.declared.Op.{Op}
 use Rattle.spv_words.specs.Words.{magic, slice, insts}
 use Rattle.spv_words.specs.declared.words.Inst1.{Inst1}
 use Rattle.module_gen.specs.declared.encode.Inst.{Inst}
@@ -16,6 +18,10 @@ pub record Assembly : Type 0 where
 
 abbrev pub instruction : Inst → Instruction
 instruction i = record { opcode = i.opcode; operands = i.operands.items }
+
+-- the instruction of an opcode and the words after its first
+abbrev pub inst : Op → List ℕ → Instruction
+inst op operands = record { opcode = number op; operands = operands }
 
 -- the words of an instruction: word count and opcode in the halves of the first, then the operands
 abbrev pub words_of : Instruction → List ℕ

@@ -1,7 +1,14 @@
 -- The modules that `generate` makes: a frame, pieces one after the other, and the end of the function.
 use Rattle.std.specs.Prelude.{ℕ, ◌+◌, ◌*◌, ◌%◌, zero, suc, ◌==◌, if◌then◌else◌, List, [], ◌∷◌, ◌++◌}
-use Rattle.module_gen.specs.Assembly.{Instruction, Assembly, module_words}
-use Rattle.module_gen.specs.Opcodes.{inst, OpCapability, OpMemoryModel, OpEntryPoint, OpExecutionMode, OpDecorate, OpMemberDecorate, OpTypeVoid, OpTypeFunction, OpTypeInt, OpTypeVector, OpTypePointer, OpVariable, OpTypeRuntimeArray, OpTypeStruct, OpConstant, OpTypeBool, OpFunction, OpLabel, OpAccessChain, OpLoad, OpStore, OpIAdd, OpULessThan, OpPhi, OpSelectionMerge, OpLoopMerge, OpBranch, OpBranchConditional, OpReturn, OpFunctionEnd}
+use Rattle.spv_ops.specs.Enumerants.{built_in_number, capability_number, class_number, decoration_number, mode_number, model_number}
+use Rattle.spv_ops.specs.declared.BuiltIn.TheVariants as built
+use Rattle.spv_ops.specs.declared.Capability.TheVariants as capability
+use Rattle.spv_ops.specs.declared.Decoration.TheVariants as decoration
+use Rattle.spv_ops.specs.declared.ExecutionMode.TheVariants as mode
+use Rattle.spv_ops.specs.declared.ExecutionModel.TheVariants as model
+use Rattle.spv_ops.specs.declared.Op.TheVariants as op
+use Rattle.spv_ops.specs.declared.StorageClass.TheVariants as storage
+use Rattle.module_gen.specs.Assembly.{Instruction, Assembly, inst, module_words}
 use Rattle.module_gen.specs.declared.pieces.Kind.{Kind}
 use Rattle.module_gen.specs.declared.pieces.Kind.TheVariants.{StraightLine, Selection, Loop}
 
@@ -10,72 +17,72 @@ use Rattle.module_gen.specs.declared.pieces.Kind.TheVariants.{StraightLine, Sele
 -- block, and %18 the invocation's index in the array.
 unfoldable pub frame : List Instruction
 frame =
-    inst OpCapability (1 ∷ [])  -- Shader
-    ∷ inst OpMemoryModel (0 ∷ 1 ∷ [])  -- Logical GLSL450
-    ∷ inst OpEntryPoint (5 ∷ 1 ∷ 0x6E69616D ∷ 0 ∷ 2 ∷ [])  -- GLCompute %1 "main" %2
-    ∷ inst OpExecutionMode (1 ∷ 17 ∷ 64 ∷ 1 ∷ 1 ∷ [])  -- %1 LocalSize 64 1 1
-    ∷ inst OpDecorate (2 ∷ 11 ∷ 28 ∷ [])  -- %2 BuiltIn GlobalInvocationId
-    ∷ inst OpDecorate (3 ∷ 2 ∷ [])  -- %3 Block
-    ∷ inst OpMemberDecorate (3 ∷ 0 ∷ 35 ∷ 0 ∷ [])  -- %3 0 Offset 0
-    ∷ inst OpDecorate (4 ∷ 6 ∷ 4 ∷ [])  -- %4 ArrayStride 4
-    ∷ inst OpDecorate (5 ∷ 34 ∷ 0 ∷ [])  -- %5 DescriptorSet 0
-    ∷ inst OpDecorate (5 ∷ 33 ∷ 0 ∷ [])  -- %5 Binding 0
-    ∷ inst OpTypeVoid (6 ∷ [])
-    ∷ inst OpTypeFunction (7 ∷ 6 ∷ [])
-    ∷ inst OpTypeInt (8 ∷ 32 ∷ 0 ∷ [])
-    ∷ inst OpTypeVector (9 ∷ 8 ∷ 3 ∷ [])
-    ∷ inst OpTypePointer (10 ∷ 1 ∷ 9 ∷ [])  -- Input
-    ∷ inst OpVariable (10 ∷ 2 ∷ 1 ∷ [])
-    ∷ inst OpTypePointer (11 ∷ 1 ∷ 8 ∷ [])  -- Input
-    ∷ inst OpTypeRuntimeArray (4 ∷ 8 ∷ [])
-    ∷ inst OpTypeStruct (3 ∷ 4 ∷ [])
-    ∷ inst OpTypePointer (12 ∷ 12 ∷ 3 ∷ [])  -- StorageBuffer
-    ∷ inst OpVariable (12 ∷ 5 ∷ 12 ∷ [])
-    ∷ inst OpTypePointer (13 ∷ 12 ∷ 8 ∷ [])  -- StorageBuffer
-    ∷ inst OpConstant (8 ∷ 14 ∷ 0 ∷ [])
-    ∷ inst OpConstant (8 ∷ 15 ∷ 1 ∷ [])
-    ∷ inst OpTypeBool (19 ∷ [])
-    ∷ inst OpConstant (8 ∷ 20 ∷ 8 ∷ [])
-    ∷ inst OpFunction (6 ∷ 1 ∷ 0 ∷ 7 ∷ [])
-    ∷ inst OpLabel (16 ∷ [])
-    ∷ inst OpAccessChain (11 ∷ 17 ∷ 2 ∷ 14 ∷ [])
-    ∷ inst OpLoad (8 ∷ 18 ∷ 17 ∷ [])
+    inst op.Capability (capability_number capability.Shader ∷ [])
+    ∷ inst op.MemoryModel (0 ∷ 1 ∷ [])  -- Logical GLSL450
+    ∷ inst op.EntryPoint (model_number model.GLCompute ∷ 1 ∷ 0x6E69616D ∷ 0 ∷ 2 ∷ [])  -- %1 "main" %2
+    ∷ inst op.ExecutionMode (1 ∷ mode_number mode.LocalSize ∷ 64 ∷ 1 ∷ 1 ∷ [])
+    ∷ inst op.Decorate (2 ∷ decoration_number decoration.BuiltIn ∷ built_in_number built.GlobalInvocationId ∷ [])
+    ∷ inst op.Decorate (3 ∷ decoration_number decoration.Block ∷ [])
+    ∷ inst op.MemberDecorate (3 ∷ 0 ∷ decoration_number decoration.Offset ∷ 0 ∷ [])
+    ∷ inst op.Decorate (4 ∷ decoration_number decoration.ArrayStride ∷ 4 ∷ [])
+    ∷ inst op.Decorate (5 ∷ decoration_number decoration.DescriptorSet ∷ 0 ∷ [])
+    ∷ inst op.Decorate (5 ∷ decoration_number decoration.Binding ∷ 0 ∷ [])
+    ∷ inst op.TypeVoid (6 ∷ [])
+    ∷ inst op.TypeFunction (7 ∷ 6 ∷ [])
+    ∷ inst op.TypeInt (8 ∷ 32 ∷ 0 ∷ [])
+    ∷ inst op.TypeVector (9 ∷ 8 ∷ 3 ∷ [])
+    ∷ inst op.TypePointer (10 ∷ class_number storage.Input ∷ 9 ∷ [])
+    ∷ inst op.Variable (10 ∷ 2 ∷ class_number storage.Input ∷ [])
+    ∷ inst op.TypePointer (11 ∷ class_number storage.Input ∷ 8 ∷ [])
+    ∷ inst op.TypeRuntimeArray (4 ∷ 8 ∷ [])
+    ∷ inst op.TypeStruct (3 ∷ 4 ∷ [])
+    ∷ inst op.TypePointer (12 ∷ class_number storage.StorageBuffer ∷ 3 ∷ [])
+    ∷ inst op.Variable (12 ∷ 5 ∷ class_number storage.StorageBuffer ∷ [])
+    ∷ inst op.TypePointer (13 ∷ class_number storage.StorageBuffer ∷ 8 ∷ [])
+    ∷ inst op.Constant (8 ∷ 14 ∷ 0 ∷ [])
+    ∷ inst op.Constant (8 ∷ 15 ∷ 1 ∷ [])
+    ∷ inst op.TypeBool (19 ∷ [])
+    ∷ inst op.Constant (8 ∷ 20 ∷ 8 ∷ [])
+    ∷ inst op.Function (6 ∷ 1 ∷ 0 ∷ 7 ∷ [])
+    ∷ inst op.Label (16 ∷ [])
+    ∷ inst op.AccessChain (11 ∷ 17 ∷ 2 ∷ 14 ∷ [])
+    ∷ inst op.Load (8 ∷ 18 ∷ 17 ∷ [])
     ∷ []
 
 -- The instructions of the pieces. `r` is the result, and `element` points to what stands at the index.
 abbrev pub element : ℕ → Instruction
-element r = inst OpAccessChain (13 ∷ r ∷ 5 ∷ 14 ∷ 18 ∷ [])
+element r = inst op.AccessChain (13 ∷ r ∷ 5 ∷ 14 ∷ 18 ∷ [])
 
 abbrev pub load : ℕ → ℕ → Instruction
-load r pointer = inst OpLoad (8 ∷ r ∷ pointer ∷ [])
+load r pointer = inst op.Load (8 ∷ r ∷ pointer ∷ [])
 
 abbrev pub store : ℕ → ℕ → Instruction
-store pointer value = inst OpStore (pointer ∷ value ∷ [])
+store pointer value = inst op.Store (pointer ∷ value ∷ [])
 
 abbrev pub add : ℕ → ℕ → ℕ → Instruction
-add r a b = inst OpIAdd (8 ∷ r ∷ a ∷ b ∷ [])
+add r a b = inst op.IAdd (8 ∷ r ∷ a ∷ b ∷ [])
 
 abbrev pub is_below_eight : ℕ → ℕ → Instruction
-is_below_eight r a = inst OpULessThan (19 ∷ r ∷ a ∷ 20 ∷ [])
+is_below_eight r a = inst op.ULessThan (19 ∷ r ∷ a ∷ 20 ∷ [])
 
 -- `a` where the block before was `from_a`, and `b` where it was `from_b`
 abbrev pub phi : ℕ → ℕ → ℕ → ℕ → ℕ → Instruction
-phi r a from_a b from_b = inst OpPhi (8 ∷ r ∷ a ∷ from_a ∷ b ∷ from_b ∷ [])
+phi r a from_a b from_b = inst op.Phi (8 ∷ r ∷ a ∷ from_a ∷ b ∷ from_b ∷ [])
 
 abbrev pub label : ℕ → Instruction
-label r = inst OpLabel (r ∷ [])
+label r = inst op.Label (r ∷ [])
 
 abbrev pub branch : ℕ → Instruction
-branch target = inst OpBranch (target ∷ [])
+branch target = inst op.Branch (target ∷ [])
 
 abbrev pub branch_conditional : ℕ → ℕ → ℕ → Instruction
-branch_conditional condition on_true on_false = inst OpBranchConditional (condition ∷ on_true ∷ on_false ∷ [])
+branch_conditional condition on_true on_false = inst op.BranchConditional (condition ∷ on_true ∷ on_false ∷ [])
 
 abbrev pub selection_merge : ℕ → Instruction
-selection_merge merge = inst OpSelectionMerge (merge ∷ 0 ∷ [])
+selection_merge merge = inst op.SelectionMerge (merge ∷ 0 ∷ [])
 
 abbrev pub loop_merge : ℕ → ℕ → Instruction
-loop_merge merge continue_target = inst OpLoopMerge (merge ∷ continue_target ∷ 0 ∷ [])
+loop_merge merge continue_target = inst op.LoopMerge (merge ∷ continue_target ∷ 0 ∷ [])
 
 -- 1 is added to an element
 abbrev pub straight_line : ℕ → List Instruction
@@ -152,7 +159,7 @@ pieces_from (suc count) k current =
 abbrev pub generated_assembly : ℕ → Assembly
 generated_assembly n = record {
   version = 0x00010300;
-  insts = frame ++ pieces_from n 1 16 ++ inst OpReturn [] ∷ inst OpFunctionEnd [] ∷ [];
+  insts = frame ++ pieces_from n 1 16 ++ inst op.Return [] ∷ inst op.FunctionEnd [] ∷ [];
 }
 
 -- its words

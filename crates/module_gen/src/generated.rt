@@ -9,58 +9,77 @@ use crate::ids::{
     FUNCTION_TYPE, INDEX, INDEX_POINTER, INPUT_UINT, INPUT_VECTOR, INVOCATION, ONE, UINT, VECTOR,
     VOID, ZERO,
 };
-use crate::opcodes::{
-    ACCESS_CHAIN, CAPABILITY, CONSTANT, DECORATE, ENTRY_POINT, EXECUTION_MODE, FUNCTION,
-    FUNCTION_END, LABEL, LOAD, MEMBER_DECORATE, MEMORY_MODEL, RETURN, TYPE_BOOL, TYPE_FUNCTION,
-    TYPE_INT, TYPE_POINTER, TYPE_RUNTIME_ARRAY, TYPE_STRUCT, TYPE_VECTOR, TYPE_VOID, VARIABLE,
-};
 use crate::pieces::put_piece;
 use crate::rows::put_rows;
+use spv_ops::{BuiltIn, Capability, Decoration, ExecutionMode, ExecutionModel, Op, StorageClass};
 use spv_words::Memory;
 use std::alloc::Global;
 
 const VERSION: u32 = 0x00010300;
 
-// The storage classes Input and StorageBuffer.
-const INPUT: u32 = 1;
+const INPUT: u32 = StorageClass::Input as u32;
 
-const STORAGE_BUFFER: u32 = 12;
+const STORAGE_BUFFER: u32 = StorageClass::StorageBuffer as u32;
 
 /// From the capability to the index of the element on which the pieces work.
-const FRAME: [(u16, &[u32]); 30] = [
-    (CAPABILITY, &[1]),
-    (MEMORY_MODEL, &[0, 1]),
-    // GLCompute, "main"
-    (ENTRY_POINT, &[5, ENTRY, 0x6E69616D, 0, INVOCATION]),
-    // LocalSize
-    (EXECUTION_MODE, &[ENTRY, 17, 64, 1, 1]),
-    // BuiltIn GlobalInvocationId, Block, Offset 0, ArrayStride 4, DescriptorSet 0, Binding 0
-    (DECORATE, &[INVOCATION, 11, 28]),
-    (DECORATE, &[BLOCK, 2]),
-    (MEMBER_DECORATE, &[BLOCK, 0, 35, 0]),
-    (DECORATE, &[ARRAY, 6, 4]),
-    (DECORATE, &[BUFFER, 34, 0]),
-    (DECORATE, &[BUFFER, 33, 0]),
-    (TYPE_VOID, &[VOID]),
-    (TYPE_FUNCTION, &[FUNCTION_TYPE, VOID]),
-    (TYPE_INT, &[UINT, 32, 0]),
-    (TYPE_VECTOR, &[VECTOR, UINT, 3]),
-    (TYPE_POINTER, &[INPUT_VECTOR, INPUT, VECTOR]),
-    (VARIABLE, &[INPUT_VECTOR, INVOCATION, INPUT]),
-    (TYPE_POINTER, &[INPUT_UINT, INPUT, UINT]),
-    (TYPE_RUNTIME_ARRAY, &[ARRAY, UINT]),
-    (TYPE_STRUCT, &[BLOCK, ARRAY]),
-    (TYPE_POINTER, &[BUFFER_BLOCK, STORAGE_BUFFER, BLOCK]),
-    (VARIABLE, &[BUFFER_BLOCK, BUFFER, STORAGE_BUFFER]),
-    (TYPE_POINTER, &[BUFFER_UINT, STORAGE_BUFFER, UINT]),
-    (CONSTANT, &[UINT, ZERO, 0]),
-    (CONSTANT, &[UINT, ONE, 1]),
-    (TYPE_BOOL, &[BOOL]),
-    (CONSTANT, &[UINT, EIGHT, 8]),
-    (FUNCTION, &[VOID, ENTRY, 0, FUNCTION_TYPE]),
-    (LABEL, &[FIRST_BLOCK]),
-    (ACCESS_CHAIN, &[INPUT_UINT, INDEX_POINTER, INVOCATION, ZERO]),
-    (LOAD, &[UINT, INDEX, INDEX_POINTER]),
+const FRAME: [(Op, &[u32]); 30] = [
+    (Op::Capability, &[Capability::Shader as u32]),
+    // Logical, GLSL450
+    (Op::MemoryModel, &[0, 1]),
+    // "main"
+    (
+        Op::EntryPoint,
+        &[
+            ExecutionModel::GLCompute as u32,
+            ENTRY,
+            0x6E69616D,
+            0,
+            INVOCATION,
+        ],
+    ),
+    (
+        Op::ExecutionMode,
+        &[ENTRY, ExecutionMode::LocalSize as u32, 64, 1, 1],
+    ),
+    (
+        Op::Decorate,
+        &[
+            INVOCATION,
+            Decoration::BuiltIn as u32,
+            BuiltIn::GlobalInvocationId as u32,
+        ],
+    ),
+    (Op::Decorate, &[BLOCK, Decoration::Block as u32]),
+    (
+        Op::MemberDecorate,
+        &[BLOCK, 0, Decoration::Offset as u32, 0],
+    ),
+    (Op::Decorate, &[ARRAY, Decoration::ArrayStride as u32, 4]),
+    (Op::Decorate, &[BUFFER, Decoration::DescriptorSet as u32, 0]),
+    (Op::Decorate, &[BUFFER, Decoration::Binding as u32, 0]),
+    (Op::TypeVoid, &[VOID]),
+    (Op::TypeFunction, &[FUNCTION_TYPE, VOID]),
+    (Op::TypeInt, &[UINT, 32, 0]),
+    (Op::TypeVector, &[VECTOR, UINT, 3]),
+    (Op::TypePointer, &[INPUT_VECTOR, INPUT, VECTOR]),
+    (Op::Variable, &[INPUT_VECTOR, INVOCATION, INPUT]),
+    (Op::TypePointer, &[INPUT_UINT, INPUT, UINT]),
+    (Op::TypeRuntimeArray, &[ARRAY, UINT]),
+    (Op::TypeStruct, &[BLOCK, ARRAY]),
+    (Op::TypePointer, &[BUFFER_BLOCK, STORAGE_BUFFER, BLOCK]),
+    (Op::Variable, &[BUFFER_BLOCK, BUFFER, STORAGE_BUFFER]),
+    (Op::TypePointer, &[BUFFER_UINT, STORAGE_BUFFER, UINT]),
+    (Op::Constant, &[UINT, ZERO, 0]),
+    (Op::Constant, &[UINT, ONE, 1]),
+    (Op::TypeBool, &[BOOL]),
+    (Op::Constant, &[UINT, EIGHT, 8]),
+    (Op::Function, &[VOID, ENTRY, 0, FUNCTION_TYPE]),
+    (Op::Label, &[FIRST_BLOCK]),
+    (
+        Op::AccessChain,
+        &[INPUT_UINT, INDEX_POINTER, INVOCATION, ZERO],
+    ),
+    (Op::Load, &[UINT, INDEX, INDEX_POINTER]),
 ];
 
 #[tactic(auto, unfolding(crate::specs::Generated::frame))]
@@ -94,7 +113,6 @@ pub fn generate(alloc: Global, n: u32) -> Result<Vec<u8>, Memory>
     let mut builder = Builder::new(alloc, VERSION)?;
     put_frame(&mut builder)?;
     put_pieces(&mut builder, n)?;
-    builder.put(RETURN, &[])?;
-    builder.put(FUNCTION_END, &[])?;
+    put_rows(&mut builder, &[(Op::Return, &[]), (Op::FunctionEnd, &[])])?;
     builder.finish(32 + 16 * n)
 }

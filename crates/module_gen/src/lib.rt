@@ -5,7 +5,6 @@ mod builder;
 mod encode;
 mod generated;
 mod ids;
-mod opcodes;
 mod pieces;
 mod rows;
 

@@ -4,11 +4,8 @@ ghost use Rattle.module_gen.specs.Generated.{straight_line, selection, loop, kin
 
 use crate::Builder;
 use crate::ids::{BOOL, BUFFER, BUFFER_UINT, EIGHT, INDEX, ONE, UINT, ZERO};
-use crate::opcodes::{
-    ACCESS_CHAIN, BRANCH, BRANCH_CONDITIONAL, I_ADD, LABEL, LOAD, LOOP_MERGE, PHI, SELECTION_MERGE,
-    STORE, U_LESS_THAN,
-};
 use crate::rows::put_rows;
+use spv_ops::Op;
 use spv_words::Memory;
 
 /// What a piece does to an element of the buffer.
@@ -46,10 +43,13 @@ fn put_straight_line(builder: &mut Builder, first: u32) -> Result<(), Memory>
     put_rows(
         builder,
         &[
-            (ACCESS_CHAIN, &[BUFFER_UINT, element, BUFFER, ZERO, INDEX]),
-            (LOAD, &[UINT, number, element]),
-            (I_ADD, &[UINT, sum, number, ONE]),
-            (STORE, &[element, sum]),
+            (
+                Op::AccessChain,
+                &[BUFFER_UINT, element, BUFFER, ZERO, INDEX],
+            ),
+            (Op::Load, &[UINT, number, element]),
+            (Op::IAdd, &[UINT, sum, number, ONE]),
+            (Op::Store, &[element, sum]),
         ],
     )
 }
@@ -68,18 +68,21 @@ fn put_selection(builder: &mut Builder, first: u32, current: u32) -> Result<u32,
     put_rows(
         builder,
         &[
-            (ACCESS_CHAIN, &[BUFFER_UINT, element, BUFFER, ZERO, INDEX]),
-            (LOAD, &[UINT, number, element]),
-            (U_LESS_THAN, &[BOOL, is_below, number, EIGHT]),
-            (SELECTION_MERGE, &[merge, 0]),
-            (BRANCH_CONDITIONAL, &[is_below, taken, merge]),
-            (LABEL, &[taken]),
-            (I_ADD, &[UINT, sum, number, ONE]),
-            (BRANCH, &[merge]),
-            (LABEL, &[merge]),
-            (PHI, &[UINT, chosen, number, current, sum, taken]),
-            (ACCESS_CHAIN, &[BUFFER_UINT, target, BUFFER, ZERO, INDEX]),
-            (STORE, &[target, chosen]),
+            (
+                Op::AccessChain,
+                &[BUFFER_UINT, element, BUFFER, ZERO, INDEX],
+            ),
+            (Op::Load, &[UINT, number, element]),
+            (Op::ULessThan, &[BOOL, is_below, number, EIGHT]),
+            (Op::SelectionMerge, &[merge, 0]),
+            (Op::BranchConditional, &[is_below, taken, merge]),
+            (Op::Label, &[taken]),
+            (Op::IAdd, &[UINT, sum, number, ONE]),
+            (Op::Branch, &[merge]),
+            (Op::Label, &[merge]),
+            (Op::Phi, &[UINT, chosen, number, current, sum, taken]),
+            (Op::AccessChain, &[BUFFER_UINT, target, BUFFER, ZERO, INDEX]),
+            (Op::Store, &[target, chosen]),
         ],
     )?;
     Ok(merge)
@@ -100,24 +103,27 @@ fn put_loop(builder: &mut Builder, first: u32, current: u32) -> Result<u32, Memo
     put_rows(
         builder,
         &[
-            (BRANCH, &[header]),
-            (LABEL, &[header]),
-            (PHI, &[UINT, counter, ZERO, current, counted, next]),
-            (LOOP_MERGE, &[merge, next, 0]),
-            (BRANCH, &[test]),
-            (LABEL, &[test]),
-            (U_LESS_THAN, &[BOOL, is_below, counter, EIGHT]),
-            (BRANCH_CONDITIONAL, &[is_below, body, merge]),
-            (LABEL, &[body]),
-            (ACCESS_CHAIN, &[BUFFER_UINT, element, BUFFER, ZERO, INDEX]),
-            (LOAD, &[UINT, number, element]),
-            (I_ADD, &[UINT, sum, number, counter]),
-            (STORE, &[element, sum]),
-            (BRANCH, &[next]),
-            (LABEL, &[next]),
-            (I_ADD, &[UINT, counted, counter, ONE]),
-            (BRANCH, &[header]),
-            (LABEL, &[merge]),
+            (Op::Branch, &[header]),
+            (Op::Label, &[header]),
+            (Op::Phi, &[UINT, counter, ZERO, current, counted, next]),
+            (Op::LoopMerge, &[merge, next, 0]),
+            (Op::Branch, &[test]),
+            (Op::Label, &[test]),
+            (Op::ULessThan, &[BOOL, is_below, counter, EIGHT]),
+            (Op::BranchConditional, &[is_below, body, merge]),
+            (Op::Label, &[body]),
+            (
+                Op::AccessChain,
+                &[BUFFER_UINT, element, BUFFER, ZERO, INDEX],
+            ),
+            (Op::Load, &[UINT, number, element]),
+            (Op::IAdd, &[UINT, sum, number, counter]),
+            (Op::Store, &[element, sum]),
+            (Op::Branch, &[next]),
+            (Op::Label, &[next]),
+            (Op::IAdd, &[UINT, counted, counter, ONE]),
+            (Op::Branch, &[header]),
+            (Op::Label, &[merge]),
         ],
     )?;
     Ok(merge)
