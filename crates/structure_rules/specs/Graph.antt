@@ -2,6 +2,10 @@
 use Rattle.std.specs.Prelude.{ℕ, zero, suc, ◌==◌, ◌&&◌, ◌||◌, Bool, true, false, List, [], ◌∷◌, Option, Some, None, find, map, take, drop, length, unwrap_or, slice_index, slice_index_or, if◌then◌else◌}
 use Rattle.std.specs.Option.{option_map_or}
 use Rattle.std.specs.List.{list_any, zip, range_with_len}
+use Rattle.spv_ops.specs.Groups.{is_merge, is_terminator}
+use Rattle.spv_ops.specs.Opcode.{is}
+use Rattle.spv_ops.specs.declared.Op.{Op}
+use Rattle.spv_ops.specs.declared.Op.TheVariants as code
 use Rattle.spv_module.specs.declared.inst.Inst.{Inst}
 use Rattle.spv_module.specs.declared.inst.Block.{Block}
 use Rattle.spv_module.specs.declared.inst.Function.{Function}
@@ -12,19 +16,12 @@ use Rattle.structure_rules.specs.declared.graph.Exit.{Exit}
 use Rattle.structure_rules.specs.declared.graph.Exit.TheVariants.{Branch, Conditional, Switch, Leave}
 use Rattle.structure_rules.specs.declared.graph.Node.{Node}
 
--- OpLoopMerge or OpSelectionMerge
-abbrev pub is_merge : Inst → Bool
-is_merge i = (i.op == 246) || (i.op == 247)
-
--- OpBranch, OpBranchConditional, OpSwitch, OpReturn, OpReturnValue, OpUnreachable
-abbrev pub is_terminator : Inst → Bool
-is_terminator i = (i.op == 249) || (i.op == 250) || (i.op == 251) || (i.op == 253) || (i.op == 254) || (i.op == 255)
-
+-- the first OpLoopMerge or OpSelectionMerge of a block
 abbrev pub merge_inst : Block → Option Inst
-merge_inst b = find is_merge b.insts
+merge_inst b = find (λ (i : Inst). is_merge i.op) b.insts
 
 abbrev pub terminator : Block → Option Inst
-terminator b = find is_terminator b.insts
+terminator b = find (λ (i : Inst). is_terminator i.op) b.insts
 
 -- the word at which an instruction stands, or 0 where there is none
 abbrev pub word_of : Option Inst → ℕ
@@ -40,10 +37,16 @@ seconds [] = []
 seconds (w ∷ []) = []
 seconds (w ∷ label ∷ ws) = label ∷ seconds ws
 
--- the kind of a terminator
+-- the kind of a terminator: what leads to no block leaves the function
+abbrev pub exit_of : Op → Exit
+exit_of code.Branch = Branch
+exit_of code.BranchConditional = Conditional
+exit_of code.Switch = Switch
+exit_of _ = Leave
+
 abbrev pub exit_by : Option Inst → Exit
 exit_by None = Leave
-exit_by (Some i) = if i.op == 249 then Branch else (if i.op == 250 then Conditional else (if i.op == 251 then Switch else Leave))
+exit_by (Some i) = exit_of i.op
 
 -- the labels to which it leads: those of OpSwitch with its default first
 abbrev pub labels_by : Exit → List ℕ → List ℕ
@@ -60,7 +63,7 @@ target_labels (Some i) = labels_by (exit_by (Some i)) i.args
 abbrev pub merge_by : (ℕ → ℕ) → Option Inst → Merge
 merge_by index None = Absent
 merge_by index (Some i) =
-    if i.op == 246 then Loop (index (slice_index i.args 0)) (index (slice_index i.args 1))
+    if is i.op code.LoopMerge then Loop (index (slice_index i.args 0)) (index (slice_index i.args 1))
     else Selection (index (slice_index i.args 0))
 
 -- the node of a block, before it is told which blocks are reached
