@@ -1,5 +1,5 @@
 -- The definitions of structured control flow, computed on functions.
-use Rattle.std.proofs.Common.{◌≡◌, ◌≢◌, ◌<◌, ℕ, ◌+◌, Bool, true, false, List, [], ◌∷◌, map, filter, refl, inl, inr, ap, ◌∙◌, sym, lit<, lit≤, length}
+use Rattle.std.proofs.Common.{◌≡◌, ℕ, true, false, List, [], ◌∷◌, map, filter, refl, inl, inr, ◌∙◌, sym, lit<, lit≤, length}
 use Rattle.std.specs.List.{range_with_len}
 use Rattle.spv_words.specs.declared.rule.Rule.TheVariants.{K1, K2, K3, K4, K5, K6, K7, K8, K9, K10, K11}
 use Rattle.spv_ops.specs.Opcode.{number}
@@ -8,8 +8,8 @@ use Rattle.spv_ops.specs.declared.Op.TheVariants as code
 use Rattle.spv_module.specs.declared.inst.Inst.{Inst}
 use Rattle.spv_module.specs.declared.inst.Block.{Block}
 use Rattle.spv_module.specs.declared.inst.Function.{Function}
-use Rattle.structure_rules.specs.declared.graph.Merge.TheVariants.{Absent, Selection, Loop as LoopMerge}
-use Rattle.structure_rules.specs.declared.graph.Exit.TheVariants.{Branch, Conditional, Switch, Leave}
+use Rattle.structure_rules.specs.declared.graph.Merge.TheVariants.{Absent, Selection}
+use Rattle.structure_rules.specs.declared.graph.Exit.TheVariants.{Branch, Conditional, Leave}
 use Rattle.structure_rules.specs.declared.graph.Node.{Node}
 use Rattle.structure_rules.specs.declared.graph.Role.{Role}
 use Rattle.structure_rules.specs.declared.graph.Role.TheVariants as role_

@@ -1,5 +1,5 @@
 -- The parent of each block, the constructs round it, and its nesting (SPIR-V 1.6, section 2.11). Only the edges and the headers of reached blocks count.
-use Rattle.std.specs.Prelude.{ℕ, zero, suc, ◌+◌, ◌==◌, ◌&&◌, ◌||◌, not, nat_lt, Bool, true, false, List, [], ◌∷◌, ◌++◌, length, Option, Some, None, is_none, find, map, filter, option_map, if◌then◌else◌}
+use Rattle.std.specs.Prelude.{ℕ, zero, suc, ◌+◌, ◌==◌, ◌&&◌, ◌||◌, not, nat_lt, Bool, List, [], ◌∷◌, ◌++◌, length, Option, Some, None, is_none, find, map, filter, option_map, if◌then◌else◌}
 use Rattle.std.specs.List.{list_any}
 use Rattle.structure_rules.specs.declared.graph.Merge.{Merge}
 use Rattle.structure_rules.specs.declared.graph.Merge.TheVariants.{Absent, Selection, Loop as LoopMerge}

@@ -1,6 +1,6 @@
 -- Which rules of structured control flow a function breaks, and the limit on its nesting (SPIR-V 1.6, section 2.11).
-use Rattle.std.specs.Prelude.{ℕ, zero, suc, ◌⊎◌, ◌≡◌, ◌≢◌, ◌<◌, ◌≤◌, ◌==◌, ◌&&◌, ◌||◌, not, Bool, true, false, List, [], ◌∷◌, length, Option, Some, None, IfSome, option_map, if◌then◌else◌}
-use Rattle.std.specs.Option.{option_map_or, option_and_then}
+use Rattle.std.specs.Prelude.{ℕ, zero, suc, ◌⊎◌, ◌≡◌, ◌≢◌, ◌<◌, ◌≤◌, ◌==◌, ◌&&◌, ◌||◌, not, Bool, true, false, List, [], ◌∷◌, length, Option, Some, None, option_map, if◌then◌else◌}
+use Rattle.std.specs.Option.{option_and_then}
 use Rattle.std.specs.List.{list_any, list_all, filter_map}
 use Rattle.spv_words.specs.declared.rule.Rule.{Rule}
 use Rattle.spv_words.specs.declared.rule.Rule.TheVariants.{K1, K2, K3, K4, K5, K6, K7, K8, K9, K10, K11}
@@ -11,12 +11,12 @@ use Rattle.spv_words.specs.Limit.{limit_number}
 use Rattle.spv_words.specs.Breaks.{NoRuleBroken}
 use Rattle.spv_module.specs.declared.inst.Function.{Function}
 use Rattle.structure_rules.specs.declared.graph.Merge.{Merge}
-use Rattle.structure_rules.specs.declared.graph.Merge.TheVariants.{Absent, Selection, Loop}
+use Rattle.structure_rules.specs.declared.graph.Merge.TheVariants.{Selection, Loop}
 use Rattle.structure_rules.specs.declared.graph.Exit.{Exit}
-use Rattle.structure_rules.specs.declared.graph.Exit.TheVariants.{Branch, Conditional, Switch, Leave}
+use Rattle.structure_rules.specs.declared.graph.Exit.TheVariants.{Branch, Switch, Leave}
 use Rattle.structure_rules.specs.declared.graph.EdgeKind.TheVariants.{Enter}
 use Rattle.structure_rules.specs.declared.graph.Node.{Node}
-use Rattle.structure_rules.specs.Graph.{graph, nth, edges, named, names, merge_named, is_switch, is_selection, is_conditional, is_value}
+use Rattle.structure_rules.specs.Graph.{graph, nth, edges, named, merge_named, is_switch, is_selection, is_conditional, is_value}
 use Rattle.structure_rules.specs.Nesting.{Links, has_link, first_of, each, name_links, role, parent_of, is_parent, nesting, is_loose}
 use Rattle.structure_rules.specs.EdgeKinds.{case_target, innermost, is_fall, has_kind, has_some_kind}
 
