@@ -2,6 +2,8 @@
 use Rattle.std.proofs.Common.{◌≡◌, ◌<◌, ◌+◌, ◌==◌, ℕ, zero, suc, Bool, true, false, List, [], ◌∷◌, length, map, unwrap_or, Option, Some, None, refl, ap, sym, ◌∙◌, subst, arith, cond, if◌then◌else◌}
 use Rattle.std.specs.List.{position_from, slice_index}
 use Rattle.std.proofs.lemmas.List.{length-map}
+use Rattle.spv_ops.specs.Opcode.{is}
+use Rattle.spv_ops.specs.declared.Op.TheVariants as code
 use Rattle.spv_module.specs.declared.inst.Inst.{Inst}
 use Rattle.spv_module.specs.declared.inst.Block.{Block}
 use Rattle.spv_module.specs.declared.inst.Function.{Function}
@@ -35,7 +37,7 @@ all_mapped f n (l ∷ labels) (suc k) all inside = all_mapped f n labels k all (
 
 all_named : (f : ℕ → ℕ) (n : ℕ) (i : Option Inst) (k : ℕ) → ((label : ℕ) → f label < n) → k < length (named (merge_by f i)) → slice_index (named (merge_by f i)) k < n
 all_named f n None k all inside = absurd (omega (arith, inside))
-all_named f n (Some i) k all inside = by_test (i.op == 246) k inside
+all_named f n (Some i) k all inside = by_test (is i.op code.LoopMerge) k inside
   where
     by_test : (b : Bool) (k : ℕ) → k < length (named (if b then Loop (f (slice_index i.args 0)) (f (slice_index i.args 1)) else Selection (f (slice_index i.args 0)))) → slice_index (named (if b then Loop (f (slice_index i.args 0)) (f (slice_index i.args 1)) else Selection (f (slice_index i.args 0)))) k < n
     by_test true zero h = all (slice_index i.args 0)

@@ -2,32 +2,23 @@
 ghost use Rattle.std.specs.Prelude.{◌≡◌, IfOk, find, map};
 ghost use Rattle.std.specs.Option.{option_copied};
 ghost use Rattle.structure_rules.specs.declared.graph.Exit.TheVariants.{Branch, Conditional};
-ghost use Rattle.structure_rules.specs.Graph.{is_merge as is_merge_inst, is_terminator as is_terminator_inst, merge_inst as merge_inst_of, terminator as terminator_of, word_of as word_of_inst, index_of, seconds, exit_by, labels_by, target_labels, merge_by, node_by, nodes as nodes_of};
+ghost use Rattle.structure_rules.specs.Graph.{merge_inst as merge_inst_of, terminator as terminator_of, word_of as word_of_inst, index_of, seconds, exit_by, labels_by, target_labels, merge_by, node_by, nodes as nodes_of};
 
 use crate::labels::Labels;
 use spv_module::{Block, Function, Inst};
+use spv_ops::Op;
 use std::alloc::{AllocError, Global};
 use structure_rules::{Exit, Merge, Node, Targets};
 
-/// Whether this is OpLoopMerge or OpSelectionMerge.
-fn is_merge(inst: &Inst) -> bool
-    ensures { result ≡ is_merge_inst inst.now }
-{
-    matches!(inst.op, 246 | 247)
-}
-
-/// Whether this is OpBranch, OpBranchConditional, OpSwitch, OpReturn, OpReturnValue or
-/// OpUnreachable.
-fn is_terminator(inst: &Inst) -> bool
-    ensures { result ≡ is_terminator_inst inst.now }
-{
-    matches!(inst.op, 249 | 250 | 251 | 253 | 254 | 255)
-}
-
+/// The first OpLoopMerge or OpSelectionMerge of a block.
 fn merge_inst(block: &Block) -> Option<&Inst>
     ensures { option_copied result ≡ merge_inst_of block.now }
 {
-    block.insts.as_slice().iter().find(|inst| is_merge(inst))
+    block
+        .insts
+        .as_slice()
+        .iter()
+        .find(|inst| inst.op.is_merge())
 }
 
 /// The terminator of a block (SPIR-V 1.6, section 2.2).
@@ -38,7 +29,7 @@ pub fn terminator(block: &Block) -> Option<&Inst>
         .insts
         .as_slice()
         .iter()
-        .find(|inst| is_terminator(inst))
+        .find(|inst| inst.op.is_terminator())
 }
 
 /// The word at which an instruction stands, or 0 where there is none.
@@ -56,15 +47,14 @@ fn merge_of(labels: &Labels, inst: Option<&Inst>) -> Merge
         return Merge::Absent;
     };
     let merge = labels.index(inst.operand(0));
-    // OpLoopMerge, or else OpSelectionMerge
-    if inst.op == 246 {
+    if inst.op == Op::LoopMerge {
         Merge::Loop(merge, labels.index(inst.operand(1)))
     } else {
         Merge::Selection(merge)
     }
 }
 
-/// The kind of a terminator.
+/// The kind of a terminator: what leads to no block leaves the function.
 fn exit_of(inst: Option<&Inst>) -> Exit
     ensures { result ≡ exit_by (option_copied inst.entry) }
 {
@@ -72,9 +62,9 @@ fn exit_of(inst: Option<&Inst>) -> Exit
         return Exit::Leave;
     };
     match inst.op {
-        249 => Exit::Branch,
-        250 => Exit::Conditional,
-        251 => Exit::Switch,
+        Op::Branch => Exit::Branch,
+        Op::BranchConditional => Exit::Conditional,
+        Op::Switch => Exit::Switch,
         _ => Exit::Leave,
     }
 }
