@@ -1,6 +1,12 @@
 -- The rules on blocks, and the layouts that blocks take.
 use Rattle.std.proofs.Common.{◌≡◌, ℕ, List, [], ◌∷◌, Some, None, true, false, refl}
 use Rattle.spv_words.specs.declared.rule.Rule.TheVariants.{L1, L2, L3, L4, L5, L6, L7}
+use Rattle.spv_ops.specs.Enumerants.{class_number, decoration_number}
+use Rattle.spv_ops.specs.Opcode.{number}
+use Rattle.spv_ops.specs.declared.Decoration.TheVariants as decoration
+use Rattle.spv_ops.specs.declared.Op.{Op}
+use Rattle.spv_ops.specs.declared.Op.TheVariants as code
+use Rattle.spv_ops.specs.declared.StorageClass.TheVariants as storage
 use Rattle.spv_module.specs.declared.inst.Inst.{Inst}
 use Rattle.spv_module.specs.declared.tree.Elem.TheVariants.{Bool, Uint}
 use Rattle.spv_module.specs.declared.tree.Length.TheVariants.{Fixed}
@@ -13,7 +19,7 @@ use Rattle.layout_rules.specs.Rules.{breaks}
 use Rattle.layout_rules.specs.Blocks.{Member, members_of, member_breaks, members_break, first_broken, kind_of_members}
 
 opened : Unit {0}
-unfolding aligned breaks member_breaks members_break kind below key_of
+unfolding aligned breaks member_breaks members_break kind below key_of number
 opened = tt
 
 abbrev member : ℕ → ℕ → Tree → Member
@@ -21,12 +27,12 @@ member id offset t = record { id = id; offset = Some offset; shape = Some t }
 
 -- an OpDecorate with ArrayStride, and an OpMemberDecorate with Offset
 abbrev stride : ℕ → ℕ → Inst
-stride id n = record { op = 71; at = 0; ty = 0; result = 0; args = id ∷ 6 ∷ n ∷ [] }
+stride id n = record { op = code.Decorate; at = 0; ty = 0; result = 0; args = id ∷ decoration_number decoration.ArrayStride ∷ n ∷ [] }
 
 abbrev offset : ℕ → ℕ → ℕ → Inst
-offset id k n = record { op = 72; at = 0; ty = 0; result = 0; args = id ∷ k ∷ 35 ∷ n ∷ [] }
+offset id k n = record { op = code.MemberDecorate; at = 0; ty = 0; result = 0; args = id ∷ k ∷ decoration_number decoration.Offset ∷ n ∷ [] }
 
-abbrev made : ℕ → ℕ → ℕ → List ℕ → Inst
+abbrev made : Op → ℕ → ℕ → List ℕ → Inst
 made op at result args = record { op = op; at = at; ty = 0; result = result; args = args }
 
 abbrev uvec3 : Tree
@@ -34,10 +40,10 @@ uvec3 = vector Uint 3
 
 -- %1 uint, %2 uvec3, %3 a runtime array of uvec3, %4 a struct of two uints, %5 the block of a uvec3, two uints and the array
 abbrev types : List Inst
-types = made 21 1 1 (32 ∷ 0 ∷ []) ∷ made 23 2 2 (1 ∷ 3 ∷ []) ∷ made 29 3 3 (2 ∷ []) ∷ made 30 4 4 (1 ∷ 1 ∷ []) ∷ []
+types = made code.TypeInt 1 1 (32 ∷ 0 ∷ []) ∷ made code.TypeVector 2 2 (1 ∷ 3 ∷ []) ∷ made code.TypeRuntimeArray 3 3 (2 ∷ []) ∷ made code.TypeStruct 4 4 (1 ∷ 1 ∷ []) ∷ []
 
 abbrev block : Inst
-block = made 30 5 5 (2 ∷ 1 ∷ 1 ∷ 3 ∷ [])
+block = made code.TypeStruct 5 5 (2 ∷ 1 ∷ 1 ∷ 3 ∷ [])
 
 abbrev offsets : List Inst
 offsets = offset 5 0 0 ∷ offset 5 1 12 ∷ offset 5 2 32 ∷ offset 5 3 48 ∷ []
@@ -51,7 +57,7 @@ fits : first_broken (stride 3 16 ∷ offsets) types Std430 (members_of offsets t
 unfolding opened
 fits = refl
 
-taken : kind_of_members (stride 3 16 ∷ offsets) types 12 (members_of offsets types block) ≡ Some Std430
+taken : kind_of_members (stride 3 16 ∷ offsets) types (class_number storage.StorageBuffer) (members_of offsets types block) ≡ Some Std430
 unfolding opened
 taken = refl
 
@@ -122,13 +128,13 @@ at_the_end : (first_broken [] types Std430 (member 1 4294967288 uint ∷ []) ≡
 unfolding opened
 at_the_end = (refl, refl)
 
-inner_end : first_broken (stride 8 4 ∷ stride 9 4294967296 ∷ []) (made 29 2 9 (8 ∷ []) ∷ []) Std430 (member 9 0 (runtime (array uint (Fixed 1073741824))) ∷ []) ≡ Some L7
+inner_end : first_broken (stride 8 4 ∷ stride 9 4294967296 ∷ []) (made code.TypeRuntimeArray 2 9 (8 ∷ []) ∷ []) Std430 (member 9 0 (runtime (array uint (Fixed 1073741824))) ∷ []) ≡ Some L7
 unfolding opened
 inner_end = refl
 
 -- arrays of arrays have a stride each: %7 is three of %6, which is two uints
 abbrev rows : List Inst
-rows = made 28 6 6 (1 ∷ 8 ∷ []) ∷ made 28 7 7 (6 ∷ 9 ∷ []) ∷ []
+rows = made code.TypeArray 6 6 (1 ∷ 8 ∷ []) ∷ made code.TypeArray 7 7 (6 ∷ 9 ∷ []) ∷ []
 
 abbrev row : Tree
 row = array (array uint (Fixed 2)) (Fixed 3)
@@ -144,10 +150,10 @@ wide = stride 6 16 ∷ stride 7 32 ∷ []
 abbrev close : List Inst
 close = stride 6 4 ∷ stride 7 8 ∷ []
 
-uniforms : (kind_of_members wide rows 2 (member 7 0 row ∷ []) ≡ Some Std140) × (kind_of_members close rows 2 (member 7 0 row ∷ []) ≡ None)
+uniforms : (kind_of_members wide rows (class_number storage.Uniform) (member 7 0 row ∷ []) ≡ Some Std140) × (kind_of_members close rows (class_number storage.Uniform) (member 7 0 row ∷ []) ≡ None)
 unfolding opened
 uniforms = (refl, refl)
 
-buffers : (kind_of_members wide rows 12 (member 7 0 row ∷ []) ≡ Some Std140) × (kind_of_members close rows 9 (member 7 0 row ∷ []) ≡ Some Std430) × (kind_of_members (stride 6 4 ∷ []) rows 12 (member 7 0 row ∷ []) ≡ None)
+buffers : (kind_of_members wide rows (class_number storage.StorageBuffer) (member 7 0 row ∷ []) ≡ Some Std140) × (kind_of_members close rows (class_number storage.PushConstant) (member 7 0 row ∷ []) ≡ Some Std430) × (kind_of_members (stride 6 4 ∷ []) rows (class_number storage.StorageBuffer) (member 7 0 row ∷ []) ≡ None)
 unfolding opened
 buffers = (refl, refl, refl)

@@ -7,6 +7,10 @@ use Rattle.spv_words.specs.declared.rule.Rule.TheVariants.{L1, L2, L3, L4, L5, L
 use Rattle.spv_words.specs.declared.rule.Limit.{Limit}
 use Rattle.spv_words.specs.declared.rule.Fault.{Fault}
 use Rattle.spv_words.specs.declared.rule.Fault.TheVariants.{Refused, Limit as Exceeded, Memory}
+use Rattle.spv_ops.specs.Opcode.{is}
+use Rattle.spv_ops.specs.declared.Op.TheVariants as code
+use Rattle.spv_ops.specs.Enumerants.{class_number}
+use Rattle.spv_ops.specs.declared.StorageClass.TheVariants as storage
 use Rattle.spv_module.specs.Held.{global}
 use Rattle.spv_module.specs.State.{ModuleState}
 use Rattle.spv_module.specs.declared.inst.Inst.{Inst}
@@ -85,7 +89,7 @@ first_broken heads gs kind ms = find (members_break heads gs kind ms) block_rule
 
 -- the layout that a block of a storage class takes where it fits: of Uniform std140, of StorageBuffer and PushConstant std430
 abbrev pub first_kind : ℕ → Kind
-first_kind class = if class == 2 then Std140 else Std430
+first_kind class = if class == class_number storage.Uniform then Std140 else Std430
 
 -- the layout that the block takes: that of its class where it fits, that is, breaks no rule, else std140 where that fits
 abbrev pub kind_of_members : List Inst → List Inst → ℕ → List Member → Option Kind
@@ -95,15 +99,15 @@ kind_of_members heads gs class ms =
 
 -- Uniform, PushConstant, StorageBuffer
 abbrev pub is_block_class : ℕ → Bool
-is_block_class class = (class == 2) || ((class == 9) || (class == 12))
+is_block_class class = (class == class_number storage.Uniform) || ((class == class_number storage.PushConstant) || (class == class_number storage.StorageBuffer))
 
 abbrev pub as_struct : Inst → Option Inst
-as_struct g = if g.op == 30 then Some g else None
+as_struct g = if is g.op code.TypeStruct then Some g else None
 
 -- the struct of a block variable: an OpVariable of such a class that points to a struct
 abbrev pub block_of : List Inst → Inst → Option Inst
 block_of gs v =
-    if (v.op == 59) && is_block_class (slice_index v.args 0)
+    if is v.op code.Variable && is_block_class (slice_index v.args 0)
     then option_and_then as_struct (option_and_then (global gs) (pointee gs v.ty)) else None
 
 -- the layout that a variable's block takes

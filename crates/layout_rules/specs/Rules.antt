@@ -3,6 +3,8 @@ use Rattle.std.specs.Prelude.{ℕ, ◌+◌, ◌==◌, ◌||◌, not, Bool, true,
 use Rattle.std.specs.Option.{option_map_or}
 use Rattle.spv_words.specs.declared.rule.Rule.{Rule}
 use Rattle.spv_words.specs.declared.rule.Rule.TheVariants.{L1, L2, L3, L6, L7}
+use Rattle.spv_ops.specs.Enumerants.{decoration_number}
+use Rattle.spv_ops.specs.declared.Decoration.TheVariants as decoration
 use Rattle.spv_module.specs.declared.inst.Inst.{Inst}
 use Rattle.spv_module.specs.declared.tree.Elem.TheVariants as elem
 use Rattle.spv_types.specs.Tree.{Tree, boolean, vector, struct, Trees, no_trees, tree}
@@ -22,9 +24,9 @@ is_not literal n = not (option_map_or (λ (other : ℕ). other == n) literal fal
 abbrev pub is_other : Option ℕ → ℕ → Bool
 is_other literal n = option_map_or (λ (other : ℕ). not (other == n)) literal false
 
--- the Offset of member k (decoration 35): a decoration names its member by a word
+-- the Offset of member k: a decoration names its member by a word
 abbrev pub offset_of : List Inst → ℕ → ℕ → Option ℕ
-offset_of heads id k = if nat_lt k 4294967296 then member_value_of heads id k 35 else None
+offset_of heads id k = if nat_lt k 4294967296 then member_value_of heads id k (decoration_number decoration.Offset) else None
 
 -- member k of the struct with this id, or one behind it, lacks its Offset
 abbrev pub lacks_from : List Inst → ℕ → ℕ → Trees → Bool
@@ -36,9 +38,9 @@ abbrev pub lacks_offset : List Inst → ℕ → Tree → Bool
 lacks_offset heads id (struct s ts) = lacks_from heads id 0 ts
 lacks_offset heads id _ = false
 
--- an array whose ArrayStride (decoration 6) is missing or not the layout's
+-- an array whose ArrayStride is missing or not the layout's
 abbrev pub has_other_stride : List Inst → Kind → ℕ → Tree → Bool
-has_other_stride heads kind id t = option_map_or (is_not (value_of heads id 6)) (stride_of kind t) false
+has_other_stride heads kind id t = option_map_or (is_not (value_of heads id (decoration_number decoration.ArrayStride))) (stride_of kind t) false
 
 -- a bool, or a vector of bools
 abbrev pub has_bool : Tree → Bool
