@@ -2,6 +2,8 @@
 use Rattle.std.specs.Prelude.{ℕ, ◌≡◌, ◌==◌, ◌&&◌, not, Bool, true, false, List, [], ◌∷◌, length, Option, Some, None, map, filter, drop, slice_get, if◌then◌else◌}
 use Rattle.std.specs.Option.{option_and_then}
 use Rattle.std.specs.List.{zip, range_with_len}
+use Rattle.spv_ops.specs.Opcode.{is}
+use Rattle.spv_ops.specs.declared.Op.TheVariants as code
 use Rattle.spv_module.specs.declared.inst.Inst.{Inst}
 use Rattle.spv_module.specs.declared.inst.Block.{Block as BlockOf}
 use Rattle.spv_module.specs.declared.inst.Function.{Function}
@@ -58,10 +60,10 @@ if_reached g (Some m) = if (nth g m).reached then At (Block m) else Stop Closed
 abbrev pub merged : List Node → ℕ → Next
 merged g h = if_reached g (merge_block g h)
 
--- the end of a region whose last block leaves the function; OpUnreachable has number 255
+-- the end of a region whose last block leaves the function
 abbrev pub left_by : ℕ → Option Inst → Exit
 left_by b None = Return b
-left_by b (Some i) = if i.op == 255 then Lost b else Return b
+left_by b (Some i) = if is i.op code.Unreachable then Lost b else Return b
 
 abbrev pub last_inst : Option BlockOf → Option Inst
 last_inst b = option_and_then terminator_of b

@@ -9,6 +9,7 @@ use crate::region::Exit;
 use block_graph::terminator;
 use nest_place::{EdgeKind, Places};
 use spv_module::Function;
+use spv_ops::Op;
 use structure_rules::{Exit as Terminator, Merge, Node};
 
 /// With what a region begins: with a block, or the loop that it heads; or, as the body of a loop does,
@@ -128,8 +129,7 @@ fn left(f: &Function, block: usize) -> Exit
         .get(block)
         .and_then(|block| terminator(block))
     {
-        // OpUnreachable
-        Some(inst) if inst.op == 255 => Exit::Lost(block),
+        Some(inst) if inst.op == Op::Unreachable => Exit::Lost(block),
         _ => Exit::Return(block),
     }
 }
