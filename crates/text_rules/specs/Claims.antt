@@ -2,6 +2,8 @@
 use Rattle.std.specs.Prelude.{ℕ, ◌==◌, ◌&&◌, ◌||◌, Bool, false, List, [], ◌∷◌, ◌++◌, flat_map, map, Option, Some, None, if◌then◌else◌, slice_get}
 use Rattle.std.specs.Option.{option_map_or}
 use Rattle.std.specs.List.{list_any, enumerate_from, range_with_len}
+use Rattle.spv_ops.specs.Opcode.{is}
+use Rattle.spv_ops.specs.declared.Op.TheVariants as code
 use Rattle.spv_module.specs.Lists.{id}
 use Rattle.spv_module.specs.declared.inst.Id.{Id as IdOf}
 use Rattle.spv_module.specs.declared.inst.Inst.{Inst}
@@ -49,7 +51,7 @@ claim_variable s v = claim_id s v.result ++ claim_block s v (block_of s.of.globa
 
 abbrev pub claim_global : Source → Reached → Inst → List Claim
 claim_global s r g =
-    if g.op == 30 then claim_struct s r g else
+    if is g.op code.TypeStruct then claim_struct s r g else
     (if is_declared_constant s r g then claim_id s g.result else
     (if is_written_variable r g then claim_variable s g else []))
 

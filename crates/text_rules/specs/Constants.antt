@@ -2,6 +2,9 @@
 use Rattle.std.specs.Prelude.{ℕ, ◌^◌, ◌==◌, ◌&&◌, not, nat_lt, Bool, true, false, List, [], ◌∷◌, drop, find, flat_map, Option, Some, None, is_some, option_map, option_and_then, if◌then◌else◌, codes, unwrap_or}
 use Rattle.std.specs.Option.{option_map_or}
 use Rattle.std.specs.List.{position_from, zip}
+use Rattle.spv_ops.specs.Opcode.{is}
+use Rattle.spv_ops.specs.declared.Op.TheVariants as code
+use Rattle.spv_ops.specs.Groups.{is_constant as is_constant_op}
 use Rattle.spv_module.specs.State.{ModuleState}
 use Rattle.spv_module.specs.declared.inst.Inst.{Inst}
 use Rattle.spv_types.specs.Tree as shape
@@ -9,7 +12,7 @@ use Rattle.spv_types.specs.Tree.{Tree, ValueTree, truth, word}
 use Rattle.spv_types.specs.Types.{type_tree}
 use Rattle.profile_rules.specs.declared.given.Given.{Given}
 use Rattle.profile_rules.specs.declared.constant.ConstantKind.{ConstantKind}
-use Rattle.profile_rules.specs.declared.constant.ConstantKind.TheVariants.{Composite, Operation, Other}
+use Rattle.profile_rules.specs.declared.constant.ConstantKind.TheVariants.{Composite, Operation}
 use Rattle.profile_rules.specs.declared.size.SizePart.{SizePart}
 use Rattle.profile_rules.specs.declared.size.SizePart.TheVariants.{Fixed, Spec}
 use Rattle.profile_rules.specs.Constants.{constant_kind, value_by_kind, given_to, spec_id, word_given}
@@ -47,21 +50,13 @@ is_scalar shape.int = true
 is_scalar shape.uint = true
 is_scalar _ = false
 
-abbrev pub is_operation : ConstantKind → Bool
-is_operation Operation = true
-is_operation _ = false
-
-abbrev pub is_constant_kind : ConstantKind → Bool
-is_constant_kind Other = false
-is_constant_kind _ = true
-
 -- the instruction defines a constant; a global OpUndef is one
 abbrev pub is_constant : Inst → Bool
-is_constant g = is_constant_kind (constant_kind g.op)
+is_constant g = is_constant_op g.op
 
 -- the constant is a composite or calculated: it has no literal
 abbrev pub has_literal : Source → Inst → Bool
-has_literal s g = option_map_or is_scalar (type_tree s.of.globals g.ty) false && not (is_operation (constant_kind g.op))
+has_literal s g = option_map_or is_scalar (type_tree s.of.globals g.ty) false && not (is g.op code.SpecConstantOp)
 
 -- the reading of a constant with a SpecId that is not overridden: a part of the size of workgroups is read there
 abbrev pub reading_by_part : Option ℕ → Reading

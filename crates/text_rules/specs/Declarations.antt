@@ -2,6 +2,10 @@
 use Rattle.std.specs.Prelude.{ℕ, ◌==◌, Bool, List, [], ◌∷◌, filter, flat_map, map, Option, Some, None, is_some, if◌then◌else◌, slice_get, unwrap_or}
 use Rattle.std.specs.Option.{option_map_or}
 use Rattle.std.specs.List.{enumerate_from}
+use Rattle.spv_ops.specs.declared.StorageClass.TheVariants as storage
+use Rattle.spv_ops.specs.declared.Decoration.{Decoration}
+use Rattle.spv_ops.specs.declared.Decoration.TheVariants as decoration
+use Rattle.spv_ops.specs.Enumerants.{class_number, decoration_number}
 use Rattle.spv_module.specs.Held.{global}
 use Rattle.spv_module.specs.declared.inst.Inst.{Inst}
 use Rattle.spv_module.specs.declared.tree.Length.{Length}
@@ -102,24 +106,28 @@ abbrev pub initial : Source → Names → Inst → Expr
 initial s names g = option_map_or (expr_at s names) (slice_get g.args 1) (zero_at s names (pointee_at s g.ty))
 
 -- the qualifiers, in the order in which they are written, with their decorations
-abbrev pub qualifiers : List (Qual × ℕ)
-qualifiers = (Coherent, 23) ∷ (Volatile, 21) ∷ (Restrict, 19) ∷ (Readonly, 24) ∷ (Writeonly, 25) ∷ []
+abbrev pub qualifiers : List (Qual × Decoration)
+qualifiers =
+    (Coherent, decoration.Coherent) ∷ (Volatile, decoration.Volatile) ∷ (Restrict, decoration.Restrict) ∷
+    (Readonly, decoration.NonWritable) ∷ (Writeonly, decoration.NonReadable) ∷ []
 
 abbrev pub qualifiers_by : Bool → (ℕ → Bool) → List Qual
-qualifiers_by buffer has = if buffer then map (λ (q : Qual × ℕ). q.0) (filter (λ (q : Qual × ℕ). has q.1) qualifiers) else []
+qualifiers_by buffer has = if buffer then map (λ (q : Qual × Decoration). q.0) (filter (λ (q : Qual × Decoration). has (decoration_number q.1)) qualifiers) else []
 
 -- StorageBuffer
 abbrev pub is_buffer : Inst → Bool
-is_buffer v = class v == 12
+is_buffer v = class v == class_number storage.StorageBuffer
 
 abbrev pub member_decl : Source → Names → Inst → Inst → ℕ × ℕ → Member
 member_decl s names v g m =
-    member (unwrap_or (member_value_of s.of.heads g.result m.0 35) 0)
+    member (unwrap_or (member_value_of s.of.heads g.result m.0 (decoration_number decoration.Offset)) 0)
     (qualifiers_by (is_buffer v) (λ d. is_some (member_value_of s.of.heads g.result m.0 d)))
     (type_at s names m.1) (names.member g.result m.0)
 
 abbrev pub place_of : Source → Inst → BlockPlace
-place_of s v = if class v == 9 then Push else Set (unwrap_or (value_of s.of.heads v.result 34) 0) (unwrap_or (value_of s.of.heads v.result 33) 0)
+place_of s v =
+    if class v == class_number storage.PushConstant then Push else
+    Set (unwrap_or (value_of s.of.heads v.result (decoration_number decoration.DescriptorSet)) 0) (unwrap_or (value_of s.of.heads v.result (decoration_number decoration.Binding)) 0)
 
 abbrev pub rules_by : Option Kind → BlockRules
 rules_by (Some Std140) = rules.Std140

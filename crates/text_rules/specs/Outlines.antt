@@ -1,6 +1,8 @@
 -- The shapes by which types are named (GLSL 4.60, section 4.1).
 use Rattle.std.specs.Prelude.{ℕ, ◌==◌, List, Option, Some, if◌then◌else◌, slice_index}
 use Rattle.std.specs.Option.{option_map_or}
+use Rattle.spv_ops.specs.Opcode.{is}
+use Rattle.spv_ops.specs.declared.Op.TheVariants as code
 use Rattle.spv_module.specs.Held.{global}
 use Rattle.spv_module.specs.Lists.{id}
 use Rattle.spv_module.specs.declared.inst.Inst.{Inst}
@@ -28,7 +30,7 @@ basic gs ty = option_map_or (basic_at gs) (global gs ty) uint
 
 -- the length of an array: of an OpConstant its word, and else the specialization constant
 abbrev pub length_by : ℕ → Inst → Length
-length_by n g = if g.op == 43 then Fixed (slice_index g.args 0) else Spec (id n)
+length_by n g = if is g.op code.Constant then Fixed (slice_index g.args 0) else Spec (id n)
 
 abbrev pub length_at : List Inst → ℕ → Length
 length_at gs n = option_map_or (length_by n) (global gs n) (Spec (id n))

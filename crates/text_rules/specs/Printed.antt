@@ -2,6 +2,10 @@
 use Rattle.std.specs.Prelude.{ℕ, ◌==◌, ◌&&◌, ◌||◌, not, Bool, true, false, List, [], ◌∷◌, ◌++◌, filter, flat_map, map, is_some, slice_index}
 use Rattle.std.specs.Option.{option_map_or}
 use Rattle.std.specs.List.{list_any, enumerate_from}
+use Rattle.spv_ops.specs.Opcode.{is}
+use Rattle.spv_ops.specs.declared.Op.TheVariants as code
+use Rattle.spv_ops.specs.declared.StorageClass.TheVariants as storage
+use Rattle.spv_ops.specs.Enumerants.{class_number}
 use Rattle.spv_module.specs.declared.inst.Id.{Id}
 use Rattle.spv_module.specs.declared.inst.Inst.{Inst}
 use Rattle.spv_module.specs.declared.inst.Function.{Function}
@@ -31,20 +35,21 @@ mentions i id = mentions_from (is_id i.op i.args) id 0 i.args
 
 -- OpVariable in a storage class
 abbrev pub is_variable : Inst → Bool
-is_variable g = g.op == 59
+is_variable g = is g.op code.Variable
 
 abbrev pub class : Inst → ℕ
 class g = slice_index g.args 0
 
 -- Private; Workgroup; Uniform, PushConstant and StorageBuffer
 abbrev pub is_private : Inst → Bool
-is_private g = is_variable g && (class g == 6)
+is_private g = is_variable g && (class g == class_number storage.Private)
 
 abbrev pub is_workgroup : Inst → Bool
-is_workgroup g = is_variable g && (class g == 4)
+is_workgroup g = is_variable g && (class g == class_number storage.Workgroup)
 
 abbrev pub is_block_variable : Inst → Bool
-is_block_variable g = is_variable g && ((class g == 2) || (class g == 9) || (class g == 12))
+is_block_variable g =
+    is_variable g && ((class g == class_number storage.Uniform) || (class g == class_number storage.PushConstant) || (class g == class_number storage.StorageBuffer))
 
 -- a variable is written where an instruction of a reached function mentions it; those that are Input are built in
 abbrev pub is_mentioned_in : List Function → ℕ → Bool
@@ -55,7 +60,7 @@ is_written_variable r g = (is_private g || (is_workgroup g || is_block_variable 
 
 -- OpTypeArray with this length
 abbrev pub is_length_of : ℕ → Inst → Bool
-is_length_of id g = (g.op == 28) && (slice_index g.args 1 == id)
+is_length_of id g = (is g.op code.TypeArray) && (slice_index g.args 1 == id)
 
 -- of itself, without the other constants, the text needs the constant with this id: a live instruction, the length of an array or a Private variable that is written mentions it
 abbrev pub needs_constant : Source → Reached → ℕ → Bool
@@ -117,4 +122,4 @@ written_types s r =
 -- a struct is written where something that is written has it; a Block struct is written with its block alone
 abbrev pub is_written_struct : Source → Reached → Inst → Bool
 is_written_struct s r g =
-    (g.op == 30) && (not (is_block s.of.heads g.result) && list_any (type_has_struct s.of.globals g.result) (written_types s r))
+    (is g.op code.TypeStruct) && (not (is_block s.of.heads g.result) && list_any (type_has_struct s.of.globals g.result) (written_types s r))
