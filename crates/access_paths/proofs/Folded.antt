@@ -7,7 +7,7 @@ use Rattle.std.proofs.lemmas.List.FromFn.{get_or-enumerate_from, length-enumerat
 use Rattle.spv_module.specs.declared.inst.Inst.{Inst}
 use Rattle.spv_module.specs.declared.inst.Block.{Block}
 use Rattle.spv_module.specs.declared.inst.Function.{Function}
-use Rattle.profile_rules.specs.MemoryRules.{is_chain}
+use Rattle.spv_ops.specs.Groups.{is_chain}
 use Rattle.access_paths.specs.declared.links.Links.{Links}
 use Rattle.access_paths.specs.Ways.{Way, base, further, chain_steps, spot_of, with_inst, with_block, ways_in, start}
 use Rattle.access_paths.specs.Links.{AreWaysIn, AreWays, HaveMore, way_of}
@@ -16,7 +16,7 @@ use Rattle.access_paths.specs.Links.{AreWaysIn, AreWays, HaveMore, way_of}
 inst_same : (gs : List Inst) (f : Function) (printed stands : ℕ) (a b : ℕ → Way) → ((p : ℕ) → a p ≡ b p) → (i : Inst) (p : ℕ) → with_inst gs f printed stands a i p ≡ with_inst gs f printed stands b i p
 inst_same gs f printed stands a b same i p =
     let made : Way → Way → Way = λ other longer.
-    elim (is_chain i && (i.result == p)) [
+    elim (is_chain i.op && (i.result == p)) [
       | true ↦ further longer (chain_steps gs f (spot_of printed (stands, i)) i)
       | false ↦ other
     ] in

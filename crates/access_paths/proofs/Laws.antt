@@ -7,7 +7,7 @@ use Rattle.std.proofs.lemmas.List.Concat.{flat_map-cons}
 use Rattle.spv_module.specs.declared.inst.Inst.{Inst}
 use Rattle.spv_module.specs.declared.inst.Block.{Block}
 use Rattle.spv_module.specs.declared.inst.Function.{Function}
-use Rattle.profile_rules.specs.MemoryRules.{is_chain}
+use Rattle.spv_ops.specs.Groups.{is_chain}
 use Rattle.access_paths.specs.Ways.{Way, base, start, further, chain_steps, spot_of, with_inst, with_block, path, placed, makes}
 
 abbrev with_placed : List Inst → Function → ℕ → (ℕ → Way) → ℕ × Inst → ℕ → Way
@@ -56,7 +56,7 @@ path_of_start gs f printed pointer none =
     placed_path gs f printed pointer ∙ unmade gs f printed pointer (placed (enumerate_from 0 f.blocks)) start none
 
 -- a pointer that a chain makes and none after it, where neither the chain nor one after it makes its base
-pub path_of_chain : (gs : List Inst) (f : Function) (printed : ℕ) (before after : List (ℕ × Inst)) (c : ℕ × Inst) → placed (enumerate_from 0 f.blocks) ≡ before ++ c ∷ after → is_chain c.1 ≡ true → list_any (makes c.1.result) after ≡ false → list_any (makes (base c.1)) (c ∷ after) ≡ false → path gs f printed c.1.result ≡ further (path gs f printed (base c.1)) (chain_steps gs f (spot_of printed c) c.1)
+pub path_of_chain : (gs : List Inst) (f : Function) (printed : ℕ) (before after : List (ℕ × Inst)) (c : ℕ × Inst) → placed (enumerate_from 0 f.blocks) ≡ before ++ c ∷ after → is_chain c.1.op ≡ true → list_any (makes c.1.result) after ≡ false → list_any (makes (base c.1)) (c ∷ after) ≡ false → path gs f printed c.1.result ≡ further (path gs f printed (base c.1)) (chain_steps gs f (spot_of printed c) c.1)
 path_of_chain gs f printed before after c whole chain once earlier =
     let go = with_placed gs f printed in
     let known : ℕ → Way = fold go start before in

@@ -2,13 +2,14 @@
 use Rattle.std.specs.Prelude.{ℕ, ◌==◌, ◌&&◌, ◌||◌, ◌+◌, not, Bool, true, false, List, [], ◌∷◌, ◌++◌, Option, None, drop, filter, fold, option_and_then, if◌then◌else◌, slice_index, flat_map, map}
 use Rattle.std.specs.Option.{option_map_or}
 use Rattle.std.specs.List.{enumerate_from}
+use Rattle.spv_ops.specs.Groups.{is_chain, is_constant}
 use Rattle.spv_module.specs.Held.{global}
 use Rattle.spv_module.specs.Lists.{id}
 use Rattle.spv_module.specs.declared.inst.Inst.{Inst}
 use Rattle.spv_module.specs.declared.inst.Block.{Block}
 use Rattle.spv_module.specs.declared.inst.Function.{Function}
-use Rattle.profile_rules.specs.TypeRows.{is_constant, constant_word}
-use Rattle.profile_rules.specs.MemoryRules.{is_chain, is_struct, step_type, pointee_of}
+use Rattle.profile_rules.specs.TypeRows.{constant_word}
+use Rattle.profile_rules.specs.MemoryRules.{is_struct, step_type, pointee_of}
 use Rattle.access_paths.specs.declared.forms.Step.{Step}
 use Rattle.access_paths.specs.declared.forms.Step.TheVariants.{Member, Index, Captured}
 
@@ -17,9 +18,9 @@ pub record Way : Type 0 where
   pub base : ℕ
   pub steps : List Step
 
--- the index is a constant of the module: OpUndef, OpConstantTrue to OpSpecConstantOp
+-- the index is a constant of the module, or an OpUndef of it
 abbrev pub is_constant_index : List Inst → ℕ → Bool
-is_constant_index gs index = option_map_or is_constant (global gs index) false
+is_constant_index gs index = option_map_or (λ (g : Inst). is_constant g.op) (global gs index) false
 
 -- what a chain is based on, and its indexes
 abbrev pub base : Inst → ℕ
@@ -75,7 +76,7 @@ further w more = record { base = w.base; steps = w.steps ++ more }
 -- the pointers so far, with what one more instruction makes: a chain leads further than its base
 abbrev pub with_inst : List Inst → Function → ℕ → ℕ → (ℕ → Way) → Inst → ℕ → Way
 with_inst gs f printed stands ways i pointer =
-    elim (is_chain i && (i.result == pointer)) [
+    elim (is_chain i.op && (i.result == pointer)) [
       | true ↦ further (ways (base i)) (chain_steps gs f (spot_of printed (stands, i)) i)
       | false ↦ ways pointer
     ]
@@ -98,4 +99,4 @@ placed blocks = flat_map (λ (b : ℕ × Block). map (λ i. (b.0, i)) b.1.insts)
 
 -- the instruction is a chain that makes this pointer
 abbrev pub makes : ℕ → ℕ × Inst → Bool
-makes pointer c = is_chain c.1 && (c.1.result == pointer)
+makes pointer c = is_chain c.1.op && (c.1.result == pointer)

@@ -8,6 +8,7 @@ ghost use Rattle.access_paths.specs.Links.{spot, link_steps};
 use crate::Step;
 use crate::links::Link;
 use spv_module::{Id, Inst, Module};
+use spv_ops::Op;
 use spv_words::Memory;
 use std::alloc::Global;
 
@@ -17,8 +18,7 @@ pub fn is_constant_index(module: &Module, index: Id) -> bool
     ensures { result ≡ is_constant_index_of «module».now.globals index.0 }
 {
     match module.global(index) {
-        // OpUndef, OpConstantTrue to OpSpecConstantOp
-        Some(inst) => inst.op == 1 || (41 <= inst.op && inst.op <= 52),
+        Some(inst) => inst.op.is_constant(),
         None => false,
     }
 }
@@ -62,8 +62,7 @@ fn constant_word(module: &Module, id: u32) -> Option<u32>
     ensures { result ≡ constant_word_of «module».now.globals id }
 {
     let inst = module.global(Id(id))?;
-    // OpConstant
-    if inst.op == 43 {
+    if inst.op == Op::Constant {
         Some(inst.operand(0))
     } else {
         None
@@ -73,8 +72,9 @@ fn constant_word(module: &Module, id: u32) -> Option<u32>
 fn is_struct(module: &Module, ty: u32) -> bool
     ensures { result ≡ is_struct_in «module».now.globals ty }
 {
-    // OpTypeStruct
-    module.global(Id(ty)).map_or(false, |inst| inst.op == 30)
+    module
+        .global(Id(ty))
+        .map_or(false, |inst| inst.op == Op::TypeStruct)
 }
 
 /// The type to which an index into a type leads.
@@ -83,13 +83,11 @@ fn step_type(module: &Module, index: u32, ty: u32) -> Option<u32>
 {
     let inst = module.global(Id(ty))?;
     match inst.op {
-        // OpTypeStruct
-        30 => {
+        Op::TypeStruct => {
             let member = constant_word(module, index)?;
             inst.args.as_slice().get(member as usize).copied()
         }
-        // OpTypeVector, OpTypeArray, OpTypeRuntimeArray
-        23 | 28 | 29 => Some(inst.operand(0)),
+        Op::TypeVector | Op::TypeArray | Op::TypeRuntimeArray => Some(inst.operand(0)),
         _ => None,
     }
 }

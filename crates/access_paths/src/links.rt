@@ -1,6 +1,7 @@
 // The chains of a function that have indexes, each with the one before it on its way.
 ghost use Rattle.std.specs.Prelude.{◌≡◌, ◌<◌, ◌∷◌, [], true, IfOk, OnOk, length};
-ghost use Rattle.profile_rules.specs.MemoryRules.{is_chain as is_chain_of, pointee_of as pointee_in};
+ghost use Rattle.spv_ops.specs.Groups.{is_chain as is_chain_op};
+ghost use Rattle.profile_rules.specs.MemoryRules.{pointee_of as pointee_in};
 ghost use Rattle.access_paths.specs.Links.{AreBack, AreLinked, AreWays, HaveMore, IsExtended, IsIn, known_in};
 
 use crate::indexes::indexes;
@@ -36,13 +37,6 @@ pub struct Known {
 pub struct Links<'a> {
     pub links: Vec<Link<'a>>,
     pub known: BTreeMap<u32, Known>,
-}
-
-fn is_chain(inst: &Inst) -> bool
-    ensures { result ≡ is_chain_of inst.now }
-{
-    // OpAccessChain, OpInBoundsAccessChain
-    inst.op == 65 || inst.op == 66
 }
 
 /// The type of what a value points to, where it is a pointer.
@@ -94,7 +88,7 @@ impl<'a> Links<'a> {
         inst: &'a Inst,
     ) -> Result<(), AllocError>
         requires linked { AreLinked self.old }
-        requires chain { is_chain_of inst.now ≡ true }
+        requires chain { is_chain_op inst.now.op ≡ true }
         ensures { OnOk result (HaveMore «module».now.globals locals.now stands (inst.now ∷ []) self.old self.new) }
     {
         let base = inst.operand(0);
@@ -123,7 +117,7 @@ impl<'a> Links<'a> {
         ensures { OnOk result (HaveMore «module».now.globals locals.now stands insts.now self.old self.new) }
     {
         for inst in insts {
-            if is_chain(inst) {
+            if inst.op.is_chain() {
                 self.add(module, locals, stands, inst)?;
             }
         }
