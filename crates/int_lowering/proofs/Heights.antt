@@ -1,5 +1,6 @@
 -- The expression of an operation is at most 40 higher than the highest of its operands.
 use Rattle.std.proofs.Common.{◌≡◌, ℕ, ◌+◌, ◌≤◌, Bool, true, false, List, [], ◌∷◌, Option, Some, None, Result, Ok, Err, IfOk, arith, sym, subst, if◌then◌else◌}
+use Rattle.spv_ops.specs.declared.Op.{Op}
 use Rattle.spv_module.specs.declared.tree.Elem.{Elem}
 use Rattle.spv_module.specs.declared.tree.Elem.TheVariants as elem
 use Rattle.glsl_ast.specs.Tree as tree
@@ -261,8 +262,8 @@ found-le : (found : Option Operation) (ty : BasicType) (xs : List Operand) → h
 found-le None ty xs = omega arith
 found-le (Some o) ty xs = height-applied o ty xs
 
-pub height-lowered_basic : (op ext : ℕ) (ty : BasicType) (xs : List Operand) → height (lowered_basic op ext ty xs) ≤ 40 + highest_operand xs
-height-lowered_basic op ext ty xs = found-le (operation_of op (ext ∷ [])) ty xs
+pub height-lowered_basic : (code : Op) (ext : ℕ) (ty : BasicType) (xs : List Operand) → height (lowered_basic code ext ty xs) ≤ 40 + highest_operand xs
+height-lowered_basic code ext ty xs = found-le (operation_of code (ext ∷ [])) ty xs
 
 -- the same of calls' answers
 pub height-operation : (r : Result Code Memory) (o : Operation) (ty : BasicType) (xs : List Operand) → IfOk r (λ e. expr_of e ≡ applied o ty xs) → IfOk r (λ e. height (expr_of e) ≤ 40 + highest_operand xs)
@@ -271,8 +272,8 @@ height-operation (Ok e) o ty xs is =
     subst P (sym is) (height-applied o ty xs)
 height-operation (Err e) o ty xs is = tt
 
-pub height-result : (r : Result Code Memory) (op ext : ℕ) (ty : BasicType) (xs : List Operand) → IfOk r (λ e. expr_of e ≡ lowered_basic op ext ty xs) → IfOk r (λ e. height (expr_of e) ≤ 40 + highest_operand xs)
-height-result (Ok e) op ext ty xs is =
+pub height-result : (r : Result Code Memory) (code : Op) (ext : ℕ) (ty : BasicType) (xs : List Operand) → IfOk r (λ e. expr_of e ≡ lowered_basic code ext ty xs) → IfOk r (λ e. height (expr_of e) ≤ 40 + highest_operand xs)
+height-result (Ok e) code ext ty xs is =
     let P : Expr → Type 0 = λ x. height x ≤ 40 + highest_operand xs in
-    subst P (sym is) (height-lowered_basic op ext ty xs)
-height-result (Err e) op ext ty xs is = tt
+    subst P (sym is) (height-lowered_basic code ext ty xs)
+height-result (Err e) code ext ty xs is = tt

@@ -1,5 +1,6 @@
 -- The expression of each operation on scalars, which stands for vectors too where GLSL's operators do (GLSL 4.60, section 5.9).
 use Rattle.std.specs.Prelude.{ℕ, List, [], ◌∷◌, Option, Some, None, if◌then◌else◌}
+use Rattle.spv_ops.specs.declared.Op.{Op}
 use Rattle.spv_module.specs.declared.tree.Elem.{Elem}
 use Rattle.spv_module.specs.declared.tree.Elem.TheVariants as elem
 use Rattle.glsl_ast.specs.Tree.{Expr, literal, not, flip, choose}
@@ -124,7 +125,13 @@ written op.Any ty a b c d = call_built_in built_in.Any (a.expr ∷ [])
 written op.All ty a b c d = call_built_in built_in.All (a.expr ∷ [])
 written op.Select ty a b c d = choose a.expr b.expr c.expr
 written op.Copy ty a b c d = converted ty a.ty.elem a.expr
-written _ ty a b c d = zero ty
+written op.Undef ty a b c d = zero ty
+written op.VectorExtractDynamic ty a b c d = zero ty
+written op.VectorInsertDynamic ty a b c d = zero ty
+written op.VectorShuffle ty a b c d = zero ty
+written op.CompositeConstruct ty a b c d = zero ty
+written op.CompositeExtract ty a b c d = zero ty
+written op.CompositeInsert ty a b c d = zero ty
 
 -- the same of a list of operands
 abbrev pub applied : Operation → BasicType → List Operand → Expr
@@ -136,8 +143,8 @@ written_if_any (Some o) ty xs = applied o ty xs
 written_if_any None ty xs = zero ty
 
 -- the same by opcode and, of OpExtInst, by the number in GLSL.std.450
-abbrev pub lowered_basic : ℕ → ℕ → BasicType → List Operand → Expr
-lowered_basic op ext ty xs = written_if_any (operation_of op (ext ∷ [])) ty xs
+abbrev pub lowered_basic : Op → ℕ → BasicType → List Operand → Expr
+lowered_basic code ext ty xs = written_if_any (operation_of code (ext ∷ [])) ty xs
 
-abbrev pub lowered : ℕ → ℕ → Elem → List Operand → Expr
-lowered op ext e xs = lowered_basic op ext (scalar e) xs
+abbrev pub lowered : Op → ℕ → Elem → List Operand → Expr
+lowered code ext e xs = lowered_basic code ext (scalar e) xs

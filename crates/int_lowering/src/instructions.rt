@@ -17,21 +17,18 @@ use crate::terms::literal;
 use glsl_ast::Expr;
 use op_semantics::{Operation, extended_operation_of, operation_of};
 use spv_module::Elem;
+use spv_ops::Op;
 use spv_words::Memory;
 use std::alloc::Global;
 
-// OpExtInst
-const EXT_INST: u16 = 12;
-
-/// The operation of an opcode and, of OpExtInst, of its number in GLSL.std.450. There is none exactly where neither table has it.
+/// The operation of an opcode and, of OpExtInst, of its number in GLSL.std.450. There is none exactly where neither stands for one.
 #[tactic(auto, unfolding(op_semantics::specs::Value::operation_of))]
-pub fn operation(op: u16, ext: u32) -> Option<Operation>
+pub fn operation(op: Op, ext: u32) -> Option<Operation>
     ensures { result ≡ operation_by op (ext ∷ []) }
 {
-    if op == EXT_INST {
-        extended_operation_of(ext)
-    } else {
-        operation_of(op)
+    match op {
+        Op::ExtInst => extended_operation_of(ext),
+        _ => operation_of(op),
     }
 }
 
@@ -73,7 +70,7 @@ fn write_operation(
 /// The expression of an opcode's operation, or a zero where it has none.
 fn write_opcode(
     alloc: Global,
-    op: u16,
+    op: Op,
     ext: u32,
     ty: BasicType,
     operands: Vec<Arg>,
@@ -107,7 +104,7 @@ pub fn lower_operation(
 /// an opcode that is no operation on scalars the expression is a zero. There is an error only for want of memory.
 pub fn lower_basic(
     alloc: Global,
-    op: u16,
+    op: Op,
     ext: u32,
     ty: BasicType,
     operands: Vec<Arg>,
@@ -126,7 +123,7 @@ pub fn lower_basic(
 /// an opcode that is none of these operations the expression is a zero. There is an error only for want of memory.
 pub fn lower(
     alloc: Global,
-    op: u16,
+    op: Op,
     ext: u32,
     elem: Elem,
     operands: Vec<Arg>,
