@@ -5,12 +5,14 @@ use Rattle.std.specs.Option.{option_map_or}
 use Rattle.std.specs.List.{list_any, position_from}
 use Rattle.std.proofs.lemmas.Bool.{cases_Bool, eqb-true}
 use Rattle.std.proofs.lemmas.Option.{slice_get_within}
+use Rattle.spv_ops.specs.Opcode.{is}
+use Rattle.spv_ops.specs.declared.Op.TheVariants as code
 use Rattle.spv_module.specs.declared.inst.Inst.{Inst}
 use Rattle.spv_module.specs.declared.inst.Block.{Block}
 use Rattle.spv_module.specs.declared.inst.Function.{Function}
 use Rattle.spv_index.specs.Locals.{block_in}
 use Rattle.use_chains.specs.declared.slot.SlotPlace.{SlotPlace}
-use Rattle.hoist_plan.specs.Plan.{is_elsewhere, is_elsewhere_by, is_phi, mention_block}
+use Rattle.hoist_plan.specs.Plan.{is_elsewhere, is_elsewhere_by, mention_block}
 
 -- the place of the first block that passes a test, where there is only one block
 first_alone : (t : Block → Bool) (bs : List Block) (d : ℕ) → length bs ≡ 1 → d ≡ 0 → unwrap_or (position_from t 0 bs) d ≡ 0
@@ -25,7 +27,7 @@ module _ (f : Function) (one : length f.blocks ≡ 1) (at : SlotPlace) where
   by_inst : at.block ≡ 0 → (i : Inst) → is_elsewhere_by f 0 at i ≡ false
   by_inst here i =
       let first : unwrap_or (block_in f (slice_index i.args (at.arg + 1))) at.block ≡ 0 = first_alone (λ (b : Block). b.label.0 == slice_index i.args (at.arg + 1)) f.blocks at.block one here in
-      let there : mention_block f at i ≡ 0 = elim (cases_Bool (is_phi i.op)) [
+      let there : mention_block f at i ≡ 0 = elim (cases_Bool (is i.op code.Phi)) [
         | inl phi ↦ ap (λ p. cond p (unwrap_or (block_in f (slice_index i.args (at.arg + 1))) at.block) at.block) phi ∙ first
         | inr other ↦ ap (λ p. cond p (unwrap_or (block_in f (slice_index i.args (at.arg + 1))) at.block) at.block) other ∙ here
       ] in

@@ -7,6 +7,7 @@ use Rattle.std.proofs.lemmas.List.{append_assoc, append-nil, at_drop_more, map-a
 use Rattle.std.proofs.lemmas.List.Elements.{filter-append}
 use Rattle.std.proofs.lemmas.List.Sums.{fold-append, sum_by-append}
 use Rattle.id_map.specs.Entries.{entry_in}
+use Rattle.spv_ops.specs.Groups.{is_chain}
 use Rattle.spv_module.specs.declared.inst.Inst.{Inst}
 use Rattle.spv_module.specs.declared.inst.Block.{Block}
 use Rattle.spv_module.specs.declared.inst.Function.{Function}
@@ -16,7 +17,7 @@ use Rattle.hoist_plan.specs.declared.row.Chain.{Chain}
 use Rattle.hoist_plan.specs.declared.row.Row.{Row}
 use Rattle.hoist_plan.specs.declared.forms.Forms.{Forms}
 use Rattle.hoist_plan.specs.Kept.{chains_among, chains_of, known_in, placed, placed_chain, places_in}
-use Rattle.hoist_plan.specs.Plan.{Known, Placed, own_height, raised, operand_if, with_carried, carried_from, is_chain_opcode, mentions_of, result_of, results_of_block, results}
+use Rattle.hoist_plan.specs.Plan.{Known, Placed, own_height, raised, operand_if, with_carried, carried_from, mentions_of, result_of, results_of_block, results}
 
 pub raise_more : (f : Function) (h : ℕ) (old new : ℕ → Option ℕ) (places : List SlotPlace) (k : ℕ) (d : SlotPlace) → k < length places → ((n : ℕ) → new n ≡ raised f h old (get_or places k d) n) → (n : ℕ) → fold (raised f h) new (drop (k + 1) places) n ≡ fold (raised f h) old (drop k places) n
 raise_more f h old new places k d less e n =
@@ -77,20 +78,20 @@ flat_parts : {A B : Type 0} (q : B → Bool) (g : A → List B) (xs : List A) �
 flat_parts q g [] = refl
 flat_parts q g (x ∷ xs) = ap (λ ys. filter q (g x) ++ ys) (flat_parts q g xs) ∙ sym (filter-append q (g x) (flat_map g xs))
 
-chains_are : (links : List Link) (f : Function) → chains_of links f ≡ filter (λ (p : Placed). is_chain_opcode p.op) (results links f)
+chains_are : (links : List Link) (f : Function) → chains_of links f ≡ filter (λ (p : Placed). is_chain p.op) (results links f)
 chains_are links f =
-    ap (λ (g : ℕ × Block → List Placed). flat_map g (enumerate_from 0 f.blocks)) (λ i b. flat_parts (λ (p : Placed). is_chain_opcode p.op) (result_of links b.0) b.1.insts i)
-    ∙ flat_parts (λ (p : Placed). is_chain_opcode p.op) (results_of_block links) (enumerate_from 0 f.blocks)
+    ap (λ (g : ℕ × Block → List Placed). flat_map g (enumerate_from 0 f.blocks)) (λ i b. flat_parts (λ (p : Placed). is_chain p.op) (result_of links b.0) b.1.insts i)
+    ∙ flat_parts (λ (p : Placed). is_chain p.op) (results_of_block links) (enumerate_from 0 f.blocks)
 
-not_carried : (f : Function) (c : ℕ → Bool) (p : Placed) (n : ℕ) → is_chain_opcode p.op ≡ false → with_carried f c p n ≡ c n
+not_carried : (f : Function) (c : ℕ → Bool) (p : Placed) (n : ℕ) → is_chain p.op ≡ false → with_carried f c p n ≡ c n
 not_carried f c p n other = rw (other, with_carried) refl
 
 -- a result that is no chain is not carried
-chains_alone : (f : Function) (ps : List Placed) (n : ℕ) → carried_from f (filter (λ (p : Placed). is_chain_opcode p.op) ps) n ≡ carried_from f ps n
+chains_alone : (f : Function) (ps : List Placed) (n : ℕ) → carried_from f (filter (λ (p : Placed). is_chain p.op) ps) n ≡ carried_from f ps n
 chains_alone f [] n = refl
 chains_alone f (p ∷ ps) n =
-    let rest : carried_from f (filter (λ (p : Placed). is_chain_opcode p.op) ps) ≡ carried_from f ps = λ i m. chains_alone f ps m i in
-    elim (cases_Bool (is_chain_opcode p.op)) [
+    let rest : carried_from f (filter (λ (p : Placed). is_chain p.op) ps) ≡ carried_from f ps = λ i m. chains_alone f ps m i in
+    elim (cases_Bool (is_chain p.op)) [
       | inl chain ↦ rw chain (ap (λ (c : ℕ → Bool). with_carried f c p n) rest)
       | inr other ↦ rw other (ap (λ (c : ℕ → Bool). c n) rest ∙ sym (not_carried f (carried_from f ps) p n other))
     ]
@@ -120,15 +121,15 @@ pub result_none : (links : List Link) (block : ℕ) (i : Inst) (has : Bool) → 
 result_none links block i has is off = let none : (i.result == 0) ≡ true = of_not_false (i.result == 0) has is off in rw none refl
 
 -- a chain is put behind others
-pub chain_more : (chains : List Chain) (ms : List SlotPlace) (c : Chain) (is : Bool) → is ≡ is_chain_opcode c.row.op → is ≡ true → places_in c.mentions ≡ ms → map placed_chain (chains ++ c ∷ []) ≡ map placed_chain chains ++ chains_among (placed ms c.row ∷ [])
+pub chain_more : (chains : List Chain) (ms : List SlotPlace) (c : Chain) (is : Bool) → is ≡ is_chain c.row.op → is ≡ true → places_in c.mentions ≡ ms → map placed_chain (chains ++ c ∷ []) ≡ map placed_chain chains ++ chains_among (placed ms c.row ∷ [])
 chain_more chains ms c is same on are =
-    let chain : is_chain_opcode c.row.op ≡ true = sym same ∙ on in
+    let chain : is_chain c.row.op ≡ true = sym same ∙ on in
     let alone : placed ms c.row ∷ [] ≡ chains_among (placed ms c.row ∷ []) = rw chain refl in
     map-append placed_chain chains (c ∷ []) ∙ ap (λ ps. map placed_chain chains ++ ps) (ap (λ xs. placed xs c.row ∷ []) are ∙ alone)
 
-pub chain_none : (done : List Placed) (ms : List SlotPlace) (r : Row) (is : Bool) → is ≡ is_chain_opcode r.op → is ≡ false → done ≡ done ++ chains_among (placed ms r ∷ [])
+pub chain_none : (done : List Placed) (ms : List SlotPlace) (r : Row) (is : Bool) → is ≡ is_chain r.op → is ≡ false → done ≡ done ++ chains_among (placed ms r ∷ [])
 chain_none done ms r is same off =
-    let other : is_chain_opcode r.op ≡ false = sym same ∙ off in
+    let other : is_chain r.op ≡ false = sym same ∙ off in
     let none : [] ≡ chains_among (placed ms r ∷ []) = rw other refl in
     sym (append-nil done) ∙ ap (λ ps. done ++ ps) none
 

@@ -5,6 +5,7 @@ use Rattle.std.specs.List.{enumerate_from, list_any}
 use Rattle.std.specs.Map.{lookup}
 use Rattle.std.specs.Ordering.{nat_cmp}
 use Rattle.id_map.specs.Entries.{entry_by, entry_in}
+use Rattle.spv_ops.specs.Groups.{is_chain}
 use Rattle.spv_module.specs.declared.inst.Inst.{Inst}
 use Rattle.spv_module.specs.declared.inst.Block.{Block}
 use Rattle.spv_module.specs.declared.inst.Function.{Function}
@@ -17,7 +18,7 @@ use Rattle.hoist_plan.specs.declared.mentioned.Mentioned.TheVariants.{Once, List
 use Rattle.hoist_plan.specs.declared.row.Row.{Row}
 use Rattle.hoist_plan.specs.declared.row.Chain.{Chain}
 use Rattle.hoist_plan.specs.declared.forms.Forms.{Forms}
-use Rattle.hoist_plan.specs.Plan.{Known, Placed, is_chain_opcode, result_of}
+use Rattle.hoist_plan.specs.Plan.{Known, Placed, result_of}
 
 abbrev pub places_in : Mentioned → List SlotPlace
 places_in (Once at) = at ∷ []
@@ -36,7 +37,7 @@ known_in f = record { operands = entry_in f.operands; forms = entry_in f.forms }
 
 -- those of some results that are chains
 abbrev pub chains_among : List Placed → List Placed
-chains_among ps = filter (λ (p : Placed). is_chain_opcode p.op) ps
+chains_among ps = filter (λ (p : Placed). is_chain p.op) ps
 
 abbrev pub chains_of_inst : List Link → ℕ → Inst → List Placed
 chains_of_inst links block i = chains_among (result_of links block i)

@@ -2,6 +2,11 @@
 use Rattle.std.specs.Prelude.{ℕ, ◌+◌, ◌==◌, ◌&&◌, ◌||◌, not, nat_le, nat_lt, max, min, Bool, true, false, List, [], ◌∷◌, flat_map, fold, length, map, Option, Some, None, unwrap_or, if◌then◌else◌, slice_get, slice_index}
 use Rattle.std.specs.Option.{option_map_or}
 use Rattle.std.specs.List.{enumerate_from, list_any}
+use Rattle.spv_ops.specs.Opcode.{is}
+use Rattle.spv_ops.specs.Groups.{is_chain, is_atomic}
+use Rattle.spv_ops.specs.Shape.{is_pure}
+use Rattle.spv_ops.specs.declared.Op.{Op}
+use Rattle.spv_ops.specs.declared.Op.TheVariants as code
 use Rattle.spv_module.specs.Held.{global}
 use Rattle.spv_module.specs.declared.inst.Inst.{Inst}
 use Rattle.spv_module.specs.declared.inst.Block.{Block}
@@ -9,10 +14,9 @@ use Rattle.spv_module.specs.declared.inst.Function.{Function}
 use Rattle.spv_index.specs.Locals.{block_in, inst_in, type_in}
 use Rattle.structure_rules.specs.declared.graph.Node.{Node}
 use Rattle.structure_rules.specs.Graph.{graph}
-use Rattle.profile_rules.specs.MemoryRules.{is_chain}
 use Rattle.use_chains.specs.declared.slot.SlotPlace.{SlotPlace}
 use Rattle.use_chains.specs.Links.{Link, chain}
-use Rattle.use_chains.specs.Slots.{inst_at, is_pure}
+use Rattle.use_chains.specs.Slots.{inst_at}
 use Rattle.hoist_plan.specs.declared.form.Form.{Form}
 use Rattle.hoist_plan.specs.declared.form.Form.TheVariants.{Gone, Forwarded, Local, Hoisted}
 
@@ -25,7 +29,7 @@ pub record Scope : Type 0 where
 -- the result of an instruction: the index of its block, the opcode, its type and its id, the first operand, which is the base of a chain, and where it is mentioned
 pub record Placed : Type 0 where
   pub block : ℕ
-  pub op : ℕ
+  pub op : Op
   pub ty : ℕ
   pub result : ℕ
   pub base : ℕ
@@ -51,13 +55,9 @@ results links f = flat_map (results_of_block links) (enumerate_from 0 f.blocks)
 abbrev pub user : Function → SlotPlace → Option Inst
 user f at = inst_at f at.block at.inst
 
--- OpPhi
-abbrev pub is_phi : ℕ → Bool
-is_phi op = op == 245
-
 -- an OpPhi mentions its value in the block that the pair names, any other instruction in its own
 abbrev pub mention_block : Function → SlotPlace → Inst → ℕ
-mention_block f at i = if is_phi i.op then unwrap_or (block_in f (slice_index i.args (at.arg + 1))) at.block else at.block
+mention_block f at i = if is i.op code.Phi then unwrap_or (block_in f (slice_index i.args (at.arg + 1))) at.block else at.block
 
 abbrev pub is_elsewhere_by : Function → ℕ → SlotPlace → Inst → Bool
 is_elsewhere_by f block at i = not (mention_block f at i == block)
@@ -70,36 +70,69 @@ abbrev pub is_live : Placed → Bool
 is_live p = not (is_pure p.op) || nat_lt 0 (length p.mentions)
 
 -- the type with this id is declared by this opcode
-abbrev pub has_type : List Inst → ℕ → ℕ → Bool
-has_type gs op ty = option_map_or (λ (g : Inst). g.op == op) (global gs ty) false
+abbrev pub has_type : List Inst → Op → ℕ → Bool
+has_type gs o ty = option_map_or (λ (g : Inst). is g.op o) (global gs ty) false
 
--- a result that may have a variable: no OpTypeVoid, and no OpTypePointer
+-- the type with this id is no OpTypeVoid and no OpTypePointer: a result of it may have a variable
 abbrev pub is_value : List Inst → ℕ → Bool
-is_value gs ty = not (has_type gs 19 ty || has_type gs 32 ty)
+is_value gs ty = not (has_type gs code.TypeVoid ty || has_type gs code.TypePointer ty)
 
--- OpPhi, OpLoad, the atomic instructions, OpFunctionCall, OpVectorInsertDynamic, OpCompositeInsert
-abbrev pub is_always_named : ℕ → Bool
-is_always_named op = is_phi op || ((op == 61) || ((nat_le 227 op && nat_le op 242) || ((op == 57) || ((op == 78) || (op == 82)))))
+-- no atomic instruction, and its result has a variable wherever it is live
+abbrev pub is_named_other : Op → Bool
+is_named_other code.Phi = true
+is_named_other code.Load = true
+is_named_other code.FunctionCall = true
+is_named_other code.VectorInsertDynamic = true
+is_named_other code.CompositeInsert = true
+is_named_other _ = false
 
--- OpTypeVector
+abbrev pub is_always_named : Op → Bool
+is_always_named o = is_atomic o || is_named_other o
+
 abbrev pub is_vector : List Inst → ℕ → Bool
-is_vector gs ty = has_type gs 23 ty
+is_vector gs ty = has_type gs code.TypeVector ty
 
 -- OpSelect by a vector of bools
 abbrev pub is_vector_choice : List Inst → Function → Inst → Bool
-is_vector_choice gs f i = (i.op == 169) && option_map_or (is_vector gs) (type_in gs f (slice_index i.args 0)) false
+is_vector_choice gs f i = is i.op code.Select && option_map_or (is_vector gs) (type_in gs f (slice_index i.args 0)) false
 
--- operations that are written component by component on vectors: OpLogicalEqual to OpLogicalNot, OpIEqual to OpSLessThanEqual, OpBitFieldInsert to OpBitCount, OpExtInst
-abbrev pub is_by_component : ℕ → Bool
-is_by_component op = (nat_le 164 op && nat_le op 168) || ((nat_le 170 op && nat_le op 179) || ((nat_le 201 op && nat_le op 205) || (op == 12)))
+-- operations that are written component by component on vectors
+abbrev pub is_by_component : Op → Bool
+is_by_component code.LogicalEqual = true
+is_by_component code.LogicalNotEqual = true
+is_by_component code.LogicalOr = true
+is_by_component code.LogicalAnd = true
+is_by_component code.LogicalNot = true
+is_by_component code.IEqual = true
+is_by_component code.INotEqual = true
+is_by_component code.UGreaterThan = true
+is_by_component code.SGreaterThan = true
+is_by_component code.UGreaterThanEqual = true
+is_by_component code.SGreaterThanEqual = true
+is_by_component code.ULessThan = true
+is_by_component code.SLessThan = true
+is_by_component code.ULessThanEqual = true
+is_by_component code.SLessThanEqual = true
+is_by_component code.BitFieldInsert = true
+is_by_component code.BitFieldSExtract = true
+is_by_component code.BitFieldUExtract = true
+is_by_component code.BitReverse = true
+is_by_component code.BitCount = true
+is_by_component code.ExtInst = true
+is_by_component _ = false
 
--- operations that write an operand more than once, on scalars too: OpSDiv, OpSRem, OpSMod, OpVectorShuffle, OpCopyLogical
-abbrev pub is_repeating : ℕ → Bool
-is_repeating op = (op == 135) || ((op == 138) || ((op == 139) || ((op == 79) || (op == 400))))
+-- operations that write an operand more than once, on scalars too
+abbrev pub is_repeating : Op → Bool
+is_repeating code.SDiv = true
+is_repeating code.SRem = true
+is_repeating code.SMod = true
+is_repeating code.VectorShuffle = true
+is_repeating code.CopyLogical = true
+is_repeating _ = false
 
 -- SAbs
 abbrev pub is_absolute : Inst → Bool
-is_absolute i = (i.op == 12) && (slice_index i.args 1 == 5)
+is_absolute i = is i.op code.ExtInst && (slice_index i.args 1 == 5)
 
 -- operands that stand more than once in the expression of an operation
 abbrev pub repeats_operands : List Inst → Function → Inst → Bool
@@ -109,7 +142,7 @@ repeats_operands gs f i =
 -- a mention that asks for a variable: in another block, by a phi, as an index of a chain, or as an operand that stands more than once
 abbrev pub wants_by : List Inst → Function → ℕ → SlotPlace → Inst → Bool
 wants_by gs f block at i =
-    is_elsewhere_by f block at i || (is_phi i.op || ((is_chain i && not (at.arg == 0)) || repeats_operands gs f i))
+    is_elsewhere_by f block at i || (is i.op code.Phi || ((is_chain i.op && not (at.arg == 0)) || repeats_operands gs f i))
 
 abbrev pub wants_variable : List Inst → Function → ℕ → SlotPlace → Bool
 wants_variable gs f block at = option_map_or (wants_by gs f block at) (user f at) false
@@ -119,13 +152,13 @@ is_named_by_use gs f p = is_always_named p.op || (nat_le 2 (length p.mentions) |
 
 -- the height of the expression of an operation, where this is known of the highest operand of each; OpUndef has height 0. A height is counted up to 17, where a variable is declared
 abbrev pub own_height : (ℕ → Option ℕ) → Placed → ℕ
-own_height operands p = if p.op == 1 then 0 else min 16 (unwrap_or (operands p.result) 0) + 1
+own_height operands p = if is p.op code.Undef then 0 else min 16 (unwrap_or (operands p.result) 0) + 1
 
 abbrev pub is_named : List Inst → Function → (ℕ → Option ℕ) → Placed → Bool
 is_named gs f operands p = is_value gs p.ty && (is_live p && (is_named_by_use gs f p || (own_height operands p == 17)))
 
 abbrev pub is_hoisted : Function → Placed → Bool
-is_hoisted f p = is_phi p.op || list_any (is_elsewhere f p.block) p.mentions
+is_hoisted f p = is p.op code.Phi || list_any (is_elsewhere f p.block) p.mentions
 
 -- the form of a result, where it is told whether it has a variable
 abbrev pub form_by : Function → Bool → Placed → Form
@@ -178,24 +211,20 @@ form s id = unwrap_or ((known s.globals s.function (results s.links s.function))
 
 -- a chain that another block needs: a mention of it stands there, or is the base of a chain that another block needs
 abbrev pub carries_by : Function → (ℕ → Bool) → ℕ → SlotPlace → Inst → Bool
-carries_by f carried block at i = is_elsewhere_by f block at i || ((at.arg == 0) && (is_chain i && carried i.result))
+carries_by f carried block at i = is_elsewhere_by f block at i || ((at.arg == 0) && (is_chain i.op && carried i.result))
 
 abbrev pub carries : Function → (ℕ → Bool) → ℕ → SlotPlace → Bool
 carries f carried block at = option_map_or (carries_by f carried block at) (user f at) false
 
--- OpAccessChain, OpInBoundsAccessChain
-abbrev pub is_chain_opcode : ℕ → Bool
-is_chain_opcode op = (op == 65) || (op == 66)
-
 abbrev pub is_carried_with : Function → (ℕ → Bool) → Placed → Bool
-is_carried_with f carried p = is_chain_opcode p.op && (carried p.result || list_any (carries f carried p.block) p.mentions)
+is_carried_with f carried p = is_chain p.op && (carried p.result || list_any (carries f carried p.block) p.mentions)
 
 abbrev pub is_reached : Function → ℕ → Bool
 is_reached f block = option_map_or (λ (n : Node). n.reached) (slice_get (graph f) block) false
 
 -- the chain on which one is based in a block that is not reached, where no slots are linked
 abbrev pub is_base_unreached : Function → Placed → ℕ → Bool
-is_base_unreached f p n = (n == p.base) && (not (is_reached f p.block) && option_map_or is_chain (inst_in f n) false)
+is_base_unreached f p n = (n == p.base) && (not (is_reached f p.block) && option_map_or (λ (i : Inst). is_chain i.op) (inst_in f n) false)
 
 abbrev pub with_carried : Function → (ℕ → Bool) → Placed → ℕ → Bool
 with_carried f carried p n =

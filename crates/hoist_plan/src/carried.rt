@@ -4,13 +4,13 @@ ghost use Rattle.std.specs.Option.{option_map_or};
 ghost use Rattle.std.specs.List.{list_any};
 ghost use Rattle.std.specs.BTreeSet.{contains};
 ghost use Rattle.std.specs.Ordering.{nat_cmp};
-ghost use Rattle.hoist_plan.specs.Plan.{carries_by as carries_by_in, carries as carries_in, is_carried_with, is_base_unreached, with_carried, is_chain_opcode as is_chain_op, carried_from};
+ghost use Rattle.hoist_plan.specs.Plan.{carries_by as carries_by_in, carries as carries_in, is_carried_with, is_base_unreached, with_carried, carried_from};
 ghost use Rattle.hoist_plan.specs.Kept.{placed_chain};
-ghost use Rattle.profile_rules.specs.MemoryRules.{is_chain as is_chain_of};
+ghost use Rattle.spv_ops.specs.Groups.{is_chain};
 ghost use Rattle.spv_index.specs.Locals.{inst_in};
 ghost use Rattle.structure_rules.specs.Graph.{graph as graph_of};
 
-use crate::mention::{is_chain, stands_elsewhere, user};
+use crate::mention::{stands_elsewhere, user};
 use crate::row::Chain;
 use spv_index::Locals;
 use spv_module::Inst;
@@ -31,7 +31,7 @@ fn carries_by(
     ensures { result ≡ carries_by_in locals.now (contains nat_cmp carried.now) block at inst.now }
 {
     stands_elsewhere(locals, block, at, inst)
-        || at.arg == 0 && is_chain(inst) && carried.contains(&inst.result)
+        || at.arg == 0 && inst.op.is_chain() && carried.contains(&inst.result)
 }
 
 fn carries(locals: &Locals, carried: &BTreeSet<u32>, block: usize, at: SlotPlace) -> bool
@@ -54,19 +54,12 @@ fn some_carries(
     places.iter().any(|at| carries(locals, carried, block, *at))
 }
 
-/// OpAccessChain and OpInBoundsAccessChain.
-pub fn is_chain_opcode(op: u16) -> bool
-    ensures { result ≡ is_chain_op op }
-{
-    op == 65 || op == 66
-}
-
 /// Whether another block needs a chain, where it is known of those behind it.
 fn is_carried(locals: &Locals, carried: &BTreeSet<u32>, chain: &Chain) -> bool
     ensures { result ≡ is_carried_with locals.now (contains nat_cmp carried.now) (placed_chain chain.now) }
 {
     let row = &chain.row;
-    is_chain_opcode(row.op)
+    row.op.is_chain()
         && (carried.contains(&row.result)
             || some_carries(locals, carried, row.block, chain.mentions.as_slice()))
 }
@@ -79,9 +72,9 @@ fn is_reached(graph: &[Node], block: usize) -> bool
 
 /// Whether an id is a chain of the function.
 fn names_chain(locals: &Locals, id: u32) -> bool
-    ensures { result ≡ option_map_or is_chain_of (inst_in locals.now id) false }
+    ensures { result ≡ option_map_or (λ i. is_chain i.op) (inst_in locals.now id) false }
 {
-    locals.inst(id).map_or(false, |inst| is_chain(inst))
+    locals.inst(id).map_or(false, |inst| inst.op.is_chain())
 }
 
 /// Adds the chain on which a carried one is based in a block that is not reached, where no slots are

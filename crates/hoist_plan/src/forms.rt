@@ -6,13 +6,12 @@ ghost use Rattle.hoist_plan.specs.Plan.{is_elsewhere as is_elsewhere_in, wants_v
 ghost use Rattle.hoist_plan.specs.Kept.{placed};
 
 use crate::Form;
-use crate::mention::{
-    is_always_named, is_elsewhere, is_phi, is_pure, is_value, user, wants_variable,
-};
+use crate::mention::{is_always_named, is_elsewhere, is_value, user, wants_variable};
 use crate::row::Row;
 use id_map::{IdMap, Span};
 use spv_index::Locals;
 use spv_module::{Function, Module};
+use spv_ops::Op;
 use std::alloc::{AllocError, Global};
 use use_chains::SlotPlace;
 
@@ -39,7 +38,7 @@ impl Forms {
 fn is_live(row: &Row, mentions: &[SlotPlace]) -> bool
     ensures { result ≡ is_live_result (placed mentions.now row.now) }
 {
-    mentions.len() > 0 || !is_pure(row.op)
+    mentions.len() > 0 || !row.op.is_pure()
 }
 
 fn some_wants(module: &Module, locals: &Locals, block: usize, places: &[SlotPlace]) -> bool
@@ -80,8 +79,7 @@ fn is_named_by_use(module: &Module, locals: &Locals, row: &Row, mentions: &[Slot
 fn own_height(operands: &IdMap<u8>, row: &Row) -> u8
     ensures { result ≡ own_height_of (entry_in operands.now) (placed [] row.now) }
 {
-    // OpUndef
-    if row.op == 1 {
+    if row.op == Op::Undef {
         0
     } else {
         operands.get(row.result).unwrap_or(0).min(16) + 1
@@ -108,7 +106,7 @@ fn is_named(
 fn is_hoisted(locals: &Locals, row: &Row, mentions: &[SlotPlace]) -> bool
     ensures { result ≡ is_hoisted_in locals.now (placed mentions.now row.now) }
 {
-    is_phi(row.op) || some_elsewhere(locals, row.block, mentions)
+    row.op == Op::Phi || some_elsewhere(locals, row.block, mentions)
 }
 
 /// The form of a result, where it is known whether it has a variable.

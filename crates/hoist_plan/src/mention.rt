@@ -1,41 +1,12 @@
 // Questions about the mentions of a value.
 ghost use Rattle.std.specs.Prelude.{◌≡◌, ◌+◌, slice_index};
 ghost use Rattle.std.specs.Option.{option_copied};
-ghost use Rattle.profile_rules.specs.MemoryRules.{is_chain as is_chain_of};
-ghost use Rattle.use_chains.specs.Slots.{is_pure as is_pure_opcode, is_pure_class as is_pure_class_of};
-ghost use Rattle.hoist_plan.specs.Plan.{user as user_of, mention_block as mention_block_of, is_elsewhere_by, is_elsewhere as is_elsewhere_in, has_type as has_type_in, is_value as is_value_in, is_always_named as is_always_named_opcode, is_by_component as is_by_component_opcode, is_repeating as is_repeating_opcode, is_vector_choice as is_vector_choice_of, repeats_operands as repeats_operands_of, wants_by as wants_by_of, wants_variable as wants_variable_in, is_phi as is_phi_opcode, is_vector as is_vector_type, is_absolute as is_absolute_inst};
+ghost use Rattle.hoist_plan.specs.Plan.{user as user_of, mention_block as mention_block_of, is_elsewhere_by, is_elsewhere as is_elsewhere_in, has_type as has_type_in, is_value as is_value_in, is_always_named as is_always_named_opcode, is_named_other as is_named_other_opcode, is_by_component as is_by_component_opcode, is_repeating as is_repeating_opcode, is_vector_choice as is_vector_choice_of, repeats_operands as repeats_operands_of, wants_by as wants_by_of, wants_variable as wants_variable_in, is_vector as is_vector_type, is_absolute as is_absolute_inst};
 
 use spv_index::{Locals, type_in};
 use spv_module::{Function, Id, Inst, Module};
-use spv_ops::{OpClass, shape_of};
+use spv_ops::Op;
 use use_chains::SlotPlace;
-
-fn is_pure_class(class: OpClass) -> bool
-    ensures { result ≡ is_pure_class_of class }
-{
-    matches!(class, OpClass::Pure)
-}
-
-/// Whether an opcode is without effect.
-pub fn is_pure(op: u16) -> bool
-    ensures { result ≡ is_pure_opcode op }
-{
-    shape_of(op).map_or(false, |shape| is_pure_class(shape.class))
-}
-
-/// OpPhi.
-pub fn is_phi(op: u16) -> bool
-    ensures { result ≡ is_phi_opcode op }
-{
-    op == 245
-}
-
-/// OpAccessChain and OpInBoundsAccessChain.
-pub fn is_chain(inst: &Inst) -> bool
-    ensures { result ≡ is_chain_of inst.now }
-{
-    inst.op == 65 || inst.op == 66
-}
 
 /// The instruction that mentions a value at a place.
 pub fn user(f: &Function, at: SlotPlace) -> Option<&Inst>
@@ -62,7 +33,7 @@ fn label_behind(inst: &Inst, k: usize) -> u32
 fn mention_block(locals: &Locals, at: SlotPlace, inst: &Inst) -> usize
     ensures { result ≡ mention_block_of locals.now at inst.now }
 {
-    if is_phi(inst.op) {
+    if inst.op == Op::Phi {
         locals
             .block(label_behind(inst, at.arg as usize))
             .unwrap_or(at.block as usize)
@@ -89,7 +60,7 @@ pub fn is_elsewhere(locals: &Locals, block: usize, at: SlotPlace) -> bool
 }
 
 /// Whether a type is declared by this opcode.
-fn has_type(module: &Module, op: u16, ty: u32) -> bool
+fn has_type(module: &Module, op: Op, ty: u32) -> bool
     ensures { result ≡ has_type_in «module».now.globals op ty }
 {
     module.global(Id(ty)).map_or(false, |inst| inst.op == op)
@@ -99,48 +70,80 @@ fn has_type(module: &Module, op: u16, ty: u32) -> bool
 pub fn is_value(module: &Module, ty: u32) -> bool
     ensures { result ≡ is_value_in «module».now.globals ty }
 {
-    // OpTypeVoid and OpTypePointer
     match module.global(Id(ty)) {
-        Some(inst) => !(inst.op == 19 || inst.op == 32),
+        Some(inst) => !(inst.op == Op::TypeVoid || inst.op == Op::TypePointer),
         None => true,
     }
 }
 
-/// Operations whose results have variables: OpPhi, OpLoad, the atomic instructions, OpFunctionCall,
-/// OpVectorInsertDynamic and OpCompositeInsert.
-pub fn is_always_named(op: u16) -> bool
+/// Operations whose results have variables, beside the atomic instructions.
+fn is_named_other(op: Op) -> bool
+    ensures { result ≡ is_named_other_opcode op }
+{
+    matches!(
+        op,
+        Op::Phi | Op::Load | Op::FunctionCall | Op::VectorInsertDynamic | Op::CompositeInsert
+    )
+}
+
+/// Operations whose results have variables wherever they are live.
+pub fn is_always_named(op: Op) -> bool
     ensures { result ≡ is_always_named_opcode op }
 {
-    is_phi(op) || matches!(op, 61 | 227..=242 | 57 | 78 | 82)
+    op.is_atomic() || is_named_other(op)
 }
 
 /// Operations that are written component by component on vectors.
-fn is_by_component(op: u16) -> bool
+fn is_by_component(op: Op) -> bool
     ensures { result ≡ is_by_component_opcode op }
 {
-    matches!(op, 164..=168 | 170..=179 | 201..=205 | 12)
+    matches!(
+        op,
+        Op::LogicalEqual
+            | Op::LogicalNotEqual
+            | Op::LogicalOr
+            | Op::LogicalAnd
+            | Op::LogicalNot
+            | Op::IEqual
+            | Op::INotEqual
+            | Op::UGreaterThan
+            | Op::SGreaterThan
+            | Op::UGreaterThanEqual
+            | Op::SGreaterThanEqual
+            | Op::ULessThan
+            | Op::SLessThan
+            | Op::ULessThanEqual
+            | Op::SLessThanEqual
+            | Op::BitFieldInsert
+            | Op::BitFieldSExtract
+            | Op::BitFieldUExtract
+            | Op::BitReverse
+            | Op::BitCount
+            | Op::ExtInst
+    )
 }
 
-/// Operations that write an operand more than once, on scalars too: OpSDiv, OpSRem, OpSMod,
-/// OpVectorShuffle and OpCopyLogical.
-fn is_repeating(op: u16) -> bool
+/// Operations that write an operand more than once, on scalars too.
+fn is_repeating(op: Op) -> bool
     ensures { result ≡ is_repeating_opcode op }
 {
-    matches!(op, 135 | 138 | 139 | 79 | 400)
+    matches!(
+        op,
+        Op::SDiv | Op::SRem | Op::SMod | Op::VectorShuffle | Op::CopyLogical
+    )
 }
 
 fn is_vector(module: &Module, ty: u32) -> bool
     ensures { result ≡ is_vector_type «module».now.globals ty }
 {
-    // OpTypeVector
-    has_type(module, 23, ty)
+    has_type(module, Op::TypeVector, ty)
 }
 
 /// OpSelect by a vector of bools.
 fn is_vector_choice(module: &Module, locals: &Locals, inst: &Inst) -> bool
     ensures { result ≡ is_vector_choice_of «module».now.globals locals.now inst.now }
 {
-    inst.op == 169
+    inst.op == Op::Select
         && match type_in(module, locals, inst.operand(0)) {
             Some(ty) => is_vector(module, ty),
             None => false,
@@ -151,7 +154,7 @@ fn is_vector_choice(module: &Module, locals: &Locals, inst: &Inst) -> bool
 fn is_absolute(inst: &Inst) -> bool
     ensures { result ≡ is_absolute_inst inst.now }
 {
-    inst.op == 12 && inst.operand(1) == 5
+    inst.op == Op::ExtInst && inst.operand(1) == 5
 }
 
 /// Whether operands stand more than once in the expression of an instruction.
@@ -169,8 +172,8 @@ fn wants_by(module: &Module, locals: &Locals, block: usize, at: SlotPlace, inst:
     ensures { result ≡ wants_by_of «module».now.globals locals.now block at inst.now }
 {
     stands_elsewhere(locals, block, at, inst)
-        || is_phi(inst.op)
-        || is_chain(inst) && at.arg != 0
+        || inst.op == Op::Phi
+        || inst.op.is_chain() && at.arg != 0
         || repeats_operands(module, locals, inst)
 }
 

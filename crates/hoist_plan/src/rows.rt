@@ -3,7 +3,6 @@ ghost use Rattle.std.specs.Prelude.{◌≡◌, ◌==◌, not, ◌+◌, ◌*◌, 
 ghost use Rattle.hoist_plan.specs.Plan.{mentions_of, nothing, result_of, results_of_block, results as results_in, with_result};
 ghost use Rattle.hoist_plan.specs.Kept.{chains_among, chains_of, chains_of_block, chains_of_inst, known_in, placed, placed_chain, steps_of, AreRising};
 
-use crate::carried::is_chain_opcode;
 use crate::forms::{Forms, add_form};
 use crate::mentioned::Mentioned;
 use crate::row::{Chain, Row};
@@ -58,7 +57,7 @@ fn add_chain(
 ) -> Result<(), AllocError>
     ensures { OnOk result (map placed_chain chains.new.items ≡ map placed_chain chains.old.items ++ chains_among (placed places.now row ∷ [])) }
 {
-    if !is_chain_opcode(row.op) {
+    if !row.op.is_chain() {
         return Ok(());
     }
     let mentions = Mentioned::of(alloc, places)?;
