@@ -1,4 +1,4 @@
-use Rattle.std.proofs.Common.{Option, ◌≡◌, ◌∙◌, ◌+◌, ◌++◌, [], ◌∷◌, length, map, ap, sym, subst, arith, true}
+use Rattle.std.proofs.Common.{Option, ◌≡◌, ◌∙◌, ◌++◌, [], ◌∷◌, length, map, ap, sym, subst, arith, true}
 use Rattle.std.proofs.lemmas.List.{append_assoc}
 use Rattle.use_chains.specs.declared.slot.Slot.{Slot}
 use Rattle.use_chains.specs.Links.{chain, is_in_chain}
