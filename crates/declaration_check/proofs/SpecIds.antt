@@ -7,6 +7,9 @@ use Rattle.std.proofs.lemmas.List.{take_all}
 use Rattle.std.proofs.lemmas.List.Sums.{count_by_more_yes, count_by_more_no, sum_by-cons}
 use Rattle.spv_decor.proofs.First.{count_by_front}
 use Rattle.std.proofs.lemmas.Bool.Decides.{eqb_tells, nat_tests}
+use Rattle.spv_ops.specs.Enumerants.{decoration_number}
+use Rattle.spv_ops.specs.declared.Decoration.TheVariants as decoration
+use Rattle.spv_ops.specs.declared.Op.TheVariants as code
 use Rattle.spv_module.specs.State.{ModuleState}
 use Rattle.spv_module.specs.declared.inst.Inst.{Inst}
 use Rattle.spv_decor.specs.Rows.{value_of}
@@ -17,14 +20,14 @@ use Rattle.declaration_check.proofs.Listed.{contains_head, contains_tail}
 
 -- an instruction has this SpecId
 abbrev pub has_spec : List Inst → ℕ → Inst → Bool
-has_spec heads x h = option_map_or (λ t. x == t) (value_of heads h.result 1) false
+has_spec heads x h = option_map_or (λ t. x == t) (value_of heads h.result (decoration_number decoration.SpecId)) false
 
 pub record IsSeen (heads gs : List Inst) (i : ℕ) (seen : ℕ → Bool) : Type 0 where
   pub are : (x : ℕ) → seen x ≡ nat_le 1 (count_by (has_spec heads x) (take i gs))
   pub once : (x : ℕ) → count_by (has_spec heads x) (take i gs) ≤ 1
 
 module _ (heads gs : List Inst) (i : ℕ) (d : Inst) (seen : ℕ → Bool) (inside : i < length gs) (before : IsSeen heads gs i seen) where
-  pub seen_other : value_of heads (get_or gs i d).result 1 ≡ None → IsSeen heads gs (i + 1) seen
+  pub seen_other : value_of heads (get_or gs i d).result (decoration_number decoration.SpecId) ≡ None → IsSeen heads gs (i + 1) seen
   seen_other none =
       let same : (x : ℕ) → count_by (has_spec heads x) (take (i + 1) gs) ≡ count_by (has_spec heads x) (take i gs) =
       λ x. count_by_more_no (has_spec heads x) gs i d inside (ap (λ o. option_map_or (λ t. x == t) o false) none) in
@@ -33,7 +36,7 @@ module _ (heads gs : List Inst) (i : ℕ) (d : Inst) (seen : ℕ → Bool) (insi
         once = λ x. let e = same x in let b = before.once x in omega (arith, e, b);
       }
 
-  module _ (s : ℕ) (is : value_of heads (get_or gs i d).result 1 ≡ Some s) where
+  module _ (s : ℕ) (is : value_of heads (get_or gs i d).result (decoration_number decoration.SpecId) ≡ Some s) where
     has : (x : ℕ) → has_spec heads x (get_or gs i d) ≡ (x == s)
     has x = ap (λ o. option_map_or (λ t. x == t) o false) is
 
@@ -87,11 +90,11 @@ count_never (g ∷ gs) =
     omega (arith, step, later)
 
 -- by whether an instruction has a SpecId, how many share it
-shares : (heads gs : List Inst) (g : Inst) (o : Option ℕ) → value_of heads g.result 1 ≡ o → count_by (λ (h : Inst). is_same_spec heads g.result h.result) gs ≡ option_map_or (λ s. count_by (has_spec heads s) gs) o 0
+shares : (heads gs : List Inst) (g : Inst) (o : Option ℕ) → value_of heads g.result (decoration_number decoration.SpecId) ≡ o → count_by (λ (h : Inst). is_same_spec heads g.result h.result) gs ≡ option_map_or (λ s. count_by (has_spec heads s) gs) o 0
 shares heads gs g None is =
-    ap (λ o. count_by (λ (h : Inst). option_map_or (λ s. option_map_or (λ t. s == t) (value_of heads h.result 1) false) o false) gs) is ∙ count_never gs
+    ap (λ o. count_by (λ (h : Inst). option_map_or (λ s. option_map_or (λ t. s == t) (value_of heads h.result (decoration_number decoration.SpecId)) false) o false) gs) is ∙ count_never gs
 shares heads gs g (Some s) is =
-    ap (λ o. count_by (λ (h : Inst). option_map_or (λ s. option_map_or (λ t. s == t) (value_of heads h.result 1) false) o false) gs) is
+    ap (λ o. count_by (λ (h : Inst). option_map_or (λ s. option_map_or (λ t. s == t) (value_of heads h.result (decoration_number decoration.SpecId)) false) o false) gs) is
 
 at_most_one : (heads gs : List Inst) (o : Option ℕ) → ((x : ℕ) → count_by (has_spec heads x) gs ≤ 1) → option_map_or (λ s. count_by (has_spec heads s) gs) o 0 ≤ 1
 at_most_one heads gs None once = omega arith
@@ -101,7 +104,7 @@ never_shared : (n : ℕ) → n ≤ 1 → nat_le 2 n ≡ false
 never_shared n few = grind (arith, nat_tests, few)
 
 -- a SpecId that is there already is shared
-pub seen_twice : (m : ModuleState) (i : ℕ) (d : Inst) (seen : ℕ → Bool) (s : ℕ) → i < length m.globals → IsSeen m.heads m.globals i seen → value_of m.heads (get_or m.globals i d).result 1 ≡ Some s → seen s ≡ true → Contains (p20 m) (get_or m.globals i d).at
+pub seen_twice : (m : ModuleState) (i : ℕ) (d : Inst) (seen : ℕ → Bool) (s : ℕ) → i < length m.globals → IsSeen m.heads m.globals i seen → value_of m.heads (get_or m.globals i d).result (decoration_number decoration.SpecId) ≡ Some s → seen s ≡ true → Contains (p20 m) (get_or m.globals i d).at
 seen_twice m i d seen s inside before is there =
     let g : Inst = get_or m.globals i d in
     let own : has_spec m.heads s g ≡ (s == s) = ap (λ o. option_map_or (λ t. s == t) o false) is in
@@ -117,11 +120,11 @@ seen_twice m i d seen s inside before is there =
 -- where each is there once, none is shared
 pub seen_end : (m : ModuleState) (seen : ℕ → Bool) (n : ℕ) → length m.globals ≤ n → IsSeen m.heads m.globals n seen → p20 m ≡ []
 seen_end m seen n past done =
-    let none : Inst = record { op = 0; at = 0; ty = 0; result = 0; args = [] } in
+    let none : Inst = record { op = code.Nop; at = 0; ty = 0; result = 0; args = [] } in
     let whole : take n m.globals ≡ m.globals = take_all n m.globals past in
     let P : List Inst → Type 0 = λ gs. (x : ℕ) → count_by (has_spec m.heads x) gs ≤ 1 in
     let once : (x : ℕ) → count_by (has_spec m.heads x) m.globals ≤ 1 = subst P whole done.once in
     unlisted (is_shared m) m.globals none (λ i inside.
     let g : Inst = get_or m.globals i none in
-    let o : Option ℕ = value_of m.heads g.result 1 in
+    let o : Option ℕ = value_of m.heads g.result (decoration_number decoration.SpecId) in
     ap (nat_le 2) (shares m.heads m.globals g o refl) ∙ never_shared (option_map_or (λ s. count_by (has_spec m.heads s) m.globals) o 0) (at_most_one m.heads m.globals o once))

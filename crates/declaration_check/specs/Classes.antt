@@ -1,5 +1,7 @@
 -- Sets of storage classes, and what is kept of the uses of types.
 use Rattle.std.specs.Prelude.{ℕ, ◌≡◌, ◌==◌, not, Bool, true}
+use Rattle.spv_ops.specs.Enumerants.{class_number}
+use Rattle.spv_ops.specs.declared.StorageClass.TheVariants as storage
 use Rattle.spv_module.specs.State.{ModuleState}
 use Rattle.profile_rules.specs.Places.{is_among}
 use Rattle.profile_rules.specs.TypeForm.{is_other_than_block, pointees, block_misuses, runtime_misuses, other_types, is_held}
@@ -8,9 +10,9 @@ use Rattle.declaration_check.specs.declared.uses.Classes.TheVariants.{Any, Workg
 
 abbrev pub is_in : Classes → ℕ → Bool
 is_in Any = λ class. true
-is_in Workgroup = λ class. class == 4
-is_in OtherThanWorkgroup = λ class. not (class == 4)
-is_in OtherThanStorage = λ class. not (class == 12)
+is_in Workgroup = λ class. class == class_number storage.Workgroup
+is_in OtherThanWorkgroup = λ class. not (class == class_number storage.Workgroup)
+is_in OtherThanStorage = λ class. not (class == class_number storage.StorageBuffer)
 is_in OtherThanBlock = is_other_than_block
 
 -- the ids of the types that are used as no Block struct, and as no runtime array, may be
@@ -20,5 +22,5 @@ pub record AreMisuses (m : ModuleState) (blocks runtimes : ℕ → Bool) : Type 
 
 -- the ids of the types that Workgroup variables are or hold, and that other variables, constants and values do
 pub record AreHolders (m : ModuleState) (workgroup others : ℕ → Bool) : Type 0 where
-  pub by_workgroup : (id : ℕ) → workgroup id ≡ is_held m.globals (pointees m (λ class. class == 4)) id
+  pub by_workgroup : (id : ℕ) → workgroup id ≡ is_held m.globals (pointees m (λ class. class == class_number storage.Workgroup)) id
   pub by_others : (id : ℕ) → others id ≡ is_held m.globals (other_types m) id

@@ -6,6 +6,7 @@ ghost use Rattle.profile_rules.specs.DataRules.{IsRight};
 use crate::context::Context;
 use spv_decor::text_of;
 use spv_module::Inst;
+use spv_ops::Op;
 use spv_words::{Fault, Refusal, Rule};
 use std::alloc::{AllocError, Global};
 
@@ -13,7 +14,7 @@ use std::alloc::{AllocError, Global};
 fn is_meant(alloc: Global, name: Option<&str>, inst: &Inst) -> Result<bool, AllocError>
     ensures { IfOk result (λ is. is ≡ is_meant_row (option_map (λ n. n.now) name.entry) inst.now) }
 {
-    if inst.op != 15 {
+    if inst.op != Op::EntryPoint {
         return Ok(false);
     }
     let Some(name) = name else {

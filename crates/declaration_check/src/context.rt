@@ -11,12 +11,12 @@ ghost use Rattle.profile_rules.specs.TypeForm.{value_types as value_types_in};
 ghost use Rattle.declaration_check.specs.Kept.{inner_variables, variables_of};
 
 use crate::elsewhere::defined_elsewhere;
-use crate::kernel::is_type;
 use crate::rows::{Values, behind, values_of};
 use id_map::IdSet;
 use spv_decor::Decor;
 use spv_index::{Pointer, ValueTypes, pointer};
 use spv_module::{Function, Id, Inst, Module};
+use spv_ops::Decoration;
 use spv_words::Memory;
 use std::alloc::Global;
 use std::marker::Model;
@@ -136,7 +136,7 @@ impl<'a> Context<'a> {
         ensures { option_copied result ≡ type_row self.now.globals id }
     {
         let inst = self.global(id)?;
-        if is_type(inst.op) { Some(inst) } else { None }
+        if inst.op.is_type() { Some(inst) } else { None }
     }
 
     /// The literal of an id's decoration, or 0 where the decoration has none.
@@ -150,7 +150,9 @@ impl<'a> Context<'a> {
     pub fn is_block(&self, id: u32) -> bool
         ensures { result ≡ is_block self.now.heads id }
     {
-        self.decor.value(Id(id), 2).is_some()
+        self.decor
+            .value(Id(id), Decoration::Block.number())
+            .is_some()
     }
 
     /// Whether the id is that of an import, or is defined in or by a function.

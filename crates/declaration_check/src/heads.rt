@@ -9,6 +9,7 @@ use crate::context::Context;
 use crate::refusal::{refuse_at, refuse_if};
 use spv_decor::text_of;
 use spv_module::Inst;
+use spv_ops::{Capability, Op};
 use spv_words::{Fault, Rule};
 use std::alloc::{AllocError, Global};
 
@@ -16,7 +17,9 @@ use std::alloc::{AllocError, Global};
 fn is_other_capability(inst: &Inst) -> bool
     ensures { result ≡ is_other_capability_row inst.now }
 {
-    inst.op == 17 && !matches!(inst.operand(0), 0 | 1)
+    inst.op == Op::Capability
+        && !(inst.operand(0) == Capability::Matrix.number()
+            || inst.operand(0) == Capability::Shader.number())
 }
 
 fn first_other_capability<'a>(context: &Context<'a>) -> Option<&'a Inst>
@@ -46,7 +49,7 @@ fn is_known_set(name: &[u8]) -> bool
 fn is_other_import(alloc: Global, inst: &Inst) -> Result<bool, AllocError>
     ensures { IfOk result (λ other. other ≡ is_other_import_row inst.now) }
 {
-    if inst.op != 11 {
+    if inst.op != Op::ExtInstImport {
         return Ok(false);
     }
     let name = text_of(alloc, inst.args.as_slice())?;
@@ -80,7 +83,7 @@ pub fn check_imports(alloc: Global, context: &Context) -> Result<(), Fault>
 fn is_memory_model(inst: &Inst) -> bool
     ensures { result ≡ is_memory_model_row inst.now }
 {
-    inst.op == 14
+    inst.op == Op::MemoryModel
 }
 
 fn is_other_model(inst: &Inst) -> bool

@@ -4,21 +4,14 @@ ghost use Rattle.std.specs.Option.{option_copied, option_map_or};
 ghost use Rattle.std.specs.List.{list_any, list_all};
 ghost use Rattle.spv_module.specs.Held.{global};
 ghost use Rattle.spv_words.specs.declared.rule.Rule.TheVariants.{P8, P9};
-ghost use Rattle.profile_rules.specs.Places.{is_type as is_type_op};
 ghost use Rattle.profile_rules.specs.Entry.{is_result, is_called as is_called_row, function_of as function_in_list, is_no_kernel as is_no_kernel_row, is_mode_of as is_mode_of_row, is_local_size as is_local_size_row, is_local_size_id as is_local_size_id_row, is_other_mode as is_other_mode_row, is_bad_mode as is_bad_mode_row, is_size_composite as is_size_composite_row, has_no_size as has_no_size_in, p8_of, p9_of};
 ghost use Rattle.declaration_check.specs.Checked.{IsChecked};
 
 use crate::context::Context;
 use crate::refusal::{refuse_at, refuse_if};
 use spv_module::{Function, Inst};
+use spv_ops::{BuiltIn, Decoration, ExecutionMode, ExecutionModel, Op};
 use spv_words::{Fault, Rule};
-
-/// Whether an opcode declares a type.
-pub fn is_type(op: u16) -> bool
-    ensures { result ≡ is_type_op op }
-{
-    matches!(op, 19..=33)
-}
 
 /// Whether a function's result is of another type than void.
 fn has_result(context: &Context, function: &Function) -> bool
@@ -26,7 +19,7 @@ fn has_result(context: &Context, function: &Function) -> bool
 {
     context
         .global(function.result.0)
-        .map_or(false, |inst| is_type(inst.op) && inst.op != 19)
+        .map_or(false, |inst| inst.op.is_type() && inst.op != Op::TypeVoid)
 }
 
 /// Whether a function has parameters or a result.
@@ -59,7 +52,7 @@ fn is_no_entry(context: &Context, id: u32) -> bool
 fn is_no_kernel(context: &Context, entry: &Inst) -> bool
     ensures { result ≡ is_no_kernel_row context.now entry.now }
 {
-    entry.operand(0) != 5 || is_no_entry(context, entry.operand(1))
+    entry.operand(0) != ExecutionModel::GLCompute.number() || is_no_entry(context, entry.operand(1))
 }
 
 /// P8: the entry point is of another execution model than GLCompute, or its function is none or has
@@ -74,21 +67,25 @@ pub fn check_kernel(context: &Context, entry: &Inst) -> Result<(), Fault>
 fn is_mode_of(function: u32, inst: &Inst) -> bool
     ensures { result ≡ is_mode_of_row function inst.now }
 {
-    (inst.op == 16 || inst.op == 331) && inst.operand(0) == function
+    (inst.op == Op::ExecutionMode || inst.op == Op::ExecutionModeId) && inst.operand(0) == function
 }
 
 /// OpExecutionMode LocalSize of a function.
 pub fn is_local_size(function: u32, inst: &Inst) -> bool
     ensures { result ≡ is_local_size_row function inst.now }
 {
-    inst.op == 16 && inst.operand(0) == function && inst.operand(1) == 17
+    inst.op == Op::ExecutionMode
+        && inst.operand(0) == function
+        && inst.operand(1) == ExecutionMode::LocalSize.number()
 }
 
 /// OpExecutionModeId LocalSizeId of a function.
 pub fn is_local_size_id(function: u32, inst: &Inst) -> bool
     ensures { result ≡ is_local_size_id_row function inst.now }
 {
-    inst.op == 331 && inst.operand(0) == function && inst.operand(1) == 38
+    inst.op == Op::ExecutionModeId
+        && inst.operand(0) == function
+        && inst.operand(1) == ExecutionMode::LocalSizeId.number()
 }
 
 /// The operands of a mode.
@@ -168,10 +165,9 @@ fn first_bad_mode<'a>(
 pub fn is_size_composite(context: &Context, inst: &Inst) -> bool
     ensures { result ≡ is_size_composite_row context.now.heads inst.now }
 {
-    (inst.op == 44 || inst.op == 51)
-        && context
-            .value(inst.result, 11)
-            .map_or(false, |built_in| built_in == 25)
+    (inst.op == Op::ConstantComposite || inst.op == Op::SpecConstantComposite)
+        && context.value(inst.result, Decoration::BuiltIn.number())
+            == Some(BuiltIn::WorkgroupSize.number())
 }
 
 fn has_size_mode(context: &Context, function: u32) -> bool

@@ -2,6 +2,9 @@
 ghost use Rattle.std.specs.Prelude.{◌≡◌, ◌||◌, not, true, false, find, map, count_by, option_map, IfOk};
 ghost use Rattle.std.specs.Option.{option_copied, option_map_or};
 ghost use Rattle.spv_module.specs.Held.{global};
+ghost use Rattle.spv_ops.specs.Enumerants.{decoration_number};
+ghost use Rattle.spv_ops.specs.declared.Decoration.TheVariants as decoration;
+ghost use Rattle.spv_decor.specs.Rows.{value_of};
 ghost use Rattle.spv_words.specs.declared.rule.Rule.TheVariants.{P10};
 ghost use Rattle.profile_rules.specs.declared.size.SizePart.TheVariants.{Fixed};
 ghost use Rattle.profile_rules.specs.TypeRows.{type_row};
@@ -14,14 +17,22 @@ use crate::kernel::{is_local_size, is_local_size_id, is_size_composite, mode_ope
 use crate::refusal::refuse_at;
 use profile_rules::SizePart;
 use spv_module::Inst;
+use spv_ops::{Decoration, Op};
 use spv_words::{Fault, Memory, Rule};
 use std::alloc::{AllocError, Global};
+
+/// The SpecId of a constant.
+fn spec_id(context: &Context, id: u32) -> Option<u32>
+    ensures { result ≡ value_of context.now.heads id (decoration_number decoration.SpecId) }
+{
+    context.value(id, Decoration::SpecId.number())
+}
 
 /// Whether two ids have the same SpecId.
 fn is_same_spec(context: &Context, a: u32, b: u32) -> bool
     ensures { result ≡ is_same_spec_in context.now.heads a b }
 {
-    match (context.value(a, 1), context.value(b, 1)) {
+    match (spec_id(context, a), spec_id(context, b)) {
         (Some(first), Some(second)) => first == second,
         _ => false,
     }
@@ -31,7 +42,7 @@ fn is_same_spec(context: &Context, a: u32, b: u32) -> bool
 pub fn is_uint(inst: &Inst) -> bool
     ensures { result ≡ is_uint_row inst.now }
 {
-    inst.op == 21 && inst.operand(0) == 32 && inst.operand(1) == 0
+    inst.op == Op::TypeInt && inst.operand(0) == 32 && inst.operand(1) == 0
 }
 
 /// Whether an id is that of another type than uint.
@@ -45,14 +56,15 @@ fn is_no_uint(context: &Context, id: u32) -> bool
 pub fn is_no_uvec3(context: &Context, inst: &Inst) -> bool
     ensures { result ≡ is_no_uvec3_in context.now.globals inst.now }
 {
-    !(inst.op == 23 && inst.operand(1) == 3) || is_no_uint(context, inst.operand(0))
+    !(inst.op == Op::TypeVector && inst.operand(1) == 3) || is_no_uint(context, inst.operand(0))
 }
 
 /// Whether a global instruction is no OpConstant or OpSpecConstant of a uint above 0.
 fn is_no_size(context: &Context, inst: &Inst) -> bool
     ensures { result ≡ is_no_size_in context.now.globals inst.now }
 {
-    !((inst.op == 43 || inst.op == 50) && 0 < inst.operand(0)) || is_no_uint(context, inst.ty)
+    !((inst.op == Op::Constant || inst.op == Op::SpecConstant) && 0 < inst.operand(0))
+        || is_no_uint(context, inst.ty)
 }
 
 /// Whether an id is that of no such constant, where `missing` says so of one that nothing global has.
@@ -181,7 +193,7 @@ fn size_part(context: &Context, id: u32) -> SizePart
     ensures { result ≡ size_part_in context.now id }
 {
     let default = context.global(id).map_or(0, |inst| inst.operand(0));
-    match context.value(id, 1) {
+    match spec_id(context, id) {
         None => SizePart::Fixed(default),
         Some(id) => SizePart::Spec { id, default },
     }

@@ -7,6 +7,7 @@ ghost use Rattle.profile_rules.specs.TypeForm.{p20};
 ghost use Rattle.declaration_check.specs.Checked.{IsChecked};
 
 use crate::context::Context;
+use spv_ops::Decoration;
 use spv_words::{Fault, Refusal, Rule};
 use std::alloc::{AllocError, Global};
 use std::collections::BTreeSet;
@@ -25,7 +26,7 @@ pub fn check_spec_ids(alloc: Global, context: &Context) -> Result<(), Fault>
 {
     let mut seen = BTreeSet::new(alloc);
     for inst in context.globals() {
-        match context.value(inst.result, 1) {
+        match context.value(inst.result, Decoration::SpecId.number()) {
             None => {}
             Some(id) => {
                 if seen.contains(&id) {

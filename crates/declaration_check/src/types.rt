@@ -14,6 +14,7 @@ use crate::context::Context;
 use crate::refusal::refuse_at;
 use crate::uses::{Holders, Misuses, find_holders, find_misuses, parts_of};
 use spv_module::Inst;
+use spv_ops::{Op, StorageClass};
 use spv_words::{Fault, Rule};
 use std::alloc::Global;
 
@@ -22,8 +23,8 @@ fn is_misused(context: &Context, uses: &Misuses, inst: &Inst) -> bool
     requires { AreMisuses context.now (is_in uses.now.blocks) (is_in uses.now.runtimes) }
     ensures { result ≡ is_misused_in context.now inst.now }
 {
-    inst.op == 30 && context.is_block(inst.result) && uses.blocks.has(inst.result)
-        || inst.op == 29 && uses.runtimes.has(inst.result)
+    inst.op == Op::TypeStruct && context.is_block(inst.result) && uses.blocks.has(inst.result)
+        || inst.op == Op::TypeRuntimeArray && uses.runtimes.has(inst.result)
 }
 
 fn first_misused<'a>(context: &Context<'a>, uses: &Misuses) -> Option<&'a Inst>
@@ -50,7 +51,7 @@ pub fn check_uses(alloc: Global, context: &Context) -> Result<(), Fault>
 fn is_other_int(inst: &Inst) -> bool
     ensures { result ≡ is_other_int_row inst.now }
 {
-    inst.op == 21 && !(inst.operand(0) == 32 && inst.operand(1) <= 1)
+    inst.op == Op::TypeInt && !(inst.operand(0) == 32 && inst.operand(1) <= 1)
 }
 
 /// Whether an id is that of something else than OpTypeBool or OpTypeInt.
@@ -59,7 +60,7 @@ fn is_no_scalar(context: &Context, id: u32) -> bool
 {
     match context.global(id) {
         None => context.is_defined_elsewhere(id),
-        Some(inst) => !(inst.op == 20 || inst.op == 21),
+        Some(inst) => !(inst.op == Op::TypeBool || inst.op == Op::TypeInt),
     }
 }
 
@@ -67,7 +68,7 @@ fn is_no_scalar(context: &Context, id: u32) -> bool
 fn is_other_vector(context: &Context, inst: &Inst) -> bool
     ensures { result ≡ is_other_vector_in context.now inst.now }
 {
-    inst.op == 23
+    inst.op == Op::TypeVector
         && (!(2 <= inst.operand(1) && inst.operand(1) <= 4)
             || is_no_scalar(context, inst.operand(0)))
 }
@@ -76,9 +77,7 @@ fn is_other_vector(context: &Context, inst: &Inst) -> bool
 fn is_signed(context: &Context, id: u32) -> bool
     ensures { result ≡ is_signed_in context.now.globals id }
 {
-    context
-        .global(id)
-        .map_or(false, |inst| inst.op == 21 && inst.operand(1) == 1)
+    context.global(id).map_or(false, |inst| inst.op == Op::TypeInt && inst.operand(1) == 1)
 }
 
 /// Whether OpConstant is above 0.
@@ -95,7 +94,7 @@ fn is_no_int(context: &Context, constant: &Inst) -> bool
 {
     context
         .global(constant.ty)
-        .map_or(false, |inst| inst.op != 21)
+        .map_or(false, |inst| inst.op != Op::TypeInt)
 }
 
 /// Whether a specialization constant may be the length of an array: it is an int, a Workgroup variable
@@ -112,10 +111,10 @@ fn is_length(context: &Context, holders: &Holders, array: u32, constant: &Inst) 
     requires { AreHolders context.now (is_in holders.now.workgroup) (is_in holders.now.others) }
     ensures { result ≡ is_length_in context.now array constant.now }
 {
-    if constant.op == 43 {
+    if constant.op == Op::Constant {
         is_above_zero(context, constant)
     } else {
-        matches!(constant.op, 48..=52) && is_workgroup_length(context, holders, constant, array)
+        constant.op.is_specialization() && is_workgroup_length(context, holders, constant, array)
     }
 }
 
@@ -135,23 +134,26 @@ fn is_other_array(context: &Context, holders: &Holders, inst: &Inst) -> bool
     requires { AreHolders context.now (is_in holders.now.workgroup) (is_in holders.now.others) }
     ensures { result ≡ is_other_array_in context.now inst.now }
 {
-    inst.op == 28 && is_no_length(context, holders, inst.result, inst.operand(1))
+    inst.op == Op::TypeArray && is_no_length(context, holders, inst.result, inst.operand(1))
 }
 
 /// OpTypeStruct without members.
 fn is_empty_struct(inst: &Inst) -> bool
     ensures { result ≡ is_empty_struct_row inst.now }
 {
-    inst.op == 30 && inst.args.is_empty()
+    inst.op == Op::TypeStruct && inst.args.is_empty()
 }
 
 /// Whether a type is void, a pointer or a function.
 fn is_no_data(context: &Context, id: u32) -> bool
     ensures { result ≡ is_no_data_in context.now.globals id }
 {
-    context
-        .global(id)
-        .map_or(false, |inst| matches!(inst.op, 19 | 32 | 33))
+    match context.global(id) {
+        None => false,
+        Some(inst) => inst.op == Op::TypeVoid
+            || inst.op == Op::TypePointer
+            || inst.op == Op::TypeFunction,
+    }
 }
 
 /// Whether a part of an array or struct is void, a pointer or a function.
@@ -198,14 +200,14 @@ pub fn check_form(alloc: Global, context: &Context) -> Result<(), Fault>
 fn is_other_pointer(context: &Context, inst: &Inst) -> bool
     ensures { result ≡ is_other_pointer_in context.now.globals inst.now }
 {
-    inst.op == 32 && is_no_data(context, inst.operand(1))
+    inst.op == Op::TypePointer && is_no_data(context, inst.operand(1))
 }
 
 /// Whether a pointer type is of another class than Function, or to no value type.
 fn is_no_variable(context: &Context, inst: &Inst) -> bool
     ensures { result ≡ is_no_variable_in context.now.heads context.now.globals inst.now }
 {
-    inst.operand(0) != 7 || context.is_no_value_type(inst.operand(1))
+    inst.operand(0) != StorageClass::Function.number() || context.is_no_value_type(inst.operand(1))
 }
 
 /// Whether a parameter is neither of a value type nor a Function pointer to one.
@@ -215,7 +217,7 @@ fn is_other_parameter(context: &Context, id: u32) -> bool
     match context.global(id) {
         None => false,
         Some(inst) => {
-            if inst.op == 32 {
+            if inst.op == Op::TypePointer {
                 is_no_variable(context, inst)
             } else {
                 context.is_no_value_type(id)
@@ -230,7 +232,7 @@ fn is_other_result(context: &Context, id: u32) -> bool
 {
     match context.global(id) {
         None => false,
-        Some(inst) => inst.op != 19 && context.is_no_value_type(id),
+        Some(inst) => inst.op != Op::TypeVoid && context.is_no_value_type(id),
     }
 }
 
@@ -253,7 +255,7 @@ fn has_other_parameter(context: &Context, inst: &Inst) -> bool
 fn is_other_function(context: &Context, inst: &Inst) -> bool
     ensures { result ≡ is_other_function_in context.now.heads context.now.globals inst.now }
 {
-    inst.op == 33
+    inst.op == Op::TypeFunction
         && (is_other_result(context, inst.operand(0)) || has_other_parameter(context, inst))
 }
 

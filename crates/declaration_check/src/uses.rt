@@ -1,8 +1,8 @@
 // What the types of a module are used for.
-ghost use Rattle.std.specs.Prelude.{◌≡◌, ◌==◌, ◌++◌, ◌∷◌, ◌||◌, ℕ, ◌-◌, ◌&&◌, length, take, map, flat_map, filter_map, IfOk, OnOk};
+ghost use Rattle.std.specs.Prelude.{◌≡◌, ◌==◌, ◌++◌, ◌∷◌, ◌||◌, ℕ, ◌-◌, ◌&&◌, not, length, take, map, flat_map, filter_map, IfOk, OnOk};
 ghost use Rattle.id_map.specs.Entries.{is_in as has_id};
 ghost use Rattle.profile_rules.specs.Places.{is_among};
-ghost use Rattle.profile_rules.specs.TypeForm.{parts_of as parts_in, pointee_by as pointee_of, pointees as pointees_in, signature, signature_types as signature_types_in, is_storage_block as is_storage_block_in, fixed_parts as fixed_parts_in, is_held};
+ghost use Rattle.profile_rules.specs.TypeForm.{parts_of as parts_in, pointee_by as pointee_of, pointees as pointees_in, signature, signature_types as signature_types_in, is_other_than_block, is_storage_block as is_storage_block_in, fixed_parts as fixed_parts_in, is_held};
 ghost use Rattle.declaration_check.specs.Kept.{variables_of};
 ghost use Rattle.declaration_check.specs.Classes.{is_in, AreMisuses, AreHolders};
 
@@ -10,6 +10,7 @@ use crate::context::Context;
 use crate::variables::is_variable;
 use id_map::IdSet;
 use spv_module::{Function, Id, Inst};
+use spv_ops::{Op, StorageClass};
 use std::alloc::{AllocError, Global};
 
 /// Sets of storage classes: all; Workgroup; all but Workgroup; all but StorageBuffer; all but Uniform,
@@ -23,15 +24,24 @@ pub enum Classes {
     OtherThanBlock,
 }
 
+/// Uniform, StorageBuffer and PushConstant.
+fn is_block_class(class: u32) -> bool
+    ensures { not result ≡ is_other_than_block class }
+{
+    class == StorageClass::Uniform.number()
+        || class == StorageClass::StorageBuffer.number()
+        || class == StorageClass::PushConstant.number()
+}
+
 fn includes(classes: Classes, class: u32) -> bool
     ensures { result ≡ is_in classes class }
 {
     match classes {
         Classes::Any => true,
-        Classes::Workgroup => class == 4,
-        Classes::OtherThanWorkgroup => class != 4,
-        Classes::OtherThanStorage => class != 12,
-        Classes::OtherThanBlock => !matches!(class, 2 | 9 | 12),
+        Classes::Workgroup => class == StorageClass::Workgroup.number(),
+        Classes::OtherThanWorkgroup => class != StorageClass::Workgroup.number(),
+        Classes::OtherThanStorage => class != StorageClass::StorageBuffer.number(),
+        Classes::OtherThanBlock => !is_block_class(class),
     }
 }
 
@@ -109,10 +119,8 @@ pub fn parts_of(inst: &Inst) -> &[u32]
 {
     let args = inst.args.as_slice();
     match inst.op {
-        // OpTypeArray, OpTypeRuntimeArray
-        28 | 29 => first(args),
-        // OpTypeStruct
-        30 => args,
+        Op::TypeArray | Op::TypeRuntimeArray => first(args),
+        Op::TypeStruct => args,
         _ => &[],
     }
 }
@@ -187,7 +195,7 @@ fn fixed_parts<'a>(context: &Context, others: &IdSet, inst: &'a Inst) -> &'a [u3
     requires { (id : ℕ) → has_id others.now id ≡ is_among (pointees_in context.now (is_in Classes.OtherThanStorage)) id }
     ensures { result.now ≡ fixed_parts_in context.now inst.now }
 {
-    if inst.op == 30 && is_storage_block(context, others, inst) {
+    if inst.op == Op::TypeStruct && is_storage_block(context, others, inst) {
         all_but_last(inst.args.as_slice())
     } else {
         parts_of(inst)

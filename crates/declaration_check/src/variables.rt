@@ -1,11 +1,13 @@
 // The rules on variables.
-ghost use Rattle.std.specs.Prelude.{◌≡◌, ◌==◌, ◌||◌, not, false, true, find, map, count_by};
+ghost use Rattle.std.specs.Prelude.{◌≡◌, ◌==◌, ◌||◌, not, false, true, is_some, find, map, count_by};
 ghost use Rattle.std.specs.Option.{option_copied, option_map_or};
 ghost use Rattle.spv_module.specs.Held.{global};
 ghost use Rattle.spv_index.specs.Pointers.{storage_class};
 ghost use Rattle.spv_decor.specs.Rows.{value_of};
+ghost use Rattle.spv_ops.specs.Enumerants.{decoration_number};
+ghost use Rattle.spv_ops.specs.declared.Decoration.TheVariants as decoration;
 ghost use Rattle.spv_words.specs.declared.rule.Rule.TheVariants.{P13, P14, P15, P16};
-ghost use Rattle.profile_rules.specs.Places.{is_among, is_constant as is_constant_op, is_variable as is_variable_row};
+ghost use Rattle.profile_rules.specs.Places.{is_among, is_variable as is_variable_row};
 ghost use Rattle.profile_rules.specs.Variables.{classes, is_other_class as is_other_class_in, is_misclassed as is_misclassed_in, is_pointee, pointed_type as pointed_type_in, inputs, is_other_input_type as is_other_input_type_in, is_other_input as is_other_input_in, is_buffer as is_buffer_row, is_push as is_push_row, is_no_block as is_no_block_in, is_unbound as is_unbound_in, is_other_block as is_other_block_in, is_of_other_type as is_of_other_type_in, is_other_value as is_other_value_in, is_other_initializer as is_other_initializer_in, p13, p14, p15, p16};
 ghost use Rattle.declaration_check.specs.Checked.{IsChecked};
 ghost use Rattle.declaration_check.specs.Kept.{inner_variables, variables_of};
@@ -14,13 +16,14 @@ use crate::context::Context;
 use crate::refusal::refuse_at;
 use crate::size::{is_no_uvec3, is_uint};
 use spv_module::Inst;
+use spv_ops::{BuiltIn, Decoration, Op, StorageClass};
 use spv_words::{Fault, Rule};
 
 /// OpVariable.
 pub fn is_variable(inst: &Inst) -> bool
     ensures { result ≡ is_variable_row inst.now }
 {
-    inst.op == 59
+    inst.op == Op::Variable
 }
 
 /// Input, Uniform, Workgroup, Private, Function, PushConstant and StorageBuffer (SPIR-V 1.6, section
@@ -28,7 +31,7 @@ pub fn is_variable(inst: &Inst) -> bool
 fn is_class(class: u32) -> bool
     ensures { result ≡ is_among classes class }
 {
-    matches!(class, 1 | 2 | 4 | 6 | 7 | 9 | 12)
+    StorageClass::of(class).is_some()
 }
 
 /// Whether a type is a pointer of another class.
@@ -52,7 +55,7 @@ fn is_other_class(context: &Context, variable: &Inst) -> bool
 fn is_misclassed(context: &Context, inside: bool, inst: &Inst) -> bool
     ensures { result ≡ is_misclassed_in inside context.now.globals inst.now }
 {
-    let is_function = inst.operand(0) == 7;
+    let is_function = inst.operand(0) == StorageClass::Function.number();
     is_variable(inst)
         && (is_other_class(context, inst) || if inside { !is_function } else { is_function })
 }
@@ -92,14 +95,17 @@ pub fn check_classes(context: &Context) -> Result<(), Fault>
 fn is_input(built_in: u32) -> bool
     ensures { result ≡ is_among inputs built_in }
 {
-    matches!(built_in, 24 | 26..=29)
+    match BuiltIn::of(built_in) {
+        None | Some(BuiltIn::WorkgroupSize) => false,
+        Some(_) => true,
+    }
 }
 
 /// Whether a type is no uvec3, or for LocalInvocationIndex no uint.
 fn is_other_input_type(context: &Context, built_in: u32, inst: &Inst) -> bool
     ensures { result ≡ is_other_input_type_in context.now.globals built_in inst.now }
 {
-    if built_in == 29 {
+    if built_in == BuiltIn::LocalInvocationIndex.number() {
         !is_uint(inst)
     } else {
         is_no_uvec3(context, inst)
@@ -125,9 +131,9 @@ fn is_mistyped_input(context: &Context, built_in: u32, variable: &Inst) -> bool
 
 /// Whether an Input variable is of none of these built-ins.
 fn is_no_input(context: &Context, variable: &Inst) -> bool
-    ensures { result ≡ option_map_or (λ b. not (is_among inputs b) || is_pointee context.now.globals (is_other_input_type_in context.now.globals b) variable.now) (value_of context.now.heads variable.now.result 11) true }
+    ensures { result ≡ option_map_or (λ b. not (is_among inputs b) || is_pointee context.now.globals (is_other_input_type_in context.now.globals b) variable.now) (value_of context.now.heads variable.now.result (decoration_number decoration.BuiltIn)) true }
 {
-    match context.value(variable.result, 11) {
+    match context.value(variable.result, Decoration::BuiltIn.number()) {
         None => true,
         Some(built_in) => !is_input(built_in) || is_mistyped_input(context, built_in, variable),
     }
@@ -137,7 +143,9 @@ fn is_no_input(context: &Context, variable: &Inst) -> bool
 fn is_other_input(context: &Context, inst: &Inst) -> bool
     ensures { result ≡ is_other_input_in context.now.heads context.now.globals inst.now }
 {
-    is_variable(inst) && inst.operand(0) == 1 && is_no_input(context, inst)
+    is_variable(inst)
+        && inst.operand(0) == StorageClass::Input.number()
+        && is_no_input(context, inst)
 }
 
 #[tactic(auto, using(crate::proofs::Finds::behind_rules))]
@@ -164,14 +172,15 @@ pub fn check_inputs(context: &Context) -> Result<(), Fault>
 fn is_buffer(variable: &Inst) -> bool
     ensures { result ≡ is_buffer_row variable.now }
 {
-    matches!(variable.operand(0), 2 | 12)
+    variable.operand(0) == StorageClass::Uniform.number()
+        || variable.operand(0) == StorageClass::StorageBuffer.number()
 }
 
 /// A variable of class PushConstant.
 fn is_push(inst: &Inst) -> bool
     ensures { result ≡ is_push_row inst.now }
 {
-    is_variable(inst) && inst.operand(0) == 9
+    is_variable(inst) && inst.operand(0) == StorageClass::PushConstant.number()
 }
 
 /// Whether a variable points to another type than a struct decorated Block.
@@ -180,15 +189,22 @@ fn points_to_no_block(context: &Context, variable: &Inst) -> bool
 {
     match pointed_type(context, variable.ty) {
         None => false,
-        Some(inst) => !(inst.op == 30 && context.is_block(inst.result)),
+        Some(inst) => !(inst.op == Op::TypeStruct && context.is_block(inst.result)),
     }
+}
+
+fn has_decoration(context: &Context, variable: &Inst, wanted: Decoration) -> bool
+    ensures { result ≡ is_some (value_of context.now.heads variable.now.result (decoration_number wanted)) }
+{
+    context.value(variable.result, wanted.number()).is_some()
 }
 
 /// Whether a variable lacks DescriptorSet or Binding.
 fn is_unbound(context: &Context, variable: &Inst) -> bool
     ensures { result ≡ is_unbound_in context.now.heads variable.now }
 {
-    !(context.value(variable.result, 34).is_some() && context.value(variable.result, 33).is_some())
+    !(has_decoration(context, variable, Decoration::DescriptorSet)
+        && has_decoration(context, variable, Decoration::Binding))
 }
 
 /// Whether this is a Uniform, StorageBuffer or PushConstant variable that points to no Block struct, or
@@ -245,13 +261,6 @@ pub fn check_blocks(context: &Context) -> Result<(), Fault>
     refuse_at(Rule::P15, block_fault(context))
 }
 
-/// Whether an opcode makes a constant; OpUndef outside functions counts as one.
-fn is_constant(op: u16) -> bool
-    ensures { result ≡ is_constant_op op }
-{
-    matches!(op, 1 | 41..=52)
-}
-
 /// Whether a constant is of another type than a variable points to.
 fn is_of_other_type(context: &Context, variable: &Inst, constant: &Inst) -> bool
     ensures { result ≡ is_of_other_type_in context.now.globals variable.now constant.now }
@@ -267,7 +276,7 @@ fn is_other_value(context: &Context, variable: &Inst, id: u32) -> bool
 {
     match context.global(id) {
         None => context.is_defined_elsewhere(id),
-        Some(inst) => !is_constant(inst.op) || is_of_other_type(context, variable, inst),
+        Some(inst) => !inst.op.is_constant() || is_of_other_type(context, variable, inst),
     }
 }
 
@@ -278,7 +287,9 @@ fn is_other_initializer(context: &Context, inst: &Inst) -> bool
 {
     is_variable(inst)
         && 1 < inst.args.len()
-        && (!matches!(inst.operand(0), 6 | 7) || is_other_value(context, inst, inst.operand(1)))
+        && (!(inst.operand(0) == StorageClass::Function.number()
+            || inst.operand(0) == StorageClass::Private.number())
+            || is_other_value(context, inst, inst.operand(1)))
 }
 
 #[tactic(auto, using(crate::proofs::Finds::behind_rules))]

@@ -2,6 +2,8 @@ use Rattle.std.proofs.Common.{arith, rules, ◌≡◌, ◌<◌, ◌≤◌, ℕ, 
 use Rattle.std.specs.Prelude.{Contains}
 use Rattle.std.specs.BTreeSet.{contains}
 use Rattle.std.specs.Ordering.{nat_cmp}
+use Rattle.spv_ops.specs.Enumerants.{decoration_number}
+use Rattle.spv_ops.specs.declared.Decoration.TheVariants as decoration
 use Rattle.spv_module.specs.State.{ModuleState}
 use Rattle.spv_module.specs.declared.inst.Inst.{Inst}
 use Rattle.spv_decor.specs.Rows.{value_of}
@@ -18,13 +20,13 @@ loop-inst-preserved c =
     let d : Inst = c.inst-item.result in
     let inside : i < length gs = omega arith in
     let is : d ≡ get_or gs i d = c.inst-item.is in
-    let value : c.value.result ≡ value_of heads (get_or gs i d).result 1 = cc in
+    let value : c.value.result ≡ value_of heads (get_or gs i d).result (decoration_number decoration.SpecId) = cc in
     elim c.match-value.branch [
       | in-None w ↦
-          let none : value_of heads (get_or gs i d).result 1 ≡ None = cc in
+          let none : value_of heads (get_or gs i d).result (decoration_number decoration.SpecId) ≡ None = cc in
           rw w.seen-is (seen_other heads gs i d (contains nat_cmp c.loop-inst.seen) inside c.loop-inst.invariant none)
       | in-Some+else-contains+in_ok-add_id-in-Some w ↦
-          let own : value_of heads (get_or gs i d).result 1 ≡ Some w.in-Some.id = cc in
+          let own : value_of heads (get_or gs i d).result (decoration_number decoration.SpecId) ≡ Some w.in-Some.id = cc in
           let fresh : contains nat_cmp c.loop-inst.seen w.in-Some.id ≡ false = search rules in
           rw w.seen-is (seen_new heads gs i d (contains nat_cmp c.loop-inst.seen) inside c.loop-inst.invariant w.in-Some.id own (contains nat_cmp w.add_id.new.ids) fresh w.in_ok-add_id-in-Some.ensures)
     ]
@@ -39,7 +41,7 @@ returns-then-contains c =
     let is : d ≡ get_or m.globals i d = cc in
     let inside : i < length m.globals = (let P : List Inst → Type 0 = λ l. i < length l in subst P same (omega arith)) in
     let before : IsSeen m.heads m.globals i (contains nat_cmp c.loop-inst.seen) = (let P : List Inst → Type 0 = λ l. IsSeen m.heads l i (contains nat_cmp c.loop-inst.seen) in subst P same c.loop-inst.invariant) in
-    let own : value_of m.heads (get_or m.globals i d).result 1 ≡ Some c.in-Some.id = cc in
+    let own : value_of m.heads (get_or m.globals i d).result (decoration_number decoration.SpecId) ≡ Some c.in-Some.id = cc in
     let there : contains nat_cmp c.loop-inst.seen c.in-Some.id ≡ true = search rules in
     let at = seen_twice m i d (contains nat_cmp c.loop-inst.seen) c.in-Some.id inside before own there in
     let P : Inst → Type 0 = λ x. Contains (p20 m) x.at in
