@@ -1,5 +1,8 @@
 -- The expression of an operation on shapes at most 15 deep is at most 40 higher than the highest of its operands.
 use Rattle.std.proofs.Common.{◌≡◌, ℕ, zero, suc, ◌+◌, ◌*◌, ◌≤◌, Bool as Truth, true, false, List, [], ◌∷◌, ◌++◌, Option, Some, None, Result, Ok, Err, IfOk, max, map, arith, sym, subst, nat_lt, ◌==◌, ◌-◌, if◌then◌else◌}
+use Rattle.spv_ops.specs.Opcode.{is as is_code}
+use Rattle.spv_ops.specs.declared.Op.{Op}
+use Rattle.spv_ops.specs.declared.Op.TheVariants as code
 use Rattle.spv_module.specs.declared.tree.Elem.{Elem}
 use Rattle.spv_module.specs.declared.tree.Length.{Length}
 use Rattle.spv_module.specs.declared.tree.Length.TheVariants.{Fixed, Spec}
@@ -240,11 +243,11 @@ copied_from-le : (names : Naming) (t : Tree) (xs : List Argument) → depth t �
 copied_from-le names t xs deep =
     within-le _ _ _ (copied-le names t (first_of xs).shape (first_of xs).of) (omega (arith, way-le t, first_of-le xs))
 
-copy_by-le : (names : Naming) (o : ℕ) (t : Tree) (xs : List Argument) → depth t ≤ 15 → height (copy_by names o t xs) ≤ 40 + highest_argument xs
+copy_by-le : (names : Naming) (o : Op) (t : Tree) (xs : List Argument) → depth t ≤ 15 → height (copy_by names o t xs) ≤ 40 + highest_argument xs
 copy_by-le names o t xs deep =
-    choice-le (o == 400) (copied_from names t xs) (on_arguments op.Copy t xs) (40 + highest_argument xs) (copied_from-le names t xs deep) (basic-le op.Copy (basic_type t) xs)
+    choice-le (is_code o code.CopyLogical) (copied_from names t xs) (on_arguments op.Copy t xs) (40 + highest_argument xs) (copied_from-le names t xs deep) (basic-le op.Copy (basic_type t) xs)
 
-written-le : (names : Naming) (o : ℕ) (operation : Operation) (t : Tree) (is : List ℕ) (xs : List Argument) → depth t ≤ 15 → deepest_argument xs ≤ 15 → height (written names o operation t is xs) ≤ 40 + highest_argument xs
+written-le : (names : Naming) (o : Op) (operation : Operation) (t : Tree) (is : List ℕ) (xs : List Argument) → depth t ≤ 15 → deepest_argument xs ≤ 15 → height (written names o operation t is xs) ≤ 40 + highest_argument xs
 written-le names o op.CompositeConstruct t is xs deep deeper = constructed-le names t xs
 written-le names o op.CompositeExtract t is xs deep deeper = extracted_from-le names is xs deeper
 written-le names o op.VectorExtractDynamic t is xs deep deeper = extracted_at-le xs
@@ -266,16 +269,16 @@ written-le names o op.Undef t is xs deep deeper = basic-le op.Undef (basic_type 
 written-le names o op.VectorInsertDynamic t is xs deep deeper = basic-le op.VectorInsertDynamic (basic_type t) xs
 written-le names o op.CompositeInsert t is xs deep deeper = basic-le op.CompositeInsert (basic_type t) xs
 
-found-le : (names : Naming) (o : ℕ) (found : Option Operation) (t : Tree) (is : List ℕ) (xs : List Argument) → depth t ≤ 15 → deepest_argument xs ≤ 15 → height (written_if_any names o found t is xs) ≤ 40 + highest_argument xs
+found-le : (names : Naming) (o : Op) (found : Option Operation) (t : Tree) (is : List ℕ) (xs : List Argument) → depth t ≤ 15 → deepest_argument xs ≤ 15 → height (written_if_any names o found t is xs) ≤ 40 + highest_argument xs
 found-le names o None t is xs deep deeper = omega arith
 found-le names o (Some f) t is xs deep deeper = written-le names o f t is xs deep deeper
 
 -- the law
-pub height-lowered_vector : (names : Naming) (o ext : ℕ) (t : Tree) (is : List ℕ) (xs : List Argument) → depth t ≤ 15 → deepest_argument xs ≤ 15 → height (lowered_vector names o ext t is xs) ≤ 40 + highest_argument xs
+pub height-lowered_vector : (names : Naming) (o : Op) (ext : ℕ) (t : Tree) (is : List ℕ) (xs : List Argument) → depth t ≤ 15 → deepest_argument xs ≤ 15 → height (lowered_vector names o ext t is xs) ≤ 40 + highest_argument xs
 height-lowered_vector names o ext t is xs deep deeper = found-le names o (operation_of o (ext ∷ [])) t is xs deep deeper
 
 -- the same of a call's answer
-pub height-result : (r : Result Code Memory) (names : Naming) (o ext : ℕ) (t : Tree) (is : List ℕ) (xs : List Argument) → IfOk r (λ e. expr_of e ≡ lowered_vector names o ext t is xs) → IfOk r (λ e. depth t ≤ 15 → deepest_argument xs ≤ 15 → height (expr_of e) ≤ 40 + highest_argument xs)
+pub height-result : (r : Result Code Memory) (names : Naming) (o : Op) (ext : ℕ) (t : Tree) (is : List ℕ) (xs : List Argument) → IfOk r (λ e. expr_of e ≡ lowered_vector names o ext t is xs) → IfOk r (λ e. depth t ≤ 15 → deepest_argument xs ≤ 15 → height (expr_of e) ≤ 40 + highest_argument xs)
 height-result (Ok e) names o ext t is xs same = λ deep deeper.
     let P : Expr → Type 0 = λ x. height x ≤ 40 + highest_argument xs in
     subst P (sym same) (height-lowered_vector names o ext t is xs deep deeper)

@@ -1,5 +1,6 @@
 -- An operation that is one operator is written so, on scalars and on vectors.
 use Rattle.std.proofs.Common.{◌≡◌, ℕ, List, [], ◌∷◌, Option, Some, None, IfSome, subst, refl}
+use Rattle.spv_ops.specs.declared.Op.{Op}
 use Rattle.spv_types.specs.Tree.{Tree}
 use Rattle.glsl_ast.specs.Tree.{Expr}
 use Rattle.op_semantics.specs.Value.{operation_of}
@@ -60,7 +61,7 @@ compared cmp.SLessThan e None a b = refl
 compared cmp.ULessThanEqual e None a b = refl
 compared cmp.SLessThanEqual e None a b = refl
 
-by_operation : (names : Naming) (opcode : ℕ) (o : Operation) (t : Tree) (literals : List ℕ) (x y : Argument) →
+by_operation : (names : Naming) (opcode : Op) (o : Operation) (t : Tree) (literals : List ℕ) (x y : Argument) →
     IfSome (operator_of o (basic_type t)) (λ f. written names opcode o t literals (x ∷ y ∷ []) ≡ operated f (basic_type t) (operand x) (operand y))
 by_operation names opcode (op.Unary o) t literals x y = tt
 by_operation names opcode (op.Binary o) t literals x y = arithmetic o (basic_type t) (operand x) (operand y)
@@ -83,13 +84,13 @@ by_operation names opcode op.CompositeConstruct t literals x y = tt
 by_operation names opcode op.CompositeExtract t literals x y = tt
 by_operation names opcode op.CompositeInsert t literals x y = tt
 
-if_any : (names : Naming) (opcode : ℕ) (found : Option Operation) (t : Tree) (literals : List ℕ) (x y : Argument) →
+if_any : (names : Naming) (opcode : Op) (found : Option Operation) (t : Tree) (literals : List ℕ) (x y : Argument) →
     IfSome (operator_if_any found (basic_type t)) (λ f. written_if_any names opcode found t literals (x ∷ y ∷ []) ≡ operated f (basic_type t) (operand x) (operand y))
 if_any names opcode (Some o) t literals x y = by_operation names opcode o t literals x y
 if_any names opcode None t literals x y = tt
 
 -- the law: an instruction on two operands that has an operator is that operator over them
-pub lowered_with : (names : Naming) (opcode : ℕ) (t : Tree) (literals : List ℕ) (x y : Argument) (f : Operator) →
+pub lowered_with : (names : Naming) (opcode : Op) (t : Tree) (literals : List ℕ) (x y : Argument) (f : Operator) →
     operator_if_any (operation_of opcode (0 ∷ [])) (basic_type t) ≡ Some f →
     lowered_vector names opcode 0 t literals (x ∷ y ∷ []) ≡ operated f (basic_type t) (operand x) (operand y)
 lowered_with names opcode t literals x y f is =

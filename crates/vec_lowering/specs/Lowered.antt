@@ -1,5 +1,8 @@
 -- The expression of each operation on scalars, vectors and composites.
-use Rattle.std.specs.Prelude.{ℕ, ◌==◌, List, [], ◌∷◌, map, Option, Some, None, if◌then◌else◌}
+use Rattle.std.specs.Prelude.{ℕ, List, [], ◌∷◌, map, Option, Some, None, if◌then◌else◌}
+use Rattle.spv_ops.specs.Opcode.{is}
+use Rattle.spv_ops.specs.declared.Op.{Op}
+use Rattle.spv_ops.specs.declared.Op.TheVariants as code
 use Rattle.spv_types.specs.Tree.{Tree}
 use Rattle.glsl_ast.specs.Tree.{Expr}
 use Rattle.op_semantics.specs.Value.{operation_of}
@@ -29,14 +32,14 @@ abbrev pub on_arguments : Operation → Tree → List Argument → Expr
 on_arguments o t xs = on_basic o (basic_type t) (map operand xs)
 
 -- OpCopyLogical makes a value of another type part by part; OpCopyObject and OpBitcast do not
-abbrev pub copy_by : Naming → ℕ → Tree → List Argument → Expr
+abbrev pub copy_by : Naming → Op → Tree → List Argument → Expr
 copy_by names opcode t xs =
-    if opcode == 400
+    if is opcode code.CopyLogical
     then copied_from names t xs
     else on_arguments op.Copy t xs
 
 -- the expression of an operation, from the shape of its result, its literals and its operands in order
-abbrev pub written : Naming → ℕ → Operation → Tree → List ℕ → List Argument → Expr
+abbrev pub written : Naming → Op → Operation → Tree → List ℕ → List Argument → Expr
 written names opcode op.CompositeConstruct t literals xs = constructed names t xs
 written names opcode op.CompositeExtract t literals xs = extracted_from names literals xs
 written names opcode op.VectorExtractDynamic t literals xs = extracted_at xs
@@ -44,10 +47,10 @@ written names opcode op.VectorShuffle t literals xs = shuffled_of names t litera
 written names opcode op.Copy t literals xs = copy_by names opcode t xs
 written names opcode o t literals xs = on_arguments o t xs
 
-abbrev pub written_if_any : Naming → ℕ → Option Operation → Tree → List ℕ → List Argument → Expr
+abbrev pub written_if_any : Naming → Op → Option Operation → Tree → List ℕ → List Argument → Expr
 written_if_any names opcode (Some o) t literals xs = written names opcode o t literals xs
 written_if_any names opcode None t literals xs = zero (basic_type t)
 
 -- the same by opcode and, of OpExtInst, by the number in GLSL.std.450
-abbrev pub lowered_vector : Naming → ℕ → ℕ → Tree → List ℕ → List Argument → Expr
+abbrev pub lowered_vector : Naming → Op → ℕ → Tree → List ℕ → List Argument → Expr
 lowered_vector names opcode ext t literals xs = written_if_any names opcode (operation_of opcode (ext ∷ [])) t literals xs

@@ -16,11 +16,9 @@ use int_lowering::{Arg, basic_type, literal, operation};
 use name_alloc::Names;
 use op_semantics::Operation;
 use spv_module::Shape;
+use spv_ops::Op;
 use spv_words::Memory;
 use std::alloc::Global;
-
-// OpCopyLogical
-const COPY_LOGICAL: u16 = 400;
 
 /// A component of a vector by an index that is computed.
 fn extract_at(alloc: Global, args: Vec<Arg>) -> Result<Expr, Memory>
@@ -88,14 +86,14 @@ fn on_arguments(
 /// OpCopyLogical, OpCopyObject or OpBitcast.
 fn copy_by(
     alloc: Global,
-    op: u16,
+    op: Op,
     shape: &Shape,
     operands: Vec<Arg>,
     names: &Names,
 ) -> Result<Expr, Memory>
     ensures { IfOk result (λ e. expr_of e ≡ lowered.copy_by (naming_of names.now) op (tree_of shape.now) (map argument_of operands.items)) }
 {
-    if op == COPY_LOGICAL {
+    if op == Op::CopyLogical {
         copy_first(alloc, names, shape, operands)
     } else {
         on_arguments(alloc, Operation::Copy, shape, operands)
@@ -106,7 +104,7 @@ fn copy_by(
 #[inline(always)]
 fn write_operation(
     alloc: Global,
-    op: u16,
+    op: Op,
     operation: Operation,
     shape: &Shape,
     operands: Vec<Arg>,
@@ -142,7 +140,7 @@ fn write_operation(
 /// The expression of an opcode's operation, or a zero where it has none.
 fn write_opcode(
     alloc: Global,
-    op: u16,
+    op: Op,
     ext: u32,
     shape: &Shape,
     operands: Vec<Arg>,
@@ -168,7 +166,7 @@ fn write_opcode(
 #[inline(always)]
 pub fn lower_vector(
     alloc: Global,
-    op: u16,
+    op: Op,
     ext: u32,
     shape: Shape,
     operands: Vec<Arg>,

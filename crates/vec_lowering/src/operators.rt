@@ -5,6 +5,7 @@ ghost use Rattle.vec_lowering.specs.Operators as operators;
 
 use int_lowering::{BasicType, Operator, arithmetic_operator, comparison_operator, operation};
 use op_semantics::Operation;
+use spv_ops::Op;
 
 /// The operator that an operation is written with, by the type of its result.
 #[inline(always)]
@@ -24,7 +25,7 @@ fn operator_of(operation: Operation, ty: BasicType) -> Option<Operator>
 /// The operator that `lower_vector` writes an instruction on two operands with, by its opcode and the type of its result: that of
 /// OpIAdd to OpIMul, OpUDiv, OpUMod, a shift, a bitwise operation, or of scalars a comparison by order. There is none exactly of
 /// any other instruction.
-pub fn operator(op: u16, ty: BasicType) -> Option<Operator>
+pub fn operator(op: Op, ty: BasicType) -> Option<Operator>
     ensures { result ≡ operators.operator_if_any (operation_by op (0 ∷ [])) ty }
 {
     operator_of(operation(op, 0)?, ty)
