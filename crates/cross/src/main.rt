@@ -1,18 +1,8 @@
 // The program: reads a SPIR-V module from standard input, and writes its GLSL, or what else is asked of it, to standard output.
 #![tactic(auto)]
 
-mod answers;
-mod commands;
-mod endings;
-mod modules;
-mod notes;
-mod summaries;
-#[cfg(test)]
-mod tests;
-mod top;
-
 use cc_outside::{StdSink, StdSource};
-use endings::Ending;
+use cross_core::{Ending, say};
 use std::alloc::{AllocError, Global};
 use std::process::ExitCode;
 use std::{env, io};
@@ -42,7 +32,7 @@ fn status_of(rt: &HostRuntime) -> Result<u8, io::Error> {
     let mut input = StdSource::new(rt.stdin());
     let mut output = StdSink::new(rt.stdout());
     let mut notes = StdSink::new(rt.stderr());
-    Ok(top::cross(rt.alloc(), &words, &mut input, &mut output, &mut notes))
+    Ok(cross_core::cross(rt.alloc(), &words, &mut input, &mut output, &mut notes))
 }
 
 /// How a process ends whose words could not be had.
@@ -58,7 +48,7 @@ fn main(rt: HostRuntime) -> ExitCode {
         Ok(status) => ExitCode::from(status),
         Err(error) => {
             let ending = ending_of(&error);
-            notes::say(ending, &mut StdSink::new(rt.stderr()));
+            say(ending, &mut StdSink::new(rt.stderr()));
             ExitCode::from(ending.status())
         }
     }

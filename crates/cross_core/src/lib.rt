@@ -1,0 +1,16 @@
+// The top call: carries out a command line over a source and two sinks.
+#![tactic(auto)]
+
+mod answers;
+mod commands;
+mod endings;
+mod modules;
+mod notes;
+mod summaries;
+#[cfg(test)]
+mod tests;
+mod top;
+
+pub use endings::Ending;
+pub use notes::say;
+pub use top::cross;

@@ -1,0 +1,8 @@
+#version 460
+layout(local_size_x = 128, local_size_y = 1, local_size_z = 1) in;
+shared uint[128] v30;
+void main() {
+    uint v18 = gl_GlobalInvocationID.x;
+    v30[v18] = v18;
+    return;
+}
