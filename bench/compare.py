@@ -22,7 +22,7 @@ import statistics
 import time
 
 TOP = os.path.dirname(os.path.dirname(os.path.abspath(__file__)))
-CROSS = os.environ.get("CROSS", os.path.join(TOP, "crates", "cross_core", "out", "cross_core"))
+CROSS = os.environ.get("CROSS", os.path.join(TOP, "crates", "cross", "out", "cross"))
 # The commands of the peers; the module's path is their last word.
 PEERS = {"glsl": ["spirv-cross", "--version", "460", "--vulkan-semantics"], "check": ["spirv-val", "--target-env", "vulkan1.3"]}
 GNU_TIME = "/usr/bin/time"

@@ -7,8 +7,6 @@ mod endings;
 mod modules;
 mod notes;
 mod summaries;
-#[cfg(test)]
-mod tests;
 mod top;
 
 pub use endings::Ending;

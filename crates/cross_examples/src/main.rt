@@ -4,6 +4,8 @@
 
 mod cases;
 mod outcomes;
+#[cfg(test)]
+mod tests;
 
 use cases::{Case, case_of, input_of, words_of};
 use outcomes::{Outcome, outcome_of};
