@@ -1,10 +1,12 @@
 // What a command came to, over memory.
 ghost use Rattle.std.specs.Prelude.{◌≡◌, ◌++◌, codes};
 ghost use Rattle.std.specs.Bool.{OnTrue};
+ghost use Rattle.std.specs.Fmt.{decimal};
 ghost use Rattle.cross_examples.specs.Lines.{notes_of};
 
 use cc_outside::{SteadySink, SteadySource};
 use cross_core::cross;
+use itoa::Buffer;
 use std::alloc::Global;
 
 /// The status of a command, and what it wrote to its output and to its notes.
@@ -26,6 +28,13 @@ pub fn outcome_of(alloc: Global, words: &[&str], input: Vec<u8>) -> Outcome {
         output,
         notes,
     }
+}
+
+/// Whether a word is this status.
+fn is_status(word: &str, status: u8) -> bool
+    ensures { OnTrue result (word.now ≡ decimal status) }
+{
+    Buffer::new().format(status) == word
 }
 
 /// Whether notes are this line.
@@ -52,10 +61,11 @@ fn are_notes(notes: &[u8], line: &str) -> bool
 impl Outcome {
     /// Whether it has this status, output and line.
     pub fn is_as(&self, status: &str, output: &[u8], line: &str) -> bool
+        ensures status { OnTrue result (status.now ≡ decimal self.now.status) }
         ensures output { OnTrue result (self.now.output.0 ≡ output.now) }
         ensures notes { OnTrue result (self.now.notes.0 ≡ notes_of line.now) }
     {
-        status.parse() == Ok(self.status)
+        is_status(status, self.status)
             && self.output.bytes() == output
             && are_notes(self.notes.bytes(), line)
     }

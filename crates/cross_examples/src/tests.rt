@@ -57,7 +57,12 @@ fn ends_at_faults(rt: HostRuntime) -> Result<(), Fail> {
 fn leaves_a_front_of_the_text(rt: HostRuntime) -> Result<(), Fail> {
     let alloc = rt.alloc();
     let module = generate(alloc, 1000).ok().ok_or("no memory")?;
-    let whole = ended(alloc, &["glsl"], module.as_slice().to_vec(alloc)?, [&[], &[], &[]])?;
+    let whole = ended(
+        alloc,
+        &["glsl"],
+        module.as_slice().to_vec(alloc)?,
+        [&[], &[], &[]],
+    )?;
     let front = ended(alloc, &["glsl"], module, [&[], &[1], &[]])?;
     assert_eq!(rt; (whole.status, front.status), (0, 5));
     assert_eq!(rt; front.output.len(), 4096);
