@@ -2,6 +2,7 @@
 use sample_modules::{changed, module_of};
 use spv_decor::{Decor, text_of};
 use spv_module::Id;
+use spv_ops::Decoration;
 use spv_words::{Fault, Rule};
 use std::test::Fail;
 
@@ -22,13 +23,24 @@ fn names_and_decorations(rt: HostRuntime) -> Result<(), Fail> {
     assert_eq!(rt; decor.name(Id(5)), None);
     assert_eq!(rt; decor.member_name(Id(3), 1), Some(b"k".as_slice()));
     assert_eq!(rt; decor.member_name(Id(3), 0), None);
-    // those of ids: DescriptorSet, Block
-    for (id, decoration, value) in [(5, 34, Some(7)), (3, 2, Some(0)), (5, 2, None)] {
-        assert_eq!(rt; decor.value(Id(id), decoration), value);
+    let of_ids = [
+        (5, Decoration::DescriptorSet, Some(7)),
+        (3, Decoration::Block, Some(0)),
+        (5, Decoration::Block, None),
+    ];
+    for (id, decoration, value) in of_ids {
+        assert_eq!(rt; decor.value(Id(id), decoration.number()), value);
     }
-    // those of members: Offset, NonWritable
-    for (member, decoration, value) in [(1, 35, Some(4)), (0, 24, Some(0)), (0, 35, None)] {
-        assert_eq!(rt; decor.member_value(Id(3), member, decoration), value);
+    let of_members = [
+        (1, Decoration::Offset, Some(4)),
+        (0, Decoration::NonWritable, Some(0)),
+        (0, Decoration::Offset, None),
+    ];
+    for (member, decoration, value) in of_members {
+        assert_eq!(rt;
+            decor.member_value(Id(3), member, decoration.number()),
+            value
+        );
     }
     assert_eq!(rt;
         text_of(rt.alloc(), &[0x6261])?.as_slice(),

@@ -2,6 +2,7 @@
 use sample_modules::module_of;
 use spv_index::{Functions, Locals, Pointer, ValueTypes, global_type, pointer, type_in};
 use spv_module::Id;
+use spv_ops::{Op, StorageClass};
 use std::test::Fail;
 
 // %8 Block; %1 void, %2 uint, %3 runtime array of uint, %4 pointer Function uint, %5 function from a
@@ -21,7 +22,7 @@ fn ids_of_a_module(rt: HostRuntime) -> Result<(), Fail> {
     assert_eq!(rt; functions.get(Id(9)), Some(0));
     assert_eq!(rt; functions.get(Id(10)), None);
     let to_uint = Pointer {
-        class: 7,
+        class: StorageClass::Function.number(),
         pointee: Id(2),
     };
     assert_eq!(rt; pointer(&module, Id(4)), Some(to_uint));
@@ -42,7 +43,7 @@ fn ids_of_a_function(rt: HostRuntime) -> Result<(), Fail> {
     let locals = Locals::of(rt.alloc(), function)?;
     assert_eq!(rt; locals.function().id, Id(9));
     let load = locals.inst(14).ok_or("no load")?;
-    assert_eq!(rt; (load.op, load.at), (61, 53));
+    assert_eq!(rt; (load.op, load.at), (Op::Load, 53));
     assert!(rt; locals.inst(10).is_none());
     assert_eq!(rt; locals.parameter(10), Some(Id(4)));
     assert_eq!(rt; locals.parameter(12), None);

@@ -1,6 +1,7 @@
 // The lists of a compute shader that adds 1 to each element of a buffer, and edits of it.
 use sample_modules::{INCREMENT, module_of};
 use spv_module::{Id, Seq};
+use spv_ops::Op;
 use spv_words::{Fault, Refusal, Rule};
 use std::test::Fail;
 
@@ -25,18 +26,13 @@ fn lists_of_a_shader(rt: HostRuntime) -> Result<(), Fail> {
         (Id(16), 102, 7)
     );
     let add = block.insts.as_slice().get(4).ok_or("no addition")?;
+    assert_eq!(rt; add.op, Op::IAdd);
     assert_eq!(rt;
-        [
-            u32::from(add.op),
-            add.at,
-            add.ty,
-            add.result,
-            add.operand(1)
-        ],
-        [128, 123, 8, 21, 15]
+        [add.at, add.ty, add.result, add.operand(1)],
+        [123, 8, 21, 15]
     );
     let buffer = module.global(Id(5)).ok_or("no buffer")?;
-    assert_eq!(rt; [u32::from(buffer.op), buffer.at], [59, 81]);
+    assert_eq!(rt; (buffer.op, buffer.at), (Op::Variable, 81));
     assert!(rt; module.global(Id(1)).is_none(), "a function is no global");
     Ok(())
 }

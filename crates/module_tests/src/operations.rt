@@ -3,15 +3,19 @@ use op_semantics::{
     Binary, Comparison, Logical, Operation, Unary, binary_word, compare_words,
     extended_operation_of, logical_truth, operation_of, unary_word,
 };
+use spv_ops::Op;
 use std::test::Fail;
 
 #[test]
 fn operations_by_their_opcodes(rt: HostRuntime) -> Result<(), Fail> {
     let rows = [
-        (135, Some(Operation::Binary(Binary::SDiv))),
-        (179, Some(Operation::Comparison(Comparison::SLessThanEqual))),
-        (400, Some(Operation::Copy)),
-        (12, None),
+        (Op::SDiv, Some(Operation::Binary(Binary::SDiv))),
+        (
+            Op::SLessThanEqual,
+            Some(Operation::Comparison(Comparison::SLessThanEqual)),
+        ),
+        (Op::CopyLogical, Some(Operation::Copy)),
+        (Op::ExtInst, None),
     ];
     for (opcode, wanted) in &rows {
         assert_eq!(rt; operation_of(*opcode), *wanted);

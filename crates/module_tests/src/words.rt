@@ -1,5 +1,6 @@
 // What is read of a small compute shader, and which rules changes of it break.
 use sample_modules::{INCREMENT, bytes_of, changed};
+use spv_ops::Op;
 use spv_words::{Fault, Limit, Memory, Refusal, Rule, Words, first_zero};
 use std::alloc::{AllocError, Global};
 use std::test::Fail;
@@ -29,7 +30,7 @@ fn reads_a_module_in_either_byte_order(rt: HostRuntime) -> Result<(), Fail> {
         assert!(rt; words.count() == 34);
         let entry = words.at(2);
         assert!(rt; entry.len == 6);
-        assert_eq!(rt; (entry.opcode, entry.start), (15, 10));
+        assert_eq!(rt; (entry.opcode, entry.start), (Op::EntryPoint.number(), 10));
         assert_eq!(rt; words.operand(2, 3), 0x6E69616D);
         let name = words
             .text(rt.alloc(), 2, 3)
