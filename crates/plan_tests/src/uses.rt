@@ -3,6 +3,7 @@ ghost use Rattle.std.specs.Prelude.{◌≡◌};
 
 use spv_index::Locals;
 use spv_module::{Args, Block, Function, Id, Inst, Seq};
+use spv_ops::Op;
 use spv_words::Memory;
 use std::alloc::{AllocError, Global};
 use std::marker::Brand;
@@ -11,58 +12,68 @@ use std::test::Fail;
 use use_chains::{Slot, SlotPlace, Steps, Uses};
 
 // an opcode, a result and operand words
-type Row = (u16, u32, &'static [u32]);
+type Row = (Op, u32, &'static [u32]);
 
 // a loop that counts a variable up
 static COUNTED: [(u32, &'static [Row]); 6] = [
-    (16, &[(59, 30, &[7]), (62, 0, &[30, 14]), (249, 0, &[31])]),
-    (31, &[(246, 0, &[35, 34, 0]), (249, 0, &[32])]),
+    (
+        16,
+        &[
+            (Op::Variable, 30, &[7]),
+            (Op::Store, 0, &[30, 14]),
+            (Op::Branch, 0, &[31]),
+        ],
+    ),
+    (
+        31,
+        &[(Op::LoopMerge, 0, &[35, 34, 0]), (Op::Branch, 0, &[32])],
+    ),
     (
         32,
         &[
-            (61, 40, &[30]),
-            (176, 41, &[40, 24]),
-            (250, 0, &[41, 33, 35]),
+            (Op::Load, 40, &[30]),
+            (Op::ULessThan, 41, &[40, 24]),
+            (Op::BranchConditional, 0, &[41, 33, 35]),
         ],
     ),
     (
         33,
         &[
-            (61, 42, &[30]),
-            (61, 43, &[30]),
-            (65, 44, &[5, 14, 42]),
-            (62, 0, &[44, 43]),
-            (249, 0, &[34]),
+            (Op::Load, 42, &[30]),
+            (Op::Load, 43, &[30]),
+            (Op::AccessChain, 44, &[5, 14, 42]),
+            (Op::Store, 0, &[44, 43]),
+            (Op::Branch, 0, &[34]),
         ],
     ),
     (
         34,
         &[
-            (61, 45, &[30]),
-            (128, 46, &[45, 26]),
-            (62, 0, &[30, 46]),
-            (249, 0, &[31]),
+            (Op::Load, 45, &[30]),
+            (Op::IAdd, 46, &[45, 26]),
+            (Op::Store, 0, &[30, 46]),
+            (Op::Branch, 0, &[31]),
         ],
     ),
-    (35, &[(253, 0, &[])]),
+    (35, &[(Op::Return, 0, &[])]),
 ];
 
 // a loop with a phi that is used, and one that only itself and a sum mention
 static PHIS: [(u32, &'static [Row]); 3] = [
-    (16, &[(249, 0, &[31])]),
+    (16, &[(Op::Branch, 0, &[31])]),
     (
         31,
         &[
-            (245, 41, &[14, 16, 43, 31]),
-            (245, 42, &[14, 16, 45, 31]),
-            (128, 43, &[41, 15]),
-            (128, 45, &[42, 15]),
-            (176, 44, &[43, 24]),
-            (246, 0, &[35, 31, 0]),
-            (250, 0, &[44, 31, 35]),
+            (Op::Phi, 41, &[14, 16, 43, 31]),
+            (Op::Phi, 42, &[14, 16, 45, 31]),
+            (Op::IAdd, 43, &[41, 15]),
+            (Op::IAdd, 45, &[42, 15]),
+            (Op::ULessThan, 44, &[43, 24]),
+            (Op::LoopMerge, 0, &[35, 31, 0]),
+            (Op::BranchConditional, 0, &[44, 31, 35]),
         ],
     ),
-    (35, &[(253, 0, &[])]),
+    (35, &[(Op::Return, 0, &[])]),
 ];
 
 fn inst(alloc: Global, row: Row) -> Result<Inst, AllocError> {
