@@ -1,6 +1,8 @@
 -- What is measured of a type by a layout. Sizes are counted up to 2 ^ 32.
 use Rattle.std.specs.Prelude.{ℕ, ◌≡◌, ◌+◌, ◌<◌, ◌≤◌, ◌||◌, List, Option, is_none, min, max, nat_lt}
 use Rattle.spv_words.specs.declared.rule.Rule.TheVariants.{L1, L2, L3, L6, L7}
+use Rattle.spv_ops.specs.Enumerants.{decoration_number}
+use Rattle.spv_ops.specs.declared.Decoration.TheVariants as decoration
 use Rattle.spv_module.specs.declared.inst.Inst.{Inst}
 use Rattle.spv_types.specs.Tree.{Tree, Trees}
 use Rattle.spv_decor.specs.Rows.{value_of}
@@ -50,7 +52,7 @@ pub record IsMeasureOfStride (heads gs : List Inst) (kind : Kind) (id : ℕ) (t 
   pub positive : 0 < m.alignment
   pub small : m.alignment ≤ 16
   pub l1 : m.lacks_offset ≡ any_part (breaks heads kind L1) gs (part_id gs id 0) t
-  pub l2 : m.other_stride ≡ (is_not (value_of heads id 6) (stride_over kind t) || any_part (breaks heads kind L2) gs (part_id gs id 0) t)
+  pub l2 : m.other_stride ≡ (is_not (value_of heads id (decoration_number decoration.ArrayStride)) (stride_over kind t) || any_part (breaks heads kind L2) gs (part_id gs id 0) t)
   pub l3 : m.has_bool ≡ any_part (breaks heads kind L3) gs (part_id gs id 0) t
   pub l6 : m.other_offset ≡ any_part (breaks heads kind L6) gs (part_id gs id 0) t
   pub l7 : m.ends_past ≡ (is_past (stride_over kind t) || any_part (breaks heads kind L7) gs (part_id gs id 0) t)

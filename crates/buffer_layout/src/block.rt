@@ -13,23 +13,18 @@ use layout_rules::Kind;
 use spv_decor::Decor;
 use spv_index::pointer;
 use spv_module::{Id, Inst, Module};
+use spv_ops::{Op, StorageClass};
 use spv_types::shape;
 use spv_words::{Fault, Refusal, Rule};
 use std::alloc::Global;
 
-/// The storage class Uniform (SPIR-V 1.6, section 3.7).
-pub const UNIFORM: u32 = 2;
-
-/// The storage class PushConstant (SPIR-V 1.6, section 3.7).
-pub const PUSH_CONSTANT: u32 = 9;
-
-/// The storage class StorageBuffer (SPIR-V 1.6, section 3.7).
-pub const STORAGE_BUFFER: u32 = 12;
-
+/// Uniform, PushConstant and StorageBuffer (SPIR-V 1.6, section 3.7).
 fn is_block_class(class: u32) -> bool
     ensures { result ≡ is_block_class_number class }
 {
-    matches!(class, UNIFORM | PUSH_CONSTANT | STORAGE_BUFFER)
+    class == StorageClass::Uniform.number()
+        || class == StorageClass::PushConstant.number()
+        || class == StorageClass::StorageBuffer.number()
 }
 
 /// The struct (OpTypeStruct) that a block variable points to, and `None` exactly where the
@@ -38,11 +33,15 @@ fn is_block_class(class: u32) -> bool
 pub fn block_of<'a>(module: &'a Module, inst: &Inst) -> Option<&'a Inst>
     ensures { option_copied result ≡ block_in «module».now.globals inst.now }
 {
-    if inst.op != 59 || !is_block_class(inst.operand(0)) {
+    if inst.op != Op::Variable || !is_block_class(inst.operand(0)) {
         return None;
     }
     let block = module.global(pointer(module, Id(inst.ty))?.pointee)?;
-    if block.op == 30 { Some(block) } else { None }
+    if block.op == Op::TypeStruct {
+        Some(block)
+    } else {
+        None
+    }
 }
 
 /// The id is a block variable: an OpVariable of class Uniform, PushConstant or StorageBuffer that
@@ -60,7 +59,7 @@ pub fn is_block_variable(module: &Module, id: Id) -> bool
 fn first_kind(class: u32) -> Kind
     ensures { result ≡ first_kind_of class }
 {
-    if class == UNIFORM {
+    if class == StorageClass::Uniform.number() {
         Kind::Std140
     } else {
         Kind::Std430

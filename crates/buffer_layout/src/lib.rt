@@ -10,7 +10,7 @@ mod plan;
 mod sizes;
 mod types;
 
-pub use block::{PUSH_CONSTANT, STORAGE_BUFFER, UNIFORM, block_of, check_block, is_block_variable};
+pub use block::{block_of, check_block, is_block_variable};
 pub use layout_rules::Kind;
 pub use plan::{BlockPlan, Layout};
 pub use types::layout;
