@@ -7,16 +7,14 @@ ghost use Rattle.call_order.specs.Graph.{AreBelow, AreCallersOf, call_at, calls_
 use crate::graph::Call;
 use spv_index::Functions;
 use spv_module::{Function, Id, Inst};
+use spv_ops::Op;
 use spv_words::Memory;
 use std::alloc::Global;
-
-// OpFunctionCall
-const CALL: u16 = 57;
 
 fn is_call(inst: &Inst) -> bool
     ensures { result ≡ is_call_of inst.now }
 {
-    inst.op == CALL
+    inst.op == Op::FunctionCall
 }
 
 /// The id of the function that a call calls.
