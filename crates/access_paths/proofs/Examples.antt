@@ -1,5 +1,7 @@
 -- The definitions, computed on a small function.
 use Rattle.std.proofs.Common.{◌≡◌, ℕ, List, [], ◌∷◌, true, false, refl, map}
+use Rattle.spv_ops.specs.Enumerants.{class_number}
+use Rattle.spv_ops.specs.declared.StorageClass.TheVariants as storage
 use Rattle.spv_ops.specs.Opcode.{number}
 use Rattle.spv_ops.specs.declared.Op.{Op}
 use Rattle.spv_ops.specs.declared.Op.TheVariants as code
@@ -13,12 +15,16 @@ use Rattle.access_paths.specs.Ways.{Way, path, captured_indexes, is_constant_ind
 abbrev made : Op → ℕ → ℕ → List ℕ → Inst
 made o ty result args = record { op = o; at = 0; ty = ty; result = result; args = args }
 
+-- the operands of a pointer type into a storage buffer
+abbrev in_buffer : ℕ → List ℕ
+in_buffer ty = class_number storage.StorageBuffer ∷ ty ∷ []
+
 -- %1 uint, %2 the constant 0, %3 the constant 1, %4 an OpUndef, %5 a specialization constant, %6 a struct of two uint, %7 an array of %6, %8 a struct of %7, pointers %9 to %8, %10 to %7, %11 to %6, %12 to uint; the variable %13 of type %9
 abbrev globals : List Inst
 globals =
     made code.TypeInt 0 1 (32 ∷ 0 ∷ []) ∷ made code.Constant 1 2 (0 ∷ []) ∷ made code.Constant 1 3 (1 ∷ []) ∷ made code.Undef 1 4 [] ∷ made code.SpecConstant 1 5 (3 ∷ []) ∷ made code.TypeStruct 0 6 (1 ∷ 1 ∷ []) ∷
-    made code.TypeArray 0 7 (6 ∷ 3 ∷ []) ∷ made code.TypeStruct 0 8 (7 ∷ []) ∷ made code.TypePointer 0 9 (12 ∷ 8 ∷ []) ∷ made code.TypePointer 0 10 (12 ∷ 7 ∷ []) ∷ made code.TypePointer 0 11 (12 ∷ 6 ∷ []) ∷
-    made code.TypePointer 0 12 (12 ∷ 1 ∷ []) ∷ made code.Variable 9 13 (12 ∷ []) ∷ []
+    made code.TypeArray 0 7 (6 ∷ 3 ∷ []) ∷ made code.TypeStruct 0 8 (7 ∷ []) ∷ made code.TypePointer 0 9 (in_buffer 8) ∷ made code.TypePointer 0 10 (in_buffer 7) ∷ made code.TypePointer 0 11 (in_buffer 6) ∷
+    made code.TypePointer 0 12 (in_buffer 1) ∷ made code.Variable 9 13 (class_number storage.StorageBuffer ∷ []) ∷ []
 
 -- block %20: a load %21 through %22, an element %23 of %13, the same %24 and a member %25 of it; block %30: a member %31 of %23, an OpUndef %32 and an element %33 by it, elements %34 and %35 by constants, a chain %36 based on itself; a pointer parameter %22, and a member %37 of it by no constant
 abbrev function : Function

@@ -1,5 +1,7 @@
 -- Forms and carried chains, computed on small functions.
 use Rattle.std.specs.Prelude.{ℕ, zero, suc, ◌+◌, ◌≡◌, true, false, List, [], ◌∷◌, map, refl}
+use Rattle.spv_ops.specs.Enumerants.{class_number}
+use Rattle.spv_ops.specs.declared.StorageClass.TheVariants as storage
 use Rattle.spv_ops.specs.Opcode.{number}
 use Rattle.spv_ops.specs.declared.Op.{Op}
 use Rattle.spv_ops.specs.declared.Op.TheVariants as code
@@ -22,7 +24,7 @@ link slot b i k id = record { slot = slot; place = record { block = b; inst = i;
 
 -- %8 is a 32-bit integer, %9 a vector of two, %13 a pointer
 globals : List Inst
-globals = inst code.TypeInt 0 8 (32 ∷ 0 ∷ []) ∷ inst code.TypeVector 0 9 (8 ∷ 2 ∷ []) ∷ inst code.TypePointer 0 13 (12 ∷ 8 ∷ []) ∷ []
+globals = inst code.TypeInt 0 8 (32 ∷ 0 ∷ []) ∷ inst code.TypeVector 0 9 (8 ∷ 2 ∷ []) ∷ inst code.TypePointer 0 13 (class_number storage.StorageBuffer ∷ 8 ∷ []) ∷ []
 
 planned_of : List Block → List Link → Scope
 planned_of blocks links = record {
