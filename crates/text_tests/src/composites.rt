@@ -4,6 +4,7 @@ use glsl_ast::{Base, Expr, Extent, Name};
 use int_lowering::Arg;
 use name_alloc::Key;
 use spv_module::{Elem, Id, Length, Shape};
+use spv_ops::Op;
 use std::alloc::Global;
 use std::test::Fail;
 use vec_lowering::{lower_vector, shape_type};
@@ -39,7 +40,15 @@ fn a_struct_is_copied(rt: HostRuntime) -> Result<(), Fail> {
     let alloc = rt.alloc();
     let names = named(alloc, &ITEMS)?;
     let args = variable(alloc, "v53", item(alloc, 3)?)?;
-    let copy = lower_vector(alloc, 400, 0, item(alloc, 21)?, args, &[], &names);
+    let copy = lower_vector(
+        alloc,
+        Op::CopyLogical,
+        0,
+        item(alloc, 21)?,
+        args,
+        &[],
+        &names,
+    );
     let Expr::Build(ty, parts) = copy.ok().ok_or("no memory")? else {
         return Err(Fail::from("another expression"));
     };
@@ -61,13 +70,21 @@ fn components_and_types(rt: HostRuntime) -> Result<(), Fail> {
     let names = named(alloc, &ITEMS)?;
     let uvec3 = Shape::Vector(Elem::Uint, 3);
     let args = variable(alloc, "v", uvec3)?;
-    let y = lower_vector(alloc, 81, 0, Shape::Uint, args, &[1], &names);
+    let y = lower_vector(
+        alloc,
+        Op::CompositeExtract,
+        0,
+        Shape::Uint,
+        args,
+        &[1],
+        &names,
+    );
     assert!(rt; is_member(&y.ok().ok_or("no memory")?, "v", "y"));
 
     // The magnitude of each component.
     let args = variable(alloc, "v", Shape::Vector(Elem::Int, 2))?;
     let shape = Shape::Vector(Elem::Int, 2);
-    let sizes = lower_vector(alloc, 12, 5, shape, args, &[], &names);
+    let sizes = lower_vector(alloc, Op::ExtInst, 5, shape, args, &[], &names);
     let Expr::Build(ty, parts) = sizes.ok().ok_or("no memory")? else {
         return Err(Fail::from("another expression"));
     };

@@ -4,6 +4,7 @@ use glsl_ast::{Base, Expr, Name};
 use int_lowering::{Arg, BasicType, basic_type, literal, lower, lower_basic, operation, type_name};
 use op_semantics::{Operation, Unary};
 use spv_module::{Elem, Shape};
+use spv_ops::Op;
 use spv_words::Memory;
 use std::alloc::Global;
 use std::test::Fail;
@@ -46,7 +47,7 @@ fn args(alloc: Global, given: &[Given]) -> Result<Vec<Arg>, Memory> {
     Ok(args)
 }
 
-fn lowered(alloc: Global, op: u16, ext: u32, elem: Elem, given: &[Given]) -> Result<Vec<u8>, Fail> {
+fn lowered(alloc: Global, op: Op, ext: u32, elem: Elem, given: &[Given]) -> Result<Vec<u8>, Fail> {
     let expr = lower(alloc, op, ext, elem, args(alloc, given)?);
     let ty = BasicType { elem, size: None };
     let base = type_name(alloc, ty).base;
@@ -62,44 +63,44 @@ fn operations_as_text(rt: HostRuntime) -> Result<(), Fail> {
     let two = Given::Word(Elem::Int, 2);
     let three = Given::Word(Elem::Uint, 3);
     let minus_7 = Given::Word(Elem::Int, 0xffff_fff9);
-    let rows: [(u16, u32, Elem, &[Given], &str); 6] = [
+    let rows: [(Op, u32, Elem, &[Given], &str); 6] = [
         (
-            196,
+            Op::ShiftLeftLogical,
             0,
             Elem::Uint,
             &[v20, v18],
             "const uint c = (v20 << (v18 & 31u));\n",
         ),
         (
-            194,
+            Op::ShiftRightLogical,
             0,
             Elem::Int,
             &[v40, three],
             "const int c = int((uint(v40) >> 3u));\n",
         ),
         (
-            170,
+            Op::IEqual,
             0,
             Elem::Bool,
             &[v20, v40],
             "const bool c = (v20 == uint(v40));\n",
         ),
         (
-            12,
+            Op::ExtInst,
             42,
             Elem::Uint,
             &[v20, minus_7],
             "const uint c = uint(max(int(v20), 0xFFFFFFF9));\n",
         ),
         (
-            202,
+            Op::BitFieldSExtract,
             0,
             Elem::Uint,
             &[v20, three, two],
             "const uint c = uint(bitfieldExtract(int(v20), 3, 2));\n",
         ),
         (
-            135,
+            Op::SDiv,
             0,
             Elem::Int,
             &[v40, two],
@@ -128,13 +129,16 @@ fn operations_on_vectors(rt: HostRuntime) -> Result<(), Fail> {
             word
         },
     ]?;
-    let not = lower_basic(alloc, 200, 0, ty, args);
+    let not = lower_basic(alloc, Op::Not, 0, ty, args);
     let text = const_text(
         alloc,
         type_name(alloc, ty).base,
         not.ok().ok_or("no memory")?,
     )?;
     assert!(rt; text.ends_with(b"const ivec2 c = (~v);\n"));
-    assert_eq!(rt; operation(12, 74), Some(Operation::Unary(Unary::FindSMsb)));
+    assert_eq!(rt;
+        operation(Op::ExtInst, 74),
+        Some(Operation::Unary(Unary::FindSMsb))
+    );
     Ok(())
 }

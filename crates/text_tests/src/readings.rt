@@ -1,6 +1,6 @@
 // Specialization constants and the size of workgroups, with overrides and without.
 use crate::names::{is_name, named};
-use constant_text::{Reading, Readings, int_literal, is_constant, name, scalar_type};
+use constant_text::{Reading, Readings, int_literal, name, scalar_type};
 use glsl_ast::{Expr, Extent, Literal, Size, TypeName};
 use name_alloc::{Key, Names};
 use profile_rules::{Given, SizePart};
@@ -76,7 +76,7 @@ fn constants_are_read(rt: HostRuntime) -> Result<(), Fail> {
         (34, Reading::GroupSize),
     ] {
         let inst = module.global(Id(id)).ok_or("no constant")?;
-        assert!(rt; is_constant(inst));
+        assert!(rt; inst.op.is_constant());
         assert_eq!(rt; readings.reading(inst), reading);
     }
     assert!(rt; is_name(&expr_of(alloc, &readings, &names, 31)?, "bias"));
