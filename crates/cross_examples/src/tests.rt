@@ -8,25 +8,25 @@ use std::test::Fail;
 
 /// How a command ended: its status, its output and its notes.
 #[derive(Drop)]
-struct Ended {
+struct Outcome {
     status: u8,
     output: Vec<u8>,
     notes: Vec<u8>,
 }
 
 /// Runs a command. The calls of the input, output and notes whose numbers are listed fail.
-fn ended(
+fn run_with(
     alloc: Global,
     words: &[&str],
     bytes: Vec<u8>,
     fails: [&[u64]; 3],
-) -> Result<Ended, AllocError> {
+) -> Result<Outcome, AllocError> {
     let [reads, writes, lines] = fails;
     let mut input = MemorySource::new(bytes, reads.to_vec(alloc)?);
     let mut output = MemorySink::new(alloc, writes.to_vec(alloc)?);
     let mut notes = MemorySink::new(alloc, lines.to_vec(alloc)?);
     let status = cross(alloc, words, &mut input, &mut output, &mut notes);
-    Ok(Ended {
+    Ok(Outcome {
         status,
         output: output.bytes().to_vec(alloc)?,
         notes: notes.bytes().to_vec(alloc)?,
@@ -46,7 +46,7 @@ fn ends_at_faults(rt: HostRuntime) -> Result<(), Fail> {
     ];
     for (command, reads, writes, lines, status, line) in cases {
         let fails = [reads, writes, lines];
-        let ended = ended(alloc, command, bytes_of(alloc, &[&INCREMENT])?, fails)?;
+        let ended = run_with(alloc, command, bytes_of(alloc, &[&INCREMENT])?, fails)?;
         assert_eq!(rt; ended.notes.as_slice(), line.as_bytes(), "{line}");
         assert_eq!(rt; (ended.status, ended.output.len()), (status, 0), "{line}");
     }
@@ -57,13 +57,13 @@ fn ends_at_faults(rt: HostRuntime) -> Result<(), Fail> {
 fn leaves_a_front_of_the_text(rt: HostRuntime) -> Result<(), Fail> {
     let alloc = rt.alloc();
     let module = generate(alloc, 1000).ok().ok_or("no memory")?;
-    let whole = ended(
+    let whole = run_with(
         alloc,
         &["glsl"],
         module.as_slice().to_vec(alloc)?,
         [&[], &[], &[]],
     )?;
-    let front = ended(alloc, &["glsl"], module, [&[], &[1], &[]])?;
+    let front = run_with(alloc, &["glsl"], module, [&[], &[1], &[]])?;
     assert_eq!(rt; (whole.status, front.status), (0, 5));
     assert_eq!(rt; front.output.len(), 4096);
     assert!(rt; whole.output.starts_with(&front.output));
@@ -126,7 +126,7 @@ fn trickled(alloc: Global, read: u64, write: u64) -> Result<(u8, Vec<u8>), Fail>
 fn goes_byte_by_byte(rt: HostRuntime) -> Result<(), Fail> {
     let alloc = rt.alloc();
     let sums = bytes_of(alloc, &[&PREFIX_SUMS])?;
-    let text = ended(alloc, &["glsl"], sums, [&[], &[], &[]])?.output;
+    let text = run_with(alloc, &["glsl"], sums, [&[], &[], &[]])?.output;
     let never = u64::MAX;
     for (read, write, wanted, length) in [
         (never, never, 0, text.len()),
@@ -144,7 +144,7 @@ fn goes_byte_by_byte(rt: HostRuntime) -> Result<(), Fail> {
 fn comes_to_the_limit_of_bytes(rt: HostRuntime) -> Result<(), Fail> {
     let alloc = rt.alloc();
     let long = vec![in alloc; 0; 1048577]?;
-    let ended = ended(alloc, &["check"], long, [&[], &[], &[]])?;
+    let ended = run_with(alloc, &["check"], long, [&[], &[], &[]])?;
     assert_eq!(rt; ended.status, 3);
     assert_eq!(rt; ended.notes.as_slice(), b"limit bytes 1048576\n".as_slice());
     Ok(())

@@ -1,9 +1,8 @@
-// The names and decorations of a small module, and what changes of it are refused by.
-use sample_modules::{changed, module_of};
+// The names and decorations of a small module.
+use sample_modules::module_of;
 use spv_decor::{Decor, text_of};
 use spv_module::Id;
 use spv_ops::Decoration;
-use spv_words::{Fault, Rule};
 use std::test::Fail;
 
 // OpName %3 "ab", OpName %3 "zz", OpMemberName %3 1 "k", %5 DescriptorSet 7, %5 Binding 9, %3 Block,
@@ -46,26 +45,5 @@ fn names_and_decorations(rt: HostRuntime) -> Result<(), Fail> {
         text_of(rt.alloc(), &[0x6261])?.as_slice(),
         b"ab".as_slice()
     );
-    Ok(())
-}
-
-#[test]
-fn decorations_at_fault(rt: HostRuntime) -> Result<(), Fail> {
-    let cases = [
-        (17, 30, Rule::P11, 15, 15),
-        (16, 3, Rule::P11, 15, 15),
-        (24, 2, Rule::P11, 23, 23),
-        (28, 2, Rule::P11, 26, 26),
-        (21, 34, Rule::P12, 15, 19),
-    ];
-    for (place, word, rule, first, second) in cases {
-        let words = changed(rt.alloc(), &MODULE, place, word)?;
-        let module = module_of(rt.alloc(), &[&words])?;
-        let Some(Fault::Refused(refusal)) = Decor::read(rt.alloc(), &module).err() else {
-            return Err(Fail::new("not refused"));
-        };
-        assert_eq!(rt; refusal.rule, rule);
-        assert!(rt; refusal.at == first || refusal.at == second);
-    }
     Ok(())
 }

@@ -1,8 +1,7 @@
-// The lists of a compute shader that adds 1 to each element of a buffer, and edits of it.
+// The lists of a compute shader that adds 1 to each element of a buffer.
 use sample_modules::{INCREMENT, module_of};
 use spv_module::{Id, Seq};
 use spv_ops::Op;
-use spv_words::{Fault, Refusal, Rule};
 use std::test::Fail;
 
 #[test]
@@ -34,26 +33,6 @@ fn lists_of_a_shader(rt: HostRuntime) -> Result<(), Fail> {
     let buffer = module.global(Id(5)).ok_or("no buffer")?;
     assert_eq!(rt; (buffer.op, buffer.at), (Op::Variable, 81));
     assert!(rt; module.global(Id(1)).is_none(), "a function is no global");
-    Ok(())
-}
-
-#[test]
-fn edits_of_it(rt: HostRuntime) -> Result<(), Fail> {
-    // the words that others stand for, those others, and the rule that is broken then, with its word
-    let cases: [(usize, usize, &[u32], Rule, u32); 6] = [
-        (46, 46, &[0x30005, 1, 0x61616161], Rule::W9, 46),
-        (46, 46, &[0x1FFFF], Rule::P1, 46),
-        (46, 46, &[0x20000, 0], Rule::P2, 46),
-        (126, 127, &[22], Rule::P3, 123),
-        (132, 133, &[], Rule::P4, 97),
-        (131, 131, &[0x300F7, 16, 0, 0x10000], Rule::P4, 102),
-    ];
-    for (from, end, more, rule, at) in cases {
-        let before = INCREMENT.get(..from).unwrap_or(&[]);
-        let behind = INCREMENT.get(end..).unwrap_or(&[]);
-        let fault = module_of(rt.alloc(), &[before, more, behind]).err();
-        assert_eq!(rt; fault, Some(Fault::Refused(Refusal { rule, at })));
-    }
     Ok(())
 }
 

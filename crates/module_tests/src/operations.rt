@@ -30,11 +30,16 @@ fn operations_by_their_opcodes(rt: HostRuntime) -> Result<(), Fail> {
 
 #[test]
 fn operations_on_words(rt: HostRuntime) -> Result<(), Fail> {
-    let minus_7 = 0xffff_fff9;
+    let (minus_1, minus_2, minus_7) = (0xffff_ffff, 0xffff_fffe, 0xffff_fff9);
     let rows = [
         (Binary::SDiv, minus_7, 2, Some(0xffff_fffd)),
+        (Binary::SRem, minus_7, 2, Some(minus_1)),
+        (Binary::SRem, 7, minus_2, Some(1)),
         (Binary::SMod, minus_7, 2, Some(1)),
-        (Binary::SRem, 1 << 31, 0xffff_ffff, None),
+        (Binary::SMod, 7, minus_2, Some(minus_1)),
+        (Binary::SMod, minus_7, minus_2, Some(minus_1)),
+        (Binary::SRem, 1 << 31, minus_1, None),
+        (Binary::ShiftLeftLogical, 3, 33, Some(6)),
         (Binary::ShiftRightArithmetic, minus_7, 33, Some(0xffff_fffc)),
     ];
     for (operation, a, b, wanted) in rows {

@@ -46,6 +46,24 @@ impl Sink for Narrow {
     }
 }
 
+// Gives one byte in each call, without end.
+#[derive(Drop)]
+struct Endless;
+
+impl Source for Endless {
+    ghost use Rattle.std.specs.Prelude.{None};
+
+    ghost left = { λ _. None };
+
+    ghost faults = { λ _. 0 };
+
+    fn read(&mut self, buf: &mut [u8]) -> Result<usize, Failed> {
+        let end = buf.len().min(1);
+        buf[..end].fill(7);
+        Ok(end)
+    }
+}
+
 #[test]
 fn reads_all(rt: HostRuntime) -> Result<(), Fail> {
     let alloc = rt.alloc();
@@ -60,6 +78,8 @@ fn reads_all(rt: HostRuntime) -> Result<(), Fail> {
         let read = read_all(alloc, &mut Trickle { source }, limit);
         assert_eq!(rt; read.map(|bytes| bytes.len()), wanted, "limit {limit}");
     }
+    let endless = read_all(alloc, &mut Endless, 10);
+    assert_eq!(rt; endless.err(), Some(ReadEnd::TooLong));
     let mut steady = SteadySource::new(b"abc".to_vec(alloc)?);
     let read = read_all(alloc, &mut steady, 3).ok().ok_or("not read")?;
     assert_eq!(rt; read.as_slice(), b"abc".as_slice());

@@ -1,5 +1,5 @@
-// What is read of a small compute shader, and which rules changes of it break.
-use sample_modules::{INCREMENT, bytes_of, changed};
+// What is read of a small compute shader.
+use sample_modules::{INCREMENT, bytes_of};
 use spv_ops::Op;
 use spv_words::{Fault, Limit, Memory, Refusal, Rule, Words, first_zero};
 use std::alloc::{AllocError, Global};
@@ -43,35 +43,6 @@ fn reads_a_module_in_either_byte_order(rt: HostRuntime) -> Result<(), Fail> {
         assert_eq!(rt; words.text(rt.alloc(), 2, 6).err(), Some(past_the_end));
     }
     assert_eq!(rt; first_zero(b"main\0"), Some(4));
-    Ok(())
-}
-
-#[test]
-fn names_what_is_broken(rt: HostRuntime) -> Result<(), Fail> {
-    let cases = [
-        (0, 0x07230204, Rule::W3, 0),
-        (1, 0x00010700, Rule::W4, 1),
-        (3, 0, Rule::W5, 3),
-        (4, 1, Rule::W6, 4),
-        (132, 0x00000038, Rule::W7, 132),
-        (132, 0x00020038, Rule::W8, 132),
-    ];
-    for (place, word, rule, at) in cases {
-        let bytes = bytes_of(
-            rt.alloc(),
-            &[&changed(rt.alloc(), &INCREMENT, place, word)?],
-        )?;
-        assert_eq!(rt;
-            words_of(rt.alloc(), &bytes).err(),
-            Some(Fault::Refused(Refusal { rule, at }))
-        );
-    }
-    for (bytes, rule) in [([].as_slice(), Rule::W2), ([3, 2, 35].as_slice(), Rule::W1)] {
-        assert_eq!(rt;
-            words_of(rt.alloc(), bytes).err(),
-            Some(Fault::Refused(Refusal { rule, at: 0 }))
-        );
-    }
     Ok(())
 }
 

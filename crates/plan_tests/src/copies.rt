@@ -1,4 +1,4 @@
-// Copies whose moves were worked out by hand.
+// Copies, and the moves that they are.
 ghost use Rattle.std.specs.Prelude.{◌≡◌};
 ghost use Rattle.std.specs.List.{All};
 ghost use Rattle.std.specs.Bool.{OnTrue};
@@ -57,25 +57,15 @@ fn restore(target: u32, spare: u32) -> Move {
 }
 
 #[test]
-fn moves_with_spares_and_without(rt: HostRuntime) -> Result<(), Fail> {
+fn moves_with_a_spare(rt: HostRuntime) -> Result<(), Fail> {
     let alloc = rt.alloc();
-    let rows: [(&[Pair], &[Move]); 4] = [
-        (&[pair(1, 1)], &[]),
-        (
-            &[pair(1, 1), constant(3, 3), pair(2, 1)],
-            &[set(constant(3, 3)), set(pair(2, 1))],
-        ),
-        (
-            &[pair(1, 2), pair(2, 3), pair(3, 1)],
-            &[save(0, 1), set(pair(1, 2)), set(pair(2, 3)), restore(3, 0)],
-        ),
-        (
-            &[pair(1, 2), pair(2, 1), pair(3, 1)],
-            &[set(pair(3, 1)), save(0, 1), set(pair(1, 2)), restore(2, 0)],
-        ),
+    let pairs = [pair(1, 2), pair(2, 1), constant(3, 3), pair(4, 4)];
+    let moves = [
+        set(constant(3, 3)),
+        save(0, 1),
+        set(pair(1, 2)),
+        restore(2, 0),
     ];
-    for (pairs, moves) in rows {
-        assert!(rt; have_moves(alloc, pairs, moves)?);
-    }
+    assert!(rt; have_moves(alloc, &pairs, &moves)?);
     Ok(())
 }

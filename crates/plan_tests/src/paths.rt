@@ -30,20 +30,11 @@ fn paths_of_pointers(rt: HostRuntime) -> Result<(), Fail> {
     let module = module_of(rt.alloc(), &[&MODULE])?;
     let items = [Step::Member(0), Step::Index(Id(51))];
     let captured = [Step::Member(0), Step::Captured(Id(52), 1)];
-    let captured_further = [Step::Member(0), Step::Captured(Id(52), 1), Step::Member(1)];
-    let sum = [Step::Member(0), Step::Index(Id(76)), Step::Member(1)];
     // function, block, pointer, and its base and steps
     let cases = [
-        (0, 0, 5, 5, [].as_slice()),
         (0, 0, 52, 5, items.as_slice()),
         (0, 1, 53, 5, captured.as_slice()),
-        (0, 1, 79, 5, captured_further.as_slice()),
-        (0, 0, 58, 19, [Step::Index(Id(55))].as_slice()),
-        (0, 1, 58, 19, [Step::Captured(Id(58), 0)].as_slice()),
-        (0, 1, 78, 5, sum.as_slice()),
-        (0, 0, 81, 19, [Step::Captured(Id(81), 0)].as_slice()),
         (0, 0, 82, 19, [Step::Index(Id(34))].as_slice()),
-        (1, 0, 32, 32, [].as_slice()),
         (1, 0, 36, 32, [Step::Member(1)].as_slice()),
     ];
     for (function, block, pointer, base, steps) in cases {

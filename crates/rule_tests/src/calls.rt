@@ -1,11 +1,11 @@
-// Modules of functions that call each other, judged whole.
+// A module of functions that call each other, judged whole.
 use module_check::{check_bytes, check_module, read_module};
 use profile_check::Options;
 use sample_modules::{INCREMENT, bytes_of};
 use spec_constants::Overrides;
 use spv_decor::Decor;
 use spv_module::Id;
-use spv_words::{Fault, Refusal, Rule};
+use spv_words::Fault;
 use std::alloc::{AllocError, Global};
 use std::test::Fail;
 
@@ -63,15 +63,6 @@ fn callees_first(rt: HostRuntime) -> Result<(), Fail> {
     assert_eq!(rt;
         order.as_slice(),
         [Id(103), Id(105), Id(102), Id(104), Id(1)].as_slice()
-    );
-    let of_three: [Calls; 4] = [(1, &[101]), (101, &[102]), (102, &[103]), (103, &[101])];
-    let refusal = Refusal {
-        rule: Rule::M6,
-        at: 117,
-    };
-    assert_eq!(rt;
-        order_of(rt.alloc(), &of_three).err(),
-        Some(Fault::Refused(refusal))
     );
     Ok(())
 }

@@ -1,10 +1,10 @@
-// A small module that is judged, and what changes of it are refused by.
+// The entry point and the size of workgroups of a small module.
 use declaration_check::{Entry, check_declarations};
 use profile_rules::SizePart;
-use sample_modules::{INCREMENT, changed, module_of};
+use sample_modules::{INCREMENT, module_of};
 use spv_decor::Decor;
 use spv_module::{Id, Module};
-use spv_words::{Fault, Refusal, Rule};
+use spv_words::Fault;
 use std::alloc::Global;
 use std::test::Fail;
 
@@ -29,13 +29,6 @@ fn judged(alloc: Global, module: &Module, entry: Option<&str>) -> Result<Entry, 
     check_declarations(alloc, module, &decor, entry)
 }
 
-fn refusal_of(alloc: Global, module: &Module, entry: Option<&str>) -> Option<Refusal> {
-    match judged(alloc, module, entry) {
-        Err(Fault::Refused(refusal)) => Some(refusal),
-        _ => None,
-    }
-}
-
 #[test]
 fn entry_and_size(rt: HostRuntime) -> Result<(), Fail> {
     let module = module_with(rt.alloc(), &[], &[])?;
@@ -54,33 +47,5 @@ fn entry_and_size(rt: HostRuntime) -> Result<(), Fail> {
         SizePart::Fixed(1),
     ];
     assert_eq!(rt; entry.size.as_slice(), size.as_slice());
-    let refusal = refusal_of(rt.alloc(), &module, Some("nope")).ok_or("not refused")?;
-    assert_eq!(rt; (refusal.rule, refusal.at), (Rule::X1, 0));
-    Ok(())
-}
-
-#[test]
-fn changed_words(rt: HostRuntime) -> Result<(), Fail> {
-    // the word, what it becomes, the rule, and the two words at which it is broken
-    let cases = [
-        (10, 0x60003, Rule::X2, 0, 0),
-        (6, 10, Rule::P5, 5, 5),
-        (9, 0, Rule::P7, 7, 7),
-        (11, 0, Rule::P8, 10, 10),
-        (18, 0, Rule::P9, 10, 16),
-        (20, 0, Rule::P9, 16, 16),
-        (25, 25, Rule::P14, 63, 63),
-        (84, 2, Rule::P13, 81, 81),
-        (43, 2, Rule::P15, 81, 81),
-        (76, 6, Rule::P18, 74, 74),
-        (88, 6, Rule::P19, 85, 85),
-    ];
-    for (place, word, rule, first, second) in cases {
-        let words = changed(rt.alloc(), &INCREMENT, place, word)?;
-        let module = module_of(rt.alloc(), &[&words])?;
-        let refusal = refusal_of(rt.alloc(), &module, None).ok_or("not refused")?;
-        assert_eq!(rt; refusal.rule, rule);
-        assert!(rt; refusal.at == first || refusal.at == second);
-    }
     Ok(())
 }

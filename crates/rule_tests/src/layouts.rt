@@ -1,10 +1,8 @@
-// The blocks and types of a small module, and what changes of it are refused by.
+// The blocks and types of a small module.
 use buffer_layout::{Kind, check_block, is_block_variable, layout};
-use sample_modules::{changed, module_of};
+use sample_modules::module_of;
 use spv_decor::Decor;
 use spv_module::Id;
-use spv_words::{Fault, Refusal, Rule};
-use std::alloc::Global;
 use std::test::Fail;
 
 // %1 uint, %2 a vector of three, %3 a runtime array of these with stride 16, %4 a struct of two uints
@@ -21,42 +19,6 @@ static MODULE: [u32; 117] = [
     0x0003001E, 13, 12, 0x00020014, 17, 0x0003001E, 16, 17, 0x00040020, 14, 12, 13, 0x0004003B, 14,
     15, 12,
 ];
-
-fn broken(rule: Rule, at: u32) -> Result<Kind, Fault> {
-    Err(Fault::Refused(Refusal { rule, at }))
-}
-
-// The layout of a block variable; out of memory where it is none.
-fn taken(alloc: Global, words: &[u32], variable: u32) -> Result<Kind, Fault> {
-    let module = module_of(alloc, &[words])?;
-    let decor = Decor::read(alloc, &module)?;
-    if !is_block_variable(&module, Id(variable)) {
-        return Err(Fault::Memory);
-    }
-    Ok(check_block(alloc, &module, &decor, Id(variable))?.kind)
-}
-
-#[test]
-fn blocks(rt: HostRuntime) -> Result<(), Fail> {
-    let cases = [
-        (2, 0, 7, Ok(Kind::Std430)),
-        (2, 0, 10, Ok(Kind::Std140)),
-        (2, 0, 15, Ok(Kind::Std140)),
-        (47, 4, 15, Ok(Kind::Std430)),
-        (112, 16, 15, broken(Rule::L1, 113)),
-        (28, 12, 7, broken(Rule::L2, 78)),
-        (47, 8, 15, broken(Rule::L2, 113)),
-        (14, 10, 7, broken(Rule::L4, 78)),
-        (19, 0, 7, broken(Rule::L5, 78)),
-        (38, 8, 10, broken(Rule::L6, 89)),
-        (43, 4294967280, 10, broken(Rule::L7, 89)),
-    ];
-    for (place, word, variable, expected) in cases {
-        let words = changed(rt.alloc(), &MODULE, place, word)?;
-        assert_eq!(rt; taken(rt.alloc(), &words, variable), expected);
-    }
-    Ok(())
-}
 
 #[test]
 fn a_plan(rt: HostRuntime) -> Result<(), Fail> {
@@ -87,11 +49,5 @@ fn types(rt: HostRuntime) -> Result<(), Fail> {
     assert_eq!(rt; (array.size, array.align, array.stride), (32, 16, 16));
     let none = layout(alloc, &module, &decor, Id(7), Id(6), Kind::Std430)?;
     assert_eq!(rt; (none.size, none.align, none.stride), (0, 0, 0));
-    for (ty, rule) in [(12, Rule::L2), (17, Rule::L3), (16, Rule::L3)] {
-        match layout(alloc, &module, &decor, Id(7), Id(ty), Kind::Std430) {
-            Err(Fault::Refused(refusal)) => assert_eq!(rt; (refusal.rule, refusal.at), (rule, 78)),
-            _ => assert!(rt; false),
-        }
-    }
     Ok(())
 }

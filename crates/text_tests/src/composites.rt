@@ -3,7 +3,7 @@ use crate::names::{is_name, named};
 use glsl_ast::{Base, Expr, Extent, Name};
 use int_lowering::Arg;
 use name_alloc::Key;
-use spv_module::{Elem, Id, Length, Shape};
+use spv_module::{Id, Length, Shape};
 use spv_ops::Op;
 use std::alloc::Global;
 use std::test::Fail;
@@ -65,32 +65,9 @@ fn a_struct_is_copied(rt: HostRuntime) -> Result<(), Fail> {
 }
 
 #[test]
-fn components_and_types(rt: HostRuntime) -> Result<(), Fail> {
+fn a_type_of_arrays(rt: HostRuntime) -> Result<(), Fail> {
     let alloc = rt.alloc();
     let names = named(alloc, &ITEMS)?;
-    let uvec3 = Shape::Vector(Elem::Uint, 3);
-    let args = variable(alloc, "v", uvec3)?;
-    let y = lower_vector(
-        alloc,
-        Op::CompositeExtract,
-        0,
-        Shape::Uint,
-        args,
-        &[1],
-        &names,
-    );
-    assert!(rt; is_member(&y.ok().ok_or("no memory")?, "v", "y"));
-
-    // The magnitude of each component.
-    let args = variable(alloc, "v", Shape::Vector(Elem::Int, 2))?;
-    let shape = Shape::Vector(Elem::Int, 2);
-    let sizes = lower_vector(alloc, Op::ExtInst, 5, shape, args, &[], &names);
-    let Expr::Build(ty, parts) = sizes.ok().ok_or("no memory")? else {
-        return Err(Fail::from("another expression"));
-    };
-    assert!(rt; matches!(ty.base, Base::IntVec(2)));
-    assert!(rt; matches!(parts.as_slice(), [Expr::Build(_, _), Expr::Build(_, _)]));
-
     let inner = Box::new(
         alloc,
         Shape::Array(Box::new(alloc, Shape::Uint)?, Length::Fixed(2)),

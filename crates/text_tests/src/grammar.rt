@@ -1,4 +1,4 @@
-// Units that are in the grammar, and units that are not.
+// A unit that is in the grammar, and one that is not.
 use glsl_ast::{Base, Decl, Expr, Extent, Field, Name, Size, TypeName, Unit};
 use spv_words::Memory;
 use std::alloc::Global;
@@ -70,14 +70,5 @@ fn structs_and_names(rt: HostRuntime) -> Result<(), Fail> {
     let alloc = rt.alloc();
     assert_eq!(rt; decides(alloc, "Pair", "m0", "Pair", "c0")?, Some(true));
     assert_eq!(rt; decides(alloc, "Pair", "m0", "Pair", "Pair")?, Some(false));
-    assert_eq!(rt; decides(alloc, "Pair", "m0", "Pear", "c0")?, Some(false));
-    assert_eq!(rt;
-        decides(alloc, "Pair", "length", "Pair", "c0")?,
-        Some(false)
-    );
-    assert_eq!(rt; decides(alloc, "Pair", "0m", "Pair", "c0")?, Some(false));
-    assert_eq!(rt; decides(alloc, "bvec2", "m0", "bvec2", "c0")?, Some(false));
-    assert_eq!(rt; decides(alloc, "Pair", "", "Pair", "c0")?, Some(false));
-    assert_eq!(rt; decides(alloc, "Pair", "m-0", "Pair", "c0")?, Some(false));
     Ok(())
 }

@@ -43,25 +43,6 @@ fn are_named(alloc: Global, rows: &[(Key, &str, &str)]) -> Result<bool, Memory> 
     Ok(names.of(Key::Id(Id(0))).is_none())
 }
 
-// Whether a claim of `i` gets this name behind so many others.
-fn is_named_behind(alloc: Global, count: u32, name: &str) -> Result<bool, Memory> {
-    let mut claims = Vec::new(alloc);
-    for i in 0..count {
-        claims.push(claim(alloc, Key::Id(Id(i)), "i")?)?;
-    }
-    claims.push(claim(alloc, Key::Id(Id(count)), "i")?)?;
-    claims.push(Claim {
-        key: Key::Main,
-        given: None,
-    })?;
-    Ok(
-        names(alloc, &claims)?
-            .of(Key::Id(Id(count)))
-            .map(|text| text.as_str())
-            == Some(name),
-    )
-}
-
 #[test]
 fn names_of_claims(rt: HostRuntime) -> Result<(), Fail> {
     let alloc = rt.alloc();
@@ -90,26 +71,5 @@ fn names_of_claims(rt: HostRuntime) -> Result<(), Fail> {
         (Key::Spare(Id(11), Id(12), 0), "", "spare"),
     ];
     assert!(rt; are_named(alloc, &kernel)?);
-    Ok(())
-}
-
-#[test]
-fn cleaned_bases(rt: HostRuntime) -> Result<(), Fail> {
-    let alloc = rt.alloc();
-    let long = "aaaaaaaaaaaaaaaaaaaaaaaaaaaaaaaaaaaaaaaaaaaaaaaaaaaaaaaaaaaaaaa";
-    let bases = [
-        (Key::Id(Id(1)), "4__\u{e9}\u{20ac}x_", "n_4_x"),
-        (Key::Id(Id(2)), "vec4", "n_vec4"),
-        (Key::Id(Id(3)), "gl", "n_gl"),
-        (Key::Id(Id(4)), "main", "n_main"),
-        (Key::Id(Id(5)), "__lengths", "_lengths"),
-        (
-            Key::Id(Id(6)),
-            "aaaaaaaaaaaaaaaaaaaaaaaaaaaaaaaaaaaaaaaaaaaaaaaaaaaaaaaaaaaaaaa_b",
-            long,
-        ),
-    ];
-    assert!(rt; are_named(alloc, &bases)?);
-    assert!(rt; is_named_behind(alloc, 999, "i_1000")?);
     Ok(())
 }
