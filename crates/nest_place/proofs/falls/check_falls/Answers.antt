@@ -1,4 +1,4 @@
-use Rattle.std.proofs.Common.{◌≡◌, ◌==◌, length, true, rules, sym, subst, ◌∙◌}
+use Rattle.std.proofs.Common.{◌≡◌, ◌==◌, length, true, rules, sym, subst}
 use Rattle.structure_rules.specs.Nesting.{Links}
 use Rattle.structure_rules.specs.Structure.{fall_links}
 use Rattle.nest_place.specs.Cycles.{AreInverse}
