@@ -13,8 +13,8 @@ use std::alloc::Global;
 #[derive(Drop)]
 pub struct Outcome {
     pub status: u8,
-    output: SteadySink,
-    notes: SteadySink,
+    pub output: SteadySink,
+    pub notes: SteadySink,
 }
 
 /// Carries out a command line on an input.
