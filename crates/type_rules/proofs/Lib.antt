@@ -6,5 +6,4 @@ mod Sources
 mod Repeats
 mod Matched
 mod Refused
-mod Placed
 mod Needed

@@ -1,16 +1,21 @@
 -- Types that are compared part by part.
-use Rattle.std.proofs.Common.{◌≡◌, ◌&&◌, ◌<◌, ◌≤◌, ◌+◌, ◌∷◌, ℕ, suc, Bool, true, false, List, Option, Some, None, IfSome, length, drop, get_or, nat_lt, cond, if◌then◌else◌, refl, ap, sym, ◌∙◌, subst, arith}
+use Rattle.std.proofs.Common.{◌≡◌, ◌==◌, ◌&&◌, ◌||◌, ◌<◌, ◌≤◌, ◌+◌, ◌∷◌, ℕ, suc, Bool, true, false, List, Option, Some, None, IfSome, length, drop, get_or, nat_lt, cond, if◌then◌else◌, refl, ap, sym, ◌∙◌, subst, arith}
 use Rattle.std.specs.Option.{option_map_or}
 use Rattle.std.specs.List.{list_all, zip}
 use Rattle.std.specs.BTreeMap.{BTreeMap, get}
 use Rattle.std.specs.Ordering.{is_eq}
 use Rattle.std.proofs.Math.Seq.{drop-cons}
+use Rattle.std.proofs.lemmas.Bool.Decides.{nat_tests}
+use Rattle.spv_ops.specs.Opcode.{is, number}
+use Rattle.spv_ops.specs.declared.Op.{Op}
+use Rattle.spv_ops.specs.declared.Op.TheVariants as code
+use Rattle.spv_decor.specs.Rows.{word}
 use Rattle.std.proofs.Math.ListN.{drop_of_length-le}
 use Rattle.spv_module.specs.Held.{global}
 use Rattle.spv_module.specs.declared.inst.Inst.{Inst}
 use Rattle.spv_types.specs.Types.{earlier, if_earlier}
 use Rattle.spv_types.proofs.Below.{below_is, value_at}
-use Rattle.profile_rules.specs.ValueRules.{match_step, match_before, match_at}
+use Rattle.profile_rules.specs.ValueRules.{is_same_length, do_parts_match, match_step, match_before, match_at}
 use Rattle.type_rules.specs.Edges.{pair_cmp}
 use Rattle.type_rules.specs.Matches.{match_of, AreKnown}
 use Rattle.type_rules.proofs.Pairs.{same_pair}
@@ -56,6 +61,37 @@ noted gs n a b g o r e found known =
     let P : Option Bool → Type 0 = λ o. IfSome o (λ s. s ≡ match_of gs a b) in
     let right : r ≡ match_of gs a b = subst P found known in
     right ∙ sym (match_earlier gs n a b g e)
+
+-- an array is no struct
+no_struct : (o : Op) → is o code.TypeArray ≡ true → is o code.TypeStruct ≡ false
+unfolding number
+no_struct code.TypeArray array = refl
+no_struct o array = cc
+
+or_false : (b : Bool) → (b || false) ≡ b
+or_false true = refl
+or_false false = refl
+
+pub and_true : (b : Bool) → (b && true) ≡ b
+and_true true = refl
+and_true false = refl
+
+pub and_false : (b : Bool) → (b && false) ≡ false
+and_false true = refl
+and_false false = refl
+
+-- where the first of two types of one opcode is an array
+pub arrays : (gs : List Inst) (f : ℕ → ℕ → Bool) (g h : Inst) → is g.op h.op ≡ true → is g.op code.TypeArray ≡ true → do_parts_match gs f g h ≡ (f (word g 0) (word h 0) && is_same_length gs (word g 1) (word h 1))
+arrays gs f g h same array =
+    let also : is h.op code.TypeArray ≡ true = let e : number g.op ≡ number h.op = grind (arith, nat_tests, same) in ap (λ n. n == number code.TypeArray) (sym e) ∙ array in
+    let members : Bool = list_all (λ (p : ℕ × ℕ). f p.0 p.1) (zip g.args h.args) in
+    let both : Bool → Bool → Bool → Bool = λ a b s.
+    (a && b && f (word g 0) (word h 0) && is_same_length gs (word g 1) (word h 1))
+    || (s && (is h.op code.TypeStruct) && (length g.args == length h.args) && members) in
+    ap (λ a. both a (is h.op code.TypeArray) (is g.op code.TypeStruct)) array
+    ∙ ap (λ b. both true b (is g.op code.TypeStruct)) also
+    ∙ ap (λ s. both true true s) (no_struct g.op array)
+    ∙ or_false (f (word g 0) (word h 0) && is_same_length gs (word g 1) (word h 1))
 
 pub ruleset part_rules = (match_before_is, match_earlier)
 

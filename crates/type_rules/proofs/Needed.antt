@@ -1,16 +1,18 @@
 -- What is needed, in whatever order it is looked for, and of which operands.
-use Rattle.std.proofs.Common.{◌≡◌, ◌≤◌, ◌<◌, ◌+◌, ◌%◌, ◌==◌, ◌&&◌, ◌||◌, ℕ, zero, suc, not, nat_lt, Bool, true, false, List, [], ◌∷◌, length, take, Option, Some, None, refl, ap, ◌∙◌, sym, arith, if◌then◌else◌}
-use Rattle.std.specs.Option.{option_map_or, unwrap_or}
+use Rattle.std.proofs.Common.{◌≡◌, ◌≤◌, ◌<◌, ◌+◌, ◌%◌, ◌==◌, ◌&&◌, ◌||◌, ℕ, zero, suc, not, nat_lt, Bool, true, false, List, [], ◌∷◌, length, take, Option, Some, None, IfSome, refl, ap, ◌∙◌, sym, subst, arith, if◌then◌else◌}
+use Rattle.std.specs.Option.{option_map_or}
 use Rattle.std.specs.List.{list_any, enumerate_from}
 use Rattle.std.proofs.Math.Seq.{take-nil}
 use Rattle.std.proofs.lemmas.Bool.Decides.{nat_tests}
+use Rattle.spv_ops.specs.declared.Op.{Op}
+use Rattle.spv_ops.specs.declared.Op.TheVariants as code
 use Rattle.spv_ops.specs.Operands.{is_id}
 use Rattle.spv_ops.specs.declared.operands.IdWords.TheVariants.{Range, OneAndFrom}
 use Rattle.spv_module.specs.declared.inst.Inst.{Inst}
 use Rattle.profile_rules.specs.declared.groups.Need.{Need}
-use Rattle.profile_rules.specs.declared.groups.Need.TheVariants.{PhiValue, Label, Value}
-use Rattle.profile_rules.specs.Operands.{needs_of, need, first_or, lacks_operand}
-use Rattle.type_rules.specs.Needed.{AreNeeds, AreBelow, lacks_of}
+use Rattle.profile_rules.specs.declared.groups.Need.TheVariants.{PhiValue, Label}
+use Rattle.profile_rules.specs.Operands.{need, first_or, lacks_operand}
+use Rattle.type_rules.specs.Needed.{AreNeeds, AreBelow, needs_of, lacks_of}
 
 pub in_any_order : (r g p : Bool) → (r || (g || p)) ≡ (g || (p || r))
 in_any_order true true p = refl
@@ -30,18 +32,33 @@ pub none_suits : {X : Type 0} (o : Option X) → option_map_or (λ x. false) o f
 none_suits None = refl
 none_suits (Some x) = refl
 
-same_needs : (o : Option (Need × Need)) (k : ℕ) → option_map_or (first_or k) o Value ≡ first_or k (unwrap_or o (Value, Value))
-same_needs None k = elim (k == 0) as (λ b. Value ≡ (if b then Value else Value)) [ true ↦ refl | false ↦ refl ]
-same_needs (Some needs) k = refl
+same_need : (n : Need) (k : ℕ) → n ≡ first_or k n n
+same_need n k = elim (k == 0) as (λ b. n ≡ (if b then n else n)) [ true ↦ refl | false ↦ refl ]
 
--- what the table says, and values where it says nothing
-pub needs_are : (op : ℕ) (needs : Need × Need) → (op == 245) ≡ false → needs ≡ unwrap_or (needs_of op) (Value, Value) → AreNeeds op needs
-needs_are op needs no_phi is = record {
-  each = λ k.
-      ap (λ b. if b then (if k % 2 == 0 then PhiValue else Label) else option_map_or (first_or k) (needs_of op) Value) no_phi
-      ∙ same_needs (needs_of op) k
-      ∙ ap (first_or k) (sym is);
-}
+-- what the table says of an opcode, and where it says nothing
+of_table : (o : Op) → IfSome (needs_of o) (AreNeeds o)
+unfolding needs_of need
+of_table code.Phi = tt
+of_table code.ExtInst = record { each = λ k. refl }
+of_table code.TypeArray = record { each = λ k. refl }
+of_table code.FunctionCall = record { each = λ k. refl }
+of_table code.BranchConditional = record { each = λ k. refl }
+of_table code.Switch = record { each = λ k. refl }
+of_table o = record { each = λ k. same_need _ k }
+
+pub needs_are : (o : Op) (needs : Need × Need) → needs_of o ≡ Some needs → AreNeeds o needs
+needs_are o needs is = let P : Option (Need × Need) → Type 0 = λ x. IfSome x (AreNeeds o) in subst P is (of_table o)
+
+pub need_first : (o : Op) (k : ℕ) (needs : Need × Need) → needs_of o ≡ Some needs → k ≡ 0 → needs.0 ≡ need o k
+need_first o k needs is first = sym ((needs_are o needs is).each k ∙ ap (λ n. first_or n needs.0 needs.1) first)
+
+pub need_other : (o : Op) (k : ℕ) (needs : Need × Need) → needs_of o ≡ Some needs → (k == 0) ≡ false → needs.1 ≡ need o k
+need_other o k needs is other = sym ((needs_are o needs is).each k ∙ ap (λ b. if b then needs.0 else needs.1) other)
+
+pub need_alternates : (o : Op) (k : ℕ) → needs_of o ≡ None → need o k ≡ (if k % 2 == 0 then PhiValue else Label)
+unfolding needs_of need
+need_alternates code.Phi k none = refl
+need_alternates o k none = cc
 
 pub range_below : (many n : ℕ) → AreBelow (Range 0 n) many n
 range_below many n = record { all = λ k inside. grind (arith, nat_tests) }
@@ -64,7 +81,7 @@ module _ (there : Need → ℕ → Bool) (i : Inst) where
       none_lack (k + 1) ids (λ j inside. let next : k + 1 + j ≡ k + suc j = omega arith in ap (is_id i.op i.args) next ∙ no_ids (suc j) (omega (arith, inside)))
       ∙ ap (λ b. (b && not (there (need i.op k) id)) || list_any (lacks_operand there i) (enumerate_from (k + 1) ids)) (sym here)
 
-  module _ (needs : Need × Need) (are : (k : ℕ) → need i.op k ≡ first_or k needs) where
+  module _ (needs : Need × Need) (are : (k : ℕ) → need i.op k ≡ first_or k needs.0 needs.1) where
     others_lack : (k n : ℕ) (ids : List ℕ) → 1 ≤ k → ((j : ℕ) → j < length ids → is_id i.op i.args (k + j) ≡ nat_lt j n) → list_any (λ other. not (there needs.1 other)) (take n ids) ≡ list_any (lacks_operand there i) (enumerate_from k ids)
     others_lack k n [] above same = ap (list_any (λ other. not (there needs.1 other))) (take-nil n)
     others_lack k zero (id ∷ ids) above same = none_lack k (id ∷ ids) (λ j inside. same j inside ∙ below_none j)

@@ -1,10 +1,14 @@
 -- Refusals of lists that are put together.
-use Rattle.std.proofs.Common.{◌≡◌, ◌<◌, ◌≤◌, ◌+◌, ℕ, zero, suc, ◌==◌, true, Result, IfErr, if◌then◌else◌, arith, List, [], ◌∷◌, ◌++◌, length, take, get_or, ap, sym, ◌∙◌, subst}
+use Rattle.std.proofs.Common.{◌≡◌, ◌<◌, ◌≤◌, ◌+◌, ℕ, zero, suc, true, Some, Result, IfErr, if◌then◌else◌, arith, List, [], ◌∷◌, ◌++◌, length, take, get_or, ap, sym, ◌∙◌, subst}
 use Rattle.std.specs.List.{flat_map, Contains}
 use Rattle.std.proofs.lemmas.List.{take_more, take_all, append-nil}
 use Rattle.std.proofs.lemmas.List.Elements.{Contains-append_left, Contains-append_right}
 use Rattle.std.proofs.lemmas.List.Concat.{flat_map-cons}
 use Rattle.std.proofs.lemmas.Grind.{flat_map-append}
+use Rattle.spv_ops.specs.Opcode.{is, op_of}
+use Rattle.spv_ops.specs.declared.Op.{Op}
+use Rattle.spv_ops.specs.declared.Op.TheVariants as code
+use Rattle.std.specs.Option.{option_map_or}
 use Rattle.spv_words.specs.declared.rule.Refusal.{Refusal}
 use Rattle.spv_words.specs.declared.rule.Fault.{Fault}
 use Rattle.spv_words.specs.declared.rule.Fault.TheVariants.{Refused, Limit as Exceeded, Memory}
@@ -54,10 +58,10 @@ one_at {X} f xs ys i x fault same inside own h =
     subst Q same (one_by f xs i x fault inside (subst P own h))
 
 -- an OpSpecConstantOp is judged as the instruction inside
-pub inside_right : (m : ModuleState) (g i : Inst) (op : ℕ) (r : Result (Unit {0}) Fault) → (g.op == 52) ≡ true → i ≡ inner g → op ≡ word g 0 → IfErr r (IsRefusedBy (broken_as m i op)) → IfErr r (IsRefusedBy (broken_inside m g))
-inside_right m g i op r is_one made opcode h =
-    let same : broken_inside m g ≡ broken_as m i op =
-    ap (λ b. if b then broken_as m (inner g) (word g 0) else []) is_one ∙ (ap (λ j. broken_as m j (word g 0)) (sym made) ∙ ap (broken_as m i) (sym opcode)) in
+pub inside_right : (m : ModuleState) (g i : Inst) (o : Op) (r : Result (Unit {0}) Fault) → (is g.op code.SpecConstantOp) ≡ true → i ≡ inner g → op_of (word g 0) ≡ Some o → IfErr r (IsRefusedBy (broken_as m i o)) → IfErr r (IsRefusedBy (broken_inside m g))
+inside_right m g i o r is_one made opcode h =
+    let same : broken_inside m g ≡ broken_as m i o =
+    ap (λ b. if b then option_map_or (broken_as m (inner g)) (op_of (word g 0)) [] else []) is_one ∙ (ap (λ x. option_map_or (broken_as m (inner g)) x []) opcode ∙ ap (λ j. broken_as m j o) (sym made)) in
     let P : List Refusal → Type 0 = λ l. IfErr r (IsRefusedBy l) in
     subst P (sym same) h
 

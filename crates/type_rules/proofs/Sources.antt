@@ -5,13 +5,15 @@ use Rattle.std.specs.Option.{option_map_or}
 use Rattle.std.proofs.lemmas.List.{take_more, take_all, append-nil, map-append, get_or_default}
 use Rattle.std.proofs.lemmas.List.Elements.{filter-append}
 use Rattle.std.proofs.lemmas.List.Folds.{list_any-append}
-use Rattle.std.proofs.lemmas.List.Sums.{length-filter, sum_by-cons}
+use Rattle.std.proofs.lemmas.List.Sums.{sum_by-cons}
 use Rattle.std.proofs.lemmas.Bool.Decides.{nat_tests, eqb_tells}
+use Rattle.spv_ops.specs.Groups.{is_terminator}
+use Rattle.spv_ops.specs.declared.Op.{Op}
 use Rattle.spv_module.specs.declared.inst.Inst.{Inst}
 use Rattle.spv_module.specs.declared.inst.Block.{Block}
 use Rattle.spv_module.specs.declared.inst.Function.{Function}
 use Rattle.spv_index.specs.Locals.{block_in}
-use Rattle.profile_rules.specs.FlowRules.{is_target, targets, goes, goes_to, is_predecessor, are_no_predecessors, has_repeat}
+use Rattle.profile_rules.specs.FlowRules.{is_target, goes, goes_to, is_predecessor, are_no_predecessors, has_repeat}
 use Rattle.type_rules.specs.declared.edges.Source.{Source}
 use Rattle.type_rules.specs.declared.edges.Sources.{Sources}
 use Rattle.type_rules.proofs.Targets.{no_targets}
@@ -268,13 +270,13 @@ pub operand_passed : (f : Function) (s : Source) (label : ℕ) (b : Bool) (old :
 operand_passed f s label b old never = adds_same f s (λ x. false) (λ x. b && (label == x)) old old (λ x. ap (λ t. t && (label == x)) (sym never)) (adds_none f s old)
 
 -- the labels to which the first operands go
-abbrev pub goes_by : ℕ → List ℕ → ℕ → Bool
+abbrev pub goes_by : Op → List ℕ → ℕ → Bool
 goes_by op args label = list_any (λ l. l == label) (map (λ (o : ℕ × ℕ). o.1) (filter (λ (o : ℕ × ℕ). is_target op o.0) (enumerate_from 0 args)))
 
-goes_one : (op label : ℕ) (p : ℕ × ℕ) → list_any (λ l. l == label) (map (λ (o : ℕ × ℕ). o.1) (filter (λ (o : ℕ × ℕ). is_target op o.0) (p ∷ []))) ≡ (is_target op p.0 && (p.1 == label))
+goes_one : (op : Op) (label : ℕ) (p : ℕ × ℕ) → list_any (λ l. l == label) (map (λ (o : ℕ × ℕ). o.1) (filter (λ (o : ℕ × ℕ). is_target op o.0) (p ∷ []))) ≡ (is_target op p.0 && (p.1 == label))
 goes_one op label p = elim (is_target op p.0) as (λ b. list_any (λ l. l == label) (map (λ (o : ℕ × ℕ). o.1) (cond b (p ∷ []) [])) ≡ (b && (p.1 == label))) [ true ↦ sym (or_false (p.1 == label)) | false ↦ refl ]
 
-goes_more : (op : ℕ) (args : List ℕ) (i w label : ℕ) → i < length args → w ≡ get_or args i w → (goes_by op (take i args) label || (is_target op i && (w == label))) ≡ goes_by op (take (suc i) args) label
+goes_more : (op : Op) (args : List ℕ) (i w label : ℕ) → i < length args → w ≡ get_or args i w → (goes_by op (take i args) label || (is_target op i && (w == label))) ≡ goes_by op (take (suc i) args) label
 goes_more op args i w label inside is =
     let test : ℕ × ℕ → Bool = λ o. is_target op o.0 in
     let word : ℕ × ℕ → ℕ = λ o. o.1 in
@@ -288,7 +290,7 @@ goes_more op args i w label inside is =
     ∙ ap (λ b. list_any hit (map word (filter test front)) || b) (goes_one op label (i, w)))
 
 -- one more operand
-pub operand_more : (f : Function) (s : Source) (op : ℕ) (args : List ℕ) (i w : ℕ) (old mid new : List Sources) → i < length args → w ≡ get_or args i w → Adds f s (goes_by op (take i args)) old mid → Adds f s (λ x. is_target op i && (w == x)) mid new → Adds f s (goes_by op (take (i + 1) args)) old new
+pub operand_more : (f : Function) (s : Source) (op : Op) (args : List ℕ) (i w : ℕ) (old mid new : List Sources) → i < length args → w ≡ get_or args i w → Adds f s (goes_by op (take i args)) old mid → Adds f s (λ x. is_target op i && (w == x)) mid new → Adds f s (goes_by op (take (i + 1) args)) old new
 operand_more f s op args i w old mid new inside is first second =
     let e : suc i ≡ i + 1 = omega arith in
     let P : ℕ → Type 0 = λ n. Adds f s (goes_by op (take n args)) old new in
@@ -361,8 +363,8 @@ asked_of_sources f label labels =
     ap (λ n. (not (length labels == n) || has_repeat labels) || list_any (λ l. not (is_source (sources_of label f.blocks) l)) labels) many
     ∙ ap (λ b. (not (length labels == count_by (goes_to label) f.blocks) || has_repeat labels) || b) others
 
--- what is no branch goes nowhere
-pub inst_passed : (f : Function) (s : Source) (i : Inst) (old : List Sources) → (((i.op == 249) || (i.op == 250)) || (i.op == 251)) ≡ false → Adds f s (λ x. goes x i) old old
+-- what is no terminator goes nowhere
+pub inst_passed : (f : Function) (s : Source) (i : Inst) (old : List Sources) → is_terminator i.op ≡ false → Adds f s (λ x. goes x i) old old
 inst_passed f s i old other =
     adds_same f s (λ x. false) (λ x. goes x i) old old (λ x. sym (ap (list_any (λ l. l == x)) (no_targets i other))) (adds_none f s old)
 

@@ -2,5 +2,4 @@ pub mod Scopes
 pub mod Indexed
 pub mod Edges
 pub mod Matches
-pub mod Groups
 pub mod Needed

@@ -1,5 +1,7 @@
 -- Where the ids of an instruction are looked up.
-use Rattle.std.specs.Prelude.{ℕ, ◌==◌, Bool, Option, Some, None, List, option_and_then}
+use Rattle.std.specs.Prelude.{ℕ, Bool, Option, Some, None, List, option_and_then}
+use Rattle.spv_ops.specs.Opcode.{is}
+use Rattle.spv_ops.specs.declared.Op.{Op}
 use Rattle.spv_module.specs.State.{ModuleState}
 use Rattle.spv_module.specs.declared.inst.Inst.{Inst}
 use Rattle.spv_module.specs.declared.inst.Function.{Function}
@@ -29,11 +31,11 @@ abbrev pub types : Scoped → ℕ → Option ℕ
 types s = types_by s.m.globals s.function
 
 -- how many scalars that this opcode declares a scalar or vector type is made of, and 0 of every other type
-abbrev pub scalars : ℕ → Scoped → ℕ → Option ℕ
-scalars op s ty = option_and_then (count_in (λ (g : Inst). g.op == op) s.m.globals) (type_row s.m.globals ty)
+abbrev pub scalars : Op → Scoped → ℕ → Option ℕ
+scalars op s ty = option_and_then (count_in (λ (g : Inst). is g.op op) s.m.globals) (type_row s.m.globals ty)
 
 -- the same of a value's type
-abbrev pub scalars_of : ℕ → Scoped → ℕ → Option ℕ
+abbrev pub scalars_of : Op → Scoped → ℕ → Option ℕ
 scalars_of op s id = option_and_then (scalars op s) (types s id)
 
 -- for an instruction at word n, what is needed is there

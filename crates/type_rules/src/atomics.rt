@@ -4,14 +4,15 @@ ghost use Rattle.profile_rules.specs.NumberRules.{points_to_other as points_else
 ghost use Rattle.type_rules.specs.Scopes.{types};
 
 use crate::numbers::{behind, front, has_no_int};
-use crate::scope::{POINTER, Scope};
+use crate::scope::Scope;
 use spv_module::Inst;
+use spv_ops::Op;
 
 /// Whether a value does not point to this type.
 pub fn points_to_other(scope: &Scope, pointer: u32, ty: u32) -> bool
     ensures { result ≡ points_elsewhere scope.now.m.globals (types scope.now) pointer ty }
 {
-    scope.value_fails(POINTER, pointer)
+    scope.value_fails(Op::TypePointer, pointer)
         || match scope.pointee_of(pointer) {
             Some(pointee) => scope.differ(pointee, ty),
             None => false,
@@ -23,7 +24,7 @@ pub fn points_to_other(scope: &Scope, pointer: u32, ty: u32) -> bool
 pub fn is_no_content(scope: &Scope, pointer: u32, id: u32) -> bool
     ensures { result ≡ is_other_content scope.now.m.globals (types scope.now) pointer id }
 {
-    scope.value_fails(POINTER, pointer)
+    scope.value_fails(Op::TypePointer, pointer)
         || match scope.pointee_of(pointer) {
             Some(pointee) => scope.is_other(pointee, id),
             None => false,

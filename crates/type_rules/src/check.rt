@@ -2,6 +2,7 @@
 ghost use Rattle.std.specs.Prelude.{◌≡◌, [], true, IfOk, IfErr, OnOk, flat_map, is_some};
 ghost use Rattle.spv_index.specs.Locals.{block_in};
 ghost use Rattle.std.specs.List.{list_any};
+ghost use Rattle.spv_ops.specs.Opcode.{op_of};
 ghost use Rattle.spv_words.specs.Breaks.{NoRuleBroken};
 ghost use Rattle.profile_rules.specs.Operands.{lacks_type, breaks_t1_of};
 ghost use Rattle.profile_rules.specs.TypeRules.{Broken, type_rules, is_broken_outside as is_at_fault_outside, is_broken_in as is_at_fault_in, broken_if, broken_as, broken_inside, broken_by_global, broken_by_local, broken_by_block, broken_by_function, broken, AreWithin, IsRefusedBy, IsRight, inner as inner_of};
@@ -19,6 +20,7 @@ use crate::scope::Scope;
 use profile_rules::{Group, Need};
 use spv_index::Locals;
 use spv_module::{Args, Block, Function, Inst, Module};
+use spv_ops::Op;
 use spv_types::check_limits;
 use spv_words::{Fault, Memory, Refusal, Rule};
 use std::alloc::{AllocError, Global};
@@ -50,7 +52,7 @@ fn is_broken_outside(
 }
 
 /// Checks an instruction outside functions, judged as one with this opcode.
-fn check_as(matching: &mut Matching, scope: &Scope, inst: &Inst, op: u32) -> Result<(), Fault>
+fn check_as(matching: &mut Matching, scope: &Scope, inst: &Inst, op: Op) -> Result<(), Fault>
     requires same_module { matching.old ≡ scope.now.m }
     requires scope { scope.now ≡ outside scope.now.m }
     ensures passes { OnOk result (broken_as scope.now.m inst.now op ≡ []) }
@@ -60,6 +62,18 @@ fn check_as(matching: &mut Matching, scope: &Scope, inst: &Inst, op: u32) -> Res
     let group = group_of(op);
     let is_broken = is_broken_outside(matching, scope, inst, group)?;
     refuse_if(is_broken, rule_of(group), inst.at)
+}
+
+/// The opcode that a word is.
+#[tactic(auto, using(spv_ops::proofs::Opcodes::none_large))]
+fn opcode_of(word: u32) -> Option<Op>
+    ensures { result ≡ op_of word }
+{
+    if word < 65536 {
+        Op::of(word as u16)
+    } else {
+        None
+    }
 }
 
 /// An OpSpecConstantOp without the opcode inside.
@@ -88,11 +102,14 @@ fn check_inside(
     ensures refused { IfErr result (IsRefusedBy (broken_inside scope.now.m inst.now)) }
     ensures same { matching.new ≡ matching.old }
 {
-    if inst.op != 52 {
+    if inst.op != Op::SpecConstantOp {
         return Ok(());
     }
+    let Some(op) = opcode_of(inst.operand(0)) else {
+        return Ok(());
+    };
     let inside = inner(alloc, inst)?;
-    check_as(matching, scope, &inside, inst.operand(0))
+    check_as(matching, scope, &inside, op)
 }
 
 /// Checks an instruction outside functions.
@@ -110,7 +127,7 @@ fn check_global(
     ensures same { matching.new ≡ matching.old }
 {
     refuse_if(is_lacking(scope, inst), Rule::T1, inst.at)?;
-    check_as(matching, scope, inst, u32::from(inst.op))?;
+    check_as(matching, scope, inst, inst.op)?;
     check_inside(alloc, matching, scope, inst)
 }
 
@@ -180,7 +197,7 @@ fn check_local<'b>(
     ensures same_edges { edges.new ≡ edges.old }
 {
     refuse_if(is_lacking(scope, inst), Rule::T1, inst.at)?;
-    let group = group_of(u32::from(inst.op));
+    let group = group_of(inst.op);
     let is_broken = is_broken_in(alloc, matching, scope, locals, edges, block, inst, group)?;
     refuse_if(is_broken, rule_of(group), inst.at)
 }

@@ -5,8 +5,9 @@ ghost use Rattle.profile_rules.specs.ValueRules.{are_other_parts as are_others, 
 ghost use Rattle.profile_rules.specs.TypeRows.{is_other};
 ghost use Rattle.type_rules.specs.Scopes.{types};
 
-use crate::scope::{BOOL, INT, Scope, VECTOR};
+use crate::scope::Scope;
 use spv_module::Inst;
+use spv_ops::Op;
 
 /// Whether one of these values is not of this type.
 pub fn has_other(scope: &Scope, ty: u32, ids: &[u32]) -> bool
@@ -40,16 +41,17 @@ pub fn are_other_members(scope: &Scope, tys: &[u32], ids: &[u32]) -> bool
 pub fn misfit(scope: &Scope, row: &Inst, ids: &[u32]) -> bool
     ensures { result ≡ is_misfit scope.now.m.globals (types scope.now) row.now ids.now }
 {
-    match row.op {
-        VECTOR => are_other_parts(scope, row.operand(1), row.operand(0), ids),
-        // OpTypeArray
-        28 => match scope.constant_word(row.operand(1)) {
+    if row.op == Op::TypeVector {
+        are_other_parts(scope, row.operand(1), row.operand(0), ids)
+    } else if row.op == Op::TypeArray {
+        match scope.constant_word(row.operand(1)) {
             Some(n) => are_other_parts(scope, n, row.operand(0), ids),
             None => false,
-        },
-        // OpTypeStruct
-        30 => are_other_members(scope, row.args.as_slice(), ids),
-        _ => true,
+        }
+    } else if row.op == Op::TypeStruct {
+        are_other_members(scope, row.args.as_slice(), ids)
+    } else {
+        true
     }
 }
 
@@ -57,14 +59,14 @@ pub fn misfit(scope: &Scope, row: &Inst, ids: &[u32]) -> bool
 pub fn is_truth_broken(scope: &Scope, inst: &Inst) -> bool
     ensures { result ≡ breaks_t2_truth scope.now.m.heads scope.now.m.globals inst.now }
 {
-    scope.is_no_value_type(inst.ty) || scope.fails(BOOL, inst.ty)
+    scope.is_no_value_type(inst.ty) || scope.fails(Op::TypeBool, inst.ty)
 }
 
 /// T2: OpConstant, OpSpecConstant.
 pub fn is_number_broken(scope: &Scope, inst: &Inst) -> bool
     ensures { result ≡ breaks_t2_number scope.now.m.heads scope.now.m.globals inst.now }
 {
-    scope.is_no_value_type(inst.ty) || scope.fails(INT, inst.ty)
+    scope.is_no_value_type(inst.ty) || scope.fails(Op::TypeInt, inst.ty)
 }
 
 /// T2: OpConstantComposite, OpSpecConstantComposite.
@@ -112,7 +114,7 @@ fn given(scope: &Scope, component: u32, id: u32) -> Option<u32>
 fn given_by(scope: &Scope, component: u32, ty: u32, row: &Inst) -> u32
     ensures { result ≡ given_components_by scope.now.m.globals component ty row.now }
 {
-    if row.op != VECTOR {
+    if row.op != Op::TypeVector {
         return if scope.differ(component, ty) { 0 } else { 1 };
     }
     if scope.differ(component, row.operand(0)) {
@@ -174,7 +176,7 @@ fn is_other_count(scope: &Scope, n: u32, component: u32, ids: &[u32]) -> bool
 fn is_misbuilt(scope: &Scope, row: &Inst, ids: &[u32]) -> bool
     ensures { result ≡ is_misbuilt_of scope.now.m.globals (types scope.now) ids.now row.now }
 {
-    if row.op == VECTOR {
+    if row.op == Op::TypeVector {
         is_other_count(scope, row.operand(1), row.operand(0), ids)
     } else {
         misfit(scope, row, ids)

@@ -6,6 +6,7 @@ ghost use Rattle.type_rules.specs.Edges.{list_of, sources_of, ends_at as ends_at
 
 use spv_index::Locals;
 use spv_module::{Block, Function, Inst};
+use spv_ops::Op;
 use std::alloc::{AllocError, Global};
 use std::marker::Model;
 use std::slice::from_ref;
@@ -59,14 +60,13 @@ impl<'a> Model for Edges<'a> {
 }
 
 /// Whether operand k is a label to which an instruction goes.
-fn is_target(op: u16, k: usize) -> bool
+fn is_target(op: Op, k: usize) -> bool
     ensures { result ≡ is_target_of op k }
 {
     match op {
-        // OpBranch, OpBranchConditional, OpSwitch
-        249 => k == 0,
-        250 => k == 1 || k == 2,
-        251 => k % 2 == 1,
+        Op::Branch => k == 0,
+        Op::BranchConditional => k == 1 || k == 2,
+        Op::Switch => k % 2 == 1,
         _ => false,
     }
 }
@@ -160,7 +160,7 @@ fn add_operand(
     lists: &mut Vec<Sources>,
     locals: &Locals,
     source: Source,
-    op: u16,
+    op: Op,
     k: usize,
     label: u32,
 ) -> Result<(), AllocError>
@@ -193,14 +193,7 @@ fn add_targets(
     Ok(())
 }
 
-/// Whether this is OpBranch, OpBranchConditional or OpSwitch.
-fn is_branch(op: u16) -> bool
-    ensures { result ≡ (((op == 249) || (op == 250)) || (op == 251)) }
-{
-    op == 249 || op == 250 || op == 251
-}
-
-/// Adds a block to those that go to the labels of an instruction. Only branches have some.
+/// Adds a block to those that go to the labels of an instruction. Only terminators have some.
 fn add_inst(
     alloc: Global,
     lists: &mut Vec<Sources>,
@@ -211,7 +204,7 @@ fn add_inst(
     requires { length lists.old.items ≡ length locals.now.blocks }
     ensures { OnOk result (Adds locals.now source (λ x. goes x inst.now) lists.old.items lists.new.items) }
 {
-    if is_branch(inst.op) {
+    if inst.op.is_terminator() {
         add_targets(alloc, lists, locals, source, inst)
     } else {
         Ok(())

@@ -14,9 +14,10 @@ ghost use Rattle.type_rules.specs.Scopes.{types};
 use crate::composites::{are_other_members, has_other};
 use crate::edges::{Edges, LazyEdges, Source};
 use crate::numbers::behind;
-use crate::scope::{BOOL, INT, Scope, VOID};
+use crate::scope::Scope;
 use spv_index::Locals;
 use spv_module::{Block, Function, Id, Inst};
+use spv_ops::Op;
 use spv_words::Memory;
 use std::alloc::{AllocError, Global};
 use std::collections::BTreeSet;
@@ -26,7 +27,11 @@ fn function_type<'a>(scope: &Scope<'a, '_>, function: &Function) -> Option<&'a I
     ensures { option_copied result ≡ function_type_of scope.now.m.globals function.now }
 {
     let row = scope.global(function.ty.0)?;
-    if row.op == 33 { Some(row) } else { None }
+    if row.op == Op::TypeFunction {
+        Some(row)
+    } else {
+        None
+    }
 }
 
 /// Whether a call does not match a function type.
@@ -298,14 +303,14 @@ pub fn is_phi_broken<'b>(
 pub fn is_branch_broken(scope: &Scope, inst: &Inst) -> bool
     ensures { result ≡ breaks_t23_branch scope.now.m.globals (types scope.now) inst.now }
 {
-    scope.value_fails(BOOL, inst.operand(0))
+    scope.value_fails(Op::TypeBool, inst.operand(0))
 }
 
 /// T23: OpSwitch.
 pub fn is_switch_broken(alloc: Global, scope: &Scope, inst: &Inst) -> Result<bool, Memory>
     ensures { IfOk result (λ b. b ≡ breaks_t23_switch scope.now.m.globals (types scope.now) inst.now) }
 {
-    if scope.value_fails(INT, inst.operand(0)) {
+    if scope.value_fails(Op::TypeInt, inst.operand(0)) {
         return Ok(true);
     }
     let literals = every_second(alloc, 0, behind(inst, 2))?;
@@ -316,7 +321,7 @@ pub fn is_switch_broken(alloc: Global, scope: &Scope, inst: &Inst) -> Result<boo
 pub fn is_return_broken(scope: &Scope, function: &Function) -> bool
     ensures { result ≡ breaks_t24_return scope.now.m.globals function.now }
 {
-    scope.fails(VOID, function.result.0)
+    scope.fails(Op::TypeVoid, function.result.0)
 }
 
 /// T24: OpReturnValue.

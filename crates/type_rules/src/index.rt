@@ -11,6 +11,7 @@ ghost use Rattle.type_rules.specs.Indexed.{AreImports, or_entry};
 
 use spv_index::{Functions, ValueTypes};
 use spv_module::{Function, Id, Inst, Module};
+use spv_ops::Op;
 use spv_words::Memory;
 use std::alloc::{AllocError, Global};
 use std::collections::BTreeMap;
@@ -57,8 +58,7 @@ fn imports_of(alloc: Global, heads: &[Inst]) -> Result<BTreeMap<u32, u32>, Alloc
 {
     let mut imports = BTreeMap::new(alloc);
     for head in heads {
-        // OpExtInstImport
-        if head.op == 11 {
+        if head.op == Op::ExtInstImport {
             put_first(&mut imports, head.result, head.at)?;
         }
     }

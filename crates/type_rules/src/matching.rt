@@ -9,8 +9,9 @@ ghost use Rattle.type_rules.specs.Matches.{AreKnown};
 
 use crate::index::ModuleIndex;
 use crate::numbers::is_not;
-use crate::scope::{Scope, VOID};
+use crate::scope::Scope;
 use spv_module::Inst;
+use spv_ops::Op;
 use spv_words::Memory;
 use std::alloc::{AllocError, Global};
 use std::collections::BTreeMap;
@@ -72,7 +73,7 @@ fn match_row(scope: &Scope, row: &Inst, b: u32, known: &mut Known) -> Result<boo
     let Some(other) = scope.type_row(b) else {
         return Ok(true);
     };
-    if row.result == b && row.op != VOID {
+    if row.result == b && row.op != Op::TypeVoid {
         return Ok(true);
     }
     match_parts(scope, row, other, known)
@@ -93,29 +94,22 @@ fn match_parts(
     if row.op != other.op {
         return Ok(false);
     }
-    match row.op {
-        // OpTypeArray
-        28 => {
-            if !is_same_length(scope, row.operand(1), other.operand(1)) {
-                return Ok(false);
-            }
-            match_part(scope, row.at, row.operand(0), other.operand(0), known)
+    if row.op == Op::TypeArray {
+        if !is_same_length(scope, row.operand(1), other.operand(1)) {
+            return Ok(false);
         }
-        // OpTypeStruct
-        30 => {
-            if row.args.len() != other.args.len() {
-                return Ok(false);
-            }
-            match_all(
-                scope,
-                row.at,
-                row.args.as_slice(),
-                other.args.as_slice(),
-                known,
-            )
-        }
-        _ => Ok(false),
+        return match_part(scope, row.at, row.operand(0), other.operand(0), known);
     }
+    if row.op != Op::TypeStruct || row.args.len() != other.args.len() {
+        return Ok(false);
+    }
+    match_all(
+        scope,
+        row.at,
+        row.args.as_slice(),
+        other.args.as_slice(),
+        known,
+    )
 }
 
 /// Whether the members of two structs match.

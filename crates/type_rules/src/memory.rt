@@ -8,9 +8,10 @@ ghost use Rattle.type_rules.specs.Scopes.{types};
 
 use crate::atomics::{is_no_content, points_to_other};
 use crate::numbers::{behind, has_no_int, is_not};
-use crate::scope::{POINTER, RUNTIME_ARRAY, Scope};
+use crate::scope::Scope;
 use profile_rules::Reached;
 use spv_module::Inst;
+use spv_ops::{Op, StorageClass};
 
 /// T4: OpLoad.
 pub fn is_load_broken(scope: &Scope, inst: &Inst) -> bool
@@ -58,12 +59,15 @@ fn member_by(scope: &Scope, row: &Inst, id: u32) -> Reached
 fn chain_part(scope: &Scope, row: &Inst, id: u32) -> Reached
     ensures { result ≡ part_by scope.now.m.globals (types scope.now) row.now id }
 {
-    match row.op {
-        // OpTypeStruct
-        30 => member_by(scope, row, id),
-        // OpTypeVector, OpTypeArray, OpTypeRuntimeArray
-        23 | 28 | 29 => Reached::Part(row.operand(0)),
-        _ => Reached::Nothing,
+    if row.op == Op::TypeStruct {
+        member_by(scope, row, id)
+    } else if row.op == Op::TypeVector
+        || row.op == Op::TypeArray
+        || row.op == Op::TypeRuntimeArray
+    {
+        Reached::Part(row.operand(0))
+    } else {
+        Reached::Nothing
     }
 }
 
@@ -97,7 +101,7 @@ fn chain_end(scope: &Scope, inst: &Inst) -> Reached
 fn is_other_pointer(scope: &Scope, ty: u32, class: Option<u32>, part: u32) -> bool
     ensures { result ≡ is_another_pointer scope.now.m.globals ty class part }
 {
-    scope.fails(POINTER, ty)
+    scope.fails(Op::TypePointer, ty)
         || match class {
             Some(class) => is_not(class, scope.storage_class(ty)),
             None => false,
@@ -131,7 +135,7 @@ pub fn is_chain_broken(scope: &Scope, inst: &Inst) -> bool
     ensures { result ≡ breaks_t6 scope.now.m.globals (types scope.now) inst.now }
 {
     let base = inst.operand(0);
-    scope.value_fails(POINTER, base)
+    scope.value_fails(Op::TypePointer, base)
         || has_no_int(scope, behind(inst, 1))
         || leads_elsewhere(
             scope,
@@ -145,16 +149,19 @@ pub fn is_chain_broken(scope: &Scope, inst: &Inst) -> bool
 fn is_block_variable(inst: &Inst) -> bool
     ensures { result ≡ is_block inst.now }
 {
-    inst.op == 59 && (inst.operand(0) == 2 || inst.operand(0) == 9 || inst.operand(0) == 12)
+    inst.op == Op::Variable
+        && (inst.operand(0) == StorageClass::Uniform.number()
+            || inst.operand(0) == StorageClass::PushConstant.number()
+            || inst.operand(0) == StorageClass::StorageBuffer.number())
 }
 
 /// Whether a type is no struct with a runtime array as this member.
 fn lacks_array(scope: &Scope, member: u32, row: &Inst) -> bool
     ensures { result ≡ lacks_array_at scope.now.m.globals member row.now }
 {
-    row.op != 30
+    row.op != Op::TypeStruct
         || member as usize >= row.args.len()
-        || scope.fails(RUNTIME_ARRAY, row.operand(member as usize))
+        || scope.fails(Op::TypeRuntimeArray, row.operand(member as usize))
 }
 
 /// The type to which a variable points.

@@ -5,8 +5,9 @@ ghost use Rattle.profile_rules.specs.NumberRules.{are_unlike_ints as are_unlike,
 ghost use Rattle.type_rules.specs.Scopes.{types, scalars, scalars_of};
 ghost use Rattle.std.specs.List.{list_any};
 
-use crate::scope::{BOOL, INT, Scope, VECTOR};
+use crate::scope::Scope;
 use spv_module::Inst;
+use spv_ops::Op;
 
 /// Whether a number is known, and is not n.
 pub fn is_not(n: u32, number: Option<u32>) -> bool
@@ -33,14 +34,14 @@ pub fn front(words: &[u32], k: usize) -> &[u32]
 }
 
 /// Whether a value is not made of n scalars that this opcode declares.
-fn has_other_count(scope: &Scope, op: u16, n: u32, ids: &[u32]) -> bool
+fn has_other_count(scope: &Scope, op: Op, n: u32, ids: &[u32]) -> bool
     ensures { result ≡ list_any (λ id. is_not_number n (scalars_of op scope.now id)) ids.now }
 {
     ids.iter().any(|id| is_not(n, scope.count_of(op, *id)))
 }
 
 /// Whether a value is not made of n scalars that this opcode declares, as those of a known type are.
-fn is_other_count(scope: &Scope, op: u16, n: u32, like: u32, id: u32) -> bool
+fn is_other_count(scope: &Scope, op: Op, n: u32, like: u32, id: u32) -> bool
     requires { scalars op scope.now like ≡ Some n }
     ensures { result ≡ is_not_number n (scalars_of op scope.now id) }
 {
@@ -52,7 +53,7 @@ fn is_other_count(scope: &Scope, op: u16, n: u32, like: u32, id: u32) -> bool
 
 /// Whether one of these is not made of n scalars that this opcode declares, as those of a known type are.
 #[inline(always)]
-fn has_count_unlike(scope: &Scope, op: u16, n: u32, like: u32, ids: &[u32]) -> bool
+fn has_count_unlike(scope: &Scope, op: Op, n: u32, like: u32, ids: &[u32]) -> bool
     requires { scalars op scope.now like ≡ Some n }
     ensures { result ≡ list_any (λ id. is_not_number n (scalars_of op scope.now id)) ids.now }
 {
@@ -63,7 +64,7 @@ fn has_count_unlike(scope: &Scope, op: u16, n: u32, like: u32, ids: &[u32]) -> b
 pub fn has_no_int(scope: &Scope, ids: &[u32]) -> bool
     ensures { result ≡ has_none_int scope.now.m.globals (types scope.now) ids.now }
 {
-    ids.iter().any(|id| scope.value_fails(INT, *id))
+    ids.iter().any(|id| scope.value_fails(Op::TypeInt, *id))
 }
 
 /// Whether a result is no int, or a value is no int with as many components.
@@ -71,8 +72,8 @@ pub fn has_no_int(scope: &Scope, ids: &[u32]) -> bool
 fn are_unlike_ints(scope: &Scope, ty: u32, ids: &[u32]) -> bool
     ensures { result ≡ are_unlike scope.now.m.globals (types scope.now) ty ids.now }
 {
-    match scope.count(INT, ty) {
-        Some(n) => n == 0 || has_count_unlike(scope, INT, n, ty, ids),
+    match scope.count(Op::TypeInt, ty) {
+        Some(n) => n == 0 || has_count_unlike(scope, Op::TypeInt, n, ty, ids),
         None => false,
     }
 }
@@ -88,8 +89,8 @@ pub fn is_arithmetic_broken(scope: &Scope, inst: &Inst) -> bool
 pub fn is_comparison_broken(scope: &Scope, inst: &Inst) -> bool
     ensures { result ≡ breaks_t14 scope.now.m.globals (types scope.now) inst.now }
 {
-    match scope.count(BOOL, inst.ty) {
-        Some(n) => n == 0 || has_other_count(scope, INT, n, inst.args.as_slice()),
+    match scope.count(Op::TypeBool, inst.ty) {
+        Some(n) => n == 0 || has_other_count(scope, Op::TypeInt, n, inst.args.as_slice()),
         None => false,
     }
 }
@@ -98,8 +99,9 @@ pub fn is_comparison_broken(scope: &Scope, inst: &Inst) -> bool
 pub fn is_logical_broken(scope: &Scope, inst: &Inst) -> bool
     ensures { result ≡ breaks_t15 scope.now.m.globals (types scope.now) inst.now }
 {
-    match scope.count(BOOL, inst.ty) {
-        Some(n) => n == 0 || has_count_unlike(scope, BOOL, n, inst.ty, inst.args.as_slice()),
+    match scope.count(Op::TypeBool, inst.ty) {
+        Some(n) => n == 0
+            || has_count_unlike(scope, Op::TypeBool, n, inst.ty, inst.args.as_slice()),
         None => false,
     }
 }
@@ -107,14 +109,14 @@ pub fn is_logical_broken(scope: &Scope, inst: &Inst) -> bool
 fn is_no_bool_vector(scope: &Scope, id: u32) -> bool
     ensures { result ≡ is_none scope.now.m.globals (types scope.now) id }
 {
-    scope.value_fails(VECTOR, id) || scope.count_of(BOOL, id) == Some(0)
+    scope.value_fails(Op::TypeVector, id) || scope.count_of(Op::TypeBool, id) == Some(0)
 }
 
 /// T16: OpAny and OpAll.
 pub fn is_any_or_all_broken(scope: &Scope, inst: &Inst) -> bool
     ensures { result ≡ breaks_t16 scope.now.m.globals (types scope.now) inst.now }
 {
-    scope.fails(BOOL, inst.ty) || is_no_bool_vector(scope, inst.operand(0))
+    scope.fails(Op::TypeBool, inst.ty) || is_no_bool_vector(scope, inst.operand(0))
 }
 
 /// T18: bit operations, of which the first so many operands are like the result.

@@ -5,88 +5,70 @@ ghost use Rattle.std.specs.List.{list_any, enumerate_from};
 ghost use Rattle.spv_ops.specs.Operands.{has_id, is_id};
 ghost use Rattle.spv_module.specs.Inst.{has_type as has_type_by};
 ghost use Rattle.spv_index.specs.Locals.{typed, inst_in};
-ghost use Rattle.profile_rules.specs.Operands.{needs_of as needs_by, need as need_by, type_need as type_need_by, suits as suits_need, is_global as is_global_before, is_local as is_local_value, is_there_in as is_there_in_function, lacks_operand as lacks_operand_by, lacks};
+ghost use Rattle.profile_rules.specs.Operands.{need as need_by, type_need as type_need_by, suits as suits_need, is_global as is_global_before, is_local as is_local_value, is_there_in as is_there_in_function, lacks_operand as lacks_operand_by, lacks};
 ghost use Rattle.type_rules.specs.Scopes.{there};
-ghost use Rattle.type_rules.specs.Needed.{AreNeeds, AreBelow, lacks_of as lacks_those};
+ghost use Rattle.type_rules.specs.Needed.{AreNeeds, AreBelow, needs_of as needs_by, lacks_of as lacks_those};
 
 use crate::scope::Scope;
 use profile_rules::Need;
 use spv_index::Locals;
 use spv_module::Inst;
-use spv_ops::{IdWords, id_words, shape_of};
-
-/// What the first operand id of an opcode has to be, and the others, where that is not a value.
-#[tactic(auto, unfolding(profile_rules::specs::Operands::needs_of))]
-fn needs_in_table(op: u16) -> Option<(Need, Need)>
-    ensures { result ≡ needs_by op }
-{
-    match op {
-        // OpExtInst
-        12 => Some((Need::Import, Need::Value)),
-        // OpTypeVector, OpTypeRuntimeArray, OpTypeStruct, OpTypePointer, OpTypeFunction
-        23 | 29 | 30 | 32 | 33 => Some((Need::AnyType, Need::AnyType)),
-        // OpTypeArray
-        28 => Some((Need::AnyType, Need::Constant)),
-        // OpConstantComposite, OpSpecConstantComposite, OpSpecConstantOp, OpVariable
-        44 | 51 | 52 | 59 => Some((Need::Constant, Need::Constant)),
-        // OpFunctionCall
-        57 => Some((Need::Callee, Need::Value)),
-        // OpLoopMerge, OpSelectionMerge, OpBranch
-        246 | 247 | 249 => Some((Need::Label, Need::Label)),
-        // OpBranchConditional, OpSwitch
-        250 | 251 => Some((Need::Value, Need::Label)),
-        _ => None,
-    }
-}
+use spv_ops::{IdWords, Op, id_words};
 
 /// What the first operand id of an opcode has to be, and the others; of OpPhi values and labels
 /// alternate.
-#[tactic(auto, using(crate::proofs::Needed::needs_are))]
-fn needs_of(op: u16) -> Option<(Need, Need)>
-    ensures { IfSome result (AreNeeds op) }
+#[tactic(auto, unfolding(crate::specs::Needed::needs_of))]
+fn needs_of(op: Op) -> Option<(Need, Need)>
+    ensures { result ≡ needs_by op }
 {
-    if op == 245 {
-        return None;
+    match op {
+        Op::Phi => None,
+        Op::ExtInst => Some((Need::Import, Need::Value)),
+        Op::TypeVector
+        | Op::TypeRuntimeArray
+        | Op::TypeStruct
+        | Op::TypePointer
+        | Op::TypeFunction => Some((Need::AnyType, Need::AnyType)),
+        Op::TypeArray => Some((Need::AnyType, Need::Constant)),
+        Op::ConstantComposite | Op::SpecConstantComposite | Op::SpecConstantOp | Op::Variable =>
+            Some((Need::Constant, Need::Constant)),
+        Op::FunctionCall => Some((Need::Callee, Need::Value)),
+        Op::LoopMerge | Op::SelectionMerge | Op::Branch => Some((Need::Label, Need::Label)),
+        Op::BranchConditional | Op::Switch => Some((Need::Value, Need::Label)),
+        _ => Some((Need::Value, Need::Value)),
     }
-    Some(needs_in_table(op).unwrap_or((Need::Value, Need::Value)))
 }
 
-/// What operand k has to be where it is an id. Values and labels of OpPhi alternate.
-fn need(op: u16, k: usize) -> Need
+/// What operand k has to be where it is an id.
+#[tactic(auto, using(crate::proofs::Needed::need_first, crate::proofs::Needed::need_other, crate::proofs::Needed::need_alternates))]
+fn need(op: Op, k: usize) -> Need
     ensures { result ≡ need_by op k }
 {
-    if op == 245 {
-        return if k % 2 == 0 {
+    match needs_of(op) {
+        Some(needs) => if k == 0 { needs.0 } else { needs.1 },
+        None => if k % 2 == 0 {
             Need::PhiValue
         } else {
             Need::Label
-        };
-    }
-    match needs_in_table(op) {
-        Some((first, rest)) => if k == 0 { first } else { rest },
-        None => Need::Value,
+        },
     }
 }
 
 /// What the result type has to be: of OpVariable a pointer.
-fn type_need(op: u16) -> Need
+fn type_need(op: Op) -> Need
     ensures { result ≡ type_need_by op }
 {
-    if op == 59 {
-        Need::PointerType
-    } else {
-        Need::AnyType
+    match op {
+        Op::Variable => Need::PointerType,
+        _ => Need::AnyType,
     }
 }
 
-/// Whether the table gives an opcode a result type.
-fn has_type(op: u16) -> bool
+/// Whether instructions with an opcode have a result type.
+fn has_type(op: Op) -> bool
     ensures { result ≡ has_type_by op }
 {
-    match shape_of(op) {
-        Some(shape) => shape.has_type,
-        None => false,
-    }
+    op.shape().has_type
 }
 
 /// Whether an instruction has a result type.
@@ -101,10 +83,10 @@ fn suits(need: Need, inst: &Inst) -> bool
     ensures { result ≡ suits_need need inst.now }
 {
     match need {
-        Need::AnyType => inst.op >= 19 && inst.op <= 33,
-        Need::PointerType => inst.op == 32,
-        Need::FunctionType => inst.op == 33,
-        Need::Constant => inst.op == 1 || (inst.op >= 41 && inst.op <= 52),
+        Need::AnyType => inst.op.is_type(),
+        Need::PointerType => inst.op == Op::TypePointer,
+        Need::FunctionType => inst.op == Op::TypeFunction,
+        Need::Constant => inst.op.is_constant(),
         Need::Value | Need::PhiValue => is_typed(inst),
         Need::Label | Need::Callee | Need::Import => false,
     }
@@ -256,6 +238,7 @@ fn lacks_by(scope: &Scope, inst: &Inst, needs: (Need, Need), ids: IdWords) -> bo
 }
 
 /// Whether an operand is not there.
+#[tactic(auto, using(crate::proofs::Needed::needs_are))]
 fn lacks_operands(scope: &Scope, inst: &Inst) -> bool
     ensures { result ≡ list_any (lacks_operand_by (there scope.now inst.now.at) inst.now) (enumerate_from 0 inst.now.args) }
 {

@@ -8,6 +8,7 @@ use crate::numbers::behind;
 use crate::scope::Scope;
 use profile_rules::Reached;
 use spv_module::Inst;
+use spv_ops::Op;
 
 /// Component or element k of n.
 fn one_of(n: u32, row: &Inst, k: u32) -> Reached
@@ -24,16 +25,19 @@ fn one_of(n: u32, row: &Inst, k: u32) -> Reached
 fn literal_part(scope: &Scope, row: &Inst, k: u32) -> Reached
     ensures { result ≡ literal_part_of scope.now.m.globals row.now k }
 {
-    match row.op {
-        // OpTypeVector, OpTypeArray, OpTypeRuntimeArray, OpTypeStruct
-        23 => one_of(row.operand(1), row, k),
-        28 => match scope.constant_word(row.operand(1)) {
+    if row.op == Op::TypeVector {
+        one_of(row.operand(1), row, k)
+    } else if row.op == Op::TypeArray {
+        match scope.constant_word(row.operand(1)) {
             Some(n) => one_of(n, row, k),
             None => Reached::Unknown,
-        },
-        29 => Reached::Part(row.operand(0)),
-        30 => nth_member(row, k),
-        _ => Reached::Nothing,
+        }
+    } else if row.op == Op::TypeRuntimeArray {
+        Reached::Part(row.operand(0))
+    } else if row.op == Op::TypeStruct {
+        nth_member(row, k)
+    } else {
+        Reached::Nothing
     }
 }
 

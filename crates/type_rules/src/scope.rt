@@ -1,30 +1,19 @@
 // Types, and the types of values, as an instruction sees them.
-ghost use Rattle.std.specs.Prelude.{◌≡◌, ◌==◌, not};
+ghost use Rattle.std.specs.Prelude.{◌≡◌, not};
 ghost use Rattle.std.specs.Option.{option_copied};
+ghost use Rattle.spv_ops.specs.Opcode.{is};
 ghost use Rattle.spv_module.specs.Held.{global};
 ghost use Rattle.spv_index.specs.Pointers.{pointee, storage_class};
 ghost use Rattle.spv_index.specs.ValueTypes.{is_no_value_type};
 ghost use Rattle.profile_rules.specs.NumberRules.{pointee_of};
-ghost use Rattle.profile_rules.specs.TypeRows.{type_row, fails, is_uint, differ, value_fails, is_other, component, size, constant_word};
+ghost use Rattle.profile_rules.specs.TypeRows.{type_row, fails, is_void, is_uint, differ, value_fails, is_other, component, size, constant_word};
 ghost use Rattle.type_rules.specs.Scopes.{types, scalars, scalars_of, outside, inside};
 
 use crate::index::ModuleIndex;
 use spv_index::{Locals, global_type, pointer, type_in};
 use spv_module::{Id, Inst};
+use spv_ops::Op;
 use std::marker::Model;
-
-/// OpTypeVoid, OpTypeBool, OpTypeInt, OpTypeVector, OpTypeRuntimeArray, OpTypePointer.
-pub const VOID: u16 = 19;
-
-pub const BOOL: u16 = 20;
-
-pub const INT: u16 = 21;
-
-pub const VECTOR: u16 = 23;
-
-pub const RUNTIME_ARRAY: u16 = 29;
-
-pub const POINTER: u16 = 32;
 
 /// A module, and the function in which ids are looked up, if any. Contracts see both.
 #[derive(Drop)]
@@ -96,11 +85,7 @@ impl<'a, 'b> Scope<'a, 'b> {
         ensures { option_copied result ≡ type_row self.now.m.globals id }
     {
         let inst = self.global(id)?;
-        if inst.op >= 19 && inst.op <= 33 {
-            Some(inst)
-        } else {
-            None
-        }
+        if inst.op.is_type() { Some(inst) } else { None }
     }
 
     /// The type of the value with this id.
@@ -115,17 +100,18 @@ impl<'a, 'b> Scope<'a, 'b> {
     }
 
     /// Whether a type is not declared by this opcode.
-    pub fn fails(&self, op: u16, ty: u32) -> bool
-        ensures { result ≡ fails (λ g. g.op == op) self.now.m.globals ty }
+    pub fn fails(&self, op: Op, ty: u32) -> bool
+        ensures { result ≡ fails (λ g. is g.op op) self.now.m.globals ty }
     {
         self.type_row(ty).map_or(false, |row| row.op != op)
     }
 
     /// Whether a type is OpTypeVoid.
     pub fn is_void(&self, ty: u32) -> bool
-        ensures { result ≡ fails (λ g. not (g.op == 19)) self.now.m.globals ty }
+        ensures { result ≡ fails (λ g. not (is_void g)) self.now.m.globals ty }
     {
-        self.type_row(ty).map_or(false, |row| row.op == VOID)
+        self.type_row(ty)
+            .map_or(false, |row| row.op == Op::TypeVoid)
     }
 
     /// Whether a type is not a 32-bit integer without a sign.
@@ -133,7 +119,7 @@ impl<'a, 'b> Scope<'a, 'b> {
         ensures { result ≡ fails is_uint self.now.m.globals ty }
     {
         match self.type_row(ty) {
-            Some(row) => row.op != INT || row.operand(0) != 32 || row.operand(1) != 0,
+            Some(row) => row.op != Op::TypeInt || row.operand(0) != 32 || row.operand(1) != 0,
             None => false,
         }
     }
@@ -148,8 +134,8 @@ impl<'a, 'b> Scope<'a, 'b> {
 
     /// Whether a value's type is not declared by this opcode.
     #[inline(always)]
-    pub fn value_fails(&self, op: u16, id: u32) -> bool
-        ensures { result ≡ value_fails (λ g. g.op == op) self.now.m.globals (types self.now) id }
+    pub fn value_fails(&self, op: Op, id: u32) -> bool
+        ensures { result ≡ value_fails (λ g. is g.op op) self.now.m.globals (types self.now) id }
     {
         match self.type_of(id) {
             Some(ty) => self.fails(op, ty),
@@ -173,7 +159,7 @@ impl<'a, 'b> Scope<'a, 'b> {
         ensures { result ≡ component self.now.m.globals ty }
     {
         let row = self.type_row(ty)?;
-        if row.op == VECTOR {
+        if row.op == Op::TypeVector {
             Some(row.operand(0))
         } else {
             None
@@ -185,7 +171,7 @@ impl<'a, 'b> Scope<'a, 'b> {
         ensures { result ≡ size self.now.m.globals ty }
     {
         let row = self.type_row(ty)?;
-        if row.op == VECTOR {
+        if row.op == Op::TypeVector {
             Some(row.operand(1))
         } else {
             None
@@ -194,11 +180,11 @@ impl<'a, 'b> Scope<'a, 'b> {
 
     /// How many scalars that this opcode declares a scalar or vector type is made of, and 0 of every
     /// other type.
-    pub fn count(&self, op: u16, ty: u32) -> Option<u32>
+    pub fn count(&self, op: Op, ty: u32) -> Option<u32>
         ensures { result ≡ scalars op self.now ty }
     {
         let row = self.type_row(ty)?;
-        if row.op != VECTOR {
+        if row.op != Op::TypeVector {
             return Some(u32::from(row.op == op));
         }
         let part = self.type_row(row.operand(0))?;
@@ -207,7 +193,7 @@ impl<'a, 'b> Scope<'a, 'b> {
 
     /// The same of a value's type.
     #[inline(always)]
-    pub fn count_of(&self, op: u16, id: u32) -> Option<u32>
+    pub fn count_of(&self, op: Op, id: u32) -> Option<u32>
         ensures { result ≡ scalars_of op self.now id }
     {
         self.count(op, self.type_of(id)?)
@@ -246,7 +232,7 @@ impl<'a, 'b> Scope<'a, 'b> {
         ensures { result ≡ constant_word self.now.m.globals id }
     {
         let inst = self.global(id)?;
-        if inst.op == 43 {
+        if inst.op == Op::Constant {
             Some(inst.operand(0))
         } else {
             None

@@ -4,21 +4,22 @@ ghost use Rattle.profile_rules.specs.NumberRules.{has_other_size as has_another_
 ghost use Rattle.type_rules.specs.Scopes.{types};
 
 use crate::numbers::is_not;
-use crate::scope::{BOOL, Scope, VECTOR};
+use crate::scope::Scope;
 use spv_module::Inst;
+use spv_ops::Op;
 
 fn has_other_size(scope: &Scope, ty: u32, n: u32) -> bool
     ensures { result ≡ has_another_size scope.now.m.globals ty n }
 {
-    scope.fails(VECTOR, ty) || is_not(n, scope.size(ty))
+    scope.fails(Op::TypeVector, ty) || is_not(n, scope.size(ty))
 }
 
 /// Whether a condition is neither a bool nor a vector of as many bools as the result has components.
 fn is_no_condition(scope: &Scope, ty: u32, condition: u32) -> bool
     ensures { result ≡ is_none scope.now.m.globals ty condition }
 {
-    match scope.count(BOOL, condition) {
-        Some(n) => n == 0 || (scope.fails(BOOL, condition) && has_other_size(scope, ty, n)),
+    match scope.count(Op::TypeBool, condition) {
+        Some(n) => n == 0 || (scope.fails(Op::TypeBool, condition) && has_other_size(scope, ty, n)),
         None => false,
     }
 }

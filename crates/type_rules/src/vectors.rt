@@ -6,8 +6,9 @@ ghost use Rattle.profile_rules.specs.ValueRules.{breaks_t8_extract, breaks_t8_in
 ghost use Rattle.type_rules.specs.Scopes.{types};
 
 use crate::numbers::behind;
-use crate::scope::{INT, Scope, VECTOR};
+use crate::scope::Scope;
 use spv_module::Inst;
+use spv_ops::Op;
 
 /// The component type of a vector type that is known.
 fn component_if(scope: &Scope, ty: Option<u32>) -> Option<u32>
@@ -28,8 +29,8 @@ pub fn is_extract_dynamic_broken(scope: &Scope, inst: &Inst) -> bool
     ensures { result ≡ breaks_t8_extract scope.now.m.globals (types scope.now) inst.now }
 {
     let vector = inst.operand(0);
-    scope.value_fails(VECTOR, vector)
-        || scope.value_fails(INT, inst.operand(1))
+    scope.value_fails(Op::TypeVector, vector)
+        || scope.value_fails(Op::TypeInt, inst.operand(1))
         || match component_if(scope, scope.type_of(vector)) {
             Some(component) => scope.differ(inst.ty, component),
             None => false,
@@ -50,9 +51,9 @@ fn is_other_component(scope: &Scope, ty: u32, id: u32) -> bool
 pub fn is_insert_dynamic_broken(scope: &Scope, inst: &Inst) -> bool
     ensures { result ≡ breaks_t8_insert scope.now.m.globals (types scope.now) inst.now }
 {
-    scope.fails(VECTOR, inst.ty)
-        || scope.value_fails(VECTOR, inst.operand(0))
-        || scope.value_fails(INT, inst.operand(2))
+    scope.fails(Op::TypeVector, inst.ty)
+        || scope.value_fails(Op::TypeVector, inst.operand(0))
+        || scope.value_fails(Op::TypeInt, inst.operand(2))
         || scope.is_other(inst.ty, inst.operand(0))
         || is_other_component(scope, inst.ty, inst.operand(1))
 }
@@ -132,9 +133,9 @@ pub fn is_shuffle_broken(scope: &Scope, inst: &Inst) -> bool
 {
     let first = scope.type_of(inst.operand(0));
     let second = scope.type_of(inst.operand(1));
-    scope.fails(VECTOR, inst.ty)
-        || scope.value_fails(VECTOR, inst.operand(0))
-        || scope.value_fails(VECTOR, inst.operand(1))
+    scope.fails(Op::TypeVector, inst.ty)
+        || scope.value_fails(Op::TypeVector, inst.operand(0))
+        || scope.value_fails(Op::TypeVector, inst.operand(1))
         || has_other_components(scope, inst.ty, first, second)
         || has_other_sizes(scope, inst.ty, first, second, behind(inst, 2))
 }

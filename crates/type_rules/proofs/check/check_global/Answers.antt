@@ -1,11 +1,21 @@
-use Rattle.std.proofs.Common.{◌≡◌, ◌++◌, Bool, ap, ◌∙◌, subst}
-use Rattle.std.proofs.lemmas.Result.{err_from_is_err_and}
+use Rattle.std.proofs.Common.{◌≡◌, ◌++◌, [], sym, Bool, ap, ◌∙◌, subst}
+use Rattle.std.proofs.lemmas.Result.{err_from_is_err_and, on_ok_weaker}
 use Rattle.spv_words.specs.declared.rule.Rule.TheVariants.{T1}
 use Rattle.profile_rules.specs.Operands.{breaks_t1, lacks}
 use Rattle.profile_rules.specs.TypeRules.{broken_if, broken_as, broken_inside, IsRefusedBy}
 use Rattle.type_rules.specs.Scopes.{Scoped, there}
-use Rattle.type_rules.proofs.Refused.{by_left}
+use Rattle.type_rules.proofs.Refused.{by_left, none_of_both}
 use Rattle.type_rules.proofs.check.check_global.Goals as goal
+
+pub returns-clause-passes : goal.returns-clause-passes
+returns-clause-passes c =
+    let m = c.args.scope.now.m in
+    let i = c.args.inst.now in
+    let lacking : c.is_lacking.result ≡ breaks_t1 m.globals i = c.is_lacking.ensures ∙ ap (λ (s : Scoped). lacks (there s i.at) i) c.requires.scope in
+    let first : broken_if (breaks_t1 m.globals i) T1 i.at ≡ [] = ap (λ b. broken_if b T1 i.at) (sym lacking) ∙ c.in_ok-refuse_if.ensures.passes in
+    on_ok_weaker c.check_inside.result
+    (λ last. none_of_both (broken_if (breaks_t1 m.globals i) T1 i.at) (broken_as m i i.op ++ broken_inside m i) first (none_of_both (broken_as m i i.op) (broken_inside m i) c.in_ok-check_as.ensures.passes last))
+    c.check_inside.ensures.passes
 
 pub returns-in_err-refuse_if-clause-refused : goal.returns-in_err-refuse_if-clause-refused
 returns-in_err-refuse_if-clause-refused c =

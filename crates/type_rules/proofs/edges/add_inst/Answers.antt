@@ -3,7 +3,7 @@ use Rattle.std.proofs.lemmas.Grind.{common_steps}
 use Rattle.type_rules.proofs.Sources.{inst_passed}
 use Rattle.type_rules.proofs.edges.add_inst.Goals as goal
 
-pub returns-else-is_branch : goal.returns-else-is_branch
-returns-else-is_branch c =
-    let other : c.is_branch.result ≡ false = grind (arith, common_steps, c.if-is_branch.false) in
-    inst_passed c.args.locals.now c.args.source c.args.inst.now c.args.lists.now.items (sym c.is_branch.ensures ∙ other)
+pub returns-else-is_terminator : goal.returns-else-is_terminator
+returns-else-is_terminator c =
+    let other : c.is_terminator.result ≡ false = grind (arith, common_steps, c.if-is_terminator.false) in
+    inst_passed c.args.locals.now c.args.source c.args.inst.now c.args.lists.now.items (sym c.is_terminator.ensures ∙ other)
