@@ -7,6 +7,8 @@ use Rattle.std.specs.Ordering.{nat_cmp}
 use Rattle.std.proofs.lemmas.Bool.Decides.{nat_tests}
 use Rattle.std.proofs.lemmas.List.Sums.{fold_more, sum_by-cons}
 use Rattle.std.proofs.lemmas.List.{take_all}
+use Rattle.spv_ops.specs.Opcode.{is}
+use Rattle.spv_ops.specs.declared.Op.TheVariants as code
 use Rattle.spv_module.specs.Held.{global}
 use Rattle.spv_module.specs.State.{ModuleState}
 use Rattle.spv_module.specs.declared.inst.Inst.{Inst}
@@ -87,12 +89,12 @@ map_same f g (Some id) h = h id
 inst_same : (gs : List Inst) (f g : ℕ → ℕ) (i : Inst) → AreCounted f g → min cap (inst_leaves gs f i) ≡ min cap (inst_leaves gs g i)
 inst_same gs f g i h =
     choice_same (may_be_composite i.op) (if is_composite gs i.ty then f i.ty else 0) (if is_composite gs i.ty then g i.ty else 0)
-    (if is_own_variable i then option_map_or f (pointee gs i.ty) 0 else (if i.op == 400 then f i.ty else 0))
-    (if is_own_variable i then option_map_or g (pointee gs i.ty) 0 else (if i.op == 400 then g i.ty else 0))
+    (if is_own_variable i then option_map_or f (pointee gs i.ty) 0 else (if is i.op code.CopyLogical then f i.ty else 0))
+    (if is_own_variable i then option_map_or g (pointee gs i.ty) 0 else (if is i.op code.CopyLogical then g i.ty else 0))
     (choice_same (is_composite gs i.ty) (f i.ty) (g i.ty) 0 0 (h i.ty) refl)
-    (choice_same (is_own_variable i) (option_map_or f (pointee gs i.ty) 0) (option_map_or g (pointee gs i.ty) 0) (if i.op == 400 then f i.ty else 0) (if i.op == 400 then g i.ty else 0)
+    (choice_same (is_own_variable i) (option_map_or f (pointee gs i.ty) 0) (option_map_or g (pointee gs i.ty) 0) (if is i.op code.CopyLogical then f i.ty else 0) (if is i.op code.CopyLogical then g i.ty else 0)
     (map_same f g (pointee gs i.ty) h)
-    (choice_same (i.op == 400) (f i.ty) (g i.ty) 0 0 (h i.ty) refl))
+    (choice_same (is i.op code.CopyLogical) (f i.ty) (g i.ty) 0 0 (h i.ty) refl))
 
 function_same : (gs : List Inst) (f g : ℕ → ℕ) (fn : Function) → AreCounted f g → min cap (function_leaves gs f fn) ≡ min cap (function_leaves gs g fn)
 function_same gs f g fn h = sum_same (λ (b : Block). sum_by (inst_leaves gs f) b.insts) (λ (b : Block). sum_by (inst_leaves gs g) b.insts) fn.blocks (λ b. sum_same (inst_leaves gs f) (inst_leaves gs g) b.insts (λ i. inst_same gs f g i h))

@@ -1,26 +1,37 @@
 // Whether the overrides fit the module's specialization constants.
-ghost use Rattle.std.specs.Prelude.{◌≡◌, ◌==◌, ◌&&◌, ◌||◌, ℕ, IfOk, IfErr, OnOk, drop, nat_le, not, false, option_and_then};
+ghost use Rattle.std.specs.Prelude.{◌≡◌, ◌==◌, ◌&&◌, ◌||◌, ℕ, IfOk, IfErr, OnOk, drop, not, false, option_and_then};
 ghost use Rattle.std.specs.Option.{option_map_or};
 ghost use Rattle.std.specs.List.{list_any};
 ghost use Rattle.std.specs.BTreeMap.{get};
 ghost use Rattle.std.specs.BTreeSet.{contains};
 ghost use Rattle.std.specs.Ordering.{nat_cmp};
-ghost use Rattle.profile_rules.specs.Constants.{spec_id as spec_id_in, has_spec_id, given_to, breaks_x3, breaks_x4, is_size_part, is_size_composite as is_size_composite_in, is_local_size_id as is_local_size_id_in, misfits_number as misfits_number_of, misfits_type as misfits_type_of, is_misfit as is_misfit_in, takes_misfit as takes_misfit_in};
+ghost use Rattle.profile_rules.specs.Constants.{spec_id as spec_id_in, is_scalar_specialization, has_spec_id, given_to, breaks_x3, breaks_x4, is_size_part, is_size_composite as is_size_composite_in, is_local_size_id as is_local_size_id_in, misfits_number as misfits_number_of, misfits_type as misfits_type_of, is_misfit as is_misfit_in, takes_misfit as takes_misfit_in};
 ghost use Rattle.spec_constants.specs.Fit.{IsCause, IsRefusal};
 
 use crate::given_words::{givens, word_given};
 use profile_rules::Given;
 use spv_decor::Decor;
 use spv_module::{Id, Inst, Module};
+use spv_ops::{BuiltIn, Decoration, ExecutionMode, Op};
 use spv_words::{Fault, Memory, Refusal, Rule};
 use std::alloc::{AllocError, Global};
 use std::collections::{BTreeMap, BTreeSet};
 
 /// OpSpecConstantTrue, OpSpecConstantFalse, OpSpecConstant.
-fn is_scalar(inst: &Inst) -> bool
-    ensures { result ≡ (nat_le 48 inst.now.op && nat_le inst.now.op 50) }
+fn is_scalar(op: Op) -> bool
+    ensures { result ≡ is_scalar_specialization op }
 {
-    48 <= inst.op && inst.op <= 50
+    matches!(
+        op,
+        Op::SpecConstantTrue | Op::SpecConstantFalse | Op::SpecConstant
+    )
+}
+
+/// The SpecId of a constant.
+fn spec_id(decor: &Decor, inst: &Inst) -> Option<u32>
+    ensures { result ≡ spec_id_in decor.now inst.now.result }
+{
+    decor.value(Id(inst.result), Decoration::SpecId.number())
 }
 
 /// The SpecIds of the specialization constants.
@@ -29,8 +40,8 @@ fn spec_ids(alloc: Global, module: &Module, decor: &Decor) -> Result<BTreeSet<u3
 {
     let mut ids = BTreeSet::new(alloc);
     for inst in module.globals() {
-        if is_scalar(inst) {
-            if let Some(id) = decor.value(Id(inst.result), 1) {
+        if is_scalar(inst.op) {
+            if let Some(id) = spec_id(decor, inst) {
                 ids.insert(id)?;
             }
         }
@@ -63,15 +74,16 @@ fn has_unknown(
 fn is_size_composite(decor: &Decor, inst: &Inst) -> bool
     ensures { result ≡ is_size_composite_in decor.now inst.now }
 {
-    // OpConstantComposite, OpSpecConstantComposite; BuiltIn, WorkgroupSize
-    (inst.op == 44 || inst.op == 51) && matches!(decor.value(Id(inst.result), 11), Some(25))
+    (inst.op == Op::ConstantComposite || inst.op == Op::SpecConstantComposite)
+        && decor.value(Id(inst.result), Decoration::BuiltIn.number())
+            == Some(BuiltIn::WorkgroupSize.number())
 }
 
 /// Whether this is an OpExecutionModeId of LocalSizeId.
 fn is_local_size_id(inst: &Inst) -> bool
     ensures { result ≡ is_local_size_id_in inst.now }
 {
-    inst.op == 331 && inst.operand(1) == 38
+    inst.op == Op::ExecutionModeId && inst.operand(1) == ExecutionMode::LocalSizeId.number()
 }
 
 fn add_words(ids: &mut BTreeSet<u32>, words: &[u32]) -> Result<(), AllocError>
@@ -137,13 +149,13 @@ fn misfits_number(sign: u32, given: Given) -> bool
 fn misfits_type(module: &Module, inst: &Inst, given: Given) -> bool
     ensures { result ≡ misfits_type_of «module».now.globals inst.now given }
 {
-    // OpSpecConstant; the others are truth values
-    if inst.op != 50 {
+    // the others are truth values
+    if inst.op != Op::SpecConstant {
         return word_given(given) > 1;
     }
     match module.global(Id(inst.ty)) {
         None => false,
-        Some(ty) => ty.op == 21 && misfits_number(ty.operand(1), given),
+        Some(ty) => ty.op == Op::TypeInt && misfits_number(ty.operand(1), given),
     }
 }
 
@@ -159,7 +171,7 @@ fn is_misfit(module: &Module, parts: &BTreeSet<u32>, inst: &Inst, given: Given) 
 fn given_for(decor: &Decor, given: &BTreeMap<u32, Given>, inst: &Inst) -> Option<Given>
     ensures { result ≡ option_and_then (get nat_cmp given.now) (spec_id_in decor.now inst.now.result) }
 {
-    let id = decor.value(Id(inst.result), 1)?;
+    let id = spec_id(decor, inst)?;
     given.get(&id).copied()
 }
 
@@ -172,9 +184,9 @@ fn takes_misfit(
     inst: &Inst,
 ) -> bool
     requires { (id : ℕ) → contains nat_cmp parts.now id ≡ is_size_part «module».now id }
-    ensures { result ≡ (nat_le 48 inst.now.op && nat_le inst.now.op 50 && option_map_or (is_misfit_in «module».now inst.now) (option_and_then (get nat_cmp given.now) (spec_id_in decor.now inst.now.result)) false) }
+    ensures { result ≡ (is_scalar_specialization inst.now.op && option_map_or (is_misfit_in «module».now inst.now) (option_and_then (get nat_cmp given.now) (spec_id_in decor.now inst.now.result)) false) }
 {
-    is_scalar(inst)
+    is_scalar(inst.op)
         && match given_for(decor, given, inst) {
             None => false,
             Some(given) => is_misfit(module, parts, inst, given),

@@ -10,6 +10,7 @@ ghost use Rattle.spec_constants.specs.Counted.{cap, known, AreCounted, IsOver};
 
 use spv_index::pointer;
 use spv_module::{Block, Function, Id, Inst, Module};
+use spv_ops::{Op, StorageClass};
 use spv_words::{Fault, Limit, Memory};
 use std::alloc::Global;
 use std::collections::BTreeMap;
@@ -47,8 +48,7 @@ fn length_of(module: &Module, id: u32) -> u32
     ensures { result ≡ constant_length (global «module».now.globals id) }
 {
     match module.global(Id(id)) {
-        // OpConstant
-        Some(inst) if inst.op == 43 => inst.operand(0),
+        Some(inst) if inst.op == Op::Constant => inst.operand(0),
         Some(_) | None => 0,
     }
 }
@@ -59,17 +59,13 @@ fn count(module: &Module, counts: &Counts, inst: &Inst) -> u64
     ensures { result ≡ min cap (leaves_step «module».now.globals (known counts.now) inst.now) }
 {
     match inst.op {
-        // OpTypeBool, OpTypeInt
-        20 | 21 => 1,
-        // OpTypeVector
-        23 => product(inst.operand(1), known_leaves(counts, inst.operand(0))),
-        // OpTypeArray
-        28 => product(
+        Op::TypeBool | Op::TypeInt => 1,
+        Op::TypeVector => product(inst.operand(1), known_leaves(counts, inst.operand(0))),
+        Op::TypeArray => product(
             length_of(module, inst.operand(1)),
             known_leaves(counts, inst.operand(0)),
         ),
-        // OpTypeStruct
-        30 => sum_of(counts, inst.args.as_slice()),
+        Op::TypeStruct => sum_of(counts, inst.args.as_slice()),
         _ => 0,
     }
 }
@@ -93,23 +89,34 @@ fn is_composite(module: &Module, ty: u32) -> bool
 {
     match module.global(Id(ty)) {
         None => false,
-        // OpTypeVector, OpTypeArray, OpTypeRuntimeArray, OpTypeStruct
-        Some(inst) => matches!(inst.op, 23 | 28 | 29 | 30),
+        Some(inst) => matches!(
+            inst.op,
+            Op::TypeVector | Op::TypeArray | Op::TypeRuntimeArray | Op::TypeStruct
+        ),
     }
 }
 
 /// OpConstantComposite, OpConstantNull, OpSpecConstantComposite, OpSpecConstantOp, OpUndef.
-fn may_be_composite(op: u16) -> bool
+fn may_be_composite(op: Op) -> bool
     ensures { result ≡ may_be_composite_op op }
 {
-    matches!(op, 44 | 46 | 51 | 52 | 1)
+    matches!(
+        op,
+        Op::ConstantComposite
+            | Op::ConstantNull
+            | Op::SpecConstantComposite
+            | Op::SpecConstantOp
+            | Op::Undef
+    )
 }
 
 /// OpVariable of class Private or Function.
 fn is_own_variable(inst: &Inst) -> bool
     ensures { result ≡ is_own_variable_of inst.now }
 {
-    inst.op == 59 && matches!(inst.operand(0), 6 | 7)
+    inst.op == Op::Variable
+        && (inst.operand(0) == StorageClass::Private.number()
+            || inst.operand(0) == StorageClass::Function.number())
 }
 
 /// The scalars of what a pointer type points to.
@@ -135,8 +142,7 @@ fn inst_leaves(module: &Module, counts: &Counts, inst: &Inst) -> u64
         }
     } else if is_own_variable(inst) {
         pointee_leaves(module, counts, inst.ty)
-    } else if inst.op == 400 {
-        // OpCopyLogical
+    } else if inst.op == Op::CopyLogical {
         known_leaves(counts, inst.ty)
     } else {
         0
