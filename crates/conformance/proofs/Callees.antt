@@ -1,6 +1,6 @@
 -- Where no rule on words, on the form and on types is broken, each function that is called is one of the module's; and so is that of the entry point, where the rule on it is not broken.
 use Rattle.std.proofs.Common.{◌≡◌, ◌<◌, ◌≤◌, ◌+◌, ◌-◌, ◌==◌, ◌&&◌, ◌||◌, ◌++◌, ℕ, suc, Bool, true, false, not, cond, List, [], ◌∷◌, Option, None, Some, IsSomeAnd, is_some, length, drop, get_or, slice_index, nat_le, refl, ap, sym, ◌∙◌, inl, inr, arith}
-use Rattle.std.specs.Option.{option_map_or}
+use Rattle.std.specs.Option.{option_map_or, unwrap_or}
 use Rattle.std.specs.List.{All, Contains, flat_map, list_any, enumerate_from, position_from}
 use Rattle.std.proofs.lemmas.List.{length-drop, length-take-le}
 use Rattle.std.proofs.lemmas.List.Concat.{flat_map-cons}
@@ -14,11 +14,14 @@ use Rattle.spv_words.specs.declared.rule.Rule.TheVariants.{T1, P2, P8}
 use Rattle.spv_words.specs.declared.rule.Rule.{Rule}
 use Rattle.spv_words.proofs.Cuts.{whole_at}
 use Rattle.spv_ops.specs.Operands.{is_id}
-use Rattle.spv_ops.specs.Table.{shape_of, row_of, count_of, operands_of}
+use Rattle.spv_ops.specs.Opcode.{is, number, op_of}
+use Rattle.spv_ops.specs.Shape.{shape, count_of}
+use Rattle.spv_ops.specs.declared.Op.{Op}
+use Rattle.spv_ops.specs.declared.Op.TheVariants as code
 use Rattle.spv_ops.specs.declared.class.OpShape.{OpShape}
 use Rattle.spv_ops.specs.declared.class.OpClass.TheVariants.{Call}
-use Rattle.spv_module.specs.Counts.{is_misfit, is_within, fits_opcode}
-use Rattle.spv_module.specs.Inst.{inst_of, has_type, has_result}
+use Rattle.spv_module.specs.Counts.{is_misfit, is_misfit_of, is_within}
+use Rattle.spv_module.specs.Inst.{inst_of, known, has_type, has_result}
 use Rattle.spv_module.specs.Kinds.{kind_of}
 use Rattle.spv_module.specs.Lists.{module_of, functions_from, function, with_function, blocks, block, with_block, block_insts, with_inst}
 use Rattle.spv_module.specs.State.{ModuleState}
@@ -33,7 +36,7 @@ use Rattle.spv_index.specs.Locals.{insts_of}
 use Rattle.spv_decor.specs.Rows.{word}
 use Rattle.profile_rules.specs.declared.groups.Need.{Need}
 use Rattle.profile_rules.specs.declared.groups.Need.TheVariants.{Callee}
-use Rattle.profile_rules.specs.Operands.{need, needs_of, suits, is_there_in, is_in_function, lacks_operand, breaks_t1_in}
+use Rattle.profile_rules.specs.Operands.{need, suits, is_there_in, is_in_function, lacks_operand, breaks_t1_in}
 use Rattle.profile_rules.specs.TypeRules.{broken_if, broken_by_local, broken_by_block, broken_by_function, broken_by_global, broken}
 use Rattle.profile_rules.specs.Entry.{chosen, function_of, is_called, is_no_kernel}
 use Rattle.profile_rules.specs.DataRules.{Broken as BrokenData}
@@ -41,7 +44,7 @@ use Rattle.profile_rules.specs.Calls.{is_call, calls_in, callee, ids_of, AreCall
 
 -- a call has operands
 abbrev IsFull : Inst → Type 0
-IsFull j = j.op ≡ 57 → 0 < length j.args
+IsFull j = j.op ≡ code.FunctionCall → 0 < length j.args
 
 abbrev AreFull : List ℕ → List Inst1 → Type 0
 AreFull ws is = All (λ (i : Inst1). IsFull (inst_of ws i)) is
@@ -54,23 +57,31 @@ none_found (Some i) empty short =
       | inr w ↦ absurd (short i.start (omega (arith, w.1), refl))
     ]
 
-call_shape : shape_of 57 ≡ Some (record { has_type = true; has_result = true; least = 4; most = 65535; class = Call })
-unfolding shape_of row_of
+call_shape : shape code.FunctionCall ≡ record { has_type = true; has_result = true; least = 4; most = 65535; class = Call }
+unfolding shape
 call_shape = refl
 
-call_row : (has_type 57 ≡ true) × (has_result 57 ≡ true)
-unfolding shape_of row_of
+call_row : (has_type code.FunctionCall ≡ true) × (has_result code.FunctionCall ≡ true)
+unfolding shape
 call_row = (refl, refl)
+
+call_in : (o : Option Op) → unwrap_or o code.Nop ≡ code.FunctionCall → o ≡ Some code.FunctionCall
+call_in None h = cc
+call_in (Some op) h = ap Some h
+
+call_known_by : (n : ℕ) → known n ≡ code.FunctionCall → op_of n ≡ Some code.FunctionCall
+unfolding known
+call_known_by n h = call_in (op_of n) h
 
 not_and : (a b c : Bool) → not ((a && b) && c) ≡ false → a ≡ true
 not_and true b c h = refl
 not_and false b c h = cc
 
-least_of_call : (ws : List ℕ) (i : Inst1) → i.opcode ≡ 57 → is_misfit ws i ≡ false → 4 ≤ i.len
+least_of_call : (ws : List ℕ) (i : Inst1) → known i.opcode ≡ code.FunctionCall → is_misfit ws i ≡ false → 4 ≤ i.len
 least_of_call ws i op fine =
-    let shape : shape_of i.opcode ≡ Some (record { has_type = true; has_result = true; least = 4; most = 65535; class = Call }) = ap shape_of op ∙ call_shape in
-    let e : not ((nat_le 4 i.len && nat_le i.len 65535) && fits_opcode ws i) ≡ false = sym (ap (λ (o : Option OpShape). option_map_or (λ (s : OpShape). not (is_within 0 s i.len && fits_opcode ws i)) o false) shape) ∙ fine in
-    let enough : nat_le 4 i.len ≡ true = not_and (nat_le 4 i.len) (nat_le i.len 65535) (fits_opcode ws i) e in
+    let is : is_misfit ws i ≡ is_misfit_of ws i code.FunctionCall = ap (λ (o : Option Op). option_map_or (is_misfit_of ws i) o false) (call_known_by i.opcode op) in
+    let e : not ((nat_le 4 i.len && nat_le i.len 65535) && true) ≡ false = sym (ap (λ (s : OpShape). not (is_within 0 s i.len && true)) call_shape) ∙ sym is ∙ fine in
+    let enough : nat_le 4 i.len ≡ true = not_and (nat_le 4 i.len) (nat_le i.len 65535) true e in
     grind (arith, nat_tests, enough)
 
 length_slice : (ws : List ℕ) (i : Inst1) → i.start + i.len ≤ length ws → length (slice ws i) ≡ i.len
@@ -81,10 +92,10 @@ length_slice ws i whole =
 full_inst : (ws : List ℕ) (i : Inst1) → i.start + i.len ≤ length ws → is_misfit ws i ≡ false → IsFull (inst_of ws i)
 full_inst ws i whole fine op =
     let enough : 4 ≤ i.len = least_of_call ws i op fine in
-    let typed : has_type i.opcode ≡ true = ap has_type op ∙ call_row.0 in
-    let resulting : has_result i.opcode ≡ true = ap has_result op ∙ call_row.1 in
-    let front : 1 + count_of (has_type i.opcode) + count_of (has_result i.opcode) ≡ 3 = ap (λ b. 1 + count_of b + count_of (has_result i.opcode)) typed ∙ ap (λ b. 1 + 1 + count_of b) resulting in
-    let long : length (drop (1 + count_of (has_type i.opcode) + count_of (has_result i.opcode)) (slice ws i)) ≡ length (slice ws i) - 3 = ap (λ n. length (drop n (slice ws i))) front ∙ length-drop 3 (slice ws i) in
+    let typed : has_type (known i.opcode) ≡ true = ap has_type op ∙ call_row.0 in
+    let resulting : has_result (known i.opcode) ≡ true = ap has_result op ∙ call_row.1 in
+    let front : 1 + count_of (has_type (known i.opcode)) + count_of (has_result (known i.opcode)) ≡ 3 = ap (λ b. 1 + count_of b + count_of (has_result (known i.opcode))) typed ∙ ap (λ b. 1 + 1 + count_of b) resulting in
+    let long : length (drop (1 + count_of (has_type (known i.opcode)) + count_of (has_result (known i.opcode))) (slice ws i)) ≡ length (slice ws i) - 3 = ap (λ n. length (drop n (slice ws i))) front ∙ length-drop 3 (slice ws i) in
     let own : length (slice ws i) ≡ i.len = length_slice ws i whole in
     omega (arith, long, own, enough)
 
@@ -161,16 +172,16 @@ and_not_false true true e h = refl
 and_not_false true false e h = cc
 and_not_false false b e h = cc
 
-call_id : (args : List ℕ) → is_id 57 args 0 ≡ true
-unfolding is_id operands_of row_of
+call_id : (args : List ℕ) → is_id code.FunctionCall args 0 ≡ true
+unfolding is_id
 call_id args = refl
 
-call_need : need 57 0 ≡ Callee
-unfolding needs_of
+call_need : need code.FunctionCall 0 ≡ Callee
+unfolding need
 call_need = refl
 
 -- the first operand of a call is there
-operand_there : (there : Need → ℕ → Bool) (i : Inst) (args : List ℕ) → i.op ≡ 57 → 0 < length args → list_any (lacks_operand there i) (enumerate_from 0 args) ≡ false → there Callee (slice_index args 0) ≡ true
+operand_there : (there : Need → ℕ → Bool) (i : Inst) (args : List ℕ) → i.op ≡ code.FunctionCall → 0 < length args → list_any (lacks_operand there i) (enumerate_from 0 args) ≡ false → there Callee (slice_index args 0) ≡ true
 operand_there there i [] op full fine = absurd (omega (arith, full))
 operand_there there i (a ∷ others) op full fine =
     let first = (or_parts (lacks_operand there i (0, a)) (list_any (lacks_operand there i) (enumerate_from 1 others)) fine).0 in
@@ -217,14 +228,12 @@ fine_function m f h =
     all_parts (IsFine m f) (λ (b : Block). b.insts) f.blocks
     (All-weaker (λ (b : Block). broken_by_block m f b ≡ []) (λ (b : Block). All (IsFine m f) b.insts) (fine_block m f) f.blocks (each_nil (broken_by_block m f) f.blocks more.1))
 
-is_opcode : (i : Inst) → is_call i ≡ true → i.op ≡ 57
-is_opcode i h =
-    elim (eqb_tells i.op 57) [
-      | inl w ↦ w.1
-      | inr w ↦ cc
-    ]
+is_opcode : (o : Op) → is o code.FunctionCall ≡ true → o ≡ code.FunctionCall
+unfolding number
+is_opcode code.FunctionCall h = refl
+is_opcode o h = cc
 
-call_known : (m : ModuleState) (f : Function) (call : Inst) → IsFull call → IsFine m f call → call.op ≡ 57 → Contains (ids_of m.functions) (callee call)
+call_known : (m : ModuleState) (f : Function) (call : Inst) → IsFull call → IsFine m f call → call.op ≡ code.FunctionCall → Contains (ids_of m.functions) (callee call)
 call_known m f call full fine op =
     is_function m f call.at (callee call)
     (operand_there (is_there_in m f call.at) call call.args op (full op) (or_parts _ (list_any (lacks_operand (is_there_in m f call.at) call) (enumerate_from 0 call.args)) fine).1)
@@ -241,7 +250,7 @@ callees_known bytes words_fine counts types f g calls =
     let each : All (λ (k : Function). broken_by_function m k ≡ []) m.functions = each_nil (broken_by_function m) m.functions (append_nil (flat_map (broken_by_global m) m.globals) (flat_map (broken_by_function m) m.functions) types).1 in
     let fine : All (IsFine m h) (insts_of h) = fine_function m h (All-contains (λ (k : Function). broken_by_function m k ≡ []) m.functions h each calls.1.1) in
     let in_calls = calls.1.3 in
-    let op : calls.0.op ≡ 57 = is_opcode calls.0 (All-contains (λ (i : Inst). is_call i ≡ true) (calls_in h) calls.0 (filter_passes is_call (insts_of h)) in_calls) in
+    let op : calls.0.op ≡ code.FunctionCall = is_opcode calls.0.op (All-contains (λ (i : Inst). is_call i ≡ true) (calls_in h) calls.0 (filter_passes is_call (insts_of h)) in_calls) in
     let known : Contains (ids_of m.functions) (callee calls.0) =
     call_known m h calls.0 (All-contains IsFull (calls_in h) calls.0 (All-filter is_call IsFull (insts_of h) full) in_calls) (All-contains (IsFine m h) (calls_in h) calls.0 (All-filter is_call (IsFine m h) (insts_of h) fine) in_calls) op in
     rw calls.2 at known

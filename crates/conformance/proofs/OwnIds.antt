@@ -1,90 +1,67 @@
 -- Where no id is a result twice, no two functions have the same id.
-use Rattle.std.proofs.Common.{◌≡◌, ◌<◌, ◌+◌, ◌==◌, ◌&&◌, ℕ, zero, suc, true, false, cond, List, [], ◌∷◌, Option, None, Some, length, get_or, map, find, slice_index, refl, ap, sym, ◌∙◌, inl, inr, arith}
-use Rattle.std.specs.Option.{option_map_or}
+use Rattle.std.proofs.Common.{◌≡◌, ◌<◌, ◌+◌, ◌==◌, ◌&&◌, ℕ, zero, suc, true, false, cond, List, [], ◌∷◌, Option, None, Some, length, get_or, map, slice_index, refl, ap, sym, ◌∙◌, inl, inr, arith}
+use Rattle.std.specs.Option.{option_map_or, unwrap_or}
 use Rattle.std.proofs.lemmas.List.{get_or_default}
 use Rattle.std.proofs.lemmas.Bool.Decides.{eqb_tells}
 use Rattle.std.proofs.lemmas.Bool.{or_right, and_from}
 use Rattle.spv_words.specs.Words.{insts, nth_inst}
 use Rattle.spv_words.specs.declared.words.Inst1.{Inst1}
 use Rattle.spv_words.specs.declared.rule.Rule.TheVariants.{P3}
-use Rattle.spv_ops.specs.Table.{shape_of, row_of, count_of}
-use Rattle.spv_ops.specs.declared.class.OpShape.{OpShape}
-use Rattle.spv_ops.specs.declared.class.OpClass.{OpClass}
-use Rattle.spv_ops.specs.declared.class.OpClass.TheVariants.{Debug as DebugClass, Head as HeadClass, Global as GlobalClass}
+use Rattle.spv_ops.specs.Opcode.{number, op_of}
+use Rattle.spv_ops.specs.Shape.{shape, count_of}
+use Rattle.spv_ops.specs.declared.Op.{Op}
+use Rattle.spv_ops.specs.declared.Op.TheVariants as code
 use Rattle.spv_module.specs.declared.kind.Kind.{Kind}
 use Rattle.spv_module.specs.declared.kind.Kind.TheVariants.{Debug, Function, Other}
-use Rattle.spv_module.specs.Inst.{word, inst_of, has_type, has_result}
-use Rattle.spv_module.specs.Kinds.{kind_of, kind_of_opcode, class_kind, named_kinds, is_import}
+use Rattle.spv_module.specs.Inst.{word, inst_of, known, has_type, has_result}
+use Rattle.spv_module.specs.Kinds.{kind_of, kind_of_op, kind_of_opcode, is_import}
 use Rattle.spv_module.specs.Ids.{result_of, result_by, is_out, HasIdOut, HasBadId}
 use Rattle.spv_module.specs.Lists.{functions_from, functions, function, with_function}
 use Rattle.spv_module.specs.Broken.{IsUnbroken}
 use Rattle.profile_rules.specs.Calls.{ids_of, HaveOwnIds}
 
--- no row of another opcode is a function's
-AreFunctionRows : List (ℕ × Kind) → Type 0
-AreFunctionRows [] = Unit {0}
-AreFunctionRows (r ∷ rows) = (r.1 ≡ Function → r.0 ≡ 54) × AreFunctionRows rows
+-- the only opcode of its kind
+of_function : (o : Op) → kind_of_op o ≡ Function → o ≡ code.Function
+unfolding kind_of_op shape
+of_function code.Function h = refl
+of_function o h = cc
 
-named : (rows : List (ℕ × Kind)) (op : ℕ) (otherwise : Kind) → AreFunctionRows rows → (otherwise ≡ Function → ⊥) → option_map_or (λ (r : ℕ × Kind). r.1) (find (λ (r : ℕ × Kind). r.0 == op) rows) otherwise ≡ Function → op ≡ 54
-unfolding AreFunctionRows
-named [] op otherwise all never h = absurd (never h)
-named (r ∷ rows) op otherwise all never h =
-    elim (eqb_tells r.0 op) [
-      | inl w ↦
-          let is : r.1 ≡ Function = rw w.0 at h in
-          sym w.1 ∙ all.0 is
-      | inr w ↦ named rows op otherwise all.1 never (rw w.0 at h)
-    ]
-
-class_no_function : (c : OpClass) → class_kind c ≡ Function → ⊥
-class_no_function DebugClass h = cc
-class_no_function HeadClass h = cc
-class_no_function GlobalClass h = cc
-class_no_function _ h = cc
-
-shape_no_function : (o : Option OpShape) → option_map_or (λ (s : OpShape). class_kind s.class) o Other ≡ Function → ⊥
-shape_no_function None h = cc
-shape_no_function (Some s) h = class_no_function s.class h
-
-all_rows : AreFunctionRows named_kinds
-unfolding AreFunctionRows
-all_rows = (λ h. cc, (λ h. refl, (λ h. cc, (λ h. cc, (λ h. cc, (λ h. cc, (λ h. cc, (λ h. cc, (λ h. cc, (λ h. cc, (λ h. cc, (λ h. cc, (λ h. cc, (λ h. cc, (λ h. cc, tt)))))))))))))))
-
-opcode_of : (op : ℕ) → kind_of_opcode op ≡ Function → op ≡ 54
-unfolding kind_of_opcode
-opcode_of op h = named named_kinds op (option_map_or (λ (s : OpShape). class_kind s.class) (shape_of op) Other) all_rows (shape_no_function (shape_of op)) h
+found_opcode : (o : Option Op) → option_map_or kind_of_op o Other ≡ Function → unwrap_or o code.Nop ≡ code.Function
+found_opcode None h = cc
+found_opcode (Some o) h = of_function o h
 
 -- a function's instruction is OpFunction
-function_opcode : (ws : List ℕ) (i : Inst1) → kind_of ws i ≡ Function → i.opcode ≡ 54
+function_opcode : (ws : List ℕ) (i : Inst1) → kind_of ws i ≡ Function → known i.opcode ≡ code.Function
+unfolding known kind_of_opcode
 function_opcode ws i h =
-    (elim ((i.opcode == 12) && is_import ws (word ws i 3)) as (λ b. cond b Debug (kind_of_opcode i.opcode) ≡ Function → i.opcode ≡ 54) [
+    (elim ((i.opcode == number code.ExtInst) && is_import ws (word ws i 3)) as (λ b. cond b Debug (kind_of_opcode i.opcode) ≡ Function → known i.opcode ≡ code.Function) [
       | true ↦ λ e. cc
-      | false ↦ λ e. opcode_of i.opcode e
+      | false ↦ λ e. found_opcode (op_of i.opcode) e
     ]) h
 
-function_row : (has_type 54 ≡ true) × (has_result 54 ≡ true)
-unfolding shape_of row_of
+function_row : (has_type code.Function ≡ true) × (has_result code.Function ≡ true)
+unfolding shape
 function_row = (refl, refl)
 
 -- its result is the function's id
 result_is : (ws : List ℕ) (i : Inst1) → kind_of ws i ≡ Function → result_of ws i ≡ word ws i 2
 result_is ws i h =
     let op = function_opcode ws i h in
-    let with_type : has_type i.opcode ≡ true = ap has_type op ∙ function_row.0 in
-    let with_result : has_result i.opcode ≡ true = ap has_result op ∙ function_row.1 in
+    let with_type : has_type (known i.opcode) ≡ true = ap has_type op ∙ function_row.0 in
+    let with_result : has_result (known i.opcode) ≡ true = ap has_result op ∙ function_row.1 in
     ap (λ k. result_by k (inst_of ws i)) h
-    ∙ ap (λ b. cond b (word ws i (1 + count_of (has_type i.opcode))) 0) with_result
+    ∙ ap (λ b. cond b (word ws i (1 + count_of (has_type (known i.opcode)))) 0) with_result
     ∙ ap (λ b. word ws i (1 + count_of b)) with_type
 
 -- and it is not 0, where its ids are in order
 positive : (ws : List ℕ) (i : Inst1) → kind_of ws i ≡ Function → (HasIdOut ws i → ⊥) → 0 < result_of ws i
 positive ws i h fine =
-    let with_result : has_result i.opcode ≡ true = ap has_result (function_opcode ws i h) ∙ function_row.1 in
+    let with_result : has_result (known i.opcode) ≡ true = ap has_result (function_opcode ws i h) ∙ function_row.1 in
     let is : result_of ws i ≡ (inst_of ws i).result = ap (λ k. result_by k (inst_of ws i)) h in
     elim (eqb_tells (inst_of ws i).result 0) [
       | inl w ↦
           let out : is_out (slice_index ws 3) (inst_of ws i).result ≡ true = ap (is_out (slice_index ws 3)) w.1 in
-          absurd (fine (λ e. cc, inl (or_right (has_type i.opcode && is_out (slice_index ws 3) (inst_of ws i).ty) (has_result i.opcode && is_out (slice_index ws 3) (inst_of ws i).result) (and_from (has_result i.opcode) (is_out (slice_index ws 3) (inst_of ws i).result) with_result out))))
+          absurd (fine (λ e. cc, inl (or_right (has_type (known i.opcode) && is_out (slice_index ws 3) (inst_of ws i).ty) (has_result (known i.opcode) && is_out (slice_index ws 3) (inst_of ws i).result) (and_from (has_result (known i.opcode)) (is_out (slice_index ws 3) (inst_of ws i).result) with_result out))))
       | inr w ↦ omega (arith, is, w.1)
     ]
 

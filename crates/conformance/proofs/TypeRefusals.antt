@@ -1,5 +1,6 @@
 -- The rules on types are all that `broken` tells of.
-use Rattle.std.proofs.Common.{◌≡◌, ◌==◌, ℕ, Bool, true, false, List, [], ◌∷◌, ◌++◌, if◌then◌else◌, refl}
+use Rattle.std.proofs.Common.{◌≡◌, ℕ, Bool, true, false, List, [], ◌∷◌, ◌++◌, Option, None, Some, if◌then◌else◌, refl}
+use Rattle.std.specs.Option.{option_map_or}
 use Rattle.std.specs.List.{All, Contains, flat_map}
 use Rattle.std.proofs.lemmas.List.Elements.{All-append, All-cons, All-contains, All-nil}
 use Rattle.std.proofs.lemmas.List.Concat.{flat_map-cons}
@@ -7,6 +8,9 @@ use Rattle.spv_words.specs.Rule.{letter_of}
 use Rattle.spv_words.specs.declared.rule.Rule.{Rule}
 use Rattle.spv_words.specs.declared.rule.Rule.TheVariants.{T1, T21}
 use Rattle.spv_words.specs.declared.rule.Refusal.{Refusal}
+use Rattle.spv_ops.specs.Opcode.{is, op_of}
+use Rattle.spv_ops.specs.declared.Op.{Op}
+use Rattle.spv_ops.specs.declared.Op.TheVariants as code
 use Rattle.spv_module.specs.State.{ModuleState}
 use Rattle.spv_module.specs.declared.inst.Inst.{Inst}
 use Rattle.spv_module.specs.declared.inst.Block.{Block}
@@ -38,12 +42,16 @@ on_group Other = refl
 on_group _ = refl
 
 module _ (m : ModuleState) where
-  as_opcode : (i : Inst) (op : ℕ) → All IsOnTypes (broken_as m i op)
+  as_opcode : (i : Inst) (op : Op) → All IsOnTypes (broken_as m i op)
   as_opcode i op = of_one (is_broken_outside m i (group_of op)) (rule_of (group_of op)) i.at (on_group (group_of op))
 
+  as_known : (i : Inst) (o : Option Op) → All IsOnTypes (option_map_or (broken_as m i) o [])
+  as_known i None = none
+  as_known i (Some op) = as_opcode i op
+
   inside : (g : Inst) → All IsOnTypes (broken_inside m g)
-  inside g = elim (g.op == 52) as (λ b. All IsOnTypes (if b then broken_as m (inner g) (word g 0) else [])) [
-    | true ↦ as_opcode (inner g) (word g 0)
+  inside g = elim (is g.op code.SpecConstantOp) as (λ b. All IsOnTypes (if b then option_map_or (broken_as m (inner g)) (op_of (word g 0)) [] else [])) [
+    | true ↦ as_known (inner g) (op_of (word g 0))
     | false ↦ none
   ]
 
