@@ -10,6 +10,7 @@ ghost use Rattle.constant_text.specs.Bases.{basic_base, basic_tree};
 use crate::scalars::scalar;
 use glsl_ast::Base;
 use spv_module::{Elem, Id, Inst, Module, Shape};
+use spv_ops::Op;
 
 /// A scalar or a vector type.
 #[derive(Clone, Copy, Debug, PartialEq, Eq)]
@@ -109,10 +110,9 @@ pub(crate) fn basic_at(module: &Module, inst: &Inst) -> Basic
     ensures { basic_tree result ≡ basic_at_of «module».now.globals inst.now }
 {
     match inst.op {
-        // OpTypeBool, OpTypeInt, OpTypeVector
-        20 => Basic::Bool,
-        21 => int_type(inst.operand(0), inst.operand(1)),
-        23 => vector_type(module, inst),
+        Op::TypeBool => Basic::Bool,
+        Op::TypeInt => int_type(inst.operand(0), inst.operand(1)),
+        Op::TypeVector => vector_type(module, inst),
         _ => Basic::Uint,
     }
 }

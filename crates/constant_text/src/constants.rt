@@ -2,7 +2,7 @@
 ghost use Rattle.std.specs.Prelude.{◌≡◌, IfOk};
 ghost use Rattle.glsl_ast.specs.Tree.{name as name_tree, member as member_tree};
 ghost use Rattle.glsl_ast.specs.View.{expr_of};
-ghost use Rattle.text_rules.specs.Constants.{is_constant as is_constant_of, axis_text as axis_text_of, group_size_text, constant_expr as constant_expr_of};
+ghost use Rattle.text_rules.specs.Constants.{axis_text as axis_text_of, group_size_text, constant_expr as constant_expr_of};
 ghost use Rattle.constant_text.specs.Named.{id_names};
 
 use crate::Readings;
@@ -13,14 +13,6 @@ use spv_module::{Id, Inst};
 use spv_words::Memory;
 use std::alloc::Global;
 use text_rules::Reading;
-
-/// Whether an instruction defines a constant (SPIR-V 1.6, "Constant-Creation Instructions"); a global OpUndef is one.
-#[tactic(auto, unfolding(profile_rules::specs::Constants::constant_kind))]
-pub fn is_constant(inst: &Inst) -> bool
-    ensures { result ≡ is_constant_of inst.now }
-{
-    matches!(inst.op, 1 | 41..=44 | 46 | 48..=52)
-}
 
 /// The components of a vector of three.
 pub(crate) fn axis_text(axis: usize) -> &'static str

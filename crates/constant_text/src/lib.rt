@@ -13,7 +13,6 @@ mod types;
 mod zeros;
 
 pub use basics::basic_shape;
-pub use constants::is_constant;
 pub use literals::int_literal;
 pub use names::name;
 pub use outlines::outline;

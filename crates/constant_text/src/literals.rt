@@ -9,6 +9,7 @@ use crate::Readings;
 use crate::scalars::scalar_type;
 use glsl_ast::Literal;
 use spv_module::{Elem, Id, Inst};
+use spv_ops::Op;
 
 /// The literal of an int with these bits: decimal digits, and hexadecimal ones where it is negative, since GLSL has no negative
 /// literals (GLSL 4.60, section 4.1.3).
@@ -58,9 +59,8 @@ impl Readings<'_> {
         ensures { result ≡ word_of (plain_value self.now inst.now) }
     {
         match inst.op {
-            // OpConstant, OpSpecConstant
-            43 => inst.operand(0),
-            50 => self
+            Op::Constant => inst.operand(0),
+            Op::SpecConstant => self
                 .override_word(Id(inst.result))
                 .unwrap_or(inst.operand(0)),
             _ => 0,
@@ -76,16 +76,13 @@ impl Readings<'_> {
         let ty = scalar_type(self.source, inst.ty);
         let chosen = self.override_word(Id(inst.result));
         match inst.op {
-            // OpConstantTrue, OpConstantFalse, OpConstant
-            41 => Literal::Truth(true),
-            42 => Literal::Truth(false),
-            43 => word_literal(ty, inst.operand(0)),
-            // OpConstantNull, OpUndef
-            46 | 1 => zero_literal(ty),
-            // OpSpecConstantTrue, OpSpecConstantFalse, OpSpecConstant
-            48 => Literal::Truth(chosen_truth(chosen, true)),
-            49 => Literal::Truth(chosen_truth(chosen, false)),
-            50 => word_literal(ty, chosen.unwrap_or(inst.operand(0))),
+            Op::ConstantTrue => Literal::Truth(true),
+            Op::ConstantFalse => Literal::Truth(false),
+            Op::Constant => word_literal(ty, inst.operand(0)),
+            Op::ConstantNull | Op::Undef => zero_literal(ty),
+            Op::SpecConstantTrue => Literal::Truth(chosen_truth(chosen, true)),
+            Op::SpecConstantFalse => Literal::Truth(chosen_truth(chosen, false)),
+            Op::SpecConstant => word_literal(ty, chosen.unwrap_or(inst.operand(0))),
             _ => word_literal(ty, 0),
         }
     }

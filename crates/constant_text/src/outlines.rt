@@ -5,6 +5,7 @@ ghost use Rattle.text_rules.specs.Outlines.{length_at as length_at_of, outline a
 
 use crate::basics::basic_at;
 use spv_module::{Id, Inst, Length, Module, Shape};
+use spv_ops::Op;
 use spv_words::Memory;
 use std::alloc::Global;
 
@@ -15,8 +16,7 @@ fn length_at(module: &Module, id: u32) -> Length
     let Some(inst) = module.global(Id(id)) else {
         return Length::Spec(Id(id));
     };
-    // OpConstant
-    if inst.op == 43 {
+    if inst.op == Op::Constant {
         Length::Fixed(inst.operand(0))
     } else {
         Length::Spec(Id(id))
@@ -46,17 +46,16 @@ pub(crate) fn outline_at(alloc: Global, module: &Module, inst: &Inst) -> Result<
     ensures { IfOk result (λ s. tree_of s ≡ outline_at_of «module».now.globals inst.now) }
 {
     match inst.op {
-        // OpTypeArray, OpTypeRuntimeArray, OpTypeStruct
-        28 => {
+        Op::TypeArray => {
             let part = outline_before(alloc, module, inst.at, inst.operand(0))?;
             let length = length_at(module, inst.operand(1));
             Ok(Shape::Array(Box::new(alloc, part)?, length))
         }
-        29 => {
+        Op::TypeRuntimeArray => {
             let part = outline_before(alloc, module, inst.at, inst.operand(0))?;
             Ok(Shape::Runtime(Box::new(alloc, part)?))
         }
-        30 => Ok(Shape::Struct(Id(inst.result), Vec::new(alloc))),
+        Op::TypeStruct => Ok(Shape::Struct(Id(inst.result), Vec::new(alloc))),
         _ => Ok(basic_at(module, inst).shape()),
     }
 }

@@ -12,6 +12,7 @@ use profile_rules::Given;
 use spec_constants::{givens, word_given};
 use spv_decor::Decor;
 use spv_module::{Id, Inst, Module};
+use spv_ops::{BuiltIn, Decoration, ExecutionMode, Op};
 use spv_words::Memory;
 use std::alloc::Global;
 use std::collections::BTreeMap;
@@ -49,7 +50,7 @@ impl<'a> Model for Readings<'a> {
 fn is_spec_id_row(inst: &Inst) -> bool
     ensures { result ≡ is_spec_id_row_of inst.now }
 {
-    inst.op == 71 && inst.operand(1) == 1
+    inst.op == Op::Decorate && inst.operand(1) == Decoration::SpecId.number()
 }
 
 fn has_spec_ids(heads: &[Inst]) -> bool
@@ -62,15 +63,18 @@ fn has_spec_ids(heads: &[Inst]) -> bool
 fn is_size_composite(decor: &Decor, inst: &Inst) -> bool
     ensures { result ≡ is_size_composite_in decor.now inst.now }
 {
-    // OpConstantComposite, OpSpecConstantComposite; BuiltIn, WorkgroupSize
-    (inst.op == 44 || inst.op == 51) && decor.value(Id(inst.result), 11) == Some(25)
+    (inst.op == Op::ConstantComposite || inst.op == Op::SpecConstantComposite)
+        && decor.value(Id(inst.result), Decoration::BuiltIn.number())
+            == Some(BuiltIn::WorkgroupSize.number())
 }
 
 /// Whether an instruction is OpExecutionModeId LocalSizeId of a function.
 fn is_local_size_id(entry: Id, inst: &Inst) -> bool
     ensures { result ≡ is_local_size_id_of entry.0 inst.now }
 {
-    inst.op == 331 && inst.operand(0) == entry.0 && inst.operand(1) == 38
+    inst.op == Op::ExecutionModeId
+        && inst.operand(0) == entry.0
+        && inst.operand(1) == ExecutionMode::LocalSizeId.number()
 }
 
 fn size_composite<'a>(module: &'a Module, decor: &Decor) -> Option<&'a Inst>
@@ -155,7 +159,7 @@ impl<'a> Readings<'a> {
         ensures { result ≡ spec_id_of self.now.of.heads id.0 }
     {
         if self.specialized {
-            self.decor.value(id, 1)
+            self.decor.value(id, Decoration::SpecId.number())
         } else {
             None
         }
@@ -185,12 +189,11 @@ impl<'a> Readings<'a> {
     }
 
     /// A constant of a scalar type that is not calculated has a literal.
-    #[tactic(auto, unfolding(profile_rules::specs::Constants::constant_kind), using(crate::proofs::Shapes::scalar_rules))]
+    #[tactic(auto, using(crate::proofs::Shapes::scalar_rules))]
     fn has_literal(&self, inst: &Inst) -> bool
         ensures { result ≡ has_literal_of self.now inst.now }
     {
-        // OpSpecConstantOp
-        scalar_type(self.source, inst.ty).is_some() && inst.op != 52
+        scalar_type(self.source, inst.ty).is_some() && inst.op != Op::SpecConstantOp
     }
 
     fn part(&self, id: u32) -> Option<usize>

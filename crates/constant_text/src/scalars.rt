@@ -4,6 +4,7 @@ ghost use Rattle.spv_module.specs.declared.inst.Inst.{Inst as InstOf};
 ghost use Rattle.spv_types.specs.Types.{type_tree, tree_at, elem_of};
 
 use spv_module::{Elem, Id, Inst, Module};
+use spv_ops::Op;
 
 /// The scalar type that an instruction declares.
 #[tactic(auto, unfolding(spv_types::specs::Types::kind))]
@@ -11,11 +12,9 @@ pub(crate) fn scalar(inst: &Inst) -> Option<Elem>
     ensures { (gs : List InstOf) → result ≡ option_and_then elem_of (tree_at gs inst.now) }
 {
     match (inst.op, inst.operand(0), inst.operand(1)) {
-        // OpTypeBool
-        (20, _, _) => Some(Elem::Bool),
-        // OpTypeInt
-        (21, 32, 0) => Some(Elem::Uint),
-        (21, 32, 1) => Some(Elem::Int),
+        (Op::TypeBool, _, _) => Some(Elem::Bool),
+        (Op::TypeInt, 32, 0) => Some(Elem::Uint),
+        (Op::TypeInt, 32, 1) => Some(Elem::Int),
         _ => None,
     }
 }

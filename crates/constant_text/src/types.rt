@@ -17,6 +17,7 @@ use crate::outlines::outline_at;
 use glsl_ast::{Base, Extent, Name, TypeName};
 use name_alloc::{Key, Names};
 use spv_module::{Id, Inst, Length, Shape};
+use spv_ops::Op;
 use spv_words::Memory;
 use std::alloc::Global;
 use text_rules::Reading;
@@ -110,8 +111,9 @@ impl Readings<'_> {
         ensures { IfOk result (λ t. type_of t ≡ type_text (spelling self.now (id_names names.now)) (outline_at_of self.now.of.globals inst.now)) }
     {
         match inst.op {
-            // OpTypeArray, OpTypeRuntimeArray, OpTypeStruct
-            28 | 29 | 30 => self.outlined_name(alloc, names, inst),
+            Op::TypeArray | Op::TypeRuntimeArray | Op::TypeStruct => {
+                self.outlined_name(alloc, names, inst)
+            }
             _ => Ok(plain_type(alloc, basic_at(self.module(), inst).base())),
         }
     }
