@@ -1,22 +1,22 @@
 -- The value of an OpSpecConstantOp is that of the operation inside it.
-use Rattle.std.proofs.Common.{◌≡◌, ℕ, ◌==◌, ◌&&◌, ◌||◌, not, Bool, true, false, List, [], ◌∷◌, refl, ap, sym, ◌∙◌, arith, ⊎_elim}
+use Rattle.std.proofs.Common.{◌≡◌, ℕ, ◌&&◌, ◌||◌, not, Bool, true, false, List, refl, ap, ◌∙◌}
 use Rattle.std.specs.Prelude.{Option, Some, None, option_and_then, if◌then◌else◌}
-use Rattle.std.specs.List.{list_all, list_any}
-use Rattle.std.proofs.lemmas.Bool.Decides.{nat_tests}
-use Rattle.std.proofs.lemmas.Bool.{cases_eq}
-use Rattle.spv_ops.specs.Operands.{is_inner_op, inner_ops}
-use Rattle.spv_ops.proofs.Rows.{both}
+use Rattle.spv_ops.specs.Groups.{is_inner}
+use Rattle.spv_ops.specs.Opcode.{op_of}
+use Rattle.spv_ops.specs.Operands.{inner_of}
+use Rattle.spv_ops.specs.declared.Op.{Op}
+use Rattle.spv_ops.specs.declared.Op.TheVariants as code
 use Rattle.spv_types.specs.Tree.{Tree, ValueTree}
 use Rattle.op_semantics.specs.declared.operation.Operation.{Operation}
 use Rattle.op_semantics.specs.declared.operation.Operation.TheVariants as op
 use Rattle.op_semantics.specs.Component.{each_one}
-use Rattle.op_semantics.specs.Value.{value_of_operation, operation_in, opcodes}
-use Rattle.profile_rules.specs.Constants.{is_flat, inner_operands, inner_literals, value_by_operation, operation_value}
+use Rattle.op_semantics.specs.Value.{value_of_operation, operation}
+use Rattle.profile_rules.specs.Constants.{is_flat, gives_parts, inner_operands, inner_literals, value_by_operation, operation_value}
 use Rattle.constant_values.specs.declared.scalars.OneScalar.TheVariants as one
 use Rattle.constant_values.specs.declared.scalars.TwoScalars.TheVariants as two
 use Rattle.constant_values.specs.declared.inner_ops.InnerOp.{InnerOp}
 use Rattle.constant_values.specs.declared.inner_ops.InnerOp.TheVariants.{One, Two, Select, Shuffle, Extract}
-use Rattle.constant_values.specs.Calculated.{inner_op_of, inner_op_at, inner_value, gives_composite, inner_value_of, calculated}
+use Rattle.constant_values.specs.Calculated.{inner_op_of, inner_op_at, inner_value, gives_composite, inner_value_of, calculated_by, calculated}
 
 abbrev same : Bool → Bool → Bool
 same true b = b
@@ -31,21 +31,10 @@ abbrev is_good : Bool → Option Operation → Bool
 is_good b None = false
 is_good b (Some o) = is_good_inner b (inner_op_of o)
 
-abbrev good : ℕ → Bool
-good n = is_good ((n == 81) || (n == 169)) (operation_in opcodes n)
-
-any_good : (good : ℕ → Bool) (xs : List ℕ) (n : ℕ) → list_all good xs ≡ true → list_any (λ x. x == n) xs ≡ true → good n ≡ true
-any_good good [] n all some = cc
-any_good good (x ∷ xs) n all some =
-    ⊎_elim (λ e. ap good (sym e) ∙ (both _ _ all).0)
-    (λ ne. let other : (x == n) ≡ false = grind (arith, nat_tests, ne) in
-    let later : list_any (λ y. y == n) xs ≡ true = ap (λ b. b || list_any (λ y. y == n) xs) (sym other) ∙ some in
-    any_good good xs n (both _ _ all).1 later)
-    (cases_eq x n)
-
-inner_good : (n : ℕ) → is_inner_op n ≡ true → good n ≡ true
-unfolding is_inner_op
-inner_good n inner = any_good good inner_ops n refl inner
+inner_good : (o : Op) → is_inner o ≡ true → is_good (gives_parts o) (operation o) ≡ true
+unfolding operation
+inner_good code.Nop e = cc
+inner_good o e = cc
 
 same_is : (c b : Bool) → same c b ≡ true → b ≡ c
 same_is true b h = h
@@ -87,10 +76,15 @@ found_step : (t : Tree) (literals : List ℕ) (vs : Option (List ValueTree)) (b 
 found_step t literals vs b None h = cc
 found_step t literals vs b (Some o) h = step t literals vs b o h
 
-by_cases : (t : Tree) (literals : List ℕ) (vs : Option (List ValueTree)) (b inner : Bool) (o : Option Operation) → (inner ≡ true → is_good b o ≡ true) → (if inner && (is_flat t || b) then value_by_operation t literals vs o else None) ≡ option_and_then (inner_value_of t literals vs) (if inner then option_and_then inner_op_of o else None)
-by_cases t literals vs b false o h = refl
-by_cases t literals vs b true o h = found_step t literals vs b o (h refl)
-
-pub operation_is : (t : Tree) (f : ℕ → Option ValueTree) (op : ℕ) (args : List ℕ) → operation_value t f op args ≡ calculated t f op args
+by_test : (t : Tree) (f : ℕ → Option ValueTree) (args : List ℕ) (o : Op) (inner : Bool) → (inner ≡ true → is_good (gives_parts o) (operation o) ≡ true) → (if inner && (is_flat t || gives_parts o) then value_by_operation t (inner_literals o args) (each_one f (inner_operands o args)) (operation o) else None) ≡ option_and_then (calculated_by t f args) (if inner then Some o else None)
 unfolding inner_op_at
-operation_is t f op args = by_cases t (inner_literals op args) (each_one f (inner_operands op args)) ((op == 81) || (op == 169)) (is_inner_op op) (operation_in opcodes op) (inner_good op)
+by_test t f args o false good = refl
+by_test t f args o true good = found_step t (inner_literals o args) (each_one f (inner_operands o args)) (gives_parts o) (operation o) (good refl)
+
+by_op : (t : Tree) (f : ℕ → Option ValueTree) (args : List ℕ) (o : Option Op) → option_and_then (λ (o : Op). operation_value t f o args) o ≡ option_and_then (calculated_by t f args) (option_and_then (λ (o : Op). if is_inner o then Some o else None) o)
+by_op t f args None = refl
+by_op t f args (Some o) = by_test t f args o (is_inner o) (inner_good o)
+
+pub operation_is : (t : Tree) (f : ℕ → Option ValueTree) (args : List ℕ) (n : ℕ) → option_and_then (λ (o : Op). operation_value t f o args) (op_of n) ≡ calculated t f args n
+unfolding inner_of
+operation_is t f args n = by_op t f args (op_of n)

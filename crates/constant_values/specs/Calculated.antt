@@ -1,12 +1,13 @@
 -- The operations inside OpSpecConstantOps.
 use Rattle.std.specs.Prelude.{ℕ, ◌||◌, Bool, true, false, List, Option, Some, None, option_and_then, if◌then◌else◌}
-use Rattle.spv_ops.specs.Operands.{is_inner_op}
+use Rattle.spv_ops.specs.Operands.{inner_of}
+use Rattle.spv_ops.specs.declared.Op.{Op}
 use Rattle.spv_types.specs.Tree.{Tree, ValueTree}
 use Rattle.op_semantics.specs.declared.operation.Operation.{Operation}
 use Rattle.op_semantics.specs.declared.operation.Operation.TheVariants as op
 use Rattle.op_semantics.specs.Component.{each_one, by_one, by_two, by_three, chosen}
 use Rattle.op_semantics.specs.Composite.{extracted, shuffled}
-use Rattle.op_semantics.specs.Value.{of_one, of_two, of_three, operation_in, opcodes}
+use Rattle.op_semantics.specs.Value.{of_one, of_two, of_three, operation}
 use Rattle.profile_rules.specs.Constants.{is_flat, inner_operands, inner_literals}
 use Rattle.constant_values.specs.declared.scalars.OneScalar.TheVariants as one
 use Rattle.constant_values.specs.declared.scalars.TwoScalars.TheVariants as two
@@ -27,8 +28,8 @@ inner_op_of op.CompositeExtract = Some Extract
 inner_op_of _ = None
 
 -- the operation of an opcode there
-unfoldable pub inner_op_at : ℕ → Option InnerOp
-inner_op_at n = if is_inner_op n then option_and_then inner_op_of (operation_in opcodes n) else None
+unfoldable pub inner_op_at : Op → Option InnerOp
+inner_op_at o = option_and_then inner_op_of (operation o)
 
 abbrev pub inner_value : InnerOp → Tree → List ℕ → List ValueTree → Option ValueTree
 inner_value (One o) t literals vs = of_one (by_one (one_scalar o)) vs
@@ -47,6 +48,9 @@ gives_composite _ = false
 abbrev pub inner_value_of : Tree → List ℕ → Option (List ValueTree) → InnerOp → Option ValueTree
 inner_value_of t literals vs o = if is_flat t || gives_composite o then option_and_then (inner_value o t literals) vs else None
 
--- the value of an OpSpecConstantOp
-abbrev pub calculated : Tree → (ℕ → Option ValueTree) → ℕ → List ℕ → Option ValueTree
-calculated t f op args = option_and_then (inner_value_of t (inner_literals op args) (each_one f (inner_operands op args))) (inner_op_at op)
+-- the value of an OpSpecConstantOp with this opcode inside, and with the opcode of this number where it may stand there
+abbrev pub calculated_by : Tree → (ℕ → Option ValueTree) → List ℕ → Op → Option ValueTree
+calculated_by t f args o = option_and_then (inner_value_of t (inner_literals o args) (each_one f (inner_operands o args))) (inner_op_at o)
+
+abbrev pub calculated : Tree → (ℕ → Option ValueTree) → List ℕ → ℕ → Option ValueTree
+calculated t f args n = option_and_then (calculated_by t f args) (inner_of n)

@@ -19,6 +19,7 @@ use profile_rules::{ConstantKind, Given};
 use spec_constants::{Overrides, check_leaves, check_overrides, givens, word_given};
 use spv_decor::Decor;
 use spv_module::{Id, Inst, Module, Shape, Value};
+use spv_ops::{Decoration, Op};
 use spv_types::{check_limits, shape};
 use spv_words::{Fault, Memory};
 use std::alloc::Global;
@@ -58,21 +59,19 @@ impl Constants {
 }
 
 #[tactic(auto, unfolding(profile_rules::specs::Constants::constant_kind))]
-fn constant_kind(op: u16) -> ConstantKind
+fn constant_kind(op: Op) -> ConstantKind
     ensures { result ≡ constant_kind_of op }
 {
     match op {
-        41 => ConstantKind::True,
-        42 => ConstantKind::False,
-        43 => ConstantKind::Word,
-        // OpConstantComposite, OpSpecConstantComposite
-        44 | 51 => ConstantKind::Composite,
-        // OpConstantNull, OpUndef
-        46 | 1 => ConstantKind::Zero,
-        48 => ConstantKind::SpecTrue,
-        49 => ConstantKind::SpecFalse,
-        50 => ConstantKind::SpecWord,
-        52 => ConstantKind::Operation,
+        Op::ConstantTrue => ConstantKind::True,
+        Op::ConstantFalse => ConstantKind::False,
+        Op::Constant => ConstantKind::Word,
+        Op::ConstantComposite | Op::SpecConstantComposite => ConstantKind::Composite,
+        Op::ConstantNull | Op::Undef => ConstantKind::Zero,
+        Op::SpecConstantTrue => ConstantKind::SpecTrue,
+        Op::SpecConstantFalse => ConstantKind::SpecFalse,
+        Op::SpecConstant => ConstantKind::SpecWord,
+        Op::SpecConstantOp => ConstantKind::Operation,
         _ => ConstantKind::Other,
     }
 }
@@ -96,7 +95,7 @@ fn chosen_word(
 ) -> Option<u32>
     ensures { result ≡ chosen_by decor.now (get nat_cmp given.now) (get nat_cmp special.now) id }
 {
-    let spec_id = decor.value(Id(id), 1)?;
+    let spec_id = decor.value(Id(id), Decoration::SpecId.number())?;
     match given.get(&spec_id).copied() {
         None => special.get(&spec_id).copied(),
         Some(given) => Some(word_given(given)),

@@ -2,12 +2,12 @@
 ghost use Rattle.std.specs.Prelude.{◌≡◌};
 ghost use Rattle.profile_rules.specs.Constants.{is_flat as is_flat_tree, inner_operands as inner_operands_of, inner_literals as inner_literals_of};
 ghost use Rattle.spv_types.specs.View.{tree_of};
-ghost use Rattle.constant_values.specs.Calculated.{inner_op_of as inner_op_in, inner_op_at, gives_composite as may_give_composite};
+ghost use Rattle.constant_values.specs.Calculated.{inner_op_of as inner_op_in, inner_op_at as inner_op_of_opcode, gives_composite as may_give_composite};
 
 use crate::scalars::{OneScalar, TwoScalars};
 use op_semantics::{Operation, operation_of};
 use spv_module::Shape;
-use spv_ops::is_inner_op;
+use spv_ops::Op;
 
 /// An operation that may stand inside an OpSpecConstantOp.
 #[derive(Clone, Copy)]
@@ -35,20 +35,12 @@ fn inner_op_of(operation: Operation) -> Option<InnerOp>
     }
 }
 
-/// The operation of an opcode inside an OpSpecConstantOp, where it may stand there.
-#[tactic(auto, using(spv_ops::proofs::Rows::inner_ops_small), unfolding(crate::specs::Calculated::inner_op_at))]
-pub fn inner_op(word: u32) -> Option<InnerOp>
-    ensures { result ≡ inner_op_at word }
+/// The operation of an opcode inside an OpSpecConstantOp.
+#[tactic(auto, unfolding(crate::specs::Calculated::inner_op_at))]
+pub fn inner_op_at(op: Op) -> Option<InnerOp>
+    ensures { result ≡ inner_op_of_opcode op }
 {
-    if word > 0xffff {
-        return None;
-    }
-    let opcode = word as u16;
-    if is_inner_op(opcode) {
-        inner_op_of(operation_of(opcode)?)
-    } else {
-        None
-    }
+    inner_op_of(operation_of(op)?)
 }
 
 /// Whether the result may be an array or a struct.
@@ -70,24 +62,23 @@ pub fn is_flat(shape: &Shape) -> bool
 }
 
 /// Of the words behind the opcode, those that are operands.
-pub fn inner_operands(op: u32, words: &[u32]) -> &[u32]
+pub fn inner_operands(op: Op, words: &[u32]) -> &[u32]
     ensures { result.now ≡ inner_operands_of op words.now }
 {
-    // OpVectorShuffle, OpCompositeExtract
     match op {
-        79 => &words[..words.len().min(2)],
-        81 => &words[..words.len().min(1)],
+        Op::VectorShuffle => &words[..words.len().min(2)],
+        Op::CompositeExtract => &words[..words.len().min(1)],
         _ => words,
     }
 }
 
 /// Of the words behind the opcode, those that are literals.
-pub fn inner_literals(op: u32, words: &[u32]) -> &[u32]
+pub fn inner_literals(op: Op, words: &[u32]) -> &[u32]
     ensures { result.now ≡ inner_literals_of op words.now }
 {
     match op {
-        79 => words.get(2..).unwrap_or(&[]),
-        81 => words.get(1..).unwrap_or(&[]),
+        Op::VectorShuffle => words.get(2..).unwrap_or(&[]),
+        Op::CompositeExtract => words.get(1..).unwrap_or(&[]),
         _ => &[],
     }
 }

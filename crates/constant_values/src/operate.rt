@@ -1,20 +1,22 @@
 // The value of an OpSpecConstantOp.
-ghost use Rattle.std.specs.Prelude.{◌≡◌, ◌||◌, IfOk, option_map, option_and_then, drop, slice_index, true};
+ghost use Rattle.std.specs.Prelude.{◌≡◌, ◌||◌, IfOk, option_map, option_and_then, true};
 ghost use Rattle.std.specs.Option.{option_map_or};
+ghost use Rattle.spv_ops.specs.Opcode.{op_of};
 ghost use Rattle.spv_types.specs.View.{tree_of, value_of};
 ghost use Rattle.op_semantics.specs.Component.{each_one, composite};
 ghost use Rattle.profile_rules.specs.Constants.{if_fits, is_flat as is_flat_tree, operation_value as operation_value_of};
 ghost use Rattle.constant_values.specs.Parts.{referred, plain_references};
-ghost use Rattle.constant_values.specs.Calculated.{inner_value, inner_value_of, gives_composite as may_give_composite};
+ghost use Rattle.constant_values.specs.Calculated.{inner_value, inner_value_of, calculated_by as value_by_op, gives_composite as may_give_composite};
 ghost use Rattle.constant_values.specs.Held.{value_in};
 
 use crate::assemble::assembled_of;
 use crate::choose::{extracted_part, selected, shuffled};
 use crate::inner_ops::{
-    InnerOp, gives_composite, inner_literals, inner_op, inner_operands, is_flat,
+    InnerOp, gives_composite, inner_literals, inner_op_at, inner_operands, is_flat,
 };
 use crate::scalars::{of_one_operand, of_two_operands};
 use spv_module::{Shape, Value};
+use spv_ops::{Op, inner_op};
 use spv_words::Memory;
 use std::alloc::Global;
 use std::collections::BTreeMap;
@@ -116,8 +118,29 @@ fn operation_value(
     }
 }
 
-/// The value of an OpSpecConstantOp with these words, where it has this shape.
-#[tactic(auto, using(crate::proofs::Calculation::operation_is))]
+/// The value of an OpSpecConstantOp with this opcode and these words behind it, where it has this
+/// shape.
+fn calculated_by(
+    alloc: Global,
+    values: &Values,
+    op: Op,
+    words: &[u32],
+    shape: &Shape,
+) -> Result<Option<Value>, Memory>
+    ensures { IfOk result (λ v. option_map value_of v ≡ option_and_then (if_fits (tree_of shape.now)) (value_by_op (tree_of shape.now) (value_in values.now) words.now op)) }
+{
+    match inner_op_at(op) {
+        None => Ok(None),
+        Some(inner) => {
+            let literals = inner_literals(op, words);
+            let operands = inner_operands(op, words);
+            operation_value(alloc, values, inner, literals, operands, shape)
+        }
+    }
+}
+
+/// The value of an OpSpecConstantOp with the opcode of this number and these words behind it, where it
+/// has this shape.
 pub fn calculated(
     alloc: Global,
     values: &Values,
@@ -125,14 +148,10 @@ pub fn calculated(
     words: &[u32],
     shape: &Shape,
 ) -> Result<Option<Value>, Memory>
-    ensures { IfOk result (λ v. option_map value_of v ≡ option_and_then (if_fits (tree_of shape.now)) (operation_value_of (tree_of shape.now) (value_in values.now) op words.now)) }
+    ensures { IfOk result (λ v. option_map value_of v ≡ option_and_then (if_fits (tree_of shape.now)) (option_and_then (λ o. operation_value_of (tree_of shape.now) (value_in values.now) o words.now) (op_of op))) }
 {
     match inner_op(op) {
         None => Ok(None),
-        Some(inner) => {
-            let literals = inner_literals(op, words);
-            let operands = inner_operands(op, words);
-            operation_value(alloc, values, inner, literals, operands, shape)
-        }
+        Some(op) => calculated_by(alloc, values, op, words, shape),
     }
 }
