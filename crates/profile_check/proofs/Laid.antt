@@ -8,6 +8,10 @@ use Rattle.std.proofs.lemmas.List.Elements.{All-contains, All-more}
 use Rattle.std.proofs.lemmas.Bool.Decides.{eqb_tells, nat_tests}
 use Rattle.std.proofs.lemmas.Bool.{and_parts}
 use Rattle.spv_words.specs.declared.rule.Rule.{Rule}
+use Rattle.spv_ops.specs.Enumerants.{class_number}
+use Rattle.spv_ops.specs.Opcode.{is}
+use Rattle.spv_ops.specs.declared.Op.TheVariants as code
+use Rattle.spv_ops.specs.declared.StorageClass.TheVariants as storage
 use Rattle.spv_module.specs.Held.{global}
 use Rattle.spv_module.specs.State.{ModuleState}
 use Rattle.spv_module.specs.declared.inst.Inst.{Inst}
@@ -25,9 +29,9 @@ pointed false o gs block e = cc
 
 -- a variable of a class, with its block
 struct_at : (gs : List Inst) (class : ℕ) (v block : Inst) → block_of gs v ≡ Some block → slice_index v.args 0 ≡ class → (p : ℕ) × (struct_by gs class v ≡ Some p) × (option_and_then as_struct (global gs p) ≡ Some block)
-struct_at gs class v block has is =
-    let by = pointed ((v.op == 59) && is_block_class (slice_index v.args 0)) (pointee gs v.ty) gs block has in
-    let own : (slice_index v.args 0 == class) ≡ true = grind (arith, nat_tests, is) in
+struct_at gs class v block has same =
+    let by = pointed ((is v.op code.Variable) && is_block_class (slice_index v.args 0)) (pointee gs v.ty) gs block has in
+    let own : (slice_index v.args 0 == class) ≡ true = grind (arith, nat_tests, same) in
     let inner : cond (is_some (block_of gs v)) (pointee gs v.ty) None ≡ Some by.1.0 = ap (λ o. cond (is_some o) (pointee gs v.ty) None) has ∙ by.1.1 in
     (by.1.0, ap (λ b. cond b (cond (is_some (block_of gs v)) (pointee gs v.ty) None) None) own ∙ inner, by.1.2)
 
@@ -113,17 +117,17 @@ pub laid_all : (m : ModuleState) (class : ℕ) (gs : List Inst) (i : ℕ) → le
 laid_all m class gs i past before = subst (λ (l : List Inst). All (IsLaidOutAt m class) l) (take_all i gs past) before
 
 -- the classes of blocks
-by_class : (class : ℕ) (P : ℕ → Type 0) → is_block_class class ≡ true → P 2 → P 9 → P 12 → P class
-by_class class P is two nine twelve =
-    elim (eqb_tells class 2) [
-      | inl w ↦ subst P (sym w.1) two
+by_class : (class : ℕ) (P : ℕ → Type 0) → is_block_class class ≡ true → P (class_number storage.Uniform) → P (class_number storage.PushConstant) → P (class_number storage.StorageBuffer) → P class
+by_class class P test uniform push buffer =
+    elim (eqb_tells class (class_number storage.Uniform)) [
+      | inl w ↦ subst P (sym w.1) uniform
       | inr w ↦
-          elim (eqb_tells class 9) [
-            | inl u ↦ subst P (sym u.1) nine
+          elim (eqb_tells class (class_number storage.PushConstant)) [
+            | inl u ↦ subst P (sym u.1) push
             | inr u ↦
-                elim (eqb_tells class 12) [
-                  | inl t ↦ subst P (sym t.1) twelve
-                  | inr t ↦ (let never : false ≡ true = rw (w.0, u.0, t.0) at is in cc)
+                elim (eqb_tells class (class_number storage.StorageBuffer)) [
+                  | inl t ↦ subst P (sym t.1) buffer
+                  | inr t ↦ (let never : false ≡ true = rw (w.0, u.0, t.0) at test in cc)
                 ]
           ]
     ]
@@ -133,8 +137,8 @@ broken_at m v rule None has b all own = b
 broken_at m v rule (Some block) has b all own =
     let class : ℕ = slice_index v.args 0 in
     let by = struct_at m.globals class v block has refl in
-    let test = pointed ((v.op == 59) && is_block_class class) (pointee m.globals v.ty) m.globals block has in
-    let is_class : is_block_class class ≡ true = (and_parts (v.op == 59) (is_block_class class) test.0).1 in
+    let test = pointed ((is v.op code.Variable) && is_block_class class) (pointee m.globals v.ty) m.globals block has in
+    let is_class : is_block_class class ≡ true = (and_parts (is v.op code.Variable) (is_block_class class) test.0).1 in
     let struct : struct_in m.globals class v.result ≡ Some by.0 = ap (option_and_then (struct_by m.globals class)) own ∙ by.1 in
     let laid : IsLaidOut m class by.0 = subst (λ (o : Option ℕ). IfSome o (IsLaidOut m class)) struct (all class is_class) in
     let B : Option Inst → Type 0 = λ o. IsSomeAnd o (BlockBreaks m class rule) in
@@ -148,6 +152,6 @@ broken_variable m id at rule (Some v) is b all =
     (λ class c. All-contains (IsLaidOutAt m class) m.globals v (all class c) among.0) (ap (global m.globals) among.1 ∙ is)
 
 -- where the structs of all classes are laid out
-pub none_broken : (m : ModuleState) → AreLaidOut m 2 m.globals → AreLaidOut m 9 m.globals → AreLaidOut m 12 m.globals → (rule : Rule) (at : ℕ) → BreaksLayout m rule at → ⊥
-none_broken m two nine twelve rule at h =
-    broken_variable m h.0 at rule (global m.globals h.0) refl h.1 (λ class c. by_class class (λ k. AreLaidOut m k m.globals) c two nine twelve)
+pub none_broken : (m : ModuleState) → AreLaidOut m (class_number storage.Uniform) m.globals → AreLaidOut m (class_number storage.PushConstant) m.globals → AreLaidOut m (class_number storage.StorageBuffer) m.globals → (rule : Rule) (at : ℕ) → BreaksLayout m rule at → ⊥
+none_broken m uniform push buffer rule at h =
+    broken_variable m h.0 at rule (global m.globals h.0) refl h.1 (λ class c. by_class class (λ k. AreLaidOut m k m.globals) c uniform push buffer)

@@ -7,10 +7,11 @@ ghost use Rattle.layout_rules.specs.Blocks.{Broken as BreaksLayout};
 ghost use Rattle.profile_check.specs.Data.{IsLayoutRight};
 ghost use Rattle.profile_check.specs.Layouts.{struct_in, IsLaidOut, AreJudged, AreLaidOut};
 
-use buffer_layout::{PUSH_CONSTANT, STORAGE_BUFFER, UNIFORM, block_of, check_block};
+use buffer_layout::{block_of, check_block};
 use spv_decor::Decor;
 use spv_index::pointer;
 use spv_module::{Id, Module};
+use spv_ops::StorageClass;
 use spv_words::Fault;
 use std::alloc::Global;
 use std::collections::BTreeSet;
@@ -74,8 +75,8 @@ pub fn check_layouts(alloc: Global, module: &Module, decor: &Decor) -> Result<()
     ensures laid_out { OnOk result ((rule : Rule) (at : ℕ) → BreaksLayout «module».now rule at → ⊥) }
     ensures refused { IfErr result (IsLayoutRight «module».now) }
 {
-    check_class(alloc, module, decor, UNIFORM)?;
-    check_class(alloc, module, decor, PUSH_CONSTANT)?;
-    check_class(alloc, module, decor, STORAGE_BUFFER)?;
+    check_class(alloc, module, decor, StorageClass::Uniform.number())?;
+    check_class(alloc, module, decor, StorageClass::PushConstant.number())?;
+    check_class(alloc, module, decor, StorageClass::StorageBuffer.number())?;
     Ok(())
 }
