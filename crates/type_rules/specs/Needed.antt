@@ -31,6 +31,7 @@ needs_of code.BranchConditional = Some (Value, Label)
 needs_of code.Switch = Some (Value, Label)
 needs_of _ = Some (Value, Value)
 
+-- the first operand of the opcode has to be the one, and the others the other
 pub record AreNeeds (o : Op) (needs : Need × Need) : Type 0 where
   pub each : (k : ℕ) → need o k ≡ first_or k needs.0 needs.1
 
