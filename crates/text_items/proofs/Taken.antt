@@ -5,6 +5,8 @@ use Rattle.std.specs.Option.{option_map_or}
 use Rattle.std.proofs.lemmas.Bool.{and_parts, eqb-true}
 use Rattle.spv_words.specs.declared.rule.Fault.TheVariants.{Refused}
 use Rattle.spv_words.specs.declared.rule.Refusal.{Refusal}
+use Rattle.spv_ops.specs.Opcode.{is, number}
+use Rattle.spv_ops.specs.declared.Op.TheVariants as code
 use Rattle.spv_module.specs.Held.{global}
 use Rattle.spv_module.specs.declared.inst.Inst.{Inst}
 use Rattle.spv_index.specs.Pointers.{pointee}
@@ -13,26 +15,26 @@ use Rattle.buffer_layout.specs.declared.plan.BlockPlan.{BlockPlan}
 use Rattle.buffer_layout.specs.Plan.{IsPlanOf, IsPlanAt}
 use Rattle.text_items.specs.Blocks.{is_like, is_found}
 
--- the block of a variable, from its opcode, class and type
+-- the block of a variable, from the number of its opcode, its class and its type
 abbrev block_by : List Inst → ℕ → ℕ → ℕ → Option Inst
-block_by gs op class ty =
-    if (op == 59) && is_block_class class then option_and_then as_struct (option_and_then (global gs) (pointee gs ty)) else None
+block_by gs n class ty =
+    if (n == number code.Variable) && is_block_class class then option_and_then as_struct (option_and_then (global gs) (pointee gs ty)) else None
 
 -- what two variables that are alike have in common
 record Alike (v g : Inst) : Type 0 where
-  op : g.op ≡ v.op
+  op : number g.op ≡ number v.op
   ty : g.ty ≡ v.ty
   class : slice_index g.args 0 ≡ slice_index v.args 0
 
 alike : (v g : Inst) → is_like v g ≡ true → Alike v g
 alike v g h =
-    let parts = and_parts (g.op == v.op) ((g.ty == v.ty) && (slice_index g.args 0 == slice_index v.args 0)) h in
+    let parts = and_parts (is g.op v.op) ((g.ty == v.ty) && (slice_index g.args 0 == slice_index v.args 0)) h in
     let more = and_parts (g.ty == v.ty) (slice_index g.args 0 == slice_index v.args 0) parts.1 in
-    record { op = eqb-true g.op v.op parts.0; ty = eqb-true g.ty v.ty more.0; class = eqb-true (slice_index g.args 0) (slice_index v.args 0) more.1 }
+    record { op = eqb-true (number g.op) (number v.op) parts.0; ty = eqb-true g.ty v.ty more.0; class = eqb-true (slice_index g.args 0) (slice_index v.args 0) more.1 }
 
 block_same : (gs : List Inst) (v g : Inst) → Alike v g → block_of gs g ≡ block_of gs v
 block_same gs v g a =
-    ap (λ op. block_by gs op (slice_index g.args 0) g.ty) a.op ∙ (ap (λ class. block_by gs v.op class g.ty) a.class ∙ ap (block_by gs v.op (slice_index v.args 0)) a.ty)
+    ap (λ n. block_by gs n (slice_index g.args 0) g.ty) a.op ∙ (ap (λ class. block_by gs (number v.op) class g.ty) a.class ∙ ap (block_by gs (number v.op) (slice_index v.args 0)) a.ty)
 
 kind_same : (heads gs : List Inst) (v g block : Inst) → Alike v g → kind_at heads gs g block ≡ kind_at heads gs v block
 kind_same heads gs v g block a = ap (λ class. kind_of_members heads gs class (members_of heads gs block)) a.class

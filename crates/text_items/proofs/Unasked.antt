@@ -1,7 +1,9 @@
 -- Where no global asks which instructions are live, what is written is the same for all.
 use Rattle.std.proofs.Common.{◌≡◌, ◌&&◌, ◌||◌, not, Bool, true, false, List, [], ◌∷◌, ◌++◌, None, refl, ap, ◌∙◌}
-use Rattle.std.specs.Prelude.{◌==◌, flat_map, is_some, if◌then◌else◌}
+use Rattle.std.specs.Prelude.{flat_map, is_some, if◌then◌else◌}
 use Rattle.std.specs.List.{list_any, enumerate_from}
+use Rattle.spv_ops.specs.Opcode.{is}
+use Rattle.spv_ops.specs.declared.Op.TheVariants as code
 use Rattle.spv_module.specs.declared.inst.Inst.{Inst}
 use Rattle.spv_module.specs.declared.inst.Function.{Function}
 use Rattle.spv_index.specs.ValueTypes.{is_block}
@@ -46,12 +48,12 @@ module _ (s : Source) (fs : List Function) (live more : List Inst) where
   constant_same : (g : Inst) → is_asked s g ≡ false → is_declared_constant s some g ≡ is_declared_constant s all g
   constant_same g h =
       behind (is_constant g) (is_named (reading s g)) (is_some (free_spec_id s g.result) || is_needed s some g.result) (is_some (free_spec_id s g.result) || is_needed s all g.result)
-      (left_false (is_constant g && is_named (reading s g)) ((g.op == 30) && not (is_block s.of.heads g.result)) h)
+      (left_false (is_constant g && is_named (reading s g)) ((is g.op code.TypeStruct) && not (is_block s.of.heads g.result)) h)
 
   struct_same : (g : Inst) → is_asked s g ≡ false → is_written_struct s some g ≡ is_written_struct s all g
   struct_same g h =
-      behind (g.op == 30) (not (is_block s.of.heads g.result)) (list_any (type_has_struct s.of.globals g.result) (written_types s some)) (list_any (type_has_struct s.of.globals g.result) (written_types s all))
-      (right_false (is_constant g && is_named (reading s g)) ((g.op == 30) && not (is_block s.of.heads g.result)) h)
+      behind (is g.op code.TypeStruct) (not (is_block s.of.heads g.result)) (list_any (type_has_struct s.of.globals g.result) (written_types s some)) (list_any (type_has_struct s.of.globals g.result) (written_types s all))
+      (right_false (is_constant g && is_named (reading s g)) ((is g.op code.TypeStruct) && not (is_block s.of.heads g.result)) h)
 
   declaration_same : (names : Names) (g : Inst) → is_asked s g ≡ false → declaration s some names g ≡ declaration s all names g
   declaration_same names g h =
@@ -60,8 +62,8 @@ module _ (s : Source) (fs : List Function) (live more : List Inst) where
 
   claim_same : (g : Inst) → is_asked s g ≡ false → claim_global s some g ≡ claim_global s all g
   claim_same g h =
-      ap (λ (b : Bool). if g.op == 30 then ((if b then claim_id s g.result else []) ++ (if b || is_written_block s some g.result then claim_members s g else [])) else (if is_declared_constant s some g then claim_id s g.result else (if is_written_variable some g then claim_variable s g else []))) (struct_same g h)
-      ∙ ap (λ (b : Bool). if g.op == 30 then ((if is_written_struct s all g then claim_id s g.result else []) ++ (if is_written_struct s all g || is_written_block s some g.result then claim_members s g else [])) else (if b then claim_id s g.result else (if is_written_variable some g then claim_variable s g else []))) (constant_same g h)
+      ap (λ (b : Bool). if is g.op code.TypeStruct then ((if b then claim_id s g.result else []) ++ (if b || is_written_block s some g.result then claim_members s g else [])) else (if is_declared_constant s some g then claim_id s g.result else (if is_written_variable some g then claim_variable s g else []))) (struct_same g h)
+      ∙ ap (λ (b : Bool). if is g.op code.TypeStruct then ((if is_written_struct s all g then claim_id s g.result else []) ++ (if is_written_struct s all g || is_written_block s some g.result then claim_members s g else [])) else (if b then claim_id s g.result else (if is_written_variable some g then claim_variable s g else []))) (constant_same g h)
 
   pub declarations_same : (names : Names) → list_any (is_asked s) s.of.globals ≡ false → declarations s some names ≡ declarations s all names
   declarations_same names h = flats (declaration s some names) (declaration s all names) (is_asked s) (declaration_same names) s.of.globals h

@@ -1,6 +1,8 @@
 -- The names of items, and the expressions of calculated constants.
-use Rattle.std.specs.Prelude.{ℕ, ◌&&◌, nat_lt, Bool, true, false, List, [], drop, map, Option, Some, None, option_and_then, if◌then◌else◌, slice_index, unwrap_or}
+use Rattle.std.specs.Prelude.{ℕ, ◌&&◌, Bool, true, false, List, [], drop, map, Option, Some, None, option_and_then, if◌then◌else◌, slice_index, unwrap_or}
 use Rattle.std.specs.Option.{option_map_or}
+use Rattle.spv_ops.specs.Operands.{inner_of}
+use Rattle.spv_ops.specs.declared.Op.{Op}
 use Rattle.spv_module.specs.Held.{global}
 use Rattle.spv_module.specs.Lists.{id}
 use Rattle.spv_module.specs.declared.inst.Inst.{Inst}
@@ -15,6 +17,9 @@ use Rattle.name_alloc.specs.declared.claims.Names.{Names as Given}
 use Rattle.name_alloc.specs.Lookup.{name_in}
 use Rattle.glsl_ast.specs.Tree.{Text, Expr, literal, Field, field}
 use Rattle.glsl_ast.specs.declared.expressions.Literal.TheVariants.{Uint}
+use Rattle.int_lowering.specs.Operand.{basic_type}
+use Rattle.int_lowering.specs.Lowered.{zero}
+use Rattle.vec_lowering.specs.Named.{Naming}
 use Rattle.vec_lowering.specs.Composite.{Argument}
 use Rattle.vec_lowering.specs.Lowered.{lowered_vector}
 use Rattle.constant_text.specs.Named.{id_names}
@@ -49,17 +54,22 @@ operand_by s ids (Some g) = record { of = constant_expr s ids g; shape = shape_a
 abbrev pub operand : Source → (ℕ → Text) → ℕ → Argument
 operand s ids n = operand_by s ids (global s.of.globals n)
 
--- the opcode of the operation that an OpSpecConstantOp is: 0 of what is no opcode
-abbrev pub inner_opcode : Inst → ℕ
-inner_opcode g = if nat_lt (slice_index g.args 0) 65536 then slice_index g.args 0 else 0
+-- the opcode of the operation that an OpSpecConstantOp is, where it may stand there
+abbrev pub inner_opcode : Inst → Option Op
+inner_opcode g = inner_of (slice_index g.args 0)
 
--- the expression of an operation of constants
-abbrev pub calculated_by : Source → Given → Inst → ℕ → List ℕ → Expr
-calculated_by s names g op args =
-    lowered_vector (name_in names) op 0 (shape_at s g.ty) (inner_literals op args) (map (operand s (id_names names)) (inner_operands op args))
+-- the expression of an operation of constants, where keys and ids have these names
+abbrev pub calculated_by : Source → Naming → (ℕ → Text) → Inst → List ℕ → Op → Expr
+calculated_by s keys ids g args op =
+    lowered_vector keys op 0 (shape_at s g.ty) (inner_literals op args) (map (operand s ids) (inner_operands op args))
+
+-- where there is no operation, it is a zero
+abbrev pub calculated_with : Source → Naming → (ℕ → Text) → Inst → Expr
+calculated_with s keys ids g =
+    option_map_or (calculated_by s keys ids g (drop 1 g.args)) (inner_opcode g) (zero (basic_type (shape_at s g.ty)))
 
 abbrev pub calculated : Source → Given → Inst → Expr
-calculated s names g = calculated_by s names g (inner_opcode g) (drop 1 g.args)
+calculated s names = calculated_with s (name_in names) (id_names names)
 
 -- the names of items
 abbrev pub item_names : Source → Given → Names

@@ -1,9 +1,11 @@
 -- What contracts see of what is written.
-use Rattle.std.specs.Prelude.{ℕ, ◌≡◌, ◌++◌, ◌&&◌, ◌||◌, Bool, true, List, filter, flat_map, map}
+use Rattle.std.specs.Prelude.{ℕ, ◌≡◌, ◌==◌, ◌++◌, ◌&&◌, ◌||◌, Bool, true, List, filter, flat_map, map}
 use Rattle.std.specs.Borrow.{Bor}
 use Rattle.std.specs.List.{list_any}
 use Rattle.id_map.specs.Entries.{is_in}
 use Rattle.id_map.specs.declared.set.IdSet.{IdSet}
+use Rattle.spv_ops.specs.Enumerants.{class_number}
+use Rattle.spv_ops.specs.declared.StorageClass.TheVariants as storage
 use Rattle.spv_module.specs.declared.inst.Inst.{Inst}
 use Rattle.spv_module.specs.declared.inst.Function.{Function}
 use Rattle.text_rules.specs.Constants.{Source}
@@ -22,6 +24,11 @@ functions_at fs = map (λ (f : Bor Function). f.now) fs
 
 abbrev pub reached_of : List (Bor Function) → List (Bor Inst) → Reached
 reached_of fs is = record { functions = functions_at fs; live = insts_at is }
+
+-- the variables of these classes are written
+abbrev pub is_written_class : ℕ → Bool
+is_written_class n =
+    (n == class_number storage.Private) || ((n == class_number storage.Workgroup) || ((n == class_number storage.Uniform) || ((n == class_number storage.PushConstant) || (n == class_number storage.StorageBuffer))))
 
 -- a variable is written that is among these, the ids which functions mention
 abbrev pub is_written_by : (ℕ → Bool) → Inst → Bool

@@ -1,28 +1,33 @@
 // Whether it matters which instructions are live.
-ghost use Rattle.std.specs.Prelude.{◌≡◌, ◌==◌, ◌&&◌, not};
+ghost use Rattle.std.specs.Prelude.{◌≡◌, ◌&&◌, not};
 ghost use Rattle.std.specs.List.{list_any};
 ghost use Rattle.spv_index.specs.ValueTypes.{is_block};
+ghost use Rattle.spv_ops.specs.Opcode.{is};
+ghost use Rattle.spv_ops.specs.declared.Op.TheVariants as op;
 ghost use Rattle.text_rules.specs.Constants.{is_constant as is_constant_global, reading};
 ghost use Rattle.text_rules.specs.Printed.{is_named};
 ghost use Rattle.text_items.specs.Asked.{is_asked as is_asked_global};
 
-use constant_text::{Reading, Readings, is_constant};
+use constant_text::{Reading, Readings};
 use spv_decor::Decor;
 use spv_module::{Id, Inst};
+use spv_ops::{Decoration, Op};
 
 /// Whether this is a constant that is read by its name.
 fn is_named_constant(readings: &Readings, inst: &Inst) -> bool
     ensures { result ≡ (is_constant_global inst.now && is_named (reading readings.now inst.now)) }
 {
-    is_constant(inst) && matches!(readings.reading(inst), Reading::Named)
+    inst.op.is_constant() && matches!(readings.reading(inst), Reading::Named)
 }
 
 /// Whether this is a struct that is no Block.
 fn is_plain_struct(decor: &Decor, inst: &Inst) -> bool
-    ensures { result ≡ ((inst.now.op == 30) && not (is_block decor.now inst.now.result)) }
+    ensures { result ≡ ((is inst.now.op op.TypeStruct) && not (is_block decor.now inst.now.result)) }
 {
-    // OpTypeStruct; Block
-    inst.op == 30 && decor.value(Id(inst.result), 2).is_none()
+    inst.op == Op::TypeStruct
+        && decor
+            .value(Id(inst.result), Decoration::Block.number())
+            .is_none()
 }
 
 /// Whether this is a global that is written only where it is asked for: a constant that is read by its name, or a struct that is no

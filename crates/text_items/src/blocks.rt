@@ -17,6 +17,7 @@ use glsl_ast::{BlockPlace, BlockRules, Decl, Member};
 use name_alloc::{Key, Names};
 use spv_decor::Decor;
 use spv_module::{Id, Inst, Module};
+use spv_ops::{Decoration, StorageClass};
 use spv_words::{Fault, Memory};
 use std::alloc::Global;
 
@@ -24,21 +25,22 @@ use std::alloc::Global;
 fn is_buffer(inst: &Inst) -> bool
     ensures { result ≡ is_buffer_variable inst.now }
 {
-    inst.operand(0) == 12
+    inst.operand(0) == StorageClass::StorageBuffer.number()
 }
 
 fn place_of(written: &Written, inst: &Inst) -> BlockPlace
     ensures { result ≡ place_of_variable written.now.source inst.now }
 {
-    // PushConstant
-    if inst.operand(0) == 9 {
+    if inst.operand(0) == StorageClass::PushConstant.number() {
         return BlockPlace::Push;
     }
     let id = Id(inst.result);
-    // DescriptorSet, Binding
+    let decor = written.decor();
     BlockPlace::Set {
-        set: written.decor().value(id, 34).unwrap_or(0),
-        binding: written.decor().value(id, 33).unwrap_or(0),
+        set: decor
+            .value(id, Decoration::DescriptorSet.number())
+            .unwrap_or(0),
+        binding: decor.value(id, Decoration::Binding.number()).unwrap_or(0),
     }
 }
 
@@ -112,8 +114,7 @@ fn member(
     let number = counted(k)?;
     let buffer = is_buffer(variable);
     let quals = member_qualifiers(alloc, decor, buffer, id, number)?;
-    // Offset
-    let value = decor.member_value(id, number, 35);
+    let value = decor.member_value(id, number, Decoration::Offset.number());
     let offset = value.unwrap_or(0);
     let ty = type_at(alloc, written.readings(), names, part)?;
     let name = name(alloc, names, Key::Member(id, number))?;

@@ -3,16 +3,18 @@ ghost use Rattle.std.specs.Prelude.{◌≡◌, IfOk, drop, map};
 ghost use Rattle.std.specs.Option.{option_copied};
 ghost use Rattle.glsl_ast.specs.View.{expr_of};
 ghost use Rattle.profile_rules.specs.Constants.{inner_operands as inner_operands_of, inner_literals as inner_literals_of};
+ghost use Rattle.name_alloc.specs.Lookup.{name_in};
 ghost use Rattle.vec_lowering.specs.Composite.{argument_of};
 ghost use Rattle.constant_text.specs.Named.{id_names};
-ghost use Rattle.text_items.specs.Names.{is_number as is_number_type, literal_word as literal_word_of, operand_by, operand as operand_of, inner_opcode as inner_opcode_of, calculated as calculated_of};
+ghost use Rattle.text_items.specs.Names.{is_number as is_number_type, literal_word as literal_word_of, operand_by, operand as operand_of, calculated_by as calculated_by_opcode, calculated as calculated_of};
 
 use crate::shapes::shape_at;
-use constant_text::{Reading, Readings, is_constant, scalar_type};
+use constant_text::{Reading, Readings, scalar_type};
 use glsl_ast::{Expr, Literal};
-use int_lowering::Arg;
+use int_lowering::{Arg, basic_type, literal};
 use name_alloc::Names;
 use spv_module::{Elem, Id, Inst, Shape};
+use spv_ops::{Op, inner_op};
 use spv_words::Memory;
 use std::alloc::Global;
 use vec_lowering::lower_vector;
@@ -27,7 +29,7 @@ fn is_number(ty: Option<Elem>) -> bool
 fn literal_word(readings: &Readings, inst: &Inst) -> Option<u32>
     ensures { result ≡ literal_word_of readings.now inst.now }
 {
-    if is_constant(inst)
+    if inst.op.is_constant()
         && matches!(readings.reading(inst), Reading::Plain)
         && is_number(scalar_type(readings.module(), inst.ty))
     {
@@ -84,13 +86,6 @@ fn operands(
     Ok(args)
 }
 
-/// The opcode of the operation, 0 of what is no opcode.
-fn inner_opcode(inst: &Inst) -> u16
-    ensures { result ≡ inner_opcode_of inst.now }
-{
-    u16::try_from(inst.operand(0)).unwrap_or(0)
-}
-
 /// The words behind the opcode.
 fn behind_opcode(inst: &Inst) -> &[u32]
     ensures { result.now ≡ drop 1 inst.now.args }
@@ -99,29 +94,47 @@ fn behind_opcode(inst: &Inst) -> &[u32]
 }
 
 /// Of the words behind the opcode, those that are operands.
-fn inner_operands(op: u16, words: &[u32]) -> &[u32]
+fn inner_operands(op: Op, words: &[u32]) -> &[u32]
     ensures { result.now ≡ inner_operands_of op words.now }
 {
-    // OpVectorShuffle, OpCompositeExtract
     match op {
-        79 => &words[..words.len().min(2)],
-        81 => &words[..words.len().min(1)],
+        Op::VectorShuffle => &words[..words.len().min(2)],
+        Op::CompositeExtract => &words[..words.len().min(1)],
         _ => words,
     }
 }
 
 /// Those that are literals.
-fn inner_literals(op: u16, words: &[u32]) -> &[u32]
+fn inner_literals(op: Op, words: &[u32]) -> &[u32]
     ensures { result.now ≡ inner_literals_of op words.now }
 {
     match op {
-        79 => words.get(2..).unwrap_or(&[]),
-        81 => words.get(1..).unwrap_or(&[]),
+        Op::VectorShuffle => words.get(2..).unwrap_or(&[]),
+        Op::CompositeExtract => words.get(1..).unwrap_or(&[]),
         _ => &[],
     }
 }
 
-/// The expression of a calculated constant, from those of its operands.
+/// The expression of the operation with an opcode, from those of its operands.
+fn calculated_by(
+    alloc: Global,
+    readings: &Readings,
+    names: &Names,
+    inst: &Inst,
+    op: Op,
+) -> Result<Expr, Memory>
+    ensures { IfOk result (λ e. expr_of e ≡ calculated_by_opcode readings.now (name_in names.now) (id_names names.now) inst.now (drop 1 inst.now.args) op) }
+{
+    let words = behind_opcode(inst);
+    let ids = inner_operands(op, words);
+    let literals = inner_literals(op, words);
+    let args = operands(alloc, readings, names, ids)?;
+    let shape = shape_at(alloc, readings.module(), inst.ty)?;
+    let expr = lower_vector(alloc, op, 0, shape, args, literals, names)?;
+    Ok(expr)
+}
+
+/// The expression of a calculated constant. Where there is no operation, it is a zero.
 pub fn calculated(
     alloc: Global,
     readings: &Readings,
@@ -130,12 +143,11 @@ pub fn calculated(
 ) -> Result<Expr, Memory>
     ensures { IfOk result (λ e. expr_of e ≡ calculated_of readings.now names.now inst.now) }
 {
-    let op = inner_opcode(inst);
-    let words = behind_opcode(inst);
-    let ids = inner_operands(op, words);
-    let literals = inner_literals(op, words);
-    let args = operands(alloc, readings, names, ids)?;
-    let shape = shape_at(alloc, readings.module(), inst.ty)?;
-    let expr = lower_vector(alloc, op, 0, shape, args, literals, names)?;
-    Ok(expr)
+    match inner_op(inst.operand(0)) {
+        Some(op) => calculated_by(alloc, readings, names, inst, op),
+        None => {
+            let shape = shape_at(alloc, readings.module(), inst.ty)?;
+            Ok(literal(basic_type(&shape).elem, 0))
+        }
+    }
 }

@@ -16,6 +16,7 @@ use constant_text::{Readings, name};
 use glsl_ast::{Decl, Expr, Field, Literal, TypeName};
 use name_alloc::{Key, Names};
 use spv_module::{Id, Inst};
+use spv_ops::Op;
 use spv_words::Memory;
 use std::alloc::Global;
 
@@ -98,12 +99,11 @@ fn value(alloc: Global, readings: &Readings, names: &Names, inst: &Inst) -> Resu
     ensures { IfOk result (λ e. expr_of e ≡ value_by readings.now (item_names readings.now names.now) inst.now (constant_kind inst.now.op)) }
 {
     match inst.op {
-        // OpConstantComposite, OpSpecConstantComposite
-        44 | 51 => composite(alloc, readings, names, inst),
-        // OpConstantNull, OpUndef
-        46 | 1 => zero_at(alloc, readings, names, inst.ty),
-        // OpSpecConstantOp
-        52 => calculated(alloc, readings, names, inst),
+        Op::ConstantComposite | Op::SpecConstantComposite => {
+            composite(alloc, readings, names, inst)
+        }
+        Op::ConstantNull | Op::Undef => zero_at(alloc, readings, names, inst.ty),
+        Op::SpecConstantOp => calculated(alloc, readings, names, inst),
         _ => Ok(Expr::Literal(readings.literal(inst))),
     }
 }

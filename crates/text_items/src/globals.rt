@@ -4,11 +4,12 @@ ghost use Rattle.glsl_ast.specs.View.{expr_of};
 ghost use Rattle.constant_text.specs.Named.{id_names};
 ghost use Rattle.text_items.specs.Globals.{built_in_text, is_input as is_input_variable, global_by};
 
-use constant_text::{Readings, is_constant};
+use constant_text::Readings;
 use glsl_ast::{Expr, Name};
 use name_alloc::Names;
 use spv_decor::Decor;
 use spv_module::{Id, Inst};
+use spv_ops::{BuiltIn, Decoration, Op, StorageClass};
 use spv_words::Memory;
 use std::alloc::Global;
 
@@ -16,19 +17,22 @@ use std::alloc::Global;
 fn built_in(number: u32) -> &'static str
     ensures { result.now ≡ built_in_text number }
 {
-    match number {
-        24 => "gl_NumWorkGroups",
-        26 => "gl_WorkGroupID",
-        27 => "gl_LocalInvocationID",
-        28 => "gl_GlobalInvocationID",
-        _ => "gl_LocalInvocationIndex",
+    match BuiltIn::of(number) {
+        Some(BuiltIn::NumWorkgroups) => "gl_NumWorkGroups",
+        Some(BuiltIn::WorkgroupId) => "gl_WorkGroupID",
+        Some(BuiltIn::LocalInvocationId) => "gl_LocalInvocationID",
+        Some(BuiltIn::GlobalInvocationId) => "gl_GlobalInvocationID",
+        // WorkgroupSize is of constants alone
+        Some(BuiltIn::LocalInvocationIndex | BuiltIn::WorkgroupSize) | None => {
+            "gl_LocalInvocationIndex"
+        }
     }
 }
 
 fn is_input(inst: &Inst) -> bool
     ensures { result ≡ is_input_variable inst.now }
 {
-    inst.op == 59 && inst.operand(0) == 1
+    inst.op == Op::Variable && inst.operand(0) == StorageClass::Input.number()
 }
 
 /// The expression by which a global is read: a constant by its literal, its name or as the size of workgroups, and a variable of
@@ -45,13 +49,14 @@ pub fn global_expr(
     requires { decor.now ≡ readings.now.of.heads }
     ensures { IfOk result (λ e. option_map expr_of e ≡ global_by readings.now (id_names names.now) inst.now) }
 {
-    if is_constant(inst) {
+    if inst.op.is_constant() {
         return Ok(Some(readings.constant_expr(alloc, names, inst)?));
     }
     if !is_input(inst) {
         return Ok(None);
     }
-    // BuiltIn
-    let number = decor.value(Id(inst.result), 11).unwrap_or(0);
+    let number = decor
+        .value(Id(inst.result), Decoration::BuiltIn.number())
+        .unwrap_or(0);
     Ok(Some(Expr::Name(Name::from_str(alloc, built_in(number))?)))
 }

@@ -13,6 +13,7 @@ use crate::numbers::counted;
 use buffer_layout::block_of;
 use name_alloc::{Claim, Key};
 use spv_module::{Id, Inst};
+use spv_ops::Op;
 use spv_words::Memory;
 use std::alloc::{AllocError, Global};
 use std::collections::BTreeSet;
@@ -171,8 +172,7 @@ fn claim_global(
     requires { (id : ℕ) → contains nat_cmp blocks.now id ≡ is_written_block written.now.source written.now.reached id }
     ensures { OnOk result (claims_of claims.new.items ≡ claims_of claims.old.items ++ claims_of_global written.now.source written.now.reached inst.now) }
 {
-    // OpTypeStruct
-    if inst.op == 30 {
+    if inst.op == Op::TypeStruct {
         claim_struct(alloc, claims, written, blocks, inst)
     } else if written.has_constant(inst) {
         claim_id(alloc, claims, written, Id(inst.result))

@@ -3,12 +3,13 @@ ghost use Rattle.std.specs.Prelude.{◌≡◌, ◌&&◌, ◌||◌, ℕ, IfOk, On
 ghost use Rattle.std.specs.List.{list_any};
 ghost use Rattle.id_map.specs.Entries.{is_in};
 ghost use Rattle.text_rules.specs.Printed.{mentions, is_private as is_private_variable, is_length_of, is_named, declares as declares_constant, needed_with, needed_from};
-ghost use Rattle.text_items.specs.State.{insts_at, is_written_by, needed_first};
+ghost use Rattle.text_items.specs.State.{insts_at, is_written_class as is_written_class_number, is_written_by, needed_first};
 
 use crate::mentions::{add_all, add_mentions, no_ids};
-use constant_text::{Reading, Readings, is_constant};
+use constant_text::{Reading, Readings};
 use id_map::IdSet;
 use spv_module::{Id, Inst};
+use spv_ops::{Op, StorageClass};
 use spv_words::Memory;
 use std::alloc::{AllocError, Global};
 
@@ -16,7 +17,17 @@ use std::alloc::{AllocError, Global};
 pub fn is_private(inst: &Inst) -> bool
     ensures { result ≡ is_private_variable inst.now }
 {
-    inst.op == 59 && inst.operand(0) == 6
+    inst.op == Op::Variable && inst.operand(0) == StorageClass::Private.number()
+}
+
+fn is_written_class(class: u32) -> bool
+    ensures { result ≡ is_written_class_number class }
+{
+    class == StorageClass::Private.number()
+        || class == StorageClass::Workgroup.number()
+        || class == StorageClass::Uniform.number()
+        || class == StorageClass::PushConstant.number()
+        || class == StorageClass::StorageBuffer.number()
 }
 
 /// Whether this is a variable that is written, where functions mention these ids: one of class Uniform, Workgroup, Private,
@@ -24,7 +35,7 @@ pub fn is_private(inst: &Inst) -> bool
 pub fn is_written(mentioned: &IdSet, inst: &Inst) -> bool
     ensures { result ≡ is_written_by (is_in mentioned.now) inst.now }
 {
-    inst.op == 59 && matches!(inst.operand(0), 2 | 4 | 6 | 9 | 12) && mentioned.has(inst.result)
+    inst.op == Op::Variable && is_written_class(inst.operand(0)) && mentioned.has(inst.result)
 }
 
 /// Adds the constants that are lengths of arrays.
@@ -32,8 +43,7 @@ fn add_lengths(needed: &mut IdSet, globals: &[Inst]) -> Result<(), AllocError>
     ensures { OnOk result ((id : ℕ) → is_in needed.new id ≡ (is_in needed.old id || list_any (is_length_of id) globals.now)) }
 {
     for inst in globals {
-        // OpTypeArray
-        if inst.op == 28 {
+        if inst.op == Op::TypeArray {
             needed.insert(inst.operand(1))?;
         }
     }
@@ -62,7 +72,7 @@ fn add_initializers(
 pub fn declares(readings: &Readings, needed: &IdSet, inst: &Inst) -> bool
     ensures { result ≡ declares_constant readings.now (is_in needed.now) inst.now }
 {
-    is_constant(inst)
+    inst.op.is_constant()
         && matches!(readings.reading(inst), Reading::Named)
         && (readings.free_spec_id(Id(inst.result)).is_some() || needed.has(inst.result))
 }

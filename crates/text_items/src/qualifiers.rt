@@ -1,30 +1,37 @@
 // Memory qualifiers (GLSL 4.60, section 4.10).
 ghost use Rattle.std.specs.Prelude.{◌≡◌, IfOk, filter, is_some, map};
+ghost use Rattle.spv_ops.specs.Enumerants.{decoration_number};
 ghost use Rattle.spv_decor.specs.Rows.{value_of, member_value_of};
 ghost use Rattle.text_rules.specs.Declarations.{qualifiers_by};
 
 use glsl_ast::Qual;
 use spv_decor::Decor;
 use spv_module::Id;
+use spv_ops::Decoration;
 use spv_words::Memory;
 use std::alloc::Global;
 
-// Coherent, Volatile, Restrict, NonWritable and NonReadable, in the order in which they are written.
-const QUALIFIERS: [(Qual, u32); 5] = [
-    (Qual::Coherent, 23),
-    (Qual::Volatile, 21),
-    (Qual::Restrict, 19),
-    (Qual::Readonly, 24),
-    (Qual::Writeonly, 25),
+// In the order in which they are written.
+const QUALIFIERS: [(Qual, Decoration); 5] = [
+    (Qual::Coherent, Decoration::Coherent),
+    (Qual::Volatile, Decoration::Volatile),
+    (Qual::Restrict, Decoration::Restrict),
+    (Qual::Readonly, Decoration::NonWritable),
+    (Qual::Writeonly, Decoration::NonReadable),
 ];
 
 /// Those of these qualifiers whose decorations an id has.
-fn of_id(alloc: Global, decor: &Decor, id: Id, rows: &[(Qual, u32)]) -> Result<Vec<Qual>, Memory>
-    ensures { IfOk result (λ quals. quals.items ≡ map (λ q. q.0) (filter (λ q. is_some (value_of decor.now id.0 q.1)) rows.now)) }
+fn of_id(
+    alloc: Global,
+    decor: &Decor,
+    id: Id,
+    rows: &[(Qual, Decoration)],
+) -> Result<Vec<Qual>, Memory>
+    ensures { IfOk result (λ quals. quals.items ≡ map (λ q. q.0) (filter (λ q. is_some (value_of decor.now id.0 (decoration_number q.1))) rows.now)) }
 {
     let mut quals = Vec::new(alloc);
     for (qual, decoration) in rows {
-        if decor.value(id, *decoration).is_some() {
+        if decor.value(id, decoration.number()).is_some() {
             quals.push(*qual)?;
         }
     }
@@ -37,13 +44,16 @@ fn of_member(
     decor: &Decor,
     id: Id,
     member: u32,
-    rows: &[(Qual, u32)],
+    rows: &[(Qual, Decoration)],
 ) -> Result<Vec<Qual>, Memory>
-    ensures { IfOk result (λ quals. quals.items ≡ map (λ q. q.0) (filter (λ q. is_some (member_value_of decor.now id.0 member q.1)) rows.now)) }
+    ensures { IfOk result (λ quals. quals.items ≡ map (λ q. q.0) (filter (λ q. is_some (member_value_of decor.now id.0 member (decoration_number q.1))) rows.now)) }
 {
     let mut quals = Vec::new(alloc);
     for (qual, decoration) in rows {
-        if decor.member_value(id, member, *decoration).is_some() {
+        if decor
+            .member_value(id, member, decoration.number())
+            .is_some()
+        {
             quals.push(*qual)?;
         }
     }

@@ -10,6 +10,7 @@ use constant_text::Readings;
 use id_map::IdSet;
 use spv_decor::Decor;
 use spv_module::{Function, Id, Inst, Module};
+use spv_ops::{Decoration, Op};
 use spv_words::Memory;
 use std::alloc::Global;
 use std::marker::Model;
@@ -112,9 +113,11 @@ impl<'a, 'b> Written<'a, 'b> {
     pub fn has_struct(&self, inst: &Inst) -> bool
         ensures { result ≡ is_written_struct self.now.source self.now.reached inst.now }
     {
-        // OpTypeStruct; Block
-        inst.op == 30
-            && self.decor.value(Id(inst.result), 2).is_none()
+        inst.op == Op::TypeStruct
+            && self
+                .decor
+                .value(Id(inst.result), Decoration::Block.number())
+                .is_none()
             && self.structs.has(inst.result)
     }
 }

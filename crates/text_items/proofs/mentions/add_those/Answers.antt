@@ -1,4 +1,4 @@
-use Rattle.std.proofs.Common.{◌≡◌, ◌==◌, ◌||◌, ◌∙◌, ℕ, Bool, List, ap, sym, rules}
+use Rattle.std.proofs.Common.{◌≡◌, ◌==◌, ◌||◌, ◌∙◌, ℕ, Bool, ap, sym, rules}
 use Rattle.std.specs.List.{list_any}
 use Rattle.id_map.specs.Entries.{is_in}
 use Rattle.spv_ops.specs.Operands.{has_id}
