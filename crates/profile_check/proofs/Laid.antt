@@ -48,6 +48,11 @@ some_is (Some block) e = (block, refl)
 some_same : (p q : ℕ) → Some p ≡ Some q → p ≡ q
 some_same p q e = cc
 
+one_struct : (gs : List Inst) (o : Option ℕ) (p q : ℕ) (block : Inst) → o ≡ Some p → o ≡ Some q → option_and_then as_struct (global gs p) ≡ Some block → option_and_then as_struct (global gs q) ≡ Some block
+one_struct gs o p q block first second at =
+    let Q : ℕ → Type 0 = λ r. option_and_then as_struct (global gs r) ≡ Some block in
+    subst Q (some_same p q (sym first ∙ second)) at
+
 -- the block of the variable with a struct
 block_at : (gs : List Inst) (class : ℕ) (v : Inst) (p : ℕ) → struct_by gs class v ≡ Some p → (block : Inst) × (block_of gs v ≡ Some block) × (slice_index v.args 0 ≡ class) × (option_and_then as_struct (global gs p) ≡ Some block)
 block_at gs class v p e =
@@ -55,8 +60,7 @@ block_at gs class v p e =
     let own : slice_index v.args 0 ≡ class = grind (arith, nat_tests, both.0) in
     let some = some_is (block_of gs v) both.1 in
     let by = struct_at gs class v some.0 some.1 own in
-    let same : by.0 ≡ p = some_same by.0 p (sym by.1 ∙ e) in
-    (some.0, some.1, own, ap (λ q. option_and_then as_struct (global gs q)) (sym same) ∙ by.2)
+    (some.0, some.1, own, one_struct gs (struct_by gs class v) by.0 p some.0 by.1 e by.2)
 
 by_global : (gs : List Inst) (class p : ℕ) (o : Option Inst) → option_and_then (struct_by gs class) o ≡ Some p → (v : Inst) × (o ≡ Some v) × (struct_by gs class v ≡ Some p)
 by_global gs class p None e = cc
