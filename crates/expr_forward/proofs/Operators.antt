@@ -1,5 +1,7 @@
 -- An operation on two operands that is one operator.
-use Rattle.std.proofs.Common.{◌≡◌, ℕ, Bool, true, false, List, [], ◌∷◌, Some, refl, sym, subst, ap, ◌∙◌, map, ◌==◌, if◌then◌else◌}
+use Rattle.std.proofs.Common.{◌≡◌, ℕ, List, [], ◌∷◌, Some, refl, sym, subst, ap, ◌∙◌, map}
+use Rattle.spv_ops.specs.declared.Op.{Op}
+use Rattle.spv_ops.specs.declared.Op.TheVariants as code
 use Rattle.spv_module.specs.declared.inst.Inst.{Inst}
 use Rattle.glsl_ast.specs.Tree.{Expr}
 use Rattle.op_semantics.specs.Value.{operation_of}
@@ -14,9 +16,9 @@ use Rattle.expr_forward.specs.Scope.{globals}
 use Rattle.expr_forward.specs.Context.{ContextState, basic_in, operand, read_operand, scope_of}
 use Rattle.expr_forward.specs.Values.{argument, value_words, literal_words, operation_text}
 
-alike : (c : Bool) (x : List ℕ) → (if c then x else x) ≡ x
-alike true x = refl
-alike false x = refl
+two_values : (o : Op) (a b : ℕ) → value_words o (a ∷ b ∷ []) ≡ a ∷ b ∷ []
+two_values code.VectorShuffle a b = refl
+two_values o a b = refl
 
 pub with_operator : (s : ContextState) (value : ℕ → Expr) (i : Inst) (a b : ℕ) (f : Operator) (ty : BasicType) →
     ty ≡ basic_in (scope_of s) i.ty → operator_if_any (operation_of i.op (0 ∷ [])) ty ≡ Some f →
@@ -24,7 +26,7 @@ pub with_operator : (s : ContextState) (value : ℕ → Expr) (i : Inst) (a b : 
 with_operator s value i a b f ty same is =
     let w = scope_of s in
     let found : operator_if_any (operation_of i.op (0 ∷ [])) (basic_in w i.ty) ≡ Some f = subst (λ (u : BasicType). operator_if_any (operation_of i.op (0 ∷ [])) u ≡ Some f) same is in
-    let args : value_words i.op (a ∷ b ∷ []) ≡ a ∷ b ∷ [] = alike (i.op == 79) (a ∷ b ∷ []) in
+    let args : value_words i.op (a ∷ b ∷ []) ≡ a ∷ b ∷ [] = two_values i.op a b in
     ap (λ xs. w.lowered i.op 0 (basic (globals w) i.ty) (map (argument w value) xs) (literal_words i.op (a ∷ b ∷ []))) args
     ∙ (lowered_with (naming_of s.names) i.op (basic (globals w) i.ty) (literal_words i.op (a ∷ b ∷ [])) (operand (argument w value a)) (operand (argument w value b)) f found
     ∙ ap (λ u. operated f u (read_operand w value a) (read_operand w value b)) (sym same))

@@ -1,5 +1,12 @@
 -- The statements of a block, computed: the element with an invocation's number is read, increased and written.
 use Rattle.std.specs.Prelude.{ℕ, ◌≡◌, ◌==◌, ◌||◌, false, List, [], ◌∷◌, None, Some, refl, codes, if◌then◌else◌}
+use Rattle.spv_ops.specs.Opcode.{number as number_of_op}
+use Rattle.spv_ops.specs.Enumerants.{class_number, decoration_number}
+use Rattle.spv_ops.specs.declared.Op.{Op}
+use Rattle.spv_ops.specs.declared.Op.TheVariants as op
+use Rattle.spv_ops.specs.declared.Decoration.TheVariants as decoration
+use Rattle.spv_ops.specs.declared.StorageClass.{StorageClass}
+use Rattle.spv_ops.specs.declared.StorageClass.TheVariants as storage
 use Rattle.spv_module.specs.State.{ModuleState}
 use Rattle.spv_module.specs.declared.inst.Inst.{Inst}
 use Rattle.spv_module.specs.declared.inst.Function.{Function}
@@ -18,17 +25,23 @@ use Rattle.expr_forward.specs.Paths.{literal_word}
 use Rattle.expr_forward.specs.Values.{operation_kind_of, value_in}
 use Rattle.expr_forward.specs.Statements.{block_text, kind_of}
 
-inst : ℕ → ℕ → ℕ → ℕ → List ℕ → Inst
-inst at op ty result args = record { op = op; at = at; ty = ty; result = result; args = args }
+inst : ℕ → Op → ℕ → ℕ → List ℕ → Inst
+inst at o ty result args = record { op = o; at = at; ty = ty; result = result; args = args }
+
+abbrev pointer : ℕ → ℕ → StorageClass → ℕ → Inst
+pointer at result c to = inst at op.TypePointer 0 result (class_number c ∷ to ∷ [])
+
+abbrev variable : ℕ → ℕ → ℕ → StorageClass → Inst
+variable at ty result c = inst at op.Variable ty result (class_number c ∷ [])
 
 abbrev types : ModuleState
 types = record {
   bound = 64;
-  heads = inst 1 71 0 0 (3 ∷ 2 ∷ []) ∷ [];
+  heads = inst 1 op.Decorate 0 0 (3 ∷ decoration_number decoration.Block ∷ []) ∷ [];
   globals =
-      inst 2 21 0 8 (32 ∷ 0 ∷ []) ∷ inst 3 23 0 9 (8 ∷ 3 ∷ []) ∷ inst 4 32 0 10 (1 ∷ 9 ∷ []) ∷ inst 5 59 10 2 (1 ∷ []) ∷ inst 6 32 0 11 (1 ∷ 8 ∷ []) ∷
-      inst 7 29 0 4 (8 ∷ []) ∷ inst 8 30 0 3 (4 ∷ []) ∷ inst 9 32 0 12 (12 ∷ 3 ∷ []) ∷ inst 10 59 12 5 (12 ∷ []) ∷ inst 11 32 0 13 (12 ∷ 8 ∷ []) ∷
-      inst 12 43 8 14 (0 ∷ []) ∷ inst 13 43 8 15 (1 ∷ []) ∷ [];
+      inst 2 op.TypeInt 0 8 (32 ∷ 0 ∷ []) ∷ inst 3 op.TypeVector 0 9 (8 ∷ 3 ∷ []) ∷ pointer 4 10 storage.Input 9 ∷ variable 5 10 2 storage.Input ∷ pointer 6 11 storage.Input 8 ∷
+      inst 7 op.TypeRuntimeArray 0 4 (8 ∷ []) ∷ inst 8 op.TypeStruct 0 3 (4 ∷ []) ∷ pointer 9 12 storage.StorageBuffer 3 ∷ variable 10 12 5 storage.StorageBuffer ∷ pointer 11 13 storage.StorageBuffer 8 ∷
+      inst 12 op.Constant 8 14 (0 ∷ []) ∷ inst 13 op.Constant 8 15 (1 ∷ []) ∷ [];
   functions = [];
 }
 
@@ -43,8 +56,8 @@ increment = record {
     label = record { 0 = 16 };
     at = 15;
     insts =
-        inst 16 65 11 17 (2 ∷ 14 ∷ []) ∷ inst 17 61 8 18 (17 ∷ []) ∷ inst 18 65 13 19 (5 ∷ 14 ∷ 18 ∷ []) ∷ inst 19 61 8 20 (19 ∷ []) ∷
-        inst 20 128 8 21 (20 ∷ 15 ∷ []) ∷ inst 21 62 0 0 (19 ∷ 21 ∷ []) ∷ inst 22 253 0 0 [] ∷ [];
+        inst 16 op.AccessChain 11 17 (2 ∷ 14 ∷ []) ∷ inst 17 op.Load 8 18 (17 ∷ []) ∷ inst 18 op.AccessChain 13 19 (5 ∷ 14 ∷ 18 ∷ []) ∷ inst 19 op.Load 8 20 (19 ∷ []) ∷
+        inst 20 op.IAdd 8 21 (20 ∷ 15 ∷ []) ∷ inst 21 op.Store 0 0 (19 ∷ 21 ∷ []) ∷ inst 22 op.Return 0 0 [] ∷ [];
   } ∷ [];
 }
 
@@ -70,12 +83,12 @@ scope = record {
   form = λ n. if (n == 18) || (n == 20) then Local else Forwarded;
   carried = λ n. false;
   names = record { id = λ n. 1 ∷ n ∷ []; block = λ v s. []; member = λ s k. []; calculated = λ g. literal (Uint 0) };
-  lowered = λ op number t args literals. added args;
+  lowered = λ o number t args literals. added args;
 }
 
 incremented : block_text scope 0 ≡
     declare (type_name uint []) (1 ∷ 18 ∷ []) (Some (member (name (codes "gl_GlobalInvocationID")) (codes "x"))) ∷
     declare (type_name uint []) (1 ∷ 20 ∷ []) (Some (index (member (name (1 ∷ 5 ∷ [])) (2 ∷ 3 ∷ 0 ∷ [])) (name (1 ∷ 18 ∷ [])))) ∷
     assign (lvalue (1 ∷ 5 ∷ []) (text.LStep.member (2 ∷ 3 ∷ 0 ∷ []) ∷ text.LStep.index (name (1 ∷ 18 ∷ [])) ∷ [])) (binary Add (name (1 ∷ 20 ∷ [])) (literal (Uint 1))) ∷ []
-unfolding inst kind below key_of constant_kind kind_of operation_kind_of literal_word value_in key added
+unfolding number_of_op inst kind below key_of constant_kind kind_of operation_kind_of literal_word value_in key added
 incremented = refl

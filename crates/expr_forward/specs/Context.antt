@@ -66,5 +66,5 @@ scope_of c = record {
   form = form_in c.plan;
   carried = is_carried_in c.plan;
   names = all_names c.names;
-  lowered = λ op number t args literals. lowered_vector (naming_of c.names) op number t literals (map operand args);
+  lowered = λ o number t args literals. lowered_vector (naming_of c.names) o number t literals (map operand args);
 }

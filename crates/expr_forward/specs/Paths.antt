@@ -1,6 +1,9 @@
 -- How a pointer is written: the name of what it leads from, and its steps (GLSL 4.60, sections 5.5 to 5.7).
 use Rattle.std.specs.Prelude.{ℕ, ◌==◌, ◌&&◌, nat_lt, Bool, true, false, List, [], ◌∷◌, codes, Option, Some, None, option_and_then, unwrap_or, if◌then◌else◌, slice_index}
 use Rattle.std.specs.Option.{option_map_or}
+use Rattle.spv_ops.specs.Opcode.{is}
+use Rattle.spv_ops.specs.declared.Op.{Op}
+use Rattle.spv_ops.specs.declared.Op.TheVariants as code
 use Rattle.spv_module.specs.Held.{global}
 use Rattle.spv_module.specs.Lists.{id}
 use Rattle.spv_module.specs.declared.inst.Id.{Id as IdOf}
@@ -49,10 +52,13 @@ index_expr w n = unwrap_or (w.global n) (name (w.key (Id (id n))))
 
 -- the number of components of a vector type, and 0 of another: OpTypeVector
 abbrev pub components : Inst → ℕ
-components g = if g.op == 23 then slice_index g.args 1 else 0
+components g = if is g.op code.TypeVector then slice_index g.args 1 else 0
+
+abbrev pub vector_size_in : List Inst → ℕ → ℕ
+vector_size_in gs ty = option_map_or components (global gs ty) 0
 
 abbrev pub vector_size : Setting → ℕ → ℕ
-vector_size w ty = option_map_or components (global (globals_in w) ty) 0
+vector_size w ty = vector_size_in (globals_in w) ty
 
 -- a component by a literal below the size, and any other by an index
 abbrev pub index_by : Setting → ℕ → ℕ → Option ℕ → LStep
@@ -101,20 +107,27 @@ further e (text.LStep.member m ∷ ss) = further (Expr.member e m) ss
 further e (text.LStep.index i ∷ ss) = further (Expr.index e i) ss
 
 -- the step from a composite to a part, by a literal: OpTypeVector, OpTypeStruct, and arrays
-abbrev pub part_step_by : Setting → ℕ → ℕ → ℕ → LStep
-part_step_by w ty k op =
-    if op == 23 then text.LStep.member (component_text k) else
-    (if op == 30 then text.LStep.member (w.key (Member (id ty) k)) else text.LStep.index (literal (Int k)))
+abbrev pub part_step_by : Setting → ℕ → ℕ → Op → LStep
+part_step_by w ty k o =
+    if is o code.TypeVector then text.LStep.member (component_text k) else
+    (if is o code.TypeStruct then text.LStep.member (w.key (Member (id ty) k)) else text.LStep.index (literal (Int k)))
+
+-- the opcode of a composite's type; what is no type counts as an array
+abbrev pub composite_op_in : List Inst → ℕ → Op
+composite_op_in gs ty = option_map_or (λ (g : Inst). g.op) (global gs ty) code.TypeArray
 
 abbrev pub part_step : Setting → ℕ → ℕ → LStep
-part_step w ty k = part_step_by w ty k (option_map_or (λ (g : Inst). g.op) (global (globals_in w) ty) 0)
+part_step w ty k = part_step_by w ty k (composite_op_in (globals_in w) ty)
 
 -- the type of the part
 abbrev pub part_type_by : ℕ → Inst → ℕ
-part_type_by k g = slice_index g.args (if g.op == 30 then k else 0)
+part_type_by k g = slice_index g.args (if is g.op code.TypeStruct then k else 0)
+
+abbrev pub part_type_in : List Inst → ℕ → ℕ → ℕ
+part_type_in gs ty k = option_map_or (part_type_by k) (global gs ty) 0
 
 abbrev pub part_type : Setting → ℕ → ℕ → ℕ
-part_type w ty k = option_map_or (part_type_by k) (global (globals_in w) ty) 0
+part_type w ty k = part_type_in (globals_in w) ty k
 
 abbrev pub part_steps : Setting → ℕ → List ℕ → List LStep
 part_steps w ty [] = []

@@ -1,5 +1,6 @@
 -- What is known where a block of a function is written.
 use Rattle.std.specs.Prelude.{ℕ, Bool, List, Option, unwrap_or}
+use Rattle.spv_ops.specs.declared.Op.{Op}
 use Rattle.spv_module.specs.Held.{global}
 use Rattle.spv_module.specs.declared.inst.Inst.{Inst}
 use Rattle.spv_module.specs.declared.inst.Function.{Function}
@@ -30,7 +31,7 @@ pub record Scope : Type 0 where
   pub form : ℕ → Form
   pub carried : ℕ → Bool
   pub names : Names
-  pub lowered : ℕ → ℕ → Tree → List Argument → List ℕ → Expr
+  pub lowered : Op → ℕ → Tree → List Argument → List ℕ → Expr
 
 abbrev pub globals_in : Setting → List Inst
 globals_in w = w.source.of.globals

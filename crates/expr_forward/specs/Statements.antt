@@ -1,6 +1,9 @@
 -- The statements of a block, an instruction after the other.
-use Rattle.std.specs.Prelude.{ℕ, ◌==◌, ◌&&◌, ◌||◌, nat_le, bit_and, Bool, true, false, List, [], ◌∷◌, ◌++◌, codes, drop, flat_map, map, is_some, Some, option_and_then, unwrap_or, if◌then◌else◌, slice_get, slice_index}
+use Rattle.std.specs.Prelude.{ℕ, ◌==◌, ◌&&◌, bit_and, Bool, true, false, List, [], ◌∷◌, ◌++◌, codes, drop, flat_map, map, is_some, Some, option_and_then, unwrap_or, if◌then◌else◌, slice_get, slice_index}
 use Rattle.std.specs.Option.{option_map_or}
+use Rattle.spv_ops.specs.Opcode.{is}
+use Rattle.spv_ops.specs.declared.Op.{Op}
+use Rattle.spv_ops.specs.declared.Op.TheVariants as code
 use Rattle.spv_module.specs.Held.{global}
 use Rattle.spv_module.specs.Lists.{id}
 use Rattle.spv_module.specs.declared.inst.Inst.{Inst}
@@ -17,6 +20,8 @@ use Rattle.glsl_ast.specs.Tree as text
 use Rattle.glsl_ast.specs.Tree.{Text, Expr, literal, binary, exprs_in, Stmt, declare, assign, LStep, lvalue}
 use Rattle.glsl_ast.specs.declared.expressions.BinOp.TheVariants.{Sub}
 use Rattle.int_lowering.specs.Operand.{literal_of}
+use Rattle.expr_forward.specs.declared.kinds.Atomic.{Atomic}
+use Rattle.expr_forward.specs.declared.kinds.Atomic.TheVariants as atomic
 use Rattle.expr_forward.specs.declared.kinds.InstKind.{InstKind}
 use Rattle.expr_forward.specs.declared.kinds.InstKind.TheVariants as kind
 use Rattle.expr_forward.specs.Scope.{Scope, globals}
@@ -25,13 +30,43 @@ use Rattle.expr_forward.specs.Paths.{index_expr, word_at, part_steps, place_text
 use Rattle.expr_forward.specs.Values.{value, expression}
 
 -- the kind of an instruction, by its opcode
-unfoldable pub kind_of : ℕ → InstKind
-kind_of op =
-    if op == 61 then kind.Load else (if op == 62 then kind.Store else (if op == 57 then kind.Call else
-    (if nat_le 227 op && nat_le op 242 then kind.Atomic else
-    (if op == 224 then kind.ControlBarrier else (if op == 225 then kind.MemoryBarrier else
-    (if (op == 65) || (op == 66) then kind.Chain else (if op == 82 then kind.CompositeInsert else (if op == 78 then kind.VectorInsertDynamic else
-    (if (op == 59) || ((op == 245) || ((nat_le 246 op && nat_le op 255))) then kind.Silent else kind.Value)))))))))
+unfoldable pub kind_of : Op → InstKind
+kind_of code.Load = kind.Load
+kind_of code.Store = kind.Store
+kind_of code.FunctionCall = kind.Call
+kind_of code.AtomicLoad = kind.Atomic atomic.Load
+kind_of code.AtomicStore = kind.Atomic atomic.Store
+kind_of code.AtomicExchange = kind.Atomic atomic.Exchange
+kind_of code.AtomicCompareExchange = kind.Atomic atomic.CompareExchange
+kind_of code.AtomicIIncrement = kind.Atomic atomic.Increment
+kind_of code.AtomicIDecrement = kind.Atomic atomic.Decrement
+kind_of code.AtomicIAdd = kind.Atomic atomic.Add
+kind_of code.AtomicISub = kind.Atomic atomic.Sub
+kind_of code.AtomicSMin = kind.Atomic atomic.Min
+kind_of code.AtomicUMin = kind.Atomic atomic.Min
+kind_of code.AtomicSMax = kind.Atomic atomic.Max
+kind_of code.AtomicUMax = kind.Atomic atomic.Max
+kind_of code.AtomicAnd = kind.Atomic atomic.And
+kind_of code.AtomicOr = kind.Atomic atomic.Or
+kind_of code.AtomicXor = kind.Atomic atomic.Xor
+kind_of code.ControlBarrier = kind.ControlBarrier
+kind_of code.MemoryBarrier = kind.MemoryBarrier
+kind_of code.AccessChain = kind.Chain
+kind_of code.InBoundsAccessChain = kind.Chain
+kind_of code.CompositeInsert = kind.CompositeInsert
+kind_of code.VectorInsertDynamic = kind.VectorInsertDynamic
+kind_of code.Variable = kind.Silent
+kind_of code.Phi = kind.Silent
+kind_of code.LoopMerge = kind.Silent
+kind_of code.SelectionMerge = kind.Silent
+kind_of code.Label = kind.Silent
+kind_of code.Branch = kind.Silent
+kind_of code.BranchConditional = kind.Silent
+kind_of code.Switch = kind.Silent
+kind_of code.Return = kind.Silent
+kind_of code.ReturnValue = kind.Silent
+kind_of code.Unreachable = kind.Silent
+kind_of _ = kind.Value
 
 -- the result gets a value: its variable is declared here, or was declared at the top of the function
 abbrev pub set_by : Scope → Inst → Expr → Form → List Stmt
@@ -50,8 +85,11 @@ abbrev pub call_arguments : Scope → ℕ → Inst → List Expr
 call_arguments w block i = map (call_argument w block) (drop 1 i.args)
 
 -- OpTypeVoid
+abbrev pub is_void_in : List Inst → ℕ → Bool
+is_void_in gs ty = option_map_or (λ (g : Inst). is g.op code.TypeVoid) (global gs ty) false
+
 abbrev pub is_void : Scope → ℕ → Bool
-is_void w ty = option_map_or (λ (g : Inst). g.op == 19) (global (globals w) ty) false
+is_void w ty = is_void_in (globals w) ty
 
 abbrev pub callee_text : Scope → Inst → Text
 callee_text w i = w.setting.key (Id (id (slice_index i.args 0)))
@@ -73,34 +111,53 @@ abbrev pub word_at_place : Scope → Inst → ℕ → Expr
 word_at_place w i n = word_by w (slice_index i.args 0) n
 
 -- the function of an atomic instruction (GLSL 4.60, section 8.11)
-abbrev pub atomic_name : ℕ → Text
-atomic_name op =
-    if (op == 228) || (op == 229) then codes "atomicExchange" else (if op == 230 then codes "atomicCompSwap" else
-    (if (op == 236) || (op == 237) then codes "atomicMin" else (if (op == 238) || (op == 239) then codes "atomicMax" else
-    (if op == 240 then codes "atomicAnd" else (if op == 241 then codes "atomicOr" else (if op == 242 then codes "atomicXor" else codes "atomicAdd"))))))
+abbrev pub atomic_name : Atomic → Text
+atomic_name atomic.Load = codes "atomicAdd"
+atomic_name atomic.Store = codes "atomicExchange"
+atomic_name atomic.Exchange = codes "atomicExchange"
+atomic_name atomic.CompareExchange = codes "atomicCompSwap"
+atomic_name atomic.Increment = codes "atomicAdd"
+atomic_name atomic.Decrement = codes "atomicAdd"
+atomic_name atomic.Add = codes "atomicAdd"
+atomic_name atomic.Sub = codes "atomicAdd"
+atomic_name atomic.Min = codes "atomicMin"
+atomic_name atomic.Max = codes "atomicMax"
+atomic_name atomic.And = codes "atomicAnd"
+atomic_name atomic.Or = codes "atomicOr"
+atomic_name atomic.Xor = codes "atomicXor"
 
 abbrev pub atomic_value : Scope → ℕ → Inst → Expr
 atomic_value w block i = value w block (slice_index i.args 3)
 
+-- it has a comparator; it has a result
+abbrev pub compares : Atomic → Bool
+compares atomic.CompareExchange = true
+compares _ = false
+
+abbrev pub has_result : Atomic → Bool
+has_result atomic.Store = false
+has_result _ = true
+
 -- what stands behind the place: of OpAtomicCompareExchange the comparator first
-abbrev pub comparator : Scope → ℕ → Inst → List Expr
-comparator w block i = if i.op == 230 then value w block (slice_index i.args 5) ∷ [] else []
+abbrev pub comparator : Scope → ℕ → Inst → Atomic → List Expr
+comparator w block i a = if compares a then value w block (slice_index i.args 5) ∷ [] else []
 
 -- OpAtomicLoad adds 0, OpAtomicIIncrement 1, OpAtomicIDecrement the greatest word, and OpAtomicISub the negated operand
-abbrev pub atomic_operand : Scope → ℕ → Inst → Expr
-atomic_operand w block i =
-    if i.op == 227 then word_at_place w i 0 else (if i.op == 232 then word_at_place w i 1 else
-    (if i.op == 233 then word_at_place w i 0xFFFFFFFF else
-    (if i.op == 235 then binary Sub (word_at_place w i 0) (atomic_value w block i) else
-    (if i.op == 230 then value w block (slice_index i.args 4) else atomic_value w block i))))
+abbrev pub atomic_operand : Scope → ℕ → Inst → Atomic → Expr
+atomic_operand w block i atomic.Load = word_at_place w i 0
+atomic_operand w block i atomic.Increment = word_at_place w i 1
+atomic_operand w block i atomic.Decrement = word_at_place w i 0xFFFFFFFF
+atomic_operand w block i atomic.Sub = binary Sub (word_at_place w i 0) (atomic_value w block i)
+atomic_operand w block i atomic.CompareExchange = value w block (slice_index i.args 4)
+atomic_operand w block i _ = atomic_value w block i
 
-abbrev pub atomic_arguments : Scope → ℕ → Inst → List Expr
-atomic_arguments w block i = (place_expr w.setting block (slice_index i.args 0) ∷ comparator w block i) ++ (atomic_operand w block i ∷ [])
+abbrev pub atomic_arguments : Scope → ℕ → Inst → Atomic → List Expr
+atomic_arguments w block i a = (place_expr w.setting block (slice_index i.args 0) ∷ comparator w block i a) ++ (atomic_operand w block i a ∷ [])
 
-abbrev pub atomic_text : Scope → ℕ → Inst → List Stmt
-atomic_text w block i =
-    if i.op == 228 then Stmt.call (atomic_name i.op) (exprs_in (atomic_arguments w block i)) ∷ []
-    else set w i (Expr.call (atomic_name i.op) (exprs_in (atomic_arguments w block i)))
+abbrev pub atomic_text : Scope → ℕ → Inst → Atomic → List Stmt
+atomic_text w block i a =
+    if has_result a then set w i (Expr.call (atomic_name a) (exprs_in (atomic_arguments w block i a)))
+    else Stmt.call (atomic_name a) (exprs_in (atomic_arguments w block i a)) ∷ []
 
 -- a call of a function without arguments
 abbrev pub bare_call : Text → List Stmt
@@ -151,7 +208,7 @@ abbrev pub inst_text : Scope → ℕ → Inst → InstKind → List Stmt
 inst_text w block i kind.Load = set w i (place_expr w.setting block (slice_index i.args 0))
 inst_text w block i kind.Store = assign (place_text w.setting block (slice_index i.args 0)) (value w block (slice_index i.args 1)) ∷ []
 inst_text w block i kind.Call = call_text w block i
-inst_text w block i kind.Atomic = atomic_text w block i
+inst_text w block i (kind.Atomic a) = atomic_text w block i a
 inst_text w block i kind.ControlBarrier = control_barrier_text w i
 inst_text w block i kind.MemoryBarrier = memory_barrier_text w i
 inst_text w block i kind.Chain = chain_text w i

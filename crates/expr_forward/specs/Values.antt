@@ -1,5 +1,7 @@
 -- How a value is written: by the name of its variable, or by the expression of its operation.
-use Rattle.std.specs.Prelude.{ℕ, zero, suc, ◌==◌, List, [], ◌∷◌, drop, map, Option, Some, None, take, unwrap_or, if◌then◌else◌, slice_index}
+use Rattle.std.specs.Prelude.{ℕ, zero, suc, List, [], ◌∷◌, drop, map, Option, Some, None, take, unwrap_or, slice_index}
+use Rattle.spv_ops.specs.declared.Op.{Op}
+use Rattle.spv_ops.specs.declared.Op.TheVariants as code
 use Rattle.spv_module.specs.Lists.{id}
 use Rattle.spv_module.specs.declared.inst.Inst.{Inst}
 use Rattle.profile_rules.specs.MemoryRules.{pointee_of}
@@ -15,12 +17,58 @@ use Rattle.expr_forward.specs.declared.kinds.OperationKind.TheVariants as kind
 use Rattle.expr_forward.specs.Scope.{Scope, Argument, globals, inst_at, type_of}
 use Rattle.expr_forward.specs.Paths.{word_at, further, part_steps, place_expr}
 
--- the kind of operation of an opcode
-unfoldable pub operation_kind_of : ℕ → OperationKind
-operation_kind_of op =
-    if op == 1 then kind.Undef else (if op == 83 then kind.CopyObject else (if op == 68 then kind.ArrayLength else
-    (if op == 81 then kind.CompositeExtract else (if op == 80 then kind.CompositeConstruct else
-    (if op == 400 then kind.CopyLogical else (if op == 12 then kind.Extended else kind.Plain))))))
+-- the kind of operation of an opcode; what is no operation has a variable
+unfoldable pub operation_kind_of : Op → OperationKind
+operation_kind_of code.Undef = kind.Undef
+operation_kind_of code.CopyObject = kind.CopyObject
+operation_kind_of code.ArrayLength = kind.ArrayLength
+operation_kind_of code.CompositeExtract = kind.CompositeExtract
+operation_kind_of code.CompositeConstruct = kind.CompositeConstruct
+operation_kind_of code.CopyLogical = kind.CopyLogical
+operation_kind_of code.ExtInst = kind.Extended
+operation_kind_of code.VectorExtractDynamic = kind.Plain
+operation_kind_of code.VectorShuffle = kind.Plain
+operation_kind_of code.Bitcast = kind.Plain
+operation_kind_of code.SNegate = kind.Plain
+operation_kind_of code.IAdd = kind.Plain
+operation_kind_of code.ISub = kind.Plain
+operation_kind_of code.IMul = kind.Plain
+operation_kind_of code.UDiv = kind.Plain
+operation_kind_of code.SDiv = kind.Plain
+operation_kind_of code.UMod = kind.Plain
+operation_kind_of code.SRem = kind.Plain
+operation_kind_of code.SMod = kind.Plain
+operation_kind_of code.Any = kind.Plain
+operation_kind_of code.All = kind.Plain
+operation_kind_of code.LogicalEqual = kind.Plain
+operation_kind_of code.LogicalNotEqual = kind.Plain
+operation_kind_of code.LogicalOr = kind.Plain
+operation_kind_of code.LogicalAnd = kind.Plain
+operation_kind_of code.LogicalNot = kind.Plain
+operation_kind_of code.Select = kind.Plain
+operation_kind_of code.IEqual = kind.Plain
+operation_kind_of code.INotEqual = kind.Plain
+operation_kind_of code.UGreaterThan = kind.Plain
+operation_kind_of code.SGreaterThan = kind.Plain
+operation_kind_of code.UGreaterThanEqual = kind.Plain
+operation_kind_of code.SGreaterThanEqual = kind.Plain
+operation_kind_of code.ULessThan = kind.Plain
+operation_kind_of code.SLessThan = kind.Plain
+operation_kind_of code.ULessThanEqual = kind.Plain
+operation_kind_of code.SLessThanEqual = kind.Plain
+operation_kind_of code.ShiftRightLogical = kind.Plain
+operation_kind_of code.ShiftRightArithmetic = kind.Plain
+operation_kind_of code.ShiftLeftLogical = kind.Plain
+operation_kind_of code.BitwiseOr = kind.Plain
+operation_kind_of code.BitwiseXor = kind.Plain
+operation_kind_of code.BitwiseAnd = kind.Plain
+operation_kind_of code.Not = kind.Plain
+operation_kind_of code.BitFieldInsert = kind.Plain
+operation_kind_of code.BitFieldSExtract = kind.Plain
+operation_kind_of code.BitFieldUExtract = kind.Plain
+operation_kind_of code.BitReverse = kind.Plain
+operation_kind_of code.BitCount = kind.Plain
+operation_kind_of _ = kind.Other
 
 -- a variable's name
 abbrev pub variable : Scope → ℕ → Expr
@@ -31,11 +79,13 @@ abbrev pub argument : Scope → (ℕ → Expr) → ℕ → Argument
 argument w value n = record { expr = value n; shape = basic (globals w) (type_of w n); word = word_at w.setting n }
 
 -- the words of an instruction that are values, and those that are literals: OpVectorShuffle has both
-abbrev pub value_words : ℕ → List ℕ → List ℕ
-value_words op args = if op == 79 then take 2 args else args
+abbrev pub value_words : Op → List ℕ → List ℕ
+value_words code.VectorShuffle args = take 2 args
+value_words _ args = args
 
-abbrev pub literal_words : ℕ → List ℕ → List ℕ
-literal_words op args = if op == 79 then drop 2 args else []
+abbrev pub literal_words : Op → List ℕ → List ℕ
+literal_words code.VectorShuffle args = drop 2 args
+literal_words _ args = []
 
 -- an operation on scalars and vectors
 abbrev pub operation_text : Scope → (ℕ → Expr) → ℕ → Inst → List ℕ → Expr
@@ -74,6 +124,7 @@ by_kind w value block i kind.CompositeConstruct = construction_text w value i
 by_kind w value block i kind.CopyLogical = logical_copy_text w value i
 by_kind w value block i kind.Extended = operation_text w value (slice_index i.args 1) i (drop 2 i.args)
 by_kind w value block i kind.Plain = operation_text w value 0 i i.args
+by_kind w value block i kind.Other = variable w i.result
 
 abbrev pub expression : Scope → (ℕ → Expr) → ℕ → Inst → Expr
 expression w value block i = by_kind w value block i (operation_kind_of i.op)

@@ -6,7 +6,7 @@ ghost use Rattle.glsl_ast.specs.View.{expr_of, stmt_of};
 ghost use Rattle.expr_forward.specs.Context.{scope_of};
 ghost use Rattle.expr_forward.specs.Statements.{atomic_name as atomic_name_of, atomic_arguments as atomic_arguments_of, atomic_operand as atomic_operand_of, atomic_text, atomic_value, word_at_place as word_at_place_of, word_by as word_by_of};
 
-use crate::Context;
+use crate::{Atomic, Context};
 use constant_text::scalar_type;
 use glsl_ast::{BinOp, Expr, Name, Stmt};
 use int_lowering::literal;
@@ -15,18 +15,20 @@ use spv_words::Memory;
 use std::alloc::Global;
 
 /// The function of an atomic instruction.
-fn atomic_name(op: u16) -> &'static str
-    ensures { result.now ≡ atomic_name_of op }
+fn atomic_name(atomic: Atomic) -> &'static str
+    ensures { result.now ≡ atomic_name_of atomic }
 {
-    match op {
-        228 | 229 => "atomicExchange",
-        230 => "atomicCompSwap",
-        236 | 237 => "atomicMin",
-        238 | 239 => "atomicMax",
-        240 => "atomicAnd",
-        241 => "atomicOr",
-        242 => "atomicXor",
-        _ => "atomicAdd",
+    match atomic {
+        Atomic::Load | Atomic::Increment | Atomic::Decrement | Atomic::Add | Atomic::Sub => {
+            "atomicAdd"
+        }
+        Atomic::Store | Atomic::Exchange => "atomicExchange",
+        Atomic::CompareExchange => "atomicCompSwap",
+        Atomic::Min => "atomicMin",
+        Atomic::Max => "atomicMax",
+        Atomic::And => "atomicAnd",
+        Atomic::Or => "atomicOr",
+        Atomic::Xor => "atomicXor",
     }
 }
 
@@ -51,18 +53,30 @@ impl Context<'_, '_> {
     }
 
     /// What stands behind the place, and behind the comparator where there is one, in the call of an atomic function.
-    fn atomic_operand(&self, alloc: Global, block: usize, inst: &Inst) -> Result<Expr, Memory>
-        ensures { IfOk result (λ e. expr_of e ≡ atomic_operand_of (scope_of self.now) block inst.now) }
+    fn atomic_operand(
+        &self,
+        alloc: Global,
+        block: usize,
+        inst: &Inst,
+        atomic: Atomic,
+    ) -> Result<Expr, Memory>
+        ensures { IfOk result (λ e. expr_of e ≡ atomic_operand_of (scope_of self.now) block inst.now atomic) }
     {
         let place = Id(inst.operand(0));
-        match inst.op {
-            // OpAtomicLoad, OpAtomicIIncrement, OpAtomicIDecrement, OpAtomicISub, OpAtomicCompareExchange
-            227 => Ok(self.word_by(place, 0)),
-            232 => Ok(self.word_by(place, 1)),
-            233 => Ok(self.word_by(place, u32::MAX)),
-            235 => self.negated(alloc, block, inst),
-            230 => self.value(alloc, block, Id(inst.operand(4))),
-            _ => self.value(alloc, block, Id(inst.operand(3))),
+        match atomic {
+            Atomic::Load => Ok(self.word_by(place, 0)),
+            Atomic::Increment => Ok(self.word_by(place, 1)),
+            Atomic::Decrement => Ok(self.word_by(place, u32::MAX)),
+            Atomic::Sub => self.negated(alloc, block, inst),
+            Atomic::CompareExchange => self.value(alloc, block, Id(inst.operand(4))),
+            Atomic::Store
+            | Atomic::Exchange
+            | Atomic::Add
+            | Atomic::Min
+            | Atomic::Max
+            | Atomic::And
+            | Atomic::Or
+            | Atomic::Xor => self.value(alloc, block, Id(inst.operand(3))),
         }
     }
 
@@ -72,16 +86,16 @@ impl Context<'_, '_> {
         alloc: Global,
         block: usize,
         inst: &Inst,
+        atomic: Atomic,
     ) -> Result<Vec<Expr>, Memory>
-        ensures { IfOk result (λ list. map expr_of list.items ≡ atomic_arguments_of (scope_of self.now) block inst.now) }
+        ensures { IfOk result (λ list. map expr_of list.items ≡ atomic_arguments_of (scope_of self.now) block inst.now atomic) }
     {
         let mut args = Vec::new(alloc);
         args.push(self.place_expr(alloc, block, Id(inst.operand(0)))?)?;
-        // OpAtomicCompareExchange
-        if inst.op == 230 {
+        if atomic.compares() {
             args.push(self.value(alloc, block, Id(inst.operand(5)))?)?;
         }
-        args.push(self.atomic_operand(alloc, block, inst)?)?;
+        args.push(self.atomic_operand(alloc, block, inst, atomic)?)?;
         Ok(args)
     }
 
@@ -93,16 +107,16 @@ impl Context<'_, '_> {
         into: &mut Vec<Stmt>,
         block: usize,
         inst: &Inst,
+        atomic: Atomic,
     ) -> Result<(), Memory>
-        ensures { OnOk result (map stmt_of into.new.items ≡ map stmt_of into.old.items ++ atomic_text (scope_of self.now) block inst.now) }
+        ensures { OnOk result (map stmt_of into.new.items ≡ map stmt_of into.old.items ++ atomic_text (scope_of self.now) block inst.now atomic) }
     {
-        let function = Name::from_str(alloc, atomic_name(inst.op))?;
-        let args = self.atomic_arguments(alloc, block, inst)?;
-        // OpAtomicStore has no result
-        if inst.op == 228 {
-            into.push(Stmt::Call(function, args))?;
-            return Ok(());
+        let function = Name::from_str(alloc, atomic_name(atomic))?;
+        let args = self.atomic_arguments(alloc, block, inst, atomic)?;
+        if atomic.has_result() {
+            return self.add_result(alloc, into, inst, Expr::call(alloc, function, args)?);
         }
-        self.add_result(alloc, into, inst, Expr::call(alloc, function, args)?)
+        into.push(Stmt::Call(function, args))?;
+        Ok(())
     }
 }

@@ -2,16 +2,26 @@
 ghost use Rattle.std.specs.Prelude.{◌≡◌, ◌++◌, IfOk, OnOk, map};
 ghost use Rattle.glsl_ast.specs.View.{expr_of, stmt_of};
 ghost use Rattle.expr_forward.specs.Context.{scope_of};
-ghost use Rattle.expr_forward.specs.Statements.{call_argument as call_argument_of, call_text, is_void as is_void_of};
+ghost use Rattle.expr_forward.specs.Statements.{call_argument as call_argument_of, call_text, is_void as is_void_of, is_void_in};
 
 use crate::Context;
 use crate::operands::after_one;
 use constant_text::name;
 use glsl_ast::{Expr, Stmt};
 use name_alloc::Key;
-use spv_module::{Id, Inst};
+use spv_module::{Id, Inst, Module};
+use spv_ops::Op;
 use spv_words::Memory;
 use std::alloc::Global;
+
+/// Whether a type of a module is OpTypeVoid.
+fn is_void_type(module: &Module, ty: u32) -> bool
+    ensures { result ≡ is_void_in «module».now.globals ty }
+{
+    module
+        .global(Id(ty))
+        .map_or(false, |inst| inst.op == Op::TypeVoid)
+}
 
 impl Context<'_, '_> {
     /// An argument of a call: a pointer is written as its place.
@@ -39,9 +49,7 @@ impl Context<'_, '_> {
     pub fn is_void(&self, ty: u32) -> bool
         ensures { result ≡ is_void_of (scope_of self.now) ty }
     {
-        self.module()
-            .global(Id(ty))
-            .map_or(false, |inst| inst.op == 19)
+        is_void_type(self.module(), ty)
     }
 
     #[inline(never)]

@@ -44,7 +44,7 @@ impl Context<'_, '_> {
             InstKind::Chain | InstKind::Silent => 0,
             InstKind::Store | InstKind::ControlBarrier | InstKind::MemoryBarrier => 1,
             InstKind::CompositeInsert | InstKind::VectorInsertDynamic => 2,
-            InstKind::Load | InstKind::Call | InstKind::Atomic | InstKind::Value => {
+            InstKind::Load | InstKind::Call | InstKind::Atomic(_) | InstKind::Value => {
                 if self.has_variable(inst) { 1 } else { 0 }
             }
         }
@@ -116,8 +116,7 @@ impl Context<'_, '_> {
     pub fn captured(&self, alloc: Global, inst: &Inst) -> Result<Vec<(u32, Id)>, Memory>
         ensures { IfOk result (λ list. map (λ n. (n.0, n.1.0)) list.items ≡ captured_of (scope_of self.now) inst.now) }
     {
-        // OpAccessChain, OpInBoundsAccessChain
-        if (inst.op == 65 || inst.op == 66) && self.plan.carried(Id(inst.result)) {
+        if inst.op.is_chain() && self.plan.carried(Id(inst.result)) {
             captured_indexes(alloc, self.module(), inst)
         } else {
             Ok(Vec::new(alloc))
@@ -168,7 +167,7 @@ impl Context<'_, '_> {
             InstKind::Load => self.add_load(alloc, into, block, inst),
             InstKind::Store => self.add_store(alloc, into, block, inst),
             InstKind::Call => self.add_function_call(alloc, into, block, inst),
-            InstKind::Atomic => self.add_atomic(alloc, into, block, inst),
+            InstKind::Atomic(atomic) => self.add_atomic(alloc, into, block, inst, atomic),
             InstKind::ControlBarrier => self.add_control_barrier(alloc, into, inst),
             InstKind::MemoryBarrier => self.add_memory_barrier(alloc, into, inst),
             InstKind::Chain => self.add_captures(alloc, into, inst),

@@ -2,15 +2,16 @@
 ghost use Rattle.std.specs.Prelude.{◌≡◌, IfOk, map};
 ghost use Rattle.glsl_ast.specs.View.{expr_of, step_of};
 ghost use Rattle.access_paths.specs.declared.forms.Step.TheVariants.{Index};
-ghost use Rattle.expr_forward.specs.Paths.{component_text as component_text_of, is_plain as is_plain_of, is_number as is_number_of, literal_word as literal_word_of, word_at as word_at_of, vector_size as vector_size_of, index_expr as index_expr_of, captured_text, step_text, step_type as step_type_of, steps_text, part_step as part_step_of, part_type as part_type_of, part_type_by, part_steps as part_steps_of};
+ghost use Rattle.expr_forward.specs.Paths.{component_text as component_text_of, is_plain as is_plain_of, is_number as is_number_of, literal_word as literal_word_of, word_at as word_at_of, components as components_of, composite_op_in, vector_size as vector_size_of, vector_size_in as vector_size_in_of, index_expr as index_expr_of, captured_text, step_text, step_type as step_type_of, steps_text, part_step as part_step_of, part_type as part_type_of, part_type_by, part_type_in as part_type_in_of, part_steps as part_steps_of};
 ghost use Rattle.expr_forward.specs.Context.{setting_of};
 
 use crate::Context;
 use access_paths::Step;
-use constant_text::{Reading, is_constant, name, scalar_type};
+use constant_text::{Reading, name, scalar_type};
 use glsl_ast::{Expr, LStep, Literal, Name};
 use name_alloc::Key;
-use spv_module::{Elem, Id, Inst};
+use spv_module::{Elem, Id, Inst, Module};
+use spv_ops::Op;
 use spv_words::Memory;
 use std::alloc::Global;
 
@@ -30,12 +31,45 @@ pub(crate) fn component_text(n: u32) -> &'static str
 fn part_operand(inst: &Inst, k: u32) -> u32
     ensures { result ≡ part_type_by k inst.now }
 {
-    // OpTypeStruct
-    if inst.op == 30 {
+    if inst.op == Op::TypeStruct {
         inst.operand(k as usize)
     } else {
         inst.operand(0)
     }
+}
+
+/// The same of the type with an id.
+fn part_type_in(module: &Module, ty: u32, k: u32) -> u32
+    ensures { result ≡ part_type_in_of «module».now.globals ty k }
+{
+    module
+        .global(Id(ty))
+        .map_or(0, |inst| part_operand(inst, k))
+}
+
+/// The opcode of a composite's type. What is no type counts as an array.
+fn composite_op(module: &Module, ty: u32) -> Op
+    ensures { result ≡ composite_op_in «module».now.globals ty }
+{
+    module.global(Id(ty)).map_or(Op::TypeArray, |inst| inst.op)
+}
+
+/// The number of components of a vector type, and 0 of another.
+fn components(inst: &Inst) -> u32
+    ensures { result ≡ components_of inst.now }
+{
+    if inst.op == Op::TypeVector {
+        inst.operand(1)
+    } else {
+        0
+    }
+}
+
+/// The same of the type with an id.
+fn vector_size_in(module: &Module, ty: u32) -> u32
+    ensures { result ≡ vector_size_in_of «module».now.globals ty }
+{
+    module.global(Id(ty)).map_or(0, |inst| components(inst))
 }
 
 fn is_plain(reading: Reading) -> bool
@@ -58,7 +92,7 @@ impl Context<'_, '_> {
         ensures { result ≡ literal_word_of (setting_of self.now) inst.now }
     {
         let ty = scalar_type(self.module(), inst.ty);
-        if is_constant(inst) && is_plain(self.readings.reading(inst)) && is_number(ty) {
+        if inst.op.is_constant() && is_plain(self.readings.reading(inst)) && is_number(ty) {
             Some(self.readings.word(inst))
         } else {
             None
@@ -77,11 +111,7 @@ impl Context<'_, '_> {
     fn vector_size(&self, ty: u32) -> u32
         ensures { result ≡ vector_size_of (setting_of self.now) ty }
     {
-        match self.module().global(Id(ty)) {
-            // OpTypeVector
-            Some(inst) if inst.op == 23 => inst.operand(1),
-            Some(_) | None => 0,
-        }
+        vector_size_in(self.module(), ty)
     }
 
     /// A component of a vector by a literal below its size, and else an element or component by an index.
@@ -167,28 +197,23 @@ impl Context<'_, '_> {
     pub(crate) fn part_step(&self, alloc: Global, ty: u32, k: u32) -> Result<LStep, Memory>
         ensures { IfOk result (λ s. step_of s ≡ part_step_of (setting_of self.now) ty k) }
     {
-        let op = self.module().global(Id(ty)).map_or(0, |inst| inst.op);
-        match op {
-            // OpTypeVector, OpTypeStruct
-            23 => {
-                let component = Name::from_str(alloc, component_text(k))?;
-                Ok(LStep::Member(component))
-            }
-            30 => {
-                let name = name(alloc, self.names, Key::Member(Id(ty), k))?;
-                Ok(LStep::Member(name))
-            }
-            _ => Ok(LStep::Index(Expr::Literal(Literal::Int(k)))),
+        let op = composite_op(self.module(), ty);
+        if op == Op::TypeVector {
+            let component = Name::from_str(alloc, component_text(k))?;
+            return Ok(LStep::Member(component));
         }
+        if op == Op::TypeStruct {
+            let name = name(alloc, self.names, Key::Member(Id(ty), k))?;
+            return Ok(LStep::Member(name));
+        }
+        Ok(LStep::Index(Expr::Literal(Literal::Int(k))))
     }
 
     /// The type of the part with a number of a composite of a type.
     fn part_type(&self, ty: u32, k: u32) -> u32
         ensures { result ≡ part_type_of (setting_of self.now) ty k }
     {
-        self.module()
-            .global(Id(ty))
-            .map_or(0, |inst| part_operand(inst, k))
+        part_type_in(self.module(), ty, k)
     }
 
     /// The steps from a composite of a type to a part, by literals.

@@ -131,6 +131,7 @@ impl Context<'_, '_> {
                 [a, b] => self.on_two(alloc, block, deep, inst, Id(*a), Id(*b)),
                 _ => self.lowered(alloc, block, deep, 0, inst, args),
             },
+            OperationKind::Other => self.variable(alloc, Id(inst.result)),
         }
     }
 
