@@ -1,6 +1,7 @@
 // Opcodes, their operands, and decorations.
 use spv_ops::{
     Decoration, Op, OpClass, OpShape, Operands, has_literal, id_words, inner_op, literals_of,
+    shape_of,
 };
 use std::test::Fail;
 
@@ -14,6 +15,7 @@ fn table_of_opcodes(rt: HostRuntime) -> Result<(), Fail> {
         class: OpClass::Pure,
     };
     assert_eq!(rt; Op::AccessChain.shape(), access_chain);
+    assert_eq!(rt; (shape_of(65), shape_of(9)), (Some(access_chain), None));
     assert_eq!(rt; Op::of(9), None);
     assert_eq!(rt; Op::Store.operands(), Operands::IdsFirst(2));
     for (op, is_inner) in [(Op::IAdd, true), (Op::CompositeInsert, false)] {

@@ -17,3 +17,4 @@ pub use enumerants::{
 };
 pub use opcode::Op;
 pub use operands::{IdWords, Operands, id_words, inner_op};
+pub use shape::shape_of;
