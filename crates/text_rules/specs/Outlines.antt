@@ -1,5 +1,5 @@
 -- The shapes by which types are named (GLSL 4.60, section 4.1).
-use Rattle.std.specs.Prelude.{ℕ, ◌==◌, List, Option, Some, if◌then◌else◌, slice_index}
+use Rattle.std.specs.Prelude.{ℕ, List, Option, Some, if◌then◌else◌, slice_index}
 use Rattle.std.specs.Option.{option_map_or}
 use Rattle.spv_ops.specs.Opcode.{is}
 use Rattle.spv_ops.specs.declared.Op.TheVariants as code
