@@ -1,6 +1,8 @@
 -- A function of the text, from what is planned of it (GLSL 4.60, section 6.1).
 use Rattle.std.specs.Prelude.{ℕ, ◌==◌, Bool, true, false, List, [], ◌++◌, filter, flat_map, map, is_some, Option, Some, None, option_map, option_and_then, unwrap_or, if◌then◌else◌, slice_get, slice_index}
 use Rattle.std.specs.Option.{option_map_or}
+use Rattle.spv_ops.specs.Opcode.{is}
+use Rattle.spv_ops.specs.declared.Op.TheVariants as code
 use Rattle.spv_module.specs.Held.{global}
 use Rattle.spv_module.specs.Lists.{id}
 use Rattle.spv_module.specs.declared.inst.Id.{Id as IdOf}
@@ -97,7 +99,7 @@ condition_text p b = value p.scope b (first_operand (written p) b)
 
 -- OpReturnValue
 abbrev pub returned_by : Inst → Option ℕ
-returned_by i = if i.op == 254 then Some (operand_in i) else None
+returned_by i = if is i.op code.ReturnValue then Some (operand_in i) else None
 
 abbrev pub returned : Function → ℕ → Option ℕ
 returned f b = option_and_then returned_by (terminator_at f b)
@@ -142,7 +144,7 @@ blocks_of p = record {
 
 -- the variables of a function, each with its initializer or its zero
 abbrev pub is_variable : Inst → Bool
-is_variable i = i.op == 59
+is_variable i = is i.op code.Variable
 
 abbrev pub variable_text : Scope → Inst → Stmt
 variable_text w i =

@@ -1,6 +1,8 @@
 -- Which instructions of a function constants and structs are written for.
-use Rattle.std.specs.Prelude.{ℕ, ◌==◌, ◌&&◌, ◌||◌, false, Bool, List, filter, flat_map, if◌then◌else◌}
+use Rattle.std.specs.Prelude.{ℕ, ◌&&◌, ◌||◌, true, false, Bool, List, filter, flat_map, if◌then◌else◌}
 use Rattle.std.specs.Option.{option_map_or}
+use Rattle.spv_ops.specs.declared.Op.{Op}
+use Rattle.spv_ops.specs.declared.Op.TheVariants as code
 use Rattle.spv_module.specs.Held.{global}
 use Rattle.std.specs.List.{enumerate_from}
 use Rattle.spv_module.specs.declared.inst.Inst.{Inst}
@@ -11,12 +13,14 @@ use Rattle.hoist_plan.specs.declared.form.Form.{Form}
 use Rattle.emit_glsl.specs.Functions.{is_hoisted}
 use Rattle.emit_glsl.specs.Planned.{is_live, is_captured}
 
--- OpTypeArray, OpTypeRuntimeArray, OpTypeStruct
-abbrev pub is_composite_type : Inst → Bool
-is_composite_type g = (g.op == 28) || ((g.op == 29) || (g.op == 30))
+abbrev pub is_composite_type : Op → Bool
+is_composite_type code.TypeArray = true
+is_composite_type code.TypeRuntimeArray = true
+is_composite_type code.TypeStruct = true
+is_composite_type _ = false
 
 abbrev pub is_composite : List Inst → ℕ → Bool
-is_composite gs ty = option_map_or is_composite_type (global gs ty) false
+is_composite gs ty = option_map_or (λ (g : Inst). is_composite_type g.op) (global gs ty) false
 
 -- what a reached block needs of a block, be it reached or not: its chains, and the composites that are declared at the top of the function
 abbrev pub is_wanted : List Inst → (ℕ → Form) → (ℕ → Bool) → Inst → Bool

@@ -2,6 +2,8 @@
 use Rattle.std.specs.Prelude.{ℕ, ◌==◌, ◌&&◌, not, Bool, true, false, List, [], ◌∷◌, filter, flat_map, map, Option, if◌then◌else◌, slice_get}
 use Rattle.std.specs.Option.{option_map_or}
 use Rattle.std.specs.List.{enumerate_from, list_any}
+use Rattle.spv_ops.specs.Opcode.{is}
+use Rattle.spv_ops.specs.declared.Op.TheVariants as code
 use Rattle.spv_module.specs.Held.{global}
 use Rattle.spv_module.specs.Lists.{id}
 use Rattle.spv_module.specs.declared.inst.Inst.{Inst}
@@ -22,7 +24,7 @@ is_gone _ = false
 
 -- OpPhi, where a live instruction mentions its result
 abbrev pub is_live_phi : (ℕ → Form) → Inst → Bool
-is_live_phi form i = (i.op == 245) && not (is_gone (form i.result))
+is_live_phi form i = (is i.op code.Phi) && not (is_gone (form i.result))
 
 abbrev pub live_phis : (ℕ → Form) → Block → List Inst
 live_phis form b = filter (is_live_phi form) b.insts

@@ -5,6 +5,9 @@ use Rattle.std.specs.Ordering.{nat_cmp}
 use Rattle.std.specs.List.{enumerate_from, list_any}
 use Rattle.std.specs.declared.vec.Vec.{Vec}
 use Rattle.std.specs.declared.alloc.Global.{Global}
+use Rattle.spv_ops.specs.Opcode.{is}
+use Rattle.spv_ops.specs.declared.Op.TheVariants as code
+use Rattle.spv_ops.specs.Shape.{is_pure}
 use Rattle.spv_module.specs.declared.inst.Id.{Id}
 use Rattle.spv_module.specs.declared.inst.Inst.{Inst}
 use Rattle.spv_module.specs.declared.inst.Block.{Block}
@@ -15,8 +18,7 @@ use Rattle.hoist_plan.specs.declared.form.Form.TheVariants.{Local, Hoisted}
 use Rattle.phi_copies.specs.declared.moves.Move.{Move}
 use Rattle.phi_copies.specs.Sequence.{saves}
 use Rattle.access_paths.specs.Ways.{captured_indexes}
-use Rattle.profile_rules.specs.MemoryRules.{is_chain}
-use Rattle.use_chains.specs.Slots.{is_pure}
+use Rattle.spv_ops.specs.Groups.{is_chain}
 use Rattle.structure_recover.specs.View.{region_of}
 use Rattle.expr_forward.specs.Context.{ContextState, scope_of}
 use Rattle.emit_glsl.specs.declared.plan.FunctionPlan.{FunctionPlan as Planned}
@@ -55,7 +57,7 @@ has_name_by Local reached variable = reached || variable
 has_name_by _ reached variable = variable
 
 abbrev pub has_name : (ℕ → Form) → Bool → Inst → Bool
-has_name form reached i = has_name_by (form i.result) reached (i.op == 59)
+has_name form reached i = has_name_by (form i.result) reached (is i.op code.Variable)
 
 abbrev pub names_id : (ℕ → Form) → Bool → ℕ → Inst → Bool
 names_id form reached id i = has_name form reached i && (i.result == id)
@@ -76,7 +78,7 @@ number_in n = n.0
 
 -- a chain whose indexes that are no constants have variables
 abbrev pub is_captured : (ℕ → Bool) → Inst → Bool
-is_captured carried i = is_chain i && carried i.result
+is_captured carried i = is_chain i.op && carried i.result
 
 abbrev pub captured_numbers : List Inst → (ℕ → Bool) → Inst → List ℕ
 captured_numbers gs carried i = if is_captured carried i then map (λ (n : ℕ × ℕ). n.0) (captured_indexes gs i) else []

@@ -1,23 +1,21 @@
 -- The text of a module, from what is planned of the functions that calls reach from the entry.
-use Rattle.std.specs.Prelude.{ℕ, ◌≡◌, ◌==◌, Bool, List, ◌++◌, drop, filter, find, flat_map, map, option_to_list}
+use Rattle.std.specs.Prelude.{ℕ, ◌≡◌, ◌==◌, Bool, List, ◌++◌, filter, find, flat_map, map, option_to_list}
 use Rattle.std.specs.List.{AllZip, list_any}
 use Rattle.spv_module.specs.State.{ModuleState}
 use Rattle.spv_module.specs.declared.inst.Id.{Id}
 use Rattle.spv_module.specs.declared.inst.Inst.{Inst}
 use Rattle.spv_module.specs.declared.inst.Function.{Function}
-use Rattle.profile_rules.specs.Constants.{inner_operands, inner_literals}
 use Rattle.profile_rules.specs.Calls.{IsCallOrder, numbers}
 use Rattle.conformance.specs.Rules.{Options}
 use Rattle.module_check.specs.Judged.{IsEntry}
 use Rattle.name_alloc.specs.declared.claims.Claim.{Claim}
 use Rattle.name_alloc.specs.Naming.{name_of}
-use Rattle.glsl_ast.specs.Tree.{Expr, TranslationUnit, translation_unit}
-use Rattle.vec_lowering.specs.Lowered.{lowered_vector}
+use Rattle.glsl_ast.specs.Tree.{TranslationUnit, translation_unit}
 use Rattle.text_rules.specs.Constants.{Source, sizes}
 use Rattle.text_rules.specs.Printed.{Reached}
-use Rattle.text_rules.specs.Declarations.{Names, declarations, shape_at}
+use Rattle.text_rules.specs.Declarations.{Names, declarations}
 use Rattle.text_rules.specs.Claims.{Plan, claims}
-use Rattle.text_items.specs.Names.{operand, inner_opcode}
+use Rattle.text_items.specs.Names.{calculated_with}
 use Rattle.text_items.specs.View.{claims_of}
 use Rattle.emit_glsl.specs.Once.{once, itself}
 use Rattle.emit_glsl.specs.Functions.{FunctionPlan, function_decl, targets_in, written}
@@ -30,12 +28,8 @@ abbrev pub unit_text : Source → Reached → Names → List FunctionPlan → Tr
 unit_text s r names plans = translation_unit (sizes s) (declarations s r names ++ map function_decl plans)
 
 -- the names of items, and the expressions of the constants that are calculated
-abbrev pub calculated_by : Source → Naming → Inst → ℕ → List ℕ → Expr
-calculated_by s found g op args =
-    lowered_vector found op 0 (shape_at s g.ty) (inner_literals op args) (map (operand s (id_text found)) (inner_operands op args))
-
 abbrev pub item_names_of : Source → Naming → Names
-item_names_of s found = record (names_of found) { calculated = λ g. calculated_by s found g (inner_opcode g) (drop 1 g.args) }
+item_names_of s found = record (names_of found) { calculated = calculated_with s found (id_text found) }
 
 -- what a planned function claims names for
 abbrev pub claims_by : Source → FunctionPlan → Plan

@@ -23,6 +23,7 @@ use glsl_ast::{Expr, LValue, Literal, Name, Stmt};
 use name_alloc::Key;
 use phi_copies::{Move, Src, Var};
 use spv_module::{Elem, Function, Id, Inst};
+use spv_ops::Op;
 use spv_words::Memory;
 use std::alloc::Global;
 
@@ -46,7 +47,7 @@ fn returned(function: &Function, block: usize) -> Option<u32>
     ensures { result ≡ returned_in function.now block }
 {
     match terminator_of(function, block) {
-        Some(inst) if inst.op == 254 => Some(inst.operand(0)),
+        Some(inst) if inst.op == Op::ReturnValue => Some(inst.operand(0)),
         Some(_) | None => None,
     }
 }

@@ -4,7 +4,6 @@ ghost use Rattle.glsl_ast.specs.View.{decl_of, param_of, stmt_of, type_of as typ
 ghost use Rattle.structure_recover.specs.View.{region_of};
 ghost use Rattle.control_text.specs.Statements.{function_text as text_of_function};
 ghost use Rattle.expr_forward.specs.Context.{key_text, scope_of};
-ghost use Rattle.expr_forward.specs.Statements.{is_void as is_void_type};
 ghost use Rattle.emit_glsl.specs.Functions.{function_key as key_of_function, param_text as text_of_param, result_type_at, blocks_of, body_text as text_of_body, function_decl};
 ghost use Rattle.emit_glsl.specs.Planned.{plan_in};
 
@@ -57,13 +56,6 @@ impl PlannedFunction<'_, '_> {
             list.push(self.param_text(alloc, *param)?)?;
         }
         Ok(list)
-    }
-
-    /// OpTypeVoid.
-    fn is_void(&self, ty: Id) -> bool
-        ensures { result ≡ is_void_type (scope_of self.now.context) ty.0 }
-    {
-        self.module().global(ty).map_or(false, |inst| inst.op == 19)
     }
 
     /// The type of a function's result, where it has one.

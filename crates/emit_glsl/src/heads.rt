@@ -11,6 +11,7 @@ use glsl_ast::Stmt;
 use hoist_plan::Form;
 use name_alloc::Key;
 use spv_module::{Block, Id, Inst};
+use spv_ops::Op;
 use spv_words::Memory;
 use std::alloc::Global;
 
@@ -25,7 +26,7 @@ pub fn is_hoisted(form: Form) -> bool
 fn is_variable(inst: &Inst) -> bool
     ensures { result ≡ is_variable_inst inst.now }
 {
-    inst.op == 59
+    inst.op == Op::Variable
 }
 
 impl PlannedFunction<'_, '_> {

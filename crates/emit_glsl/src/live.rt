@@ -2,7 +2,7 @@
 ghost use Rattle.std.specs.Prelude.{◌≡◌, ◌++◌, OnOk};
 ghost use Rattle.text_items.specs.State.{insts_at};
 ghost use Rattle.hoist_plan.specs.Kept.{form_in, is_carried_in};
-ghost use Rattle.emit_glsl.specs.Live.{is_composite as is_composite_in, is_wanted as is_wanted_in, is_written_for as is_written_for_in, live_among, live_at, live_by};
+ghost use Rattle.emit_glsl.specs.Live.{is_composite_type as is_composite_opcode, is_composite as is_composite_in, is_wanted as is_wanted_in, is_written_for as is_written_for_in, live_among, live_at, live_by};
 ghost use Rattle.emit_glsl.specs.Reached.{live_in};
 
 use crate::heads::is_hoisted;
@@ -11,19 +11,25 @@ use crate::nodes::is_reached;
 use crate::plan::FunctionPlan;
 use hoist_plan::Naming;
 use spv_module::{Block, Id, Inst, Module};
+use spv_ops::Op;
 use spv_words::Memory;
 use std::alloc::AllocError;
 use structure_rules::Node;
+
+/// OpTypeArray, OpTypeRuntimeArray and OpTypeStruct.
+fn is_composite_type(op: Op) -> bool
+    ensures { result ≡ is_composite_opcode op }
+{
+    matches!(op, Op::TypeArray | Op::TypeRuntimeArray | Op::TypeStruct)
+}
 
 /// Whether a type is an array or a struct.
 fn is_composite(module: &Module, ty: u32) -> bool
     ensures { result ≡ is_composite_in «module».now.globals ty }
 {
-    // OpTypeArray, OpTypeRuntimeArray, OpTypeStruct
-    module.global(Id(ty)).map_or(
-        false,
-        |inst| inst.op == 28 || inst.op == 29 || inst.op == 30,
-    )
+    module
+        .global(Id(ty))
+        .map_or(false, |inst| is_composite_type(inst.op))
 }
 
 /// Whether this is something that a reached block needs of a block, be it reached or not: a chain, or a composite that is declared

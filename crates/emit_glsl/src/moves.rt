@@ -12,11 +12,11 @@ use crate::edge_moves::Moves;
 use crate::flag_sets::are_none;
 use crate::once::is_new;
 use crate::single::{first_phi, moves_of_phi, phi_count};
-use constant_text::is_constant;
 use hoist_plan::{Form, Naming};
 use phi_copies::{Move, Src, Var, copies};
 use spv_index::Locals;
 use spv_module::{Block, Function, Id, Inst, Module};
+use spv_ops::Op;
 use spv_words::Memory;
 use std::alloc::{AllocError, Global};
 use std::collections::{BTreeMap, BTreeSet};
@@ -35,7 +35,7 @@ pub fn is_gone(form: Form) -> bool
 pub fn is_live_phi(naming: &Naming, inst: &Inst) -> bool
     ensures { result ≡ is_live_phi_in (form_in naming.now) inst.now }
 {
-    inst.op == 245 && !is_gone(naming.of(Id(inst.result)))
+    inst.op == Op::Phi && !is_gone(naming.of(Id(inst.result)))
 }
 
 fn has_live_phi(naming: &Naming, block: &Block) -> bool
@@ -88,7 +88,7 @@ fn is_constant_id(module: &Module, id: u32) -> bool
 {
     module
         .global(Id(id))
-        .map_or(false, |inst| is_constant(inst))
+        .map_or(false, |inst| inst.op.is_constant())
 }
 
 /// The value of a variable, or that of a constant.

@@ -3,7 +3,6 @@ ghost use Rattle.std.specs.Prelude.{◌≡◌, ◌||◌, ◌==◌, ℕ, IfOk, On
 ghost use Rattle.std.specs.List.{list_any};
 ghost use Rattle.id_map.specs.Entries.{is_in};
 ghost use Rattle.hoist_plan.specs.Kept.{form_in, is_carried_in};
-ghost use Rattle.use_chains.specs.Slots.{is_pure as is_pure_opcode, is_pure_class as is_pure_class_of};
 ghost use Rattle.emit_glsl.specs.Planned.{has_name_by, has_name as has_name_in, names_id, block_names, is_named_in, is_live as is_live_in, is_captured as is_captured_in};
 
 use crate::moves::is_gone;
@@ -11,7 +10,7 @@ use crate::nodes::is_reached;
 use hoist_plan::{Form, Naming};
 use id_map::IdSet;
 use spv_module::{Block, Function, Id, Inst};
-use spv_ops::{OpClass, shape_of};
+use spv_ops::Op;
 use spv_words::Memory;
 use std::alloc::{AllocError, Global};
 use structure_rules::Node;
@@ -32,7 +31,7 @@ fn has_name_of(form: Form, reached: bool, variable: bool) -> bool
 fn has_name(naming: &Naming, reached: bool, inst: &Inst) -> bool
     ensures { result ≡ has_name_in (form_in naming.now) reached inst.now }
 {
-    has_name_of(naming.of(Id(inst.result)), reached, inst.op == 59)
+    has_name_of(naming.of(Id(inst.result)), reached, inst.op == Op::Variable)
 }
 
 /// Adds the results of a block that have names.
@@ -107,24 +106,11 @@ pub fn named(
     Ok(set)
 }
 
-fn is_pure_class(class: OpClass) -> bool
-    ensures { result ≡ is_pure_class_of class }
-{
-    matches!(class, OpClass::Pure)
-}
-
-/// Whether an opcode is without effect.
-fn is_pure(op: u16) -> bool
-    ensures { result ≡ is_pure_opcode op }
-{
-    shape_of(op).map_or(false, |shape| is_pure_class(shape.class))
-}
-
 /// Whether an instruction is live: it has an effect, or a live instruction of a reached block mentions its result.
 pub fn is_live(naming: &Naming, inst: &Inst) -> bool
     ensures { result ≡ is_live_in (form_in naming.now) inst.now }
 {
-    if is_pure(inst.op) {
+    if inst.op.is_pure() {
         !is_gone(naming.of(Id(inst.result)))
     } else {
         true
@@ -135,6 +121,5 @@ pub fn is_live(naming: &Naming, inst: &Inst) -> bool
 pub fn is_captured(naming: &Naming, inst: &Inst) -> bool
     ensures { result ≡ is_captured_in (is_carried_in naming.now) inst.now }
 {
-    // OpAccessChain, OpInBoundsAccessChain
-    (inst.op == 65 || inst.op == 66) && naming.carried(Id(inst.result))
+    inst.op.is_chain() && naming.carried(Id(inst.result))
 }

@@ -7,7 +7,7 @@ ghost use Rattle.glsl_ast.specs.View.{name_text, expr_of, stmt_of, type_of as ty
 ghost use Rattle.text_rules.specs.Declarations.{initial as initial_of, pointee_at as pointee_at_of, type_at};
 ghost use Rattle.expr_forward.specs.Context.{all_names, key_text, scope_of};
 ghost use Rattle.expr_forward.specs.Scope.{type_of as type_in_scope};
-ghost use Rattle.expr_forward.specs.Statements.{captured_of};
+ghost use Rattle.expr_forward.specs.Statements.{captured_of, is_void as is_void_type};
 ghost use Rattle.emit_glsl.specs.Functions.{constant_text, elem_at, index_of};
 
 use crate::plan::FunctionPlan;
@@ -83,6 +83,13 @@ impl<'a, 'b> PlannedFunction<'a, 'b> {
         ensures { result ≡ type_in_scope (scope_of self.now.context) id.0 }
     {
         self.context.type_of(id)
+    }
+
+    /// Whether a type is OpTypeVoid.
+    pub fn is_void(&self, ty: Id) -> bool
+        ensures { result ≡ is_void_type (scope_of self.now.context) ty.0 }
+    {
+        self.context.is_void(ty.0)
     }
 
     /// The scalar type of a value.
