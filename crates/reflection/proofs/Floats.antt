@@ -5,6 +5,8 @@ use Rattle.std.specs.Option.{option_or}
 use Rattle.std.specs.Int.{w32, cast_signed}
 use Rattle.std.specs.List.{filter_map, cons_option, find}
 use Rattle.spv_module.specs.State.{ModuleState}
+use Rattle.spv_ops.specs.Enumerants.{decoration_number}
+use Rattle.spv_ops.specs.declared.Decoration.TheVariants as decoration
 use Rattle.spv_decor.specs.Rows.{value_of}
 use Rattle.conformance.specs.Rules.{Options}
 use Rattle.glsl_ast.specs.Tree as tree
@@ -124,7 +126,7 @@ whole_report m name (translation_unit ss ds) =
     (neither (has_float (size_data ss)) _ (whole_size ss)
     (neither (has_float (size_ids_data ss)) _ (whole_size_ids ss)
     (neither (items_have_float (items_of (spec m (translation_unit ss ds)))) _
-    (whole_some (spec_by m (translation_unit ss ds)) (λ g. whole_then (spec_data (translation_unit ss ds)) (whole_spec (translation_unit ss ds)) (value_of m.heads g.result 1)) m.globals) refl))))
+    (whole_some (spec_by m (translation_unit ss ds)) (λ g. whole_then (spec_data (translation_unit ss ds)) (whole_spec (translation_unit ss ds)) (value_of m.heads g.result (decoration_number decoration.SpecId))) m.globals) refl))))
 
 pub no_float : (m : ModuleState) (o : Options) (d : Data) → IsReport m o d → has_float d ≡ false
 no_float m o d report = ap has_float report.is ∙ whole_report m o.entry report.unit

@@ -3,6 +3,8 @@ use Rattle.std.specs.Prelude.{ℕ, ◌==◌, ◌&&◌, ◌++◌, Bool, false, Li
 use Rattle.std.specs.Option.{option_or, option_map_or}
 use Rattle.std.specs.List.{filter_map}
 use Rattle.std.specs.Int.{w32, cast_signed}
+use Rattle.spv_ops.specs.Enumerants.{decoration_number}
+use Rattle.spv_ops.specs.declared.Decoration.TheVariants as decoration
 use Rattle.spv_module.specs.State.{ModuleState}
 use Rattle.spv_module.specs.declared.inst.Inst.{Inst}
 use Rattle.spv_decor.specs.Rows.{value_of}
@@ -63,7 +65,7 @@ spec_data (translation_unit ss ds) id =
 
 -- the constant that an instruction defines, where the text has it with a SpecId
 abbrev pub spec_by : ModuleState → TranslationUnit → Inst → Option Data
-spec_by m u g = option_and_then (spec_data u) (value_of m.heads g.result 1)
+spec_by m u g = option_and_then (spec_data u) (value_of m.heads g.result (decoration_number decoration.SpecId))
 
 -- those constants in the order in which the module defines them
 abbrev pub spec : ModuleState → TranslationUnit → List Data

@@ -1,8 +1,10 @@
 -- The report on a module and its text.
-use Rattle.std.specs.Prelude.{◌≡◌, ◌==◌, Bool, List, [], Option, Some, None, codes, drop, find}
+use Rattle.std.specs.Prelude.{◌≡◌, Bool, List, [], Option, Some, None, codes, drop, find}
 use Rattle.std.specs.Option.{option_map_or}
 use Rattle.std.specs.List.{filter_map}
 use Rattle.std.specs.Str.Lossy.{utf8_lossy}
+use Rattle.spv_ops.specs.Opcode.{is}
+use Rattle.spv_ops.specs.declared.Op.TheVariants as code
 use Rattle.spv_module.specs.State.{ModuleState}
 use Rattle.spv_module.specs.declared.inst.Inst.{Inst}
 use Rattle.spv_decor.specs.Rows.{text_of}
@@ -16,7 +18,7 @@ use Rattle.reflection.specs.Constants.{spec}
 
 -- OpEntryPoint
 abbrev pub is_entry_point : Inst → Bool
-is_entry_point i = i.op == 15
+is_entry_point i = is i.op code.EntryPoint
 
 -- the name in it, which is UTF-8 where the module was read from words
 abbrev pub name_in : Inst → Text

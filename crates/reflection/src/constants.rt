@@ -4,6 +4,8 @@ ghost use Rattle.std.specs.Option.{option_copied};
 ghost use Rattle.std.specs.BTreeMap.{get};
 ghost use Rattle.std.specs.Ordering.{nat_cmp};
 ghost use Rattle.glsl_ast.specs.View.{decl_of, expr_of, unit_of};
+ghost use Rattle.spv_ops.specs.Enumerants.{decoration_number};
+ghost use Rattle.spv_ops.specs.declared.Decoration.TheVariants as decoration;
 ghost use Rattle.spv_decor.specs.Rows.{value_of as value_in};
 ghost use Rattle.reflection.specs.Constants.{literal_data, default_data, own_id, declares, declared_data, is_part, part_data, axis_text as text_of_axis, spec_data, spec};
 ghost use Rattle.reflection.specs.Places.{is_of, ArePlaces};
@@ -15,11 +17,9 @@ use glsl_ast::{Decl, Expr, Literal, Size, Unit};
 use serde_json::{Value, json};
 use spv_decor::Decor;
 use spv_module::{Id, Inst, Module};
+use spv_ops::Decoration;
 use std::alloc::{AllocError, Global};
 use std::collections::BTreeMap;
-
-/// The decoration SpecId (SPIR-V 1.6, section 3.20).
-const SPEC_ID: u32 = 1;
 
 fn literal_value(literal: Literal) -> Value
     ensures { view result ≡ literal_data literal }
@@ -168,9 +168,9 @@ fn value_of(
     inst: &Inst,
 ) -> Result<Option<Value>, AllocError>
     requires { ArePlaces unit.now.items.items (get nat_cmp places.now) }
-    ensures { IfOk result (λ v. option_map view v ≡ option_and_then (spec_data (unit_of unit.now)) (value_in decor.now inst.now.result 1)) }
+    ensures { IfOk result (λ v. option_map view v ≡ option_and_then (spec_data (unit_of unit.now)) (value_in decor.now inst.now.result (decoration_number decoration.SpecId))) }
 {
-    match decor.value(Id(inst.result), SPEC_ID) {
+    match decor.value(Id(inst.result), Decoration::SpecId.number()) {
         Some(id) => spec_value(alloc, unit, places, id),
         None => Ok(None),
     }

@@ -16,16 +16,14 @@ use profile_check::Options;
 use serde_json::{Value, json};
 use spv_decor::{Decor, text_of};
 use spv_module::{Inst, Module};
+use spv_ops::Op;
 use spv_words::Fault;
 use std::alloc::{AllocError, Global};
-
-/// OpEntryPoint (SPIR-V 1.6, section 3.52.3).
-const ENTRY_POINT: u16 = 15;
 
 fn entry_point(heads: &[Inst]) -> Option<&Inst>
     ensures { option_copied result ≡ find is_entry_point heads.now }
 {
-    heads.iter().find(|inst| inst.op == ENTRY_POINT)
+    heads.iter().find(|inst| inst.op == Op::EntryPoint)
 }
 
 /// The name of the entry point: the one that is asked for, else that of the only one.
