@@ -11,7 +11,7 @@ use Rattle.spv_module.specs.declared.inst.Block.{Block}
 use Rattle.spv_module.specs.declared.tree.Elem.{Elem}
 use Rattle.spv_module.specs.declared.tree.Elem.TheVariants as elem
 use Rattle.spv_types.specs.Types.{type_tree, elem_of}
-use Rattle.profile_rules.specs.MemoryRules.{pointee_of, is_chain}
+use Rattle.profile_rules.specs.MemoryRules.{pointee_of}
 use Rattle.name_alloc.specs.declared.claims.Key.TheVariants.{Id, Captured}
 use Rattle.hoist_plan.specs.declared.form.Form.{Form}
 use Rattle.hoist_plan.specs.declared.form.Form.TheVariants.{Local, Hoisted}
@@ -185,7 +185,7 @@ abbrev pub capture : Scope → Inst → ℕ × ℕ → Stmt
 capture w i n = assign (lvalue (w.setting.key (Captured (id i.result) n.0)) []) (index_expr w.setting n.1)
 
 abbrev pub captured_of : Scope → Inst → List (ℕ × ℕ)
-captured_of w i = if is_chain i && w.carried i.result then captured_indexes (globals w) i else []
+captured_of w i = if is_chain i.op && w.carried i.result then captured_indexes (globals w) i else []
 
 abbrev pub chain_text : Scope → Inst → List Stmt
 chain_text w i = map (capture w i) (captured_of w i)

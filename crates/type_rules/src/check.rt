@@ -2,7 +2,6 @@
 ghost use Rattle.std.specs.Prelude.{◌≡◌, [], true, IfOk, IfErr, OnOk, flat_map, is_some};
 ghost use Rattle.spv_index.specs.Locals.{block_in};
 ghost use Rattle.std.specs.List.{list_any};
-ghost use Rattle.spv_ops.specs.Opcode.{op_of};
 ghost use Rattle.spv_words.specs.Breaks.{NoRuleBroken};
 ghost use Rattle.profile_rules.specs.Operands.{lacks_type, breaks_t1_of};
 ghost use Rattle.profile_rules.specs.TypeRules.{Broken, type_rules, is_broken_outside as is_at_fault_outside, is_broken_in as is_at_fault_in, broken_if, broken_as, broken_inside, broken_by_global, broken_by_local, broken_by_block, broken_by_function, broken, AreWithin, IsRefusedBy, IsRight, inner as inner_of};
@@ -64,18 +63,6 @@ fn check_as(matching: &mut Matching, scope: &Scope, inst: &Inst, op: Op) -> Resu
     refuse_if(is_broken, rule_of(group), inst.at)
 }
 
-/// The opcode that a word is.
-#[tactic(auto, using(spv_ops::proofs::Opcodes::none_large))]
-fn opcode_of(word: u32) -> Option<Op>
-    ensures { result ≡ op_of word }
-{
-    if word < 65536 {
-        Op::of(word as u16)
-    } else {
-        None
-    }
-}
-
 /// An OpSpecConstantOp without the opcode inside.
 fn inner(alloc: Global, inst: &Inst) -> Result<Inst, AllocError>
     ensures { IfOk result (λ i. i ≡ inner_of inst.now) }
@@ -105,7 +92,7 @@ fn check_inside(
     if inst.op != Op::SpecConstantOp {
         return Ok(());
     }
-    let Some(op) = opcode_of(inst.operand(0)) else {
+    let Some(op) = Op::of_word(inst.operand(0)) else {
         return Ok(());
     };
     let inside = inner(alloc, inst)?;
