@@ -73,7 +73,7 @@ call_known_by : (n : ℕ) → known n ≡ code.FunctionCall → op_of n ≡ Some
 unfolding known
 call_known_by n h = call_in (op_of n) h
 
-not_and : (a b c : Bool) → not ((a && b) && c) ≡ false → a ≡ true
+pub not_and : (a b c : Bool) → not ((a && b) && c) ≡ false → a ≡ true
 not_and true b c h = refl
 not_and false b c h = cc
 

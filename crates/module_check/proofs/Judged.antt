@@ -68,7 +68,7 @@ module _ (bytes ws : List ℕ) (o : Options) (is : ws ≡ words bytes) (fine : A
     -- each function has an id of its own, and each that is called is one of them
     pub is_read : IsRead m
     is_read = record {
-      own_ids = subst (λ (n : ModuleState). HaveOwnIds n.functions) (sym made) (own_ids ws form.1.1.1.0);
+      own_ids = subst (λ (n : ModuleState). HaveOwnIds n.functions) (sym made) (own_ids ws form.1.1.0 form.1.1.1.0);
       callees = λ unbroken.
           subst (λ (n : ModuleState). AreCalleesFunctions n.functions) (sym same)
           (callees_known bytes fine formed.1.1.1.0 (subst (λ (n : ModuleState). broken n ≡ []) same unbroken));
