@@ -1,6 +1,6 @@
 // The types of loads, stores and chains of indexes.
 ghost use Rattle.std.specs.Prelude.{◌≡◌, option_and_then};
-ghost use Rattle.profile_rules.specs.ValueRules.{breaks_t4, breaks_t5, breaks_t6, breaks_t7, further as further_by, chain_step as step_by, chain_part as part_by, member_by as member_with, chain_end as chain_end_of, leads_elsewhere as leads_to_other, is_other_pointer as is_another_pointer, is_block_variable as is_block, lacks_array as lacks_array_at, is_no_array_block as is_no_block, nth_member as nth_member_of};
+ghost use Rattle.profile_rules.specs.ValueRules.{breaks_t4, breaks_t5, breaks_t6, breaks_t7, further as further_by, chain_step as step_by, chain_part as part_by, member_by as member_with, chain_end as chain_end_of, leads_elsewhere as leads_to_other, is_other_pointer as is_another_pointer, is_block_variable as is_block, lacks_array as lacks_array_at, is_no_array_block as is_no_block, is_no_array_id as is_no_id, nth_member as nth_member_of};
 ghost use Rattle.std.specs.Option.{option_copied};
 ghost use Rattle.spv_index.specs.Pointers.{storage_class, pointee};
 ghost use Rattle.profile_rules.specs.TypeRows.{type_row};
@@ -182,13 +182,21 @@ fn is_no_array_block(scope: &Scope, member: u32, global: &Inst) -> bool
         }
 }
 
-/// T7: OpArrayLength.
+/// Whether an id is of something else than such a global.
+fn is_no_array_id(scope: &Scope, member: u32, id: u32) -> bool
+    ensures { result ≡ is_no_id scope.now.m.globals member id }
+{
+    match scope.global(id) {
+        Some(global) => is_no_array_block(scope, member, global),
+        None => true,
+    }
+}
+
+/// T7: OpArrayLength. An id of no known type breaks T1 alone.
 pub fn is_array_length_broken(scope: &Scope, inst: &Inst) -> bool
     ensures { result ≡ breaks_t7 scope.now.m.globals (types scope.now) inst.now }
 {
+    let pointer = inst.operand(0);
     scope.is_no_uint(inst.ty)
-        || match scope.global(inst.operand(0)) {
-            Some(global) => is_no_array_block(scope, inst.operand(1), global),
-            None => scope.type_of(inst.operand(0)).is_some(),
-        }
+        || scope.type_of(pointer).is_some() && is_no_array_id(scope, inst.operand(1), pointer)
 }
