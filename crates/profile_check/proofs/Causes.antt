@@ -8,6 +8,7 @@ use Rattle.spv_words.specs.declared.rule.Limit.TheVariants.{Bytes, Bound, Depth,
 use Rattle.spv_module.specs.Held.{global}
 use Rattle.spv_module.specs.State.{ModuleState}
 use Rattle.spv_module.specs.declared.inst.Inst.{Inst}
+use Rattle.spv_types.specs.Limits.{IsPassedBy}
 use Rattle.layout_rules.specs.Blocks.{SomeTypePasses, block_of, BreaksAt, IsBrokenBy, IsRightAt, IsRight as IsBlockRight}
 use Rattle.profile_rules.specs.declared.given.Given.{Given}
 use Rattle.profile_rules.specs.DataRules.{IsRight as IsDeclarationRight}
@@ -82,9 +83,14 @@ module _ (m : ModuleState) (pairs : List (ℕ × Given)) where
     declared_cause (Exceeded l) h = absurd h
     declared_cause Memory h = tt
 
+    pub types_cause : (fault : Fault) → AreDeclarationsFine m name → IsPassedBy m.globals fault → IsRight m name pairs fault
+    types_cause (Refused r) fine h = absurd h
+    types_cause (Exceeded l) fine h = (fine, inl h)
+    types_cause Memory fine h = tt
+
     pub rest_cause : (fault : Fault) → AreDeclarationsFine m name → IsRestRight m pairs fault → IsRight m name pairs fault
     rest_cause (Refused r) fine h = inr (fine, h)
-    rest_cause (Exceeded l) fine h = (fine, h)
+    rest_cause (Exceeded l) fine h = (fine, inr h)
     rest_cause Memory fine h = tt
 
 pub ruleset rest_causes = (leaves_cause, layout_cause, access_cause, override_cause)

@@ -11,6 +11,7 @@ use Rattle.spv_words.specs.declared.rule.Fault.TheVariants.{Refused, Limit as Ex
 use Rattle.spv_module.specs.Held.{global}
 use Rattle.spv_module.specs.State.{ModuleState}
 use Rattle.spv_module.specs.declared.inst.Inst.{Inst}
+use Rattle.spv_types.specs.Limits.{IsPassed}
 use Rattle.layout_rules.specs.Blocks.{Broken as BreaksLayout, SomeTypePasses, block_of}
 use Rattle.profile_rules.specs.declared.given.Given.{Given}
 use Rattle.profile_rules.specs.DataRules.{Broken as BreaksDeclaration, Breaks as BreaksDeclarations, data_rules}
@@ -75,9 +76,9 @@ AreDeclarationsFine m name = NoRuleBroken (BreaksDeclaration m name) data_rules
 abbrev pub Breaks : ModuleState → Option (List ℕ) → List (ℕ × Given) → Rule → ℕ → Type 0
 Breaks m name pairs rule at = BreaksDeclarations m name rule at ⊎ (AreDeclarationsFine m name × BreaksRest m pairs rule at)
 
--- the limit is passed, and considered, since no rule on declarations is broken
+-- the limit is passed, by any type of the module or by what the other rules see, and considered, since no rule on declarations is broken
 abbrev pub IsExceeded : ModuleState → Option (List ℕ) → Limit → Type 0
-IsExceeded m name l = AreDeclarationsFine m name × Exceeds m l
+IsExceeded m name l = AreDeclarationsFine m name × (IsPassed m.globals l ⊎ Exceeds m l)
 
 -- the fault has its cause
 abbrev pub IsRight : ModuleState → Option (List ℕ) → List (ℕ × Given) → Fault → Type 0

@@ -5,6 +5,7 @@ ghost use Rattle.spv_words.specs.Breaks.{NoRuleBroken};
 ghost use Rattle.spv_words.specs.declared.rule.Rule.{Rule};
 ghost use Rattle.spv_words.specs.declared.rule.Limit.TheVariants.{Leaves};
 ghost use Rattle.spv_decor.specs.Rows.{word as word_of};
+ghost use Rattle.spv_types.specs.Limits.{AreWithin};
 ghost use Rattle.layout_rules.specs.Blocks.{Broken as BreaksLayout};
 ghost use Rattle.profile_rules.specs.Entry.{chosen, group_size};
 ghost use Rattle.profile_rules.specs.DataRules.{Broken as BreaksDeclaration, data_rules};
@@ -24,6 +25,7 @@ use spec_constants::{Overrides, check_leaves, check_overrides};
 use spv_decor::Decor;
 use spv_index::Locals;
 use spv_module::{Id, Module};
+use spv_types::check_limits;
 use spv_words::Fault;
 use std::alloc::Global;
 
@@ -114,9 +116,10 @@ pub fn check_rest(
 /// of its block variables.
 ///
 /// First come the rules on what it declares, X1 and X2, P5 to P10 and P13 to P20 (SPIR-V 1.6, sections
-/// 2.4 and 3); where none of these is broken, the limits on leaves and on types, and the rules L1 to
-/// L7, M1 to M5, A1 to A5, X3 and X4. A rule is named only where it is broken at that
-/// word, and a limit only where it is passed. The only other error is want of memory.
+/// 2.4 and 3); where none of these is broken, the limits on types (`Limit::Types`, `Limit::Parts`), each
+/// type of the module, used or not, and on leaves, and the rules L1 to L7, M1 to M5, A1 to A5, X3 and X4.
+/// A rule is named only where it is broken at that word, and a limit only where it is passed. The only
+/// other error is want of memory.
 #[tactic(auto, using(crate::proofs::Causes::causes))]
 pub fn check_data(
     alloc: Global,
@@ -126,6 +129,7 @@ pub fn check_data(
 ) -> Result<Profile, Fault>
     requires { decor.now ≡ «module».now.heads }
     ensures declared { OnOk result (NoRuleBroken (BreaksDeclaration «module».now (option_map string_bytes options.now.entry)) data_rules) }
+    ensures types { OnOk result (AreWithin «module».now.globals) }
     ensures within { OnOk result (leaves_of_module «module».now ≤ limit_number Leaves) }
     ensures laid_out { OnOk result ((rule : Rule) (at : ℕ) → BreaksLayout «module».now rule at → ⊥) }
     ensures accessed { OnOk result (NoRuleBroken (BreaksAccess «module».now) access_rules) }
@@ -137,6 +141,7 @@ pub fn check_data(
     ensures refused { IfErr result (IsRight «module».now (option_map string_bytes options.now.entry) options.now.overrides.pairs.items) }
 {
     let Entry { function, size } = check_declarations(alloc, module, decor, options.entry_name())?;
+    check_limits(alloc, module)?;
     let functions = locals_of(alloc, module.functions())?;
     check_uses(
         alloc,

@@ -4,9 +4,19 @@ use Rattle.spv_module.specs.State.{ModuleState}
 use Rattle.profile_rules.specs.declared.given.Given.{Given}
 use Rattle.profile_check.specs.Data.{AreDeclarationsFine, IsRight}
 use Rattle.profile_check.specs.declared.checks.Profile.{Profile}
-use Rattle.profile_check.proofs.Causes.{layout_cause, rest_cause}
+use Rattle.profile_check.proofs.Causes.{types_cause, layout_cause, rest_cause}
 use Rattle.profile_check.proofs.Plans.{laid}
 use Rattle.profile_check.proofs.checks.check_data.Goals as goal
+
+pub returns-in_err-check_limits-clause-refused : goal.returns-in_err-check_limits-clause-refused
+returns-in_err-check_limits-clause-refused c =
+    let m : ModuleState = c.args.module.now in
+    let name : Option (List ℕ) = option_map string_bytes c.args.options.now.entry in
+    let pairs : List (ℕ × Given) = c.args.options.now.overrides.pairs.items in
+    let fine : AreDeclarationsFine m name = subst (AreDeclarationsFine m) c.entry_name.ensures c.in_ok-function.ensures.passes in
+    let is : c.from_residual-in_err-check_limits.result ≡ Err c.in_err-check_limits.field-0.0 = search rules in
+    let P : Result Profile Fault → Type 0 = λ r. IfErr r (IsRight m name pairs) in
+    subst P (sym is) (types_cause m pairs name c.in_err-check_limits.field-0.0 fine c.in_err-check_limits.ensures.passed)
 
 pub returns-in_err-check_uses-clause-refused : goal.returns-in_err-check_uses-clause-refused
 returns-in_err-check_uses-clause-refused c =
