@@ -33,14 +33,14 @@ fn reads_a_module_in_either_byte_order(rt: HostRuntime) -> Result<(), Fail> {
         assert_eq!(rt; (entry.opcode, entry.start), (Op::EntryPoint.number(), 10));
         assert_eq!(rt; words.operand(2, 3), 0x6E69616D);
         let name = words
-            .text(rt.alloc(), 2, 3)
+            .text(2, 3)
             .map(|text| (text.first, text.bytes, text.words));
         assert_eq!(rt; name, Ok((13, 4, 2)));
-        let past_the_end = Fault::Refused(Refusal {
+        let past_the_end = Refusal {
             rule: Rule::W9,
             at: 10,
-        });
-        assert_eq!(rt; words.text(rt.alloc(), 2, 6).err(), Some(past_the_end));
+        };
+        assert_eq!(rt; words.text(2, 6).err(), Some(past_the_end));
     }
     assert_eq!(rt; first_zero(b"main\0"), Some(4));
     Ok(())
