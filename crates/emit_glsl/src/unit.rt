@@ -324,7 +324,7 @@ fn globals_among(
     requires { decor.now ≡ readings.now.of.heads }
     ensures { IfOk result (λ globals. (n : ℕ) → global_in globals n ≡ expr_among readings.now names.now insts.now n) }
 {
-    let mut globals = Globals::new(alloc, end_of(insts), insts.len())?;
+    let mut globals = Globals::new(alloc, end_of(insts), insts.len());
     for inst in insts {
         let id = Id(inst.result);
         let expr = global_of(alloc, readings, decor, names, id)?;
