@@ -1,5 +1,5 @@
 -- The values of constants, one constant after the other.
-use Rattle.std.proofs.Common.{◌≡◌, ◌<◌, ◌≤◌, ◌+◌, ◌==◌, ℕ, Bool, true, false, cond, List, [], ◌∷◌, ◌++◌, refl, ap, sym, ◌∙◌, arith, add-one, append_assoc, take, drop, get_or, length}
+use Rattle.std.proofs.Common.{◌≡◌, ◌<◌, ◌≤◌, ◌+◌, ◌==◌, ℕ, Bool, true, false, cond, List, [], ◌∷◌, ◌++◌, refl, ap, sym, ◌∙◌, arith, add-one, append_assoc, take, drop, get_or, length, map}
 use Rattle.std.specs.Prelude.{Option, Some, None, option_map, option_and_then, fold, slice_get, slice_index}
 use Rattle.std.specs.Option.{option_map_or, option_copied}
 use Rattle.std.specs.Borrow.{Bor}
@@ -9,7 +9,7 @@ use Rattle.std.specs.Ordering.{nat_cmp}
 use Rattle.std.proofs.Math.Seq.{drop-cons}
 use Rattle.std.proofs.lemmas.List.Sums.{fold_more}
 use Rattle.std.proofs.lemmas.List.Folds.{find_at}
-use Rattle.std.proofs.lemmas.List.{take_all, map_push}
+use Rattle.std.proofs.lemmas.List.{take_all, map_push, get_or-map}
 use Rattle.std.proofs.lemmas.Option.{slice_get_within, get_or_from_slice_get}
 use Rattle.spv_words.specs.Limit.{limit_number}
 use Rattle.spv_words.specs.declared.rule.Fault.{Fault}
@@ -26,6 +26,7 @@ use Rattle.spv_types.specs.Types.{depth_at, parts_at, IsAbove, IsRight, type_tre
 use Rattle.spv_types.specs.Limits.{IsPassed, IsPassedBy}
 use Rattle.profile_rules.specs.declared.given.Given.{Given}
 use Rattle.profile_rules.specs.Constants.{with_value, value_step, shaped_value, constant_value, constants, given_to}
+use Rattle.profile_rules.specs.TypeRules.{is_sound}
 use Rattle.spec_constants.specs.Fit.{IsCause as IsFitCause}
 use Rattle.spec_constants.specs.Counted.{IsOver}
 use Rattle.spec_constants.proofs.Counts.{at_is}
@@ -70,37 +71,45 @@ found_more f ids i rs r inside some whole =
     ∙ ap (option_map (λ (rest : List ValueTree). referred rs ++ rest)) (sym (each_at f ids i inside))
     ∙ whole
 
-module _ (gs : List Inst) (chosen : ℕ → Option ℕ) where
+module _ (m : ModuleState) (chosen : ℕ → Option ℕ) where
   abbrev pub so_far : ℕ → ℕ → Option ValueTree
-  so_far i = fold (with_value (value_step gs chosen)) (λ id. None) (take i gs)
+  so_far i = fold (with_value (value_step m chosen)) (λ id. None) (take i m.globals)
 
-  next_value : (i q : ℕ) (g : Inst) → i < length gs → g ≡ get_or gs i g → so_far (i + 1) q ≡ with_value (value_step gs chosen) (so_far i) g q
+  next_value : (i q : ℕ) (g : Inst) → i < length m.globals → g ≡ get_or m.globals i g → so_far (i + 1) q ≡ with_value (value_step m chosen) (so_far i) g q
   next_value i q g inside is =
-      ap (λ f. f q) (fold_more (with_value (value_step gs chosen)) (λ id. None) gs i g inside)
-      ∙ ap (λ x. with_value (value_step gs chosen) (so_far i) x q) (sym is)
+      ap (λ f. f q) (fold_more (with_value (value_step m chosen)) (λ id. None) m.globals i g inside)
+      ∙ ap (λ x. with_value (value_step m chosen) (so_far i) x q) (sym is)
+
+  abbrev value_of_sound : (ℕ → Option ValueTree) → Option ℕ → Inst → Bool → Option ValueTree
+  value_of_sound f word g sound = cond sound (option_and_then (shaped_value f word g) (type_tree m.globals g.ty)) None
+
+  -- whether an instruction is sound, by its place
+  pub sound_at : (marks : List Bool) (i : ℕ) (g : Inst) → marks ≡ map (is_sound m) m.globals → i < length m.globals → g ≡ get_or m.globals i g → get_or marks i false ≡ is_sound m g
+  sound_at marks i g are inside is = ap (λ l. get_or l i false) are ∙ get_or-map (is_sound m) m.globals i g false inside ∙ ap (is_sound m) (sym is)
 
   -- the values so far, with that of one more constant
-  pub value_next : (i q : ℕ) (g : Inst) (word : Option ℕ) (old new : ℕ → Option ValueTree) (o : Option ValueTree) → i < length gs → g ≡ get_or gs i g
+  pub value_next : (i q : ℕ) (g : Inst) (word : Option ℕ) (sound : Bool) (old new : ℕ → Option ValueTree) (o : Option ValueTree) → i < length m.globals → g ≡ get_or m.globals i g
       → ((x : ℕ) → old x ≡ so_far i x)
       → word ≡ chosen g.result
-      → o ≡ option_and_then (shaped_value old word g) (type_tree gs g.ty)
+      → sound ≡ is_sound m g
+      → o ≡ value_of_sound old word g sound
       → new q ≡ put_value old g.result o q
       → new q ≡ so_far (i + 1) q
-  value_next i q g word old new o inside is known given value set =
+  value_next i q g word sound old new o inside is known given judged value set =
       let same : old ≡ so_far i = λ j x. known x j in
       set
-      ∙ ap (λ v. put_value old g.result v q) (value ∙ ap (λ w. option_and_then (shaped_value old w g) (type_tree gs g.ty)) given)
-      ∙ ap (λ f. put_value f g.result (value_step gs chosen f g) q) same
+      ∙ ap (λ v. put_value old g.result v q) (value ∙ (ap (λ w. value_of_sound old w g sound) given ∙ ap (value_of_sound old (chosen g.result) g) judged))
+      ∙ ap (λ f. put_value f g.result (value_step m chosen f g) q) same
       ∙ sym (next_value i q g inside is)
 
-  pub all_values : (i q : ℕ) → length gs ≤ i → so_far i q ≡ constant_value gs chosen q
-  all_values i q past = ap (λ l. fold (with_value (value_step gs chosen)) (λ id. None) l q) (take_all i gs past)
+  pub all_values : (i q : ℕ) → length m.globals ≤ i → so_far i q ≡ constant_value m chosen q
+  all_values i q past = ap (λ l. fold (with_value (value_step m chosen)) (λ id. None) l q) (take_all i m.globals past)
 
 -- the overrides may be looked up in a map
-pub resolved : (m : ModuleState) (pairs : List (ℕ × Given)) (heads : List Inst) (given : ℕ → Option Given) (special : ℕ → Option ℕ) (id : ℕ) → heads ≡ m.heads → ((s : ℕ) → given s ≡ given_to pairs s) → constant_value m.globals (chosen_by heads given special) id ≡ constants m pairs special id
+pub resolved : (m : ModuleState) (pairs : List (ℕ × Given)) (heads : List Inst) (given : ℕ → Option Given) (special : ℕ → Option ℕ) (id : ℕ) → heads ≡ m.heads → ((s : ℕ) → given s ≡ given_to pairs s) → constant_value m (chosen_by heads given special) id ≡ constants m pairs special id
 resolved m pairs heads given special id is same =
-    ap (λ h. constant_value m.globals (chosen_by h given special) id) is
-    ∙ ap (λ g. constant_value m.globals (chosen_by m.heads g special) id) (let all : given ≡ given_to pairs = λ j s. same s j in all)
+    ap (λ h. constant_value m (chosen_by h given special) id) is
+    ∙ ap (λ g. constant_value m (chosen_by m.heads g special) id) (let all : given ≡ given_to pairs = λ j s. same s j in all)
 
 found_any : (p : Inst → Bool) (P : Inst → Type 0) (gs : List Inst) (g : Inst) → find p gs ≡ Some g → P g → Any P gs
 found_any p P gs g found holds =

@@ -1,5 +1,5 @@
 // The values of all constants of a module.
-ghost use Rattle.std.specs.Prelude.{◌≡◌, ◌≤◌, ℕ, IfOk, IfErr, OnOk, false, drop, option_map, option_and_then};
+ghost use Rattle.std.specs.Prelude.{◌≡◌, ◌≤◌, ℕ, IfOk, IfErr, OnOk, false, None, drop, map, slice_index_or, option_map, option_and_then, if◌then◌else◌};
 ghost use Rattle.std.specs.BTreeMap.{get};
 ghost use Rattle.std.specs.Ordering.{nat_cmp};
 ghost use Rattle.spv_words.specs.Limit.{limit_number};
@@ -7,6 +7,7 @@ ghost use Rattle.spv_words.specs.declared.rule.Limit.TheVariants.{Leaves};
 ghost use Rattle.spv_types.specs.View.{tree_of, value_of};
 ghost use Rattle.spv_types.specs.Types.{type_tree, IsRight};
 ghost use Rattle.spv_types.specs.Limits.{AreWithin, IsPassedBy};
+ghost use Rattle.profile_rules.specs.TypeRules.{is_sound};
 ghost use Rattle.profile_rules.specs.Leaves.{leaves_of_module};
 ghost use Rattle.profile_rules.specs.Constants.{constant_kind as constant_kind_of, chosen_truth as chosen_truth_of, shaped_value as shaped_value_of, constant_value, constants, breaks_x3, breaks_x4};
 ghost use Rattle.constant_values.specs.Held.{value_among, value_in, put_value, chosen_by};
@@ -25,6 +26,7 @@ use spv_words::{Fault, Memory};
 use std::alloc::Global;
 use std::collections::BTreeMap;
 use std::marker::Model;
+use type_rules::sound_globals;
 
 /// A specialization: the word that each SpecId is given (SPIR-V 1.6, section 2.12).
 pub type Special = BTreeMap<u32, u32>;
@@ -50,7 +52,7 @@ impl Model for Constants {
 
 impl Constants {
     /// The value of the constant with this id: `None` exactly where the id is no constant, or its
-    /// value is undefined.
+    /// value is undefined, or it breaks a rule on types.
     pub fn get(&self, id: Id) -> Option<&Value>
         ensures { option_map (λ v. value_of v.now) result ≡ value_among self.now id.0 }
     {
@@ -154,6 +156,31 @@ fn value_of_constant(
     }
 }
 
+/// The same, where the constant breaks no rule on types; else there is none.
+fn value_if_sound(
+    alloc: Global,
+    module: &Module,
+    values: &Values,
+    chosen: Option<u32>,
+    inst: &Inst,
+    is_sound: bool,
+) -> Result<Option<Value>, Fault>
+    ensures value { IfOk result (λ v. option_map value_of v ≡ (if is_sound then option_and_then (shaped_value_of (value_in values.now) chosen inst.now) (type_tree «module».now.globals inst.now.ty) else None)) }
+    ensures refused { IfErr result (IsRight «module».now.globals inst.now.ty) }
+{
+    if is_sound {
+        value_of_constant(alloc, module, values, chosen, inst)
+    } else {
+        Ok(None)
+    }
+}
+
+fn is_marked(marks: &[bool], k: usize) -> bool
+    ensures { result ≡ slice_index_or marks.now k false }
+{
+    marks.get(k).copied().unwrap_or(false)
+}
+
 fn forget(_: Option<Value>) {}
 
 fn insert(values: &mut Values, id: u32, value: Value) -> Result<(), Memory>
@@ -179,16 +206,19 @@ fn evaluated(
     alloc: Global,
     module: &Module,
     decor: &Decor,
+    sound: &[bool],
     given: &BTreeMap<u32, Given>,
     special: &Special,
 ) -> Result<Values, Fault>
-    ensures values { IfOk result (λ values. (id : ℕ) → value_in values id ≡ constant_value «module».now.globals (chosen_by decor.now (get nat_cmp given.now) (get nat_cmp special.now)) id) }
+    requires { sound.now ≡ map (is_sound «module».now) «module».now.globals }
+    ensures values { IfOk result (λ values. (id : ℕ) → value_in values id ≡ constant_value «module».now (chosen_by decor.now (get nat_cmp given.now) (get nat_cmp special.now)) id) }
     ensures refused { IfErr result (IsPassedBy «module».now.globals) }
 {
     let mut values = BTreeMap::new(alloc);
-    for inst in module.globals() {
+    for (k, inst) in module.globals().iter().enumerate() {
         let chosen = chosen_word(decor, given, special, inst.result);
-        let value = value_of_constant(alloc, module, &values, chosen, inst)?;
+        let is_sound = is_marked(sound, k);
+        let value = value_if_sound(alloc, module, &values, chosen, inst, is_sound)?;
         put(&mut values, inst.result, value)?;
     }
     Ok(values)
@@ -197,7 +227,8 @@ fn evaluated(
 /// The values of all constants of a module, where overrides and a specialization give words to
 /// specialization constants: a constant that has a SpecId takes its override's word, or else the
 /// specialization's, or else its default; a truth value is true where the word is not 0. The others
-/// follow by their operations (SPIR-V 1.6, "Constant-Creation Instructions").
+/// follow by their operations (SPIR-V 1.6, "Constant-Creation Instructions"). A constant that breaks a
+/// rule on types has no value.
 ///
 /// Refused by X3 and X4 at word 0 where an override breaks them. There is a limit exactly where the
 /// module is above it: a type is too deep or has too many parts (`Limit::Types`, `Limit::Parts`), or
@@ -221,6 +252,7 @@ pub fn resolve(
     check_limits(alloc, module)?;
     check_leaves(alloc, module)?;
     let given = givens(alloc, pairs)?;
-    let values = evaluated(alloc, module, decor, &given, special)?;
+    let sound = sound_globals(alloc, module)?;
+    let values = evaluated(alloc, module, decor, &sound, &given, special)?;
     Ok(Constants { values })
 }

@@ -33,6 +33,16 @@ by_right xs ys Memory h = h
 pub none_of_both : (xs ys : List Refusal) → xs ≡ [] → ys ≡ [] → xs ++ ys ≡ []
 none_of_both xs ys h k = ap (λ l. l ++ ys) h ∙ k
 
+-- a list with a refusal is not empty
+pub sound_none : (rs : List Refusal) → rs ≡ [] → true ≡ (length rs == 0)
+sound_none rs none = sym (ap (λ (l : List Refusal). length l == 0) none)
+
+pub sound_some : (rs : List Refusal) (r : Refusal) → Contains rs r → false ≡ (length rs == 0)
+sound_some [] r h = absurd (omega (arith, h.1))
+sound_some (x ∷ rs) r h = refl
+
+pub ruleset sound_rules = (sound_none, sound_some)
+
 pub ruleset list_rules = (by_left, by_right, none_of_both)
 
 -- a list's parts one by one

@@ -1,10 +1,10 @@
 // The instructions and functions of a module, one by one.
-ghost use Rattle.std.specs.Prelude.{◌≡◌, [], true, IfOk, IfErr, OnOk, flat_map, is_some};
+ghost use Rattle.std.specs.Prelude.{◌≡◌, [], true, IfOk, IfErr, OnOk, flat_map, map, is_some};
 ghost use Rattle.spv_index.specs.Locals.{block_in};
 ghost use Rattle.std.specs.List.{list_any};
 ghost use Rattle.spv_words.specs.Breaks.{NoRuleBroken};
 ghost use Rattle.profile_rules.specs.Operands.{lacks_type, breaks_t1_of};
-ghost use Rattle.profile_rules.specs.TypeRules.{Broken, type_rules, is_broken_outside as is_at_fault_outside, is_broken_in as is_at_fault_in, broken_if, broken_as, broken_inside, broken_by_global, broken_by_local, broken_by_block, broken_by_function, broken, AreWithin, IsRefusedBy, IsRight, inner as inner_of};
+ghost use Rattle.profile_rules.specs.TypeRules.{Broken, type_rules, is_broken_outside as is_at_fault_outside, is_broken_in as is_at_fault_in, broken_if, broken_as, broken_inside, broken_by_global, broken_by_local, broken_by_block, broken_by_function, broken, is_sound, AreWithin, IsRefusedBy, IsRight, inner as inner_of};
 ghost use Rattle.type_rules.specs.Scopes.{outside, inside};
 
 use crate::dispatch::{is_flow_broken, is_number_broken, is_value_broken, rule_of};
@@ -116,6 +116,52 @@ fn check_global(
     refuse_if(is_lacking(scope, inst), Rule::T1, inst.at)?;
     check_as(matching, scope, inst, inst.op)?;
     check_inside(alloc, matching, scope, inst)
+}
+
+/// Whether an instruction outside functions breaks no rule on types.
+#[tactic(auto, using(crate::proofs::Refused::sound_rules))]
+fn is_global_sound(
+    alloc: Global,
+    matching: &mut Matching,
+    scope: &Scope,
+    inst: &Inst,
+) -> Result<bool, Memory>
+    requires same_module { matching.old ≡ scope.now.m }
+    requires scope { scope.now ≡ outside scope.now.m }
+    ensures value { IfOk result (λ sound. sound ≡ is_sound scope.now.m inst.now) }
+    ensures same { matching.new ≡ matching.old }
+{
+    match check_global(alloc, matching, scope, inst) {
+        Ok(()) => Ok(true),
+        Err(Fault::Refused(_)) => Ok(false),
+        Err(Fault::Limit(_) | Fault::Memory) => Err(Memory),
+    }
+}
+
+/// Which instructions outside functions break no rule on types, with what is looked up.
+fn sound_among<'a>(
+    alloc: Global,
+    index: &'a ModuleIndex<'a>,
+    globals: &[Inst],
+) -> Result<Vec<bool>, Memory>
+    ensures { IfOk result (λ sound. sound.items ≡ map (is_sound index.now) globals.now) }
+{
+    let mut matching = Matching::of(alloc, index);
+    let scope = Scope::outside(index);
+    let mut sound = Vec::with_capacity(alloc, globals.len())?;
+    for inst in globals {
+        sound.push(is_global_sound(alloc, &mut matching, &scope, inst)?)?;
+    }
+    Ok(sound)
+}
+
+/// Which instructions outside functions break no rule on types, T1 to T25 (SPIR-V 1.6, the section
+/// "Instructions"), in the order of the module. There is an error only for want of memory.
+pub fn sound_globals(alloc: Global, module: &Module) -> Result<Vec<bool>, Memory>
+    ensures { IfOk result (λ sound. sound.items ≡ map (is_sound «module».now) «module».now.globals) }
+{
+    let index = ModuleIndex::of(alloc, module)?;
+    sound_among(alloc, &index, module.globals())
 }
 
 /// Checks the instructions outside functions.

@@ -18,4 +18,4 @@ mod scope;
 mod select;
 mod vectors;
 
-pub use check::check_types;
+pub use check::{check_types, sound_globals};

@@ -1,17 +1,19 @@
-use Rattle.std.proofs.Common.{◌≡◌, ◌∙◌, ap, arith, rules}
+use Rattle.std.proofs.Common.{◌≡◌, ◌∙◌, ap, arith, get_or, rules}
 use Rattle.std.specs.Prelude.{option_map, option_and_then}
 use Rattle.std.specs.BTreeMap.{get}
 use Rattle.std.specs.Ordering.{nat_cmp}
-use Rattle.spv_types.specs.Types.{type_tree}
+use Rattle.spv_module.specs.State.{ModuleState}
 use Rattle.spv_types.specs.View.{value_of}
-use Rattle.profile_rules.specs.Constants.{shaped_value}
+use Rattle.profile_rules.specs.TypeRules.{is_sound}
 use Rattle.constant_values.specs.Held.{value_in, chosen_by}
-use Rattle.constant_values.proofs.Evaluation.{value_next}
+use Rattle.constant_values.proofs.Evaluation.{value_next, sound_at}
 use Rattle.constant_values.proofs.evaluate.evaluated.Goals as goal
 
-pub loop-inst-preserved : goal.loop-inst-preserved
-loop-inst-preserved c =
-    let globals : c.args.«module».now.globals ≡ c.globals-inst-items.result.now = search rules in
-    let value : option_map value_of c.in_ok-value.value ≡ option_and_then (shaped_value (value_in c.loop-inst.values) c.chosen_word-chosen.result c.inst-item.result) (type_tree c.globals-inst-items.result.now c.inst-item.result.ty) =
-    c.in_ok-value.ensures.value ∙ ap (λ gs. option_and_then (shaped_value (value_in c.loop-inst.values) c.chosen_word-chosen.result c.inst-item.result) (type_tree gs c.inst-item.result.ty)) globals in
-    λ q. value_next c.globals-inst-items.result.now (chosen_by c.args.decor.now (get nat_cmp c.args.given.now) (get nat_cmp c.args.special.now)) c.loop-inst.inst-index q c.inst-item.result c.chosen_word-chosen.result (value_in c.loop-inst.values) (value_in c.put.new.values) (option_map value_of c.in_ok-value.value) (omega arith) c.inst-item.is c.loop-inst.invariant c.chosen_word-chosen.ensures value (c.in_ok-put.ensures q)
+pub loop-k-preserved : goal.loop-k-preserved
+loop-k-preserved c =
+    let m : ModuleState = c.args.«module».now in
+    let given = chosen_by c.args.decor.now (get nat_cmp c.args.given.now) (get nat_cmp c.args.special.now) in
+    let g = c.index-globals-k.result in
+    let own : g ≡ get_or m.globals c.loop-k.k g = search rules in
+    let judged : c.is_marked-is_sound.result ≡ is_sound m g = c.is_marked-is_sound.ensures ∙ sound_at m given c.args.sound.now c.loop-k.k g c.requires (omega arith) own in
+    λ q. value_next m given c.loop-k.k q g c.chosen_word-chosen.result c.is_marked-is_sound.result (value_in c.loop-k.values) (value_in c.put.new.values) (option_map value_of c.in_ok-value.value) (omega arith) own c.loop-k.invariant c.chosen_word-chosen.ensures judged c.in_ok-value.ensures.value (c.in_ok-put.ensures q)
