@@ -1,5 +1,5 @@
 -- The tokens of the text of an expression.
-use Rattle.std.proofs.Common.{◌≡◌, ℕ, zero, suc, ◌+◌, ◌<◌, ◌^◌, true, false, List, [], ◌∷◌, ◌++◌, length, refl, sym, subst, arith, append_assoc}
+use Rattle.std.proofs.Common.{◌≡◌, ℕ, zero, suc, ◌+◌, ◌<◌, ◌^◌, Bool, true, false, List, [], ◌∷◌, ◌++◌, length, refl, sym, subst, arith, append_assoc}
 use Rattle.std.specs.Prelude.{codes}
 use Rattle.std.specs.Fmt.{decimal}
 use Rattle.std.proofs.lemmas.Fmt.{decimal_nonempty, decimal_digit}
@@ -9,9 +9,10 @@ use Rattle.glsl_ast.specs.declared.expressions.Literal.{Literal}
 use Rattle.glsl_ast.specs.declared.expressions.Literal.TheVariants as literal
 use Rattle.glsl_grammar.specs.declared.marks.Mark.TheVariants as mark
 use Rattle.glsl_grammar.specs.Marks.{mark_text}
-use Rattle.glsl_grammar.specs.Token.{Token, word, number, truth, basic, put_extent, put_extents, base_token, put_type, literal_token, put_expr, put_args, put_more_args}
+use Rattle.glsl_grammar.specs.Token.{Token, word, number, truth, basic, put_extent, put_extents, base_token, put_type, literal_token, put_placed, put_expr, put_args, put_more_args}
 use Rattle.glsl_grammar.specs.Lex.{is_digit, is_word, name_token, classify}
-use Rattle.glsl_grammar.specs.Layout.{extent_text, extents_text, base_text, type_text, literal_text, expr_text, args_text, more_args_text}
+use Rattle.glsl_grammar.specs.Layout.{extent_text, extents_text, base_text, type_text, literal_text, op_mark, placed_text, expr_text, operand_text, args_text, more_args_text}
+use Rattle.glsl_grammar.specs.Levels.{op_level, right_level, unary_level, condition_level, is_bare}
 use Rattle.glsl_grammar.specs.Spelled.{AreWordBytes, IsName, IsVectorSize, IsSpelledExtent, AreSpelledExtents, IsSpelledBase, IsSpelledType, IsSpelledLiteral, IsSpelledExpr, AreSpelledExprs}
 use Rattle.glsl_grammar.proofs.Words.{IsBoundary, lex_word_bytes, lex_name, name_is_long, lex_decimal, lex_suffixed, decimal_bytes}
 use Rattle.glsl_grammar.proofs.Hexadecimal.{lex_hex}
@@ -123,6 +124,11 @@ literal_opens (literal.Hex n) h = record { by = λ s. refl }
 literal_opens (literal.Truth true) h = record { by = λ s. refl }
 literal_opens (literal.Truth false) h = record { by = λ s. refl }
 
+placed_opens : (b : Bool) (w : Text) → Opens w → Opens (placed_text b w)
+unfolding mark_text
+placed_opens true w h = h
+placed_opens false w h = record { by = λ s. refl }
+
 expr_opens : (e : Expr) → IsSpelledExpr e → Opens (expr_text e)
 unfolding mark_text
 expr_opens (tree.Expr.literal l) h = literal_opens l h
@@ -131,11 +137,15 @@ expr_opens (tree.Expr.build t args) h = opens_on (mark_text mark.Open ++ args_te
 expr_opens (tree.Expr.call w args) h = opens_on (mark_text mark.Open ++ args_text args) (name_opens w h.0)
 expr_opens (tree.Expr.not e) h = record { by = λ s. refl }
 expr_opens (tree.Expr.flip e) h = record { by = λ s. refl }
-expr_opens (tree.Expr.binary o a b) h = record { by = λ s. refl }
-expr_opens (tree.Expr.choose c a b) h = record { by = λ s. refl }
-expr_opens (tree.Expr.member e w) h = opens_on (mark_text mark.Dot ++ w) (expr_opens e h.0)
-expr_opens (tree.Expr.index a b) h = opens_on (mark_text mark.BracketOpen ++ (expr_text b ++ mark_text mark.BracketClose)) (expr_opens a h.0)
-expr_opens (tree.Expr.length_of e) h = opens_on (mark_text mark.Length) (expr_opens e h)
+expr_opens (tree.Expr.binary o a b) h = opens_on (mark_text (op_mark o) ++ operand_text (right_level o) b) (placed_opens (is_bare (op_level o) a) (expr_text a) (expr_opens a h.0))
+expr_opens (tree.Expr.choose c a b) h = opens_on (mark_text mark.Question ++ (expr_text a ++ (mark_text mark.Otherwise ++ expr_text b))) (placed_opens (is_bare condition_level c) (expr_text c) (expr_opens c h.0))
+expr_opens (tree.Expr.member e w) h = opens_on (mark_text mark.Dot ++ w) (placed_opens (is_bare 0 e) (expr_text e) (expr_opens e h.0))
+expr_opens (tree.Expr.index a b) h = opens_on (mark_text mark.BracketOpen ++ (expr_text b ++ mark_text mark.BracketClose)) (placed_opens (is_bare 0 a) (expr_text a) (expr_opens a h.0))
+expr_opens (tree.Expr.length_of e) h = opens_on (mark_text mark.Length) (placed_opens (is_bare 0 e) (expr_text e) (expr_opens e h))
+
+placed_piece : (b : Bool) {w : Text} {f : List Token → List Token} → Lexes IsBoundary w f → Lexes IsBoundary (placed_text b w) (put_placed b f)
+placed_piece true h = h
+placed_piece false h = weaker (both open_cut.lexes (ends h close_cut))
 
 mutual
   pub expr_piece : (e : Expr) → IsSpelledExpr e → Lexes IsBoundary (expr_text e) (put_expr e)
@@ -143,13 +153,13 @@ mutual
   expr_piece (tree.Expr.name w) h = name_piece w h
   expr_piece (tree.Expr.build t args) h = weaker (ends (type_piece t h.0) (cut_on open_cut (args_piece args h.1)))
   expr_piece (tree.Expr.call w args) h = weaker (ends (name_piece w h.0) (cut_on open_cut (args_piece args h.1)))
-  expr_piece (tree.Expr.not e) h = unless not_piece (opens_on (mark_text mark.Close) (expr_opens e h)) (weaker (ends (expr_piece e h) close_cut))
-  expr_piece (tree.Expr.flip e) h = weaker (both flip_piece (ends (expr_piece e h) close_cut))
-  expr_piece (tree.Expr.binary o a b) h = weaker (both open_cut.lexes (cut (expr_piece a h.0) (op_cut o) (ends (expr_piece b h.1) close_cut)))
-  expr_piece (tree.Expr.choose c a b) h = weaker (both open_cut.lexes (cut (expr_piece c h.0) question_cut (cut (expr_piece a h.1.0) otherwise_cut (ends (expr_piece b h.1.1) close_cut))))
-  expr_piece (tree.Expr.member e w) h = cut (expr_piece e h.0) dot_cut (name_piece w h.1)
-  expr_piece (tree.Expr.index a b) h = weaker (ends (expr_piece a h.0) (cut_on bracket_open_cut (ends (expr_piece b h.1) bracket_close_cut)))
-  expr_piece (tree.Expr.length_of e) h = weaker (ends (expr_piece e h) length_cut)
+  expr_piece (tree.Expr.not e) h = unless not_piece (placed_opens (is_bare unary_level e) (expr_text e) (expr_opens e h)) (placed_piece (is_bare unary_level e) (expr_piece e h))
+  expr_piece (tree.Expr.flip e) h = both flip_piece (placed_piece (is_bare unary_level e) (expr_piece e h))
+  expr_piece (tree.Expr.binary o a b) h = cut (placed_piece (is_bare (op_level o) a) (expr_piece a h.0)) (op_cut o) (placed_piece (is_bare (right_level o) b) (expr_piece b h.1))
+  expr_piece (tree.Expr.choose c a b) h = cut (placed_piece (is_bare condition_level c) (expr_piece c h.0)) question_cut (cut (expr_piece a h.1.0) otherwise_cut (expr_piece b h.1.1))
+  expr_piece (tree.Expr.member e w) h = cut (placed_piece (is_bare 0 e) (expr_piece e h.0)) dot_cut (name_piece w h.1)
+  expr_piece (tree.Expr.index a b) h = weaker (ends (placed_piece (is_bare 0 a) (expr_piece a h.0)) (cut_on bracket_open_cut (ends (expr_piece b h.1) bracket_close_cut)))
+  expr_piece (tree.Expr.length_of e) h = weaker (ends (placed_piece (is_bare 0 e) (expr_piece e h)) length_cut)
 
   -- arguments, and the closing parenthesis
   pub args_piece : (es : Exprs) → AreSpelledExprs es → Lexes Anything (args_text es) (put_args es)

@@ -13,3 +13,4 @@ pub mod ReadItems
 pub mod ReadBack
 pub mod ReadsBack
 pub mod ReadingExample
+pub mod PrecedenceExamples

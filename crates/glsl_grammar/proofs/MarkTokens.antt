@@ -174,9 +174,9 @@ pub return_void_piece : Lexes Anything (mark_text mark.ReturnVoid) (λ ts. retur
 unfolding opened
 return_void_piece = closed (λ s. refl)
 
-pub flip_piece : Lexes Anything (mark_text mark.Flip) (λ ts. left_paren ∷ flip_sign ∷ ts)
+pub flip_piece : Lexes Anything (mark_text mark.Flip) (λ ts. flip_sign ∷ ts)
 unfolding opened
-flip_piece = closed (λ s. ap (λ l. left_paren ∷ l) (flip_sign_ends s))
+flip_piece = closed flip_sign_ends
 
 pub sizes_end_cut : IsCut (mark_text mark.SizesEnd) (λ ts. right_paren ∷ in_ ∷ semicolon ∷ ts)
 unfolding opened
@@ -267,9 +267,9 @@ unfolding opened
 not_sign_ends [] h = refl
 not_sign_ends (d ∷ s) h = rw (h, lex_on, lengthens, is_sign) refl
 
-pub not_piece : Lexes IsUnequal (mark_text mark.Not) (λ ts. left_paren ∷ not_sign ∷ ts)
+pub not_piece : Lexes IsUnequal (mark_text mark.Not) (λ ts. not_sign ∷ ts)
 unfolding opened
-not_piece = record { by = λ s h. ap (λ l. left_paren ∷ l) (not_sign_ends s h) }
+not_piece = record { by = not_sign_ends }
 
 pub op_cut : (o : BinOp) → IsCut (mark_text (op_mark o)) (λ ts. operator o ∷ ts)
 unfolding opened

@@ -46,7 +46,7 @@ result_back : (names : List Text) (o : Option Expr) → IsDeclaredValue names o 
 result_back names None d n ts le = refl
 result_back names (Some e) d n ts le =
     let P : List Token → Type 0 = λ l. read_result names n l ≡ (read_expr names n >>= (λ v. see_semicolon >> pure (Some v))) l in
-    first_of_expr P (λ k r. refl) (λ k r. refl) (λ k r. refl) (λ b r. refl) (λ b r. refl) (λ w r. refl) (λ r. refl) e (semicolon ∷ ts)
+    first_of_expr P (λ k r. refl) (λ k r. refl) (λ k r. refl) (λ b r. refl) (λ b r. refl) (λ w r. refl) (λ r. refl) (λ r. refl) (λ r. refl) e (semicolon ∷ ts)
     ∙ expr_then names e d n semicolon ts _ _ refl le refl
 
 -- labels

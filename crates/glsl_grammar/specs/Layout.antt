@@ -1,4 +1,5 @@
--- How a tree is laid out as text: four spaces a level, `{` at the end of its line, one blank round each binary operator.
+-- How a tree is laid out as text: four spaces a level, `{` at the end of its line, one blank round each binary operator, and
+-- parentheses only where the tree needs them.
 use Rattle.std.specs.Prelude.{ℕ, zero, suc, ◌+◌, ◌/◌, ◌%◌, ◌^◌, ◌==◌, nat_lt, if◌then◌else◌, Bool, true, false, List, [], ◌∷◌, ◌++◌, Option, Some, None}
 use Rattle.std.specs.Fmt.{decimal}
 use Rattle.glsl_ast.specs.Tree as tree
@@ -19,6 +20,7 @@ use Rattle.glsl_ast.specs.declared.items.Qual.TheVariants as qual
 use Rattle.glsl_grammar.specs.declared.marks.Mark.{Mark}
 use Rattle.glsl_grammar.specs.declared.marks.Mark.TheVariants as mark
 use Rattle.glsl_grammar.specs.Marks.{mark_text}
+use Rattle.glsl_grammar.specs.Levels.{op_level, right_level, unary_level, condition_level, is_bare}
 
 -- an upper-case hexadecimal digit
 abbrev pub hex_digit : ℕ → ℕ
@@ -90,19 +92,24 @@ op_mark op.NotEqual = mark.NotEqual
 op_mark op.Both = mark.Both
 op_mark op.Either = mark.Either
 
+-- a text that stands bare, or in parentheses
+abbrev pub placed_text : Bool → Text → Text
+placed_text true w = w
+placed_text false w = mark_text mark.Open ++ (w ++ mark_text mark.Close)
+
 abbrev mutual
   pub expr_text : Expr → Text
   expr_text (tree.Expr.literal l) = literal_text l
   expr_text (tree.Expr.name w) = w
   expr_text (tree.Expr.build t args) = type_text t ++ (mark_text mark.Open ++ args_text args)
   expr_text (tree.Expr.call w args) = w ++ (mark_text mark.Open ++ args_text args)
-  expr_text (tree.Expr.not e) = mark_text mark.Not ++ (expr_text e ++ mark_text mark.Close)
-  expr_text (tree.Expr.flip e) = mark_text mark.Flip ++ (expr_text e ++ mark_text mark.Close)
-  expr_text (tree.Expr.binary o a b) = mark_text mark.Open ++ (expr_text a ++ (mark_text (op_mark o) ++ (expr_text b ++ mark_text mark.Close)))
-  expr_text (tree.Expr.choose c a b) = mark_text mark.Open ++ (expr_text c ++ (mark_text mark.Question ++ (expr_text a ++ (mark_text mark.Otherwise ++ (expr_text b ++ mark_text mark.Close)))))
-  expr_text (tree.Expr.member e w) = expr_text e ++ (mark_text mark.Dot ++ w)
-  expr_text (tree.Expr.index a b) = expr_text a ++ (mark_text mark.BracketOpen ++ (expr_text b ++ mark_text mark.BracketClose))
-  expr_text (tree.Expr.length_of e) = expr_text e ++ mark_text mark.Length
+  expr_text (tree.Expr.not e) = mark_text mark.Not ++ placed_text (is_bare unary_level e) (expr_text e)
+  expr_text (tree.Expr.flip e) = mark_text mark.Flip ++ placed_text (is_bare unary_level e) (expr_text e)
+  expr_text (tree.Expr.binary o a b) = placed_text (is_bare (op_level o) a) (expr_text a) ++ (mark_text (op_mark o) ++ placed_text (is_bare (right_level o) b) (expr_text b))
+  expr_text (tree.Expr.choose c a b) = placed_text (is_bare condition_level c) (expr_text c) ++ (mark_text mark.Question ++ (expr_text a ++ (mark_text mark.Otherwise ++ expr_text b)))
+  expr_text (tree.Expr.member e w) = placed_text (is_bare 0 e) (expr_text e) ++ (mark_text mark.Dot ++ w)
+  expr_text (tree.Expr.index a b) = placed_text (is_bare 0 a) (expr_text a) ++ (mark_text mark.BracketOpen ++ (expr_text b ++ mark_text mark.BracketClose))
+  expr_text (tree.Expr.length_of e) = placed_text (is_bare 0 e) (expr_text e) ++ mark_text mark.Length
 
   -- arguments, and the closing parenthesis
   pub args_text : Exprs → Text
@@ -112,6 +119,10 @@ abbrev mutual
   pub more_args_text : Exprs → Text
   more_args_text no_exprs = mark_text mark.Close
   more_args_text (tree.Exprs.expr e es) = mark_text mark.Comma ++ (expr_text e ++ more_args_text es)
+
+-- an expression where those up to a level stand bare
+abbrev pub operand_text : ℕ → Expr → Text
+operand_text loosest e = placed_text (is_bare loosest e) (expr_text e)
 
 abbrev pub steps_text : List LStep → Text
 steps_text [] = []

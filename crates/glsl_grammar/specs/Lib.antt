@@ -1,4 +1,5 @@
 pub mod Marks
+pub mod Levels
 pub mod Token
 pub mod Lex
 pub mod Parsers

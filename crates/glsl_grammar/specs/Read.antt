@@ -1,6 +1,6 @@
 -- How a tree is read from tokens: one definition for each production of the grammar, with the production above it.
 -- A number bounds the turns of a recursion; the count of the tokens is always enough. `names` are those of the structs declared before.
-use Rattle.std.specs.Prelude.{ℕ, zero, suc, Bool, true, false, List, [], ◌∷◌, length, Option, Some, None, option_map, codes, bytes_eq, find}
+use Rattle.std.specs.Prelude.{ℕ, zero, suc, Bool, true, false, ◌==◌, List, [], ◌∷◌, length, Option, Some, None, option_map, codes, bytes_eq, find}
 use Rattle.std.specs.List.{list_any}
 use Rattle.glsl_ast.specs.Tree as tree
 use Rattle.glsl_ast.specs.Tree.{Text, TypeName, type_name, Extent, Base, Expr, exprs_in, LStep, lvalue, Stmt, Stmts, stmts_in, Arms, Arm, group, arms_in, Field, field, Member, Param, param, Decl, TranslationUnit, translation_unit}
@@ -15,6 +15,7 @@ use Rattle.glsl_ast.specs.declared.items.BlockRules.{BlockRules}
 use Rattle.glsl_ast.specs.declared.items.BlockRules.TheVariants.{Std430, Std140}
 use Rattle.glsl_ast.specs.declared.items.Qual.{Qual}
 use Rattle.glsl_grammar.specs.Token.{Token, word, number, unsigned, hexadecimal, truth, basic, qualifier, operator, struct_, layout_, const_, shared_, void_, inout_, if_, else_, for_, switch_, case_, default_, break_, continue_, return_, length_, buffer_, uniform_, left_paren, right_paren, left_brace, left_bracket, right_bracket, semicolon, dot, equals, not_sign, flip_sign, question, size_word}
+use Rattle.glsl_grammar.specs.Levels.{op_level, unary_level, condition_level, any_level}
 use Rattle.glsl_grammar.specs.Parsers.{Parse, ◌>>=◌, ◌>>◌, pure, open_paren, close_paren, open_brace, close_bracket, see_semicolon, see_comma, see_colon, see_equals, see_layout, see_in, see_const, read_number, read_name, see_word, one_and, until_brace, some_until_brace, some_until_paren, any_until_paren}
 
 -- a struct of the names has the word
@@ -77,25 +78,6 @@ abbrev pub read_named : Parse Expr → ℕ → Text → Parse Expr
 read_named inner n w (left_paren ∷ ts) = (do args ← any_until_paren inner n; pure (tree.Expr.call w (exprs_in args))) ts
 read_named inner n w ts = Some (tree.name w, ts)
 
--- op expr ")" | "?" expr ":" expr ")"
-abbrev pub read_operation : Parse Expr → Expr → Parse Expr
-read_operation inner a (operator op ∷ ts) = (do b ← inner; close_paren; pure (tree.binary op a b)) ts
-read_operation inner c (question ∷ ts) = (do a ← inner; see_colon; b ← inner; close_paren; pure (tree.choose c a b)) ts
-read_operation inner _ _ = None
-
--- ("!" | "~") expr ")" | expr op expr ")" | expr "?" expr ":" expr ")"
-abbrev pub read_inside : Parse Expr → Parse Expr
-read_inside inner (not_sign ∷ ts) = (do e ← inner; close_paren; pure (tree.not e)) ts
-read_inside inner (flip_sign ∷ ts) = (do e ← inner; close_paren; pure (tree.flip e)) ts
-read_inside inner ts = (do a ← inner; read_operation inner a) ts
-
--- prim = literal | name | type "(" args ")" | name "(" args ")" | "(" ("!" | "~") expr ")" | "(" expr op expr ")" | "(" expr "?" expr ":" expr ")"
-abbrev pub read_prim : List Text → Parse Expr → ℕ → Parse Expr
-read_prim names inner n (basic b ∷ ts) = read_build names inner n (basic b ∷ ts)
-read_prim names inner n (word w ∷ ts) = elim (is_declared names w) [ true ↦ read_build names inner n (word w ∷ ts) | false ↦ read_named inner n w ts ]
-read_prim names inner n (left_paren ∷ ts) = read_inside inner ts
-read_prim names inner n ts = (do l ← read_literal; pure (tree.literal l)) ts
-
 -- name | "length" "(" ")"
 abbrev pub read_part : Expr → Parse Expr
 read_part e (word w ∷ ts) = Some (tree.Expr.member e w, ts)
@@ -109,10 +91,63 @@ read_suffixes inner (suc n) e (dot ∷ ts) = (do a ← read_part e; read_suffixe
 read_suffixes inner (suc n) e (left_bracket ∷ ts) = (do i ← inner; close_bracket; read_suffixes inner n (tree.Expr.index e i)) ts
 read_suffixes inner (suc n) e ts = Some (e, ts)
 
--- expr = prim ("." name | "[" expr "]" | "." "length" "(" ")")*
+-- prim = literal | name | type "(" args ")" | name "(" args ")" | "(" expr ")"
+abbrev pub read_prim : List Text → Parse Expr → ℕ → Parse Expr
+read_prim names inner n (basic b ∷ ts) = read_build names inner n (basic b ∷ ts)
+read_prim names inner n (word w ∷ ts) = elim (is_declared names w) [ true ↦ read_build names inner n (word w ∷ ts) | false ↦ read_named inner n w ts ]
+read_prim names inner n (left_paren ∷ ts) = (do e ← inner; close_paren; pure e) ts
+read_prim names inner n ts = (do l ← read_literal; pure (tree.literal l)) ts
+
+-- post = prim ("." name | "[" expr "]" | "." "length" "(" ")")*
+abbrev pub read_post : List Text → Parse Expr → ℕ → Parse Expr
+read_post names inner n = do
+  e ← read_prim names inner n
+  read_suffixes inner n e
+
+-- unary = ("!" | "~") unary | post, where `inner` reads an expression of a level
+abbrev pub read_unary : List Text → (ℕ → Parse Expr) → ℕ → Parse Expr
+read_unary names inner n (not_sign ∷ ts) = (do e ← inner unary_level; pure (tree.not e)) ts
+read_unary names inner n (flip_sign ∷ ts) = (do e ← inner unary_level; pure (tree.flip e)) ts
+read_unary names inner n ts = read_post names (inner any_level) n ts
+
+-- (op part)*, where the operators are those of a level
+abbrev pub read_chain : Parse Expr → ℕ → ℕ → Expr → Parse Expr
+read_chain part level zero a ts = Some (a, ts)
+read_chain part level (suc n) a (operator op ∷ ts) = elim (op_level op == level) [ true ↦ (do b ← part; read_chain part level n (tree.binary op a b)) ts | false ↦ Some (a, operator op ∷ ts) ]
+read_chain part level (suc n) a ts = Some (a, ts)
+
+-- ["?" expr ":" expr]
+abbrev pub read_choice : Parse Expr → Expr → Parse Expr
+read_choice inner c (question ∷ ts) = (do a ← inner; see_colon; b ← inner; pure (tree.choose c a b)) ts
+read_choice inner c ts = Some (c, ts)
+
+-- what stands behind the first part of an expression, which is of a level, up to the next looser level
+abbrev pub read_rest : (ℕ → Parse Expr) → ℕ → ℕ → Expr → Parse Expr
+read_rest inner level n a = elim (level == condition_level) [ true ↦ read_choice (inner any_level) a | false ↦ read_chain (inner level) (suc level) n a ]
+
+-- expr  = lor ["?" expr ":" expr]
+-- lor   = land ("||" land)*
+-- land  = bor ("&&" bor)*
+-- bor   = bxor ("|" bxor)*
+-- bxor  = band ("^" band)*
+-- band  = equal ("&" equal)*
+-- equal = rel (("==" | "!=") rel)*
+-- rel   = shift (("<" | "<=" | ">" | ">=") shift)*
+-- shift = sum (("<<" | ">>") sum)*
+-- sum   = prod (("+" | "-") prod)*
+-- prod  = unary (("*" | "/" | "%") unary)*
+abbrev pub read_level : List Text → (ℕ → Parse Expr) → ℕ → ℕ → Parse Expr
+read_level names inner n zero = read_post names (inner any_level) n
+read_level names inner n (suc zero) = read_unary names inner n
+read_level names inner n (suc (suc level)) = read_level names inner n (suc level) >>= read_rest inner (suc level) n
+
+-- an expression of a level or a tighter one
+abbrev pub read_within : List Text → ℕ → ℕ → Parse Expr
+read_within names zero level ts = None
+read_within names (suc n) level ts = read_level names (read_within names n) n level ts
+
 abbrev pub read_expr : List Text → ℕ → Parse Expr
-read_expr names zero ts = None
-read_expr names (suc n) ts = (do e ← read_prim names (read_expr names n) n; read_suffixes (read_expr names n) n e) ts
+read_expr names n = read_within names n any_level
 
 -- ("." name | "[" expr "]")*
 abbrev pub read_steps : List Text → ℕ → Parse (List LStep)

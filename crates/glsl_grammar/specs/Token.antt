@@ -13,6 +13,7 @@ use Rattle.glsl_ast.specs.declared.items.BlockPlace.TheVariants.{Set, Push}
 use Rattle.glsl_ast.specs.declared.items.BlockRules.{BlockRules}
 use Rattle.glsl_ast.specs.declared.items.BlockRules.TheVariants.{Std430, Std140}
 use Rattle.glsl_ast.specs.declared.items.Qual.{Qual}
+use Rattle.glsl_grammar.specs.Levels.{op_level, right_level, unary_level, condition_level, is_bare}
 
 -- A word is a name, or a word that has a meaning only where the grammar asks for it, as `offset`.
 pub data Token : Type 0 where
@@ -89,19 +90,24 @@ literal_token (Uint n) = unsigned n
 literal_token (Hex n) = hexadecimal n
 literal_token (Truth b) = truth b
 
+-- a part that stands bare, or in parentheses
+abbrev pub put_placed : Bool → (List Token → List Token) → List Token → List Token
+put_placed true part ts = part ts
+put_placed false part ts = left_paren ∷ part (right_paren ∷ ts)
+
 abbrev mutual
   pub put_expr : Expr → List Token → List Token
   put_expr (tree.Expr.literal l) ts = literal_token l ∷ ts
   put_expr (tree.Expr.name w) ts = word w ∷ ts
   put_expr (tree.Expr.build t args) ts = put_type t (left_paren ∷ put_args args ts)
   put_expr (tree.Expr.call w args) ts = word w ∷ left_paren ∷ put_args args ts
-  put_expr (tree.Expr.not e) ts = left_paren ∷ not_sign ∷ put_expr e (right_paren ∷ ts)
-  put_expr (tree.Expr.flip e) ts = left_paren ∷ flip_sign ∷ put_expr e (right_paren ∷ ts)
-  put_expr (tree.Expr.binary op a b) ts = left_paren ∷ put_expr a (operator op ∷ put_expr b (right_paren ∷ ts))
-  put_expr (tree.Expr.choose c a b) ts = left_paren ∷ put_expr c (question ∷ put_expr a (colon ∷ put_expr b (right_paren ∷ ts)))
-  put_expr (tree.Expr.member e w) ts = put_expr e (dot ∷ word w ∷ ts)
-  put_expr (tree.Expr.index a b) ts = put_expr a (left_bracket ∷ put_expr b (right_bracket ∷ ts))
-  put_expr (tree.Expr.length_of e) ts = put_expr e (dot ∷ length_ ∷ left_paren ∷ right_paren ∷ ts)
+  put_expr (tree.Expr.not e) ts = not_sign ∷ put_placed (is_bare unary_level e) (put_expr e) ts
+  put_expr (tree.Expr.flip e) ts = flip_sign ∷ put_placed (is_bare unary_level e) (put_expr e) ts
+  put_expr (tree.Expr.binary o a b) ts = put_placed (is_bare (op_level o) a) (put_expr a) (operator o ∷ put_placed (is_bare (right_level o) b) (put_expr b) ts)
+  put_expr (tree.Expr.choose c a b) ts = put_placed (is_bare condition_level c) (put_expr c) (question ∷ put_expr a (colon ∷ put_expr b ts))
+  put_expr (tree.Expr.member e w) ts = put_placed (is_bare 0 e) (put_expr e) (dot ∷ word w ∷ ts)
+  put_expr (tree.Expr.index a b) ts = put_placed (is_bare 0 a) (put_expr a) (left_bracket ∷ put_expr b (right_bracket ∷ ts))
+  put_expr (tree.Expr.length_of e) ts = put_placed (is_bare 0 e) (put_expr e) (dot ∷ length_ ∷ left_paren ∷ right_paren ∷ ts)
 
   -- arguments, and the closing parenthesis
   pub put_args : Exprs → List Token → List Token
@@ -111,6 +117,10 @@ abbrev mutual
   pub put_more_args : Exprs → List Token → List Token
   put_more_args no_exprs ts = right_paren ∷ ts
   put_more_args (tree.Exprs.expr e es) ts = comma ∷ put_expr e (put_more_args es ts)
+
+-- an expression where those up to a level stand bare
+abbrev pub put_operand : ℕ → Expr → List Token → List Token
+put_operand loosest e = put_placed (is_bare loosest e) (put_expr e)
 
 abbrev pub put_steps : List LStep → List Token → List Token
 put_steps [] ts = ts
