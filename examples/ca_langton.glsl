@@ -19,48 +19,48 @@ void main() {
     id = v15;
     uint v21 = id;
     int v22 = int(v21);
-    p = ivec2(4, (4 + int((((((v22 < 0) ? (0u - uint(v22)) : uint(v22)) % ((3 < 0) ? (0u - 3u) : 3u)) == 0u) ? 0u : (((v22 < 0) == (3 < 0)) ? ((3 < 0) ? (0u - (((v22 < 0) ? (0u - uint(v22)) : uint(v22)) % ((3 < 0) ? (0u - 3u) : 3u))) : (((v22 < 0) ? (0u - uint(v22)) : uint(v22)) % ((3 < 0) ? (0u - 3u) : 3u))) : ((3 < 0) ? ((((v22 < 0) ? (0u - uint(v22)) : uint(v22)) % ((3 < 0) ? (0u - 3u) : 3u)) - ((3 < 0) ? (0u - 3u) : 3u)) : (((3 < 0) ? (0u - 3u) : 3u) - (((v22 < 0) ? (0u - uint(v22)) : uint(v22)) % ((3 < 0) ? (0u - 3u) : 3u)))))))));
+    p = ivec2(4, 4 + int((v22 < 0 ? 0u - uint(v22) : uint(v22)) % (3 < 0 ? 0u - 3u : 3u) == 0u ? 0u : v22 < 0 == 3 < 0 ? 3 < 0 ? 0u - (v22 < 0 ? 0u - uint(v22) : uint(v22)) % (3 < 0 ? 0u - 3u : 3u) : (v22 < 0 ? 0u - uint(v22) : uint(v22)) % (3 < 0 ? 0u - 3u : 3u) : 3 < 0 ? (v22 < 0 ? 0u - uint(v22) : uint(v22)) % (3 < 0 ? 0u - 3u : 3u) - (3 < 0 ? 0u - 3u : 3u) : (3 < 0 ? 0u - 3u : 3u) - (v22 < 0 ? 0u - uint(v22) : uint(v22)) % (3 < 0 ? 0u - 3u : 3u)));
     uint v29 = id;
-    dir = int((v29 & 3u));
+    dir = int(v29 & 3u);
     turns = 0;
     step = 0;
     bool again = false;
     for (;;) {
         if (again) {
             int v133 = step;
-            step = (v133 + 1);
+            step = v133 + 1;
         }
         again = true;
         int v41 = step;
-        if ((v41 < 200)) {
+        if (v41 < 200) {
             uint v52 = id;
             int v55 = p.y;
             uint v58 = v51.grid[v52][v55];
             word = v58;
             int v61 = p.x;
-            sh = (v61 * 4);
+            sh = v61 * 4;
             uint v64 = word;
             int v65 = sh;
             cell = bitfieldExtract(v64, v65, 4);
             uint v67 = cell;
-            switch ((v67 % 4u)) {
+            switch (v67 % 4u) {
                 default: {
                     int v90 = dir;
-                    dir = (v90 ^ 2);
+                    dir = v90 ^ 2;
                     break;
                 }
                 case 0u: {
                     int v75 = dir;
-                    dir = ((v75 + 1) & 3);
+                    dir = v75 + 1 & 3;
                     int v79 = turns;
-                    turns = (v79 + 1);
+                    turns = v79 + 1;
                     break;
                 }
                 case 1u: {
                     int v82 = dir;
-                    dir = ((v82 + 3) & 3);
+                    dir = v82 + 3 & 3;
                     int v85 = turns;
-                    turns = (v85 - 1);
+                    turns = v85 - 1;
                     break;
                 }
                 case 2u: {
@@ -72,27 +72,27 @@ void main() {
             uint v97 = word;
             uint v98 = cell;
             int v101 = sh;
-            v51.grid[v94][v96] = bitfieldInsert(v97, ((v98 + 1u) & 3u), v101, 4);
+            v51.grid[v94][v96] = bitfieldInsert(v97, v98 + 1u & 3u, v101, 4);
             int v104 = dir;
             switch (v104) {
                 case 0: {
                     int v111 = p.y;
-                    p.y = (v111 - 1);
+                    p.y = v111 - 1;
                     break;
                 }
                 case 1: {
                     int v115 = p.x;
-                    p.x = (v115 + 1);
+                    p.x = v115 + 1;
                     break;
                 }
                 case 2: {
                     int v119 = p.y;
-                    p.y = (v119 + 1);
+                    p.y = v119 + 1;
                     break;
                 }
                 case 3: {
                     int v123 = p.x;
-                    p.x = (v123 - 1);
+                    p.x = v123 - 1;
                     break;
                 }
                 default: {
@@ -100,9 +100,9 @@ void main() {
                 }
             }
             ivec2 v127 = p;
-            ivec2 v130 = (v127 + ivec2(8, 8));
+            ivec2 v130 = v127 + ivec2(8, 8);
             ivec2 v131 = ivec2(8, 8);
-            p = ivec2(int((((((v130.x < 0) ? (0u - uint(v130.x)) : uint(v130.x)) % ((v131.x < 0) ? (0u - uint(v131.x)) : uint(v131.x))) == 0u) ? 0u : (((v130.x < 0) == (v131.x < 0)) ? ((v131.x < 0) ? (0u - (((v130.x < 0) ? (0u - uint(v130.x)) : uint(v130.x)) % ((v131.x < 0) ? (0u - uint(v131.x)) : uint(v131.x)))) : (((v130.x < 0) ? (0u - uint(v130.x)) : uint(v130.x)) % ((v131.x < 0) ? (0u - uint(v131.x)) : uint(v131.x)))) : ((v131.x < 0) ? ((((v130.x < 0) ? (0u - uint(v130.x)) : uint(v130.x)) % ((v131.x < 0) ? (0u - uint(v131.x)) : uint(v131.x))) - ((v131.x < 0) ? (0u - uint(v131.x)) : uint(v131.x))) : (((v131.x < 0) ? (0u - uint(v131.x)) : uint(v131.x)) - (((v130.x < 0) ? (0u - uint(v130.x)) : uint(v130.x)) % ((v131.x < 0) ? (0u - uint(v131.x)) : uint(v131.x)))))))), int((((((v130.y < 0) ? (0u - uint(v130.y)) : uint(v130.y)) % ((v131.y < 0) ? (0u - uint(v131.y)) : uint(v131.y))) == 0u) ? 0u : (((v130.y < 0) == (v131.y < 0)) ? ((v131.y < 0) ? (0u - (((v130.y < 0) ? (0u - uint(v130.y)) : uint(v130.y)) % ((v131.y < 0) ? (0u - uint(v131.y)) : uint(v131.y)))) : (((v130.y < 0) ? (0u - uint(v130.y)) : uint(v130.y)) % ((v131.y < 0) ? (0u - uint(v131.y)) : uint(v131.y)))) : ((v131.y < 0) ? ((((v130.y < 0) ? (0u - uint(v130.y)) : uint(v130.y)) % ((v131.y < 0) ? (0u - uint(v131.y)) : uint(v131.y))) - ((v131.y < 0) ? (0u - uint(v131.y)) : uint(v131.y))) : (((v131.y < 0) ? (0u - uint(v131.y)) : uint(v131.y)) - (((v130.y < 0) ? (0u - uint(v130.y)) : uint(v130.y)) % ((v131.y < 0) ? (0u - uint(v131.y)) : uint(v131.y)))))))));
+            p = ivec2(int((v130.x < 0 ? 0u - uint(v130.x) : uint(v130.x)) % (v131.x < 0 ? 0u - uint(v131.x) : uint(v131.x)) == 0u ? 0u : v130.x < 0 == v131.x < 0 ? v131.x < 0 ? 0u - (v130.x < 0 ? 0u - uint(v130.x) : uint(v130.x)) % (v131.x < 0 ? 0u - uint(v131.x) : uint(v131.x)) : (v130.x < 0 ? 0u - uint(v130.x) : uint(v130.x)) % (v131.x < 0 ? 0u - uint(v131.x) : uint(v131.x)) : v131.x < 0 ? (v130.x < 0 ? 0u - uint(v130.x) : uint(v130.x)) % (v131.x < 0 ? 0u - uint(v131.x) : uint(v131.x)) - (v131.x < 0 ? 0u - uint(v131.x) : uint(v131.x)) : (v131.x < 0 ? 0u - uint(v131.x) : uint(v131.x)) - (v130.x < 0 ? 0u - uint(v130.x) : uint(v130.x)) % (v131.x < 0 ? 0u - uint(v131.x) : uint(v131.x))), int((v130.y < 0 ? 0u - uint(v130.y) : uint(v130.y)) % (v131.y < 0 ? 0u - uint(v131.y) : uint(v131.y)) == 0u ? 0u : v130.y < 0 == v131.y < 0 ? v131.y < 0 ? 0u - (v130.y < 0 ? 0u - uint(v130.y) : uint(v130.y)) % (v131.y < 0 ? 0u - uint(v131.y) : uint(v131.y)) : (v130.y < 0 ? 0u - uint(v130.y) : uint(v130.y)) % (v131.y < 0 ? 0u - uint(v131.y) : uint(v131.y)) : v131.y < 0 ? (v130.y < 0 ? 0u - uint(v130.y) : uint(v130.y)) % (v131.y < 0 ? 0u - uint(v131.y) : uint(v131.y)) - (v131.y < 0 ? 0u - uint(v131.y) : uint(v131.y)) : (v131.y < 0 ? 0u - uint(v131.y) : uint(v131.y)) - (v130.y < 0 ? 0u - uint(v130.y) : uint(v130.y)) % (v131.y < 0 ? 0u - uint(v131.y) : uint(v131.y))));
             continue;
         } else {
             break;

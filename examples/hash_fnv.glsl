@@ -8,10 +8,10 @@ layout(set = 0, binding = 1, std430) buffer Output {
 } dst;
 uint byteAt_u1(inout uint index) {
     uint v18 = index;
-    uint v20 = (v18 >> 2u);
+    uint v20 = v18 >> 2u;
     uint v23 = src.words[v20];
     uint v24 = index;
-    return ((v23 >> (((v24 & 3u) * 8u) & 31u)) & 255u);
+    return v23 >> ((v24 & 3u) * 8u & 31u) & 255u;
 }
 void main() {
     uint id = 0u;
@@ -25,10 +25,10 @@ void main() {
     uint v41 = gl_GlobalInvocationID.x;
     id = v41;
     uint v43 = id;
-    begin = (v43 * 7u);
+    begin = v43 * 7u;
     uint v47 = begin;
     uint v49 = id;
-    end = min(((v47 + 7u) + (v49 % 5u)), (uint(int(uint(src.words.length()))) * 4u));
+    end = min(v47 + 7u + v49 % 5u, uint(int(uint(src.words.length()))) * 4u);
     h1 = 2166136261u;
     h1a = 2166136261u;
     uint v63 = begin;
@@ -37,22 +37,22 @@ void main() {
     for (;;) {
         if (again) {
             uint v86 = k;
-            k = (v86 + 1u);
+            k = v86 + 1u;
         }
         again = true;
         uint v69 = k;
         uint v70 = end;
-        if ((v69 < v70)) {
+        if (v69 < v70) {
             uint v75 = k;
             param = v75;
             uint v76 = byteAt_u1(param);
             b = v76;
             uint v77 = h1;
             uint v80 = b;
-            h1 = ((v77 * 16777619u) ^ v80);
+            h1 = v77 * 16777619u ^ v80;
             uint v82 = h1a;
             uint v83 = b;
-            h1a = ((v82 ^ v83) * 16777619u);
+            h1a = (v82 ^ v83) * 16777619u;
             continue;
         } else {
             break;

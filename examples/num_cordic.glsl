@@ -22,18 +22,18 @@ void main() {
     uint v16 = gl_GlobalInvocationID.x;
     id = int(v16);
     int v19 = id;
-    angle = ((v19 - 32) * 800);
+    angle = (v19 - 32) * 800;
     flip = false;
     int v28 = angle;
-    if ((v28 > 25735)) {
+    if (v28 > 25735) {
         int v34 = angle;
-        angle = (v34 - 51471);
+        angle = v34 - 51471;
         flip = true;
     } else {
         int v38 = angle;
-        if ((v38 < 0xFFFF9B79)) {
+        if (v38 < 0xFFFF9B79) {
             int v43 = angle;
-            angle = (v43 + 51471);
+            angle = v43 + 51471;
             flip = true;
         }
     }
@@ -45,37 +45,37 @@ void main() {
     for (;;) {
         if (again) {
             int v125 = i;
-            i = (v125 + 1);
+            i = v125 + 1;
         }
         again = true;
         int v59 = i;
-        if ((v59 < 16)) {
+        if (v59 < 16) {
             ivec2 v63 = v;
             int v64 = i;
-            sh = (v63 >> (uvec2(ivec2(v64, v64)) & 31u));
+            sh = v63 >> (uvec2(ivec2(v64, v64)) & 31u);
             int v67 = z;
-            if ((v67 >= 0)) {
+            if (v67 >= 0) {
                 int v72 = v.x;
                 int v75 = sh.y;
                 int v78 = v.y;
                 int v80 = sh.x;
-                v = ivec2((v72 - v75), (v78 + v80));
+                v = ivec2(v72 - v75, v78 + v80);
                 int v100 = i;
                 indexable = v99;
                 int v104 = indexable[v100];
                 int v105 = z;
-                z = (v105 - v104);
+                z = v105 - v104;
             } else {
                 int v109 = v.x;
                 int v111 = sh.y;
                 int v114 = v.y;
                 int v116 = sh.x;
-                v = ivec2((v109 + v111), (v114 - v116));
+                v = ivec2(v109 + v111, v114 - v116);
                 int v119 = i;
                 indexable_2 = v99;
                 int v122 = indexable_2[v119];
                 int v123 = z;
-                z = (v123 + v122);
+                z = v123 + v122;
             }
             continue;
         } else {
@@ -85,7 +85,7 @@ void main() {
     bool v127 = flip;
     if (v127) {
         ivec2 v130 = v;
-        v = (0 - v130);
+        v = 0 - v130;
     }
     v137 = id;
     v138 = v;
@@ -93,7 +93,7 @@ void main() {
     bool v140 = flip;
     if (v140) {
         int v144 = angle;
-        v141 = (~v144);
+        v141 = ~v144;
     } else {
         int v147 = angle;
         v141 = v147;

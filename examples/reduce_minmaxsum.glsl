@@ -35,33 +35,33 @@ void main() {
     for (;;) {
         if (again) {
             uint v95 = s;
-            s = (v95 >> 1u);
+            s = v95 >> 1u;
         }
         again = true;
         uint v55 = s;
-        if ((v55 > 0u)) {
+        if (v55 > 0u) {
             uint v58 = t;
             uint v59 = s;
-            if ((v58 < v59)) {
+            if (v58 < v59) {
                 uint v63 = t;
                 uint v64 = t;
                 uint v65 = s;
-                uint v66 = (v64 + v65);
+                uint v66 = v64 + v65;
                 int v68 = ssum[v66];
                 int v70 = ssum[v63];
-                ssum[v63] = (v70 + v68);
+                ssum[v63] = v70 + v68;
                 uint v73 = t;
                 uint v74 = t;
                 int v76 = smm[v74].x;
                 uint v77 = t;
                 uint v78 = s;
-                uint v79 = (v77 + v78);
+                uint v79 = v77 + v78;
                 int v81 = smm[v79].x;
                 uint v83 = t;
                 int v86 = smm[v83].y;
                 uint v87 = t;
                 uint v88 = s;
-                uint v89 = (v87 + v88);
+                uint v89 = v87 + v88;
                 int v91 = smm[v89].y;
                 smm[v73] = ivec2(min(v76, v81), max(v86, v91));
             }
@@ -74,7 +74,7 @@ void main() {
         }
     }
     uint v97 = t;
-    if ((v97 == 0u)) {
+    if (v97 == 0u) {
         int v106 = ssum[0];
         int v107 = atomicAdd(v103.total, v106);
         int v111 = smm[0].x;
@@ -85,8 +85,8 @@ void main() {
     int v121 = v;
     uint v123 = atomicXor(v103.xored, uint(v121));
     int v126 = v;
-    uint v130 = atomicAnd(v103.ands, (uint(v126) | 7u));
+    uint v130 = atomicAnd(v103.ands, uint(v126) | 7u);
     int v133 = v;
-    uint v137 = atomicOr(v103.ors, (uint(v133) & 61680u));
+    uint v137 = atomicOr(v103.ors, uint(v133) & 61680u);
     return;
 }

@@ -17,15 +17,15 @@ bool less_struct_Node_u1_u11_struct_Node_u1_u11(inout Node x, inout Node y) {
     bool v56;
     uint v35 = x.prio;
     uint v37 = y.prio;
-    bool v38 = (v35 < v37);
-    if ((!v38)) {
+    bool v38 = v35 < v37;
+    if (!v38) {
         uint v43 = x.prio;
         uint v45 = y.prio;
-        bool v46 = (v43 == v45);
+        bool v46 = v43 == v45;
         if (v46) {
             uint v51 = x.tag;
             uint v53 = y.tag;
-            bool v54 = (v51 < v53);
+            bool v54 = v51 < v53;
             v55 = v54;
         } else {
             v55 = v46;
@@ -58,7 +58,7 @@ void push_struct_Node_u1_u11(inout Node n_2) {
     int param_7 = 0;
     int param_8 = 0;
     int v77 = count;
-    count = (v77 + 1);
+    count = v77 + 1;
     i_3 = v77;
     int v79 = i_3;
     Node v80 = n_2;
@@ -69,10 +69,10 @@ void push_struct_Node_u1_u11(inout Node n_2) {
         }
         again_3 = true;
         int v87 = i_3;
-        if ((v87 > 0)) {
+        if (v87 > 0) {
             int v90 = i_3;
-            int v91 = (v90 - 1);
-            p = int((((v91 < 0) != (2 < 0)) ? (0u - (((v91 < 0) ? (0u - uint(v91)) : uint(v91)) / ((2 < 0) ? (0u - 2u) : 2u))) : (((v91 < 0) ? (0u - uint(v91)) : uint(v91)) / ((2 < 0) ? (0u - 2u) : 2u))));
+            int v91 = v90 - 1;
+            p = int(v91 < 0 != 2 < 0 ? 0u - (v91 < 0 ? 0u - uint(v91) : uint(v91)) / (2 < 0 ? 0u - 2u : 2u) : (v91 < 0 ? 0u - uint(v91) : uint(v91)) / (2 < 0 ? 0u - 2u : 2u));
             int v94 = i_3;
             int v95 = p;
             Node v98 = heap[v94];
@@ -80,7 +80,7 @@ void push_struct_Node_u1_u11(inout Node n_2) {
             Node v101 = heap[v95];
             param_6 = v101;
             bool v102 = less_struct_Node_u1_u11_struct_Node_u1_u11(param_5, param_6);
-            if ((!v102)) {
+            if (!v102) {
                 break;
             }
             int v108 = i_3;
@@ -108,13 +108,13 @@ bool pop_struct_Node_u1_u11(inout Node n_3) {
     int param_14 = 0;
     bool v157;
     int v113 = count;
-    if ((v113 == 0)) {
+    if (v113 == 0) {
         return false;
     }
     Node v120 = heap[0];
     n_3 = v120;
     int v121 = count;
-    int v122 = (v121 - 1);
+    int v122 = v121 - 1;
     count = v122;
     Node v124 = heap[v122];
     heap[0] = v124;
@@ -125,18 +125,18 @@ bool pop_struct_Node_u1_u11(inout Node n_3) {
         }
         again_4 = true;
         int v132 = i_4;
-        c = ((2 * v132) + 1);
+        c = 2 * v132 + 1;
         int v135 = c;
         int v136 = count;
-        if ((v135 >= v136)) {
+        if (v135 >= v136) {
             break;
         }
         int v141 = c;
         int v143 = count;
-        bool v144 = ((v141 + 1) < v143);
+        bool v144 = v141 + 1 < v143;
         if (v144) {
             int v147 = c;
-            int v148 = (v147 + 1);
+            int v148 = v147 + 1;
             int v149 = c;
             Node v152 = heap[v148];
             param_9 = v152;
@@ -149,7 +149,7 @@ bool pop_struct_Node_u1_u11(inout Node n_3) {
         }
         if (v157) {
             int v160 = c;
-            c = (v160 + 1);
+            c = v160 + 1;
         }
         int v162 = c;
         int v163 = i_4;
@@ -158,7 +158,7 @@ bool pop_struct_Node_u1_u11(inout Node n_3) {
         Node v169 = heap[v163];
         param_12 = v169;
         bool v170 = less_struct_Node_u1_u11_struct_Node_u1_u11(param_11, param_12);
-        if ((!v170)) {
+        if (!v170) {
             break;
         }
         int v176 = c;
@@ -190,27 +190,27 @@ void main() {
     for (;;) {
         if (again) {
             uint v241 = i;
-            i = (v241 + 1u);
+            i = v241 + 1u;
         }
         again = true;
         uint v198 = i;
-        if ((v198 < 24u)) {
+        if (v198 < 24u) {
             uint v205 = id;
             uint v207 = i;
-            uint v208 = ((v205 * 24u) + v207);
+            uint v208 = v205 * 24u + v207;
             uint v211 = v204.src[v208];
             uint v214 = i;
-            param = Node((v211 & 63u), v214);
+            param = Node(v211 & 63u, v214);
             push_struct_Node_u1_u11(param);
             uint v218 = i;
-            if (((v218 % 5u) == 4u)) {
+            if (v218 % 5u == 4u) {
                 bool v227 = pop_struct_Node_u1_u11(param_2);
                 Node v228 = param_2;
                 dropped = v228;
                 if (v227) {
                     uint v232 = dropped.prio;
                     uint v235 = dropped.tag;
-                    param_3 = Node((v232 + 32u), (v235 + 100u));
+                    param_3 = Node(v232 + 32u, v235 + 100u);
                     push_struct_Node_u1_u11(param_3);
                 }
             }
@@ -231,12 +231,12 @@ void main() {
         if (v251) {
             uint v257 = id;
             uint v259 = k;
-            uint v260 = ((v257 * 24u) + v259);
+            uint v260 = v257 * 24u + v259;
             uint v262 = n.prio;
             uint v266 = n.tag;
-            v256.dst[v260] = ((v262 * 1000u) + v266);
+            v256.dst[v260] = v262 * 1000u + v266;
             uint v269 = k;
-            k = (v269 + 1u);
+            k = v269 + 1u;
             continue;
         } else {
             break;

@@ -38,11 +38,11 @@ void main() {
             for (;;) {
                 if (again) {
                     v301[v478] = 0;
-                    int v320 = (v478 + 1);
+                    int v320 = v478 + 1;
                     v478 = v320;
                 }
                 again = true;
-                if ((v478 < 4)) {
+                if (v478 < 4) {
                     continue;
                 } else {
                     break;
@@ -56,19 +56,19 @@ void main() {
             bool leave = false;
             for (;;) {
                 if (again_2) {
-                    int v472 = (v479 + 1);
+                    int v472 = v479 + 1;
                     v484 = v516;
                     v482 = v515;
                     v480 = v513;
                     v479 = v472;
                 }
                 again_2 = true;
-                if ((v479 < 400)) {
+                if (v479 < 400) {
                     uint v329 = v54.code[v480];
-                    v334 = (int(v329) >> 8u);
-                    v336 = (v480 + 1u);
+                    v334 = int(v329) >> 8u;
+                    v336 = v480 + 1u;
                     bool fell = false;
-                    switch ((v329 & 255u)) {
+                    switch (v329 & 255u) {
                         default: {
                             v508 = false;
                             v498 = 0xFFFFFFFD;
@@ -77,7 +77,7 @@ void main() {
                             break;
                         }
                         case 0u: {
-                            int v341 = (v482 + 1);
+                            int v341 = v482 + 1;
                             v305[v482] = v334;
                             v516 = v484;
                             v515 = v341;
@@ -85,7 +85,7 @@ void main() {
                             continue;
                         }
                         case 8u: {
-                            int v346 = (v482 + 1);
+                            int v346 = v482 + 1;
                             v305[v482] = v250;
                             v516 = v484;
                             v515 = v346;
@@ -93,48 +93,48 @@ void main() {
                             continue;
                         }
                         case 1u: {
-                            int v351 = (v482 - 2);
-                            int v353 = (v482 - 1);
+                            int v351 = v482 - 2;
+                            int v353 = v482 - 1;
                             int v355 = v305[v353];
                             int v357 = v305[v351];
-                            v305[v351] = (v357 + v355);
+                            v305[v351] = v357 + v355;
                             v514 = v336;
                             v486 = v353;
                             break;
                         }
                         case 2u: {
-                            int v364 = (v482 - 2);
-                            int v366 = (v482 - 1);
+                            int v364 = v482 - 2;
+                            int v366 = v482 - 1;
                             int v368 = v305[v366];
                             int v370 = v305[v364];
-                            v305[v364] = (v370 - v368);
+                            v305[v364] = v370 - v368;
                             v514 = v336;
                             v486 = v366;
                             break;
                         }
                         case 3u: {
-                            int v377 = (v482 - 2);
-                            int v379 = (v482 - 1);
+                            int v377 = v482 - 2;
+                            int v379 = v482 - 1;
                             int v381 = v305[v379];
                             int v383 = v305[v377];
-                            v305[v377] = (v383 * v381);
+                            v305[v377] = v383 * v381;
                             v514 = v336;
                             v486 = v379;
                             break;
                         }
                         case 4u: {
-                            int v391 = (v482 - 1);
+                            int v391 = v482 - 1;
                             int v393 = v305[v391];
                             v305[v482] = v393;
-                            int v396 = (v482 + 1);
+                            int v396 = v482 + 1;
                             v514 = v336;
                             v486 = v396;
                             break;
                         }
                         case 5u: {
-                            int v399 = (v482 - 1);
+                            int v399 = v482 - 1;
                             int v401 = v305[v399];
-                            int v405 = (v482 - 2);
+                            int v405 = v482 - 2;
                             int v407 = v305[v405];
                             v305[v399] = v407;
                             v305[v405] = v401;
@@ -143,9 +143,9 @@ void main() {
                             break;
                         }
                         case 6u: {
-                            v415 = (v482 - 1);
+                            v415 = v482 - 1;
                             int v417 = v305[v415];
-                            if ((v417 != 0)) {
+                            if (v417 != 0) {
                                 v514 = v336;
                                 v486 = v415;
                                 break;
@@ -154,7 +154,7 @@ void main() {
                             fell = true;
                         }
                         case 7u: {
-                            if ((!fell)) {
+                            if (!fell) {
                                 v487 = v482;
                             }
                             uint v423 = uint(v334);
@@ -163,8 +163,8 @@ void main() {
                             break;
                         }
                         case 9u: {
-                            int v426 = (v334 & 3);
-                            int v428 = (v482 - 1);
+                            int v426 = v334 & 3;
+                            int v428 = v482 - 1;
                             int v430 = v305[v428];
                             v301[v426] = v430;
                             v514 = v336;
@@ -172,8 +172,8 @@ void main() {
                             break;
                         }
                         case 10u: {
-                            int v434 = (v482 + 1);
-                            int v436 = (v334 & 3);
+                            int v434 = v482 + 1;
+                            int v436 = v334 & 3;
                             int v438 = v301[v436];
                             v305[v482] = v438;
                             v514 = v336;
@@ -181,14 +181,14 @@ void main() {
                             break;
                         }
                         case 11u: {
-                            if ((v484 == 4)) {
+                            if (v484 == 4) {
                                 v508 = false;
                                 v498 = 0xFFFFFFFF;
                                 v491 = true;
                                 leave = true;
                                 break;
                             }
-                            int v446 = (v484 + 1);
+                            int v446 = v484 + 1;
                             v307[v484] = v336;
                             uint v450 = uint(v334);
                             v516 = v446;
@@ -197,14 +197,14 @@ void main() {
                             continue;
                         }
                         case 12u: {
-                            if ((v484 == 0)) {
+                            if (v484 == 0) {
                                 v508 = false;
                                 v498 = 0xFFFFFFFE;
                                 v491 = true;
                                 leave = true;
                                 break;
                             }
-                            int v457 = (v484 - 1);
+                            int v457 = v484 - 1;
                             uint v459 = v307[v457];
                             v516 = v457;
                             v515 = v482;
@@ -212,7 +212,7 @@ void main() {
                             continue;
                         }
                         case 13u: {
-                            int v462 = (v482 - 1);
+                            int v462 = v482 - 1;
                             int v464 = v305[v462];
                             v508 = true;
                             v498 = v464;
@@ -224,7 +224,7 @@ void main() {
                     if (leave) {
                         break;
                     }
-                    if ((v486 > 14)) {
+                    if (v486 > 14) {
                         v508 = false;
                         v498 = 0xFFFFFFFC;
                         v491 = true;
@@ -249,6 +249,6 @@ void main() {
             break;
         }
     }
-    v265.result[v250] = ivec4(v497, v479, (v508 ? 1 : 0), v250);
+    v265.result[v250] = ivec4(v497, v479, v508 ? 1 : 0, v250);
     return;
 }

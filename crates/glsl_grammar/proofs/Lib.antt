@@ -7,6 +7,7 @@ pub mod ExprTokens
 pub mod StmtTokens
 pub mod LexBack
 pub mod LexExamples
+pub mod Levels
 pub mod ReadExprs
 pub mod ReadStmts
 pub mod ReadItems

@@ -1,6 +1,8 @@
 -- Expressions with few parentheses: the text that each is laid out as, and the tree that each text has.
-use Rattle.std.proofs.Common.{◌≡◌, ℕ, List, [], ◌∷◌, refl}
+use Rattle.std.proofs.Common.{◌≡◌, ℕ, List, [], ◌∷◌, refl, arith}
 use Rattle.std.specs.Prelude.{codes, length, Option, Some, None}
+use Rattle.std.specs.Fmt.{decimal}
+use Rattle.std.proofs.lemmas.Fmt.{decimal_digit, decimal-digits_of}
 use Rattle.glsl_ast.specs.Tree as tree
 use Rattle.glsl_ast.specs.Tree.{Text, type_name, Expr, exprs_in}
 use Rattle.glsl_ast.specs.declared.expressions.Literal.TheVariants as literal
@@ -55,7 +57,7 @@ nested_difference = (refl, refl)
 
 sums : IsLaidOut (tree.binary op.Add (tree.binary op.Add (tree.Expr.name (codes "v20")) (uint 1)) (uint 1)) (codes "v20 + 1u + 1u")
 unfolding opened
-sums = (refl, refl)
+sums = (rw (decimal_digit 1 (omega arith)) refl, refl)
 
 -- each level
 all_levels : IsLaidOut
@@ -106,13 +108,19 @@ unfolding opened
 suffix_of_call = (refl, refl)
 
 -- texts of operations on words
+digits_31 : decimal 31 ≡ codes "31"
+digits_31 = decimal-digits_of 31 (omega arith) (omega arith)
+
+digits_32 : decimal 32 ≡ codes "32"
+digits_32 = decimal-digits_of 32 (omega arith) (omega arith)
+
 negated : IsLaidOut (tree.Expr.call (codes "atomicAdd") (exprs_in (a ∷ sub (uint 0) b ∷ []))) (codes "atomicAdd(a, 0u - b)")
 unfolding opened
-negated = (refl, refl)
+negated = (rw (decimal_digit 0 (omega arith)) refl, refl)
 
 masked_shift : IsLaidOut (tree.binary op.Shl a (tree.binary op.And (uint 32) (uint 31))) (codes "a << (32u & 31u)")
 unfolding opened
-masked_shift = (refl, refl)
+masked_shift = (rw (digits_31, digits_32) refl, refl)
 
 -- the quotient of `int` operands
 abbrev zero_int : Expr
@@ -137,7 +145,7 @@ signed_quotient : IsLaidOut
     (tree.build (type_name tree.Base.int []) (exprs_in (tree.choose (tree.binary op.NotEqual (is_negative a) (is_negative two)) (sub (uint 0) quotient) quotient ∷ [])))
     (codes "int(a < 0 != 2 < 0 ? 0u - (a < 0 ? 0u - uint(a) : uint(a)) / (2 < 0 ? 0u - 2u : 2u) : (a < 0 ? 0u - uint(a) : uint(a)) / (2 < 0 ? 0u - 2u : 2u))")
 unfolding opened
-signed_quotient = (refl, refl)
+signed_quotient = (rw (decimal_digit 0 (omega arith), decimal_digit 2 (omega arith)) refl, refl)
 
 -- parentheses leave no node
 more_parentheses : IsTreeOf (sub (sub a b) c) (codes "(((a) - (b)) - ((c)))")

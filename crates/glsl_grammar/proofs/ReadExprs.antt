@@ -1,5 +1,5 @@
 -- Reading the tokens of a type or an expression gives it back.
-use Rattle.std.proofs.Common.{◌≡◌, ◌==◌, ℕ, zero, suc, ◌+◌, ◌≤◌, ◌<◌, nat_le, Bool, true, false, List, [], ◌∷◌, length, Option, Some, refl, sym, ap, subst, ◌∙◌, inl, inr, arith}
+use Rattle.std.proofs.Common.{◌≡◌, ◌==◌, ℕ, zero, suc, ◌+◌, ◌≤◌, ◌<◌, Bool, true, false, List, [], ◌∷◌, length, Option, Some, refl, sym, ap, subst, ◌∙◌, inl, inr, arith}
 use Rattle.std.proofs.lemmas.Bool.{cases_lt}
 use Rattle.std.proofs.lemmas.Bool.Decides.{nat_tests}
 use Rattle.std.specs.Prelude.{option_and_then}
@@ -8,12 +8,12 @@ use Rattle.glsl_ast.specs.Tree.{Text, TypeName, type_name, Extent, Base, Expr, E
 use Rattle.glsl_ast.specs.declared.expressions.Literal.{Literal}
 use Rattle.glsl_ast.specs.declared.expressions.Literal.TheVariants.{Int, Uint, Hex, Truth}
 use Rattle.glsl_ast.specs.declared.expressions.BinOp.{BinOp}
-use Rattle.glsl_ast.specs.declared.expressions.BinOp.TheVariants as op
 use Rattle.glsl_grammar.specs.Levels.{op_rank, op_level, right_level, unary_level, condition_level, any_level, expr_level, is_bare}
 use Rattle.glsl_grammar.specs.Token.{Token, word, number, unsigned, hexadecimal, truth, basic, operator, length_, left_paren, right_paren, left_bracket, right_bracket, semicolon, comma, dot, not_sign, flip_sign, question, colon, put_extent, put_extents, base_token, put_type, literal_token, put_placed, put_expr, put_operand, put_args, put_more_args}
-use Rattle.glsl_grammar.specs.Parsers.{Parse, ◌>>=◌, pure, one_and, until_paren, some_until_paren, any_until_paren}
+use Rattle.glsl_grammar.specs.Parsers.{Parse, ◌>>=◌, ◌>>◌, pure, close_bracket, one_and, until_paren, some_until_paren, any_until_paren}
 use Rattle.glsl_grammar.specs.Read.{read_base, read_extents, read_type, read_build, read_named, read_prim, read_suffixes, read_post, read_unary, read_chain, read_choice, read_rest, read_level, read_within, read_expr}
 use Rattle.glsl_grammar.specs.Scopes.{IsDeclaredBase, IsDeclaredType, IsFree, IsDeclaredExpr, AreDeclaredExprs}
+use Rattle.glsl_grammar.proofs.Levels.{rank_fits, level_fits, bare_fits}
 
 -- what a part reads is handed on
 pub and_on : {A B : Type 0} (p : Parse A) (f : A → Parse B) (ts rest : List Token) (a : A) (x : Option (B × List Token)) → p ts ≡ Some (a, rest) → f a rest ≡ x → (p >>= f) ts ≡ x
@@ -108,47 +108,6 @@ mutual
 
 rest_of_operand : (loosest : ℕ) (e : Expr) (ts : List Token) → length ts + 1 ≤ length (put_operand loosest e ts)
 rest_of_operand loosest e ts = rest_of_placed (is_bare loosest e) (put_expr e) (rest_of_expr e) ts
-
--- levels
-
-rank_fits : (o : BinOp) → op_rank o ≤ 9
-rank_fits op.Mul = omega arith
-rank_fits op.Div = omega arith
-rank_fits op.Rem = omega arith
-rank_fits op.Add = omega arith
-rank_fits op.Sub = omega arith
-rank_fits op.Shl = omega arith
-rank_fits op.Shr = omega arith
-rank_fits op.Less = omega arith
-rank_fits op.LessEqual = omega arith
-rank_fits op.Greater = omega arith
-rank_fits op.GreaterEqual = omega arith
-rank_fits op.Equal = omega arith
-rank_fits op.NotEqual = omega arith
-rank_fits op.And = omega arith
-rank_fits op.Xor = omega arith
-rank_fits op.Or = omega arith
-rank_fits op.Both = omega arith
-rank_fits op.Either = omega arith
-
-level_fits : (e : Expr) → expr_level e ≤ any_level
-level_fits (tree.Expr.literal l) = omega arith
-level_fits (tree.Expr.name w) = omega arith
-level_fits (tree.Expr.build t args) = omega arith
-level_fits (tree.Expr.call w args) = omega arith
-level_fits (tree.Expr.not e) = omega arith
-level_fits (tree.Expr.flip e) = omega arith
-level_fits (tree.Expr.binary o a b) = omega (arith, rank_fits o)
-level_fits (tree.Expr.choose c a b) = omega arith
-level_fits (tree.Expr.member e w) = omega arith
-level_fits (tree.Expr.index a b) = omega arith
-level_fits (tree.Expr.length_of e) = omega arith
-
-bare_fits : (loosest : ℕ) (e : Expr) → is_bare loosest e ≡ true → expr_level e ≤ loosest
-bare_fits loosest e h = below (expr_level e) h
-  where
-    below : (l : ℕ) → nat_le l loosest ≡ true → l ≤ loosest
-    below l g = grind (arith, nat_tests)
 
 -- what a type begins with
 pub first_of_type : (P : List Token → Type 0) → ((b : Base) (ts : List Token) → P (basic b ∷ ts)) → ((w : Text) (ts : List Token) → P (word w ∷ ts)) → (t : TypeName) (ts : List Token) → P (put_type t ts)
@@ -513,7 +472,7 @@ index_on names a b oa ob n ts le x s h = operand_at names a oa 0 n (left_bracket
         let la = rest_of_operand 0 a (left_bracket ∷ put_expr b (right_bracket ∷ ts)) in
         let lb = rest_of_expr b (right_bracket ∷ ts) in
         let rb : read_expr names n (put_expr b (right_bracket ∷ ts)) ≡ Some (b, right_bracket ∷ ts) = any_back names b ob n (right_bracket ∷ ts) (omega arith) (omega arith) in
-        and_on (read_expr names n) _ (put_expr b (right_bracket ∷ ts)) (right_bracket ∷ ts) b x rb (h j (omega arith))
+        and_on (read_expr names n) (λ i. close_bracket >> read_suffixes (read_expr names n) j (tree.Expr.index a i)) (put_expr b (right_bracket ∷ ts)) (right_bracket ∷ ts) b x rb (h j (omega arith))
 
 length_on : (names : List Text) (a : Expr) → Own names a → Own names (tree.Expr.length_of a)
 length_on names a own n ts le x s h = operand_at names a own 0 n (dot ∷ length_ ∷ left_paren ∷ right_paren ∷ ts) le x (omega arith) go

@@ -40,7 +40,7 @@ adds_one = translation_unit (size_of_axis 0 64 ∷ size_of_axis 1 1 ∷ size_of_
     ∷ tree.Decl.function None (codes "main") [] (stmts_in body)
     ∷ [])
 
-laid_out : glsl_read (codes "#version 460\nlayout(local_size_x = 64, local_size_y = 1, local_size_z = 1) in;\nlayout(set = 0, binding = 0, std430) buffer v3 {\n    layout(offset = 0) uint[] m0;\n} v5;\nvoid main() {\n    uint v18 = gl_GlobalInvocationID.x;\n    uint v20 = v5.m0[v18];\n    v5.m0[v18] = (v20 + 1u);\n    return;\n}\n") ≡ Some adds_one
+laid_out : glsl_read (codes "#version 460\nlayout(local_size_x = 64, local_size_y = 1, local_size_z = 1) in;\nlayout(set = 0, binding = 0, std430) buffer v3 {\n    layout(offset = 0) uint[] m0;\n} v5;\nvoid main() {\n    uint v18 = gl_GlobalInvocationID.x;\n    uint v20 = v5.m0[v18];\n    v5.m0[v18] = v20 + 1u;\n    return;\n}\n") ≡ Some adds_one
 unfolding opened
 laid_out = refl
 

@@ -1,7 +1,7 @@
 -- The texts of lists, part by part.
-use Rattle.std.proofs.Common.{append_assoc, ◌≡◌, ◌++◌, ℕ, zero, suc, List, ◌∷◌, Option, Some, None, Vec, Global, refl, option_map}
+use Rattle.std.proofs.Common.{append_assoc, append-nil, ◌≡◌, ◌++◌, ℕ, zero, suc, Bool, true, false, List, ◌∷◌, Option, Some, None, Vec, Global, refl, sym, ap, arith, option_map}
 use Rattle.glsl_ast.specs.Tree as tree
-use Rattle.glsl_ast.specs.Tree.{LStep, Expr, Exprs, no_exprs, Param}
+use Rattle.glsl_ast.specs.Tree.{Text, LStep, Expr, Exprs, no_exprs, Param}
 use Rattle.glsl_ast.specs.View.{expr_of, stmt_of, stmts_of, arm_of, arms_of}
 use Rattle.glsl_ast.specs.declared.expressions.Expr.{Expr as Expr'}
 use Rattle.glsl_ast.specs.declared.statements.Label.{Label}
@@ -12,8 +12,10 @@ use Rattle.glsl_ast.specs.declared.items.Size.{Size}
 use Rattle.glsl_ast.proofs.Views.{arm-is, stmt-When, stmt-Either, stmt-For, stmt-Switch, stmt-Break, stmt-Continue, stmt-Return}
 use Rattle.glsl_grammar.specs.declared.marks.Mark.TheVariants as mark
 use Rattle.glsl_grammar.specs.Marks.{mark_text}
-use Rattle.glsl_grammar.specs.Layout.{steps_text, indent_text, labels_text, result_text, stmt_text, arms_text, expr_text, param_text, more_params_text, size_text, more_sizes_text}
-use Rattle.glsl_print.specs.Parts.{step_text, arm_text, inner_text, if_text, body_of, separator_text, args_from}
+use Rattle.glsl_grammar.specs.Levels.{any_level, is_bare}
+use Rattle.glsl_grammar.specs.Layout.{steps_text, indent_text, labels_text, result_text, stmt_text, arms_text, placed_text, expr_text, operand_text, param_text, more_params_text, size_text, more_sizes_text}
+use Rattle.glsl_grammar.proofs.Levels.{within, any_is_bare}
+use Rattle.glsl_print.specs.Parts.{step_text, arm_text, inner_text, if_text, body_of, text_unless, separator_text, args_from}
 
 pub steps-cons : (s : LStep) (ss : List LStep) → steps_text (s ∷ ss) ≡ step_text s ++ steps_text ss
 steps-cons (tree.LStep.member w) ss = simp append_assoc
@@ -57,3 +59,20 @@ params-cons p ps = simp append_assoc
 
 pub sizes-cons : (s : Size) (ss : List Size) → more_sizes_text (s ∷ ss) ≡ (mark_text mark.Comma ++ size_text s) ++ more_sizes_text ss
 sizes-cons s ss = simp append_assoc
+
+-- bare, or with both parentheses
+placed_parts : (b : Bool) (w : Text) → placed_text b w ≡ text_unless b mark.Open ++ (w ++ text_unless b mark.Close)
+placed_parts true w = sym (append-nil w)
+placed_parts false w = refl
+
+pub operand_parts : (loosest : ℕ) (e : Expr) → operand_text loosest e ≡ text_unless (is_bare loosest e) mark.Open ++ (expr_text e ++ text_unless (is_bare loosest e) mark.Close)
+operand_parts loosest e = placed_parts (is_bare loosest e) (expr_text e)
+
+pub operand_bare : (loosest : ℕ) (e : Expr) → is_bare loosest e ≡ true → operand_text loosest e ≡ expr_text e
+operand_bare loosest e is = ap (λ b. placed_text b (expr_text e)) is
+
+pub operand_any : (e : Expr) → operand_text any_level e ≡ expr_text e
+operand_any e = operand_bare any_level e (any_is_bare e)
+
+pub operand_name : (loosest : ℕ) (w : Text) → operand_text loosest (tree.Expr.name w) ≡ w
+operand_name loosest w = operand_bare loosest (tree.Expr.name w) (within 0 loosest (omega arith))

@@ -1,5 +1,5 @@
 -- The texts of parts of statements.
-use Rattle.std.specs.Prelude.{ℕ, zero, suc, ◌++◌, Bool, List, [], Option, Some, None, Vec}
+use Rattle.std.specs.Prelude.{ℕ, zero, suc, ◌++◌, Bool, true, false, List, [], Option, Some, None, Vec}
 use Rattle.std.specs.Fmt.{decimal}
 use Rattle.std.specs.Global.{Global}
 use Rattle.glsl_ast.specs.Tree as tree
@@ -10,6 +10,7 @@ use Rattle.glsl_ast.specs.declared.statements.Stmt.{Stmt}
 use Rattle.glsl_ast.specs.declared.items.BlockPlace.{BlockPlace}
 use Rattle.glsl_ast.specs.declared.items.BlockRules.{BlockRules}
 use Rattle.glsl_ast.specs.declared.items.Qual.{Qual}
+use Rattle.glsl_grammar.specs.declared.marks.Mark.{Mark}
 use Rattle.glsl_grammar.specs.declared.marks.Mark.TheVariants as mark
 use Rattle.glsl_grammar.specs.Marks.{mark_text}
 use Rattle.glsl_grammar.specs.Layout.{type_text, expr_text, args_text, more_args_text, indent_text, labels_text, body_text, quals_text, place_text, rules_mark, kind_mark, members_text, params_text}
@@ -34,6 +35,11 @@ body_of body = stmts_of body.items
 
 abbrev pub arm_text : ℕ → Arm → Text
 arm_text k (group ls b) = indent_text k ++ (labels_text ls ++ (mark_text mark.ArmOpen ++ inner_text k b))
+
+-- a fixed piece that an expression has unless it stands bare
+abbrev pub text_unless : Bool → Mark → Text
+text_unless true m = []
+text_unless false m = mark_text m
 
 -- what stands before the part at this index of a list
 abbrev pub separator_text : ℕ → Text

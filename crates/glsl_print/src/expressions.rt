@@ -1,12 +1,14 @@
 // Expressions.
 ghost use Rattle.std.specs.Prelude.{◌≡◌, ◌++◌};
 ghost use Rattle.glsl_ast.specs.View.{expr_of, exprs_of};
-ghost use Rattle.glsl_grammar.specs.Layout.{op_mark as mark_of, expr_text, args_text};
+ghost use Rattle.glsl_grammar.specs.Layout.{op_mark as mark_of, expr_text, operand_text, args_text};
+ghost use Rattle.glsl_grammar.specs.Levels.{unary_level};
 ghost use Rattle.glsl_grammar.specs.Marks.{mark_text};
-ghost use Rattle.glsl_print.specs.Parts.{separator_text};
+ghost use Rattle.glsl_print.specs.Parts.{separator_text, text_unless};
 ghost use Rattle.glsl_print.specs.Printed.{Goes};
 
 use crate::page::Page;
+use crate::precedence::{ANY, CONDITION, SUFFIXED, UNARY, expr_level, op_level, right_level};
 use crate::types::{print_literal, print_type};
 use cc_outside::Sink;
 use glsl_ast::{BinOp, Expr};
@@ -37,21 +39,49 @@ fn op_mark(op: BinOp) -> Mark
     }
 }
 
-/// Prints an expression. Most are names.
+/// Prints an expression.
 #[cycle(expression)]
 #[inline(always)]
-#[tactic(auto, using(glsl_ast::proofs::Views::expr_rows))]
 pub fn print_expr<K: Sink>(expr: &Expr, sink: &mut K, page: &mut Page)
     ensures { Goes K.written K.faults K.wants sink.old page.old (expr_text (expr_of expr.now)) sink.new page.new }
 {
+    print_operand(expr, ANY, sink, page);
+}
+
+/// Prints an expression where those up to a level stand bare, and others in parentheses. Most are names.
+#[cycle(expression)]
+#[inline(always)]
+fn print_operand<K: Sink>(expr: &Expr, loosest: u8, sink: &mut K, page: &mut Page)
+    ensures { Goes K.written K.faults K.wants sink.old page.old (operand_text loosest (expr_of expr.now)) sink.new page.new }
+{
     match expr {
         Expr::Name(name) => page.put(name.as_bytes(), sink),
-        _ => print_tree(expr, sink, page),
+        _ => print_placed(expr, loosest, sink, page),
     }
 }
 
-/// Prints an expression with those that stand in it. Each operation stands in parentheses.
 #[cycle(expression)]
+fn print_placed<K: Sink>(expr: &Expr, loosest: u8, sink: &mut K, page: &mut Page)
+    ensures { Goes K.written K.faults K.wants sink.old page.old (operand_text loosest (expr_of expr.now)) sink.new page.new }
+{
+    let bare = expr_level(expr) <= loosest;
+    put_unless(bare, Mark::Open, sink, page);
+    print_tree(expr, sink, page);
+    put_unless(bare, Mark::Close, sink, page);
+}
+
+#[inline(always)]
+fn put_unless<K: Sink>(bare: bool, mark: Mark, sink: &mut K, page: &mut Page)
+    ensures { Goes K.written K.faults K.wants sink.old page.old (text_unless bare mark) sink.new page.new }
+{
+    if !bare {
+        page.put_mark(mark, sink);
+    }
+}
+
+/// Prints an expression with those that stand in it.
+#[cycle(expression)]
+#[inline(always)]
 #[tactic(auto, using(glsl_ast::proofs::Views::expr_rows))]
 fn print_tree<K: Sink>(expr: &Expr, sink: &mut K, page: &mut Page)
     ensures { Goes K.written K.faults K.wants sink.old page.old (expr_text (expr_of expr.now)) sink.new page.new }
@@ -67,28 +97,26 @@ fn print_tree<K: Sink>(expr: &Expr, sink: &mut K, page: &mut Page)
             page.put(name.as_bytes(), sink);
             print_args(args, sink, page);
         }
-        Expr::Not(of) => print_unary(Mark::Not, of, sink, page),
-        Expr::Flip(of) => print_unary(Mark::Flip, of, sink, page),
+        Expr::Not(of) => print_signed(Mark::Not, of, sink, page),
+        Expr::Flip(of) => print_signed(Mark::Flip, of, sink, page),
         Expr::Binary(op, left, right) => {
-            page.put_mark(Mark::Open, sink);
-            print_part(left, op_mark(*op), sink, page);
-            print_part(right, Mark::Close, sink, page);
+            print_left(left, op_level(*op), op_mark(*op), sink, page);
+            print_operand(right, right_level(*op), sink, page);
         }
         Expr::Choose(test, yes, no) => {
-            page.put_mark(Mark::Open, sink);
-            print_part(test, Mark::Question, sink, page);
+            print_left(test, CONDITION, Mark::Question, sink, page);
             print_part(yes, Mark::Otherwise, sink, page);
-            print_part(no, Mark::Close, sink, page);
+            print_expr(no, sink, page);
         }
         Expr::Member(of, name) => {
-            print_part(of, Mark::Dot, sink, page);
+            print_left(of, SUFFIXED, Mark::Dot, sink, page);
             page.put(name.as_bytes(), sink);
         }
         Expr::Index(of, at) => {
-            print_part(of, Mark::BracketOpen, sink, page);
+            print_left(of, SUFFIXED, Mark::BracketOpen, sink, page);
             print_part(at, Mark::BracketClose, sink, page);
         }
-        Expr::Length(of) => print_part(of, Mark::Length, sink, page),
+        Expr::Length(of) => print_left(of, SUFFIXED, Mark::Length, sink, page),
     }
 }
 
@@ -102,12 +130,23 @@ pub fn print_part<K: Sink>(expr: &Expr, after: Mark, sink: &mut K, page: &mut Pa
     page.put_mark(after, sink);
 }
 
+// Prints an operand, and what follows it.
 #[cycle(expression)]
-fn print_unary<K: Sink>(sign: Mark, of: &Expr, sink: &mut K, page: &mut Page)
-    ensures { Goes K.written K.faults K.wants sink.old page.old (mark_text sign ++ (expr_text (expr_of of.now) ++ mark_text Mark.Close)) sink.new page.new }
+#[inline(always)]
+fn print_left<K: Sink>(expr: &Expr, loosest: u8, after: Mark, sink: &mut K, page: &mut Page)
+    ensures { Goes K.written K.faults K.wants sink.old page.old (operand_text loosest (expr_of expr.now) ++ mark_text after) sink.new page.new }
+{
+    print_operand(expr, loosest, sink, page);
+    page.put_mark(after, sink);
+}
+
+#[cycle(expression)]
+#[inline(always)]
+fn print_signed<K: Sink>(sign: Mark, of: &Expr, sink: &mut K, page: &mut Page)
+    ensures { Goes K.written K.faults K.wants sink.old page.old (mark_text sign ++ operand_text unary_level (expr_of of.now)) sink.new page.new }
 {
     page.put_mark(sign, sink);
-    print_part(of, Mark::Close, sink, page);
+    print_operand(of, UNARY, sink, page);
 }
 
 /// Prints arguments in parentheses.

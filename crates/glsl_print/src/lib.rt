@@ -6,6 +6,7 @@ mod expressions;
 mod items;
 mod level;
 mod page;
+mod precedence;
 mod printing;
 mod statements;
 mod types;

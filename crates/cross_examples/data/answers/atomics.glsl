@@ -12,7 +12,7 @@ void main() {
     uint v102 = atomicExchange(v5.m0[0u], 1u);
     uint v103 = atomicAdd(v5.m0[0u], 1u);
     uint v104 = atomicAdd(v5.m0[0u], 4294967295u);
-    uint v105 = atomicAdd(v5.m0[0u], (0u - 3u));
+    uint v105 = atomicAdd(v5.m0[0u], 0u - 3u);
     uint v106 = atomicMin(v5.m0[0u], 1u);
     uint v107 = atomicMax(v5.m0[0u], 1u);
     uint v108 = atomicAnd(v5.m0[0u], 1u);
@@ -22,7 +22,7 @@ void main() {
     int v112 = atomicAdd(v65.m0[0u], 0);
     int v113 = atomicAdd(v65.m0[0u], 1);
     int v114 = atomicAdd(v65.m0[0u], 0xFFFFFFFF);
-    int v115 = atomicAdd(v65.m0[0u], (0 - 2));
+    int v115 = atomicAdd(v65.m0[0u], 0 - 2);
     int v116 = atomicMin(v65.m0[0u], 2);
     int v117 = atomicMax(v65.m0[0u], 2);
     memoryBarrierBuffer();

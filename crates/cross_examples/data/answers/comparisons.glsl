@@ -9,21 +9,21 @@ layout(set = 0, binding = 1, std430) buffer v63 {
 void main() {
     uint v20 = v5.m0[0u];
     int v40 = v65.m0[0u];
-    v5.m0[0u] = ((v20 < uint(v40)) ? 1u : 0u);
-    v5.m0[0u] = ((v20 <= 1u) ? 1u : 0u);
-    v5.m0[0u] = ((v20 > 2u) ? 1u : 0u);
-    v5.m0[0u] = ((uint(v40) >= v20) ? 1u : 0u);
-    v5.m0[0u] = ((v40 < int(v20)) ? 1u : 0u);
-    v5.m0[0u] = ((v40 <= 2) ? 1u : 0u);
-    v5.m0[0u] = ((int(v20) > v40) ? 1u : 0u);
-    v5.m0[0u] = ((v40 >= v40) ? 1u : 0u);
-    v5.m0[0u] = ((v20 == uint(v40)) ? 1u : 0u);
-    v5.m0[0u] = ((v40 == 2) ? 1u : 0u);
-    v5.m0[0u] = ((uint(v40) != v20) ? 1u : 0u);
-    v5.m0[0u] = ((!true) ? 1u : 0u);
-    v5.m0[0u] = ((true && false) ? 1u : 0u);
-    v5.m0[0u] = ((true || false) ? 1u : 0u);
-    v5.m0[0u] = ((true == false) ? 1u : 0u);
-    v5.m0[0u] = ((true != false) ? 1u : 0u);
+    v5.m0[0u] = v20 < uint(v40) ? 1u : 0u;
+    v5.m0[0u] = v20 <= 1u ? 1u : 0u;
+    v5.m0[0u] = v20 > 2u ? 1u : 0u;
+    v5.m0[0u] = uint(v40) >= v20 ? 1u : 0u;
+    v5.m0[0u] = v40 < int(v20) ? 1u : 0u;
+    v5.m0[0u] = v40 <= 2 ? 1u : 0u;
+    v5.m0[0u] = int(v20) > v40 ? 1u : 0u;
+    v5.m0[0u] = v40 >= v40 ? 1u : 0u;
+    v5.m0[0u] = v20 == uint(v40) ? 1u : 0u;
+    v5.m0[0u] = v40 == 2 ? 1u : 0u;
+    v5.m0[0u] = uint(v40) != v20 ? 1u : 0u;
+    v5.m0[0u] = !true ? 1u : 0u;
+    v5.m0[0u] = true && false ? 1u : 0u;
+    v5.m0[0u] = true || false ? 1u : 0u;
+    v5.m0[0u] = true == false ? 1u : 0u;
+    v5.m0[0u] = true != false ? 1u : 0u;
     return;
 }

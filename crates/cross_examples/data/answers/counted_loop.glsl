@@ -4,8 +4,8 @@ void main() {
     uint v41;
     v41 = 0u;
     for (;;) {
-        uint v43 = (v41 + 1u);
-        if ((v43 < 4u)) {
+        uint v43 = v41 + 1u;
+        if (v43 < 4u) {
             v41 = v43;
             continue;
         } else {

@@ -9,7 +9,7 @@ layout(set = 0, binding = 1, std430) buffer v63 {
 void main() {
     uint v20 = v5.m0[0u];
     int v40 = v65.m0[0u];
-    v65.m0[0u] = int(((v40 < 0) ? (0u - uint(v40)) : uint(v40)));
+    v65.m0[0u] = int(v40 < 0 ? 0u - uint(v40) : uint(v40));
     v65.m0[0u] = sign(v40);
     v5.m0[0u] = min(v20, uint(v40));
     v65.m0[0u] = min(v40, int(v20));

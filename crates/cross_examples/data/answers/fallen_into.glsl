@@ -13,7 +13,7 @@ void main() {
             fell = true;
         }
         case 2u: {
-            if ((!fell)) {
+            if (!fell) {
                 v55 = 0u;
             }
             v5.m0[0u] = v55;

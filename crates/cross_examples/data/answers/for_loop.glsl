@@ -10,11 +10,11 @@ void main() {
     for (;;) {
         if (again) {
             uint v45 = i;
-            i = (v45 + 1u);
+            i = v45 + 1u;
         }
         again = true;
         uint v40 = i;
-        if ((v40 < 4u)) {
+        if (v40 < 4u) {
             uint v42 = i;
             uint v43 = i;
             v5.m0[v42] = v43;

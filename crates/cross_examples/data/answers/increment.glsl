@@ -6,6 +6,6 @@ layout(set = 0, binding = 0, std430) buffer v3 {
 void main() {
     uint v18 = gl_GlobalInvocationID.x;
     uint v20 = v5.m0[v18];
-    v5.m0[v18] = (v20 + 1u);
+    v5.m0[v18] = v20 + 1u;
     return;
 }

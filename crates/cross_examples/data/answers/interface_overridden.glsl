@@ -14,9 +14,9 @@ layout(set = 1, binding = 2, std140) uniform v73 {
 uint v43 = 5u;
 void main() {
     uint v52 = push.m0;
-    v5.m0[0u] = (false ? v52 : 0u);
+    v5.m0[0u] = false ? v52 : 0u;
     uint v55 = v75.m0[1u];
-    v5.m0[0u] = (v55 + 2147483648u);
+    v5.m0[0u] = v55 + 2147483648u;
     uint v57 = v43;
     v5.m0[0u] = v57;
     v5.m0[0u] = uint(v5.m0.length());

@@ -13,7 +13,7 @@ void main() {
         }
         again = true;
         uint v40 = i;
-        if ((v40 < 4u)) {
+        if (v40 < 4u) {
             uint v42 = i;
             uint v43 = i;
             v5.m0[v42] = v43;

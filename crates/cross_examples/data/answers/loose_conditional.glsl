@@ -11,8 +11,8 @@ void main() {
         }
         again = true;
         v40 = v5.m0[0u];
-        if ((v40 < 4u)) {
-            v5.m0[0u] = (v40 + 1u);
+        if (v40 < 4u) {
+            v5.m0[0u] = v40 + 1u;
             continue;
         } else {
             break;

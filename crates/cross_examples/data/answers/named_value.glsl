@@ -6,6 +6,6 @@ layout(set = 0, binding = 0, std430) buffer v3 {
 void main() {
     uint i = gl_GlobalInvocationID.x;
     uint v20 = v5.m0[i];
-    v5.m0[i] = (v20 + 1u);
+    v5.m0[i] = v20 + 1u;
     return;
 }

@@ -14,7 +14,7 @@ struct Item_2 {
 };
 void add_u1_u1(inout uint n_float, uint i_3) {
     uint v35 = n_float;
-    n_float = (v35 + i_3);
+    n_float = v35 + i_3;
     return;
 }
 void main() {
@@ -39,12 +39,12 @@ void main() {
     for (;;) {
         if (again) {
             uint v74 = i_2;
-            i_2 = (v74 + 1u);
+            i_2 = v74 + 1u;
         }
         again = true;
         uint v65 = i_2;
         uint v66 = i;
-        if ((v65 <= v66)) {
+        if (v65 <= v66) {
             uint v68 = sum;
             param = v68;
             uint v69 = i_2;

@@ -6,8 +6,8 @@ layout(set = 0, binding = 0, std430) buffer v3 {
 void main() {
     uint v18 = gl_GlobalInvocationID.x;
     uint v20 = v5.m0[0u];
-    v5.m0[0u] = (v20 << (v18 & 31u));
-    v5.m0[0u] = (v20 << 31u);
-    v5.m0[0u] = (v20 << (32u & 31u));
+    v5.m0[0u] = v20 << (v18 & 31u);
+    v5.m0[0u] = v20 << 31u;
+    v5.m0[0u] = v20 << (32u & 31u);
     return;
 }

@@ -6,7 +6,7 @@ layout(set = 0, binding = 0, std430) buffer v3 {
 void main() {
     uint v18 = gl_GlobalInvocationID.x;
     uint v20 = v5.m0[v18];
-    uint v56 = (((((((((((((((((v20 + 1u) + 1u) + 1u) + 1u) + 1u) + 1u) + 1u) + 1u) + 1u) + 1u) + 1u) + 1u) + 1u) + 1u) + 1u) + 1u) + 1u);
+    uint v56 = v20 + 1u + 1u + 1u + 1u + 1u + 1u + 1u + 1u + 1u + 1u + 1u + 1u + 1u + 1u + 1u + 1u + 1u;
     v5.m0[v18] = v56;
     return;
 }

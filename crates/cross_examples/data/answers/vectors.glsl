@@ -12,6 +12,6 @@ void main() {
     v45[v20] = 1u;
     uvec3 v46 = v45;
     v46.z = 1u;
-    v5.m0[0u] = (any(bvec3((v40.x < v46.x), (v40.y < v46.y), (v40.z < v46.z))) ? v40 : v46).x;
+    v5.m0[0u] = (any(bvec3(v40.x < v46.x, v40.y < v46.y, v40.z < v46.z)) ? v40 : v46).x;
     return;
 }
