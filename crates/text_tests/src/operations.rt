@@ -54,7 +54,7 @@ fn an_operation_on_vectors(rt: HostRuntime) -> Result<(), Fail> {
         type_name(alloc, ty).base,
         not.ok().ok_or("no memory")?,
     )?;
-    assert!(rt; text.ends_with(b"const ivec2 c = (~v);\n"));
+    assert!(rt; text.ends_with(b"const ivec2 c = ~v;\n"));
     assert_eq!(rt;
         operation(Op::ExtInst, 74),
         Some(Operation::Unary(Unary::FindSMsb))
