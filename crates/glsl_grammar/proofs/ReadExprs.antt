@@ -145,7 +145,7 @@ module _ (P : List Token → Type 0) (a : (n : ℕ) (ts : List Token) → P (num
 pub first_of_expr : (P : List Token → Type 0) → ((n : ℕ) (ts : List Token) → P (number n ∷ ts)) → ((n : ℕ) (ts : List Token) → P (unsigned n ∷ ts)) → ((n : ℕ) (ts : List Token) → P (hexadecimal n ∷ ts)) → ((b : Bool) (ts : List Token) → P (truth b ∷ ts)) → ((b : Base) (ts : List Token) → P (basic b ∷ ts)) → ((w : Text) (ts : List Token) → P (word w ∷ ts)) → ((ts : List Token) → P (left_paren ∷ ts)) → ((ts : List Token) → P (not_sign ∷ ts)) → ((ts : List Token) → P (flip_sign ∷ ts)) → (e : Expr) (ts : List Token) → P (put_expr e ts)
 first_of_expr P a b c d f g h i j e ts = first_within P a b c d f g h any_level (λ le. i) (λ le. j) e (level_fits e) ts
 
--- what may follow a part of a level, as a number above the levels: behind such a part no token goes on with it at a tighter level
+-- Behind a part of a level below this number, the tokens go on at no tighter level; at its own they may.
 abbrev stop : List Token → ℕ
 stop (left_paren ∷ ts) = 0
 stop (left_bracket ∷ ts) = 1
@@ -154,7 +154,7 @@ stop (operator o ∷ ts) = suc (op_level o)
 stop (question ∷ ts) = 12
 stop _ = 13
 
--- as above, where no token goes on with it at the level itself
+-- Behind a part of a level below this number, the tokens go on at no level up to its own.
 abbrev end : List Token → ℕ
 end (left_paren ∷ ts) = 0
 end (left_bracket ∷ ts) = 0
@@ -325,18 +325,18 @@ NoSign names n us = read_unary names (read_within names n) n us ≡ read_post na
 
 -- so it is at looser levels
 looser : (names : List Text) (n level : ℕ) (e : Expr) (us ts : List Token) → length ts ≤ n → (level ≡ 0 → NoSign names n us) → At names n level e us ts → At names n (suc level) e us ts
-looser names n zero e us ts le bare at x s h = bare refl ∙ at (Some (e, ts)) (omega arith) (λ j l. level_ends (read_within names n) j 0 e ts (omega (arith, stop_is_near ts))) ∙ h n le
-looser names n (suc r) e us ts le bare at x s h =
+looser names n zero e us ts le plain at x s h = plain refl ∙ at (Some (e, ts)) (omega arith) (λ j l. level_ends (read_within names n) j 0 e ts (omega (arith, stop_is_near ts))) ∙ h n le
+looser names n (suc r) e us ts le plain at x s h =
     and_on (read_level names (read_within names n) n (suc r)) (read_rest (read_within names n) (suc r) n) us ts e x
     (at (Some (e, ts)) (omega arith) (λ j l. level_ends (read_within names n) j (suc r) e ts (omega (arith, stop_is_near ts))))
     (h n le)
 
 lifted : (names : List Text) (n level k : ℕ) (e : Expr) (us ts : List Token) → k ≤ level → length ts ≤ n → (k ≡ 0 → NoSign names n us) → At names n k e us ts → At names n level e us ts
-lifted names n zero k e us ts fits le bare at = subst (λ l. At names n l e us ts) (omega arith) at
-lifted names n (suc level) k e us ts fits le bare at =
+lifted names n zero k e us ts fits le plain at = subst (λ l. At names n l e us ts) (omega arith) at
+lifted names n (suc level) k e us ts fits le plain at =
     elim (cases_lt level k) [
       | inl here ↦ subst (λ l. At names n l e us ts) (omega arith) at
-      | inr fits' ↦ looser names n level e us ts le (λ z. bare (omega arith)) (lifted names n level k e us ts fits' le bare at)
+      | inr fits' ↦ looser names n level e us ts le (λ z. plain (omega arith)) (lifted names n level k e us ts fits' le plain at)
     ]
 
 -- the law of a tree at its own level
@@ -442,19 +442,18 @@ binary_on names o a b oa ob n ts le x s h = operand_at names a oa (op_level o) n
 
 choose_on : (names : List Text) (c a b : Expr) → Own names c → Own names a → Own names b → Own names (tree.Expr.choose c a b)
 choose_on names c a b oc oa ob n ts le x s h =
-    let bs : List Token = put_expr b ts in
-    let as' : List Token = put_expr a (colon ∷ put_expr b ts) in
-    let inner : ℕ → Parse Expr = read_within names n in
+    let other : List Token = colon ∷ put_expr b ts in
+    let rest : List Token = question ∷ put_expr a other in
     let lc = rest_of_operand condition_level c (question ∷ put_expr a (colon ∷ put_expr b ts)) in
     let la = rest_of_expr a (colon ∷ put_expr b ts) in
     let lb = rest_of_expr b ts in
-    let rc : read_level names (read_within names n) n condition_level (put_operand condition_level c (question ∷ put_expr a (colon ∷ put_expr b ts))) ≡ Some (c, question ∷ put_expr a (colon ∷ put_expr b ts)) =
-    operand_at names c oc condition_level n (question ∷ put_expr a (colon ∷ put_expr b ts)) le (Some (c, question ∷ put_expr a (colon ∷ put_expr b ts))) (omega arith) (λ j l. level_ends (read_within names n) j condition_level c (question ∷ put_expr a (colon ∷ put_expr b ts)) (omega arith)) in
-    let ra : read_expr names n (put_expr a (colon ∷ put_expr b ts)) ≡ Some (a, colon ∷ put_expr b ts) = any_back names a oa n (colon ∷ put_expr b ts) (omega arith) (omega arith) in
+    let rc : read_level names (read_within names n) n condition_level (put_operand condition_level c rest) ≡ Some (c, rest) =
+    operand_at names c oc condition_level n rest le (Some (c, rest)) (omega arith) (λ j l. level_ends (read_within names n) j condition_level c rest (omega arith)) in
+    let ra : read_expr names n (put_expr a other) ≡ Some (a, other) = any_back names a oa n other (omega arith) (omega arith) in
     let rb : read_expr names n (put_expr b ts) ≡ Some (b, ts) = any_back names b ob n ts (omega arith) (any_ends ts s) in
     let done : Some (tree.Expr.choose c a b, ts) ≡ x = sym (level_ends (read_within names n) n any_level (tree.Expr.choose c a b) ts (any_ends ts s)) ∙ h n (omega arith) in
-    and_on (read_level names (read_within names n) n condition_level) (read_rest (read_within names n) condition_level n) (put_operand condition_level c (question ∷ put_expr a (colon ∷ put_expr b ts))) (question ∷ put_expr a (colon ∷ put_expr b ts)) c x rc
-    (and_on (read_expr names n) _ (put_expr a (colon ∷ put_expr b ts)) (colon ∷ put_expr b ts) a x ra (and_on (read_expr names n) _ (put_expr b ts) ts b x rb done))
+    and_on (read_level names (read_within names n) n condition_level) (read_rest (read_within names n) condition_level n) (put_operand condition_level c rest) rest c x rc
+    (and_on (read_expr names n) _ (put_expr a other) other a x ra (and_on (read_expr names n) _ (put_expr b ts) ts b x rb done))
 
 member_on : (names : List Text) (a : Expr) (w : Text) → Own names a → Own names (tree.Expr.member a w)
 member_on names a w own n ts le x s h = operand_at names a own 0 n (dot ∷ word w ∷ ts) le x (omega arith) go
