@@ -164,4 +164,3 @@ without_operand = refl
 without_other : expr_of_tokens (lex (codes "a ? b")) ≡ None
 unfolding opened
 without_other = refl
-

@@ -5,10 +5,16 @@ ghost use Rattle.glsl_grammar.specs.Levels.{op_level as level_of_op, right_level
 
 use glsl_ast::{BinOp, Expr};
 
-// The levels of all expressions, of the conditions of `?:`, of the operands of unary signs, and of parts with suffixes.
+// The loosest level of any expression.
 pub const ANY: u8 = 12;
+
+// The loosest level at which a condition of `?:` stands bare.
 pub const CONDITION: u8 = 11;
+
+// The loosest level at which an operand of a unary sign stands bare.
 pub const UNARY: u8 = 1;
+
+// The loosest level at which a part stands bare that a suffix follows.
 pub const SUFFIXED: u8 = 0;
 
 // The level of an operation: the smaller, the tighter. Its left operand stands bare up to this level.
