@@ -136,6 +136,7 @@ read_rest inner level n a = elim (level == condition_level) [ true ↦ read_choi
 -- shift = sum (("<<" | ">>") sum)*
 -- sum   = prod (("+" | "-") prod)*
 -- prod  = unary (("*" | "/" | "%") unary)*
+-- Level 12 is `expr`, 11 to 2 are `lor` to `prod`, 1 is `unary` and 0 `post`.
 abbrev pub read_level : List Text → (ℕ → Parse Expr) → ℕ → ℕ → Parse Expr
 read_level names inner n zero = read_post names (inner any_level) n
 read_level names inner n (suc zero) = read_unary names inner n
