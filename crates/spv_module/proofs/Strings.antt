@@ -1,5 +1,5 @@
 -- Where the string of an instruction begins, by the number of its opcode.
-use Rattle.std.proofs.Common.{◌≡◌, ◌==◌, ◌||◌, ℕ, Bool, true, false, Option, Some, None, IfSome, IfNone, refl, ap, sym, ◌∙◌, subst, inl, inr}
+use Rattle.std.proofs.Common.{◌≡◌, ◌==◌, ◌||◌, ℕ, false, Option, Some, None, IfSome, IfNone, refl, ap, sym, ◌∙◌, subst, inl, inr}
 use Rattle.std.proofs.lemmas.Bool.Decides.{eqb_tells}
 use Rattle.std.specs.Prelude.{option_and_then, if◌then◌else◌}
 use Rattle.spv_ops.specs.Opcode.{op_of, number, HasNoOp}

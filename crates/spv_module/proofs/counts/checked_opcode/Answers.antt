@@ -1,4 +1,4 @@
-use Rattle.std.proofs.Common.{◌≡◌, true, refl, sym, ◌∙◌, Some, None, rules}
+use Rattle.std.proofs.Common.{◌≡◌, refl, sym, ◌∙◌, Some, None, rules}
 use Rattle.spv_words.specs.Words.{nth_inst}
 use Rattle.spv_ops.specs.Opcode.{op_of}
 use Rattle.spv_module.proofs.Behind.{unknown_none, unknown_inner, misfit_here}
