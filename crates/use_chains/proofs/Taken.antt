@@ -1,6 +1,6 @@
 -- A filter over what is left of a list, one item further.
-use Rattle.std.proofs.Common.{◌≡◌, ◌<◌, ◌+◌, ◌==◌, ◌&&◌, ℕ, Bool, true, false, List, [], ◌∷◌, ◌++◌, length, get_or, drop, map, filter, refl, ap, sym, subst, ◌∙◌, cond}
-use Rattle.std.proofs.lemmas.Bool.{and_left, and_right, both_ways, ne_eqb}
+use Rattle.std.proofs.Common.{◌≡◌, ◌<◌, ◌+◌, ◌&&◌, ℕ, Bool, true, false, List, [], ◌∷◌, ◌++◌, length, get_or, drop, map, filter, refl, ap, sym, ◌∙◌, cond}
+use Rattle.std.proofs.lemmas.Bool.{and_left, and_right}
 use Rattle.spv_module.specs.declared.inst.Inst.{Inst}
 use Rattle.spv_module.specs.declared.inst.Function.{Function}
 use Rattle.spv_ops.specs.Operands.{is_id}
