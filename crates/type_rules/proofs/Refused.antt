@@ -1,6 +1,7 @@
 -- Refusals of lists that are put together.
-use Rattle.std.proofs.Common.{◌≡◌, ◌<◌, ◌≤◌, ◌+◌, ℕ, zero, suc, true, Some, Result, IfErr, if◌then◌else◌, arith, List, [], ◌∷◌, ◌++◌, length, take, get_or, ap, sym, ◌∙◌, subst}
+use Rattle.std.proofs.Common.{◌≡◌, ◌<◌, ◌≤◌, ◌+◌, ◌==◌, ℕ, zero, suc, true, false, Some, Result, IfErr, if◌then◌else◌, arith, List, [], ◌∷◌, ◌++◌, length, take, get_or, ap, sym, ◌∙◌, subst}
 use Rattle.std.specs.List.{flat_map, Contains}
+use Rattle.std.proofs.lemmas.Bool.Decides.{nat_tests}
 use Rattle.std.proofs.lemmas.List.{take_more, take_all, append-nil}
 use Rattle.std.proofs.lemmas.List.Elements.{Contains-append_left, Contains-append_right}
 use Rattle.std.proofs.lemmas.List.Concat.{flat_map-cons}
@@ -39,7 +40,7 @@ sound_none rs none = sym (ap (λ (l : List Refusal). length l == 0) none)
 
 pub sound_some : (rs : List Refusal) (r : Refusal) → Contains rs r → false ≡ (length rs == 0)
 sound_some [] r h = absurd (omega (arith, h.1))
-sound_some (x ∷ rs) r h = refl
+sound_some (x ∷ rs) r h = grind (arith, nat_tests)
 
 pub ruleset sound_rules = (sound_none, sound_some)
 
