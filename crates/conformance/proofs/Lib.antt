@@ -1,3 +1,4 @@
+mod IdsExample
 mod LaterRules
 mod TypeRefusals
 pub mod Callees
