@@ -143,9 +143,9 @@ fn goes_byte_by_byte(rt: HostRuntime) -> Result<(), Fail> {
 #[test]
 fn comes_to_the_limit_of_bytes(rt: HostRuntime) -> Result<(), Fail> {
     let alloc = rt.alloc();
-    let long = vec![in alloc; 0; 1048577]?;
+    let long = vec![in alloc; 0; 4194305]?;
     let ended = run_with(alloc, &["check"], long, [&[], &[], &[]])?;
     assert_eq!(rt; ended.status, 3);
-    assert_eq!(rt; ended.notes.as_slice(), b"limit bytes 1048576\n".as_slice());
+    assert_eq!(rt; ended.notes.as_slice(), b"limit bytes 4194304\n".as_slice());
     Ok(())
 }

@@ -21,7 +21,7 @@ pub fn bytes_of(alloc: Global, pieces: &[&[u32]]) -> Result<Vec<u8>, AllocError>
 /// `Limit::Bytes` where it is longer.
 pub fn module_of(alloc: Global, pieces: &[&[u32]]) -> Result<Module, Fault> {
     let bytes = bytes_of(alloc, pieces)?;
-    if bytes.len() > 1048576 {
+    if bytes.len() > 4194304 {
         return Err(Fault::Limit(Limit::Bytes));
     }
     Module::read(alloc, &Words::of(alloc, &bytes)?)

@@ -5,7 +5,7 @@ use Rattle.spv_words.specs.declared.rule.Limit.TheVariants.{Bytes, Bound, Depth,
 
 -- the largest number that is taken
 abbrev pub limit_number : Limit → ℕ
-limit_number Bytes = 1048576
+limit_number Bytes = 4194304
 limit_number Bound = 262144
 limit_number Depth = 127
 limit_number Types = 15

@@ -237,7 +237,7 @@ impl Limit {
         ensures { result ≡ limit_number self.now }
     {
         match self {
-            Limit::Bytes => 1048576,
+            Limit::Bytes => 4194304,
             Limit::Bound => 262144,
             Limit::Depth => 127,
             Limit::Types => 15,
