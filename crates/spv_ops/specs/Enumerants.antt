@@ -36,6 +36,7 @@ abbrev pub decoration_number : Decoration → ℕ
 decoration_number decoration.RelaxedPrecision = 0
 decoration_number decoration.SpecId = 1
 decoration_number decoration.Block = 2
+decoration_number decoration.BufferBlock = 3
 decoration_number decoration.ArrayStride = 6
 decoration_number decoration.BuiltIn = 11
 decoration_number decoration.Restrict = 19
@@ -49,7 +50,7 @@ decoration_number decoration.DescriptorSet = 34
 decoration_number decoration.Offset = 35
 
 abbrev pub known_decorations : List Decoration
-known_decorations = decoration.RelaxedPrecision ∷ decoration.SpecId ∷ decoration.Block ∷ decoration.ArrayStride ∷ decoration.BuiltIn ∷ decoration.Restrict ∷ decoration.Aliased ∷ decoration.Volatile ∷ decoration.Coherent ∷ decoration.NonWritable ∷ decoration.NonReadable ∷ decoration.Binding ∷ decoration.DescriptorSet ∷ decoration.Offset ∷ []
+known_decorations = decoration.RelaxedPrecision ∷ decoration.SpecId ∷ decoration.Block ∷ decoration.BufferBlock ∷ decoration.ArrayStride ∷ decoration.BuiltIn ∷ decoration.Restrict ∷ decoration.Aliased ∷ decoration.Volatile ∷ decoration.Coherent ∷ decoration.NonWritable ∷ decoration.NonReadable ∷ decoration.Binding ∷ decoration.DescriptorSet ∷ decoration.Offset ∷ []
 
 abbrev pub decoration_of_number : ℕ → Option Decoration
 decoration_of_number n = find (λ c. decoration_number c == n) known_decorations
