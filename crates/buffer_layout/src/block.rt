@@ -11,7 +11,7 @@ use crate::members::{Member, first_broken, members_of};
 use crate::plan::BlockPlan;
 use layout_rules::Kind;
 use spv_decor::Decor;
-use spv_index::pointer;
+use spv_index::{is_uniform_struct, pointer};
 use spv_module::{Id, Inst, Module};
 use spv_ops::{Op, StorageClass};
 use spv_types::shape;
@@ -55,11 +55,11 @@ pub fn is_block_variable(module: &Module, id: Id) -> bool
     }
 }
 
-/// The first layout that a block of a storage class may take.
-fn first_kind(class: u32) -> Kind
-    ensures { result ≡ first_kind_of class }
+/// The first layout that the block of a variable of this class with this struct may take.
+fn first_kind(decor: &Decor, class: u32, id: Id) -> Kind
+    ensures { result ≡ first_kind_of decor.now class id.0 }
 {
-    if class == StorageClass::Uniform.number() {
+    if is_uniform_struct(decor, class, id) {
         Kind::Std140
     } else {
         Kind::Std430
@@ -68,13 +68,12 @@ fn first_kind(class: u32) -> Kind
 
 /// The layout that a block with these members takes, or a rule that it breaks by the first.
 #[tactic(auto, using(crate::proofs::Taken::found_rules))]
-fn taken_kind(module: &Module, decor: &Decor, class: u32, members: &[Member]) -> Result<Kind, Rule>
-    ensures taken { IfOk result (λ kind. kind_of_members decor.now «module».now.globals class (map member_of members.now) ≡ Some kind) }
+fn taken_kind(module: &Module, decor: &Decor, first: Kind, members: &[Member]) -> Result<Kind, Rule>
+    ensures taken { IfOk result (λ kind. kind_of_members decor.now «module».now.globals first (map member_of members.now) ≡ Some kind) }
     ensures fits { IfOk result (λ kind. first_broken_in decor.now «module».now.globals kind (map member_of members.now) ≡ None) }
-    ensures none { OnErr result (kind_of_members decor.now «module».now.globals class (map member_of members.now) ≡ None) }
-    ensures broken { IfErr result (λ rule. members_break decor.now «module».now.globals (first_kind_of class) (map member_of members.now) rule ≡ true) }
+    ensures none { OnErr result (kind_of_members decor.now «module».now.globals first (map member_of members.now) ≡ None) }
+    ensures broken { IfErr result (λ rule. members_break decor.now «module».now.globals first (map member_of members.now) rule ≡ true) }
 {
-    let first = first_kind(class);
     match first_broken(module, decor, first, members) {
         None => Ok(first),
         Some(rule) => match first_broken(module, decor, Kind::Std140, members) {
@@ -99,7 +98,8 @@ fn plan_of(
 {
     let _ = shape(alloc, module, Id(block.result))?;
     let members = members_of(alloc, module, decor, block)?;
-    match taken_kind(module, decor, variable.operand(0), &members) {
+    let first = first_kind(decor, variable.operand(0), Id(block.result));
+    match taken_kind(module, decor, first, &members) {
         Ok(kind) => Ok(plan(alloc, module, decor, kind, &members)?),
         Err(rule) => Err(Fault::Refused(Refusal {
             rule,
@@ -109,12 +109,12 @@ fn plan_of(
 }
 
 /// The layout that a block variable takes, with the layouts of its members and their Offsets
-/// (SPIR-V 1.6, section 2.16.2; GLSL 4.60, section 4.4.5): a Uniform block std140, a StorageBuffer or
+/// (SPIR-V 1.6, section 2.16.2; GLSL 4.60, section 4.4.5): a uniform block std140, a storage block or
 /// PushConstant block std430 where it fits, else std140. A member whose type has no shape, or does
 /// not stand before the block, has a layout of zeros.
 ///
-/// Where none fits it refuses, at the variable, by a rule that the block breaks by the first that its
-/// class may take. L1: a member lacks its Offset. L2: an ArrayStride is missing or not the layout's.
+/// Where none fits it refuses, at the variable, by a rule that the block breaks by the first that it
+/// may take. L1: a member lacks its Offset. L2: an ArrayStride is missing or not the layout's.
 /// L3: there is a bool. L4: an Offset of the block is no multiple of its member's alignment. L5: one
 /// is below the end of the member before. L6: an Offset in a struct inside is not the layout's. L7:
 /// an end is past the last byte that 32 bits can number. It refuses by the limits on types only where

@@ -12,7 +12,7 @@ use Rattle.spv_module.specs.declared.inst.Function.{Function}
 use Rattle.spv_index.specs.Locals.{insts_of}
 use Rattle.profile_rules.specs.AccessRules.{breaks, broken_in, broken_at, Broken}
 use Rattle.layout_rules.specs.declared.Kind.{Kind}
-use Rattle.layout_rules.specs.Blocks.{Member, member_breaks, members_break, members_of, first_kind, block_of, IsBrokenBy, BreaksAt, Broken as BrokenLayout}
+use Rattle.layout_rules.specs.Blocks.{Member, member_breaks, members_break, members_of, first_at, block_of, IsBrokenBy, BreaksAt, Broken as BrokenLayout}
 use Rattle.spv_module.specs.Held.{global}
 
 none_pass : {X : Type 0} (p : X → Bool) → ((x : X) → p x ≡ false) → (xs : List X) → filter p xs ≡ []
@@ -64,7 +64,7 @@ layout_letter heads gs kind ms rule h =
 
 letter_of_block : (m : ModuleState) (v : Inst) (block : Option Inst) (rule : Rule) → IsSomeAnd block (λ (b : Inst). IsBrokenBy m.heads m.globals v b rule) → letter_of rule ≡ 76
 letter_of_block m v None rule h = absurd h
-letter_of_block m v (Some b) rule h = layout_letter m.heads m.globals (first_kind (slice_index v.args 0)) (members_of m.heads m.globals b) rule h.1
+letter_of_block m v (Some b) rule h = layout_letter m.heads m.globals (first_at m.heads v b) (members_of m.heads m.globals b) rule h.1
 
 letter_of_variable : (m : ModuleState) (v : Option Inst) (rule : Rule) (at : ℕ) → IsSomeAnd v (λ (i : Inst). (at ≡ i.at) × BreaksAt m.heads m.globals i rule) → letter_of rule ≡ 76
 letter_of_variable m None rule at h = absurd h

@@ -56,11 +56,11 @@ module _ {X : Type 0} (q : X → Bool) where
 variables_are : (m : ModuleState) → variables_of m ≡ filter is_variable (body_insts m)
 variables_are m = sym (filter-append is_variable m.globals (local_insts m))
 
-pub pointees_same : (m : ModuleState) (is_class : ℕ → Bool) → filter_map (pointee_by m.globals is_class) (variables_of m) ≡ pointees m is_class
-pointees_same m is_class =
-    let h : Inst → Option ℕ = pointee_by m.globals is_class in
+pub pointees_same : (m : ModuleState) (test : Inst → Bool) → filter_map (pointee_by m.globals test) (variables_of m) ≡ pointees m test
+pointees_same m test =
+    let h : Inst → Option ℕ = pointee_by m.globals test in
     ap (filter_map h) (variables_are m)
-    ∙ filter_map_kept is_variable h (λ i none. ap (λ b. if b && is_class (word i 0) then pointee m.globals i.ty else None) none) (body_insts m)
+    ∙ filter_map_kept is_variable h (λ i none. ap (λ b. if b && test i then pointee m.globals i.ty else None) none) (body_insts m)
 
 found_in_body : (m : ModuleState) (p : Inst → Bool) → ((i : Inst) → is_variable i ≡ false → p i ≡ false) → find p (variables_of m) ≡ find p (body_insts m)
 found_in_body m p fails = ap (find p) (variables_are m) ∙ find_kept is_variable p fails (body_insts m)

@@ -3,7 +3,8 @@ ghost use Rattle.std.specs.Prelude.{◌≡◌, ℕ, IfOk, map};
 ghost use Rattle.std.specs.Option.{option_copied};
 ghost use Rattle.spv_module.specs.Held.{global};
 ghost use Rattle.spv_decor.specs.Rows.{value_of};
-ghost use Rattle.spv_index.specs.ValueTypes.{is_block, is_no_value_type};
+ghost use Rattle.spv_index.specs.BlockStructs.{is_block as is_block_in, is_block_struct as is_block_struct_in, is_some_block as is_some_block_in, is_storage_block as is_storage_block_in};
+ghost use Rattle.spv_index.specs.ValueTypes.{is_no_value_type};
 ghost use Rattle.spv_index.specs.Pointers.{storage_class, pointee};
 ghost use Rattle.profile_rules.specs.TypeRows.{type_row};
 ghost use Rattle.profile_rules.specs.Places.{is_among, is_defined_elsewhere};
@@ -14,9 +15,8 @@ use crate::elsewhere::defined_elsewhere;
 use crate::rows::{Values, behind, values_of};
 use id_map::IdSet;
 use spv_decor::Decor;
-use spv_index::{Pointer, ValueTypes, pointer};
+use spv_index::{Pointer, ValueTypes, is_block, is_block_struct, is_storage_struct, pointer};
 use spv_module::{Function, Id, Inst, Module};
-use spv_ops::Decoration;
 use spv_words::Memory;
 use std::alloc::Global;
 use std::marker::Model;
@@ -146,13 +146,38 @@ impl<'a> Context<'a> {
         self.decor.value(Id(id), decoration)
     }
 
-    /// Whether the id is decorated Block.
+    /// Whether the id is decorated Block or BufferBlock.
     pub fn is_block(&self, id: u32) -> bool
-        ensures { result ≡ is_block self.now.heads id }
+        ensures { result ≡ is_block_in self.now.heads id }
     {
-        self.decor
-            .value(Id(id), Decoration::Block.number())
-            .is_some()
+        is_block(self.decor, Id(id))
+    }
+
+    /// Whether a variable of this class that points to this struct is a block.
+    pub fn is_block_struct(&self, class: u32, id: u32) -> bool
+        ensures { result ≡ is_block_struct_in self.now.heads class id }
+    {
+        is_block_struct(self.decor, class, Id(id))
+    }
+
+    /// Whether a variable is a block.
+    pub fn is_some_block(&self, variable: &Inst) -> bool
+        ensures { result ≡ is_some_block_in self.now.heads self.now.globals variable.now }
+    {
+        match self.pointee(variable.ty) {
+            None => false,
+            Some(id) => is_block_struct(self.decor, variable.operand(0), Id(id)),
+        }
+    }
+
+    /// Whether it is a storage block.
+    pub fn is_storage_block(&self, variable: &Inst) -> bool
+        ensures { result ≡ is_storage_block_in self.now.heads self.now.globals variable.now }
+    {
+        match self.pointee(variable.ty) {
+            None => false,
+            Some(id) => is_storage_struct(self.decor, variable.operand(0), Id(id)),
+        }
     }
 
     /// Whether the id is that of an import, or is defined in or by a function.

@@ -18,7 +18,7 @@ use spv_ops::{Op, StorageClass};
 use spv_words::{Fault, Rule};
 use std::alloc::Global;
 
-/// Whether this is a struct decorated Block, or OpTypeRuntimeArray, that is used otherwise.
+/// Whether this is a struct decorated Block or BufferBlock, or OpTypeRuntimeArray, that is used otherwise.
 fn is_misused(context: &Context, uses: &Misuses, inst: &Inst) -> bool
     requires { AreMisuses context.now (is_in uses.now.blocks) (is_in uses.now.runtimes) }
     ensures { result ≡ is_misused_in context.now inst.now }
@@ -37,9 +37,10 @@ fn first_misused<'a>(context: &Context<'a>, uses: &Misuses) -> Option<&'a Inst>
         .find(|inst| is_misused(context, uses, *inst))
 }
 
-/// P17: a struct decorated Block is anything but what a Uniform, StorageBuffer or PushConstant variable
-/// points to; or a runtime array is anything but the last member of a StorageBuffer's (SPIR-V 1.6,
-/// section 3.20, and "Type-Declaration Instructions", OpTypeRuntimeArray).
+/// P17: a struct decorated Block or BufferBlock is anything but what a block variable points to; or one
+/// with BufferBlock is what a variable of another class than Uniform points to; or a runtime array is
+/// anything but the last member of a storage block's struct (SPIR-V 1.6, section 3.20, and
+/// "Type-Declaration Instructions", OpTypeRuntimeArray).
 pub fn check_uses(alloc: Global, context: &Context) -> Result<(), Fault>
     ensures { IsChecked P17 (p17 context.now) result }
 {

@@ -2,7 +2,7 @@
 ghost use Rattle.std.specs.Prelude.{◌≡◌, ◌==◌, ◌++◌, ◌∷◌, ◌||◌, ℕ, ◌-◌, ◌&&◌, not, length, take, map, flat_map, filter_map, IfOk, OnOk};
 ghost use Rattle.id_map.specs.Entries.{is_in as has_id};
 ghost use Rattle.profile_rules.specs.Places.{is_among};
-ghost use Rattle.profile_rules.specs.TypeForm.{parts_of as parts_in, pointee_by as pointee_of, pointees as pointees_in, signature, signature_types as signature_types_in, is_other_than_block, is_storage_block as is_storage_block_in, fixed_parts as fixed_parts_in, is_held};
+ghost use Rattle.profile_rules.specs.TypeForm.{parts_of as parts_in, pointee_by as pointee_of, pointees as pointees_in, signature, signature_types as signature_types_in, is_workgroup as is_workgroup_row, is_of_storage as is_of_storage_in, fixed_parts as fixed_parts_in, is_held};
 ghost use Rattle.declaration_check.specs.Kept.{variables_of};
 ghost use Rattle.declaration_check.specs.Classes.{is_in, AreMisuses, AreHolders};
 
@@ -13,8 +13,8 @@ use spv_module::{Function, Id, Inst};
 use spv_ops::{Op, StorageClass};
 use std::alloc::{AllocError, Global};
 
-/// Sets of storage classes: all; Workgroup; all but Workgroup; all but StorageBuffer; all but Uniform,
-/// StorageBuffer and PushConstant.
+/// Sets of variables: all; those of class Workgroup; all but these; all but storage blocks; all but
+/// blocks.
 #[derive(Clone, Copy)]
 pub enum Classes {
     Any,
@@ -24,42 +24,39 @@ pub enum Classes {
     OtherThanBlock,
 }
 
-/// Uniform, StorageBuffer and PushConstant.
-fn is_block_class(class: u32) -> bool
-    ensures { not result ≡ is_other_than_block class }
+fn is_workgroup(variable: &Inst) -> bool
+    ensures { result ≡ is_workgroup_row variable.now }
 {
-    class == StorageClass::Uniform.number()
-        || class == StorageClass::StorageBuffer.number()
-        || class == StorageClass::PushConstant.number()
+    variable.operand(0) == StorageClass::Workgroup.number()
 }
 
-fn includes(classes: Classes, class: u32) -> bool
-    ensures { result ≡ is_in classes class }
+fn includes(context: &Context, classes: Classes, variable: &Inst) -> bool
+    ensures { result ≡ is_in context.now classes variable.now }
 {
     match classes {
         Classes::Any => true,
-        Classes::Workgroup => class == StorageClass::Workgroup.number(),
-        Classes::OtherThanWorkgroup => class != StorageClass::Workgroup.number(),
-        Classes::OtherThanStorage => class != StorageClass::StorageBuffer.number(),
-        Classes::OtherThanBlock => !is_block_class(class),
+        Classes::Workgroup => is_workgroup(variable),
+        Classes::OtherThanWorkgroup => !is_workgroup(variable),
+        Classes::OtherThanStorage => !context.is_storage_block(variable),
+        Classes::OtherThanBlock => !context.is_some_block(variable),
     }
 }
 
-/// The type that a variable of such a class points to.
+/// The type that such a variable points to.
 fn pointee_by(context: &Context, classes: Classes, inst: &Inst) -> Option<u32>
-    ensures { result ≡ pointee_of context.now.globals (is_in classes) inst.now }
+    ensures { result ≡ pointee_of context.now.globals (is_in context.now classes) inst.now }
 {
-    if is_variable(inst) && includes(classes, inst.operand(0)) {
+    if is_variable(inst) && includes(context, classes, inst) {
         context.pointee(inst.ty)
     } else {
         None
     }
 }
 
-/// The types that variables of such classes point to.
+/// The types that such variables point to.
 #[tactic(auto, using(crate::proofs::Finds::chosen_rules))]
 fn pointees_of(alloc: Global, context: &Context, classes: Classes) -> Result<Vec<u32>, AllocError>
-    ensures { IfOk result (λ ids. ids.items ≡ filter_map (pointee_of context.now.globals (is_in classes)) (variables_of context.now)) }
+    ensures { IfOk result (λ ids. ids.items ≡ filter_map (pointee_of context.now.globals (is_in context.now classes)) (variables_of context.now)) }
 {
     let mut ids = Vec::new(alloc);
     for inst in context.variables() {
@@ -73,7 +70,7 @@ fn pointees_of(alloc: Global, context: &Context, classes: Classes) -> Result<Vec
 /// The same, among all instructions.
 #[tactic(auto, using(crate::proofs::Asked::pointees_same))]
 fn pointees(alloc: Global, context: &Context, classes: Classes) -> Result<Vec<u32>, AllocError>
-    ensures { IfOk result (λ ids. ids.items ≡ pointees_in context.now (is_in classes)) }
+    ensures { IfOk result (λ ids. ids.items ≡ pointees_in context.now (is_in context.now classes)) }
 {
     pointees_of(alloc, context, classes)
 }
@@ -170,9 +167,9 @@ fn set_of(alloc: Global, context: &Context, ids: &[u32]) -> Result<IdSet, AllocE
     Ok(set)
 }
 
-/// All that is no use of a Block struct, where values have these types.
+/// All that is no use of a struct with Block or BufferBlock, where values have these types.
 fn block_misuses(alloc: Global, context: &Context, types: &[u32]) -> Result<Vec<u32>, AllocError>
-    ensures { IfOk result (λ ids. ids.items ≡ flat_map parts_in context.now.globals ++ pointees_in context.now (is_in Classes.OtherThanBlock) ++ types.now ++ signature_types_in context.now) }
+    ensures { IfOk result (λ ids. ids.items ≡ flat_map parts_in context.now.globals ++ pointees_in context.now (is_in context.now Classes.OtherThanBlock) ++ types.now ++ signature_types_in context.now) }
 {
     let mut ids = all_parts(alloc, context)?;
     ids.extend_from_slice(&pointees(alloc, context, Classes::OtherThanBlock)?)?;
@@ -181,21 +178,21 @@ fn block_misuses(alloc: Global, context: &Context, types: &[u32]) -> Result<Vec<
     Ok(ids)
 }
 
-/// Whether a struct is a Block that no variable of another class than StorageBuffer points to, where
-/// `others` are the types that such variables point to.
-fn is_storage_block(context: &Context, others: &IdSet, inst: &Inst) -> bool
-    requires { (id : ℕ) → has_id others.now id ≡ is_among (pointees_in context.now (is_in Classes.OtherThanStorage)) id }
-    ensures { result ≡ is_storage_block_in context.now inst.now }
+/// Whether a struct has Block or BufferBlock, and each variable that points to it is a storage block,
+/// where `others` are the types that other variables point to.
+fn is_of_storage(context: &Context, others: &IdSet, inst: &Inst) -> bool
+    requires { (id : ℕ) → has_id others.now id ≡ is_among (pointees_in context.now (is_in context.now Classes.OtherThanStorage)) id }
+    ensures { result ≡ is_of_storage_in context.now inst.now }
 {
     context.is_block(inst.result) && !others.has(inst.result)
 }
 
 /// The parts of a type that may be no runtime array.
 fn fixed_parts<'a>(context: &Context, others: &IdSet, inst: &'a Inst) -> &'a [u32]
-    requires { (id : ℕ) → has_id others.now id ≡ is_among (pointees_in context.now (is_in Classes.OtherThanStorage)) id }
+    requires { (id : ℕ) → has_id others.now id ≡ is_among (pointees_in context.now (is_in context.now Classes.OtherThanStorage)) id }
     ensures { result.now ≡ fixed_parts_in context.now inst.now }
 {
-    if inst.op == Op::TypeStruct && is_storage_block(context, others, inst) {
+    if inst.op == Op::TypeStruct && is_of_storage(context, others, inst) {
         all_but_last(inst.args.as_slice())
     } else {
         parts_of(inst)
@@ -214,7 +211,7 @@ fn all_but_last(ids: &[u32]) -> &[u32]
 
 /// The parts of all types that may be no runtime array.
 fn all_fixed_parts(alloc: Global, context: &Context, others: &IdSet) -> Result<Vec<u32>, AllocError>
-    requires { (id : ℕ) → has_id others.now id ≡ is_among (pointees_in context.now (is_in Classes.OtherThanStorage)) id }
+    requires { (id : ℕ) → has_id others.now id ≡ is_among (pointees_in context.now (is_in context.now Classes.OtherThanStorage)) id }
     ensures { IfOk result (λ ids. ids.items ≡ flat_map (fixed_parts_in context.now) context.now.globals) }
 {
     let mut ids = Vec::new(alloc);
@@ -226,7 +223,7 @@ fn all_fixed_parts(alloc: Global, context: &Context, others: &IdSet) -> Result<V
 
 /// All that is no use of a runtime array, where values have these types.
 fn runtime_misuses(alloc: Global, context: &Context, types: &[u32]) -> Result<Vec<u32>, AllocError>
-    ensures { IfOk result (λ ids. ids.items ≡ flat_map (fixed_parts_in context.now) context.now.globals ++ pointees_in context.now (is_in Classes.Any) ++ types.now ++ signature_types_in context.now) }
+    ensures { IfOk result (λ ids. ids.items ≡ flat_map (fixed_parts_in context.now) context.now.globals ++ pointees_in context.now (is_in context.now Classes.Any) ++ types.now ++ signature_types_in context.now) }
 {
     let others = set_of(
         alloc,
@@ -240,14 +237,14 @@ fn runtime_misuses(alloc: Global, context: &Context, types: &[u32]) -> Result<Ve
     Ok(ids)
 }
 
-/// The ids of the types that are used as no Block struct may be, and as no runtime array may be.
+/// The ids of the types that are used as no struct with Block or BufferBlock may be, and as no runtime array may be.
 #[derive(Drop)]
 pub struct Misuses {
     pub blocks: IdSet,
     pub runtimes: IdSet,
 }
 
-/// How types are used that may be Block structs or runtime arrays.
+/// How types are used that may be structs of blocks or runtime arrays.
 pub fn find_misuses(alloc: Global, context: &Context) -> Result<Misuses, AllocError>
     ensures { IfOk result (λ uses. AreMisuses context.now (has_id uses.blocks) (has_id uses.runtimes)) }
 {
@@ -288,7 +285,7 @@ fn held(alloc: Global, context: &Context, types: &[u32]) -> Result<IdSet, AllocE
 /// The types of what may not hold an array whose length is a specialization constant, where values have
 /// these types.
 fn other_types(alloc: Global, context: &Context, types: &[u32]) -> Result<Vec<u32>, AllocError>
-    ensures { IfOk result (λ ids. ids.items ≡ pointees_in context.now (is_in Classes.OtherThanWorkgroup) ++ types.now) }
+    ensures { IfOk result (λ ids. ids.items ≡ pointees_in context.now (is_in context.now Classes.OtherThanWorkgroup) ++ types.now) }
 {
     let mut ids = pointees(alloc, context, Classes::OtherThanWorkgroup)?;
     ids.extend_from_slice(types)?;

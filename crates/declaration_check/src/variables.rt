@@ -3,7 +3,7 @@ ghost use Rattle.std.specs.Prelude.{◌≡◌, ◌==◌, ◌||◌, not, false, t
 ghost use Rattle.std.specs.Option.{option_copied, option_map_or};
 ghost use Rattle.spv_module.specs.Held.{global};
 ghost use Rattle.spv_index.specs.Pointers.{storage_class};
-ghost use Rattle.spv_decor.specs.Rows.{value_of};
+ghost use Rattle.spv_decor.specs.Rows.{value_of, word};
 ghost use Rattle.spv_ops.specs.Enumerants.{decoration_number};
 ghost use Rattle.spv_ops.specs.declared.Decoration.TheVariants as decoration;
 ghost use Rattle.spv_words.specs.declared.rule.Rule.TheVariants.{P13, P14, P15, P16};
@@ -183,13 +183,20 @@ fn is_push(inst: &Inst) -> bool
     is_variable(inst) && inst.operand(0) == StorageClass::PushConstant.number()
 }
 
-/// Whether a variable points to another type than a struct decorated Block.
+/// Whether a type is no struct that makes a block of a variable of this class.
+fn is_no_block(context: &Context, class: u32, inst: &Inst) -> bool
+    ensures { result ≡ is_no_block_in context.now.heads class inst.now }
+{
+    !(inst.op == Op::TypeStruct && context.is_block_struct(class, inst.result))
+}
+
+/// Whether a variable points to such a type.
 fn points_to_no_block(context: &Context, variable: &Inst) -> bool
-    ensures { result ≡ is_pointee context.now.globals (is_no_block_in context.now.heads) variable.now }
+    ensures { result ≡ is_pointee context.now.globals (is_no_block_in context.now.heads (word variable.now 0)) variable.now }
 {
     match pointed_type(context, variable.ty) {
         None => false,
-        Some(inst) => !(inst.op == Op::TypeStruct && context.is_block(inst.result)),
+        Some(inst) => is_no_block(context, variable.operand(0), inst),
     }
 }
 
@@ -207,8 +214,8 @@ fn is_unbound(context: &Context, variable: &Inst) -> bool
         && has_decoration(context, variable, Decoration::Binding))
 }
 
-/// Whether this is a Uniform, StorageBuffer or PushConstant variable that points to no Block struct, or
-/// lacks a set or binding, or is one of several PushConstant variables.
+/// Whether this is a variable of class Uniform, StorageBuffer or PushConstant that is no block, or lacks
+/// a set or binding, or is one of several PushConstant variables.
 #[tactic(auto, unfolding(profile_rules::specs::Variables::is_other_block))]
 fn is_other_block(context: &Context, pushes: usize, inst: &Inst) -> bool
     ensures { result ≡ is_other_block_in context.now.heads context.now.globals pushes inst.now }
@@ -252,8 +259,9 @@ fn block_fault<'a>(context: &Context<'a>) -> Option<&'a Inst>
     first_other_block(context, pushes)
 }
 
-/// P15: a Uniform, StorageBuffer or PushConstant variable does not point to a struct decorated Block;
-/// or one of the first two lacks DescriptorSet or Binding; or there are two of the last (SPIR-V 1.6,
+/// P15: a StorageBuffer or PushConstant variable does not point to a struct decorated Block; or a
+/// Uniform variable does not point to one decorated Block or BufferBlock; or a Uniform or StorageBuffer
+/// variable lacks DescriptorSet or Binding; or there are two PushConstant variables (SPIR-V 1.6,
 /// section 3.20).
 pub fn check_blocks(context: &Context) -> Result<(), Fault>
     ensures { IsChecked P15 (p15 context.now) result }

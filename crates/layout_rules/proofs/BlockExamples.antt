@@ -57,7 +57,7 @@ fits : first_broken (stride 3 16 ∷ offsets) types Std430 (members_of offsets t
 unfolding opened
 fits = refl
 
-taken : kind_of_members (stride 3 16 ∷ offsets) types (class_number storage.StorageBuffer) (members_of offsets types block) ≡ Some Std430
+taken : kind_of_members (stride 3 16 ∷ offsets) types Std430 (members_of offsets types block) ≡ Some Std430
 unfolding opened
 taken = refl
 
@@ -143,17 +143,17 @@ arrays : (first_broken (stride 6 4 ∷ stride 7 8 ∷ []) rows Std430 (member 7 
 unfolding opened
 arrays = (refl, refl, refl)
 
--- the layouts of the storage classes: Uniform, PushConstant, StorageBuffer
+-- the layouts of blocks that may first take std140, and of those that may first take std430
 abbrev wide : List Inst
 wide = stride 6 16 ∷ stride 7 32 ∷ []
 
 abbrev close : List Inst
 close = stride 6 4 ∷ stride 7 8 ∷ []
 
-uniforms : (kind_of_members wide rows (class_number storage.Uniform) (member 7 0 row ∷ []) ≡ Some Std140) × (kind_of_members close rows (class_number storage.Uniform) (member 7 0 row ∷ []) ≡ None)
+uniforms : (kind_of_members wide rows Std140 (member 7 0 row ∷ []) ≡ Some Std140) × (kind_of_members close rows Std140 (member 7 0 row ∷ []) ≡ None)
 unfolding opened
 uniforms = (refl, refl)
 
-buffers : (kind_of_members wide rows (class_number storage.StorageBuffer) (member 7 0 row ∷ []) ≡ Some Std140) × (kind_of_members close rows (class_number storage.PushConstant) (member 7 0 row ∷ []) ≡ Some Std430) × (kind_of_members (stride 6 4 ∷ []) rows (class_number storage.StorageBuffer) (member 7 0 row ∷ []) ≡ None)
+buffers : (kind_of_members wide rows Std430 (member 7 0 row ∷ []) ≡ Some Std140) × (kind_of_members close rows Std430 (member 7 0 row ∷ []) ≡ Some Std430) × (kind_of_members (stride 6 4 ∷ []) rows Std430 (member 7 0 row ∷ []) ≡ None)
 unfolding opened
 buffers = (refl, refl, refl)

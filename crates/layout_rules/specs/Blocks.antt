@@ -17,6 +17,7 @@ use Rattle.spv_module.specs.declared.inst.Inst.{Inst}
 use Rattle.spv_types.specs.Tree.{Tree}
 use Rattle.spv_types.specs.Types.{tree_before, type_tree, IsRight as IsRightType}
 use Rattle.spv_index.specs.Pointers.{pointee}
+use Rattle.spv_index.specs.BlockStructs.{is_uniform_struct}
 use Rattle.layout_rules.specs.declared.Kind.{Kind}
 use Rattle.layout_rules.specs.declared.Kind.TheVariants.{Std430, Std140}
 use Rattle.layout_rules.specs.Sizes.{alignment_of, size_of}
@@ -87,14 +88,14 @@ block_rules = L1 ∷ L2 ∷ L3 ∷ L4 ∷ L5 ∷ L6 ∷ L7 ∷ []
 abbrev pub first_broken : List Inst → List Inst → Kind → List Member → Option Rule
 first_broken heads gs kind ms = find (members_break heads gs kind ms) block_rules
 
--- the layout that a block of a storage class takes where it fits: of Uniform std140, of StorageBuffer and PushConstant std430
-abbrev pub first_kind : ℕ → Kind
-first_kind class = if class == class_number storage.Uniform then Std140 else Std430
+-- the layout that the block of a variable of this class with this struct takes where it fits: a uniform block std140, a storage or push block std430
+abbrev pub first_kind : List Inst → ℕ → ℕ → Kind
+first_kind heads class id = if is_uniform_struct heads class id then Std140 else Std430
 
--- the layout that the block takes: that of its class where it fits, that is, breaks no rule, else std140 where that fits
-abbrev pub kind_of_members : List Inst → List Inst → ℕ → List Member → Option Kind
-kind_of_members heads gs class ms =
-    if is_none (first_broken heads gs (first_kind class) ms) then Some (first_kind class) else
+-- the layout that a block takes: the first where it fits, that is, breaks no rule, else std140 where that fits
+abbrev pub kind_of_members : List Inst → List Inst → Kind → List Member → Option Kind
+kind_of_members heads gs first ms =
+    if is_none (first_broken heads gs first ms) then Some first else
     (if is_none (first_broken heads gs Std140 ms) then Some Std140 else None)
 
 -- Uniform, PushConstant, StorageBuffer
@@ -110,13 +111,16 @@ block_of gs v =
     if is v.op code.Variable && is_block_class (slice_index v.args 0)
     then option_and_then as_struct (option_and_then (global gs) (pointee gs v.ty)) else None
 
--- the layout that a variable's block takes
-abbrev pub kind_at : List Inst → List Inst → Inst → Inst → Option Kind
-kind_at heads gs v block = kind_of_members heads gs (slice_index v.args 0) (members_of heads gs block)
+-- the first layout that a variable's block may take, and the one that it takes
+abbrev pub first_at : List Inst → Inst → Inst → Kind
+first_at heads v block = first_kind heads (slice_index v.args 0) block.result
 
--- no layout fits the variable's block, and it breaks the rule by the first that its storage class may take
+abbrev pub kind_at : List Inst → List Inst → Inst → Inst → Option Kind
+kind_at heads gs v block = kind_of_members heads gs (first_at heads v block) (members_of heads gs block)
+
+-- no layout fits the variable's block, and it breaks the rule by the first that it may take
 abbrev pub IsBrokenBy : List Inst → List Inst → Inst → Inst → Rule → Type 0
-IsBrokenBy heads gs v block rule = (kind_at heads gs v block ≡ None) × (members_break heads gs (first_kind (slice_index v.args 0)) (members_of heads gs block) rule ≡ true)
+IsBrokenBy heads gs v block rule = (kind_at heads gs v block ≡ None) × (members_break heads gs (first_at heads v block) (members_of heads gs block) rule ≡ true)
 
 -- the variable is a block variable, and breaks the rule
 abbrev pub BreaksAt : List Inst → List Inst → Inst → Rule → Type 0

@@ -18,8 +18,8 @@ struct_in gs class id = option_and_then (struct_by gs class) (global gs id)
 -- the block breaks the rule where a variable of this class has it
 abbrev pub BlockBreaks : ModuleState → ℕ → Rule → Inst → Type 0
 BlockBreaks m class rule block =
-    (kind_of_members m.heads m.globals class (members_of m.heads m.globals block) ≡ None)
-    × (members_break m.heads m.globals (first_kind class) (members_of m.heads m.globals block) rule ≡ true)
+    (kind_of_members m.heads m.globals (first_kind m.heads class block.result) (members_of m.heads m.globals block) ≡ None)
+    × (members_break m.heads m.globals (first_kind m.heads class block.result) (members_of m.heads m.globals block) rule ≡ true)
 
 -- the struct with this id breaks no rule there
 pub record IsLaidOut (m : ModuleState) (class id : ℕ) : Type 0 where

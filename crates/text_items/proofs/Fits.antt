@@ -25,7 +25,7 @@ use Rattle.text_rules.specs.Declarations.{Names, is_buffer, qualifiers_by, shape
 use Rattle.text_items.specs.Names.{key_text, item_names, operand, calculated_by}
 
 pub member_is : (s other : Source) (names : Given) (v g : Inst) (k part number : ℕ) (heads : List Inst) (buffer : Bool) (offset : ℕ) (quals : List Qual) (t : TypeName) (w : Text)
-    → number ≡ k → heads ≡ s.of.heads → other ≡ s → buffer ≡ is_buffer v
+    → number ≡ k → heads ≡ s.of.heads → other ≡ s → buffer ≡ is_buffer s v g
     → offset ≡ unwrap_or (member_value_of heads g.result number (decoration_number decoration.Offset)) 0
     → quals ≡ qualifiers_by buffer (λ d. is_some (member_value_of heads g.result number d))
     → t ≡ type_at other (item_names other names) part
@@ -34,16 +34,16 @@ pub member_is : (s other : Source) (names : Given) (v g : Inst) (k part number :
 member_is s other names v g k part number heads buffer offset quals t w same held source is placed qualified typed named =
     let first : offset ≡ unwrap_or (member_value_of s.of.heads g.result k (decoration_number decoration.Offset)) 0 =
     placed ∙ (ap (λ (h : List Inst). unwrap_or (member_value_of h g.result number (decoration_number decoration.Offset)) 0) held ∙ ap (λ (n : ℕ). unwrap_or (member_value_of s.of.heads g.result n (decoration_number decoration.Offset)) 0) same) in
-    let second : quals ≡ qualifiers_by (is_buffer v) (λ d. is_some (member_value_of s.of.heads g.result k d)) =
+    let second : quals ≡ qualifiers_by (is_buffer s v g) (λ d. is_some (member_value_of s.of.heads g.result k d)) =
     qualified ∙ (ap (λ (b : Bool). qualifiers_by b (λ d. is_some (member_value_of heads g.result number d))) is
-    ∙ (ap (λ (h : List Inst). qualifiers_by (is_buffer v) (λ d. is_some (member_value_of h g.result number d))) held
-    ∙ ap (λ (n : ℕ). qualifiers_by (is_buffer v) (λ d. is_some (member_value_of s.of.heads g.result n d))) same)) in
+    ∙ (ap (λ (h : List Inst). qualifiers_by (is_buffer s v g) (λ d. is_some (member_value_of h g.result number d))) held
+    ∙ ap (λ (n : ℕ). qualifiers_by (is_buffer s v g) (λ d. is_some (member_value_of s.of.heads g.result n d))) same)) in
     let third : t ≡ type_at s (item_names s names) part = typed ∙ ap (λ (o : Source). type_at o (item_names o names) part) source in
     let fourth : w ≡ key_text names (key.Member (id g.result) k) = named ∙ ap (λ (n : ℕ). key_text names (key.Member (id g.result) n)) same in
     ap (λ (o : ℕ). member o quals t w) first
     ∙ (ap (λ (q : List Qual). member (unwrap_or (member_value_of s.of.heads g.result k (decoration_number decoration.Offset)) 0) q t w) second
-    ∙ (ap (λ (u : TypeName). member (unwrap_or (member_value_of s.of.heads g.result k (decoration_number decoration.Offset)) 0) (qualifiers_by (is_buffer v) (λ d. is_some (member_value_of s.of.heads g.result k d))) u w) third
-    ∙ ap (member (unwrap_or (member_value_of s.of.heads g.result k (decoration_number decoration.Offset)) 0) (qualifiers_by (is_buffer v) (λ d. is_some (member_value_of s.of.heads g.result k d))) (type_at s (item_names s names) part)) fourth))
+    ∙ (ap (λ (u : TypeName). member (unwrap_or (member_value_of s.of.heads g.result k (decoration_number decoration.Offset)) 0) (qualifiers_by (is_buffer s v g) (λ d. is_some (member_value_of s.of.heads g.result k d))) u w) third
+    ∙ ap (member (unwrap_or (member_value_of s.of.heads g.result k (decoration_number decoration.Offset)) 0) (qualifiers_by (is_buffer s v g) (λ d. is_some (member_value_of s.of.heads g.result k d))) (type_at s (item_names s names) part)) fourth))
 
 pub calculated_is : (s : Source) (names : Given) (g : Inst) (op : Op) (words ids literals : List ℕ) (t : Tree) (args : List Argument) (e : Expr)
     → words ≡ drop 1 g.args → ids ≡ inner_operands op words → literals ≡ inner_literals op words → t ≡ shape_at s g.ty

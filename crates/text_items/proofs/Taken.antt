@@ -10,7 +10,7 @@ use Rattle.spv_ops.specs.declared.Op.TheVariants as code
 use Rattle.spv_module.specs.Held.{global}
 use Rattle.spv_module.specs.declared.inst.Inst.{Inst}
 use Rattle.spv_index.specs.Pointers.{pointee}
-use Rattle.layout_rules.specs.Blocks.{block_of, is_block_class, as_struct, kind_at, kind_of_members, members_of, IsRight, IsRightAt}
+use Rattle.layout_rules.specs.Blocks.{block_of, is_block_class, as_struct, kind_at, first_kind, kind_of_members, members_of, IsRight, IsRightAt}
 use Rattle.buffer_layout.specs.declared.plan.BlockPlan.{BlockPlan}
 use Rattle.buffer_layout.specs.Plan.{IsPlanOf, IsPlanAt}
 use Rattle.text_items.specs.Blocks.{is_like, is_found}
@@ -37,7 +37,7 @@ block_same gs v g a =
     ap (λ n. block_by gs n (slice_index g.args 0) g.ty) a.op ∙ (ap (λ class. block_by gs (number v.op) class g.ty) a.class ∙ ap (block_by gs (number v.op) (slice_index v.args 0)) a.ty)
 
 kind_same : (heads gs : List Inst) (v g block : Inst) → Alike v g → kind_at heads gs g block ≡ kind_at heads gs v block
-kind_same heads gs v g block a = ap (λ class. kind_of_members heads gs class (members_of heads gs block)) a.class
+kind_same heads gs v g block a = ap (λ class. kind_of_members heads gs (first_kind heads class block.result) (members_of heads gs block)) a.class
 
 -- what is said of the variable that an id finds
 record Found (v : Inst) (R : Inst → Type 0) : Type 0 where

@@ -6,7 +6,7 @@ use Rattle.spv_ops.specs.Opcode.{is}
 use Rattle.spv_ops.specs.declared.Op.TheVariants as code
 use Rattle.spv_module.specs.declared.inst.Inst.{Inst}
 use Rattle.spv_module.specs.declared.inst.Function.{Function}
-use Rattle.spv_index.specs.ValueTypes.{is_block}
+use Rattle.spv_index.specs.BlockStructs.{is_block}
 use Rattle.layout_rules.specs.Blocks.{block_of}
 use Rattle.name_alloc.specs.declared.claims.Key.TheVariants.{Main}
 use Rattle.text_rules.specs.Constants.{Source, is_constant, reading, free_spec_id}

@@ -16,16 +16,17 @@ use constant_text::name;
 use glsl_ast::{BlockPlace, BlockRules, Decl, Member};
 use name_alloc::{Key, Names};
 use spv_decor::Decor;
+use spv_index::is_storage_struct;
 use spv_module::{Id, Inst, Module};
 use spv_ops::{Decoration, StorageClass};
 use spv_words::{Fault, Memory};
 use std::alloc::Global;
 
-/// Whether this is a variable of class StorageBuffer.
-fn is_buffer(inst: &Inst) -> bool
-    ensures { result ≡ is_buffer_variable inst.now }
+/// Whether a variable with this struct is a storage block.
+fn is_buffer(written: &Written, variable: &Inst, block: &Inst) -> bool
+    ensures { result ≡ is_buffer_variable written.now.source variable.now block.now }
 {
-    inst.operand(0) == StorageClass::StorageBuffer.number()
+    is_storage_struct(written.decor(), variable.operand(0), Id(block.result))
 }
 
 fn place_of(written: &Written, inst: &Inst) -> BlockPlace
@@ -112,7 +113,7 @@ fn member(
     let decor = written.decor();
     let id = Id(block.result);
     let number = counted(k)?;
-    let buffer = is_buffer(variable);
+    let buffer = is_buffer(written, variable, block);
     let quals = member_qualifiers(alloc, decor, buffer, id, number)?;
     let value = decor.member_value(id, number, Decoration::Offset.number());
     let offset = value.unwrap_or(0);
@@ -156,7 +157,7 @@ pub fn declare_block(
     ensures { IfOk result (λ d. decl_of d ≡ block_decl written.now.source (item_names written.now.source names.now) variable.now block.now) }
 {
     let id = Id(variable.result);
-    let buffer = is_buffer(variable);
+    let buffer = is_buffer(written, variable, block);
     let rules = rules_of(alloc, written.module(), written.decor(), variable, block)?;
     Ok(Decl::Block {
         place: place_of(written, variable),

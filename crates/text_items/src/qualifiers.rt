@@ -60,7 +60,7 @@ fn of_member(
     Ok(quals)
 }
 
-/// The qualifiers of a variable of class StorageBuffer, as its decorations ask for them; another has none.
+/// The qualifiers of a variable that is a storage block, as its decorations ask for them; another has none.
 pub fn variable_qualifiers(
     alloc: Global,
     decor: &Decor,

@@ -9,8 +9,9 @@ use crate::types::written_structs;
 use constant_text::Readings;
 use id_map::IdSet;
 use spv_decor::Decor;
+use spv_index::is_block;
 use spv_module::{Function, Id, Inst, Module};
-use spv_ops::{Decoration, Op};
+use spv_ops::Op;
 use spv_words::Memory;
 use std::alloc::Global;
 use std::marker::Model;
@@ -109,15 +110,13 @@ impl<'a, 'b> Written<'a, 'b> {
         declares(self.readings, &self.needed, inst)
     }
 
-    /// Whether a global instruction is a struct that is written: one that something written has, and that is no Block.
+    /// Whether a global instruction is a struct that is written: one that something written has, with neither Block nor
+    /// BufferBlock.
     pub fn has_struct(&self, inst: &Inst) -> bool
         ensures { result ≡ is_written_struct self.now.source self.now.reached inst.now }
     {
         inst.op == Op::TypeStruct
-            && self
-                .decor
-                .value(Id(inst.result), Decoration::Block.number())
-                .is_none()
+            && !is_block(self.decor, Id(inst.result))
             && self.structs.has(inst.result)
     }
 }

@@ -15,6 +15,7 @@ use Rattle.spv_types.specs.Tree as shape
 use Rattle.spv_types.specs.Tree.{Tree, word}
 use Rattle.spv_types.specs.Types.{type_tree}
 use Rattle.spv_index.specs.Pointers.{pointee}
+use Rattle.spv_index.specs.BlockStructs.{is_storage_struct}
 use Rattle.layout_rules.specs.declared.Kind.{Kind}
 use Rattle.layout_rules.specs.declared.Kind.TheVariants.{Std140}
 use Rattle.layout_rules.specs.Blocks.{block_of, kind_at}
@@ -114,14 +115,14 @@ qualifiers =
 abbrev pub qualifiers_by : Bool → (ℕ → Bool) → List Qual
 qualifiers_by buffer has = if buffer then map (λ (q : Qual × Decoration). q.0) (filter (λ (q : Qual × Decoration). has (decoration_number q.1)) qualifiers) else []
 
--- StorageBuffer
-abbrev pub is_buffer : Inst → Bool
-is_buffer v = class v == class_number storage.StorageBuffer
+-- the variable with this struct is a storage block
+abbrev pub is_buffer : Source → Inst → Inst → Bool
+is_buffer s v g = is_storage_struct s.of.heads (class v) g.result
 
 abbrev pub member_decl : Source → Names → Inst → Inst → ℕ × ℕ → Member
 member_decl s names v g m =
     member (unwrap_or (member_value_of s.of.heads g.result m.0 (decoration_number decoration.Offset)) 0)
-    (qualifiers_by (is_buffer v) (λ d. is_some (member_value_of s.of.heads g.result m.0 d)))
+    (qualifiers_by (is_buffer s v g) (λ d. is_some (member_value_of s.of.heads g.result m.0 d)))
     (type_at s names m.1) (names.member g.result m.0)
 
 abbrev pub place_of : Source → Inst → BlockPlace
@@ -136,7 +137,7 @@ rules_by _ = rules.Std430
 abbrev pub block_decl : Source → Names → Inst → Inst → Decl
 block_decl s names v g =
     block (place_of s v) (rules_by (kind_at s.of.heads s.of.globals v g))
-    (qualifiers_by (is_buffer v) (λ d. is_some (value_of s.of.heads v.result d))) (is_buffer v)
+    (qualifiers_by (is_buffer s v g) (λ d. is_some (value_of s.of.heads v.result d))) (is_buffer s v g)
     (names.block v.result g.result) (map (member_decl s names v g) (members g)) (names.id v.result)
 
 abbrev pub variable_decl : Source → Names → Inst → Option Inst → List Decl

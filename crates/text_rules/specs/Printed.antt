@@ -15,7 +15,7 @@ use Rattle.spv_types.specs.Tree.{Tree, Trees, no_trees, tree}
 use Rattle.spv_types.specs.Types.{type_tree}
 use Rattle.spv_index.specs.Locals.{insts_of}
 use Rattle.spv_index.specs.Pointers.{pointee}
-use Rattle.spv_index.specs.ValueTypes.{is_block}
+use Rattle.spv_index.specs.BlockStructs.{is_block}
 use Rattle.text_rules.specs.declared.readings.Reading.{Reading}
 use Rattle.text_rules.specs.declared.readings.Reading.TheVariants.{Named}
 use Rattle.text_rules.specs.Constants.{Source, is_constant, reading, free_spec_id}
@@ -119,7 +119,7 @@ written_types s r =
     map (λ (g : Inst). g.ty) (filter (λ g. is_written_variable r g || is_declared_constant s r g) s.of.globals) ++
     (flat_map signature_types r.functions ++ map (λ (i : Inst). i.ty) r.live)
 
--- a struct is written where something that is written has it; a Block struct is written with its block alone
+-- a struct is written where something that is written has it; one with Block or BufferBlock is written with its block alone
 abbrev pub is_written_struct : Source → Reached → Inst → Bool
 is_written_struct s r g =
     (is g.op code.TypeStruct) && (not (is_block s.of.heads g.result) && list_any (type_has_struct s.of.globals g.result) (written_types s r))

@@ -1,7 +1,5 @@
-use Rattle.std.proofs.Common.{◌==◌, ◌++◌, ◌∙◌, ℕ, List, not, ap}
-use Rattle.spv_ops.specs.Enumerants.{class_number}
-use Rattle.spv_ops.specs.declared.StorageClass.TheVariants as storage
-use Rattle.profile_rules.specs.TypeForm.{pointees, value_types, other_types, is_held}
+use Rattle.std.proofs.Common.{◌++◌, ◌∙◌, ℕ, List, not, ap}
+use Rattle.profile_rules.specs.TypeForm.{is_workgroup, pointees, value_types, other_types, is_held}
 use Rattle.spv_module.specs.State.{ModuleState}
 use Rattle.declaration_check.proofs.Asked.{same_behind, held_same}
 use Rattle.declaration_check.proofs.uses.find_holders.Goals as goal
@@ -9,7 +7,7 @@ use Rattle.declaration_check.proofs.uses.find_holders.Goals as goal
 pub returns : goal.returns
 returns c =
     let m : ModuleState = c.args.context.now in
-    let front : List ℕ = pointees m (λ class. not (class == class_number storage.Workgroup)) in
+    let front : List ℕ = pointees m (λ v. not (is_workgroup v)) in
     record {
       by_workgroup = λ id. c.in_ok-held.ensures id ∙ ap (λ l. is_held m.globals l id) (c.deref.ensures.value ∙ c.in_ok-workgroup.ensures);
       by_others = λ id.
