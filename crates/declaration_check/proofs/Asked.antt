@@ -13,7 +13,6 @@ use Rattle.spv_module.specs.declared.inst.Inst.{Inst}
 use Rattle.spv_module.specs.declared.inst.Block.{Block}
 use Rattle.spv_module.specs.declared.inst.Function.{Function}
 use Rattle.spv_decor.specs.Decorations.{local_insts}
-use Rattle.spv_decor.specs.Rows.{word}
 use Rattle.spv_index.specs.Pointers.{pointee}
 use Rattle.profile_rules.specs.Places.{is_among, is_variable, body_insts}
 use Rattle.profile_rules.specs.TypeForm.{pointee_by, pointees, value_type, parts_of, held, is_held}
