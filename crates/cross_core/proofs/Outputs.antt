@@ -5,7 +5,9 @@ use Rattle.spv_words.specs.declared.rule.Fault.{Fault}
 use Rattle.spv_words.specs.declared.rule.Fault.TheVariants.{Refused as RefusedFault, Limit as LimitFault, Memory as NoMemory}
 use Rattle.conformance.specs.Rules.{Options, module_in}
 use Rattle.glsl_ast.specs.Tree.{TranslationUnit}
+use Rattle.glsl_grammar.specs.Layout.{unit_text}
 use Rattle.glsl_grammar.specs.Reading.{glsl_read}
+use Rattle.glsl_grammar.proofs.ReadsBack.{reads_back}
 use Rattle.emit_glsl.specs.Text.{IsTranslationOf}
 use Rattle.serde_json.specs.Data.{Data}
 use Rattle.serde_json.specs.Written.{compact_text, has_float}
@@ -18,6 +20,7 @@ use Rattle.cross_core.specs.declared.endings.Ending.{Ending}
 use Rattle.cross_core.specs.declared.endings.Ending.TheVariants.{Done, Usage, Refused, Limit, ReadFault, WriteFault, Memory}
 use Rattle.cross_core.specs.Answers.{IsAnswer, IsAnswerBy, IsTextOf, summary, bytes_by, bytes_of}
 use Rattle.cross_core.specs.Endings.{ending_of, IsOutput}
+use Rattle.cross_core.proofs.Ends.{told}
 
 module _ {K : Type 0} (written : K → Option (List ℕ)) (faults : K → ℕ) where
   -- an answer in other words
@@ -52,27 +55,38 @@ module _ {K : Type 0} (written : K → Option (List ℕ)) (faults : K → ℕ) w
   output_on_generated command pieces left old new ending is h =
       subst (λ (p : Option ℕ). IsOutput written faults (IsAnswer command (bytes_by p left)) old new ending) (sym is) h
 
--- a text that reads as a module's text
-pub glsl_answer : (o : Options) (bytes : List ℕ) (u : TranslationUnit) (text : List ℕ) → IsTranslationOf (module_in bytes) o u → glsl_read text ≡ Some u → IsAnswerBy Glsl o (Some bytes) text
-glsl_answer o bytes u text is reads = (rw reads refl, record { unit = u; reads = reads; translation = is })
+-- the text that is laid out of a module's tree
+pub glsl_answer : (o : Options) (bytes : List ℕ) (u : TranslationUnit) (text : List ℕ) → IsTranslationOf (module_in bytes) o u → text ≡ unit_text u → IsTextOf o (Some bytes) text
+glsl_answer o bytes u text is same = record {
+  unit = u;
+  laid_out = same;
+  reads = subst (λ (t : List ℕ). glsl_read t ≡ Some u) (sym same) (reads_back u is.grammar);
+  translation = is;
+}
 
 -- the line of a report
 pub report_answer : (o : Options) (bytes : List ℕ) (d : Data) (line text : List ℕ) → IsReport (module_in bytes) o d → (has_float d ≡ false → line ≡ compact_text d ++ codes "\n") → text ≡ line → IsAnswerBy Report o (Some bytes) text
 report_answer o bytes d line text report is same = (d, same ∙ is (no_float (module_in bytes) o d report), report)
 
 -- the line of a summary
-pub summary_answer : (o : Options) (bytes line text : List ℕ) → (listing : List ℕ) × IsTextOf (module_in bytes) o listing × (line ≡ summary (module_in bytes) listing) → text ≡ line → IsAnswerBy Summary o (Some bytes) text
-summary_answer o bytes line text (listing, of, is) same = (listing, rw of.reads refl, (of, same ∙ is))
+pub summary_answer : (o : Options) (bytes line text : List ℕ) → (listing : List ℕ) × IsTextOf o (Some bytes) listing × (line ≡ summary (module_in bytes) listing) → text ≡ line → IsAnswerBy Summary o (Some bytes) text
+summary_answer o bytes line text (listing, of, is) same = (listing, of, same ∙ is)
 
--- an answer on the bytes that were read is one on what was left, where that is told
-answer_told : (action : Action) (o : Options) (left : Option (List ℕ)) (read : List ℕ) → IfSome left (λ b. read ≡ b) → (text : List ℕ) → IsAnswerBy action o (Some read) text → IsAnswerBy action o left text
-answer_told Glsl o None read same text (reads, of) = (reads, tt)
-answer_told Glsl o (Some b) read same text (reads, of) = (reads, subst (λ (r : List ℕ). IsTextOf (module_in r) o text) same of)
-answer_told Check o left read same text h = h
-answer_told Report o None read same text (d, is, report) = (d, is, tt)
-answer_told Report o (Some b) read same text (d, is, report) = (d, is, subst (λ (r : List ℕ). IsReport (module_in r) o d) same report)
-answer_told Summary o None read same text (listing, reads, is) = (listing, reads, tt)
-answer_told Summary o (Some b) read same text (listing, reads, is) = (listing, reads, subst (λ (r : List ℕ). IsTextOf (module_in r) o listing × (text ≡ summary (module_in r) listing)) same is)
+-- what is said of the bytes that were read is said of what was left, where that is told
+module _ (o : Options) (left : Option (List ℕ)) (read : List ℕ) (same : IfSome left (λ b. read ≡ b)) where
+  text_told : (text : List ℕ) → IsTextOf o (Some read) text → IsTextOf o left text
+  text_told text of = record {
+    unit = of.unit;
+    laid_out = of.laid_out;
+    reads = of.reads;
+    translation = told left read (λ b. IsTranslationOf (module_in b) o of.unit) same of.translation;
+  }
+
+  answer_told : (action : Action) (text : List ℕ) → IsAnswerBy action o (Some read) text → IsAnswerBy action o left text
+  answer_told Glsl text of = text_told text of
+  answer_told Check text h = h
+  answer_told Report text (d, is, report) = (d, is, told left read (λ b. IsReport (module_in b) o d) same report)
+  answer_told Summary text (listing, of, is) = (listing, text_told listing of, told left read (λ b. text ≡ summary (module_in b) listing) same is)
 
 pub answer_on_left : (command : CommandState) (left : Option (List ℕ)) (read : List ℕ) → IfSome left (λ b. read ≡ b) → (text : List ℕ) → IsAnswer command (Some read) text → IsAnswer command left text
-answer_on_left command left read same text h = answer_told command.action command.options left read same text h
+answer_on_left command left read same text h = answer_told command.options left read same command.action text h

@@ -1,5 +1,5 @@
 -- What a command puts out.
-use Rattle.std.specs.Prelude.{ℕ, ◌≡◌, ◌+◌, ◌%◌, ◌^◌, ◌&&◌, ◌++◌, Bool, true, false, List, Option, Some, None, IsSome, IfSome, codes, count_by, length, slice_get, sum}
+use Rattle.std.specs.Prelude.{ℕ, ◌≡◌, ◌+◌, ◌%◌, ◌^◌, ◌&&◌, ◌++◌, Bool, true, false, List, Option, Some, None, IfSome, codes, count_by, length, slice_get, sum}
 use Rattle.std.specs.Option.{option_map_or}
 use Rattle.std.specs.Fmt.{decimal}
 use Rattle.spv_module.specs.State.{ModuleState}
@@ -15,6 +15,7 @@ use Rattle.serde_json.specs.Data.{Data}
 use Rattle.serde_json.specs.Written.{compact_text}
 use Rattle.reflection.specs.Report.{IsReport}
 use Rattle.glsl_ast.specs.Tree.{TranslationUnit}
+use Rattle.glsl_grammar.specs.Layout.{unit_text}
 use Rattle.glsl_grammar.specs.Reading.{glsl_read}
 use Rattle.emit_glsl.specs.Text.{IsTranslationOf}
 use Rattle.cross_core.specs.State.{CommandState}
@@ -45,18 +46,19 @@ summary_line blocks loops text =
 abbrev pub summary : ModuleState → List ℕ → List ℕ
 summary m text = summary_line (count_blocks is_reached m) (count_blocks is_reached_loop m) text
 
--- a text that reads as the tree of a module's text
-pub record IsTextOf (m : ModuleState) (o : Options) (text : List ℕ) : Type 0 where
+-- the text that is laid out of a tree, and reads back as it; where the bytes of the module are told, the tree is that of its text
+pub record IsTextOf (o : Options) (bytes : Option (List ℕ)) (text : List ℕ) : Type 0 where
   pub unit : TranslationUnit
+  pub laid_out : text ≡ unit_text unit
   pub reads : glsl_read text ≡ Some unit
-  pub translation : IsTranslationOf m o unit
+  pub translation : IfSome bytes (λ b. IsTranslationOf (module_in b) o unit)
 
--- what an action puts out, where the bytes of the module are told: a text that reads as the tree of its text; the line `ok`; the line of the report; the summary of a text
+-- what an action puts out: the text of the module; the line `ok`; the line of the report; the summary of the text
 abbrev pub IsAnswerBy : Action → Options → Option (List ℕ) → List ℕ → Type 0
-IsAnswerBy Glsl o bytes text = IsSome (glsl_read text) × IfSome bytes (λ b. IsTextOf (module_in b) o text)
+IsAnswerBy Glsl o bytes text = IsTextOf o bytes text
 IsAnswerBy Check o bytes text = text ≡ codes "ok\n"
 IsAnswerBy Report o bytes text = (d : Data) × (text ≡ compact_text d ++ codes "\n") × IfSome bytes (λ b. IsReport (module_in b) o d)
-IsAnswerBy Summary o bytes text = (listing : List ℕ) × IsSome (glsl_read listing) × IfSome bytes (λ b. IsTextOf (module_in b) o listing × (text ≡ summary (module_in b) listing))
+IsAnswerBy Summary o bytes text = (listing : List ℕ) × IsTextOf o bytes listing × IfSome bytes (λ b. text ≡ summary (module_in b) listing)
 
 abbrev pub IsAnswer : CommandState → Option (List ℕ) → List ℕ → Type 0
 IsAnswer command bytes text = IsAnswerBy command.action command.options bytes text

@@ -6,7 +6,7 @@ ghost use Rattle.spv_words.specs.Limit.{limit_number};
 ghost use Rattle.spv_words.specs.declared.rule.Limit.TheVariants.{Bytes};
 ghost use Rattle.glsl_ast.specs.View.{unit_of};
 ghost use Rattle.glsl_grammar.specs.InGrammar.{IsInGrammar};
-ghost use Rattle.glsl_grammar.specs.Reading.{glsl_read};
+ghost use Rattle.glsl_grammar.specs.Layout.{unit_text};
 ghost use Rattle.module_check.specs.Asked.{asked};
 ghost use Rattle.cross_core.specs.Answers.{IsAnswer, IsAnswerBy};
 ghost use Rattle.cross_core.specs.Endings.{IsCause, IsEndOfWriting, IsOutput};
@@ -40,7 +40,7 @@ fn put<K: Sink>(answer: &[u8], output: &mut K) -> Ending
 fn put_text<K: Sink>(unit: &Unit, output: &mut K) -> Ending
     requires { IsInGrammar (unit_of unit.now) }
     ensures end { IsEndOfWriting result }
-    ensures output { IsOutput K.written K.faults (λ text. glsl_read text ≡ Some (unit_of unit.now)) output.old output.new result }
+    ensures output { IsOutput K.written K.faults (λ text. text ≡ unit_text (unit_of unit.now)) output.old output.new result }
 {
     match print(unit, output) {
         Ok(()) => Ending::Done,

@@ -1,5 +1,5 @@
 // The summary of a module's text.
-ghost use Rattle.std.specs.Prelude.{◌≡◌, ◌≤◌, ◌%◌, ◌^◌, List, ℕ, count_by, length, sum, string_bytes, IfOk, IfErr, OnOk};
+ghost use Rattle.std.specs.Prelude.{◌≡◌, ◌≤◌, ◌%◌, ◌^◌, List, ℕ, count_by, length, sum, Some, string_bytes, IfOk, IfErr, OnOk};
 ghost use Rattle.spv_words.specs.Limit.{limit_number};
 ghost use Rattle.spv_words.specs.declared.rule.Limit.TheVariants.{Bytes};
 ghost use Rattle.conformance.specs.Rules.{Conforms, IsRight, IsWithinLimits, module_in};
@@ -106,7 +106,7 @@ fn line(alloc: Global, counts: Counts, text: &[u8]) -> Result<String, AllocError
 pub fn summarized(alloc: Global, bytes: &[u8], options: &Options) -> Result<String, Fault>
     requires { length bytes.now ≤ limit_number Bytes }
     ensures passes { OnOk result (Conforms bytes.now (asked options.now) × IsWithinLimits bytes.now (asked options.now)) }
-    ensures summary { IfOk result (λ line. (text : List ℕ) × IsTextOf (module_in bytes.now) (asked options.now) text × (string_bytes line ≡ summary_of (module_in bytes.now) text)) }
+    ensures summary { IfOk result (λ line. (text : List ℕ) × IsTextOf (asked options.now) (Some bytes.now) text × (string_bytes line ≡ summary_of (module_in bytes.now) text)) }
     ensures refused { IfErr result (IsRight bytes.now (asked options.now)) }
 {
     let module = read_module(alloc, bytes)?;

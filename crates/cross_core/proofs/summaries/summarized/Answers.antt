@@ -4,12 +4,11 @@ use Rattle.spv_module.specs.State.{ModuleState}
 use Rattle.conformance.specs.Rules.{Options, IsRight}
 use Rattle.glsl_ast.specs.Tree.{Text}
 use Rattle.glsl_ast.specs.View.{unit_of}
-use Rattle.glsl_grammar.specs.Reading.{glsl_read}
 use Rattle.module_check.specs.Asked.{asked}
 use Rattle.module_check.proofs.OfBytes.{read_is, faulty, fine}
 use Rattle.cross_core.specs.Answers.{is_reached, count_blocks, summary_line, summary}
-use Rattle.glsl_grammar.proofs.ReadsBack.{reads_back}
 use Rattle.emit_glsl.specs.Text.{IsTranslationOf}
+use Rattle.cross_core.proofs.Outputs.{glsl_answer}
 use Rattle.cross_core.proofs.summaries.summarized.Goals as goal
 
 pub returns-in_err-module-clause-refused : goal.returns-in_err-module-clause-refused
@@ -38,13 +37,10 @@ returns-clause-summary c =
     let text : Text = c.bytes.result.now in
     let o : Options = asked c.args.options.now in
     let unit = unit_of c.in_ok-translation.translation.unit in
-    let counts = c.in_ok-counts_in.field-0 in (
+    let counts = c.in_ok-counts_in.field-0 in
+    let translation = subst (λ (m : ModuleState). IsTranslationOf m o unit) c.in_ok-module.ensures.read.made c.in_ok-translation.ensures.translation in (
       text,
-      record {
-        unit = unit;
-        reads = subst (λ (t : Text). glsl_read t ≡ Some unit) (sym (c.bytes.ensures ∙ c.in_ok-text.ensures)) (reads_back unit c.in_ok-translation.ensures.translation.grammar);
-        translation = subst (λ (m : ModuleState). IsTranslationOf m o unit) c.in_ok-module.ensures.read.made c.in_ok-translation.ensures.translation;
-      },
+      glsl_answer o c.args.bytes.now unit text translation (c.bytes.ensures ∙ c.in_ok-text.ensures),
       c.in_ok-line.ensures ∙ ap (λ n. summary_line n counts.loops text) c.in_ok-counts_in.ensures.blocks ∙ ap (λ n. summary_line (count_blocks is_reached m) n text) c.in_ok-counts_in.ensures.loops
           ∙ ap (λ (m : ModuleState). summary m text) c.in_ok-module.ensures.read.made,
     )
