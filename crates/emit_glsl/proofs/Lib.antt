@@ -14,3 +14,4 @@ pub mod Pushed
 pub mod Twos
 pub mod One
 pub mod Lone
+mod LiveExamples

@@ -5,6 +5,7 @@ use Rattle.std.specs.List.{AllZip}
 use Rattle.std.proofs.lemmas.List.{map-append}
 use Rattle.spv_module.specs.State.{ModuleState}
 use Rattle.spv_module.specs.declared.inst.Id.{Id}
+use Rattle.spv_module.specs.declared.inst.Inst.{Inst}
 use Rattle.spv_module.specs.declared.inst.Function.{Function}
 use Rattle.structure_rules.specs.declared.graph.Node.{Node}
 use Rattle.profile_rules.specs.declared.size.SizePart.{SizePart}
@@ -29,12 +30,12 @@ use Rattle.expr_forward.specs.declared.globals.Globals.{Globals}
 use Rattle.emit_glsl.specs.declared.plan.FunctionPlan.{FunctionPlan as Planned}
 use Rattle.emit_glsl.specs.Claimed.{claimed_by}
 use Rattle.emit_glsl.specs.Functions.{FunctionPlan, function_decl}
-use Rattle.emit_glsl.specs.Planned.{captured_numbers, is_named_in}
+use Rattle.emit_glsl.specs.Planned.{captured_numbers, is_named_in, is_reached_node}
 use Rattle.emit_glsl.specs.Plans.{IsPlanned}
-use Rattle.emit_glsl.specs.Live.{live_by}
-use Rattle.emit_glsl.specs.Reached.{function_in, live_in, reached_in, plan_with, planned_at, decls_at, AreGlobals, IsWritten, IsMade}
+use Rattle.emit_glsl.specs.Live.{Liveness, types_of, mentions_of, in_function}
+use Rattle.emit_glsl.specs.Reached.{function_in, liveness_in, types_in, mentions_in, reached_in, plan_with, planned_at, decls_at, AreGlobals, IsWritten, IsMade}
 use Rattle.emit_glsl.specs.Translation.{Naming, id_text, global_expr, scope_by, scope_of, IsPlanOf}
-use Rattle.emit_glsl.specs.Unit.{item_names_of, claims_by, live_of, reached_of, called, has_id as has_id_of, plan_at, in_order, source_of, IsUnitOf}
+use Rattle.emit_glsl.specs.Unit.{item_names_of, claims_by, liveness_of, live_of, reached_of, called, has_id as has_id_of, plan_at, in_order, source_of, IsUnitOf}
 
 -- lists side by side
 zip_each : {A B C : Type 0} (R : A → B → Type 0) (Q : A → C → Type 0) (g : B → C) → ((a : A) (b : B) → R a b → Q a (g b)) → (xs : List A) (ys : List B) → AllZip R xs ys → AllZip Q xs (map g ys)
@@ -97,8 +98,13 @@ module _ (s : Source) (names : Given) (globals : Globals) (found : Naming) where
         λ n. is.named n ∙ (ap (λ (g : List Node). is_named_in (form_in p.naming) g f.blocks n) (sym is.graph_is) ∙ ap (λ (l : Function). is_named_in (form_in p.naming) p.nodes.items l.blocks n) (sym is.of_function)) in
         λ i. record (claimed_by p) { is_named = λ n. named n i; captured = captured_numbers (ap (λ (m : ModuleState). m.globals) is.of_module i) (is_carried_in p.naming) }
 
-    live_is : live_in p ≡ live_of s (plain p)
-    live_is = ap (λ (m : ModuleState). live_by m.globals (form_in p.naming) (is_carried_in p.naming) p.nodes.items p.locals.blocks) is.of_module
+    liveness_is : liveness_in p ≡ liveness_of s (plain p)
+    liveness_is =
+        let reached : p.reached.items ≡ map is_reached_node p.nodes.items = is.reached_is ∙ ap (map is_reached_node) (sym is.graph_is) in
+        λ i. record (liveness_in p) { globals = ap (λ (m : ModuleState). m.globals) is.of_module i; reached = reached i }
+
+    live_is : (each : Liveness → Bool → Inst → List ℕ) → in_function each (liveness_in p) ≡ live_of each s (plain p)
+    live_is each = ap (in_function each) liveness_is
 
     module _ (names_are : name_in names ≡ found) (globals_are : AreGlobals s names globals) where
       lowering_is : naming_of names ≡ found
@@ -133,8 +139,9 @@ module _ (s : Source) (names : Given) (globals : Globals) (found : Naming) where
     reached_is : reached_in ps ≡ reached_of s (map plain ps)
     reached_is =
         let functions = zip_maps (IsPlanned s.of) function_in plain (λ (q : FunctionPlan). q.scope.setting.function) (λ f p is. refl) fs ps planned in
-        let live = zip_flats (IsPlanned s.of) live_in plain (live_of s) live_is fs ps planned in
-        λ i. record { functions = functions i; live = live i }
+        let types = zip_flats (IsPlanned s.of) types_in plain (live_of types_of s) (λ f p is. live_is f p is types_of) fs ps planned in
+        let mentions = zip_flats (IsPlanned s.of) mentions_in plain (live_of mentions_of s) (λ f p is. live_is f p is mentions_of) fs ps planned in
+        λ i. record { functions = functions i; types = types i; mentions = mentions i }
 
     plans_are : name_in names ≡ found → AreGlobals s names globals → AllZip (IsPlanOf s found) fs (map plain ps)
     plans_are names_are globals_are = zip_each (IsPlanned s.of) (IsPlanOf s found) plain (λ f p is. plan_is f p is names_are globals_are) fs ps planned

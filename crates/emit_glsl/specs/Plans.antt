@@ -32,6 +32,7 @@ pub record IsPlanned (m : ModuleState) (f : Function) (p : Planned) : Type 0 whe
   pub of_module : p.source.now ≡ m
   pub of_function : p.locals ≡ f
   pub graph_is : p.nodes.items ≡ graph f
+  pub reached_is : p.reached.items ≡ map is_reached_node (graph f)
   pub naming : IsNamed m.globals f (graph f) p.naming
   pub named : (n : ℕ) → is_in p.named n ≡ is_named_in (form_in p.naming) (graph f) f.blocks n
   pub tree : IsTree f (region_of p.region)

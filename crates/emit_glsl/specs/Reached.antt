@@ -30,7 +30,7 @@ use Rattle.emit_glsl.specs.declared.unit.Head.{Head}
 use Rattle.emit_glsl.specs.Claimed.{claimed_by}
 use Rattle.emit_glsl.specs.Functions.{FunctionPlan, function_decl}
 use Rattle.emit_glsl.specs.Planned.{plan_in}
-use Rattle.emit_glsl.specs.Live.{live_by}
+use Rattle.emit_glsl.specs.Live.{Liveness, types_of, mentions_of, in_function}
 use Rattle.emit_glsl.specs.Plans.{IsPlanned}
 use Rattle.emit_glsl.specs.Translation.{global_expr}
 use Rattle.emit_glsl.specs.Unit.{called}
@@ -38,12 +38,19 @@ use Rattle.emit_glsl.specs.Unit.{called}
 abbrev pub function_in : Planned → Function
 function_in p = p.locals
 
--- the instructions of a function for which constants and structs are written
-abbrev pub live_in : Planned → List Inst
-live_in p = live_by p.source.now.globals (form_in p.naming) (is_carried_in p.naming) p.nodes.items p.locals.blocks
+-- what a plan tells of live instructions
+abbrev pub liveness_in : Planned → Liveness
+liveness_in p = record { globals = p.source.now.globals; function = p.locals; reached = p.reached.items; form = form_in p.naming; carried = is_carried_in p.naming }
+
+-- the types of live instructions, and the ids that these mention
+abbrev pub types_in : Planned → List ℕ
+types_in p = in_function types_of (liveness_in p)
+
+abbrev pub mentions_in : Planned → List ℕ
+mentions_in p = in_function mentions_of (liveness_in p)
 
 abbrev pub reached_in : List Planned → Reached
-reached_in ps = record { functions = map function_in ps; live = flat_map live_in ps }
+reached_in ps = record { functions = map function_in ps; types = flat_map types_in ps; mentions = flat_map mentions_in ps }
 
 -- the id of a function is among these
 abbrev pub is_among : IdSet → Function → Bool

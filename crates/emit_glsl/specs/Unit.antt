@@ -19,8 +19,8 @@ use Rattle.text_items.specs.Names.{calculated_with}
 use Rattle.text_items.specs.View.{claims_of}
 use Rattle.emit_glsl.specs.Once.{once, itself}
 use Rattle.emit_glsl.specs.Functions.{FunctionPlan, function_decl, targets_in, written}
-use Rattle.emit_glsl.specs.Planned.{captured_numbers, is_named_in, spares_in}
-use Rattle.emit_glsl.specs.Live.{live_by}
+use Rattle.emit_glsl.specs.Planned.{captured_numbers, is_named_in, is_reached_node, spares_in}
+use Rattle.emit_glsl.specs.Live.{Liveness, types_of, mentions_of, in_function}
 use Rattle.emit_glsl.specs.Translation.{Naming, id_text, names_of, IsPlanOf}
 
 -- the size of workgroups, the items in the order of the module, and the functions
@@ -45,11 +45,14 @@ claims_by s p = record {
 }
 
 -- what is written of planned functions
-abbrev pub live_of : Source → FunctionPlan → List Inst
-live_of s p = live_by s.of.globals p.scope.form p.scope.carried p.graph (written p).blocks
+abbrev pub liveness_of : Source → FunctionPlan → Liveness
+liveness_of s p = record { globals = s.of.globals; function = written p; reached = map is_reached_node p.graph; form = p.scope.form; carried = p.scope.carried }
+
+abbrev pub live_of : (Liveness → Bool → Inst → List ℕ) → Source → FunctionPlan → List ℕ
+live_of each s p = in_function each (liveness_of s p)
 
 abbrev pub reached_of : Source → List FunctionPlan → Reached
-reached_of s plans = record { functions = map written plans; live = flat_map (live_of s) plans }
+reached_of s plans = record { functions = map written plans; types = flat_map (live_of types_of s) plans; mentions = flat_map (live_of mentions_of s) plans }
 
 -- the functions that calls reach, in the order of the module, and their plans in the order of calls
 abbrev pub is_called : List Id → Function → Bool

@@ -1,20 +1,20 @@
-// The live instructions of functions.
-ghost use Rattle.std.specs.Prelude.{◌≡◌, ◌++◌, OnOk};
-ghost use Rattle.text_items.specs.State.{insts_at};
+// What constants and structs are written for: the types of live instructions, and the ids that these mention.
+ghost use Rattle.std.specs.Prelude.{◌≡◌, ◌++◌, true, false, drop, flat_map, OnOk, slice_index_or};
+ghost use Rattle.std.specs.List.{enumerate_from};
 ghost use Rattle.hoist_plan.specs.Kept.{form_in, is_carried_in};
-ghost use Rattle.emit_glsl.specs.Live.{is_composite_type as is_composite_opcode, is_composite as is_composite_in, is_wanted as is_wanted_in, is_written_for as is_written_for_in, live_among, live_at, live_by};
-ghost use Rattle.emit_glsl.specs.Reached.{live_in};
+ghost use Rattle.emit_glsl.specs.Live.{is_composite_type as is_composite_opcode, is_composite as is_composite_in, is_wanted as is_wanted_in, in_block, types_of, mentions_of};
+ghost use Rattle.emit_glsl.specs.Reached.{liveness_in, types_in, mentions_in};
 
 use crate::heads::is_hoisted;
 use crate::named::{is_captured, is_live};
-use crate::nodes::is_reached;
 use crate::plan::FunctionPlan;
 use hoist_plan::Naming;
 use spv_module::{Block, Id, Inst, Module};
 use spv_ops::Op;
 use spv_words::Memory;
 use std::alloc::AllocError;
-use structure_rules::Node;
+use text_items::Live;
+use use_chains::add_mentions;
 
 /// OpTypeArray, OpTypeRuntimeArray and OpTypeStruct.
 fn is_composite_type(op: Op) -> bool
@@ -41,77 +41,109 @@ fn is_wanted(module: &Module, naming: &Naming, inst: &Inst) -> bool
         || is_hoisted(naming.of(Id(inst.result))) && is_composite(module, inst.ty)
 }
 
-/// Whether constants and structs are written for an instruction.
-fn is_written_for(module: &Module, naming: &Naming, reached: bool, inst: &Inst) -> bool
-    ensures { result ≡ is_written_for_in «module».now.globals (form_in naming.now) (is_carried_in naming.now) reached inst.now }
+/// The indexes of a chain.
+fn indexes(chain: &Inst) -> &[u32]
+    ensures { result.now ≡ drop 1 chain.now.args }
+{
+    chain.args.as_slice().get(1..).unwrap_or(&[])
+}
+
+/// Adds the type of an instruction of a reached block, and what it mentions, where it is live.
+fn add_reached(live: &mut Live, plan: &FunctionPlan, inst: &Inst) -> Result<(), AllocError>
+    ensures types { OnOk result (live.new.types.items ≡ live.old.types.items ++ types_of (liveness_in plan.now) true inst.now) }
+    ensures mentions { OnOk result (live.new.mentions.items ≡ live.old.mentions.items ++ mentions_of (liveness_in plan.now) true inst.now) }
+{
+    if is_live(&plan.naming, inst) {
+        live.types.push(inst.ty)?;
+        add_mentions(
+            &mut live.mentions,
+            &plan.locals,
+            plan.reached.as_slice(),
+            inst,
+        )?;
+    }
+    Ok(())
+}
+
+/// Adds the type of an instruction of a block that is not reached, where a reached block needs it.
+fn add_type(types: &mut Vec<u32>, plan: &FunctionPlan, inst: &Inst) -> Result<(), AllocError>
+    ensures { OnOk result (types.new.items ≡ types.old.items ++ types_of (liveness_in plan.now) false inst.now) }
+{
+    if is_wanted(plan.source, &plan.naming, inst) {
+        types.push(inst.ty)?;
+    }
+    Ok(())
+}
+
+/// Adds the indexes of a chain of a block that is not reached, where a reached block needs it.
+fn add_indexes(mentions: &mut Vec<u32>, plan: &FunctionPlan, inst: &Inst) -> Result<(), AllocError>
+    ensures { OnOk result (mentions.new.items ≡ mentions.old.items ++ mentions_of (liveness_in plan.now) false inst.now) }
+{
+    if is_captured(&plan.naming, inst) {
+        mentions.extend_from_slice(indexes(inst))?;
+    }
+    Ok(())
+}
+
+/// Adds the type of an instruction of a block, and what it mentions, where it is live.
+fn add_inst(
+    live: &mut Live,
+    plan: &FunctionPlan,
+    reached: bool,
+    inst: &Inst,
+) -> Result<(), AllocError>
+    ensures types { OnOk result (live.new.types.items ≡ live.old.types.items ++ types_of (liveness_in plan.now) reached inst.now) }
+    ensures mentions { OnOk result (live.new.mentions.items ≡ live.old.mentions.items ++ mentions_of (liveness_in plan.now) reached inst.now) }
 {
     if reached {
-        is_live(naming, inst)
+        add_reached(live, plan, inst)?;
     } else {
-        is_wanted(module, naming, inst)
-    }
-}
-
-/// Adds the live instructions of a block that is reached, or what a reached block needs of another.
-fn add_live_of<'a>(
-    live: &mut Vec<&'a Inst>,
-    module: &Module,
-    naming: &Naming,
-    reached: bool,
-    block: &'a Block,
-) -> Result<(), AllocError>
-    ensures { OnOk result (insts_at live.new.items ≡ insts_at live.old.items ++ live_among «module».now.globals (form_in naming.now) (is_carried_in naming.now) reached block.now.insts) }
-{
-    for inst in block.insts.as_slice() {
-        if is_written_for(module, naming, reached, inst) {
-            live.push(inst)?;
-        }
+        add_type(&mut live.types, plan, inst)?;
+        add_indexes(&mut live.mentions, plan, inst)?;
     }
     Ok(())
 }
 
-/// Adds the instructions of the block at a place for which constants and structs are written.
-fn add_live_at<'a>(
-    live: &mut Vec<&'a Inst>,
-    module: &Module,
-    naming: &Naming,
-    nodes: &[Node],
+/// Whether a block of a planned function is reached.
+fn is_reached(plan: &FunctionPlan, index: usize) -> bool
+    ensures { result ≡ slice_index_or plan.now.reached.items index false }
+{
+    plan.reached.get(index).copied().unwrap_or(false)
+}
+
+/// Adds the types of the live instructions of a block, and the ids that these mention.
+fn add_block(
+    live: &mut Live,
+    plan: &FunctionPlan,
     index: usize,
-    block: &'a Block,
+    block: &Block,
 ) -> Result<(), AllocError>
-    ensures { OnOk result (insts_at live.new.items ≡ insts_at live.old.items ++ live_at «module».now.globals (form_in naming.now) (is_carried_in naming.now) nodes.now (index, block.now)) }
+    ensures types { OnOk result (live.new.types.items ≡ live.old.types.items ++ in_block types_of (liveness_in plan.now) (index, block.now)) }
+    ensures mentions { OnOk result (live.new.mentions.items ≡ live.old.mentions.items ++ in_block mentions_of (liveness_in plan.now) (index, block.now)) }
 {
-    add_live_of(live, module, naming, is_reached(nodes, index), block)?;
+    let reached = is_reached(plan, index);
+    for inst in block.insts.as_slice() {
+        add_inst(live, plan, reached, inst)?;
+    }
     Ok(())
 }
 
-/// Adds the instructions of blocks for which constants and structs are written.
-fn add_live_in<'a>(
-    live: &mut Vec<&'a Inst>,
-    module: &Module,
-    naming: &Naming,
-    nodes: &[Node],
-    blocks: &'a [Block],
-) -> Result<(), AllocError>
-    ensures { OnOk result (insts_at live.new.items ≡ insts_at live.old.items ++ live_by «module».now.globals (form_in naming.now) (is_carried_in naming.now) nodes.now blocks.now) }
+/// Adds the types of the live instructions of blocks, and the ids that these mention.
+fn add_blocks(live: &mut Live, plan: &FunctionPlan, blocks: &[Block]) -> Result<(), AllocError>
+    ensures types { OnOk result (live.new.types.items ≡ live.old.types.items ++ flat_map (in_block types_of (liveness_in plan.now)) (enumerate_from 0 blocks.now)) }
+    ensures mentions { OnOk result (live.new.mentions.items ≡ live.old.mentions.items ++ flat_map (in_block mentions_of (liveness_in plan.now)) (enumerate_from 0 blocks.now)) }
 {
     for (index, block) in blocks.iter().enumerate() {
-        add_live_at(live, module, naming, nodes, index, block)?;
+        add_block(live, plan, index, block)?;
     }
     Ok(())
 }
 
-/// Adds the instructions of a function for which constants and structs are written.
-pub fn add_live<'a>(live: &mut Vec<&'a Inst>, plan: &FunctionPlan<'a>) -> Result<(), Memory>
-    ensures { OnOk result (insts_at live.new.items ≡ insts_at live.old.items ++ live_in plan.now) }
+/// Adds the types of the live instructions of a function, and the ids that these mention.
+pub fn add_live(live: &mut Live, plan: &FunctionPlan) -> Result<(), Memory>
+    ensures types { OnOk result (live.new.types.items ≡ live.old.types.items ++ types_in plan.now) }
+    ensures mentions { OnOk result (live.new.mentions.items ≡ live.old.mentions.items ++ mentions_in plan.now) }
 {
-    let blocks = plan.function().blocks.as_slice();
-    add_live_in(
-        live,
-        plan.source,
-        &plan.naming,
-        plan.nodes.as_slice(),
-        blocks,
-    )?;
+    add_blocks(live, plan, plan.function().blocks.as_slice())?;
     Ok(())
 }

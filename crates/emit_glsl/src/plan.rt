@@ -23,8 +23,8 @@ use structure_recover::{Region, recover};
 use structure_rules::Node;
 use use_chains::{Steps, Uses};
 
-/// What is planned of a function that is written: what it defines; its control-flow graph; which of its values have variables,
-/// and which results have names; the tree of its control flow; the moves of its edges; the loops that need the flags `again`
+/// What is planned of a function that is written: what it defines; its control-flow graph, and which blocks of it are reached; which
+/// of its values have variables, and which results have names; the tree of its control flow; the moves of its edges; the loops that need the flags `again`
 /// and `leave`, and the case targets that need `fell`; and the order of the targets of its switches. Blocks are named by their
 /// indexes in the function.
 #[derive(Drop)]
@@ -32,6 +32,7 @@ pub struct FunctionPlan<'a> {
     pub source: &'a Module,
     pub locals: Locals<'a>,
     pub nodes: Vec<Node>,
+    pub reached: Vec<bool>,
     pub naming: Naming,
     pub named: IdSet,
     pub region: Region,
@@ -58,13 +59,14 @@ fn naming_of<L: Ledger>(
     module: &Module,
     locals: &Locals,
     places: &Places,
+    reached: &[bool],
     steps: &mut Steps<L>,
 ) -> Result<Naming, Memory>
-    requires { places.now ≡ graph locals.now }
+    requires places { places.now ≡ graph locals.now }
+    requires reached { reached.now ≡ map is_reached_node (graph locals.now) }
     ensures { IfOk result (λ naming. IsNamed «module».now.globals locals.now (graph locals.now) naming) }
 {
-    let reached = reached_blocks(alloc, places)?;
-    let uses = Uses::build(alloc, locals, &reached, steps)?;
+    let uses = Uses::build(alloc, locals, reached, steps)?;
     let naming = plan(alloc, module, locals, places.nodes(), &uses, steps)?;
     Ok(naming)
 }
@@ -82,7 +84,8 @@ impl<'a> FunctionPlan<'a> {
         ensures { IfOk result (λ p. IsPlanned «module».now locals.entry p) }
     {
         let function = locals.function();
-        let naming = naming_of(alloc, module, &locals, &places, steps)?;
+        let reached = reached_blocks(alloc, &places)?;
+        let naming = naming_of(alloc, module, &locals, &places, &reached, steps)?;
         let region = recover(alloc, function, &places)?;
         let phis = phi_blocks(alloc, function, &naming)?;
         let flags = flag_sets(alloc, function, &places, &region, phis.as_slice())?;
@@ -94,6 +97,7 @@ impl<'a> FunctionPlan<'a> {
             source: module,
             locals,
             nodes,
+            reached,
             naming,
             named,
             region,

@@ -1,5 +1,5 @@
 // The parts of a text.
-ghost use Rattle.std.specs.Prelude.{◌≡◌, ◌==◌, ◌++◌, ℕ, true, Some, None, drop, filter, flat_map, IfOk, OnOk, map, option_copied, option_map, option_to_list, slice_get, if◌then◌else◌};
+ghost use Rattle.std.specs.Prelude.{◌≡◌, ◌==◌, ◌++◌, [], ℕ, true, Some, None, drop, filter, flat_map, IfOk, OnOk, map, option_copied, option_map, option_to_list, slice_get, if◌then◌else◌};
 ghost use Rattle.std.specs.List.{AllZip, list_any};
 ghost use Rattle.std.specs.Vec.Iter.{into_iter_items};
 ghost use Rattle.id_map.specs.Entries.{is_in};
@@ -8,10 +8,10 @@ ghost use Rattle.glsl_ast.specs.View.{decl_of, expr_of, unit_of as tree_of_unit}
 ghost use Rattle.constant_text.specs.Named.{id_names};
 ghost use Rattle.expr_forward.specs.Globals.{global_in};
 ghost use Rattle.text_items.specs.Asked.{is_asked};
-ghost use Rattle.text_items.specs.State.{functions_at, insts_at, reached_of};
+ghost use Rattle.text_items.specs.State.{functions_at, reached_of};
 ghost use Rattle.emit_glsl.specs.Claimed.{claimed_by};
 ghost use Rattle.emit_glsl.specs.Plans.{IsPlanned, IsPlannedNext};
-ghost use Rattle.emit_glsl.specs.Reached.{function_in, id_in, live_in, reached_in, is_among, IsHead, AreGlobals, or_before, ArePlaces, planned_at, decl_with, decls_at, expr_among, IsWritten, IsMade};
+ghost use Rattle.emit_glsl.specs.Reached.{function_in, id_in, types_in, mentions_in, reached_in, is_among, IsHead, AreGlobals, or_before, ArePlaces, planned_at, decl_with, decls_at, expr_among, IsWritten, IsMade};
 ghost use Rattle.emit_glsl.specs.Translation.{global_expr as expr_of_global};
 ghost use Rattle.emit_glsl.specs.Unit.{called as called_in};
 
@@ -35,7 +35,7 @@ use std::alloc::{AllocError, Global};
 use std::marker::Brand;
 use std::sync::ledger::{Blank, Ledger};
 use std::vec::IntoIter;
-use text_items::{Written, asks_live, claims, declarations, global_expr};
+use text_items::{Live, Written, asks_live, claims, declarations, global_expr};
 use use_chains::Steps;
 
 /// The ids of functions as a set.
@@ -143,32 +143,45 @@ fn functions_of<'a>(alloc: Global, plans: &[FunctionPlan<'a>]) -> Result<Vec<&'a
     Ok(functions)
 }
 
-/// The live instructions of planned functions.
-fn live_of<'a>(alloc: Global, plans: &[FunctionPlan<'a>]) -> Result<Vec<&'a Inst>, Memory>
-    ensures { IfOk result (λ live. insts_at live.items ≡ flat_map live_in plans.now) }
+/// Nothing of live instructions.
+fn no_live(alloc: Global) -> Live
+    ensures types { result.types.items ≡ [] }
+    ensures mentions { result.mentions.items ≡ [] }
 {
-    let mut live = Vec::new(alloc);
+    Live {
+        types: Vec::new(alloc),
+        mentions: Vec::new(alloc),
+    }
+}
+
+/// The types of the live instructions of planned functions, and the ids that these mention.
+fn live_of(alloc: Global, plans: &[FunctionPlan]) -> Result<Live, Memory>
+    ensures types { IfOk result (λ live. live.types.items ≡ flat_map types_in plans.now) }
+    ensures mentions { IfOk result (λ live. live.mentions.items ≡ flat_map mentions_in plans.now) }
+{
+    let mut live = no_live(alloc);
     for plan in plans {
         add_live(&mut live, plan)?;
     }
     Ok(live)
 }
 
-/// The live instructions of planned functions, where what is written may depend on them; else none.
-fn live_if_asked<'a>(
+/// So it is, where what is written may depend on live instructions; else there is nothing.
+fn live_if_asked(
     alloc: Global,
     readings: &Readings,
     decor: &Decor,
-    plans: &[FunctionPlan<'a>],
-) -> Result<Vec<&'a Inst>, Memory>
+    plans: &[FunctionPlan],
+) -> Result<Live, Memory>
     requires { decor.now ≡ readings.now.of.heads }
-    ensures { IfOk result (λ live. list_any (is_asked readings.now) readings.now.of.globals ≡ true → insts_at live.items ≡ flat_map live_in plans.now) }
+    ensures types { IfOk result (λ live. list_any (is_asked readings.now) readings.now.of.globals ≡ true → live.types.items ≡ flat_map types_in plans.now) }
+    ensures mentions { IfOk result (λ live. list_any (is_asked readings.now) readings.now.of.globals ≡ true → live.mentions.items ≡ flat_map mentions_in plans.now) }
 {
     if asks_live(readings, decor) {
         let live = live_of(alloc, plans)?;
         Ok(live)
     } else {
-        Ok(Vec::new(alloc))
+        Ok(no_live(alloc))
     }
 }
 
@@ -209,7 +222,7 @@ fn written_head(
     Ok(Head { items, names })
 }
 
-/// The head of a text with these functions and their live instructions.
+/// The head of a text with these functions, and what is told of their live instructions.
 fn head_by<'a>(
     alloc: Global,
     readings: &Readings<'a>,
@@ -217,7 +230,7 @@ fn head_by<'a>(
     entry: Id,
     plans: &[FunctionPlan<'a>],
     functions: &[&'a Function],
-    live: &[&'a Inst],
+    live: &Live,
 ) -> Result<Head, Memory>
     requires decor { decor.now ≡ readings.now.of.heads }
     requires entry { entry.0 ≡ readings.now.entry }
@@ -239,18 +252,10 @@ fn head_with<'a>(
 ) -> Result<Head, Memory>
     requires decor { decor.now ≡ readings.now.of.heads }
     requires entry { entry.0 ≡ readings.now.entry }
-    ensures { IfOk result (IsHead readings.now (record { functions = functions_at functions.now; live = flat_map live_in plans.now }) (map claimed_by plans.now)) }
+    ensures { IfOk result (IsHead readings.now (record { functions = functions_at functions.now; types = flat_map types_in plans.now; mentions = flat_map mentions_in plans.now }) (map claimed_by plans.now)) }
 {
     let live = live_if_asked(alloc, readings, decor, plans)?;
-    let head = head_by(
-        alloc,
-        readings,
-        decor,
-        entry,
-        plans,
-        functions,
-        live.as_slice(),
-    )?;
+    let head = head_by(alloc, readings, decor, entry, plans, functions, &live)?;
     Ok(head)
 }
 

@@ -1,5 +1,5 @@
--- Where no global asks which instructions are live, what is written is the same for all.
-use Rattle.std.proofs.Common.{◌≡◌, ◌&&◌, ◌||◌, not, Bool, true, false, List, [], ◌∷◌, ◌++◌, None, refl, ap, ◌∙◌}
+-- Where no global asks which instructions are live, what is written is the same whatever is told of these.
+use Rattle.std.proofs.Common.{◌≡◌, ◌&&◌, ◌||◌, ℕ, not, Bool, true, false, List, [], ◌∷◌, ◌++◌, None, refl, ap, ◌∙◌}
 use Rattle.std.specs.Prelude.{flat_map, is_some, if◌then◌else◌}
 use Rattle.std.specs.List.{list_any, enumerate_from}
 use Rattle.spv_ops.specs.Opcode.{is}
@@ -38,12 +38,12 @@ flats f g test same (x ∷ xs) h =
     ap (λ ys. ys ++ flat_map f xs) (same x (left_false (test x) (list_any test xs) h))
     ∙ ap (λ ys. g x ++ ys) (flats f g test same xs (right_false (test x) (list_any test xs) h))
 
-module _ (s : Source) (fs : List Function) (live more : List Inst) where
+module _ (s : Source) (fs : List Function) (types mentions types' mentions' : List ℕ) where
   abbrev some : Reached
-  some = record { functions = fs; live = live }
+  some = record { functions = fs; types = types; mentions = mentions }
 
   abbrev all : Reached
-  all = record { functions = fs; live = more }
+  all = record { functions = fs; types = types'; mentions = mentions' }
 
   constant_same : (g : Inst) → is_asked s g ≡ false → is_declared_constant s some g ≡ is_declared_constant s all g
   constant_same g h =

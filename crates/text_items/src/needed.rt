@@ -2,10 +2,10 @@
 ghost use Rattle.std.specs.Prelude.{◌≡◌, ◌&&◌, ◌||◌, ℕ, IfOk, OnOk};
 ghost use Rattle.std.specs.List.{list_any};
 ghost use Rattle.id_map.specs.Entries.{is_in};
-ghost use Rattle.text_rules.specs.Printed.{mentions, is_private as is_private_variable, is_length_of, is_named, declares as declares_constant, needed_with, needed_from};
-ghost use Rattle.text_items.specs.State.{insts_at, is_written_class as is_written_class_number, is_written_by, needed_first};
+ghost use Rattle.text_rules.specs.Printed.{has_operand, is_private as is_private_variable, is_length_of, is_named, declares as declares_constant, needed_with, needed_from};
+ghost use Rattle.text_items.specs.State.{is_written_class as is_written_class_number, is_written_by, needed_first};
 
-use crate::mentions::{add_all, add_mentions, no_ids};
+use crate::operands::{add_ids, add_ids_of, no_ids};
 use constant_text::{Reading, Readings};
 use id_map::IdSet;
 use spv_module::{Id, Inst};
@@ -30,12 +30,12 @@ fn is_written_class(class: u32) -> bool
         || class == StorageClass::StorageBuffer.number()
 }
 
-/// Whether this is a variable that is written, where functions mention these ids: one of class Uniform, Workgroup, Private,
-/// PushConstant or StorageBuffer.
-pub fn is_written(mentioned: &IdSet, inst: &Inst) -> bool
-    ensures { result ≡ is_written_by (is_in mentioned.now) inst.now }
+/// Whether this is a variable that is written, where these are the operands in functions: one of class Uniform, Workgroup,
+/// Private, PushConstant or StorageBuffer.
+pub fn is_written(operand_ids: &IdSet, inst: &Inst) -> bool
+    ensures { result ≡ is_written_by (is_in operand_ids.now) inst.now }
 {
-    inst.op == Op::Variable && is_written_class(inst.operand(0)) && mentioned.has(inst.result)
+    inst.op == Op::Variable && is_written_class(inst.operand(0)) && operand_ids.has(inst.result)
 }
 
 /// Adds the constants that are lengths of arrays.
@@ -54,14 +54,14 @@ fn add_lengths(needed: &mut IdSet, globals: &[Inst]) -> Result<(), AllocError>
 #[inline(never)]
 fn add_initializers(
     needed: &mut IdSet,
-    mentioned: &IdSet,
+    operand_ids: &IdSet,
     globals: &[Inst],
 ) -> Result<(), AllocError>
-    ensures { OnOk result ((id : ℕ) → is_in needed.new id ≡ (is_in needed.old id || list_any (λ g. is_private_variable g && (is_written_by (is_in mentioned.now) g && mentions g id)) globals.now)) }
+    ensures { OnOk result ((id : ℕ) → is_in needed.new id ≡ (is_in needed.old id || list_any (λ g. is_private_variable g && (is_written_by (is_in operand_ids.now) g && has_operand g id)) globals.now)) }
 {
     for inst in globals {
-        if is_private(inst) && is_written(mentioned, inst) {
-            add_mentions(needed, inst)?;
+        if is_private(inst) && is_written(operand_ids, inst) {
+            add_ids_of(needed, inst)?;
         }
     }
     Ok(())
@@ -77,19 +77,19 @@ pub fn declares(readings: &Readings, needed: &IdSet, inst: &Inst) -> bool
         && (readings.free_spec_id(Id(inst.result)).is_some() || needed.has(inst.result))
 }
 
-/// Adds what a constant mentions, where it is declared.
+/// Adds the operands of a constant, where it is declared.
 #[inline(never)]
 #[tactic(auto, using(crate::proofs::Built::needed_is))]
 fn add_operands(readings: &Readings, needed: &mut IdSet, inst: &Inst) -> Result<(), AllocError>
     ensures { OnOk result ((id : ℕ) → is_in needed.new id ≡ needed_with readings.now (is_in needed.old) inst.now id) }
 {
     if declares(readings, needed, inst) {
-        add_mentions(needed, inst)?;
+        add_ids_of(needed, inst)?;
     }
     Ok(())
 }
 
-/// Adds what declared constants mention. They stand before what mentions them.
+/// Adds the operands of declared constants. They stand before these.
 #[tactic(auto, using(crate::proofs::Built::needed_rules))]
 fn add_earlier(readings: &Readings, needed: &mut IdSet, globals: &[Inst]) -> Result<(), AllocError>
     ensures { OnOk result ((id : ℕ) → is_in needed.new id ≡ needed_from readings.now (is_in needed.old) globals.now id) }
@@ -100,20 +100,20 @@ fn add_earlier(readings: &Readings, needed: &mut IdSet, globals: &[Inst]) -> Res
     Ok(())
 }
 
-/// The ids that the text needs, where functions mention these ids, and these instructions are live.
+/// The ids that the text needs, where these are the operands in functions, and live instructions mention those.
 pub fn needed(
     alloc: Global,
     readings: &Readings,
-    mentioned: &IdSet,
-    live: &[&Inst],
+    operand_ids: &IdSet,
+    mentions: &[u32],
 ) -> Result<IdSet, Memory>
-    ensures { IfOk result (λ needed. (id : ℕ) → is_in needed id ≡ needed_from readings.now (needed_first readings.now (is_in mentioned.now) (insts_at live.now)) readings.now.of.globals id) }
+    ensures { IfOk result (λ needed. (id : ℕ) → is_in needed id ≡ needed_from readings.now (needed_first readings.now (is_in operand_ids.now) mentions.now) readings.now.of.globals id) }
 {
     let globals = readings.module().globals();
-    let mut needed = no_ids(alloc, readings, live.len())?;
-    add_all(&mut needed, live)?;
+    let mut needed = no_ids(alloc, readings, mentions.len())?;
+    add_ids(&mut needed, mentions)?;
     add_lengths(&mut needed, globals)?;
-    add_initializers(&mut needed, mentioned, globals)?;
+    add_initializers(&mut needed, operand_ids, globals)?;
     add_earlier(readings, &mut needed, globals)?;
     Ok(needed)
 }

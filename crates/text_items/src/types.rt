@@ -3,7 +3,7 @@ ghost use Rattle.std.specs.Prelude.{◌≡◌, ◌++◌, ◌||◌, ℕ, IfOk, On
 ghost use Rattle.std.specs.List.{list_any};
 ghost use Rattle.id_map.specs.Entries.{is_in};
 ghost use Rattle.text_rules.specs.Printed.{declares as declares_constant, signature_types, type_has_struct};
-ghost use Rattle.text_items.specs.State.{functions_at, insts_at, is_written_by, types_by};
+ghost use Rattle.text_items.specs.State.{functions_at, is_written_by, types_by};
 
 use crate::needed::{declares, is_written};
 use crate::structs::structs_of;
@@ -17,14 +17,14 @@ use std::alloc::{AllocError, Global};
 fn add_globals(
     types: &mut Vec<u32>,
     readings: &Readings,
-    mentioned: &IdSet,
+    operand_ids: &IdSet,
     needed: &IdSet,
     globals: &[Inst],
 ) -> Result<(), AllocError>
-    ensures { OnOk result (types.new.items ≡ types.old.items ++ map (λ g. g.ty) (filter (λ g. is_written_by (is_in mentioned.now) g || declares_constant readings.now (is_in needed.now) g) globals.now)) }
+    ensures { OnOk result (types.new.items ≡ types.old.items ++ map (λ g. g.ty) (filter (λ g. is_written_by (is_in operand_ids.now) g || declares_constant readings.now (is_in needed.now) g) globals.now)) }
 {
     for inst in globals {
-        if is_written(mentioned, inst) || declares(readings, needed, inst) {
+        if is_written(operand_ids, inst) || declares(readings, needed, inst) {
             types.push(inst.ty)?;
         }
     }
@@ -51,31 +51,23 @@ fn add_signatures(types: &mut Vec<u32>, functions: &[&Function]) -> Result<(), A
     Ok(())
 }
 
-fn add_results(types: &mut Vec<u32>, live: &[&Inst]) -> Result<(), AllocError>
-    ensures { OnOk result (types.new.items ≡ types.old.items ++ map (λ i. i.ty) (insts_at live.now)) }
-{
-    for inst in live {
-        types.push(inst.ty)?;
-    }
-    Ok(())
-}
-
-/// The types of what is written, where functions mention these ids, and the text needs these constants.
+/// The types of what is written, where these are the operands in functions, the text needs these constants, and live instructions
+/// have results of those types.
 fn written_types(
     alloc: Global,
     readings: &Readings,
-    mentioned: &IdSet,
+    operand_ids: &IdSet,
     needed: &IdSet,
     functions: &[&Function],
-    live: &[&Inst],
+    live: &[u32],
 ) -> Result<Vec<u32>, Memory>
-    ensures { IfOk result (λ types. types.items ≡ types_by readings.now (is_in mentioned.now) (is_in needed.now) (functions_at functions.now) (insts_at live.now)) }
+    ensures { IfOk result (λ types. types.items ≡ types_by readings.now (is_in operand_ids.now) (is_in needed.now) (functions_at functions.now) live.now) }
 {
     let mut types = Vec::with_capacity(alloc, live.len())?;
     let globals = readings.module().globals();
-    add_globals(&mut types, readings, mentioned, needed, globals)?;
+    add_globals(&mut types, readings, operand_ids, needed, globals)?;
     add_signatures(&mut types, functions)?;
-    add_results(&mut types, live)?;
+    types.extend_from_slice(live)?;
     Ok(types)
 }
 
@@ -83,13 +75,13 @@ fn written_types(
 pub fn written_structs(
     alloc: Global,
     readings: &Readings,
-    mentioned: &IdSet,
+    operand_ids: &IdSet,
     needed: &IdSet,
     functions: &[&Function],
-    live: &[&Inst],
+    live: &[u32],
 ) -> Result<IdSet, Memory>
-    ensures { IfOk result (λ structs. (id : ℕ) → is_in structs id ≡ list_any (type_has_struct readings.now.of.globals id) (types_by readings.now (is_in mentioned.now) (is_in needed.now) (functions_at functions.now) (insts_at live.now))) }
+    ensures { IfOk result (λ structs. (id : ℕ) → is_in structs id ≡ list_any (type_has_struct readings.now.of.globals id) (types_by readings.now (is_in operand_ids.now) (is_in needed.now) (functions_at functions.now) live.now)) }
 {
-    let types = written_types(alloc, readings, mentioned, needed, functions, live)?;
+    let types = written_types(alloc, readings, operand_ids, needed, functions, live)?;
     structs_of(alloc, readings.module(), &types)
 }

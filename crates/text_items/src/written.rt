@@ -3,8 +3,9 @@ ghost use Rattle.std.specs.Prelude.{◌≡◌, IfOk};
 ghost use Rattle.text_rules.specs.Printed.{is_written_variable, is_declared_constant, is_written_struct};
 ghost use Rattle.text_items.specs.State.{reached_of};
 
-use crate::mentions::{count_insts, mentioned};
+use crate::Live;
 use crate::needed::{declares, is_written, needed};
+use crate::operands::{count_insts, operand_ids};
 use crate::types::written_structs;
 use constant_text::Readings;
 use id_map::IdSet;
@@ -17,16 +18,16 @@ use std::alloc::Global;
 use std::marker::Model;
 
 /// What of a module is written into its text: variables, named constants and structs (GLSL 4.60, chapter 4). Contracts see the
-/// source of the readings, the functions that are written, and the live instructions of these.
+/// source of the readings, the functions that are written, and what is told of their live instructions.
 #[derive(Drop)]
 pub struct Written<'a, 'b> {
     readings: &'a Readings<'b>,
     decor: &'b Decor<'b>,
     functions: &'a [&'b Function],
-    live: &'a [&'b Inst],
+    live: &'a Live,
     inst_count: usize,
-    // the ids that the functions mention; the constants that the text needs; the structs of what is written
-    mentioned: IdSet,
+    // the operands in the functions; the constants that the text needs; the structs of what is written
+    operand_ids: IdSet,
     needed: IdSet,
     structs: IdSet,
 }
@@ -40,33 +41,40 @@ impl<'a, 'b> Model for Written<'a, 'b> {
 
     ghost view = { λ w. record { source = w.readings.now; reached = reached_of w.functions.now w.live.now } };
 
-    ghost invariant = { λ w. IsHeld w.readings.now (reached_of w.functions.now w.live.now) w.decor.now w.mentioned w.needed w.structs };
+    ghost invariant = { λ w. IsHeld w.readings.now (reached_of w.functions.now w.live.now) w.decor.now w.operand_ids w.needed w.structs };
 }
 
 impl<'a, 'b> Written<'a, 'b> {
-    /// What is written of a module, where calls reach these functions from the entry, and these instructions of them are live.
+    /// What is written of a module, where calls reach these functions from the entry, and this is told of their live instructions.
     /// There is an error for want of memory, or where a type passes a limit.
     pub fn of(
         alloc: Global,
         readings: &'a Readings<'b>,
         decor: &'b Decor<'b>,
         functions: &'a [&'b Function],
-        live: &'a [&'b Inst],
+        live: &'a Live,
     ) -> Result<Written<'a, 'b>, Memory>
         requires { decor.now ≡ readings.now.of.heads }
         ensures { IfOk result (λ w. w ≡ record { source = readings.now; reached = reached_of functions.now live.now }) }
     {
         let inst_count = count_insts(functions);
-        let mentioned = mentioned(alloc, readings, functions, inst_count)?;
-        let needed = needed(alloc, readings, &mentioned, live)?;
-        let structs = written_structs(alloc, readings, &mentioned, &needed, functions, live)?;
+        let operand_ids = operand_ids(alloc, readings, functions, inst_count)?;
+        let needed = needed(alloc, readings, &operand_ids, live.mentions.as_slice())?;
+        let structs = written_structs(
+            alloc,
+            readings,
+            &operand_ids,
+            &needed,
+            functions,
+            live.types.as_slice(),
+        )?;
         Ok(Written {
             readings,
             decor,
             functions,
             live,
             inst_count,
-            mentioned,
+            operand_ids,
             needed,
             structs,
         })
@@ -95,15 +103,16 @@ impl<'a, 'b> Written<'a, 'b> {
         self.inst_count
     }
 
-    /// Whether a global instruction is a variable that is written: one that a function mentions, and that is not built in.
+    /// Whether a global instruction is a variable that is written: one that is an operand in a function, and that is not built in.
     pub fn has_variable(&self, inst: &Inst) -> bool
         ensures { result ≡ is_written_variable self.now.reached inst.now }
     {
-        is_written(&self.mentioned, inst)
+        is_written(&self.operand_ids, inst)
     }
 
     /// Whether a global instruction is a constant that is declared: one with a SpecId that is not overridden, or one without a
-    /// literal that a live instruction, the length of an array, a Private variable or another such constant mentions.
+    /// literal that a live instruction mentions, or that is the length of an array, or an operand of a Private variable or of another
+    /// such constant.
     pub fn has_constant(&self, inst: &Inst) -> bool
         ensures { result ≡ is_declared_constant self.now.source self.now.reached inst.now }
     {

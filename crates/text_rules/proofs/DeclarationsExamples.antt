@@ -77,7 +77,7 @@ abbrev source_with : List (ℕ × Given) → Source
 source_with overrides = record { of = sized; entry = 1; overrides = overrides }
 
 abbrev reached : Reached
-reached = record { functions = body ∷ []; live = [] }
+reached = record { functions = body ∷ []; types = []; mentions = [] }
 
 sized_by_id : sizes (source_with []) ≡
     record { axis = 0; by_id = false; number = 64 } ∷ record { axis = 0; by_id = true; number = 3 } ∷
@@ -128,7 +128,7 @@ reading_both = record {
 abbrev with_sum : Names
 with_sum = record { id = λ id. id ∷ []; block = λ v s. v ∷ s ∷ []; member = λ s k. s ∷ k ∷ []; calculated = λ g. name (codes "sum") }
 
-items_in_order : declarations (record { of = items; entry = 1; overrides = [] }) (record { functions = reading_both ∷ []; live = inst 19 op.Load 16 30 (20 ∷ []) ∷ [] }) with_sum ≡
+items_in_order : declarations (record { of = items; entry = 1; overrides = [] }) (record { functions = reading_both ∷ []; types = 16 ∷ []; mentions = 20 ∷ [] }) with_sum ≡
     struct (3 ∷ []) (field (type_name uint []) (3 ∷ 0 ∷ []) ∷ field (type_name uint []) (3 ∷ 1 ∷ []) ∷ []) ∷
     block (Set 1 2) Std430 (Readonly ∷ []) true (5 ∷ 9 ∷ [])
     (tree.member 0 [] (type_name (tree.struct (3 ∷ [])) (open_end ∷ [])) (9 ∷ 0 ∷ []) ∷ []) (5 ∷ []) ∷
@@ -139,7 +139,7 @@ unfolding inst key_of kind below constant_kind is_id inner_of op_of number_of_op
 items_in_order = refl
 
 -- the claims of these items, in the order in which the module defines them; a block's members are claimed where its struct stands
-claims_in_order : claims (record { of = items; entry = 1; overrides = [] }) (record { functions = reading_both ∷ []; live = inst 19 op.Load 16 30 (20 ∷ []) ∷ [] }) [] ≡
+claims_in_order : claims (record { of = items; entry = 1; overrides = [] }) (record { functions = reading_both ∷ []; types = 16 ∷ []; mentions = 20 ∷ [] }) [] ≡
     (Main, None) ∷ (Id (id 3), None) ∷ (Member (id 3) 0, None) ∷ (Member (id 3) 1, None) ∷ (Member (id 9) 0, None) ∷ (Id (id 5), None) ∷ (BlockOf (id 5) (id 9), None) ∷
     (Id (id 15), None) ∷ (Id (id 17), None) ∷ (Id (id 20), None) ∷ []
 unfolding inst key_of kind below constant_kind is_id inner_of op_of number_of_op

@@ -20,18 +20,19 @@ use Rattle.text_rules.specs.declared.readings.Reading.{Reading}
 use Rattle.text_rules.specs.declared.readings.Reading.TheVariants.{Named}
 use Rattle.text_rules.specs.Constants.{Source, is_constant, reading, free_spec_id}
 
--- what is written of the functions: those that calls reach from the entry, and of each of them its live instructions
+-- what is written of the functions: those that calls reach from the entry; of the live instructions of these the types of the results, and the ids that they mention
 pub record Reached : Type 0 where
   pub functions : List Function
-  pub live : List Inst
+  pub types : List ℕ
+  pub mentions : List ℕ
 
 -- operand word k of those from number k on is this id
-abbrev pub mentions_from : (ℕ → Bool) → ℕ → ℕ → List ℕ → Bool
-mentions_from ids id k words = list_any (λ (p : ℕ × ℕ). ids p.0 && (p.1 == id)) (enumerate_from k words)
+abbrev pub has_operand_from : (ℕ → Bool) → ℕ → ℕ → List ℕ → Bool
+has_operand_from ids id k words = list_any (λ (p : ℕ × ℕ). ids p.0 && (p.1 == id)) (enumerate_from k words)
 
 -- an operand of the instruction is this id
-abbrev pub mentions : Inst → ℕ → Bool
-mentions i id = mentions_from (is_id i.op i.args) id 0 i.args
+abbrev pub has_operand : Inst → ℕ → Bool
+has_operand i id = has_operand_from (is_id i.op i.args) id 0 i.args
 
 -- OpVariable in a storage class
 abbrev pub is_variable : Inst → Bool
@@ -51,23 +52,23 @@ abbrev pub is_block_variable : Inst → Bool
 is_block_variable g =
     is_variable g && ((class g == class_number storage.Uniform) || (class g == class_number storage.PushConstant) || (class g == class_number storage.StorageBuffer))
 
--- a variable is written where an instruction of a reached function mentions it; those that are Input are built in
-abbrev pub is_mentioned_in : List Function → ℕ → Bool
-is_mentioned_in fs id = list_any (λ (f : Function). list_any (λ (i : Inst). mentions i id) (insts_of f)) fs
+-- a variable is written where it is an operand of an instruction of a reached function, be this live or not; those that are Input are built in
+abbrev pub is_operand_in : List Function → ℕ → Bool
+is_operand_in fs id = list_any (λ (f : Function). list_any (λ (i : Inst). has_operand i id) (insts_of f)) fs
 
 abbrev pub is_written_variable : Reached → Inst → Bool
-is_written_variable r g = (is_private g || (is_workgroup g || is_block_variable g)) && is_mentioned_in r.functions g.result
+is_written_variable r g = (is_private g || (is_workgroup g || is_block_variable g)) && is_operand_in r.functions g.result
 
 -- OpTypeArray with this length
 abbrev pub is_length_of : ℕ → Inst → Bool
 is_length_of id g = (is g.op code.TypeArray) && (slice_index g.args 1 == id)
 
--- of itself, without the other constants, the text needs the constant with this id: a live instruction, the length of an array or a Private variable that is written mentions it
+-- of itself, without the other constants, the text needs the constant with this id: a live instruction mentions it, or it is the length of an array, or an operand of a Private variable that is written
 abbrev pub needs_constant : Source → Reached → ℕ → Bool
 needs_constant s r id =
-    list_any (λ (i : Inst). mentions i id) r.live ||
+    list_any (λ (n : ℕ). n == id) r.mentions ||
     (list_any (is_length_of id) s.of.globals ||
-    list_any (λ (g : Inst). is_private g && (is_written_variable r g && mentions g id)) s.of.globals)
+    list_any (λ (g : Inst). is_private g && (is_written_variable r g && has_operand g id)) s.of.globals)
 
 abbrev pub is_named : Reading → Bool
 is_named Named = true
@@ -77,9 +78,9 @@ is_named _ = false
 abbrev pub declares : Source → (ℕ → Bool) → Inst → Bool
 declares s needed g = is_constant g && (is_named (reading s g) && (is_some (free_spec_id s g.result) || needed g.result))
 
--- the ids that the text needs: a constant that is declared needs those that it mentions, which stand before it
+-- the ids that the text needs: a constant that is declared needs its operands, which stand before it
 abbrev pub needed_with : Source → (ℕ → Bool) → Inst → ℕ → Bool
-needed_with s needed g id = elim (needed id) [ true ↦ true | false ↦ declares s needed g && mentions g id ]
+needed_with s needed g id = elim (needed id) [ true ↦ true | false ↦ declares s needed g && has_operand g id ]
 
 abbrev pub needed_from : Source → (ℕ → Bool) → List Inst → ℕ → Bool
 needed_from s first [] = first
@@ -110,14 +111,14 @@ pointee_or_self gs ty = option_map_or (λ p. p) (pointee gs ty) ty
 abbrev pub type_has_struct : List Inst → ℕ → ℕ → Bool
 type_has_struct gs id ty = option_map_or (has_struct id) (type_tree gs (pointee_or_self gs ty)) false
 
--- the types of what is written: of variables and constants, of the parameters and results of functions, of live instructions
+-- the types of what is written: of variables and constants, of the parameters and results of functions, of what live instructions give
 abbrev pub signature_types : Function → List ℕ
 signature_types f = f.result.0 ∷ map (λ (p : Id × Id). p.1.0) f.params
 
 abbrev pub written_types : Source → Reached → List ℕ
 written_types s r =
     map (λ (g : Inst). g.ty) (filter (λ g. is_written_variable r g || is_declared_constant s r g) s.of.globals) ++
-    (flat_map signature_types r.functions ++ map (λ (i : Inst). i.ty) r.live)
+    (flat_map signature_types r.functions ++ r.types)
 
 -- a struct is written where something that is written has it; one with Block or BufferBlock is written with its block alone
 abbrev pub is_written_struct : Source → Reached → Inst → Bool

@@ -1,17 +1,15 @@
-use Rattle.std.proofs.Common.{◌∙◌, Bool, List, ap, subst}
+use Rattle.std.proofs.Common.{Bool, List, subst}
 use Rattle.use_chains.specs.Links.{AreLiveLinks}
 use Rattle.hoist_plan.proofs.Rising.{live_rise}
-use Rattle.emit_glsl.specs.Planned.{is_reached_node}
-use Rattle.std.specs.Prelude.{map}
 use Rattle.emit_glsl.proofs.plan.naming_of.Goals as goal
 
 pub plan-requires-clause-rising : goal.plan-requires-clause-rising
-plan-requires-clause-rising g c = live_rise c.args.locals.now c.deref.result.now c.in_ok-uses.uses c.in_ok-uses.ensures.live
+plan-requires-clause-rising g c = live_rise c.args.locals.now c.args.reached.now c.in_ok-uses.uses c.in_ok-uses.ensures.live
 
 pub returns : goal.returns
 returns g c = record {
   links = c.in_ok-uses.uses;
-  live = subst (λ (r : List Bool). AreLiveLinks c.args.locals.now r c.in_ok-uses.uses) (c.deref.ensures.value ∙ (c.in_ok-reached.ensures ∙ ap (map is_reached_node) c.requires)) c.in_ok-uses.ensures.live;
+  live = subst (λ (r : List Bool). AreLiveLinks c.args.locals.now r c.in_ok-uses.uses) c.requires.reached c.in_ok-uses.ensures.live;
   forms = c.in_ok-naming.ensures.forms;
   carried = c.in_ok-naming.ensures.carried;
 }

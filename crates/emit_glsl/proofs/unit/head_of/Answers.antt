@@ -3,10 +3,10 @@ use Rattle.std.specs.List.{flat_map}
 use Rattle.spv_module.specs.declared.inst.Function.{Function}
 use Rattle.text_items.specs.State.{functions_at}
 use Rattle.emit_glsl.specs.Claimed.{claimed_by}
-use Rattle.emit_glsl.specs.Reached.{live_in, IsHead}
+use Rattle.emit_glsl.specs.Reached.{types_in, mentions_in, IsHead}
 use Rattle.emit_glsl.proofs.unit.head_of.Goals as goal
 
 pub returns : goal.returns
 returns c =
-    subst (λ (fs : List Function). IsHead c.args.readings.now (record { functions = fs; live = flat_map live_in c.args.plans.now }) (map claimed_by c.args.plans.now) c.in_ok-head.head)
+    subst (λ (fs : List Function). IsHead c.args.readings.now (record { functions = fs; types = flat_map types_in c.args.plans.now; mentions = flat_map mentions_in c.args.plans.now }) (map claimed_by c.args.plans.now) c.in_ok-head.head)
     (ap functions_at c.as_slice.ensures.value ∙ c.in_ok-functions.ensures) c.in_ok-head.ensures

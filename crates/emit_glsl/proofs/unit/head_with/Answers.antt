@@ -1,12 +1,13 @@
-use Rattle.std.proofs.Common.{◌∙◌, ap, map}
+use Rattle.std.proofs.Common.{map}
 use Rattle.std.specs.Prelude.{flat_map}
-use Rattle.text_items.specs.State.{functions_at, insts_at}
+use Rattle.text_items.specs.State.{functions_at}
 use Rattle.emit_glsl.specs.Claimed.{claimed_by}
-use Rattle.emit_glsl.specs.Reached.{live_in}
+use Rattle.emit_glsl.specs.Reached.{types_in, mentions_in}
 use Rattle.emit_glsl.proofs.Unasked.{head_live}
 use Rattle.emit_glsl.proofs.unit.head_with.Goals as goal
 
 pub returns : goal.returns
 returns c =
-    head_live c.args.readings.now (functions_at c.args.functions.now) (insts_at c.as_slice.result.now) (flat_map live_in c.args.plans.now) (map claimed_by c.args.plans.now) c.in_ok-head.head
-    (λ asked. ap insts_at c.as_slice.ensures.value ∙ c.in_ok-live.ensures asked) c.in_ok-head.ensures
+    let plans = c.args.plans.now in
+    head_live c.args.readings.now (functions_at c.args.functions.now) c.in_ok-live.live (flat_map types_in plans) (flat_map mentions_in plans) (map claimed_by plans) c.in_ok-head.head
+    c.in_ok-live.ensures.types c.in_ok-live.ensures.mentions c.in_ok-head.ensures

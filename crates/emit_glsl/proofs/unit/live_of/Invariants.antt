@@ -1,8 +1,7 @@
 use Rattle.std.proofs.Common.{◌≡◌, take}
 use Rattle.std.specs.List.{flat_map}
-use Rattle.text_items.specs.State.{insts_at}
-use Rattle.emit_glsl.specs.Reached.{live_in}
+use Rattle.emit_glsl.specs.Reached.{types_in, mentions_in}
 use Rattle.emit_glsl.proofs.unit.live_of.Given as goal
 
 abbrev pub invariant-loop-plan : goal.invariant-loop-plan
-invariant-loop-plan l = insts_at l.live.items ≡ flat_map live_in (take l.plan-index l.plans)
+invariant-loop-plan l = (l.live.types.items ≡ flat_map types_in (take l.plan-index l.plans)) × (l.live.mentions.items ≡ flat_map mentions_in (take l.plan-index l.plans))

@@ -1,4 +1,4 @@
-use Rattle.std.proofs.Common.{◌≡◌, ◌∙◌, List, ℕ, ap, refl, subst}
+use Rattle.std.proofs.Common.{◌≡◌, ◌∙◌, List, ℕ, ap, map, refl, subst}
 use Rattle.spv_module.specs.declared.inst.Function.{Function}
 use Rattle.structure_rules.specs.declared.graph.Node.{Node}
 use Rattle.structure_rules.specs.Graph.{graph}
@@ -8,7 +8,7 @@ use Rattle.structure_recover.specs.View.{region_of}
 use Rattle.switch_ladder.specs.Flags.{blocks_that, needs_again, needs_leave, needs_fell}
 use Rattle.emit_glsl.specs.Orders.{is_among, order_by}
 use Rattle.emit_glsl.specs.Phis.{phi_blocks}
-use Rattle.emit_glsl.specs.Planned.{is_named_in}
+use Rattle.emit_glsl.specs.Planned.{is_named_in, is_reached_node}
 use Rattle.emit_glsl.proofs.plan.FunctionPlan.of.Goals as goal
 
 pub returns : goal.returns
@@ -24,6 +24,7 @@ returns g c =
       of_module = refl;
       of_function = refl;
       graph_is = nodes_are;
+      reached_is = c.in_ok-reached.ensures ∙ ap (map is_reached_node) c.requires;
       naming = c.in_ok-naming.ensures;
       named = λ n. c.in_ok-named.ensures n ∙ (ap (λ (g : List Node). is_named_in form g c.function-function.result.now.blocks n) read ∙ ap (λ (l : Function). is_named_in form (graph f) l.blocks n) own);
       tree = subst (λ (l : Function). IsTree l (region_of c.in_ok-region.region)) own c.in_ok-region.ensures.follows;

@@ -1,10 +1,10 @@
-// Which ids instructions mention.
+// Which ids are operands of instructions.
 ghost use Rattle.std.specs.Prelude.{◌≡◌, ◌==◌, ◌&&◌, ◌||◌, ℕ, IfOk, OnOk, false, flat_map, take};
 ghost use Rattle.std.specs.List.{list_any};
 ghost use Rattle.id_map.specs.Entries.{is_in};
 ghost use Rattle.spv_ops.specs.Operands.{has_id};
-ghost use Rattle.text_rules.specs.Printed.{mentions, mentions_from, is_mentioned_in};
-ghost use Rattle.text_items.specs.State.{functions_at, insts_at};
+ghost use Rattle.text_rules.specs.Printed.{has_operand, has_operand_from, is_operand_in};
+ghost use Rattle.text_items.specs.State.{functions_at};
 
 use constant_text::Readings;
 use id_map::IdSet;
@@ -13,7 +13,8 @@ use spv_ops::{IdWords, id_words};
 use std::alloc::{AllocError, Global};
 
 /// Adds ids.
-fn add_ids(ids: &mut IdSet, words: &[u32]) -> Result<(), AllocError>
+#[inline(never)]
+pub fn add_ids(ids: &mut IdSet, words: &[u32]) -> Result<(), AllocError>
     ensures { OnOk result ((id : ℕ) → is_in ids.new id ≡ (is_in ids.old id || list_any (λ word. word == id) words.now)) }
 {
     for word in words {
@@ -33,9 +34,9 @@ fn add_word(ids: &mut IdSet, words: &IdWords, k: usize, word: u32) -> Result<(),
 }
 
 /// Adds those of an instruction's operand words that are ids.
-#[tactic(auto, using(crate::proofs::Built::mention_rules))]
+#[tactic(auto, using(crate::proofs::Built::operand_rules))]
 fn add_each(ids: &mut IdSet, words: &IdWords, args: &[u32]) -> Result<(), AllocError>
-    ensures { OnOk result ((id : ℕ) → is_in ids.new id ≡ (is_in ids.old id || mentions_from (has_id words.now) id 0 args.now)) }
+    ensures { OnOk result ((id : ℕ) → is_in ids.new id ≡ (is_in ids.old id || has_operand_from (has_id words.now) id 0 args.now)) }
 {
     for (k, word) in args.iter().enumerate() {
         add_word(ids, words, k, *word)?;
@@ -53,7 +54,7 @@ fn first(args: &[u32], count: usize) -> &[u32]
 /// Adds those of an instruction's operand words that are ids, in most instructions all or the first ones.
 #[inline(always)]
 fn add_those(ids: &mut IdSet, words: IdWords, args: &[u32]) -> Result<(), AllocError>
-    ensures { OnOk result ((id : ℕ) → is_in ids.new id ≡ (is_in ids.old id || mentions_from (has_id words) id 0 args.now)) }
+    ensures { OnOk result ((id : ℕ) → is_in ids.new id ≡ (is_in ids.old id || has_operand_from (has_id words) id 0 args.now)) }
 {
     match words {
         IdWords::Range(0, count) => {
@@ -68,10 +69,10 @@ fn add_those(ids: &mut IdSet, words: IdWords, args: &[u32]) -> Result<(), AllocE
     }
 }
 
-/// Adds the ids that an instruction mentions.
+/// Adds those of an instruction's operands that are ids.
 #[inline(always)]
-pub fn add_mentions(ids: &mut IdSet, inst: &Inst) -> Result<(), AllocError>
-    ensures { OnOk result ((id : ℕ) → is_in ids.new id ≡ (is_in ids.old id || mentions inst.now id)) }
+pub fn add_ids_of(ids: &mut IdSet, inst: &Inst) -> Result<(), AllocError>
+    ensures { OnOk result ((id : ℕ) → is_in ids.new id ≡ (is_in ids.old id || has_operand inst.now id)) }
 {
     let args = inst.args.as_slice();
     add_those(ids, id_words(inst.op, args), args)?;
@@ -79,30 +80,19 @@ pub fn add_mentions(ids: &mut IdSet, inst: &Inst) -> Result<(), AllocError>
 }
 
 fn add_insts(ids: &mut IdSet, insts: &[Inst]) -> Result<(), AllocError>
-    ensures { OnOk result ((id : ℕ) → is_in ids.new id ≡ (is_in ids.old id || list_any (λ i. mentions i id) insts.now)) }
+    ensures { OnOk result ((id : ℕ) → is_in ids.new id ≡ (is_in ids.old id || list_any (λ i. has_operand i id) insts.now)) }
 {
     for inst in insts {
-        add_mentions(ids, inst)?;
+        add_ids_of(ids, inst)?;
     }
     Ok(())
 }
 
 fn add_blocks(ids: &mut IdSet, blocks: &[Block]) -> Result<(), AllocError>
-    ensures { OnOk result ((id : ℕ) → is_in ids.new id ≡ (is_in ids.old id || list_any (λ i. mentions i id) (flat_map (λ b. b.insts) blocks.now))) }
+    ensures { OnOk result ((id : ℕ) → is_in ids.new id ≡ (is_in ids.old id || list_any (λ i. has_operand i id) (flat_map (λ b. b.insts) blocks.now))) }
 {
     for block in blocks {
         add_insts(ids, block.insts.as_slice())?;
-    }
-    Ok(())
-}
-
-/// Adds those of instructions that stand anywhere.
-#[inline(never)]
-pub fn add_all(ids: &mut IdSet, insts: &[&Inst]) -> Result<(), AllocError>
-    ensures { OnOk result ((id : ℕ) → is_in ids.new id ≡ (is_in ids.old id || list_any (λ i. mentions i id) (insts_at insts.now))) }
-{
-    for inst in insts {
-        add_mentions(ids, *inst)?;
     }
     Ok(())
 }
@@ -134,14 +124,14 @@ pub fn no_ids(alloc: Global, readings: &Readings, insts: usize) -> Result<IdSet,
     IdSet::below(alloc, module.bound(), count)
 }
 
-/// The ids that functions with so many instructions mention.
-pub fn mentioned(
+/// The ids that are operands in functions with so many instructions.
+pub fn operand_ids(
     alloc: Global,
     readings: &Readings,
     functions: &[&Function],
     insts: usize,
 ) -> Result<IdSet, AllocError>
-    ensures { IfOk result (λ ids. (id : ℕ) → is_in ids id ≡ is_mentioned_in (functions_at functions.now) id) }
+    ensures { IfOk result (λ ids. (id : ℕ) → is_in ids id ≡ is_operand_in (functions_at functions.now) id) }
 {
     let mut ids = no_ids(alloc, readings, insts)?;
     for function in functions {
