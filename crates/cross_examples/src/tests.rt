@@ -143,9 +143,15 @@ fn goes_byte_by_byte(rt: HostRuntime) -> Result<(), Fail> {
 #[test]
 fn comes_to_the_limit_of_bytes(rt: HostRuntime) -> Result<(), Fail> {
     let alloc = rt.alloc();
-    let long = vec![in alloc; 0; 4194305]?;
-    let ended = run_with(alloc, &["check"], long, [&[], &[], &[]])?;
-    assert_eq!(rt; ended.status, 3);
-    assert_eq!(rt; ended.notes.as_slice(), b"limit bytes 4194304\n".as_slice());
+    let cases: [(usize, u8, &str); 2] = [
+        (4194305, 3, "limit bytes 4194304\n"),
+        (1048577, 2, "refused W1 at 262144\n"),
+    ];
+    for (count, status, line) in cases {
+        let long = vec![in alloc; 0; count]?;
+        let ended = run_with(alloc, &["check"], long, [&[], &[], &[]])?;
+        assert_eq!(rt; ended.notes.as_slice(), line.as_bytes(), "{line}");
+        assert_eq!(rt; ended.status, status, "{line}");
+    }
     Ok(())
 }
