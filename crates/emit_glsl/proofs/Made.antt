@@ -27,13 +27,14 @@ use Rattle.text_rules.specs.Claims.{claims}
 use Rattle.text_items.specs.Names.{item_names}
 use Rattle.expr_forward.specs.Globals.{global_in}
 use Rattle.expr_forward.specs.declared.globals.Globals.{Globals}
-use Rattle.emit_glsl.specs.declared.plan.FunctionPlan.{FunctionPlan as Planned}
-use Rattle.emit_glsl.specs.Claimed.{claimed_by}
-use Rattle.emit_glsl.specs.Functions.{FunctionPlan, function_decl}
-use Rattle.emit_glsl.specs.Planned.{captured_numbers, is_named_in, is_reached_node}
-use Rattle.emit_glsl.specs.Plans.{IsPlanned}
-use Rattle.emit_glsl.specs.Live.{Liveness, types_of, mentions_of, in_function}
-use Rattle.emit_glsl.specs.Reached.{function_in, liveness_in, types_in, mentions_in, reached_in, plan_with, planned_at, decls_at, AreGlobals, IsWritten, IsMade}
+use Rattle.function_plan.specs.declared.plan.FunctionPlan.{FunctionPlan as Planned}
+use Rattle.function_plan.specs.Claimed.{claimed_by}
+use Rattle.function_text.specs.Functions.{FunctionPlan, function_decl}
+use Rattle.function_plan.specs.Planned.{captured_numbers, is_named_in, is_reached_node}
+use Rattle.function_plan.specs.Plans.{IsPlanned}
+use Rattle.function_text.specs.Live.{Liveness, types_of, mentions_of, in_function, liveness_in, types_in, mentions_in}
+use Rattle.emit_glsl.specs.Reached.{function_in, reached_in, planned_at, decls_at, AreGlobals, IsWritten, IsMade}
+use Rattle.function_text.specs.State.{plan_with}
 use Rattle.emit_glsl.specs.Translation.{Naming, id_text, global_expr, scope_by, scope_of, IsPlanOf}
 use Rattle.emit_glsl.specs.Unit.{item_names_of, claims_by, liveness_of, live_of, reached_of, called, has_id as has_id_of, plan_at, in_order, source_of, IsUnitOf}
 

@@ -3,9 +3,10 @@ use Rattle.std.proofs.Common.{◌≡◌, ◌+◌, ℕ, Bool, true, List, ◌∷�
 use Rattle.std.specs.List.{AllZip, position_from}
 use Rattle.spv_module.specs.State.{ModuleState}
 use Rattle.spv_module.specs.declared.inst.Function.{Function}
-use Rattle.emit_glsl.specs.declared.plan.FunctionPlan.{FunctionPlan as Planned}
-use Rattle.emit_glsl.specs.Plans.{IsPlanned, IsPlannedNext}
-use Rattle.emit_glsl.proofs.Moving.{zip_push}
+use Rattle.function_plan.specs.declared.plan.FunctionPlan.{FunctionPlan as Planned}
+use Rattle.function_plan.specs.Plans.{IsPlanned}
+use Rattle.emit_glsl.specs.Reached.{IsPlannedNext}
+use Rattle.function_plan.proofs.Moving.{zip_push}
 
 -- the place of the first that passes among what a list is mapped to
 pub position_map : {A B : Type 0} (test : B → Bool) (f : A → B) (i : ℕ) (xs : List A) → position_from test i (map f xs) ≡ position_from (λ x. test (f x)) i xs

@@ -1,14 +1,3 @@
-pub mod Functions
-pub mod Spares
-pub mod Once
-pub mod Phis
-pub mod Moved
-pub mod Orders
-pub mod Flagged
-pub mod Planned
-pub mod Plans
-pub mod Claimed
-pub mod Live
 pub mod Reached
 pub mod Unit
 pub mod Text

@@ -1,5 +1,5 @@
 -- The functions that calls reach, by the plans that the code makes of them, and the unit that it makes.
-use Rattle.std.specs.Prelude.{ℕ, ◌≡◌, ◌==◌, Bool, List, ◌++◌, Option, Some, None, find, flat_map, if◌then◌else◌, map, option_map, option_to_list}
+use Rattle.std.specs.Prelude.{ℕ, ◌≡◌, ◌==◌, Bool, List, ◌++◌, Option, Some, None, find, flat_map, if◌then◌else◌, map, option_map, option_to_list, ◌∷◌, []}
 use Rattle.std.specs.List.{AllZip, list_any, position_from}
 use Rattle.id_map.specs.declared.map.IdMap.{IdMap}
 use Rattle.id_map.specs.declared.set.IdSet.{IdSet}
@@ -7,7 +7,6 @@ use Rattle.id_map.specs.Entries.{entry_in, is_in}
 use Rattle.spv_module.specs.declared.inst.Id.{Id}
 use Rattle.spv_module.specs.declared.inst.Inst.{Inst}
 use Rattle.spv_module.specs.declared.inst.Function.{Function}
-use Rattle.hoist_plan.specs.Kept.{form_in, is_carried_in}
 use Rattle.name_alloc.specs.declared.claims.Claim.{Claim}
 use Rattle.name_alloc.specs.declared.claims.Key.{Key}
 use Rattle.name_alloc.specs.declared.claims.Names.{Names as Given}
@@ -25,29 +24,18 @@ use Rattle.text_items.specs.Names.{item_names}
 use Rattle.text_items.specs.View.{claims_of}
 use Rattle.expr_forward.specs.Globals.{global_in}
 use Rattle.expr_forward.specs.declared.globals.Globals.{Globals}
-use Rattle.emit_glsl.specs.declared.plan.FunctionPlan.{FunctionPlan as Planned}
+use Rattle.function_plan.specs.declared.plan.FunctionPlan.{FunctionPlan as Planned}
 use Rattle.emit_glsl.specs.declared.unit.Head.{Head}
-use Rattle.emit_glsl.specs.Claimed.{claimed_by}
-use Rattle.emit_glsl.specs.Functions.{FunctionPlan, function_decl}
-use Rattle.emit_glsl.specs.Planned.{plan_in}
-use Rattle.emit_glsl.specs.Live.{Liveness, types_of, mentions_of, in_function}
-use Rattle.emit_glsl.specs.Plans.{IsPlanned}
+use Rattle.function_plan.specs.Claimed.{claimed_by}
+use Rattle.function_plan.specs.Plans.{IsPlanned}
 use Rattle.emit_glsl.specs.Translation.{global_expr}
 use Rattle.emit_glsl.specs.Unit.{called}
+use Rattle.function_text.specs.State.{decl_with}
+use Rattle.function_text.specs.Live.{mentions_in, types_in}
+use Rattle.spv_module.specs.State.{ModuleState}
 
 abbrev pub function_in : Planned → Function
 function_in p = p.locals
-
--- what a plan tells of live instructions
-abbrev pub liveness_in : Planned → Liveness
-liveness_in p = record { globals = p.source.now.globals; function = p.locals; reached = p.reached.items; form = form_in p.naming; carried = is_carried_in p.naming }
-
--- the types of live instructions, and the ids that these mention
-abbrev pub types_in : Planned → List ℕ
-types_in p = in_function types_of (liveness_in p)
-
-abbrev pub mentions_in : Planned → List ℕ
-mentions_in p = in_function mentions_of (liveness_in p)
 
 abbrev pub reached_in : List Planned → Reached
 reached_in ps = record { functions = map function_in ps; types = flat_map types_in ps; mentions = flat_map mentions_in ps }
@@ -75,10 +63,6 @@ abbrev pub or_before : Option Expr → Option Expr → Option Expr
 or_before before None = before
 or_before before (Some e) = Some e
 
--- a plan where its function is written
-abbrev pub plan_with : Source → Given → Globals → Planned → FunctionPlan
-plan_with s names globals p = plan_in (record { source = s; function = p.locals; names = names; globals = globals; plan = p.naming }) p
-
 -- the id of its function
 abbrev pub id_in : Planned → ℕ
 id_in p = p.locals.id.0
@@ -92,9 +76,6 @@ pub record ArePlaces (ps : List Planned) (places : IdMap ℕ) : Type 0 where
 
 abbrev pub planned_at : List Planned → ℕ → Option Planned
 planned_at ps n = find (has_id n) ps
-
-abbrev pub decl_with : Source → Given → Globals → Planned → Decl
-decl_with s names globals p = function_decl (plan_with s names globals p)
 
 abbrev pub decls_at : Source → Given → Globals → List Planned → Id → List Decl
 decls_at s names globals ps n = option_to_list (option_map (decl_with s names globals) (planned_at ps n.0))
@@ -120,3 +101,7 @@ pub record IsMade (s : Source) (size : List SizePart) (order : List Id) (unit : 
   pub plans : List Planned
   pub planned : AllZip (IsPlanned s.of) (called order s.of.functions) plans
   pub made : IsWritten s size order plans unit
+
+-- the plans of functions that pass, after those of others
+pub record IsPlannedNext (m : ModuleState) (passes : Function → Bool) (f : Function) (old new : List Planned) : Type 0 where
+  pub each : (fs : List Function) → AllZip (IsPlanned m) fs old → AllZip (IsPlanned m) (fs ++ (if passes f then f ∷ [] else [])) new

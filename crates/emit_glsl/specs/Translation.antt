@@ -20,10 +20,10 @@ use Rattle.text_items.specs.Globals.{global_by}
 use Rattle.expr_forward.specs.Scope.{Scope}
 use Rattle.expr_forward.specs.Context.{operand}
 use Rattle.vec_lowering.specs.Lowered.{lowered_vector}
-use Rattle.emit_glsl.specs.Functions.{FunctionPlan}
-use Rattle.emit_glsl.specs.Phis.{pairs, firsts, phi_blocks}
-use Rattle.emit_glsl.specs.Orders.{is_among, order_by}
-use Rattle.emit_glsl.specs.Planned.{is_reached_node}
+use Rattle.function_text.specs.Functions.{FunctionPlan}
+use Rattle.function_plan.specs.Phis.{pairs, firsts, phi_blocks}
+use Rattle.function_plan.specs.Orders.{is_among, order_by}
+use Rattle.function_plan.specs.Planned.{is_reached_node}
 
 -- names by their keys; a key that is not claimed has the empty name
 abbrev pub Naming : Type 0

@@ -17,10 +17,11 @@ use Rattle.text_rules.specs.Declarations.{Names, declarations}
 use Rattle.text_rules.specs.Claims.{Plan, claims}
 use Rattle.text_items.specs.Names.{calculated_with}
 use Rattle.text_items.specs.View.{claims_of}
-use Rattle.emit_glsl.specs.Once.{once, itself}
-use Rattle.emit_glsl.specs.Functions.{FunctionPlan, function_decl, targets_in, written}
-use Rattle.emit_glsl.specs.Planned.{captured_numbers, is_named_in, is_reached_node, spares_in}
-use Rattle.emit_glsl.specs.Live.{Liveness, types_of, mentions_of, in_function}
+use Rattle.function_plan.specs.Once.{once, itself}
+use Rattle.function_text.specs.Functions.{FunctionPlan, function_decl, written}
+use Rattle.function_plan.specs.Targets.{targets_in}
+use Rattle.function_plan.specs.Planned.{captured_numbers, is_named_in, is_reached_node, spares_in}
+use Rattle.function_text.specs.Live.{Liveness, types_of, mentions_of, in_function}
 use Rattle.emit_glsl.specs.Translation.{Naming, id_text, names_of, IsPlanOf}
 
 -- the size of workgroups, the items in the order of the module, and the functions

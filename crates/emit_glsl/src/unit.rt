@@ -9,17 +9,18 @@ ghost use Rattle.constant_text.specs.Named.{id_names};
 ghost use Rattle.expr_forward.specs.Globals.{global_in};
 ghost use Rattle.text_items.specs.Asked.{is_asked};
 ghost use Rattle.text_items.specs.State.{functions_at, reached_of};
-ghost use Rattle.emit_glsl.specs.Claimed.{claimed_by};
-ghost use Rattle.emit_glsl.specs.Plans.{IsPlanned, IsPlannedNext};
-ghost use Rattle.emit_glsl.specs.Reached.{function_in, id_in, types_in, mentions_in, reached_in, is_among, IsHead, AreGlobals, or_before, ArePlaces, planned_at, decl_with, decls_at, expr_among, IsWritten, IsMade};
+ghost use Rattle.function_plan.specs.Claimed.{claimed_by};
+ghost use Rattle.function_plan.specs.Plans.{IsPlanned};
+ghost use Rattle.emit_glsl.specs.Reached.{IsPlannedNext, function_in, id_in, reached_in, is_among, IsHead, AreGlobals, or_before, ArePlaces, planned_at, decls_at, expr_among, IsWritten, IsMade};
+ghost use Rattle.function_text.specs.Live.{types_in, mentions_in};
+ghost use Rattle.function_text.specs.State.{decl_with};
 ghost use Rattle.emit_glsl.specs.Translation.{global_expr as expr_of_global};
 ghost use Rattle.emit_glsl.specs.Unit.{called as called_in};
 
-use crate::live::add_live;
-use crate::plan::FunctionPlan;
-use crate::scope::PlannedFunction;
 use constant_text::Readings;
 use expr_forward::Globals;
+use function_plan::FunctionPlan;
+use function_text::{add_live, function_decl};
 use glsl_ast::{Decl, Expr, Unit};
 use id_map::IdSet;
 use module_check::Conforming;
@@ -370,23 +371,6 @@ fn places_in(alloc: Global, plans: &[FunctionPlan]) -> Result<Places, Memory>
     let ids = ids_in(alloc, plans)?;
     let places = places_of(alloc, ids.as_slice())?;
     Ok(places)
-}
-
-/// The declaration of a function by its plan.
-fn function_decl<'a, 'b>(
-    alloc: Global,
-    readings: &'a Readings<'b>,
-    names: &'a Names,
-    globals: &'a Globals,
-    entry: Id,
-    plan: &'a FunctionPlan<'b>,
-) -> Result<Decl, Memory>
-    requires { entry.0 ≡ readings.now.entry }
-    ensures { IfOk result (λ d. decl_of d ≡ decl_with readings.now names.now globals.now plan.now) }
-{
-    let function = PlannedFunction::of(alloc, readings, names, globals, plan)?;
-    let decl = function.decl(alloc, entry)?;
-    Ok(decl)
 }
 
 /// The plan of the function with an id.

@@ -1,6 +1,6 @@
 use Rattle.std.proofs.Common.{map, subst}
 use Rattle.text_items.specs.State.{WrittenState}
-use Rattle.emit_glsl.specs.Claimed.{claimed_by}
+use Rattle.function_plan.specs.Claimed.{claimed_by}
 use Rattle.emit_glsl.specs.Reached.{IsHead}
 use Rattle.emit_glsl.proofs.unit.head_by.Goals as goal
 

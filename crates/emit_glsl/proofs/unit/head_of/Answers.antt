@@ -2,8 +2,9 @@ use Rattle.std.proofs.Common.{◌∙◌, List, ap, map, subst}
 use Rattle.std.specs.List.{flat_map}
 use Rattle.spv_module.specs.declared.inst.Function.{Function}
 use Rattle.text_items.specs.State.{functions_at}
-use Rattle.emit_glsl.specs.Claimed.{claimed_by}
-use Rattle.emit_glsl.specs.Reached.{types_in, mentions_in, IsHead}
+use Rattle.function_plan.specs.Claimed.{claimed_by}
+use Rattle.function_text.specs.Live.{types_in, mentions_in}
+use Rattle.emit_glsl.specs.Reached.{IsHead}
 use Rattle.emit_glsl.proofs.unit.head_of.Goals as goal
 
 pub returns : goal.returns

@@ -1,8 +1,8 @@
 use Rattle.std.proofs.Common.{map}
 use Rattle.std.specs.Prelude.{flat_map}
 use Rattle.text_items.specs.State.{functions_at}
-use Rattle.emit_glsl.specs.Claimed.{claimed_by}
-use Rattle.emit_glsl.specs.Reached.{types_in, mentions_in}
+use Rattle.function_plan.specs.Claimed.{claimed_by}
+use Rattle.function_text.specs.Live.{types_in, mentions_in}
 use Rattle.emit_glsl.proofs.Unasked.{head_live}
 use Rattle.emit_glsl.proofs.unit.head_with.Goals as goal
 

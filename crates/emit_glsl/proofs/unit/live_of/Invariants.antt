@@ -1,6 +1,6 @@
 use Rattle.std.proofs.Common.{◌≡◌, take}
 use Rattle.std.specs.List.{flat_map}
-use Rattle.emit_glsl.specs.Reached.{types_in, mentions_in}
+use Rattle.function_text.specs.Live.{types_in, mentions_in}
 use Rattle.emit_glsl.proofs.unit.live_of.Given as goal
 
 abbrev pub invariant-loop-plan : goal.invariant-loop-plan

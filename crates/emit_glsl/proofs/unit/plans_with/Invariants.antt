@@ -2,7 +2,7 @@ use Rattle.std.proofs.Common.{◌≡◌, filter, map}
 use Rattle.std.specs.List.{AllZip}
 use Rattle.std.specs.Vec.Iter.{into_iter_items}
 use Rattle.structure_rules.specs.Graph.{graph}
-use Rattle.emit_glsl.specs.Plans.{IsPlanned}
+use Rattle.function_plan.specs.Plans.{IsPlanned}
 use Rattle.emit_glsl.specs.Reached.{is_among}
 use Rattle.emit_glsl.proofs.unit.plans_with.Given as goal
 

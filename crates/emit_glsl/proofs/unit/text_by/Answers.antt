@@ -4,7 +4,7 @@ use Rattle.glsl_ast.specs.Tree.{Decl, translation_unit}
 use Rattle.glsl_ast.specs.View.{decl_of}
 use Rattle.glsl_ast.specs.declared.items.Size.{Size}
 use Rattle.text_rules.specs.Constants.{sizes_by}
-use Rattle.emit_glsl.specs.declared.plan.FunctionPlan.{FunctionPlan}
+use Rattle.function_plan.specs.declared.plan.FunctionPlan.{FunctionPlan}
 use Rattle.emit_glsl.specs.Reached.{decls_at, IsWritten}
 use Rattle.emit_glsl.proofs.unit.text_by.Goals as goal
 

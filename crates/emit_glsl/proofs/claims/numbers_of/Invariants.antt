@@ -1,6 +1,0 @@
-use Rattle.std.proofs.Common.{◌≡◌, map, take}
-use Rattle.emit_glsl.specs.Planned.{number_in}
-use Rattle.emit_glsl.proofs.claims.numbers_of.Given as goal
-
-abbrev pub invariant-loop-index : goal.invariant-loop-index
-invariant-loop-index l = l.numbers.items ≡ map number_in (take l.index-index l.indexes)

@@ -1,6 +1,0 @@
-use Rattle.std.proofs.Common.{◌∙◌, Bool, ap}
-use Rattle.emit_glsl.specs.Phis.{source_by}
-use Rattle.emit_glsl.proofs.moves.source.Goals as goal
-
-pub returns : goal.returns
-returns c = c.source_by.ensures ∙ ap (λ (b : Bool). source_by b c.args.value) c.is_constant_id.ensures

@@ -1,8 +1,0 @@
-use Rattle.std.proofs.Common.{◌≡◌, ◌==◌, ◌||◌, ℕ, take}
-use Rattle.std.specs.List.{list_any}
-use Rattle.hoist_plan.specs.Kept.{form_in}
-use Rattle.emit_glsl.specs.Planned.{names_id}
-use Rattle.emit_glsl.proofs.named.add_named.Given as goal
-
-abbrev pub invariant-loop-inst : goal.invariant-loop-inst
-invariant-loop-inst l = (id : ℕ) → list_any (λ n. n == id) l.ids.items ≡ (list_any (λ n. n == id) l.initial.ids.items || list_any (names_id (form_in l.naming) l.reached id) (take l.inst-index l.block.insts))

@@ -1,8 +1,0 @@
-use Rattle.std.proofs.Common.{◌≡◌, ◌++◌, map, take}
-use Rattle.glsl_ast.specs.View.{stmt_of}
-use Rattle.expr_forward.specs.Context.{scope_of}
-use Rattle.emit_glsl.specs.Functions.{hoisted_texts}
-use Rattle.emit_glsl.proofs.scope.PlannedFunction.add_hoisted.Given as goal
-
-abbrev pub invariant-loop-inst : goal.invariant-loop-inst
-invariant-loop-inst l = map stmt_of l.out.items ≡ map stmt_of l.initial.out.items ++ hoisted_texts (scope_of l.self.context) (take l.inst-index l.insts)

@@ -1,4 +1,0 @@
-use Rattle.emit_glsl.proofs.scope.PlannedFunction.variable_text.Goals as goal
-
-pub returns : goal.returns
-returns c = rw (c.pointee-ty.ensures, c.in_ok-value.ensures) at c.declared.ensures

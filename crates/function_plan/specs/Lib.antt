@@ -1,0 +1,10 @@
+pub mod Targets
+pub mod Spares
+pub mod Once
+pub mod Phis
+pub mod Moved
+pub mod Orders
+pub mod Flagged
+pub mod Planned
+pub mod Plans
+pub mod Claimed

@@ -1,0 +1,125 @@
+// Which results of a function have names, and which instructions are live.
+ghost use Rattle.std.specs.Prelude.{◌≡◌, ◌||◌, ◌==◌, ℕ, IfOk, OnOk};
+ghost use Rattle.std.specs.List.{list_any};
+ghost use Rattle.id_map.specs.Entries.{is_in};
+ghost use Rattle.hoist_plan.specs.Kept.{form_in, is_carried_in};
+ghost use Rattle.function_plan.specs.Planned.{has_name_by, has_name as has_name_in, names_id, block_names, is_named_in, is_live as is_live_in, is_captured as is_captured_in};
+
+use crate::moves::is_gone;
+use crate::nodes::is_reached;
+use hoist_plan::{Form, Naming};
+use id_map::IdSet;
+use spv_module::{Block, Function, Id, Inst};
+use spv_ops::Op;
+use spv_words::Memory;
+use std::alloc::{AllocError, Global};
+use structure_rules::Node;
+
+/// Whether a result of a form has a name, where it stands in a block that is reached, or is that of an OpVariable.
+fn has_name_of(form: Form, reached: bool, variable: bool) -> bool
+    ensures { result ≡ has_name_by form reached variable }
+{
+    match form {
+        Form::Hoisted => true,
+        Form::Local => reached || variable,
+        Form::Forwarded | Form::Gone => variable,
+    }
+}
+
+/// Whether the result of an instruction has a name: that of an OpVariable, of a value that is declared at the top of the
+/// function, and of one that is declared in a block that is reached.
+fn has_name(naming: &Naming, reached: bool, inst: &Inst) -> bool
+    ensures { result ≡ has_name_in (form_in naming.now) reached inst.now }
+{
+    has_name_of(naming.of(Id(inst.result)), reached, inst.op == Op::Variable)
+}
+
+/// Adds the results of a block that have names.
+fn add_named(
+    ids: &mut Vec<u32>,
+    naming: &Naming,
+    reached: bool,
+    block: &Block,
+) -> Result<(), AllocError>
+    ensures { OnOk result ((id : ℕ) → list_any (λ n. n == id) ids.new.items ≡ (list_any (λ n. n == id) ids.old.items || list_any (names_id (form_in naming.now) reached id) block.now.insts)) }
+{
+    for inst in block.insts.as_slice() {
+        if has_name(naming, reached, inst) {
+            ids.push(inst.result)?;
+        }
+    }
+    Ok(())
+}
+
+/// Adds the results of the block at a place that have names.
+fn add_named_at(
+    ids: &mut Vec<u32>,
+    naming: &Naming,
+    nodes: &[Node],
+    index: usize,
+    block: &Block,
+) -> Result<(), AllocError>
+    ensures { OnOk result ((id : ℕ) → list_any (λ n. n == id) ids.new.items ≡ (list_any (λ n. n == id) ids.old.items || block_names (form_in naming.now) nodes.now id (index, block.now))) }
+{
+    add_named(ids, naming, is_reached(nodes, index), block)?;
+    Ok(())
+}
+
+/// The results of blocks that have names.
+fn named_in(
+    alloc: Global,
+    blocks: &[Block],
+    nodes: &[Node],
+    naming: &Naming,
+) -> Result<Vec<u32>, AllocError>
+    ensures { IfOk result (λ ids. (id : ℕ) → list_any (λ n. n == id) ids.items ≡ is_named_in (form_in naming.now) nodes.now blocks.now id) }
+{
+    let mut ids = Vec::new(alloc);
+    for (index, block) in blocks.iter().enumerate() {
+        add_named_at(&mut ids, naming, nodes, index, block)?;
+    }
+    Ok(ids)
+}
+
+/// Ids as a set.
+fn id_set(alloc: Global, ids: &[u32]) -> Result<IdSet, AllocError>
+    ensures { IfOk result (λ set. (id : ℕ) → is_in set id ≡ list_any (λ n. n == id) ids.now) }
+{
+    let mut set = IdSet::for_ids(alloc, ids)?;
+    for id in ids {
+        set.insert(*id)?;
+    }
+    Ok(set)
+}
+
+/// The results of a function that have names.
+pub fn named(
+    alloc: Global,
+    function: &Function,
+    nodes: &[Node],
+    naming: &Naming,
+) -> Result<IdSet, Memory>
+    ensures { IfOk result (λ ids. (id : ℕ) → is_in ids id ≡ is_named_in (form_in naming.now) nodes.now function.now.blocks id) }
+{
+    let ids = named_in(alloc, function.blocks.as_slice(), nodes, naming)?;
+    let set = id_set(alloc, ids.as_slice())?;
+    Ok(set)
+}
+
+/// Whether an instruction is live: it has an effect, or a live instruction of a reached block mentions its result.
+pub fn is_live(naming: &Naming, inst: &Inst) -> bool
+    ensures { result ≡ is_live_in (form_in naming.now) inst.now }
+{
+    if inst.op.is_pure() {
+        !is_gone(naming.of(Id(inst.result)))
+    } else {
+        true
+    }
+}
+
+/// Whether an instruction is a chain whose indexes that are no constants have variables.
+pub fn is_captured(naming: &Naming, inst: &Inst) -> bool
+    ensures { result ≡ is_captured_in (is_carried_in naming.now) inst.now }
+{
+    inst.op.is_chain() && naming.carried(Id(inst.result))
+}

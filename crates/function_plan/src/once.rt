@@ -1,0 +1,65 @@
+// Each key once.
+ghost use Rattle.std.specs.Prelude.{◌≡◌, ◌++◌, ◌∷◌, [], ℕ, not, true, IfOk, OnOk, if◌then◌else◌};
+ghost use Rattle.std.specs.BTreeSet.{contains};
+ghost use Rattle.std.specs.Ordering.{nat_cmp};
+ghost use Rattle.function_plan.specs.Once.{with_id, once, itself};
+
+use std::alloc::{AllocError, Global};
+use std::collections::BTreeSet;
+
+/// Adds a number to those that were seen, and answers whether it is new.
+pub fn is_new(seen: &mut BTreeSet<usize>, id: usize) -> Result<bool, AllocError>
+    ensures new { IfOk result (λ new. new ≡ not (contains nat_cmp seen.old id)) }
+    ensures seen { OnOk result ((q : ℕ) → contains nat_cmp seen.new q ≡ with_id id (contains nat_cmp seen.old) q) }
+{
+    let new = seen.insert(id)?;
+    Ok(new)
+}
+
+/// Adds a number, where it is new.
+fn add_if(list: &mut Vec<usize>, id: usize, passes: bool) -> Result<(), AllocError>
+    ensures { OnOk result (list.new.items ≡ list.old.items ++ (if passes then id ∷ [] else [])) }
+{
+    if passes {
+        list.push(id)?;
+    }
+    Ok(())
+}
+
+/// Each of these numbers once, where it stands first, by a set of those that were seen.
+#[tactic(auto, using(crate::proofs::Singled::once_rules))]
+fn each_by_set(alloc: Global, ids: &[usize]) -> Result<Vec<usize>, AllocError>
+    ensures { IfOk result (λ list. list.items ≡ once itself ids.now) }
+{
+    let mut list = Vec::new(alloc);
+    let mut seen = BTreeSet::new(alloc);
+    for id in ids {
+        let new = is_new(&mut seen, *id)?;
+        add_if(&mut list, *id, new)?;
+    }
+    Ok(list)
+}
+
+/// Whether these are at most two, which differ.
+#[tactic(auto, using(crate::proofs::Twos::two_once))]
+fn are_few(ids: &[usize]) -> bool
+    ensures { result ≡ true → once itself ids.now ≡ ids.now }
+{
+    match ids {
+        [] | [_] => true,
+        [one, other] => *one != *other,
+        _ => false,
+    }
+}
+
+/// Each of these numbers once, where it stands first.
+pub fn each_once(alloc: Global, ids: &[usize]) -> Result<Vec<usize>, AllocError>
+    ensures { IfOk result (λ list. list.items ≡ once itself ids.now) }
+{
+    if are_few(ids) {
+        let list = Vec::from_slice(alloc, ids)?;
+        Ok(list)
+    } else {
+        each_by_set(alloc, ids)
+    }
+}
