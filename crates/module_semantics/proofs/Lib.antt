@@ -1,0 +1,5 @@
+mod Samples
+mod AddsOne
+mod Straight
+mod Control
+mod Calls
