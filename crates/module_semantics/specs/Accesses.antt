@@ -1,5 +1,5 @@
 -- Variables: what they have at the start, which of them other invocations see, and what is read from and written to the others.
-use Rattle.std.specs.Prelude.{ℕ, ◌==◌, Bool, true, false, List, [], ◌∷◌, Option, Some, None, option_map, option_and_then}
+use Rattle.std.specs.Prelude.{ℕ, Bool, true, false, List, [], ◌∷◌, Option, Some, None, option_map, option_and_then}
 use Rattle.spv_ops.specs.Enumerants.{decoration_number, built_in_of_number}
 use Rattle.spv_ops.specs.declared.Decoration.TheVariants as decoration
 use Rattle.spv_ops.specs.declared.BuiltIn.{BuiltIn}

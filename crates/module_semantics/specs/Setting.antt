@@ -11,7 +11,6 @@ use Rattle.spv_ops.specs.declared.StorageClass.TheVariants as storage
 use Rattle.spv_module.specs.State.{ModuleState}
 use Rattle.spv_module.specs.Held.{global}
 use Rattle.spv_module.specs.declared.inst.Inst.{Inst}
-use Rattle.spv_module.specs.declared.inst.Block.{Block}
 use Rattle.spv_module.specs.declared.inst.Function.{Function}
 use Rattle.spv_types.specs.Tree.{ValueTree}
 use Rattle.spv_decor.specs.Rows.{word}

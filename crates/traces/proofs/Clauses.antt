@@ -5,7 +5,7 @@ use Rattle.std.proofs.lemmas.Bool.{cases_lt}
 use Rattle.traces.specs.Events.{Event}
 use Rattle.traces.specs.Runs.{Status, running, ended, waiting, undefined, Run, made, Move, go, stop, wait, wrong, before, after, exec}
 use Rattle.traces.specs.Simulation.{IsPrefix}
-use Rattle.traces.specs.Preservation.{TextEnd, has_ended, was_cut, is_waiting, is_stuck, TextRun, text_made, BecomesUndefined, PreservesEvents, Matches, FailsWithin, MatchesOrFails}
+use Rattle.traces.specs.Preservation.{TextEnd, has_ended, was_cut, is_waiting, is_stuck, TextRun, text_made, BecomesUndefined, PreservesEvents, FailsWithin, MatchesOrFails}
 use Rattle.traces.proofs.Moves.{prefix_under}
 
 abbrev IsOver : Status → Type 0

@@ -1,7 +1,7 @@
 -- When a machine does what statements do: step by step, whatever way control goes.
 use Rattle.std.specs.Prelude.{◌≡◌, ◌⊎◌, ℕ, ◌+◌, ◌≤◌, List, ◌++◌}
 use Rattle.traces.specs.Events.{Event}
-use Rattle.traces.specs.Runs.{Status, running, waiting as is_waiting, undefined, Run, made, Move, before, exec}
+use Rattle.traces.specs.Runs.{running, waiting as is_waiting, undefined, made, Move, before, exec}
 use Rattle.traces.specs.Outcomes.{Outcome, normal, breaks, continues, returns, cut, waits, stuck, events_of}
 
 -- the events are the first of these

@@ -1,9 +1,9 @@
 -- The words of values, computed.
-use Rattle.std.proofs.Common.{◌≡◌, ℕ, List, [], ◌∷◌, refl}
+use Rattle.std.proofs.Common.{◌≡◌, List, [], ◌∷◌, refl}
 use Rattle.std.specs.Prelude.{true, false}
 use Rattle.spv_module.specs.declared.tree.Elem.TheVariants as elem
 use Rattle.spv_module.specs.declared.tree.Length.TheVariants.{Fixed}
-use Rattle.spv_types.specs.Tree.{Tree, boolean, int, uint, vector, array, struct, trees_in, ValueTree, truth, word, many, values_in}
+use Rattle.spv_types.specs.Tree.{Tree, int, uint, vector, array, struct, trees_in, ValueTree, truth, word, many, values_in}
 use Rattle.value_words.specs.Words.{words_of, value_from, scalar_paths}
 
 abbrev whole : List ValueTree → ValueTree
