@@ -1,0 +1,9 @@
+pub mod Shapes
+pub mod Places
+pub mod Operators
+pub mod Functions
+pub mod States
+pub mod Expressions
+pub mod Statements
+pub mod Items
+pub mod Run
