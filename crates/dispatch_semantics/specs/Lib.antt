@@ -1,0 +1,3 @@
+pub mod Store
+pub mod Grid
+pub mod Dispatch
