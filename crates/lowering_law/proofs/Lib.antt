@@ -1,0 +1,9 @@
+pub mod Division
+pub mod Saying
+pub mod Quotients
+pub mod Operands
+pub mod Lowered
+pub mod Functions
+pub mod Bounds
+pub mod Comparisons
+pub mod Scalars

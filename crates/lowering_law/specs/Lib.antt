@@ -1,0 +1,5 @@
+pub mod Magnitudes
+pub mod Says
+pub mod Numbers
+pub mod BuiltIns
+pub mod Stands

@@ -1,0 +1,2 @@
+// The expressions of operations say the operations' values. Definitions and laws alone.
+#![tactic(auto)]
