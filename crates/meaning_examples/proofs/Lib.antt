@@ -1,0 +1,5 @@
+mod Samples
+mod AddsOne
+mod Sums
+mod Rows
+mod Texts
