@@ -24,8 +24,8 @@ use Rattle.lowering_law.specs.Says.{Says}
 use Rattle.lowering_law.specs.Stands.{Stands}
 use Rattle.lowering_law.specs.Numbers.{IsNumeric, IsBound, number}
 use Rattle.lowering_law.specs.BuiltIns.{function_of, NoneDeclared}
-use Rattle.lowering_law.proofs.Operands.{as_elem_says}
-use Rattle.lowering_law.proofs.Functions.{call_says, two_say, as_result}
+use Rattle.lowering_law.proofs.Operands.{as_elem_says, as_result}
+use Rattle.lowering_law.proofs.Functions.{call_says, two_say}
 
 least : (e : Elem) (a b r : ℕ) → IsNumeric e → binary_word (min_of e) a b ≡ Some r → pure_value (function_of Min) (number e a ∷ number e b ∷ []) ≡ Some (number e r)
 least elem.Int a b r he h = ap (λ q. option_map (typed (shape_of_elem elem.Int)) (option_map word q)) h
@@ -77,22 +77,22 @@ module _ (p : Program) (none : NoneDeclared p) (calls : Text → List Argument �
 
   module _ (g : Elem) (numbers : IsNumeric g) where
     pub bound_says : (o : Binary) (x y : Operand) (a b r : ℕ) → IsBound o → Stands p calls s x a → Stands p calls s y b → binary_word o a b ≡ Some r → S (written.binary o (scalar g) x y) (number g r)
-    bound_says UMin x y a b r is hx hy h = as_result p none calls s g numbers elem.Uint (written.function_of_both elem.Uint Min x y) r tt (least_says elem.Uint x y a b r tt hx hy h)
-    bound_says SMin x y a b r is hx hy h = as_result p none calls s g numbers elem.Int (written.function_of_both elem.Int Min x y) r tt (least_says elem.Int x y a b r tt hx hy h)
-    bound_says UMax x y a b r is hx hy h = as_result p none calls s g numbers elem.Uint (written.function_of_both elem.Uint Max x y) r tt (greatest_says elem.Uint x y a b r tt hx hy h)
-    bound_says SMax x y a b r is hx hy h = as_result p none calls s g numbers elem.Int (written.function_of_both elem.Int Max x y) r tt (greatest_says elem.Int x y a b r tt hx hy h)
+    bound_says UMin x y a b r is hx hy h = as_result p calls s g numbers elem.Uint (written.function_of_both elem.Uint Min x y) r tt (least_says elem.Uint x y a b r tt hx hy h)
+    bound_says SMin x y a b r is hx hy h = as_result p calls s g numbers elem.Int (written.function_of_both elem.Int Min x y) r tt (least_says elem.Int x y a b r tt hx hy h)
+    bound_says UMax x y a b r is hx hy h = as_result p calls s g numbers elem.Uint (written.function_of_both elem.Uint Max x y) r tt (greatest_says elem.Uint x y a b r tt hx hy h)
+    bound_says SMax x y a b r is hx hy h = as_result p calls s g numbers elem.Int (written.function_of_both elem.Int Max x y) r tt (greatest_says elem.Int x y a b r tt hx hy h)
     bound_says _ x y a b r is hx hy h = absurd is
 
     pub clamp_says : (o : Clamp) (x low high : Operand) (a b c : ℕ) → Stands p calls s x a → Stands p calls s low b → Stands p calls s high c → a < 2 ^ 32 → b < 2 ^ 32 → S (written.clamp o (scalar g) x low high) (number g (clamp_word o a b c))
-    clamp_says UClamp x low high a b c hx hl hh la lb = as_result p none calls s g numbers elem.Uint (written.clamped elem.Uint x low high) (clamp_word UClamp a b c) tt (bounded_says elem.Uint x low high a b c _ (clamp_word UClamp a b c) tt hx hl hh refl refl)
+    clamp_says UClamp x low high a b c hx hl hh la lb = as_result p calls s g numbers elem.Uint (written.clamped elem.Uint x low high) (clamp_word UClamp a b c) tt (bounded_says elem.Uint x low high a b c _ (clamp_word UClamp a b c) tt hx hl hh refl refl)
     clamp_says SClamp x low high a b c hx hl hh la lb =
-        as_result p none calls s g numbers elem.Int (written.clamped elem.Int x low high) (clamp_word SClamp a b c) tt
+        as_result p calls s g numbers elem.Int (written.clamped elem.Int x low high) (clamp_word SClamp a b c) tt
         (bounded_says elem.Int x low high a b c (word_of (int_max (signed a) (signed b))) (clamp_word SClamp a b c) tt hx hl hh refl
         (ap (λ z. Some (word_of (int_min z (signed c)))) (greater_back a b la lb)))
 
     extract_says : (e : Elem) (x offset count : Operand) (a b c r : ℕ) → IsNumeric e → Stands p calls s x a → Stands p calls s offset b → Stands p calls s count c → field_of e b c a ≡ Some r → S (written.extracted e (scalar g) x offset count) (number g r)
     extract_says e x offset count a b c r he hx ho hc h =
-        as_result p none calls s g numbers e _ r he
+        as_result p calls s g numbers e _ r he
         (call_says p none calls s BitfieldExtract (as_elem e x ∷ as_int offset ∷ as_int count ∷ []) (number e a ∷ number elem.Int b ∷ number elem.Int c ∷ []) (number e r)
         (as_elem_says p calls s e x a he hx, (as_elem_says p calls s elem.Int offset b tt ho, (as_elem_says p calls s elem.Int count c tt hc, tt))) (extracted_field e a b c r he h))
 

@@ -11,7 +11,7 @@ use Rattle.op_semantics.specs.declared.operation.Unary.TheVariants.{SNegate, Not
 use Rattle.op_semantics.specs.Word.{signed, unary_word}
 use Rattle.int_lowering.specs.declared.built_ins.BuiltIn.{BuiltIn}
 use Rattle.int_lowering.specs.declared.built_ins.BuiltIn.TheVariants.{Min, Max, Sign, BitCount as CountBits, FindLsb, FindMsb, BitfieldInsert, BitfieldExtract, BitfieldReverse, Any, All}
-use Rattle.int_lowering.specs.Operand.{Operand, scalar, as_elem, literal_of, converted}
+use Rattle.int_lowering.specs.Operand.{Operand, scalar, as_elem, literal_of}
 use Rattle.int_lowering.specs.Term.{built_in_name, call_built_in}
 use Rattle.int_lowering.specs.Lowered as written
 use Rattle.int_lowering.specs.Division as division
@@ -27,7 +27,7 @@ use Rattle.lowering_law.specs.Numbers.{IsNumeric, number}
 use Rattle.lowering_law.specs.BuiltIns.{function_of, NoneDeclared}
 use Rattle.lowering_law.proofs.Division.{high_side, none_below, negated_is}
 use Rattle.lowering_law.proofs.Saying.{says_flip, says_binary, says_pure}
-use Rattle.lowering_law.proofs.Operands.{as_elem_says, converted_says, is_number}
+use Rattle.lowering_law.proofs.Operands.{as_elem_says, as_result, is_number}
 use Rattle.lowering_law.proofs.Quotients.{magnitude_says}
 
 kind_of_name : (f : BuiltIn) → atomic_or (built_in_name f) (atomic_function (built_in_name f)) ≡ pure (function_of f)
@@ -82,9 +82,6 @@ module _ (p : Program) (none : NoneDeclared p) (calls : Text → List Argument �
   counted elem.Bool a h = absurd h
 
   module _ (g : Elem) (numbers : IsNumeric g) where
-    pub as_result : (e : Elem) (x : Expr) (r : ℕ) → IsNumeric e → S x (number e r) → S (converted (scalar g) e x) (number g r)
-    as_result e x r he h = converted_says p calls s e g x r he numbers h
-
     flipped_says : (e : Elem) (x : Operand) (a : ℕ) → IsNumeric e → Stands p calls s x a → S (tree.flip (as_elem e x)) (number e (unary_word Not a))
     flipped_says elem.Int x a he hx = says_flip p calls s (as_elem elem.Int x) (number elem.Int a) (number elem.Int (unary_word Not a)) (as_elem_says p calls s elem.Int x a tt hx) refl
     flipped_says elem.Uint x a he hx = says_flip p calls s (as_elem elem.Uint x) (number elem.Uint a) (number elem.Uint (unary_word Not a)) (as_elem_says p calls s elem.Uint x a tt hx) refl
@@ -109,9 +106,9 @@ module _ (p : Program) (none : NoneDeclared p) (calls : Text → List Argument �
     unary_says SNegate x a hx la = negated_says g x a numbers hx
     unary_says Not x a hx la = flipped_says g x a numbers hx
     unary_says BitReverse x a hx la = reversed_says g x a numbers hx
-    unary_says BitCount x a hx la = as_result elem.Int _ (unary_word BitCount a) tt (call_says CountBits (x.expr ∷ []) (number hx.elem a ∷ []) (number elem.Int (unary_word BitCount a)) (hx.says, tt) (counted hx.elem a hx.is_numeric))
-    unary_says SAbs x a hx la = as_result elem.Uint _ (unary_word SAbs a) tt (subst (λ n. S (division.magnitude x) (number elem.Uint n)) (magnitude_is a la) (magnitude_says p calls s x a (is_number p calls s x a hx)))
-    unary_says SSign x a hx la = as_result elem.Int _ (unary_word SSign a) tt (one_says Sign elem.Int x a (number elem.Int (unary_word SSign a)) tt hx refl)
-    unary_says FindILsb x a hx la = as_result elem.Int _ (unary_word FindILsb a) tt (one_says FindLsb elem.Uint x a (number elem.Int (unary_word FindILsb a)) tt hx refl)
-    unary_says FindSMsb x a hx la = as_result elem.Int _ (unary_word FindSMsb a) tt (one_says FindMsb elem.Int x a (number elem.Int (unary_word FindSMsb a)) tt hx refl)
-    unary_says FindUMsb x a hx la = as_result elem.Int _ (unary_word FindUMsb a) tt (one_says FindMsb elem.Uint x a (number elem.Int (unary_word FindUMsb a)) tt hx refl)
+    unary_says BitCount x a hx la = as_result p calls s g numbers elem.Int _ (unary_word BitCount a) tt (call_says CountBits (x.expr ∷ []) (number hx.elem a ∷ []) (number elem.Int (unary_word BitCount a)) (hx.says, tt) (counted hx.elem a hx.is_numeric))
+    unary_says SAbs x a hx la = as_result p calls s g numbers elem.Uint _ (unary_word SAbs a) tt (subst (λ n. S (division.magnitude x) (number elem.Uint n)) (magnitude_is a la) (magnitude_says p calls s x a (is_number p calls s x a hx)))
+    unary_says SSign x a hx la = as_result p calls s g numbers elem.Int _ (unary_word SSign a) tt (one_says Sign elem.Int x a (number elem.Int (unary_word SSign a)) tt hx refl)
+    unary_says FindILsb x a hx la = as_result p calls s g numbers elem.Int _ (unary_word FindILsb a) tt (one_says FindLsb elem.Uint x a (number elem.Int (unary_word FindILsb a)) tt hx refl)
+    unary_says FindSMsb x a hx la = as_result p calls s g numbers elem.Int _ (unary_word FindSMsb a) tt (one_says FindMsb elem.Int x a (number elem.Int (unary_word FindSMsb a)) tt hx refl)
+    unary_says FindUMsb x a hx la = as_result p calls s g numbers elem.Int _ (unary_word FindUMsb a) tt (one_says FindMsb elem.Uint x a (number elem.Int (unary_word FindUMsb a)) tt hx refl)

@@ -7,3 +7,4 @@ pub mod Functions
 pub mod Bounds
 pub mod Comparisons
 pub mod Scalars
+pub mod Vectors

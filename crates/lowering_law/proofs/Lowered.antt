@@ -27,7 +27,7 @@ use Rattle.lowering_law.specs.Says.{Says}
 use Rattle.lowering_law.specs.Stands.{Stands}
 use Rattle.lowering_law.specs.Numbers.{IsNumeric, IsOperator, number}
 use Rattle.lowering_law.proofs.Saying.{says_binary}
-use Rattle.lowering_law.proofs.Operands.{as_elem_says, converted_says, is_number}
+use Rattle.lowering_law.proofs.Operands.{as_elem_says, as_result, is_number}
 use Rattle.lowering_law.proofs.Quotients.{signed_quotient_says, signed_remainder_says, signed_modulo_says}
 
 -- an operator on two numbers of one type
@@ -125,15 +125,11 @@ module _ (p : Program) (calls : Text → List Argument → State → Result (Opt
       both_says o elem.Uint x y a b r tt k both hx hy (is known.0 ∙ known.1)
 
   module _ (g : Elem) (numbers : IsNumeric g) (x y : Operand) (a b : ℕ) (hx : Stands p calls s x a) (hy : Stands p calls s y b) (la : a < 2 ^ 32) (lb : b < 2 ^ 32) where
-    -- a value of an operation on uints or on ints, as the operation has it
-    as_result : (e : Elem) (x : Expr) (r : ℕ) → IsNumeric e → S x (number e r) → S (converted (scalar g) e x) (number g r)
-    as_result e x r he h = converted_says p calls s e g x r he numbers h
-
     -- of a quotient or a remainder with a sign
     of_signed : (q : ℕ) (r : ℕ) (x : Expr) → (if is_undefined a b then None else Some q) ≡ Some r → (0 < b → S x (number elem.Uint q)) → S (converted (scalar g) elem.Uint x) (number g r)
     of_signed q r x h says =
         let known = has_divisor (is_undefined a b) (Some q) r h in
-        as_result elem.Uint x r tt (subst (λ n. S x (number elem.Uint n)) (some_is q r known.1) (says (above_zero b (is_defined a b known.0))))
+        as_result p calls s g numbers elem.Uint x r tt (subst (λ n. S x (number elem.Uint n)) (some_is q r known.1) (says (above_zero b (is_defined a b known.0))))
 
     pub binary_says : (o : Binary) (r : ℕ) → IsOperator o → binary_word o a b ≡ Some r → S (written.binary o (scalar g) x y) (number g r)
     binary_says IAdd r is h = both_says Add g x y a b r numbers refl refl hx hy h
@@ -142,14 +138,14 @@ module _ (p : Program) (calls : Text → List Argument → State → Result (Opt
     binary_says BitwiseOr r is h = both_says Or g x y a b r numbers refl refl hx hy h
     binary_says BitwiseXor r is h = both_says Xor g x y a b r numbers refl refl hx hy h
     binary_says BitwiseAnd r is h = both_says And g x y a b r numbers refl refl hx hy h
-    binary_says UDiv r is h = as_result elem.Uint _ r tt (divided_says Div (λ m n. m / n) x y a b r refl refl (λ e. rw e refl) hx hy h)
-    binary_says UMod r is h = as_result elem.Uint _ r tt (divided_says Rem (λ m n. m % n) x y a b r refl refl (λ e. rw e refl) hx hy h)
+    binary_says UDiv r is h = as_result p calls s g numbers elem.Uint _ r tt (divided_says Div (λ m n. m / n) x y a b r refl refl (λ e. rw e refl) hx hy h)
+    binary_says UMod r is h = as_result p calls s g numbers elem.Uint _ r tt (divided_says Rem (λ m n. m % n) x y a b r refl refl (λ e. rw e refl) hx hy h)
     binary_says SDiv r is h = of_signed (word_of (int_div (signed a) (signed b))) r _ h (signed_quotient_says p calls s x y a b (is_number p calls s x a hx) (is_number p calls s y b hy) la lb)
     binary_says SRem r is h = of_signed (word_of (int_rem (signed a) (signed b))) r _ h (signed_remainder_says p calls s x y a b (is_number p calls s x a hx) (is_number p calls s y b hy) la lb)
     binary_says SMod r is h = of_signed (word_of (int_modulo (signed a) (signed b))) r _ h (signed_modulo_says p calls s x y a b (is_number p calls s x a hx) (is_number p calls s y b hy) la lb)
     binary_says ShiftLeftLogical r is h = shift_says Shl g x y a b r numbers refl refl hx hy (left_by g a b ∙ h)
-    binary_says ShiftRightLogical r is h = as_result elem.Uint _ r tt (shift_says Shr elem.Uint x y a b r tt refl refl hx hy (right_by a b ∙ h))
-    binary_says ShiftRightArithmetic r is h = as_result elem.Int _ r tt (shift_says Shr elem.Int x y a b r tt refl refl hx hy (signed_right_by a b ∙ h))
+    binary_says ShiftRightLogical r is h = as_result p calls s g numbers elem.Uint _ r tt (shift_says Shr elem.Uint x y a b r tt refl refl hx hy (right_by a b ∙ h))
+    binary_says ShiftRightArithmetic r is h = as_result p calls s g numbers elem.Int _ r tt (shift_says Shr elem.Int x y a b r tt refl refl hx hy (signed_right_by a b ∙ h))
     binary_says UMin r is h = absurd is
     binary_says SMin r is h = absurd is
     binary_says UMax r is h = absurd is

@@ -52,3 +52,7 @@ module _ (p : Program) (calls : Text → List Argument → State → Result (Opt
 
   pub is_number : (x : Operand) (a : ℕ) → Stands p calls s x a → IsNumber p calls s x a
   is_number x a h = record { as_an_int = as_elem_says elem.Int x a tt h; as_a_uint = as_elem_says elem.Uint x a tt h }
+
+  -- a value of an operation on uints or on ints, as the type of the result has it
+  pub as_result : (g : Elem) → IsNumeric g → (e : Elem) (x : Expr) (r : ℕ) → IsNumeric e → S x (number e r) → S (converted (scalar g) e x) (number g r)
+  as_result g numbers e x r he h = converted_says e g x r he numbers h

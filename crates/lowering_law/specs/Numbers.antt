@@ -4,7 +4,7 @@ use Rattle.spv_module.specs.declared.tree.Elem.{Elem}
 use Rattle.spv_module.specs.declared.tree.Elem.TheVariants as elem
 use Rattle.spv_types.specs.Tree.{word}
 use Rattle.op_semantics.specs.declared.operation.Binary.{Binary}
-use Rattle.op_semantics.specs.declared.operation.Binary.TheVariants.{UMin, SMin, UMax, SMax}
+use Rattle.op_semantics.specs.declared.operation.Binary.TheVariants.{IAdd, ISub, IMul, BitwiseOr, BitwiseXor, BitwiseAnd, UMin, SMin, UMax, SMax}
 use Rattle.glsl_semantics.specs.Shapes.{Typed, typed, scalar}
 
 abbrev pub IsNumeric : Elem → Type 0
@@ -29,3 +29,13 @@ IsBound SMin = Unit {0}
 IsBound UMax = Unit {0}
 IsBound SMax = Unit {0}
 IsBound _ = ⊥
+
+-- those that are one operator on operands of the type of the result
+abbrev pub IsPlain : Binary → Type 0
+IsPlain IAdd = Unit {0}
+IsPlain ISub = Unit {0}
+IsPlain IMul = Unit {0}
+IsPlain BitwiseOr = Unit {0}
+IsPlain BitwiseXor = Unit {0}
+IsPlain BitwiseAnd = Unit {0}
+IsPlain _ = ⊥
