@@ -6,6 +6,7 @@ mod class;
 mod decorations;
 mod enumerants;
 mod groups;
+mod op_group;
 mod opcode;
 mod operands;
 mod shape;
@@ -15,6 +16,7 @@ pub use decorations::{has_literal, literals_of};
 pub use enumerants::{
     BuiltIn, Capability, Decoration, ExecutionMode, ExecutionModel, Scope, StorageClass,
 };
+pub use op_group::{AtomicOp, OpGroup, Takes, Terminator};
 pub use opcode::Op;
 pub use operands::{IdWords, Operands, id_words, inner_op};
 pub use shape::shape_of;
