@@ -2,11 +2,11 @@
 ghost use Rattle.std.specs.Prelude.{◌≡◌, IfOk, find, map};
 ghost use Rattle.std.specs.Option.{option_copied};
 ghost use Rattle.structure_rules.specs.declared.graph.Exit.TheVariants.{Branch, Conditional};
-ghost use Rattle.structure_rules.specs.Graph.{merge_inst as merge_inst_of, terminator as terminator_of, word_of as word_of_inst, index_of, seconds, exit_by, labels_by, target_labels, merge_by, node_by, nodes as nodes_of};
+ghost use Rattle.structure_rules.specs.Graph.{merge_inst as merge_inst_of, terminator as terminator_of, word_of as word_of_inst, index_of, seconds, exit_by, exit_in as exit_in_of, exit_at_end as exit_at_end_of, labels_by, target_labels, merge_by, node_by, nodes as nodes_of};
 
 use crate::labels::Labels;
 use spv_module::{Block, Function, Inst};
-use spv_ops::Op;
+use spv_ops::{Op, OpGroup, Terminator};
 use std::alloc::{AllocError, Global};
 use structure_rules::{Exit, Merge, Node, Targets};
 
@@ -55,17 +55,34 @@ fn merge_of(labels: &Labels, inst: Option<&Inst>) -> Merge
 }
 
 /// The kind of a terminator: what leads to no block leaves the function.
+fn exit_at_end(terminator: Terminator) -> Exit
+    ensures { result ≡ exit_at_end_of terminator }
+{
+    match terminator {
+        Terminator::Branch => Exit::Branch,
+        Terminator::BranchConditional => Exit::Conditional,
+        Terminator::Switch => Exit::Switch,
+        Terminator::Return | Terminator::ReturnValue | Terminator::Unreachable => Exit::Leave,
+    }
+}
+
+/// The kind of the instructions of a group: what is no terminator leads nowhere.
+fn exit_in(group: OpGroup) -> Exit
+    ensures { result ≡ exit_in_of group }
+{
+    match group {
+        OpGroup::Terminator(terminator) => exit_at_end(terminator),
+        _ => Exit::Leave,
+    }
+}
+
+/// The kind of the terminator of a block.
 fn exit_of(inst: Option<&Inst>) -> Exit
     ensures { result ≡ exit_by (option_copied inst.entry) }
 {
-    let Some(inst) = inst else {
-        return Exit::Leave;
-    };
-    match inst.op {
-        Op::Branch => Exit::Branch,
-        Op::BranchConditional => Exit::Conditional,
-        Op::Switch => Exit::Switch,
-        _ => Exit::Leave,
+    match inst {
+        Some(inst) => exit_in(inst.op.group()),
+        None => Exit::Leave,
     }
 }
 

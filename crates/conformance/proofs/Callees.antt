@@ -14,6 +14,7 @@ use Rattle.spv_words.specs.declared.rule.Rule.TheVariants.{T1, P2, P8}
 use Rattle.spv_words.specs.declared.rule.Rule.{Rule}
 use Rattle.spv_words.proofs.Cuts.{whole_at}
 use Rattle.spv_ops.specs.Operands.{is_id}
+use Rattle.spv_ops.specs.OpGroups.{group_of, takes_of}
 use Rattle.spv_ops.specs.Opcode.{is, number, op_of}
 use Rattle.spv_ops.specs.Shape.{shape, count_of}
 use Rattle.spv_ops.specs.declared.Op.{Op}
@@ -34,8 +35,8 @@ use Rattle.spv_module.specs.Broken.{IsUnbroken}
 use Rattle.spv_types.specs.Types.{earlier}
 use Rattle.spv_index.specs.Locals.{insts_of}
 use Rattle.spv_decor.specs.Rows.{word}
-use Rattle.profile_rules.specs.declared.groups.Need.{Need}
-use Rattle.profile_rules.specs.declared.groups.Need.TheVariants.{Callee}
+use Rattle.profile_rules.specs.declared.needs.Need.{Need}
+use Rattle.profile_rules.specs.declared.needs.Need.TheVariants.{Callee}
 use Rattle.profile_rules.specs.Operands.{need, suits, is_there_in, is_in_function, lacks_operand, breaks_t1_in}
 use Rattle.profile_rules.specs.TypeRules.{broken_if, broken_by_local, broken_by_block, broken_by_function, broken_by_global, broken}
 use Rattle.profile_rules.specs.Entry.{chosen, function_of, is_called, is_no_kernel}
@@ -177,7 +178,7 @@ unfolding is_id
 call_id args = refl
 
 call_need : need code.FunctionCall 0 ≡ Callee
-unfolding need
+unfolding need takes_of group_of
 call_need = refl
 
 -- the first operand of a call is there

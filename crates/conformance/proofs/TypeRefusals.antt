@@ -16,11 +16,14 @@ use Rattle.spv_module.specs.declared.inst.Inst.{Inst}
 use Rattle.spv_module.specs.declared.inst.Block.{Block}
 use Rattle.spv_module.specs.declared.inst.Function.{Function}
 use Rattle.spv_decor.specs.Rows.{word}
-use Rattle.profile_rules.specs.declared.groups.Group.{Group}
-use Rattle.profile_rules.specs.declared.groups.Group.TheVariants.{Other}
+use Rattle.spv_ops.specs.OpGroups.{group_of}
+use Rattle.spv_ops.specs.declared.OpGroup.{OpGroup}
+use Rattle.spv_ops.specs.declared.OpGroup.TheVariants as groups
+use Rattle.spv_ops.specs.declared.Terminator.{Terminator}
+use Rattle.spv_ops.specs.declared.Terminator.TheVariants as exit
 use Rattle.profile_rules.specs.Operands.{breaks_t1, breaks_t1_in, breaks_t1_of}
 use Rattle.profile_rules.specs.FlowRules.{breaks_t21_of}
-use Rattle.profile_rules.specs.TypeRules.{group_of, rule_of, broken_if, is_broken_outside, is_broken_in, broken_as, inner, broken_inside, broken_by_global, broken_by_local, broken_by_block, broken_by_function, broken}
+use Rattle.profile_rules.specs.TypeRules.{rule_of, rule_at_end, broken_if, is_broken_outside, is_broken_in, broken_as, inner, broken_inside, broken_by_global, broken_by_local, broken_by_block, broken_by_function, broken}
 
 -- by a rule with the letter T
 abbrev pub IsOnTypes : Refusal → Type 0
@@ -37,8 +40,12 @@ of_each : {X : Type 0} (f : X → List Refusal) → ((x : X) → All IsOnTypes (
 of_each f each [] = none
 of_each f each (x ∷ xs) = rw (flat_map-cons f x xs) (All-append IsOnTypes (f x) (flat_map f xs) (each x) (of_each f each xs))
 
-on_group : (g : Group) → letter_of (rule_of g) ≡ 84
-on_group Other = refl
+at_end : (e : Terminator) → letter_of (rule_at_end e) ≡ 84
+at_end exit.Branch = refl
+at_end _ = refl
+
+on_group : (g : OpGroup) → letter_of (rule_of g) ≡ 84
+on_group (groups.Terminator e) = at_end e
 on_group _ = refl
 
 module _ (m : ModuleState) where

@@ -8,8 +8,8 @@ ghost use Rattle.constant_text.specs.Scalars.{word_literal as word_literal_of, z
 use crate::Readings;
 use crate::scalars::scalar_type;
 use glsl_ast::Literal;
+use profile_rules::ConstantKind;
 use spv_module::{Elem, Id, Inst};
-use spv_ops::Op;
 
 /// The literal of an int with these bits: decimal digits, and hexadecimal ones where it is negative, since GLSL has no negative
 /// literals (GLSL 4.60, section 4.1.3).
@@ -54,36 +54,45 @@ fn chosen_truth(chosen: Option<u32>, default: bool) -> bool
 
 impl Readings<'_> {
     /// The word of a constant of an integer: its own, or that of its override; that of another is 0.
-    #[tactic(auto, unfolding(profile_rules::specs::Constants::constant_kind), using(crate::proofs::Shapes::zero_word))]
+    #[tactic(auto, using(crate::proofs::Shapes::zero_word))]
     pub fn word(&self, inst: &Inst) -> u32
         ensures { result ≡ word_of (plain_value self.now inst.now) }
     {
-        match inst.op {
-            Op::Constant => inst.operand(0),
-            Op::SpecConstant => self
+        match ConstantKind::of(inst.op) {
+            ConstantKind::Word => inst.operand(0),
+            ConstantKind::SpecWord => self
                 .override_word(Id(inst.result))
                 .unwrap_or(inst.operand(0)),
-            _ => 0,
+            ConstantKind::True
+            | ConstantKind::False
+            | ConstantKind::SpecTrue
+            | ConstantKind::SpecFalse
+            | ConstantKind::Composite
+            | ConstantKind::Zero
+            | ConstantKind::Operation
+            | ConstantKind::Other => 0,
         }
     }
 
     /// The literal of the constant that an instruction defines: of its own value, or of that of its override. One that is made of
     /// other constants has none, and its answer is 0 (GLSL 4.60, section 4.1.3).
-    #[tactic(auto, unfolding(profile_rules::specs::Constants::constant_kind), using(crate::proofs::Shapes::scalar_rules))]
+    #[tactic(auto, using(crate::proofs::Shapes::scalar_rules))]
     pub fn literal(&self, inst: &Inst) -> Literal
         ensures { result ≡ plain_literal self.now inst.now }
     {
         let ty = scalar_type(self.source, inst.ty);
         let chosen = self.override_word(Id(inst.result));
-        match inst.op {
-            Op::ConstantTrue => Literal::Truth(true),
-            Op::ConstantFalse => Literal::Truth(false),
-            Op::Constant => word_literal(ty, inst.operand(0)),
-            Op::ConstantNull | Op::Undef => zero_literal(ty),
-            Op::SpecConstantTrue => Literal::Truth(chosen_truth(chosen, true)),
-            Op::SpecConstantFalse => Literal::Truth(chosen_truth(chosen, false)),
-            Op::SpecConstant => word_literal(ty, chosen.unwrap_or(inst.operand(0))),
-            _ => word_literal(ty, 0),
+        match ConstantKind::of(inst.op) {
+            ConstantKind::True => Literal::Truth(true),
+            ConstantKind::False => Literal::Truth(false),
+            ConstantKind::Word => word_literal(ty, inst.operand(0)),
+            ConstantKind::Zero => zero_literal(ty),
+            ConstantKind::SpecTrue => Literal::Truth(chosen_truth(chosen, true)),
+            ConstantKind::SpecFalse => Literal::Truth(chosen_truth(chosen, false)),
+            ConstantKind::SpecWord => word_literal(ty, chosen.unwrap_or(inst.operand(0))),
+            ConstantKind::Composite | ConstantKind::Operation | ConstantKind::Other => {
+                word_literal(ty, 0)
+            }
         }
     }
 }

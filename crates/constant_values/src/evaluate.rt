@@ -9,7 +9,7 @@ ghost use Rattle.spv_types.specs.Types.{type_tree, IsRight};
 ghost use Rattle.spv_types.specs.Limits.{AreWithin, IsPassedBy};
 ghost use Rattle.profile_rules.specs.TypeRules.{is_sound};
 ghost use Rattle.profile_rules.specs.Leaves.{leaves_of_module};
-ghost use Rattle.profile_rules.specs.Constants.{constant_kind as constant_kind_of, chosen_truth as chosen_truth_of, shaped_value as shaped_value_of, constant_value, constants, breaks_x3, breaks_x4};
+ghost use Rattle.profile_rules.specs.Constants.{chosen_truth as chosen_truth_of, shaped_value as shaped_value_of, constant_value, constants, breaks_x3, breaks_x4};
 ghost use Rattle.constant_values.specs.Held.{value_among, value_in, put_value, chosen_by};
 ghost use Rattle.constant_values.specs.Refused.{IsCause};
 
@@ -20,7 +20,7 @@ use profile_rules::{ConstantKind, Given};
 use spec_constants::{Overrides, check_leaves, check_overrides, givens, word_given};
 use spv_decor::Decor;
 use spv_module::{Id, Inst, Module, Shape, Value};
-use spv_ops::{Decoration, Op};
+use spv_ops::Decoration;
 use spv_types::{check_limits, shape};
 use spv_words::{Fault, Memory};
 use std::alloc::Global;
@@ -57,24 +57,6 @@ impl Constants {
         ensures { option_map (λ v. value_of v.now) result ≡ value_among self.now id.0 }
     {
         value_at(&self.values, id.0)
-    }
-}
-
-#[tactic(auto, unfolding(profile_rules::specs::Constants::constant_kind))]
-fn constant_kind(op: Op) -> ConstantKind
-    ensures { result ≡ constant_kind_of op }
-{
-    match op {
-        Op::ConstantTrue => ConstantKind::True,
-        Op::ConstantFalse => ConstantKind::False,
-        Op::Constant => ConstantKind::Word,
-        Op::ConstantComposite | Op::SpecConstantComposite => ConstantKind::Composite,
-        Op::ConstantNull | Op::Undef => ConstantKind::Zero,
-        Op::SpecConstantTrue => ConstantKind::SpecTrue,
-        Op::SpecConstantFalse => ConstantKind::SpecFalse,
-        Op::SpecConstant => ConstantKind::SpecWord,
-        Op::SpecConstantOp => ConstantKind::Operation,
-        _ => ConstantKind::Other,
     }
 }
 
@@ -122,7 +104,7 @@ fn shaped_value(
     ensures { IfOk result (λ v. option_map value_of v ≡ shaped_value_of (value_in values.now) chosen inst.now (tree_of shape.now)) }
 {
     let args = inst.args.as_slice();
-    let value = match constant_kind(inst.op) {
+    let value = match ConstantKind::of(inst.op) {
         ConstantKind::True => Value::Bool(true),
         ConstantKind::False => Value::Bool(false),
         ConstantKind::Word => Value::Word(inst.operand(0)),

@@ -65,20 +65,12 @@ pub fn is_flat(shape: &Shape) -> bool
 pub fn inner_operands(op: Op, words: &[u32]) -> &[u32]
     ensures { result.now ≡ inner_operands_of op words.now }
 {
-    match op {
-        Op::VectorShuffle => &words[..words.len().min(2)],
-        Op::CompositeExtract => &words[..words.len().min(1)],
-        _ => words,
-    }
+    op.operands().ids(words)
 }
 
 /// Of the words behind the opcode, those that are literals.
 pub fn inner_literals(op: Op, words: &[u32]) -> &[u32]
     ensures { result.now ≡ inner_literals_of op words.now }
 {
-    match op {
-        Op::VectorShuffle => words.get(2..).unwrap_or(&[]),
-        Op::CompositeExtract => words.get(1..).unwrap_or(&[]),
-        _ => &[],
-    }
+    op.operands().literals(words)
 }

@@ -12,63 +12,58 @@ use Rattle.glsl_ast.specs.Tree as text
 use Rattle.glsl_ast.specs.Tree.{Expr, name, build, exprs_in, type_name}
 use Rattle.text_rules.specs.Outlines.{basic}
 use Rattle.text_rules.specs.Declarations.{shape_at, type_at, zero_at}
+use Rattle.spv_ops.specs.OpGroups.{group_of}
+use Rattle.spv_ops.specs.declared.OpGroup.{OpGroup}
+use Rattle.spv_ops.specs.declared.OpGroup.TheVariants as groups
 use Rattle.expr_forward.specs.declared.kinds.OperationKind.{OperationKind}
 use Rattle.expr_forward.specs.declared.kinds.OperationKind.TheVariants as kind
 use Rattle.expr_forward.specs.Scope.{Scope, Argument, globals, inst_at, type_of}
 use Rattle.expr_forward.specs.Paths.{word_at, further, part_steps, place_expr}
 
--- the kind of operation of an opcode; what is no operation has a variable
+-- the kind of operation of the opcodes of a group; what is no operation has a variable
+abbrev pub operation_kind_in : OpGroup → OperationKind
+operation_kind_in groups.Debug = kind.Other
+operation_kind_in groups.Head = kind.Other
+operation_kind_in groups.Type = kind.Other
+operation_kind_in groups.Truth = kind.Other
+operation_kind_in groups.Number = kind.Other
+operation_kind_in groups.Composite = kind.Other
+operation_kind_in groups.AnyConstant = kind.Other
+operation_kind_in groups.Undef = kind.Undef
+operation_kind_in groups.Function = kind.Other
+operation_kind_in groups.Variable = kind.Other
+operation_kind_in groups.Load = kind.Other
+operation_kind_in groups.Store = kind.Other
+operation_kind_in groups.Chain = kind.Other
+operation_kind_in groups.ArrayLength = kind.ArrayLength
+operation_kind_in groups.CopyObject = kind.CopyObject
+operation_kind_in groups.CopyLogical = kind.CopyLogical
+operation_kind_in groups.Bitcast = kind.Plain
+operation_kind_in groups.VectorExtractDynamic = kind.Plain
+operation_kind_in groups.VectorInsertDynamic = kind.Other
+operation_kind_in groups.VectorShuffle = kind.Plain
+operation_kind_in groups.CompositeConstruct = kind.CompositeConstruct
+operation_kind_in groups.CompositeExtract = kind.CompositeExtract
+operation_kind_in groups.CompositeInsert = kind.Other
+operation_kind_in groups.Arithmetic = kind.Plain
+operation_kind_in groups.Comparison = kind.Plain
+operation_kind_in groups.Logical = kind.Plain
+operation_kind_in groups.AnyOrAll = kind.Plain
+operation_kind_in groups.Select = kind.Plain
+operation_kind_in groups.BitFieldInsert = kind.Plain
+operation_kind_in groups.BitFieldExtract = kind.Plain
+operation_kind_in groups.BitOperation = kind.Plain
+operation_kind_in groups.Extended = kind.Extended
+operation_kind_in (groups.Atomic o) = kind.Other
+operation_kind_in groups.ControlBarrier = kind.Other
+operation_kind_in groups.MemoryBarrier = kind.Other
+operation_kind_in groups.Call = kind.Other
+operation_kind_in groups.Phi = kind.Other
+operation_kind_in groups.Merge = kind.Other
+operation_kind_in (groups.Terminator o) = kind.Other
+
 unfoldable pub operation_kind_of : Op → OperationKind
-operation_kind_of code.Undef = kind.Undef
-operation_kind_of code.CopyObject = kind.CopyObject
-operation_kind_of code.ArrayLength = kind.ArrayLength
-operation_kind_of code.CompositeExtract = kind.CompositeExtract
-operation_kind_of code.CompositeConstruct = kind.CompositeConstruct
-operation_kind_of code.CopyLogical = kind.CopyLogical
-operation_kind_of code.ExtInst = kind.Extended
-operation_kind_of code.VectorExtractDynamic = kind.Plain
-operation_kind_of code.VectorShuffle = kind.Plain
-operation_kind_of code.Bitcast = kind.Plain
-operation_kind_of code.SNegate = kind.Plain
-operation_kind_of code.IAdd = kind.Plain
-operation_kind_of code.ISub = kind.Plain
-operation_kind_of code.IMul = kind.Plain
-operation_kind_of code.UDiv = kind.Plain
-operation_kind_of code.SDiv = kind.Plain
-operation_kind_of code.UMod = kind.Plain
-operation_kind_of code.SRem = kind.Plain
-operation_kind_of code.SMod = kind.Plain
-operation_kind_of code.Any = kind.Plain
-operation_kind_of code.All = kind.Plain
-operation_kind_of code.LogicalEqual = kind.Plain
-operation_kind_of code.LogicalNotEqual = kind.Plain
-operation_kind_of code.LogicalOr = kind.Plain
-operation_kind_of code.LogicalAnd = kind.Plain
-operation_kind_of code.LogicalNot = kind.Plain
-operation_kind_of code.Select = kind.Plain
-operation_kind_of code.IEqual = kind.Plain
-operation_kind_of code.INotEqual = kind.Plain
-operation_kind_of code.UGreaterThan = kind.Plain
-operation_kind_of code.SGreaterThan = kind.Plain
-operation_kind_of code.UGreaterThanEqual = kind.Plain
-operation_kind_of code.SGreaterThanEqual = kind.Plain
-operation_kind_of code.ULessThan = kind.Plain
-operation_kind_of code.SLessThan = kind.Plain
-operation_kind_of code.ULessThanEqual = kind.Plain
-operation_kind_of code.SLessThanEqual = kind.Plain
-operation_kind_of code.ShiftRightLogical = kind.Plain
-operation_kind_of code.ShiftRightArithmetic = kind.Plain
-operation_kind_of code.ShiftLeftLogical = kind.Plain
-operation_kind_of code.BitwiseOr = kind.Plain
-operation_kind_of code.BitwiseXor = kind.Plain
-operation_kind_of code.BitwiseAnd = kind.Plain
-operation_kind_of code.Not = kind.Plain
-operation_kind_of code.BitFieldInsert = kind.Plain
-operation_kind_of code.BitFieldSExtract = kind.Plain
-operation_kind_of code.BitFieldUExtract = kind.Plain
-operation_kind_of code.BitReverse = kind.Plain
-operation_kind_of code.BitCount = kind.Plain
-operation_kind_of _ = kind.Other
+operation_kind_of o = operation_kind_in (group_of o)
 
 -- a variable's name
 abbrev pub variable : Scope → ℕ → Expr

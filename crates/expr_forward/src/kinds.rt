@@ -1,9 +1,9 @@
 // Kinds of instructions.
 ghost use Rattle.std.specs.Prelude.{◌≡◌};
-ghost use Rattle.expr_forward.specs.Statements.{compares, has_result, kind_of};
+ghost use Rattle.expr_forward.specs.Statements.{atomic_of, compares, has_result, kind_of};
 ghost use Rattle.expr_forward.specs.Values.{operation_kind_of};
 
-use spv_ops::Op;
+use spv_ops::{AtomicOp, Op, OpGroup};
 
 /// An atomic instruction (SPIR-V 1.6, section 3.49.18), where GLSL has one function for numbers with and without a sign.
 #[derive(Clone, Copy, Debug, PartialEq, Eq)]
@@ -24,6 +24,26 @@ pub enum Atomic {
 }
 
 impl Atomic {
+    fn of(op: AtomicOp) -> Atomic
+        ensures { result ≡ atomic_of op }
+    {
+        match op {
+            AtomicOp::Load => Atomic::Load,
+            AtomicOp::Store => Atomic::Store,
+            AtomicOp::Exchange => Atomic::Exchange,
+            AtomicOp::CompareExchange => Atomic::CompareExchange,
+            AtomicOp::IIncrement => Atomic::Increment,
+            AtomicOp::IDecrement => Atomic::Decrement,
+            AtomicOp::IAdd => Atomic::Add,
+            AtomicOp::ISub => Atomic::Sub,
+            AtomicOp::SMin | AtomicOp::UMin => Atomic::Min,
+            AtomicOp::SMax | AtomicOp::UMax => Atomic::Max,
+            AtomicOp::And => Atomic::And,
+            AtomicOp::Or => Atomic::Or,
+            AtomicOp::Xor => Atomic::Xor,
+        }
+    }
+
     /// Whether it has a comparator.
     pub(crate) fn compares(self) -> bool
         ensures { result ≡ compares self }
@@ -63,41 +83,43 @@ impl InstKind {
     pub(crate) fn of(op: Op) -> InstKind
         ensures { result ≡ kind_of op }
     {
-        match op {
-            Op::Load => InstKind::Load,
-            Op::Store => InstKind::Store,
-            Op::FunctionCall => InstKind::Call,
-            Op::AtomicLoad => InstKind::Atomic(Atomic::Load),
-            Op::AtomicStore => InstKind::Atomic(Atomic::Store),
-            Op::AtomicExchange => InstKind::Atomic(Atomic::Exchange),
-            Op::AtomicCompareExchange => InstKind::Atomic(Atomic::CompareExchange),
-            Op::AtomicIIncrement => InstKind::Atomic(Atomic::Increment),
-            Op::AtomicIDecrement => InstKind::Atomic(Atomic::Decrement),
-            Op::AtomicIAdd => InstKind::Atomic(Atomic::Add),
-            Op::AtomicISub => InstKind::Atomic(Atomic::Sub),
-            Op::AtomicSMin | Op::AtomicUMin => InstKind::Atomic(Atomic::Min),
-            Op::AtomicSMax | Op::AtomicUMax => InstKind::Atomic(Atomic::Max),
-            Op::AtomicAnd => InstKind::Atomic(Atomic::And),
-            Op::AtomicOr => InstKind::Atomic(Atomic::Or),
-            Op::AtomicXor => InstKind::Atomic(Atomic::Xor),
-            Op::ControlBarrier => InstKind::ControlBarrier,
-            Op::MemoryBarrier => InstKind::MemoryBarrier,
-            Op::AccessChain | Op::InBoundsAccessChain => InstKind::Chain,
-            Op::CompositeInsert => InstKind::CompositeInsert,
-            Op::VectorInsertDynamic => InstKind::VectorInsertDynamic,
-            Op::Variable
-            | Op::Phi
-            | Op::LoopMerge
-            | Op::SelectionMerge
-            | Op::Label
-            | Op::Branch
-            | Op::BranchConditional
-            | Op::Switch
-            | Op::Return
-            | Op::ReturnValue
-            | Op::Unreachable => InstKind::Silent,
+        match op.group() {
+            OpGroup::Load => InstKind::Load,
+            OpGroup::Store => InstKind::Store,
+            OpGroup::Call => InstKind::Call,
+            OpGroup::Atomic(op) => InstKind::Atomic(Atomic::of(op)),
+            OpGroup::ControlBarrier => InstKind::ControlBarrier,
+            OpGroup::MemoryBarrier => InstKind::MemoryBarrier,
+            OpGroup::Chain => InstKind::Chain,
+            OpGroup::CompositeInsert => InstKind::CompositeInsert,
+            OpGroup::VectorInsertDynamic => InstKind::VectorInsertDynamic,
+            OpGroup::Variable | OpGroup::Phi | OpGroup::Merge | OpGroup::Terminator(_) => {
+                InstKind::Silent
+            }
+            // these stand in no block
+            OpGroup::Debug | OpGroup::Head | OpGroup::Type | OpGroup::Function => InstKind::Silent,
+            OpGroup::Truth | OpGroup::Number | OpGroup::Composite | OpGroup::AnyConstant => {
+                InstKind::Value
+            }
             // an operation
-            _ => InstKind::Value,
+            OpGroup::Undef
+            | OpGroup::ArrayLength
+            | OpGroup::CopyObject
+            | OpGroup::CopyLogical
+            | OpGroup::Bitcast
+            | OpGroup::CompositeConstruct
+            | OpGroup::CompositeExtract
+            | OpGroup::VectorExtractDynamic
+            | OpGroup::VectorShuffle
+            | OpGroup::Arithmetic
+            | OpGroup::Comparison
+            | OpGroup::Logical
+            | OpGroup::AnyOrAll
+            | OpGroup::Select
+            | OpGroup::BitFieldInsert
+            | OpGroup::BitFieldExtract
+            | OpGroup::BitOperation
+            | OpGroup::Extended => InstKind::Value,
         }
     }
 }
@@ -124,57 +146,46 @@ impl OperationKind {
     pub(crate) fn of(op: Op) -> OperationKind
         ensures { result ≡ operation_kind_of op }
     {
-        match op {
-            Op::Undef => OperationKind::Undef,
-            Op::CopyObject => OperationKind::CopyObject,
-            Op::ArrayLength => OperationKind::ArrayLength,
-            Op::CompositeExtract => OperationKind::CompositeExtract,
-            Op::CompositeConstruct => OperationKind::CompositeConstruct,
-            Op::CopyLogical => OperationKind::CopyLogical,
-            Op::ExtInst => OperationKind::Extended,
-            Op::VectorExtractDynamic
-            | Op::VectorShuffle
-            | Op::Bitcast
-            | Op::SNegate
-            | Op::IAdd
-            | Op::ISub
-            | Op::IMul
-            | Op::UDiv
-            | Op::SDiv
-            | Op::UMod
-            | Op::SRem
-            | Op::SMod => OperationKind::Plain,
-            Op::Any
-            | Op::All
-            | Op::LogicalEqual
-            | Op::LogicalNotEqual
-            | Op::LogicalOr
-            | Op::LogicalAnd
-            | Op::LogicalNot
-            | Op::Select
-            | Op::IEqual
-            | Op::INotEqual
-            | Op::UGreaterThan
-            | Op::SGreaterThan
-            | Op::UGreaterThanEqual
-            | Op::SGreaterThanEqual
-            | Op::ULessThan
-            | Op::SLessThan
-            | Op::ULessThanEqual
-            | Op::SLessThanEqual => OperationKind::Plain,
-            Op::ShiftRightLogical
-            | Op::ShiftRightArithmetic
-            | Op::ShiftLeftLogical
-            | Op::BitwiseOr
-            | Op::BitwiseXor
-            | Op::BitwiseAnd
-            | Op::Not
-            | Op::BitFieldInsert
-            | Op::BitFieldSExtract
-            | Op::BitFieldUExtract
-            | Op::BitReverse
-            | Op::BitCount => OperationKind::Plain,
-            _ => OperationKind::Other,
+        match op.group() {
+            OpGroup::Undef => OperationKind::Undef,
+            OpGroup::CopyObject => OperationKind::CopyObject,
+            OpGroup::ArrayLength => OperationKind::ArrayLength,
+            OpGroup::CompositeExtract => OperationKind::CompositeExtract,
+            OpGroup::CompositeConstruct => OperationKind::CompositeConstruct,
+            OpGroup::CopyLogical => OperationKind::CopyLogical,
+            OpGroup::Extended => OperationKind::Extended,
+            OpGroup::VectorExtractDynamic
+            | OpGroup::VectorShuffle
+            | OpGroup::Bitcast
+            | OpGroup::Arithmetic
+            | OpGroup::Comparison
+            | OpGroup::Logical
+            | OpGroup::AnyOrAll
+            | OpGroup::Select
+            | OpGroup::BitFieldInsert
+            | OpGroup::BitFieldExtract
+            | OpGroup::BitOperation => OperationKind::Plain,
+            OpGroup::Debug
+            | OpGroup::Head
+            | OpGroup::Type
+            | OpGroup::Truth
+            | OpGroup::Number
+            | OpGroup::Composite
+            | OpGroup::AnyConstant => OperationKind::Other,
+            OpGroup::VectorInsertDynamic
+            | OpGroup::CompositeInsert
+            | OpGroup::Function
+            | OpGroup::Variable
+            | OpGroup::Load
+            | OpGroup::Store
+            | OpGroup::Chain
+            | OpGroup::Atomic(_)
+            | OpGroup::ControlBarrier
+            | OpGroup::MemoryBarrier
+            | OpGroup::Call
+            | OpGroup::Phi
+            | OpGroup::Merge
+            | OpGroup::Terminator(_) => OperationKind::Other,
         }
     }
 }

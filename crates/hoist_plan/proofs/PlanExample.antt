@@ -3,6 +3,7 @@ use Rattle.std.specs.Prelude.{ℕ, zero, suc, ◌+◌, ◌≡◌, true, false, L
 use Rattle.spv_ops.specs.Enumerants.{class_number}
 use Rattle.spv_ops.specs.declared.StorageClass.TheVariants as storage
 use Rattle.spv_ops.specs.Opcode.{number}
+use Rattle.spv_ops.specs.OpGroups.{group_of, takes_of}
 use Rattle.spv_ops.specs.declared.Op.{Op}
 use Rattle.spv_ops.specs.declared.Op.TheVariants as code
 use Rattle.spv_ops.specs.Shape.{shape}
@@ -52,7 +53,7 @@ unfolding two_blocks planned_of globals block inst link number shape
 forms_two_blocks = refl
 
 carried_two_blocks : map (is_carried two_blocks) (25 ∷ 26 ∷ 5 ∷ []) ≡ true ∷ false ∷ false ∷ []
-unfolding two_blocks planned_of globals block inst link number graph nodes reach reached grown
+unfolding two_blocks planned_of globals block inst link number group_of takes_of graph nodes reach reached grown
 carried_two_blocks = refl
 
 -- a loop over itself: a value comes to its phi from its own block
@@ -106,5 +107,5 @@ apart = planned_of (
     ) (link 0 2 0 0 51 ∷ [])
 
 carried_apart : map (is_carried apart) (50 ∷ 51 ∷ 5 ∷ []) ≡ true ∷ true ∷ false ∷ []
-unfolding apart planned_of globals block inst link number graph nodes reach reached grown
+unfolding apart planned_of globals block inst link number group_of takes_of graph nodes reach reached grown
 carried_apart = refl

@@ -18,7 +18,7 @@ use Rattle.op_semantics.specs.Value.{operation, operation_of}
 use Rattle.layout_rules.specs.Sizes.{aligned}
 use Rattle.profile_rules.specs.Constants.{constant_kind}
 use Rattle.profile_rules.specs.Operands.{need}
-use Rattle.profile_rules.specs.TypeRules.{group_of}
+use Rattle.spv_ops.specs.OpGroups.{group_of, takes_of}
 use Rattle.glsl_grammar.specs.Lex.{is_white, is_digit, is_word, name_token, sign_token, ended, is_sign, lengthens, begun, lex, after_version, glsl_tokens, number_parts, fitting, hex_token}
 use Rattle.glsl_grammar.specs.Read.{tree_of_tokens}
 use Rattle.glsl_grammar.specs.Reading.{glsl_read}
@@ -28,7 +28,7 @@ use Rattle.module_semantics.specs.Run.{start}
 use Rattle.glsl_semantics.specs.Items.{declared_by}
 
 unfoldable pub module_opened : Unit {0}
-unfolding shape op_of number known is_id inner_of kind_of_opcode kind_of_op key_of kind below operation operation_of constant_kind need group_of ones_in count_leading_zeros count_trailing_zeros reverse_bits_onto operation_step chain_step length_step variable_step load_step store_step atomic_step memory_barrier_step control_barrier_step entered call_step return_step return_value_step edge_step branch_step step_kind act start
+unfolding shape op_of number known is_id inner_of kind_of_opcode kind_of_op key_of kind below operation operation_of constant_kind need group_of takes_of ones_in count_leading_zeros count_trailing_zeros reverse_bits_onto operation_step chain_step length_step variable_step load_step store_step atomic_step memory_barrier_step control_barrier_step entered call_step return_step return_value_step edge_step branch_step step_kind act start
 module_opened = tt
 
 unfoldable pub text_opened : Unit {0}

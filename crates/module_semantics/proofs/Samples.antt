@@ -20,14 +20,14 @@ use Rattle.spv_types.specs.Types.{kind, below}
 use Rattle.op_semantics.specs.Value.{operation, operation_of}
 use Rattle.profile_rules.specs.Constants.{constant_kind}
 use Rattle.profile_rules.specs.Operands.{need}
-use Rattle.profile_rules.specs.TypeRules.{group_of}
+use Rattle.spv_ops.specs.OpGroups.{group_of, takes_of}
 use Rattle.traces.specs.Invocations.{Invocation}
 use Rattle.traces.specs.Runs.{Run}
 use Rattle.module_semantics.specs.Steps.{operation_step, chain_step, length_step, variable_step, load_step, store_step, atomic_step, memory_barrier_step, control_barrier_step, entered, call_step, return_step, return_value_step, edge_step, branch_step, step_kind, act}
 use Rattle.module_semantics.specs.Run.{start, module_run}
 
 unfoldable pub opened : Unit {0}
-unfolding shape op_of number known is_id inner_of kind_of_opcode kind_of_op key_of kind below operation operation_of constant_kind need group_of ones_in count_leading_zeros count_trailing_zeros reverse_bits_onto operation_step chain_step length_step variable_step load_step store_step atomic_step memory_barrier_step control_barrier_step entered call_step return_step return_value_step edge_step branch_step step_kind act start
+unfolding shape op_of number known is_id inner_of kind_of_opcode kind_of_op key_of kind below operation operation_of constant_kind need group_of takes_of ones_in count_leading_zeros count_trailing_zeros reverse_bits_onto operation_step chain_step length_step variable_step load_step store_step atomic_step memory_barrier_step control_barrier_step entered call_step return_step return_value_step edge_step branch_step step_kind act start
 opened = tt
 
 -- an instruction, by its opcode, its type, its result and its other operand words

@@ -5,7 +5,7 @@ use Rattle.spv_ops.specs.declared.Op.TheVariants as code
 use Rattle.spv_module.specs.declared.inst.Inst.{Inst}
 use Rattle.spv_types.specs.Tree.{ValueTree, truth, word}
 use Rattle.op_semantics.specs.Component.{each_one}
-use Rattle.profile_rules.specs.Constants.{inner_operands, inner_literals}
+use Rattle.spv_ops.specs.Operands.{operands, ids_among, literals_among}
 use Rattle.module_semantics.specs.Setting.{Setting, global_variable}
 use Rattle.module_semantics.specs.State.{Root, global, Held, value, pointer, Frame}
 
@@ -56,13 +56,11 @@ arg i k = slice_index i.args k
 -- of the operand words of an operation, those that are ids of values, and those that are literals (SPIR-V 1.6, section "Instructions")
 abbrev pub value_operands : Op → List ℕ → List ℕ
 value_operands code.ExtInst args = drop 2 args
-value_operands code.CompositeInsert args = take 2 args
-value_operands o args = inner_operands o args
+value_operands o args = ids_among (operands o) args
 
 abbrev pub literal_operands : Op → List ℕ → List ℕ
 literal_operands code.ExtInst args = take 1 (drop 1 args)
-literal_operands code.CompositeInsert args = drop 2 args
-literal_operands o args = inner_literals o args
+literal_operands o args = literals_among (operands o) args
 
 -- the values of operands, where each has one
 abbrev pub values_at : Setting → Frame → List ℕ → Option (List ValueTree)

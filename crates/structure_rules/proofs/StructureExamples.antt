@@ -3,6 +3,7 @@ use Rattle.std.proofs.Common.{◌≡◌, ℕ, true, false, List, [], ◌∷◌, 
 use Rattle.std.specs.List.{range_with_len}
 use Rattle.spv_words.specs.declared.rule.Rule.TheVariants.{K1, K2, K3, K4, K5, K6, K7, K8, K9, K10, K11}
 use Rattle.spv_ops.specs.Opcode.{number}
+use Rattle.spv_ops.specs.OpGroups.{group_of}
 use Rattle.spv_ops.specs.declared.Op.{Op}
 use Rattle.spv_ops.specs.declared.Op.TheVariants as code
 use Rattle.spv_module.specs.declared.inst.Inst.{Inst}
@@ -59,23 +60,23 @@ selection_graph : graph selection ≡ (
     record { at = 107; merge = Selection 2; merge_at = 109; exit = Conditional; exit_at = 112; targets = 1 ∷ 2 ∷ []; reached = true } ∷
     record { at = 116; merge = Absent; merge_at = 0; exit = Branch; exit_at = 118; targets = 2 ∷ []; reached = true } ∷
     record { at = 120; merge = Absent; merge_at = 0; exit = Leave; exit_at = 122; targets = []; reached = true } ∷ [])
-unfolding inst number graph nodes reach reached grown
+unfolding inst number group_of graph nodes reach reached grown
 selection_graph = refl
 
 selection_roles : roles (graph selection) ≡ role_.First ∷ role_.Inside 0 ∷ role_.Merge 0 ∷ []
-unfolding inst number graph nodes reach reached grown name_links case_links entry_links role
+unfolding inst number group_of graph nodes reach reached grown name_links case_links entry_links role
 selection_roles = refl
 
 selection_places : places (graph selection) ≡ [] ∷ (If 0 ∷ []) ∷ [] ∷ []
-unfolding inst number graph nodes reach reached grown name_links case_links entry_links role outward
+unfolding inst number group_of graph nodes reach reached grown name_links case_links entry_links role outward
 selection_places = refl
 
 selection_nesting : nestings (graph selection) ≡ 0 ∷ 1 ∷ 0 ∷ []
-unfolding inst number graph nodes reach reached grown name_links case_links entry_links role outward
+unfolding inst number group_of graph nodes reach reached grown name_links case_links entry_links role outward
 selection_nesting = refl
 
 selection_kinds : kinds (graph selection) ≡ ((kind.Enter ∷ []) ∷ (kind.Merge ∷ []) ∷ []) ∷ ((kind.Merge ∷ []) ∷ []) ∷ [] ∷ []
-unfolding inst number graph nodes reach reached grown name_links case_links entry_links role outward
+unfolding inst number group_of graph nodes reach reached grown name_links case_links entry_links role outward
 selection_kinds = refl
 
 -- a conditional whose branches meet in a block that is no merge block: that block has two parents
@@ -88,7 +89,7 @@ two_parents = function (
     block 30 128 (inst code.Return 130 [] ∷ []) ∷ [])
 
 two_parents_refused : BrokenIn (graph two_parents) K4 124
-unfolding inst number graph nodes reach reached grown name_links case_links entry_links role outward
+unfolding inst number group_of graph nodes reach reached grown name_links case_links entry_links role outward
 two_parents_refused = (3, lit< tt, refl, ((λ e. cc), (λ p only. let one : 1 ≡ p = only.1 1 refl in let two : 2 ≡ p = only.1 2 refl in let same : 1 ≡ 2 = one ∙ sym two in cc), refl))
 
 -- a block inside the inner selection goes to the merge block of the outer one
@@ -101,7 +102,7 @@ jump_out = function (
     block 30 133 (inst code.Return 135 [] ∷ []) ∷ [])
 
 jump_out_refused : BrokenIn (graph jump_out) K7 127
-unfolding inst number graph nodes reach reached grown name_links case_links entry_links role outward
+unfolding inst number group_of graph nodes reach reached grown name_links case_links entry_links role outward
 jump_out_refused = (2, lit< tt, refl, (refl, refl))
 
 -- a loop with a header, a test, a body and a continue target
@@ -115,17 +116,17 @@ for_loop = function (
     block 35 133 (inst code.Return 135 [] ∷ []) ∷ [])
 
 for_loop_places : places (graph for_loop) ≡ [] ∷ [] ∷ (Loop 1 ∷ []) ∷ (Loop 1 ∷ []) ∷ (Cont 1 ∷ []) ∷ [] ∷ []
-unfolding inst number graph nodes reach reached grown name_links case_links entry_links role outward
+unfolding inst number group_of graph nodes reach reached grown name_links case_links entry_links role outward
 for_loop_places = refl
 
 for_loop_nesting : nestings (graph for_loop) ≡ 0 ∷ 0 ∷ 1 ∷ 2 ∷ 1 ∷ 0 ∷ []
-unfolding inst number graph nodes reach reached grown name_links case_links entry_links role outward
+unfolding inst number group_of graph nodes reach reached grown name_links case_links entry_links role outward
 for_loop_nesting = refl
 
 for_loop_kinds : kinds (graph for_loop) ≡
     ((kind.Enter ∷ []) ∷ []) ∷ ((kind.Enter ∷ []) ∷ []) ∷ ((kind.Enter ∷ []) ∷ (kind.Break ∷ []) ∷ []) ∷
     ((kind.Continue ∷ []) ∷ []) ∷ ((kind.Back ∷ []) ∷ []) ∷ [] ∷ []
-unfolding inst number graph nodes reach reached grown name_links case_links entry_links role outward
+unfolding inst number group_of graph nodes reach reached grown name_links case_links entry_links role outward
 for_loop_kinds = refl
 
 -- the continue target goes into the body, or leaves the loop
@@ -139,11 +140,11 @@ continued label = function (
     block 35 133 (inst code.Return 135 [] ∷ []) ∷ [])
 
 continued_refused : BrokenIn (graph (continued 33)) K7 131
-unfolding inst number graph nodes reach reached grown name_links case_links entry_links role outward
+unfolding inst number group_of graph nodes reach reached grown name_links case_links entry_links role outward
 continued_refused = (4, lit< tt, refl, (refl, refl))
 
 continued_breaks : kinds_of (graph (continued 35)) 4 ≡ (kind.Break ∷ []) ∷ []
-unfolding inst number graph nodes reach reached grown name_links case_links entry_links role outward
+unfolding inst number group_of graph nodes reach reached grown name_links case_links entry_links role outward
 continued_breaks = refl
 
 -- a loop of one block, which is its own continue target
@@ -154,11 +155,11 @@ one_block = function (
     block 35 132 (inst code.Return 134 [] ∷ []) ∷ [])
 
 one_block_roles : roles (graph one_block) ≡ role_.First ∷ role_.Inside 0 ∷ role_.Merge 1 ∷ []
-unfolding inst number graph nodes reach reached grown name_links case_links entry_links role outward
+unfolding inst number group_of graph nodes reach reached grown name_links case_links entry_links role outward
 one_block_roles = refl
 
 one_block_kinds : kinds (graph one_block) ≡ ((kind.Enter ∷ []) ∷ []) ∷ ((kind.Back ∷ []) ∷ (kind.Break ∷ []) ∷ []) ∷ [] ∷ []
-unfolding inst number graph nodes reach reached grown name_links case_links entry_links role outward
+unfolding inst number group_of graph nodes reach reached grown name_links case_links entry_links role outward
 one_block_kinds = refl
 
 -- a switch in a loop, one of whose cases falls into another: blocks 3 and 4 are the case targets
@@ -175,27 +176,27 @@ switch_in_loop = function (
 
 switch_in_loop_roles : roles (graph switch_in_loop) ≡
     role_.First ∷ role_.Inside 0 ∷ role_.Inside 1 ∷ role_.Case 2 ∷ role_.Case 2 ∷ role_.Merge 2 ∷ role_.Continue 1 ∷ role_.Merge 1 ∷ []
-unfolding inst number graph nodes reach reached grown name_links case_links entry_links role outward
+unfolding inst number group_of graph nodes reach reached grown name_links case_links entry_links role outward
 switch_in_loop_roles = refl
 
 switch_in_loop_places : places (graph switch_in_loop) ≡
     [] ∷ [] ∷ (Loop 1 ∷ []) ∷ (Case 2 3 ∷ Loop 1 ∷ []) ∷ (Case 2 4 ∷ Loop 1 ∷ []) ∷ (Loop 1 ∷ []) ∷ (Cont 1 ∷ []) ∷ [] ∷ []
-unfolding inst number graph nodes reach reached grown name_links case_links entry_links role outward
+unfolding inst number group_of graph nodes reach reached grown name_links case_links entry_links role outward
 switch_in_loop_places = refl
 
 switch_in_loop_nesting : nestings (graph switch_in_loop) ≡ 0 ∷ 0 ∷ 1 ∷ 2 ∷ 2 ∷ 1 ∷ 1 ∷ 0 ∷ []
-unfolding inst number graph nodes reach reached grown name_links case_links entry_links role outward
+unfolding inst number group_of graph nodes reach reached grown name_links case_links entry_links role outward
 switch_in_loop_nesting = refl
 
 switch_in_loop_kinds : kinds (graph switch_in_loop) ≡
     ((kind.Enter ∷ []) ∷ []) ∷ ((kind.Enter ∷ []) ∷ []) ∷
     ((kind.SwitchBreak ∷ []) ∷ (kind.Enter ∷ []) ∷ (kind.Enter ∷ []) ∷ (kind.Break ∷ []) ∷ (kind.Continue ∷ []) ∷ []) ∷
     ((kind.Fall ∷ []) ∷ []) ∷ ((kind.SwitchBreak ∷ []) ∷ []) ∷ ((kind.Continue ∷ []) ∷ []) ∷ ((kind.Back ∷ []) ∷ []) ∷ [] ∷ []
-unfolding inst number graph nodes reach reached grown name_links case_links entry_links role outward
+unfolding inst number group_of graph nodes reach reached grown name_links case_links entry_links role outward
 switch_in_loop_kinds = refl
 
 switch_in_loop_falls : fall_links (graph switch_in_loop) ≡ (3, 4) ∷ []
-unfolding inst number graph nodes reach reached grown name_links case_links entry_links role outward fall_links
+unfolding inst number group_of graph nodes reach reached grown name_links case_links entry_links role outward fall_links
 switch_in_loop_falls = refl
 
 -- the targets of a conditional are the same
@@ -206,7 +207,7 @@ same_targets = function (
     block 30 120 (inst code.Return 122 [] ∷ []) ∷ [])
 
 same_targets_refused : BrokenIn (graph same_targets) K6 112
-unfolding inst number graph nodes reach reached grown
+unfolding inst number group_of graph nodes reach reached grown
 same_targets_refused = (0, lit< tt, refl, (refl, refl))
 
 -- a conditional without a merge block enters a block by each edge
@@ -217,7 +218,7 @@ two_enters = function (
     block 25 116 (inst code.Return 118 [] ∷ []) ∷ [])
 
 two_enters_refused : BrokenIn (graph two_enters) K8 109
-unfolding inst number graph nodes reach reached grown name_links case_links entry_links role outward
+unfolding inst number group_of graph nodes reach reached grown name_links case_links entry_links role outward
 two_enters_refused = (0, lit< tt, refl, (refl, refl))
 
 -- a loop header names itself as its merge block
@@ -228,7 +229,7 @@ own_merge = function (
     block 34 119 (inst code.Branch 121 (31 ∷ []) ∷ []) ∷ [])
 
 own_merge_refused : BrokenIn (graph own_merge) K3 113
-unfolding inst number graph nodes reach reached grown name_links
+unfolding inst number group_of graph nodes reach reached grown name_links
 own_merge_refused = (1, lit< tt, refl, (refl, refl))
 
 -- two cases fall into each other
@@ -240,15 +241,15 @@ fall_cycle = function (
     block 30 127 (inst code.Return 129 [] ∷ []) ∷ [])
 
 fall_cycle_links : fall_links (graph fall_cycle) ≡ (1, 2) ∷ (2, 1) ∷ []
-unfolding inst number graph nodes reach reached grown name_links case_links entry_links role outward fall_links
+unfolding inst number group_of graph nodes reach reached grown name_links case_links entry_links role outward fall_links
 fall_cycle_links = refl
 
 fall_cycle_refused : BrokenIn (graph fall_cycle) K11 121
-unfolding inst number graph nodes reach reached grown name_links case_links entry_links role outward fall_links after_falls
+unfolding inst number group_of graph nodes reach reached grown name_links case_links entry_links role outward fall_links after_falls
 fall_cycle_refused = (1, lit< tt, refl, ((2, 1, refl, refl, (1, lit< tt, refl)), refl))
 
 fall_cycle_refused_too : BrokenIn (graph fall_cycle) K11 125
-unfolding inst number graph nodes reach reached grown name_links case_links entry_links role outward fall_links after_falls
+unfolding inst number group_of graph nodes reach reached grown name_links case_links entry_links role outward fall_links after_falls
 fall_cycle_refused_too = (2, lit< tt, refl, ((1, 2, refl, refl, (1, lit< tt, refl)), refl))
 
 -- a block that is not reached, and what it names, does not count
@@ -258,11 +259,11 @@ unreached = function (
     block 24 110 (inst code.SelectionMerge 112 (16 ∷ 0 ∷ []) ∷ inst code.Branch 115 (16 ∷ []) ∷ []) ∷ [])
 
 unreached_marks : reached (nodes unreached) ≡ true ∷ false ∷ []
-unfolding inst number nodes reach reached grown
+unfolding inst number group_of nodes reach reached grown
 unreached_marks = refl
 
 unreached_roles : roles (graph unreached) ≡ role_.First ∷ role_.First ∷ []
-unfolding inst number graph nodes reach reached grown name_links case_links entry_links role
+unfolding inst number group_of graph nodes reach reached grown name_links case_links entry_links role
 unreached_roles = refl
 
 -- OpSelectionMerge before OpBranch
@@ -272,7 +273,7 @@ merge_before_branch = function (
     block 30 114 (inst code.Return 116 [] ∷ []) ∷ [])
 
 merge_before_branch_refused : BrokenIn (graph merge_before_branch) K1 109
-unfolding inst number graph nodes reach reached grown
+unfolding inst number group_of graph nodes reach reached grown
 merge_before_branch_refused = (0, lit< tt, refl, inl (refl, refl))
 
 -- OpSwitch without OpSelectionMerge
@@ -282,7 +283,7 @@ switch_without_merge = function (
     block 30 112 (inst code.Return 114 [] ∷ []) ∷ [])
 
 switch_without_merge_refused : BrokenIn (graph switch_without_merge) K1 109
-unfolding inst number graph nodes reach reached grown
+unfolding inst number group_of graph nodes reach reached grown
 switch_without_merge_refused = (0, lit< tt, refl, inr (refl, refl))
 
 -- a branch to the first block
@@ -292,7 +293,7 @@ to_the_first = function (
     block 24 111 (inst code.Branch 113 (16 ∷ []) ∷ []) ∷ [])
 
 to_the_first_refused : BrokenIn (graph to_the_first) K2 113
-unfolding inst number graph nodes reach reached grown
+unfolding inst number group_of graph nodes reach reached grown
 to_the_first_refused = (1, lit< tt, refl, inl (refl, refl))
 
 -- a merge block that stands before its header
@@ -304,7 +305,7 @@ merge_before_header = function (
     block 24 123 (inst code.Branch 125 (30 ∷ []) ∷ []) ∷ [])
 
 merge_before_header_refused : BrokenIn (graph merge_before_header) K5 111
-unfolding inst number graph nodes reach reached grown name_links case_links entry_links role
+unfolding inst number group_of graph nodes reach reached grown name_links case_links entry_links role
 merge_before_header_refused = (1, lit< tt, refl, ((2, refl, lit≤ tt), refl))
 
 -- one case falls into two
@@ -317,7 +318,7 @@ falls_into_two = function (
     block 30 135 (inst code.Return 137 [] ∷ []) ∷ [])
 
 falls_into_two_refused : BrokenIn (graph falls_into_two) K9 121
-unfolding inst number graph nodes reach reached grown name_links case_links entry_links role outward fall_links
+unfolding inst number group_of graph nodes reach reached grown name_links case_links entry_links role outward fall_links
 falls_into_two_refused = (1, 2, 3, refl, refl, (λ e. cc), refl)
 
 -- two cases fall into one
@@ -330,5 +331,5 @@ two_fall = function (
     block 30 133 (inst code.Return 135 [] ∷ []) ∷ [])
 
 two_fall_refused : BrokenIn (graph two_fall) K10 129
-unfolding inst number graph nodes reach reached grown name_links case_links entry_links role outward fall_links
+unfolding inst number group_of graph nodes reach reached grown name_links case_links entry_links role outward fall_links
 two_fall_refused = (3, 1, 2, refl, refl, (λ e. cc), refl)

@@ -4,6 +4,11 @@ use Rattle.std.specs.Option.{option_map_or}
 use Rattle.std.specs.List.{list_any, zip, range_with_len}
 use Rattle.spv_ops.specs.Groups.{is_merge, is_terminator}
 use Rattle.spv_ops.specs.Opcode.{is}
+use Rattle.spv_ops.specs.OpGroups.{group_of}
+use Rattle.spv_ops.specs.declared.OpGroup.{OpGroup}
+use Rattle.spv_ops.specs.declared.OpGroup.TheVariants.{Terminator as ending}
+use Rattle.spv_ops.specs.declared.Terminator.{Terminator}
+use Rattle.spv_ops.specs.declared.Terminator.TheVariants as ends
 use Rattle.spv_ops.specs.declared.Op.{Op}
 use Rattle.spv_ops.specs.declared.Op.TheVariants as code
 use Rattle.spv_module.specs.declared.inst.Inst.{Inst}
@@ -38,11 +43,21 @@ seconds (w ∷ []) = []
 seconds (w ∷ label ∷ ws) = label ∷ seconds ws
 
 -- the kind of a terminator: what leads to no block leaves the function
+abbrev pub exit_at_end : Terminator → Exit
+exit_at_end ends.Branch = Branch
+exit_at_end ends.BranchConditional = Conditional
+exit_at_end ends.Switch = Switch
+exit_at_end ends.Return = Leave
+exit_at_end ends.ReturnValue = Leave
+exit_at_end ends.Unreachable = Leave
+
+-- what is no terminator leads nowhere
+abbrev pub exit_in : OpGroup → Exit
+exit_in (ending end) = exit_at_end end
+exit_in _ = Leave
+
 abbrev pub exit_of : Op → Exit
-exit_of code.Branch = Branch
-exit_of code.BranchConditional = Conditional
-exit_of code.Switch = Switch
-exit_of _ = Leave
+exit_of o = exit_in (group_of o)
 
 abbrev pub exit_by : Option Inst → Exit
 exit_by None = Leave

@@ -97,22 +97,14 @@ fn behind_opcode(inst: &Inst) -> &[u32]
 fn inner_operands(op: Op, words: &[u32]) -> &[u32]
     ensures { result.now ≡ inner_operands_of op words.now }
 {
-    match op {
-        Op::VectorShuffle => &words[..words.len().min(2)],
-        Op::CompositeExtract => &words[..words.len().min(1)],
-        _ => words,
-    }
+    op.operands().ids(words)
 }
 
 /// Those that are literals.
 fn inner_literals(op: Op, words: &[u32]) -> &[u32]
     ensures { result.now ≡ inner_literals_of op words.now }
 {
-    match op {
-        Op::VectorShuffle => words.get(2..).unwrap_or(&[]),
-        Op::CompositeExtract => words.get(1..).unwrap_or(&[]),
-        _ => &[],
-    }
+    op.operands().literals(words)
 }
 
 /// The expression of the operation with an opcode, from those of its operands.

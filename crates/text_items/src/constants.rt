@@ -15,8 +15,8 @@ use crate::shapes::shape_at;
 use constant_text::{Readings, name};
 use glsl_ast::{Decl, Expr, Field, Literal, TypeName};
 use name_alloc::{Key, Names};
+use profile_rules::ConstantKind;
 use spv_module::{Id, Inst};
-use spv_ops::Op;
 use spv_words::Memory;
 use std::alloc::Global;
 
@@ -94,17 +94,21 @@ fn composite(alloc: Global, readings: &Readings, names: &Names, inst: &Inst) -> 
 }
 
 /// What a constant is declared with.
-#[tactic(auto, unfolding(profile_rules::specs::Constants::constant_kind), using(glsl_ast::proofs::Views::expr_rows))]
+#[tactic(auto, using(glsl_ast::proofs::Views::expr_rows))]
 fn value(alloc: Global, readings: &Readings, names: &Names, inst: &Inst) -> Result<Expr, Memory>
     ensures { IfOk result (λ e. expr_of e ≡ value_by readings.now (item_names readings.now names.now) inst.now (constant_kind inst.now.op)) }
 {
-    match inst.op {
-        Op::ConstantComposite | Op::SpecConstantComposite => {
-            composite(alloc, readings, names, inst)
-        }
-        Op::ConstantNull | Op::Undef => zero_at(alloc, readings, names, inst.ty),
-        Op::SpecConstantOp => calculated(alloc, readings, names, inst),
-        _ => Ok(Expr::Literal(readings.literal(inst))),
+    match ConstantKind::of(inst.op) {
+        ConstantKind::Composite => composite(alloc, readings, names, inst),
+        ConstantKind::Zero => zero_at(alloc, readings, names, inst.ty),
+        ConstantKind::Operation => calculated(alloc, readings, names, inst),
+        ConstantKind::True
+        | ConstantKind::False
+        | ConstantKind::Word
+        | ConstantKind::SpecTrue
+        | ConstantKind::SpecFalse
+        | ConstantKind::SpecWord
+        | ConstantKind::Other => Ok(Expr::Literal(readings.literal(inst))),
     }
 }
 

@@ -5,14 +5,16 @@ use Rattle.std.specs.List.{list_any, enumerate_from}
 use Rattle.std.proofs.Math.Seq.{take-nil}
 use Rattle.std.proofs.lemmas.Bool.Decides.{nat_tests}
 use Rattle.spv_ops.specs.declared.Op.{Op}
-use Rattle.spv_ops.specs.declared.Op.TheVariants as code
+use Rattle.spv_ops.specs.OpGroups.{takes_of}
+use Rattle.spv_ops.specs.declared.Takes.{Takes}
+use Rattle.spv_ops.specs.declared.Takes.TheVariants.{Values, Types, TypeAndConstants, Constants, Labels, ValueAndLabels, ValuesWithLabels, ImportAndValues, FunctionAndValues}
 use Rattle.spv_ops.specs.Operands.{is_id}
 use Rattle.spv_ops.specs.declared.operands.IdWords.TheVariants.{Range, OneAndFrom}
 use Rattle.spv_module.specs.declared.inst.Inst.{Inst}
-use Rattle.profile_rules.specs.declared.groups.Need.{Need}
-use Rattle.profile_rules.specs.declared.groups.Need.TheVariants.{PhiValue, Label}
-use Rattle.profile_rules.specs.Operands.{need, first_or, lacks_operand}
-use Rattle.type_rules.specs.Needed.{AreNeeds, AreBelow, needs_of, lacks_of}
+use Rattle.profile_rules.specs.declared.needs.Need.{Need}
+use Rattle.profile_rules.specs.declared.needs.Need.TheVariants.{AnyType, Constant, Value, PhiValue, Label}
+use Rattle.profile_rules.specs.Operands.{need, need_by, first_or, lacks_operand}
+use Rattle.type_rules.specs.Needed.{AreNeeds, AreBelow, needs_by, needs_of, lacks_of}
 
 pub in_any_order : (r g p : Bool) → (r || (g || p)) ≡ (g || (p || r))
 in_any_order true true p = refl
@@ -35,19 +37,21 @@ none_suits (Some x) = refl
 same_need : (n : Need) (k : ℕ) → n ≡ first_or k n n
 same_need n k = elim (k == 0) as (λ b. n ≡ (if b then n else n)) [ true ↦ refl | false ↦ refl ]
 
--- what the table says of an opcode, and where it says nothing
-of_table : (o : Op) → IfSome (needs_of o) (AreNeeds o)
-unfolding needs_of need
-of_table code.Phi = tt
-of_table code.ExtInst = record { each = λ k. refl }
-of_table code.TypeArray = record { each = λ k. refl }
-of_table code.FunctionCall = record { each = λ k. refl }
-of_table code.BranchConditional = record { each = λ k. refl }
-of_table code.Switch = record { each = λ k. refl }
-of_table o = record { each = λ k. same_need _ k }
+-- what the table says, and where it says nothing
+of_takes : (t : Takes) → IfSome (needs_by t) (λ needs. (k : ℕ) → need_by t k ≡ first_or k needs.0 needs.1)
+of_takes ValuesWithLabels = tt
+of_takes TypeAndConstants = λ k. refl
+of_takes ValueAndLabels = λ k. refl
+of_takes ImportAndValues = λ k. refl
+of_takes FunctionAndValues = λ k. refl
+of_takes Values = λ k. same_need Value k
+of_takes Types = λ k. same_need AnyType k
+of_takes Constants = λ k. same_need Constant k
+of_takes Labels = λ k. same_need Label k
 
 pub needs_are : (o : Op) (needs : Need × Need) → needs_of o ≡ Some needs → AreNeeds o needs
-needs_are o needs is = let P : Option (Need × Need) → Type 0 = λ x. IfSome x (AreNeeds o) in subst P is (of_table o)
+unfolding needs_of need
+needs_are o needs is = let P : Option (Need × Need) → Type 0 = λ x. IfSome x (λ needs. (k : ℕ) → need o k ≡ first_or k needs.0 needs.1) in record { each = subst P is (of_takes (takes_of o)) }
 
 pub need_first : (o : Op) (k : ℕ) (needs : Need × Need) → needs_of o ≡ Some needs → k ≡ 0 → needs.0 ≡ need o k
 need_first o k needs is first = sym ((needs_are o needs is).each k ∙ ap (λ n. first_or n needs.0 needs.1) first)
@@ -55,10 +59,13 @@ need_first o k needs is first = sym ((needs_are o needs is).each k ∙ ap (λ n.
 pub need_other : (o : Op) (k : ℕ) (needs : Need × Need) → needs_of o ≡ Some needs → (k == 0) ≡ false → needs.1 ≡ need o k
 need_other o k needs is other = sym ((needs_are o needs is).each k ∙ ap (λ b. if b then needs.0 else needs.1) other)
 
+alternates : (t : Takes) (k : ℕ) → needs_by t ≡ None → need_by t k ≡ (if k % 2 == 0 then PhiValue else Label)
+alternates ValuesWithLabels k none = refl
+alternates t k none = cc
+
 pub need_alternates : (o : Op) (k : ℕ) → needs_of o ≡ None → need o k ≡ (if k % 2 == 0 then PhiValue else Label)
 unfolding needs_of need
-need_alternates code.Phi k none = refl
-need_alternates o k none = cc
+need_alternates o k none = alternates (takes_of o) k none
 
 pub range_below : (many n : ℕ) → AreBelow (Range 0 n) many n
 range_below many n = record { all = λ k inside. grind (arith, nat_tests) }

@@ -2,34 +2,29 @@
 use Rattle.std.specs.Prelude.{ℕ, ◌≡◌, ◌<◌, ◌||◌, not, nat_lt, Bool, false, List, [], ◌∷◌, Option, Some, None}
 use Rattle.std.specs.List.{list_any}
 use Rattle.spv_ops.specs.declared.Op.{Op}
-use Rattle.spv_ops.specs.declared.Op.TheVariants as code
+use Rattle.spv_ops.specs.OpGroups.{takes_of}
+use Rattle.spv_ops.specs.declared.Takes.{Takes}
+use Rattle.spv_ops.specs.declared.Takes.TheVariants.{Values, Types, TypeAndConstants, Constants, Labels, ValueAndLabels, ValuesWithLabels, ImportAndValues, FunctionAndValues}
 use Rattle.spv_ops.specs.Operands.{has_id}
 use Rattle.spv_ops.specs.declared.operands.IdWords.{IdWords}
-use Rattle.profile_rules.specs.declared.groups.Need.{Need}
-use Rattle.profile_rules.specs.declared.groups.Need.TheVariants.{AnyType, Constant, Value, Label, Callee, Import}
+use Rattle.profile_rules.specs.declared.needs.Need.{Need}
+use Rattle.profile_rules.specs.declared.needs.Need.TheVariants.{AnyType, Constant, Value, Label, Callee, Import}
 use Rattle.profile_rules.specs.Operands.{need, first_or}
 
--- what the first operand of the opcode has to be, and what the others; of OpPhi values and labels alternate
+-- what the first operand has to be, and what the others; of OpPhi values and labels alternate
+abbrev pub needs_by : Takes → Option (Need × Need)
+needs_by Values = Some (Value, Value)
+needs_by Types = Some (AnyType, AnyType)
+needs_by TypeAndConstants = Some (AnyType, Constant)
+needs_by Constants = Some (Constant, Constant)
+needs_by Labels = Some (Label, Label)
+needs_by ValueAndLabels = Some (Value, Label)
+needs_by ValuesWithLabels = None
+needs_by ImportAndValues = Some (Import, Value)
+needs_by FunctionAndValues = Some (Callee, Value)
+
 unfoldable pub needs_of : Op → Option (Need × Need)
-needs_of code.Phi = None
-needs_of code.ExtInst = Some (Import, Value)
-needs_of code.TypeVector = Some (AnyType, AnyType)
-needs_of code.TypeArray = Some (AnyType, Constant)
-needs_of code.TypeRuntimeArray = Some (AnyType, AnyType)
-needs_of code.TypeStruct = Some (AnyType, AnyType)
-needs_of code.TypePointer = Some (AnyType, AnyType)
-needs_of code.TypeFunction = Some (AnyType, AnyType)
-needs_of code.ConstantComposite = Some (Constant, Constant)
-needs_of code.SpecConstantComposite = Some (Constant, Constant)
-needs_of code.SpecConstantOp = Some (Constant, Constant)
-needs_of code.FunctionCall = Some (Callee, Value)
-needs_of code.Variable = Some (Constant, Constant)
-needs_of code.LoopMerge = Some (Label, Label)
-needs_of code.SelectionMerge = Some (Label, Label)
-needs_of code.Branch = Some (Label, Label)
-needs_of code.BranchConditional = Some (Value, Label)
-needs_of code.Switch = Some (Value, Label)
-needs_of _ = Some (Value, Value)
+needs_of o = needs_by (takes_of o)
 
 -- the first operand of the opcode has to be the one, and the others the other
 pub record AreNeeds (o : Op) (needs : Need × Need) : Type 0 where

@@ -6,7 +6,7 @@ use Rattle.spv_module.specs.State.{ModuleState}
 use Rattle.spv_module.specs.declared.inst.Inst.{Inst}
 use Rattle.spv_module.specs.declared.inst.Function.{Function}
 use Rattle.spv_index.specs.Locals.{global_type, type_in}
-use Rattle.profile_rules.specs.declared.groups.Need.{Need}
+use Rattle.profile_rules.specs.declared.needs.Need.{Need}
 use Rattle.profile_rules.specs.Operands.{is_there, is_there_in}
 use Rattle.profile_rules.specs.TypeRows.{type_row, count_in}
 

@@ -10,16 +10,15 @@ ghost use Rattle.type_rules.specs.Scopes.{outside, inside};
 use crate::dispatch::{is_flow_broken, is_number_broken, is_value_broken, rule_of};
 use crate::edges::LazyEdges;
 use crate::flow::is_function_broken;
-use crate::groups::group_of;
 use crate::index::ModuleIndex;
 use crate::matching::Matching;
 use crate::numbers::behind;
 use crate::operands::{is_global, is_lacking};
 use crate::scope::Scope;
-use profile_rules::{Group, Need};
+use profile_rules::Need;
 use spv_index::Locals;
 use spv_module::{Args, Block, Function, Inst, Module};
-use spv_ops::Op;
+use spv_ops::{Op, OpGroup};
 use spv_types::check_limits;
 use spv_words::{Fault, Memory, Refusal, Rule};
 use std::alloc::{AllocError, Global};
@@ -40,7 +39,7 @@ fn is_broken_outside(
     matching: &mut Matching,
     scope: &Scope,
     inst: &Inst,
-    group: Group,
+    group: OpGroup,
 ) -> Result<bool, Memory>
     requires same_module { matching.old ≡ scope.now.m }
     requires scope { scope.now ≡ outside scope.now.m }
@@ -58,7 +57,7 @@ fn check_as(matching: &mut Matching, scope: &Scope, inst: &Inst, op: Op) -> Resu
     ensures refused { IfErr result (IsRefusedBy (broken_as scope.now.m inst.now op)) }
     ensures same { matching.new ≡ matching.old }
 {
-    let group = group_of(op);
+    let group = op.group();
     let is_broken = is_broken_outside(matching, scope, inst, group)?;
     refuse_if(is_broken, rule_of(group), inst.at)
 }
@@ -192,7 +191,7 @@ fn is_broken_in<'b>(
     edges: &mut LazyEdges<'b>,
     block: &Block,
     inst: &Inst,
-    group: Group,
+    group: OpGroup,
 ) -> Result<bool, Memory>
     requires same_module { matching.old ≡ scope.now.m }
     requires edges { edges.old ≡ locals.now }
@@ -230,7 +229,7 @@ fn check_local<'b>(
     ensures same_edges { edges.new ≡ edges.old }
 {
     refuse_if(is_lacking(scope, inst), Rule::T1, inst.at)?;
-    let group = group_of(inst.op);
+    let group = inst.op.group();
     let is_broken = is_broken_in(alloc, matching, scope, locals, edges, block, inst, group)?;
     refuse_if(is_broken, rule_of(group), inst.at)
 }

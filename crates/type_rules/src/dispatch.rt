@@ -1,7 +1,7 @@
 // Each instruction against the rule of its group.
 ghost use Rattle.std.specs.Prelude.{◌≡◌, true, IfOk, is_some};
 ghost use Rattle.spv_index.specs.Locals.{block_in};
-ghost use Rattle.profile_rules.specs.TypeRules.{rule_of as rule_in, is_value_broken as is_value_at_fault, is_number_broken as is_number_at_fault, is_flow_broken as is_flow_at_fault};
+ghost use Rattle.profile_rules.specs.TypeRules.{rule_of as rule_in, rule_at_end as rule_at_end_of, breaks_t25, is_end_broken as is_end_at_fault, is_value_broken as is_value_at_fault, is_number_broken as is_number_at_fault, is_flow_broken as is_flow_at_fault};
 ghost use Rattle.type_rules.specs.Scopes.{types, inside};
 
 use crate::atomics::{
@@ -27,47 +27,58 @@ use crate::parts::{is_extract_broken, is_insert_broken};
 use crate::scope::Scope;
 use crate::select::is_select_broken;
 use crate::vectors::{is_extract_dynamic_broken, is_insert_dynamic_broken, is_shuffle_broken};
-use profile_rules::Group;
 use spv_index::Locals;
-use spv_module::{Block, Inst};
+use spv_module::{Block, Function, Inst};
+use spv_ops::{AtomicOp, OpGroup, Terminator};
 use spv_words::{Memory, Rule};
 use std::alloc::Global;
 
+/// The rule of a terminator.
+fn rule_at_end(terminator: Terminator) -> Rule
+    ensures { result ≡ rule_at_end_of terminator }
+{
+    match terminator {
+        Terminator::BranchConditional | Terminator::Switch => Rule::T23,
+        Terminator::Return | Terminator::ReturnValue => Rule::T24,
+        Terminator::Branch | Terminator::Unreachable => Rule::T1,
+    }
+}
+
 /// The rule of a group.
-pub fn rule_of(group: Group) -> Rule
+pub fn rule_of(group: OpGroup) -> Rule
     ensures { result ≡ rule_in group }
 {
     match group {
-        Group::Truth | Group::Number | Group::Composite | Group::AnyConstant => Rule::T2,
-        Group::Undef | Group::CopyObject => Rule::T3,
-        Group::Load => Rule::T4,
-        Group::Store => Rule::T5,
-        Group::Chain => Rule::T6,
-        Group::ArrayLength => Rule::T7,
-        Group::VectorExtractDynamic | Group::VectorInsertDynamic => Rule::T8,
-        Group::VectorShuffle => Rule::T9,
-        Group::CompositeConstruct => Rule::T10,
-        Group::CompositeExtract | Group::CompositeInsert => Rule::T11,
-        Group::CopyLogical => Rule::T12,
-        Group::Arithmetic => Rule::T13,
-        Group::Comparison => Rule::T14,
-        Group::Logical => Rule::T15,
-        Group::AnyOrAll => Rule::T16,
-        Group::Select => Rule::T17,
-        Group::BitFieldInsert | Group::BitFieldExtract | Group::BitOperation => Rule::T18,
-        Group::Bitcast => Rule::T19,
-        Group::Extended => Rule::T20,
-        Group::AtomicLoad
-        | Group::AtomicStore
-        | Group::AtomicUpdate
-        | Group::AtomicCompareExchange
-        | Group::ControlBarrier
-        | Group::MemoryBarrier => Rule::T25,
-        Group::Call => Rule::T21,
-        Group::BranchConditional | Group::Switch => Rule::T23,
-        Group::Phi => Rule::T22,
-        Group::Return | Group::ReturnValue => Rule::T24,
-        Group::Other => Rule::T1,
+        OpGroup::Truth | OpGroup::Number | OpGroup::Composite | OpGroup::AnyConstant => Rule::T2,
+        OpGroup::Undef | OpGroup::CopyObject => Rule::T3,
+        OpGroup::Load => Rule::T4,
+        OpGroup::Store => Rule::T5,
+        OpGroup::Chain => Rule::T6,
+        OpGroup::ArrayLength => Rule::T7,
+        OpGroup::VectorExtractDynamic | OpGroup::VectorInsertDynamic => Rule::T8,
+        OpGroup::VectorShuffle => Rule::T9,
+        OpGroup::CompositeConstruct => Rule::T10,
+        OpGroup::CompositeExtract | OpGroup::CompositeInsert => Rule::T11,
+        OpGroup::CopyLogical => Rule::T12,
+        OpGroup::Arithmetic => Rule::T13,
+        OpGroup::Comparison => Rule::T14,
+        OpGroup::Logical => Rule::T15,
+        OpGroup::AnyOrAll => Rule::T16,
+        OpGroup::Select => Rule::T17,
+        OpGroup::BitFieldInsert | OpGroup::BitFieldExtract | OpGroup::BitOperation => Rule::T18,
+        OpGroup::Bitcast => Rule::T19,
+        OpGroup::Extended => Rule::T20,
+        OpGroup::Atomic(_) | OpGroup::ControlBarrier | OpGroup::MemoryBarrier => Rule::T25,
+        OpGroup::Call => Rule::T21,
+        OpGroup::Phi => Rule::T22,
+        OpGroup::Terminator(terminator) => rule_at_end(terminator),
+        // nothing is asked but that the operands are there
+        OpGroup::Debug
+        | OpGroup::Head
+        | OpGroup::Type
+        | OpGroup::Function
+        | OpGroup::Variable
+        | OpGroup::Merge => Rule::T1,
     }
 }
 
@@ -76,54 +87,94 @@ pub fn is_value_broken(
     matching: &mut Matching,
     scope: &Scope,
     inst: &Inst,
-    group: Group,
+    group: OpGroup,
 ) -> Result<bool, Memory>
     requires { matching.old ≡ scope.now.m }
     ensures value { IfOk result (λ b. b ≡ is_value_at_fault scope.now.m (types scope.now) inst.now group) }
     ensures same { matching.new ≡ matching.old }
 {
     match group {
-        Group::Truth => Ok(is_truth_broken(scope, inst)),
-        Group::Number => Ok(is_number_constant_broken(scope, inst)),
-        Group::Composite => Ok(is_composite_broken(scope, inst)),
-        Group::AnyConstant => Ok(is_constant_broken(scope, inst)),
-        Group::Undef => Ok(is_undef_broken(scope, inst)),
-        Group::CopyObject => Ok(is_copy_broken(scope, inst)),
-        Group::Load => Ok(is_load_broken(scope, inst)),
-        Group::Store => Ok(is_store_broken(scope, inst)),
-        Group::Chain => Ok(is_chain_broken(scope, inst)),
-        Group::ArrayLength => Ok(is_array_length_broken(scope, inst)),
-        Group::VectorExtractDynamic => Ok(is_extract_dynamic_broken(scope, inst)),
-        Group::VectorInsertDynamic => Ok(is_insert_dynamic_broken(scope, inst)),
-        Group::VectorShuffle => Ok(is_shuffle_broken(scope, inst)),
-        Group::CompositeConstruct => Ok(is_construct_broken(scope, inst)),
-        Group::CompositeExtract => Ok(is_extract_broken(scope, inst)),
-        Group::CompositeInsert => Ok(is_insert_broken(scope, inst)),
-        Group::CopyLogical => is_copy_logical_broken(matching, scope, inst),
+        OpGroup::Truth => Ok(is_truth_broken(scope, inst)),
+        OpGroup::Number => Ok(is_number_constant_broken(scope, inst)),
+        OpGroup::Composite => Ok(is_composite_broken(scope, inst)),
+        OpGroup::AnyConstant => Ok(is_constant_broken(scope, inst)),
+        OpGroup::Undef => Ok(is_undef_broken(scope, inst)),
+        OpGroup::CopyObject => Ok(is_copy_broken(scope, inst)),
+        OpGroup::Load => Ok(is_load_broken(scope, inst)),
+        OpGroup::Store => Ok(is_store_broken(scope, inst)),
+        OpGroup::Chain => Ok(is_chain_broken(scope, inst)),
+        OpGroup::ArrayLength => Ok(is_array_length_broken(scope, inst)),
+        OpGroup::VectorExtractDynamic => Ok(is_extract_dynamic_broken(scope, inst)),
+        OpGroup::VectorInsertDynamic => Ok(is_insert_dynamic_broken(scope, inst)),
+        OpGroup::VectorShuffle => Ok(is_shuffle_broken(scope, inst)),
+        OpGroup::CompositeConstruct => Ok(is_construct_broken(scope, inst)),
+        OpGroup::CompositeExtract => Ok(is_extract_broken(scope, inst)),
+        OpGroup::CompositeInsert => Ok(is_insert_broken(scope, inst)),
+        OpGroup::CopyLogical => is_copy_logical_broken(matching, scope, inst),
         _ => Ok(false),
     }
 }
 
+/// T25 of atomic instructions.
+fn is_atomic_broken(scope: &Scope, inst: &Inst, op: AtomicOp) -> bool
+    ensures { result ≡ breaks_t25 scope.now.m.globals (types scope.now) inst.now op }
+{
+    match op {
+        AtomicOp::Load | AtomicOp::IIncrement | AtomicOp::IDecrement => {
+            is_atomic_load_broken(scope, inst)
+        }
+        AtomicOp::Store => is_atomic_store_broken(scope, inst),
+        AtomicOp::CompareExchange => is_atomic_exchange_broken(scope, inst),
+        AtomicOp::Exchange
+        | AtomicOp::IAdd
+        | AtomicOp::ISub
+        | AtomicOp::SMin
+        | AtomicOp::UMin
+        | AtomicOp::SMax
+        | AtomicOp::UMax
+        | AtomicOp::And
+        | AtomicOp::Or
+        | AtomicOp::Xor => is_atomic_update_broken(scope, inst),
+    }
+}
+
 /// T13 to T20, and T25.
-pub fn is_number_broken(scope: &Scope, inst: &Inst, group: Group) -> bool
+pub fn is_number_broken(scope: &Scope, inst: &Inst, group: OpGroup) -> bool
     ensures { result ≡ is_number_at_fault scope.now.m.globals (types scope.now) inst.now group }
 {
     match group {
-        Group::Arithmetic => is_arithmetic_broken(scope, inst),
-        Group::Comparison => is_comparison_broken(scope, inst),
-        Group::Logical => is_logical_broken(scope, inst),
-        Group::AnyOrAll => is_any_or_all_broken(scope, inst),
-        Group::Select => is_select_broken(scope, inst),
-        Group::BitFieldInsert => is_bit_operation_broken(scope, 2, inst),
-        Group::BitFieldExtract | Group::BitOperation => is_bit_operation_broken(scope, 1, inst),
-        Group::Bitcast => is_bitcast_broken(scope, inst),
-        Group::Extended => is_extended_broken(scope, inst),
-        Group::AtomicLoad => is_atomic_load_broken(scope, inst),
-        Group::AtomicStore => is_atomic_store_broken(scope, inst),
-        Group::AtomicUpdate => is_atomic_update_broken(scope, inst),
-        Group::AtomicCompareExchange => is_atomic_exchange_broken(scope, inst),
-        Group::ControlBarrier | Group::MemoryBarrier => is_barrier_broken(scope, inst),
+        OpGroup::Arithmetic => is_arithmetic_broken(scope, inst),
+        OpGroup::Comparison => is_comparison_broken(scope, inst),
+        OpGroup::Logical => is_logical_broken(scope, inst),
+        OpGroup::AnyOrAll => is_any_or_all_broken(scope, inst),
+        OpGroup::Select => is_select_broken(scope, inst),
+        OpGroup::BitFieldInsert => is_bit_operation_broken(scope, 2, inst),
+        OpGroup::BitFieldExtract | OpGroup::BitOperation => is_bit_operation_broken(scope, 1, inst),
+        OpGroup::Bitcast => is_bitcast_broken(scope, inst),
+        OpGroup::Extended => is_extended_broken(scope, inst),
+        OpGroup::Atomic(op) => is_atomic_broken(scope, inst, op),
+        OpGroup::ControlBarrier | OpGroup::MemoryBarrier => is_barrier_broken(scope, inst),
         _ => false,
+    }
+}
+
+/// T23 and T24, of terminators.
+fn is_end_broken(
+    alloc: Global,
+    scope: &Scope,
+    function: &Function,
+    inst: &Inst,
+    terminator: Terminator,
+) -> Result<bool, Memory>
+    requires { scope.now ≡ inside scope.now.m function.now }
+    ensures { IfOk result (λ b. b ≡ is_end_at_fault scope.now.m function.now inst.now terminator) }
+{
+    match terminator {
+        Terminator::BranchConditional => Ok(is_branch_broken(scope, inst)),
+        Terminator::Switch => is_switch_broken(alloc, scope, inst),
+        Terminator::Return => Ok(is_return_broken(scope, function)),
+        Terminator::ReturnValue => Ok(is_return_value_broken(scope, function, inst)),
+        Terminator::Branch | Terminator::Unreachable => Ok(false),
     }
 }
 
@@ -135,7 +186,7 @@ pub fn is_flow_broken<'b>(
     edges: &mut LazyEdges<'b>,
     block: &Block,
     inst: &Inst,
-    group: Group,
+    group: OpGroup,
 ) -> Result<bool, Memory>
     requires edges { edges.old ≡ locals.now }
     requires scope { scope.now ≡ inside scope.now.m locals.now }
@@ -144,12 +195,11 @@ pub fn is_flow_broken<'b>(
     ensures same { edges.new ≡ edges.old }
 {
     match group {
-        Group::Call => Ok(is_call_broken(scope, inst)),
-        Group::BranchConditional => Ok(is_branch_broken(scope, inst)),
-        Group::Switch => is_switch_broken(alloc, scope, inst),
-        Group::Phi => is_phi_broken(alloc, scope, locals, edges, block, inst),
-        Group::Return => Ok(is_return_broken(scope, locals.function())),
-        Group::ReturnValue => Ok(is_return_value_broken(scope, locals.function(), inst)),
+        OpGroup::Call => Ok(is_call_broken(scope, inst)),
+        OpGroup::Phi => is_phi_broken(alloc, scope, locals, edges, block, inst),
+        OpGroup::Terminator(terminator) => {
+            is_end_broken(alloc, scope, locals.function(), inst, terminator)
+        }
         _ => Ok(false),
     }
 }

@@ -7,7 +7,6 @@ mod composites;
 mod dispatch;
 mod edges;
 mod flow;
-mod groups;
 mod index;
 mod matching;
 mod memory;

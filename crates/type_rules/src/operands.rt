@@ -13,7 +13,7 @@ use crate::scope::Scope;
 use profile_rules::Need;
 use spv_index::Locals;
 use spv_module::Inst;
-use spv_ops::{IdWords, Op, id_words};
+use spv_ops::{IdWords, Op, Takes, id_words};
 
 /// What the first operand id of an opcode has to be, and the others; of OpPhi values and labels
 /// alternate.
@@ -21,21 +21,16 @@ use spv_ops::{IdWords, Op, id_words};
 fn needs_of(op: Op) -> Option<(Need, Need)>
     ensures { result ≡ needs_by op }
 {
-    match op {
-        Op::Phi => None,
-        Op::ExtInst => Some((Need::Import, Need::Value)),
-        Op::TypeVector
-        | Op::TypeRuntimeArray
-        | Op::TypeStruct
-        | Op::TypePointer
-        | Op::TypeFunction => Some((Need::AnyType, Need::AnyType)),
-        Op::TypeArray => Some((Need::AnyType, Need::Constant)),
-        Op::ConstantComposite | Op::SpecConstantComposite | Op::SpecConstantOp | Op::Variable =>
-            Some((Need::Constant, Need::Constant)),
-        Op::FunctionCall => Some((Need::Callee, Need::Value)),
-        Op::LoopMerge | Op::SelectionMerge | Op::Branch => Some((Need::Label, Need::Label)),
-        Op::BranchConditional | Op::Switch => Some((Need::Value, Need::Label)),
-        _ => Some((Need::Value, Need::Value)),
+    match op.takes() {
+        Takes::Values => Some((Need::Value, Need::Value)),
+        Takes::Types => Some((Need::AnyType, Need::AnyType)),
+        Takes::TypeAndConstants => Some((Need::AnyType, Need::Constant)),
+        Takes::Constants => Some((Need::Constant, Need::Constant)),
+        Takes::Labels => Some((Need::Label, Need::Label)),
+        Takes::ValueAndLabels => Some((Need::Value, Need::Label)),
+        Takes::ValuesWithLabels => None,
+        Takes::ImportAndValues => Some((Need::Import, Need::Value)),
+        Takes::FunctionAndValues => Some((Need::Callee, Need::Value)),
     }
 }
 

@@ -6,7 +6,7 @@ use Rattle.spv_module.specs.declared.inst.Function.{Function}
 use Rattle.spv_ops.specs.Operands.{is_id}
 use Rattle.spv_ops.specs.declared.Op.{Op}
 use Rattle.spv_ops.specs.declared.Op.TheVariants as op
-use Rattle.use_chains.specs.Slots.{has_labels, is_slot, is_taken, is_value, mention, slots_of_inst}
+use Rattle.use_chains.specs.Slots.{are_labels, has_labels, is_slot, is_taken, is_value_by, is_value, mention, slots_of_inst}
 use Rattle.std.specs.List.{enumerate_from}
 use Rattle.std.proofs.lemmas.List.{drop_more, append_assoc}
 
@@ -30,9 +30,12 @@ none_taken : {X : Type 0} (test : ℕ × X → Bool) (n : ℕ) (xs : List X) →
 none_taken test n [] none = refl
 none_taken test n (x ∷ xs) none = ap (λ b. cond b ((n, x) ∷ filter test (enumerate_from (n + 1) xs)) (filter test (enumerate_from (n + 1) xs))) (none n x) ∙ none_taken test (n + 1) xs none
 
+no_value_by : (t : Takes) (k : ℕ) → are_labels t ≡ true → is_value_by t k ≡ false
+no_value_by Labels k e = refl
+no_value_by t k e = cc
+
 no_value : (o : Op) (k : ℕ) → has_labels o ≡ true → is_value o k ≡ false
-no_value op.Branch k e = refl
-no_value o k e = cc
+no_value o k e = no_value_by (takes_of o) k e
 
 -- what mentions labels alone has no slots
 pub no_slots : (f : Function) (reached : List Bool) (b n : ℕ) (i : Inst) → has_labels i.op ≡ true → slots_of_inst f reached b (n, i) ≡ []
