@@ -1,6 +1,7 @@
 -- The statements of a block, computed: the element with an invocation's number is read, increased and written.
 use Rattle.std.specs.Prelude.{ℕ, ◌≡◌, ◌==◌, ◌||◌, false, List, [], ◌∷◌, None, Some, refl, codes, if◌then◌else◌}
 use Rattle.spv_ops.specs.Opcode.{number as number_of_op}
+use Rattle.spv_ops.specs.OpGroups.{group_of}
 use Rattle.spv_ops.specs.Enumerants.{class_number, decoration_number}
 use Rattle.spv_ops.specs.declared.Op.{Op}
 use Rattle.spv_ops.specs.declared.Op.TheVariants as op
@@ -90,5 +91,5 @@ incremented : block_text scope 0 ≡
     declare (type_name uint []) (1 ∷ 18 ∷ []) (Some (member (name (codes "gl_GlobalInvocationID")) (codes "x"))) ∷
     declare (type_name uint []) (1 ∷ 20 ∷ []) (Some (index (member (name (1 ∷ 5 ∷ [])) (2 ∷ 3 ∷ 0 ∷ [])) (name (1 ∷ 18 ∷ [])))) ∷
     assign (lvalue (1 ∷ 5 ∷ []) (text.LStep.member (2 ∷ 3 ∷ 0 ∷ []) ∷ text.LStep.index (name (1 ∷ 18 ∷ [])) ∷ [])) (binary Add (name (1 ∷ 20 ∷ [])) (literal (Uint 1))) ∷ []
-unfolding number_of_op inst kind below key_of constant_kind kind_of operation_kind_of literal_word value_in key added
+unfolding number_of_op inst kind below key_of constant_kind kind_of operation_kind_of group_of literal_word value_in key added
 incremented = refl

@@ -7,6 +7,7 @@ use Rattle.spv_module.specs.declared.inst.Function.{Function}
 use Rattle.spv_decor.specs.Rows.{key_of}
 use Rattle.spv_ops.specs.Opcode.{number, op_of}
 use Rattle.spv_ops.specs.Operands.{is_id, inner_of}
+use Rattle.spv_ops.specs.OpGroups.{group_of, takes_of}
 use Rattle.spv_ops.specs.Shape.{shape}
 use Rattle.spv_ops.specs.declared.Op.{Op}
 use Rattle.spv_ops.specs.declared.Op.TheVariants as code
@@ -69,7 +70,7 @@ phi_of_two : Liveness
 phi_of_two = place none (inst code.Branch 0 0 (30 ∷ []) ∷ []) (inst code.Phi 9 40 (74 ∷ 16 ∷ 75 ∷ 29 ∷ []) ∷ inst code.Return 0 0 [] ∷ [])
 
 phi_constants : constants phi_of_two ≡ 74 ∷ []
-unfolding constants written place phi_of_two none source globals block inst inst_at shape key_of kind below constant_kind is_id inner_of op_of number
+unfolding constants written place phi_of_two none source globals block inst inst_at shape key_of kind below constant_kind is_id takes_of group_of inner_of op_of number
 phi_constants = refl
 
 -- the struct that the second block makes of 75 is written, since the third has a part of it; 75 is not
@@ -77,14 +78,14 @@ struct_of_two : Liveness
 struct_of_two = place none (inst code.CompositeConstruct 10 40 (75 ∷ 15 ∷ []) ∷ inst code.Branch 0 0 (30 ∷ []) ∷ []) (inst code.CompositeExtract 8 41 (40 ∷ 1 ∷ []) ∷ inst code.Return 0 0 [] ∷ [])
 
 struct_constants : constants struct_of_two ≡ []
-unfolding constants written place struct_of_two none source globals block inst inst_at shape key_of kind below constant_kind is_id inner_of op_of number
+unfolding constants written place struct_of_two none source globals block inst inst_at shape key_of kind below constant_kind is_id takes_of group_of inner_of op_of number
 struct_constants = refl
 
 struct_structs : structs struct_of_two ≡ 10 ∷ []
-unfolding structs written place struct_of_two none source globals block inst inst_at shape key_of kind below constant_kind is_id inner_of op_of number
+unfolding structs written place struct_of_two none source globals block inst inst_at shape key_of kind below constant_kind is_id takes_of group_of inner_of op_of number
 struct_structs = refl
 
 -- a chain of the second block that the third needs mentions its indexes, and not its base
 chain_mentions : in_function mentions_of (place (λ n. n == 40) (inst code.AccessChain 11 40 (5 ∷ 14 ∷ 76 ∷ []) ∷ inst code.AccessChain 11 42 (5 ∷ 77 ∷ []) ∷ []) (inst code.Load 8 41 (40 ∷ []) ∷ [])) ≡ 14 ∷ 76 ∷ 40 ∷ []
-unfolding place globals block inst inst_at shape is_id number
+unfolding place globals block inst inst_at shape is_id takes_of group_of number
 chain_mentions = refl

@@ -49,7 +49,7 @@ two_blocks = planned_of (
 -- the sum that nothing links is gone, the one that one sum mentions is forwarded, and the one that the other block stores is hoisted
 forms_two_blocks : map (form two_blocks) (20 ∷ 21 ∷ 22 ∷ 23 ∷ 24 ∷ 25 ∷ 26 ∷ 99 ∷ []) ≡
     Local ∷ Local ∷ Forwarded ∷ Hoisted ∷ Gone ∷ Forwarded ∷ Forwarded ∷ Gone ∷ []
-unfolding two_blocks planned_of globals block inst link number shape
+unfolding two_blocks planned_of globals block inst link number group_of shape
 forms_two_blocks = refl
 
 carried_two_blocks : map (is_carried two_blocks) (25 ∷ 26 ∷ 5 ∷ []) ≡ true ∷ false ∷ false ∷ []
@@ -67,7 +67,7 @@ loop = planned_of (
     ) (link 0 1 0 0 14 ∷ link 1 1 0 2 43 ∷ link 2 1 1 0 41 ∷ link 3 1 1 1 15 ∷ link 4 1 2 0 43 ∷ link 5 1 2 1 24 ∷ link 6 1 4 0 44 ∷ [])
 
 forms_loop : map (form loop) (41 ∷ 43 ∷ 44 ∷ []) ≡ Hoisted ∷ Local ∷ Forwarded ∷ []
-unfolding loop planned_of globals block inst link number shape
+unfolding loop planned_of globals block inst link number group_of shape
 forms_loop = refl
 
 -- the sums 30, 31, 32 and 33 of scalars: the count of a bit field of vectors, an operand of SDiv, of UDiv, and of SAbs; the vector 34 in a sum, and 35 in a minimum
@@ -79,7 +79,7 @@ operands = planned_of (block 10 (
     ) ∷ []) (link 0 0 1 2 30 ∷ link 1 0 3 0 31 ∷ link 2 0 5 0 32 ∷ link 3 0 7 2 33 ∷ link 4 0 9 0 34 ∷ link 5 0 11 2 35 ∷ [])
 
 forms_operands : map (form operands) (30 ∷ 31 ∷ 32 ∷ 33 ∷ 34 ∷ 35 ∷ 45 ∷ []) ≡ Local ∷ Local ∷ Forwarded ∷ Local ∷ Forwarded ∷ Local ∷ Gone ∷ []
-unfolding operands planned_of globals block inst link number shape
+unfolding operands planned_of globals block inst link number group_of shape
 forms_operands = refl
 
 -- n negations from %100 on, each of the one before
@@ -96,7 +96,7 @@ deep = planned_of (block 10 (negations 20 100) ∷ []) (negation_links 20 0 100)
 
 -- the expression of the seventeenth would be 17 high
 forms_deep : map (form deep) (101 ∷ 115 ∷ 116 ∷ 117 ∷ 118 ∷ 119 ∷ []) ≡ Forwarded ∷ Forwarded ∷ Forwarded ∷ Local ∷ Forwarded ∷ Forwarded ∷ []
-unfolding deep negations negation_links planned_of globals block inst link number shape
+unfolding deep negations negation_links planned_of globals block inst link number group_of shape
 forms_deep = refl
 
 -- block 1 is not reached: block 2 loads through a chain of it, on a chain whose only mention has no slot
