@@ -14,6 +14,6 @@ considered k not i = refl
 
 pub returns-else-has_operand_out-clause-value : goal.returns-else-has_operand_out-clause-value
 returns-else-has_operand_out-clause-value c =
-    let own : Inst = inst_of c.args.words.now (nth_inst c.args.words.now c.args.i) in
-    let all : result_by c.args.kind own ≡ own.result = considered c.args.kind c.in_default.not-Debug own in
-    rw (← c.requires.kind, all, c.result_in-id.ensures, c.inst_words-own.ensures, c.outcome_of-outcome.ensures.typed, c.outcome_of-outcome.ensures.named, c.requires.op) refl
+    let own : Inst = inst_of c.args.rows.now (nth_inst c.args.rows.now c.args.i) in
+    let all : result_by c.kind-kind.result own ≡ own.result = considered c.kind-kind.result c.in_default.not-Debug own in
+    rw (← c.kind-kind.ensures, all, c.result_in-id.ensures, c.own_words-own.ensures, c.outcome_of-outcome.ensures.typed, c.outcome_of-outcome.ensures.named, c.op-op.ensures) refl
