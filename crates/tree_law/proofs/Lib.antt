@@ -1,2 +1,7 @@
-pub mod Serving
 pub mod Order
+pub mod Serving
+pub mod SwitchOrder
+pub mod Placing
+pub mod Leaving
+pub mod Fresh
+pub mod Leading

@@ -7,26 +7,26 @@ use Rattle.std.proofs.lemmas.Bool.{false≢true}
 use Rattle.std.proofs.lemmas.Bool.Decides.{eqb_tells}
 use Rattle.std.proofs.lemmas.Map.Steps.{length-le_from_distinct_below}
 use Rattle.region_law.specs.Leads.{AreInOrder, In, AreApart}
-use Rattle.tree_law.specs.Chain.{chain, after, joined}
+use Rattle.tree_law.specs.Chain.{chain, after, chains}
 
 some_is : (a b : ℕ) → Some a ≡ Some b → a ≡ b
 some_is a b e = cc
 
-in_left : (x : ℕ) (xs ys : List ℕ) → In x xs → In x (xs ++ ys)
+pub in_left : (x : ℕ) (xs ys : List ℕ) → In x xs → In x (xs ++ ys)
 in_left x [] ys h = absurd h
 in_left x (t ∷ xs) ys (inl e) = inl e
 in_left x (t ∷ xs) ys (inr h) = inr (in_left x xs ys h)
 
-in_right : (x : ℕ) (xs ys : List ℕ) → In x ys → In x (xs ++ ys)
+pub in_right : (x : ℕ) (xs ys : List ℕ) → In x ys → In x (xs ++ ys)
 in_right x [] ys h = h
 in_right x (t ∷ xs) ys h = inr (in_right x xs ys h)
 
-in_either : (x : ℕ) (xs ys : List ℕ) → In x (xs ++ ys) → In x xs ⊎ In x ys
+pub in_either : (x : ℕ) (xs ys : List ℕ) → In x (xs ++ ys) → In x xs ⊎ In x ys
 in_either x [] ys h = inr h
 in_either x (t ∷ xs) ys (inl e) = inl (inl e)
 in_either x (t ∷ xs) ys (inr h) = ⊎_elim (λ l. inl (inr l)) (λ r. inr r) (in_either x xs ys h)
 
-apart_joined : (xs ys : List ℕ) → AreApart xs → AreApart ys → ((x : ℕ) → In x xs → In x ys → ⊥) → AreApart (xs ++ ys)
+pub apart_joined : (xs ys : List ℕ) → AreApart xs → AreApart ys → ((x : ℕ) → In x xs → In x ys → ⊥) → AreApart (xs ++ ys)
 apart_joined [] ys a b no_both = b
 apart_joined (t ∷ xs) ys a b no_both = (λ h. ⊎_elim (λ l. a.0 l) (λ r. no_both t (inl refl) r) (in_either t xs ys h), apart_joined xs ys a.1 b (λ x l r. no_both x (inr l) r))
 
@@ -192,14 +192,14 @@ module _ (next : ℕ → Option ℕ) (size : ℕ) (below : (t u : ℕ) → next 
       by_other None is e ih = cc
       by_other (Some r) is e ih = one_more n s r (ih r e) ∙ back r t is
 
-in_order_on : (next : ℕ → Option ℕ) (xs ys : List ℕ) → AreInOrder next xs → AreInOrder next ys → AreInOrder next (xs ++ ys)
+pub in_order_on : (next : ℕ → Option ℕ) (xs ys : List ℕ) → AreInOrder next xs → AreInOrder next ys → AreInOrder next (xs ++ ys)
 in_order_on next [] ys a b = b
 in_order_on next (t ∷ []) [] a b = a
 in_order_on next (t ∷ []) (y ∷ ys) a b = (inl a, b)
 in_order_on next (t ∷ u ∷ xs) ys a b = (a.0, in_order_on next (u ∷ xs) ys a.1 b)
 
 -- those that lead nowhere are in order
-all_last : (next : ℕ → Option ℕ) (xs : List ℕ) → ((x : ℕ) → In x xs → next x ≡ None) → AreInOrder next xs
+pub all_last : (next : ℕ → Option ℕ) (xs : List ℕ) → ((x : ℕ) → In x xs → next x ≡ None) → AreInOrder next xs
 all_last next [] h = tt
 all_last next (x ∷ []) h = h x (inl refl)
 all_last next (x ∷ y ∷ xs) h = (inl (h x (inl refl)), all_last next (y ∷ xs) (λ z i. h z (inr i)))
@@ -227,21 +227,22 @@ module _ (next prev : ℕ → Option ℕ) (size : ℕ) (there : (t u : ℕ) → 
       (turned prev size low_back no_cycle_back next (λ t u e. there u t e) ra.0 a x ra.2) na
       (turned prev size low_back no_cycle_back next (λ t u e. there u t e) rb.0 b x rb.2) nb
 
-  abbrev all : List ℕ → List (List ℕ)
-  all [] = []
-  all (s ∷ ss) = chain next size s ∷ all ss
-
-  chain_of : (x : ℕ) (ss : List ℕ) → In x (joined (all ss)) → (s : ℕ) × In s ss × In x (chain next size s)
+  pub chain_of : (x : ℕ) (ss : List ℕ) → In x (chains next size ss) → (s : ℕ) × In s ss × In x (chain next size s)
   chain_of x [] h = absurd h
-  chain_of x (s ∷ ss) h = ⊎_elim (λ l. (s, inl refl, l)) (λ r. let q = chain_of x ss r in (q.0, inr q.1, q.2)) (in_either x (chain next size s) (joined (all ss)) h)
+  chain_of x (s ∷ ss) h = ⊎_elim (λ l. (s, inl refl, l)) (λ r. let q = chain_of x ss r in (q.0, inr q.1, q.2)) (in_either x (chain next size s) (chains next size ss) h)
 
   -- the chains of firsts, one behind the other: none comes twice, and each is followed by that to which it leads
-  pub chains_apart : (ss : List ℕ) → AreApart ss → ((s : ℕ) → In s ss → prev s ≡ None) → AreApart (joined (all ss))
+  pub chains_apart : (ss : List ℕ) → AreApart ss → ((s : ℕ) → In s ss → prev s ≡ None) → AreApart (chains next size ss)
   chains_apart [] a n = tt
   chains_apart (s ∷ ss) a n =
-      apart_joined (chain next size s) (joined (all ss)) (chain_apart next size below no_cycle s) (chains_apart ss a.1 (λ r i. n r (inr i)))
+      apart_joined (chain next size s) (chains next size ss) (chain_apart next size below no_cycle s) (chains_apart ss a.1 (λ r i. n r (inr i)))
       (λ x l r. let q = chain_of x ss r in a.0 (subst (λ k. In k ss) (sym (one_first x s q.0 (n s (inl refl)) (n q.0 (inr q.1)) l q.2)) q.1))
 
-  pub chains_ordered : (ss : List ℕ) → ((s : ℕ) → In s ss → s < size) → AreInOrder next (joined (all ss))
+  pub in_chains : (x s : ℕ) (ss : List ℕ) → In s ss → In x (chain next size s) → In x (chains next size ss)
+  in_chains x s [] i h = absurd i
+  in_chains x s (r ∷ ss) (inl e) h = in_left x (chain next size r) (chains next size ss) (subst (λ k. In x (chain next size k)) e h)
+  in_chains x s (r ∷ ss) (inr i) h = in_right x (chain next size r) (chains next size ss) (in_chains x s ss i h)
+
+  pub chains_ordered : (ss : List ℕ) → ((s : ℕ) → In s ss → s < size) → AreInOrder next (chains next size ss)
   chains_ordered [] l = tt
-  chains_ordered (s ∷ ss) l = in_order_on next (chain next size s) (joined (all ss)) (chain_ordered next size below no_cycle s (l s (inl refl))) (chains_ordered ss (λ r i. l r (inr i)))
+  chains_ordered (s ∷ ss) l = in_order_on next (chain next size s) (chains next size ss) (chain_ordered next size below no_cycle s (l s (inl refl))) (chains_ordered ss (λ r i. l r (inr i)))

@@ -1,2 +1,5 @@
 pub mod Serves
 pub mod Chain
+pub mod Placed
+pub mod Leaving
+pub mod Written

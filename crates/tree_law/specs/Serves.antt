@@ -1,20 +1,13 @@
 -- Where the edges out of a region lead, by the constructs round it (SPIR-V 1.6, section 2.11).
-use Rattle.std.specs.Prelude.{◌≡◌, ℕ, Bool, true, false, not, List, [], ◌∷◌, Option, Some, None, find, is_some, option_and_then, slice_get}
+use Rattle.std.specs.Prelude.{◌≡◌, ℕ, Bool, true, false, not, List, Option, Some, None, find, is_some, option_and_then, slice_get}
 use Rattle.structure_rules.specs.declared.graph.Node.{Node}
 use Rattle.structure_rules.specs.declared.graph.Part.{Part}
-use Rattle.structure_rules.specs.Graph.{nth, merge_block, continue_target}
-use Rattle.structure_rules.specs.EdgeKinds.{is_if, is_loop, body_header, continue_header, loop_header, if_header, case_switch, case_target}
+use Rattle.structure_rules.specs.Graph.{nth, leads_to, merge_block, continue_target}
+use Rattle.structure_rules.specs.EdgeKinds.{is_if, is_loop, body_header, continue_header, loop_header, if_header, case_switch, case_target, nearest_loop, innermost, innermost_switch}
 use Rattle.structure_rules.specs.Structure.{falls_from}
-use Rattle.structure_recover.specs.Once.{Around, within, branch}
 use Rattle.glsl_ast.specs.Tree.{Text}
 use Rattle.control_text.specs.declared.place.Place.{Place}
 use Rattle.region_law.specs.Leads.{Ways, out_of}
-
--- the constructs round a region, without the branches of conditionals that have no merge block
-abbrev pub parts : List Around → List Part
-parts [] = []
-parts (within p ∷ qs) = p ∷ parts qs
-parts (branch h ∷ qs) = parts qs
 
 -- the nearest loop, the innermost construct, and the innermost switch with no loop before it
 abbrev pub nearest : List Part → Option Part
@@ -34,6 +27,12 @@ place_of ps = record {
   in_switch = is_some (switch_in ps);
 }
 
+-- the edges of a block are told by these constructs: those round the region that they leave, and a switch is the innermost of its own edges
+pub record Sees (g : List Node) (b : ℕ) (ps : List Part) : Type 0 where
+  pub near : nearest_loop g b ≡ nearest ps
+  pub switch : innermost_switch g b ≡ switch_in ps
+  pub first : (p : Part) → innermost g b ≡ Some p → top ps ≡ Some p
+
 module _ (leave : ℕ → Option Text) where
   -- the ways out are those that the constructs allow; that behind a loop which is left through a switch only where there is such a break
   pub record Serves (g : List Node) (ps : List Part) (v : Ways) (breaks : Bool) : Type 0 where
@@ -44,7 +43,7 @@ module _ (leave : ℕ → Option Text) where
     pub again : (h t : ℕ) → option_and_then body_header (nearest ps) ≡ Some h → continue_target g h ≡ Some t → (nth g t).reached ≡ true → v.again ≡ Some t
     pub other : (h : ℕ) → option_and_then continue_header (nearest ps) ≡ Some h → continue_target g h ≡ Some h → ⊥
     pub back : (h : ℕ) → option_and_then continue_header (top ps) ≡ Some h → v.normal ≡ Some h
-    pub fall : (b t u : ℕ) → falls_from g b t ≡ Some u → option_and_then case_target (top ps) ≡ Some u → v.fall ≡ Some t
+    pub fall : (b t u : ℕ) → (nth g b).reached ≡ true → leads_to t (nth g b) ≡ true → falls_from g b t ≡ Some u → option_and_then case_target (top ps) ≡ Some u → v.fall ≡ Some t
 
 -- behind a construct: its merge block, where that is reached
 abbrev pub if_there : List Node → Option ℕ → Option ℕ
@@ -54,11 +53,7 @@ if_there g (Some t) = elim (nth g t).reached [ true ↦ Some t | false ↦ None 
 abbrev pub behind : List Node → ℕ → Option ℕ
 behind g h = if_there g (merge_block g h)
 
-abbrev pub out_where : Ways → Bool → Option (Text × ℕ)
-out_where v true = v.out
-out_where v false = None
-
--- the ways out of what stands in a selection, in the body of a loop, in its continue construct, and in a case
+-- the ways out of what stands in a selection, in the body of a loop, and in its continue construct
 abbrev pub in_choice : List Node → ℕ → Ways → Ways
 in_choice g h v = record v { normal = behind g h; fall = None }
 
@@ -68,5 +63,6 @@ in_body leave g h c = record { normal = None; fall = None; leave = behind g h; a
 abbrev pub in_continue : (ℕ → Option Text) → List Node → ℕ → Ways
 in_continue leave g h = record { normal = Some h; fall = None; leave = behind g h; again = None; out = out_of (leave h) (behind g h) }
 
-abbrev pub in_case : (ℕ → Option ℕ) → List Node → ℕ → ℕ → Ways → Bool → Ways
-in_case falls g s u v breaks = record { normal = None; fall = falls u; leave = behind g s; again = v.again; out = out_where v breaks }
+-- nothing stands round a whole tree
+abbrev pub no_ways : Ways
+no_ways = record { normal = None; fall = None; leave = None; again = None; out = None }
