@@ -6,5 +6,8 @@ pub mod Lowered
 pub mod Functions
 pub mod Bounds
 pub mod Comparisons
+pub mod Counts
 pub mod Scalars
 pub mod Vectors
+pub mod Parts
+pub mod Components

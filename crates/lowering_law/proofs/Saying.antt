@@ -21,12 +21,12 @@ before_none (cut e) = refl
 before_none (waits e) = refl
 before_none (stuck e) = refl
 
-both_empty : (e f : List Event) → e ++ f ≡ [] → (e ≡ []) × (f ≡ [])
+pub both_empty : (e f : List Event) → e ++ f ≡ [] → (e ≡ []) × (f ≡ [])
 both_empty [] f h = (refl, h)
 both_empty (x ∷ e) f h = cc
 
 -- what is read as a value
-abbrev read : Result (Thing × State) → Result (Typed × State)
+abbrev pub read : Result (Thing × State) → Result (Typed × State)
 read g = then_fetch g (λ v z. got [] (v, z))
 
 neither : (q : Option Bool) (f : Bool → Result (Thing × State)) (y : Result (Thing × State)) → q ≡ None → elim q [ Some t ↦ f t | None ↦ y ] ≡ y
@@ -59,7 +59,7 @@ module _ (p : Program) (calls : Text → List Argument → State → Result (Opt
   S = Says p calls s
 
   -- what goes on from an operand
-  on_operand : {A : Type 0} (e : Expr) (v : Typed) (f : Typed → State → Result A) → S e v → then_fetch (denote p calls e s) f ≡ f v s
+  pub on_operand : {A : Type 0} (e : Expr) (v : Typed) (f : Typed → State → Result A) → S e v → then_fetch (denote p calls e s) f ≡ f v s
   on_operand e v f h = fetch_then (denote p calls e s) v s f h
 
   -- a value that is there is what is said

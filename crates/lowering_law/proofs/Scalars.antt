@@ -16,7 +16,7 @@ use Rattle.op_semantics.specs.declared.operation.Operation.{Operation}
 use Rattle.op_semantics.specs.declared.operation.Operation.TheVariants as op
 use Rattle.op_semantics.specs.Word.{binary_word, bit_field_signed, bit_field_unsigned, bit_field_insert}
 use Rattle.op_semantics.specs.Component.{by_one, by_two, by_three, unary_scalar, binary_scalar, comparison_scalar, logical_scalar, not_scalar, clamp_scalar, chosen, bit_field, inserted_field}
-use Rattle.op_semantics.specs.Value.{operation_of, op_value, of_one, of_two, of_three, of_four, value_of_operation}
+use Rattle.op_semantics.specs.Value.{operation_of, op_value, value_of_operation}
 use Rattle.int_lowering.specs.Operand.{Operand, scalar, converted}
 use Rattle.int_lowering.specs.declared.basic.BasicType.{BasicType}
 use Rattle.int_lowering.specs.Lowered as written
@@ -28,17 +28,18 @@ use Rattle.lowering_law.specs.Says.{Says}
 use Rattle.lowering_law.specs.Numbers.{IsNumeric, number}
 use Rattle.lowering_law.specs.BuiltIns.{NoneDeclared}
 use Rattle.lowering_law.specs.Stands.{Means, AllMean, IsScalarOf, OnScalars, AreScalars}
+use Rattle.lowering_law.proofs.Counts.{by_one_operand, by_two_operands, by_three_operands, by_four_operands}
 use Rattle.lowering_law.proofs.Lowered.{binary_says}
 use Rattle.lowering_law.proofs.Functions.{unary_says}
 use Rattle.lowering_law.proofs.Bounds.{bound_says, clamp_says, signed_field_says, unsigned_field_says, insert_says}
 use Rattle.lowering_law.proofs.Comparisons.{comparison_says, logical_says, not_says, select_says, copy_says}
 
-numeric_of : (g : Elem) (n : ℕ) → IsScalarOf g (word n) → IsNumeric g
+pub numeric_of : (g : Elem) (n : ℕ) → IsScalarOf g (word n) → IsNumeric g
 numeric_of elem.Int n h = tt
 numeric_of elem.Uint n h = tt
 numeric_of elem.Bool n h = absurd h
 
-truth_of : (g : Elem) (t : Bool) → IsScalarOf g (truth t) → g ≡ elem.Bool
+pub truth_of : (g : Elem) (t : Bool) → IsScalarOf g (truth t) → g ≡ elem.Bool
 truth_of elem.Bool t h = refl
 truth_of elem.Int t h = absurd h
 truth_of elem.Uint t h = absurd h
@@ -57,51 +58,6 @@ module _ (p : Program) (none : NoneDeclared p) (calls : Text → List Argument �
 
   abbrev M : Operand → ValueTree → Type 0
   M = Means p calls s
-
-  -- an operation of so many operands has a value of so many alone
-  by_one_operand : (f : ValueTree → Option ValueTree) (xs : List Operand) (vs : List ValueTree) (r : ValueTree) (Q : List Operand → Type 0)
-      → ((x : Operand) (v : ValueTree) → M x v → f v ≡ Some r → Q (x ∷ [])) → AllMean p calls s xs vs → of_one f vs ≡ Some r → Q xs
-  by_one_operand f xs [] r Q k m h = cc
-  by_one_operand f [] (v ∷ vs) r Q k m h = absurd m
-  by_one_operand f (x ∷ xs) (v ∷ (w ∷ vs)) r Q k m h = cc
-  by_one_operand f (x ∷ (y ∷ xs)) (v ∷ []) r Q k m h = absurd m.1
-  by_one_operand f (x ∷ []) (v ∷ []) r Q k m h = k x v m.0 h
-
-  by_two_operands : (f : ValueTree → ValueTree → Option ValueTree) (xs : List Operand) (vs : List ValueTree) (r : ValueTree) (Q : List Operand → Type 0)
-      → ((x y : Operand) (v w : ValueTree) → M x v → M y w → f v w ≡ Some r → Q (x ∷ y ∷ [])) → AllMean p calls s xs vs → of_two f vs ≡ Some r → Q xs
-  by_two_operands f xs [] r Q k m h = cc
-  by_two_operands f [] (v ∷ vs) r Q k m h = absurd m
-  by_two_operands f (x ∷ xs) (v ∷ []) r Q k m h = cc
-  by_two_operands f (x ∷ []) (v ∷ (w ∷ vs)) r Q k m h = absurd m.1
-  by_two_operands f (x ∷ (y ∷ xs)) (v ∷ (w ∷ (u ∷ vs))) r Q k m h = cc
-  by_two_operands f (x ∷ (y ∷ (z ∷ xs))) (v ∷ (w ∷ [])) r Q k m h = absurd m.1.1
-  by_two_operands f (x ∷ (y ∷ [])) (v ∷ (w ∷ [])) r Q k m h = k x y v w m.0 m.1.0 h
-
-  by_three_operands : (f : ValueTree → ValueTree → ValueTree → Option ValueTree) (xs : List Operand) (vs : List ValueTree) (r : ValueTree) (Q : List Operand → Type 0)
-      → ((x y z : Operand) (v w u : ValueTree) → M x v → M y w → M z u → f v w u ≡ Some r → Q (x ∷ y ∷ z ∷ [])) → AllMean p calls s xs vs → of_three f vs ≡ Some r → Q xs
-  by_three_operands f xs [] r Q k m h = cc
-  by_three_operands f xs (v ∷ []) r Q k m h = cc
-  by_three_operands f xs (v ∷ (w ∷ [])) r Q k m h = cc
-  by_three_operands f xs (v ∷ (w ∷ (u ∷ (t ∷ vs)))) r Q k m h = cc
-  by_three_operands f [] (v ∷ (w ∷ (u ∷ []))) r Q k m h = absurd m
-  by_three_operands f (x ∷ []) (v ∷ (w ∷ (u ∷ []))) r Q k m h = absurd m.1
-  by_three_operands f (x ∷ (y ∷ [])) (v ∷ (w ∷ (u ∷ []))) r Q k m h = absurd m.1.1
-  by_three_operands f (x ∷ (y ∷ (z ∷ []))) (v ∷ (w ∷ (u ∷ []))) r Q k m h = k x y z v w u m.0 m.1.0 m.1.1.0 h
-  by_three_operands f (x ∷ (y ∷ (z ∷ (a ∷ xs)))) (v ∷ (w ∷ (u ∷ []))) r Q k m h = absurd m.1.1.1
-
-  by_four_operands : (f : ValueTree → ValueTree → ValueTree → ValueTree → Option ValueTree) (xs : List Operand) (vs : List ValueTree) (r : ValueTree) (Q : List Operand → Type 0)
-      → ((x y z a : Operand) (v w u t : ValueTree) → M x v → M y w → M z u → M a t → f v w u t ≡ Some r → Q (x ∷ y ∷ z ∷ a ∷ [])) → AllMean p calls s xs vs → of_four f vs ≡ Some r → Q xs
-  by_four_operands f xs [] r Q k m h = cc
-  by_four_operands f xs (v ∷ []) r Q k m h = cc
-  by_four_operands f xs (v ∷ (w ∷ [])) r Q k m h = cc
-  by_four_operands f xs (v ∷ (w ∷ (u ∷ []))) r Q k m h = cc
-  by_four_operands f xs (v ∷ (w ∷ (u ∷ (t ∷ (q ∷ vs))))) r Q k m h = cc
-  by_four_operands f [] (v ∷ (w ∷ (u ∷ (t ∷ [])))) r Q k m h = absurd m
-  by_four_operands f (x ∷ []) (v ∷ (w ∷ (u ∷ (t ∷ [])))) r Q k m h = absurd m.1
-  by_four_operands f (x ∷ (y ∷ [])) (v ∷ (w ∷ (u ∷ (t ∷ [])))) r Q k m h = absurd m.1.1
-  by_four_operands f (x ∷ (y ∷ (z ∷ []))) (v ∷ (w ∷ (u ∷ (t ∷ [])))) r Q k m h = absurd m.1.1.1
-  by_four_operands f (x ∷ (y ∷ (z ∷ (a ∷ [])))) (v ∷ (w ∷ (u ∷ (t ∷ [])))) r Q k m h = k x y z a v w u t m.0 m.1.0 m.1.1.0 m.1.1.1.0 h
-  by_four_operands f (x ∷ (y ∷ (z ∷ (a ∷ (b ∷ xs))))) (v ∷ (w ∷ (u ∷ (t ∷ [])))) r Q k m h = absurd m.1.1.1.1
 
   module _ (g : Elem) where
     -- an expression says this scalar, which is of the type of the result
@@ -212,17 +168,17 @@ module _ (p : Program) (none : NoneDeclared p) (calls : Text → List Argument �
     -- an operation on scalars, applied to operands that stand for scalars, says the value of the operation, where it has one of the type of the result
     pub scalar_says : (o : Operation) (t : Tree) (literals : List ℕ) (xs : List Operand) (vs : List ValueTree) (r : ValueTree)
         → OnScalars o g xs → AllMean p calls s xs vs → value_of_operation o t literals vs ≡ Some r → IsScalarOf g r → S (written.applied o (scalar g) xs) (typed (shape_of_elem g) r)
-    scalar_says (op.Unary o) t l xs vs r on m h = by_one_operand (by_one (unary_scalar o)) xs vs r (λ xs. Gives (written.applied (op.Unary o) (scalar g) xs) r) (λ x v. unary_case o r x v) m h
-    scalar_says (op.Binary o) t l xs vs r on m h = by_two_operands (by_two (binary_scalar o)) xs vs r (λ xs. Gives (written.applied (op.Binary o) (scalar g) xs) r) (λ x y v w. binary_case o r x y v w) m h
-    scalar_says (op.Comparison o) t l xs vs r on m h = by_two_operands (by_two (comparison_scalar o)) xs vs r (λ xs. Gives (written.applied (op.Comparison o) (scalar g) xs) r) (λ x y v w. comparison_case o r x y v w) m h
-    scalar_says (op.Logical o) t l xs vs r on m h = by_two_operands (by_two (logical_scalar o)) xs vs r (λ xs. Gives (written.applied (op.Logical o) (scalar g) xs) r) (λ x y v w. logical_case o r x y v w) m h
-    scalar_says op.LogicalNot t l xs vs r on m h = by_one_operand (by_one not_scalar) xs vs r (λ xs. Gives (written.applied op.LogicalNot (scalar g) xs) r) (λ x v. not_case r x v) m h
-    scalar_says (op.Clamp o) t l xs vs r on m h = by_three_operands (by_three (clamp_scalar o)) xs vs r (λ xs. Gives (written.applied (op.Clamp o) (scalar g) xs) r) (λ x y z v w u. clamp_case o r x y z v w u) m h
-    scalar_says op.BitFieldInsert t l xs vs r on m h = by_four_operands inserted_field xs vs r (λ xs. Gives (written.applied op.BitFieldInsert (scalar g) xs) r) (λ x y z a v w u n. insert_case r x y z a v w u n) m h
-    scalar_says op.BitFieldSExtract t l xs vs r on m h = by_three_operands (bit_field bit_field_signed) xs vs r (λ xs. Gives (written.applied op.BitFieldSExtract (scalar g) xs) r) (λ x y z v w u. signed_field_case r x y z v w u) m h
-    scalar_says op.BitFieldUExtract t l xs vs r on m h = by_three_operands (bit_field bit_field_unsigned) xs vs r (λ xs. Gives (written.applied op.BitFieldUExtract (scalar g) xs) r) (λ x y z v w u. unsigned_field_case r x y z v w u) m h
-    scalar_says op.Select t l xs vs r on m h = by_three_operands (by_three chosen) xs vs r (λ xs. OnScalars op.Select g xs → Gives (written.applied op.Select (scalar g) xs) r) (λ x y z v w u mx my mz e is. select_case r x y z v w u mx my mz e is) m h on
-    scalar_says op.Copy t l xs vs r on m h = by_one_operand Some xs vs r (λ xs. Gives (written.applied op.Copy (scalar g) xs) r) (λ x v. copy_case r x v) m h
+    scalar_says (op.Unary o) t l xs vs r on m h = by_one_operand M (by_one (unary_scalar o)) xs vs r (λ xs. Gives (written.applied (op.Unary o) (scalar g) xs) r) (λ x v. unary_case o r x v) m h
+    scalar_says (op.Binary o) t l xs vs r on m h = by_two_operands M (by_two (binary_scalar o)) xs vs r (λ xs. Gives (written.applied (op.Binary o) (scalar g) xs) r) (λ x y v w. binary_case o r x y v w) m h
+    scalar_says (op.Comparison o) t l xs vs r on m h = by_two_operands M (by_two (comparison_scalar o)) xs vs r (λ xs. Gives (written.applied (op.Comparison o) (scalar g) xs) r) (λ x y v w. comparison_case o r x y v w) m h
+    scalar_says (op.Logical o) t l xs vs r on m h = by_two_operands M (by_two (logical_scalar o)) xs vs r (λ xs. Gives (written.applied (op.Logical o) (scalar g) xs) r) (λ x y v w. logical_case o r x y v w) m h
+    scalar_says op.LogicalNot t l xs vs r on m h = by_one_operand M (by_one not_scalar) xs vs r (λ xs. Gives (written.applied op.LogicalNot (scalar g) xs) r) (λ x v. not_case r x v) m h
+    scalar_says (op.Clamp o) t l xs vs r on m h = by_three_operands M (by_three (clamp_scalar o)) xs vs r (λ xs. Gives (written.applied (op.Clamp o) (scalar g) xs) r) (λ x y z v w u. clamp_case o r x y z v w u) m h
+    scalar_says op.BitFieldInsert t l xs vs r on m h = by_four_operands M inserted_field xs vs r (λ xs. Gives (written.applied op.BitFieldInsert (scalar g) xs) r) (λ x y z a v w u n. insert_case r x y z a v w u n) m h
+    scalar_says op.BitFieldSExtract t l xs vs r on m h = by_three_operands M (bit_field bit_field_signed) xs vs r (λ xs. Gives (written.applied op.BitFieldSExtract (scalar g) xs) r) (λ x y z v w u. signed_field_case r x y z v w u) m h
+    scalar_says op.BitFieldUExtract t l xs vs r on m h = by_three_operands M (bit_field bit_field_unsigned) xs vs r (λ xs. Gives (written.applied op.BitFieldUExtract (scalar g) xs) r) (λ x y z v w u. unsigned_field_case r x y z v w u) m h
+    scalar_says op.Select t l xs vs r on m h = by_three_operands M (by_three chosen) xs vs r (λ xs. OnScalars op.Select g xs → Gives (written.applied op.Select (scalar g) xs) r) (λ x y z v w u mx my mz e is. select_case r x y z v w u mx my mz e is) m h on
+    scalar_says op.Copy t l xs vs r on m h = by_one_operand M Some xs vs r (λ xs. Gives (written.applied op.Copy (scalar g) xs) r) (λ x v. copy_case r x v) m h
     scalar_says op.Any t l xs vs r on m h = absurd on
     scalar_says op.All t l xs vs r on m h = absurd on
     scalar_says op.Undef t l xs vs r on m h = absurd on

@@ -71,7 +71,7 @@ filled_whole [] more = refl
 filled_whole (v ∷ []) more = cc
 filled_whole (v ∷ (w ∷ vs)) more = ap (λ t. if t then Some (v ∷ (w ∷ vs)) else None) (itself_equal (length (v ∷ (w ∷ vs))))
 
-filled_is : (n : ℕ) (vs : List ValueTree) → length vs ≡ n → (n == 1) ≡ false → filled n vs ≡ Some vs
+pub filled_is : (n : ℕ) (vs : List ValueTree) → length vs ≡ n → (n == 1) ≡ false → filled n vs ≡ Some vs
 filled_is n vs count = subst (λ n. (n == 1) ≡ false → filled n vs ≡ Some vs) count (filled_whole vs)
 
 each_word : (e : Elem) (vs : ValueTrees) → IsNumeric e → AreWords vs → each_one (component_as e) (listed vs) ≡ Some (listed vs)
@@ -82,7 +82,7 @@ each_word elem.Bool (value (word a) vs) he h = absurd he
 each_word e (value (truth t) vs) he h = absurd h
 each_word e (value (many us) vs) he h = absurd h
 
-listed_back : (vs : ValueTrees) → values_in (listed vs) ≡ vs
+pub listed_back : (vs : ValueTrees) → values_in (listed vs) ≡ vs
 listed_back no_values = refl
 listed_back (value v vs) = ap (value v) (listed_back vs)
 
