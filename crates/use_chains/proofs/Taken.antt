@@ -5,7 +5,9 @@ use Rattle.spv_module.specs.declared.inst.Inst.{Inst}
 use Rattle.spv_module.specs.declared.inst.Function.{Function}
 use Rattle.spv_ops.specs.Operands.{is_id}
 use Rattle.spv_ops.specs.declared.Op.{Op}
-use Rattle.spv_ops.specs.declared.Op.TheVariants as op
+use Rattle.spv_ops.specs.OpGroups.{takes_of}
+use Rattle.spv_ops.specs.declared.Takes.{Takes}
+use Rattle.spv_ops.specs.declared.Takes.TheVariants.{Labels}
 use Rattle.use_chains.specs.Slots.{are_labels, has_labels, is_slot, is_taken, is_value_by, is_value, mention, slots_of_inst}
 use Rattle.std.specs.List.{enumerate_from}
 use Rattle.std.proofs.lemmas.List.{drop_more, append_assoc}
