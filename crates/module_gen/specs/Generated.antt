@@ -84,21 +84,23 @@ selection_merge merge = inst op.SelectionMerge (merge ∷ 0 ∷ [])
 abbrev pub loop_merge : ℕ → ℕ → Instruction
 loop_merge merge continue_target = inst op.LoopMerge (merge ∷ continue_target ∷ 0 ∷ [])
 
+-- the element with this id, loaded as a number
+abbrev pub loaded : ℕ → ℕ → List Instruction
+loaded e number = element e ∷ load number e ∷ []
+
 -- 1 is added to an element
 abbrev pub straight_line : ℕ → List Instruction
 straight_line b =
-    element b
-    ∷ load (b + 1) b
-    ∷ add (b + 2) (b + 1) 15
+    loaded b (b + 1)
+    ++ add (b + 2) (b + 1) 15
     ∷ store b (b + 2)
     ∷ []
 
 -- 1 is added to an element that is below 8
 abbrev pub selection : ℕ → ℕ → List Instruction
 selection b current =
-    element b
-    ∷ load (b + 1) b
-    ∷ is_below_eight (b + 2) (b + 1)
+    loaded b (b + 1)
+    ++ is_below_eight (b + 2) (b + 1)
     ∷ selection_merge (b + 4)
     ∷ branch_conditional (b + 2) (b + 3) (b + 4)
     ∷ label (b + 3)

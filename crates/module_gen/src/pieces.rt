@@ -1,6 +1,6 @@
 // The pieces of a generated module.
 ghost use Rattle.std.specs.Prelude.{◌≡◌, ◌≤◌, ◌<◌, ◌^◌, ◌+◌, ◌*◌, ◌++◌, OnOk, IfOk};
-ghost use Rattle.module_gen.specs.Generated.{straight_line, selection, loop, kind_of, piece, block_after};
+ghost use Rattle.module_gen.specs.Generated.{loaded, straight_line, selection, loop, kind_of, piece, block_after};
 
 use crate::Builder;
 use crate::ids::{BOOL, BUFFER, BUFFER_UINT, EIGHT, INDEX, ONE, UINT, ZERO};
@@ -31,15 +31,10 @@ impl Kind {
     }
 }
 
-fn put_straight_line(builder: &mut Builder, first: u32) -> Result<(), Memory>
-    requires { first < 2 ^ 31 }
-    ensures { OnOk result (builder.new ≡ record builder.old {
-      insts = builder.old.insts ++ straight_line first;
-    }) }
+/// Loads the element of the invocation as a number.
+fn put_loaded(builder: &mut Builder, element: u32, number: u32) -> Result<(), Memory>
+    ensures { OnOk result (builder.new ≡ record builder.old { insts = builder.old.insts ++ loaded element number }) }
 {
-    let element = first;
-    let number = first + 1;
-    let sum = first + 2;
     put_rows(
         builder,
         &[
@@ -48,6 +43,21 @@ fn put_straight_line(builder: &mut Builder, first: u32) -> Result<(), Memory>
                 &[BUFFER_UINT, element, BUFFER, ZERO, INDEX],
             ),
             (Op::Load, &[UINT, number, element]),
+        ],
+    )
+}
+
+fn put_straight_line(builder: &mut Builder, first: u32) -> Result<(), Memory>
+    requires { first < 2 ^ 31 }
+    ensures { OnOk result (builder.new ≡ record builder.old { insts = builder.old.insts ++ straight_line first }) }
+{
+    let element = first;
+    let number = first + 1;
+    let sum = first + 2;
+    put_loaded(builder, element, number)?;
+    put_rows(
+        builder,
+        &[
             (Op::IAdd, &[UINT, sum, number, ONE]),
             (Op::Store, &[element, sum]),
         ],
@@ -57,22 +67,16 @@ fn put_straight_line(builder: &mut Builder, first: u32) -> Result<(), Memory>
 /// Answers the block in which it ends.
 fn put_selection(builder: &mut Builder, first: u32, current: u32) -> Result<u32, Memory>
     requires { first < 2 ^ 31 }
-    ensures insts { OnOk result (builder.new ≡ record builder.old {
-      insts = builder.old.insts ++ selection first current;
-    }) }
+    ensures insts { OnOk result (builder.new ≡ record builder.old { insts = builder.old.insts ++ selection first current }) }
     ensures block { IfOk result (λ block. block ≡ first + 4) }
 {
     let (element, number, is_below) = (first, first + 1, first + 2);
     let (taken, merge) = (first + 3, first + 4);
     let (sum, chosen, target) = (first + 5, first + 6, first + 7);
+    put_loaded(builder, element, number)?;
     put_rows(
         builder,
         &[
-            (
-                Op::AccessChain,
-                &[BUFFER_UINT, element, BUFFER, ZERO, INDEX],
-            ),
-            (Op::Load, &[UINT, number, element]),
             (Op::ULessThan, &[BOOL, is_below, number, EIGHT]),
             (Op::SelectionMerge, &[merge, 0]),
             (Op::BranchConditional, &[is_below, taken, merge]),
@@ -91,9 +95,7 @@ fn put_selection(builder: &mut Builder, first: u32, current: u32) -> Result<u32,
 /// Answers the block in which it ends.
 fn put_loop(builder: &mut Builder, first: u32, current: u32) -> Result<u32, Memory>
     requires { first < 2 ^ 31 }
-    ensures insts { OnOk result (builder.new ≡ record builder.old {
-      insts = builder.old.insts ++ loop first current;
-    }) }
+    ensures insts { OnOk result (builder.new ≡ record builder.old { insts = builder.old.insts ++ loop first current }) }
     ensures block { IfOk result (λ block. block ≡ first + 5) }
 {
     let (header, counter, test) = (first, first + 1, first + 2);
@@ -112,11 +114,12 @@ fn put_loop(builder: &mut Builder, first: u32, current: u32) -> Result<u32, Memo
             (Op::ULessThan, &[BOOL, is_below, counter, EIGHT]),
             (Op::BranchConditional, &[is_below, body, merge]),
             (Op::Label, &[body]),
-            (
-                Op::AccessChain,
-                &[BUFFER_UINT, element, BUFFER, ZERO, INDEX],
-            ),
-            (Op::Load, &[UINT, number, element]),
+        ],
+    )?;
+    put_loaded(builder, element, number)?;
+    put_rows(
+        builder,
+        &[
             (Op::IAdd, &[UINT, sum, number, counter]),
             (Op::Store, &[element, sum]),
             (Op::Branch, &[next]),
