@@ -2,6 +2,13 @@
 use Rattle.std.specs.Prelude.{ℕ, ◌==◌, ◌&&◌, bit_and, Bool, true, false, List, [], ◌∷◌, ◌++◌, drop, length, map, Option, Some, None, option_map, option_and_then, if◌then◌else◌, slice_get, slice_index, take_while}
 use Rattle.spv_ops.specs.Opcode.{is}
 use Rattle.spv_ops.specs.Groups.{is_chain}
+use Rattle.spv_ops.specs.OpGroups.{group_of}
+use Rattle.spv_ops.specs.declared.OpGroup.{OpGroup}
+use Rattle.spv_ops.specs.declared.OpGroup.TheVariants as groups
+use Rattle.spv_ops.specs.declared.AtomicOp.{AtomicOp}
+use Rattle.spv_ops.specs.declared.AtomicOp.TheVariants as atomics
+use Rattle.spv_ops.specs.declared.Terminator.{Terminator}
+use Rattle.spv_ops.specs.declared.Terminator.TheVariants as ends
 use Rattle.spv_ops.specs.declared.Op.{Op}
 use Rattle.spv_ops.specs.declared.Op.TheVariants as code
 use Rattle.spv_module.specs.declared.inst.Id.{Id}
@@ -112,42 +119,55 @@ store_step s c rest i =
     with_some (pointer_at s c.top (arg i 0)) (λ p. with_some (value_at s c.top (arg i 1)) (λ v. store_to s c rest p v (seen s p.0)))
 
 -- Atomic instructions: a load adds 0, a store exchanges, an increment adds 1, a decrement the greatest word, and a difference the negated operand.
-abbrev pub atomic_operation : Op → AtomicOperation
-atomic_operation code.AtomicStore = event.exchange
-atomic_operation code.AtomicExchange = event.exchange
-atomic_operation code.AtomicCompareExchange = event.compare_exchange
-atomic_operation code.AtomicSMin = event.signed_min
-atomic_operation code.AtomicUMin = event.unsigned_min
-atomic_operation code.AtomicSMax = event.signed_max
-atomic_operation code.AtomicUMax = event.unsigned_max
-atomic_operation code.AtomicAnd = event.bit_and
-atomic_operation code.AtomicOr = event.bit_or
-atomic_operation code.AtomicXor = event.bit_xor
-atomic_operation _ = event.add
+abbrev pub atomic_operation : AtomicOp → AtomicOperation
+atomic_operation atomics.Load = event.add
+atomic_operation atomics.Store = event.exchange
+atomic_operation atomics.Exchange = event.exchange
+atomic_operation atomics.CompareExchange = event.compare_exchange
+atomic_operation atomics.IIncrement = event.add
+atomic_operation atomics.IDecrement = event.add
+atomic_operation atomics.IAdd = event.add
+atomic_operation atomics.ISub = event.add
+atomic_operation atomics.SMin = event.signed_min
+atomic_operation atomics.UMin = event.unsigned_min
+atomic_operation atomics.SMax = event.signed_max
+atomic_operation atomics.UMax = event.unsigned_max
+atomic_operation atomics.And = event.bit_and
+atomic_operation atomics.Or = event.bit_or
+atomic_operation atomics.Xor = event.bit_xor
 
 abbrev pub negated : List ℕ → List ℕ
 negated words = map (unary_word SNegate) words
 
 -- the operands of the event: of OpAtomicCompareExchange the comparator and then the value
-abbrev pub atomic_operands : Op → Setting → Frame → Inst → Option (List ℕ)
-atomic_operands code.AtomicLoad s f i = Some (0 ∷ [])
-atomic_operands code.AtomicIIncrement s f i = Some (1 ∷ [])
-atomic_operands code.AtomicIDecrement s f i = Some (all_ones ∷ [])
-atomic_operands code.AtomicISub s f i = option_map negated (words_at s f (arg i 3 ∷ []))
-atomic_operands code.AtomicCompareExchange s f i = words_at s f (arg i 5 ∷ arg i 4 ∷ [])
-atomic_operands _ s f i = words_at s f (arg i 3 ∷ [])
+abbrev pub atomic_operands : AtomicOp → Setting → Frame → Inst → Option (List ℕ)
+atomic_operands atomics.Load s f i = Some (0 ∷ [])
+atomic_operands atomics.IIncrement s f i = Some (1 ∷ [])
+atomic_operands atomics.IDecrement s f i = Some (all_ones ∷ [])
+atomic_operands atomics.ISub s f i = option_map negated (words_at s f (arg i 3 ∷ []))
+atomic_operands atomics.CompareExchange s f i = words_at s f (arg i 5 ∷ arg i 4 ∷ [])
+atomic_operands atomics.Store s f i = words_at s f (arg i 3 ∷ [])
+atomic_operands atomics.Exchange s f i = words_at s f (arg i 3 ∷ [])
+atomic_operands atomics.IAdd s f i = words_at s f (arg i 3 ∷ [])
+atomic_operands atomics.SMin s f i = words_at s f (arg i 3 ∷ [])
+atomic_operands atomics.UMin s f i = words_at s f (arg i 3 ∷ [])
+atomic_operands atomics.SMax s f i = words_at s f (arg i 3 ∷ [])
+atomic_operands atomics.UMax s f i = words_at s f (arg i 3 ∷ [])
+atomic_operands atomics.And s f i = words_at s f (arg i 3 ∷ [])
+atomic_operands atomics.Or s f i = words_at s f (arg i 3 ∷ [])
+atomic_operands atomics.Xor s f i = words_at s f (arg i 3 ∷ [])
 
 -- what was found is the result, where the instruction has one
-abbrev pub set_found : Conf → List Inst → Inst → Op → List ℕ → Conf
-set_found c rest i code.AtomicStore words = advanced c rest
+abbrev pub set_found : Conf → List Inst → Inst → AtomicOp → List ℕ → Conf
+set_found c rest i atomics.Store words = advanced c rest
 set_found c rest i _ words = set_value c rest i (word (slice_index words 0))
 
-unfoldable pub atomic_step : Setting → Conf → List Inst → Inst → Act Conf
-atomic_step s c rest i =
+unfoldable pub atomic_step : AtomicOp → Setting → Conf → List Inst → Inst → Act Conf
+atomic_step o s c rest i =
     with_some (pointer_at s c.top (arg i 0)) (λ p.
     with_some (seen s p.0) (λ v.
-    with_some (atomic_operands i.op s c.top i) (λ operands.
-    asks (updating (atomic_operation i.op) (location s v p.1) operands) (set_found c rest i i.op))))
+    with_some (atomic_operands o s c.top i) (λ operands.
+    asks (updating (atomic_operation o) (location s v p.1) operands) (set_found c rest i o))))
 
 -- OpMemoryBarrier, OpControlBarrier: by the bits UniformMemory and WorkgroupMemory of the semantics (section 3.25).
 abbrev pub when_bit : ℕ → ℕ → Event → List Event
@@ -216,11 +236,13 @@ abbrev pub case_label : ℕ → ℕ → List ℕ → ℕ
 case_label w default (literal ∷ label ∷ more) = elim (literal == w) [ true ↦ label | false ↦ case_label w default more ]
 case_label w default _ = default
 
-abbrev pub target_label : Op → Setting → Frame → Inst → Option ℕ
-target_label code.Branch s f i = Some (arg i 0)
-target_label code.BranchConditional s f i = option_map (λ b. if b then arg i 1 else arg i 2) (truth_at s f (arg i 0))
-target_label code.Switch s f i = option_map (λ w. case_label w (arg i 1) (drop 2 i.args)) (word_at s f (arg i 0))
-target_label _ s f i = None
+abbrev pub target_label : Terminator → Setting → Frame → Inst → Option ℕ
+target_label ends.Branch s f i = Some (arg i 0)
+target_label ends.BranchConditional s f i = option_map (λ b. if b then arg i 1 else arg i 2) (truth_at s f (arg i 0))
+target_label ends.Switch s f i = option_map (λ w. case_label w (arg i 1) (drop 2 i.args)) (word_at s f (arg i 0))
+target_label ends.Return s f i = None
+target_label ends.ReturnValue s f i = None
+target_label ends.Unreachable s f i = None
 
 -- what a phi takes from the block with this label
 abbrev pub source_from : ℕ → List ℕ → Option ℕ
@@ -253,8 +275,8 @@ edge_step s c label =
     with_some (each_one (phi_value s c.top (present_label c.top)) (phis b)) (λ values.
     goes [] (gone_to c t b values))))
 
-unfoldable pub branch_step : Setting → Conf → Inst → Act Conf
-branch_step s c i = with_some (target_label i.op s c.top i) (edge_step s c)
+unfoldable pub branch_step : Terminator → Setting → Conf → Inst → Act Conf
+branch_step o s c i = with_some (target_label o s c.top i) (edge_step s c)
 
 -- what kind of step an instruction is
 pub data StepKind : Type 0 where
@@ -264,50 +286,68 @@ pub data StepKind : Type 0 where
   variable : StepKind
   load : StepKind
   store : StepKind
-  atomic : StepKind
+  atomic : AtomicOp → StepKind
   memory_barrier : StepKind
   control_barrier : StepKind
   call : StepKind
   merge : StepKind
-  branch : StepKind
+  branch : Terminator → StepKind
   return : StepKind
   return_value : StepKind
   unreachable : StepKind
 
+abbrev pub step_at_end : Terminator → StepKind
+step_at_end ends.Branch = branch ends.Branch
+step_at_end ends.BranchConditional = branch ends.BranchConditional
+step_at_end ends.Switch = branch ends.Switch
+step_at_end ends.Return = return
+step_at_end ends.ReturnValue = return_value
+step_at_end ends.Unreachable = unreachable
+
+-- what is no operation, and stands in no block behind its phis, has no value as one
+abbrev pub step_in : OpGroup → StepKind
+step_in groups.Debug = operation
+step_in groups.Head = operation
+step_in groups.Type = operation
+step_in groups.Truth = operation
+step_in groups.Number = operation
+step_in groups.Composite = operation
+step_in groups.AnyConstant = operation
+step_in groups.Undef = operation
+step_in groups.Function = operation
+step_in groups.Variable = variable
+step_in groups.Load = load
+step_in groups.Store = store
+step_in groups.Chain = chain
+step_in groups.ArrayLength = array_length
+step_in groups.CopyObject = operation
+step_in groups.CopyLogical = operation
+step_in groups.Bitcast = operation
+step_in groups.VectorExtractDynamic = operation
+step_in groups.VectorInsertDynamic = operation
+step_in groups.VectorShuffle = operation
+step_in groups.CompositeConstruct = operation
+step_in groups.CompositeExtract = operation
+step_in groups.CompositeInsert = operation
+step_in groups.Arithmetic = operation
+step_in groups.Comparison = operation
+step_in groups.Logical = operation
+step_in groups.AnyOrAll = operation
+step_in groups.Select = operation
+step_in groups.BitFieldInsert = operation
+step_in groups.BitFieldExtract = operation
+step_in groups.BitOperation = operation
+step_in groups.Extended = operation
+step_in (groups.Atomic o) = atomic o
+step_in groups.ControlBarrier = control_barrier
+step_in groups.MemoryBarrier = memory_barrier
+step_in groups.Call = call
+step_in groups.Phi = operation
+step_in groups.Merge = merge
+step_in (groups.Terminator o) = step_at_end o
+
 unfoldable pub step_kind : Op → StepKind
-step_kind code.AccessChain = chain
-step_kind code.InBoundsAccessChain = chain
-step_kind code.ArrayLength = array_length
-step_kind code.Variable = variable
-step_kind code.Load = load
-step_kind code.Store = store
-step_kind code.AtomicLoad = atomic
-step_kind code.AtomicStore = atomic
-step_kind code.AtomicExchange = atomic
-step_kind code.AtomicCompareExchange = atomic
-step_kind code.AtomicIIncrement = atomic
-step_kind code.AtomicIDecrement = atomic
-step_kind code.AtomicIAdd = atomic
-step_kind code.AtomicISub = atomic
-step_kind code.AtomicSMin = atomic
-step_kind code.AtomicUMin = atomic
-step_kind code.AtomicSMax = atomic
-step_kind code.AtomicUMax = atomic
-step_kind code.AtomicAnd = atomic
-step_kind code.AtomicOr = atomic
-step_kind code.AtomicXor = atomic
-step_kind code.MemoryBarrier = memory_barrier
-step_kind code.ControlBarrier = control_barrier
-step_kind code.FunctionCall = call
-step_kind code.LoopMerge = merge
-step_kind code.SelectionMerge = merge
-step_kind code.Branch = branch
-step_kind code.BranchConditional = branch
-step_kind code.Switch = branch
-step_kind code.Return = return
-step_kind code.ReturnValue = return_value
-step_kind code.Unreachable = unreachable
-step_kind _ = operation
+step_kind o = step_in (group_of o)
 
 abbrev pub step_by : StepKind → Setting → Conf → List Inst → Inst → Act Conf
 step_by operation s c rest i = operation_step s c rest i
@@ -316,12 +356,12 @@ step_by array_length s c rest i = length_step s c rest i
 step_by variable s c rest i = variable_step s c rest i
 step_by load s c rest i = load_step s c rest i
 step_by store s c rest i = store_step s c rest i
-step_by atomic s c rest i = atomic_step s c rest i
+step_by (atomic o) s c rest i = atomic_step o s c rest i
 step_by memory_barrier s c rest i = memory_barrier_step s c rest i
 step_by control_barrier s c rest i = control_barrier_step s c rest i
 step_by call s c rest i = call_step s c rest i
 step_by merge s c rest i = goes [] (advanced c rest)
-step_by branch s c rest i = branch_step s c i
+step_by (branch o) s c rest i = branch_step o s c i
 step_by return s c rest i = return_step c c.below
 step_by return_value s c rest i = return_value_step s c i
 step_by unreachable s c rest i = fails
