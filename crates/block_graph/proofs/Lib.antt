@@ -1,5 +1,4 @@
 pub mod Walks
 pub mod Search
 pub mod Within
-pub mod Targets
 pub mod Told

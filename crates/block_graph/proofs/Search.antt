@@ -208,29 +208,6 @@ visited_targets ns marks order place block targets i d v own =
     let within : block < length ns = subst (λ b. b < length ns) v.same (v.search.inside place v.there) in
     own ∙ ap (λ (m : Node). m.targets) (get_or_default ns block d no_node within)
 
-marked_one : (ns : List Node) (marks : List Bool) → length ns ≡ 1 → marks ≡ set (replicate (length ns) false) 0 true → is_marked marks 0 ≡ true
-marked_one ns marks one is =
-    let free : length (replicate (length ns) false) ≡ length ns = length-replicate (length ns) false in
-    let inside : 0 < length (replicate (length ns) false) = omega (arith, free, one) in
-    ap (λ ms. is_marked ms 0) is ∙ get_or-set_same (replicate (length ns) false) 0 true false inside
-
--- where there is one block, it is marked and reached
-pub search_one : (ns : List Node) (marks : List Bool) → length ns ≡ 1 → marks ≡ set (replicate (length ns) false) 0 true → marks ≡ reached ns
-unfolding reached
-search_one ns marks one is =
-    let free : length (replicate (length ns) false) ≡ length ns = length-replicate (length ns) false in
-    let size : length marks ≡ length ns = ap length is ∙ (length-set (replicate (length ns) false) 0 true ∙ free) in
-    let some : 0 < length ns = omega (arith, one) in
-    let begins : is_marked (reach ns (length ns)) 0 ≡ true = reach_le ns 0 (length ns) 0 (omega (arith, some)) (reach_start ns some) in
-    ext_get_or false marks (reach ns (length ns)) (size ∙ sym (length-reach ns (length ns))) (λ t h.
-    let zero_is : 0 ≡ t = omega (arith, h, size, one) in
-    subst (λ q. is_marked marks q ≡ is_marked (reach ns (length ns)) q) zero_is (marked_one ns marks one is ∙ sym begins))
-
-pub closed_one : (ns : List Node) (marks : List Bool) → length ns ≡ 1 → marks ≡ set (replicate (length ns) false) 0 true → IsClosed ns marks
-closed_one ns marks one is = λ p t e edge within.
-    let zero_is : 0 ≡ t = omega (arith, within, one) in
-    subst (λ q. is_marked marks q ≡ true) zero_is (marked_one ns marks one is)
-
 pub ruleset search_rules = (search_end, search_first, search_none, search_length, closed_end, closed_none)
 
 pub ruleset visit_rules = (visit_first)

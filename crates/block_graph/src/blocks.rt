@@ -10,26 +10,24 @@ use spv_ops::{Op, OpGroup, Terminator};
 use std::alloc::{AllocError, Global};
 use structure_rules::{Exit, Merge, Node, Targets};
 
+fn insts(block: &Block) -> &[Inst]
+    ensures { result.now ≡ block.now.insts }
+{
+    block.insts.as_slice()
+}
+
 /// The first OpLoopMerge or OpSelectionMerge of a block.
 fn merge_inst(block: &Block) -> Option<&Inst>
     ensures { option_copied result ≡ merge_inst_of block.now }
 {
-    block
-        .insts
-        .as_slice()
-        .iter()
-        .find(|inst| inst.op.is_merge())
+    insts(block).iter().find(|inst| inst.op.is_merge())
 }
 
 /// The terminator of a block (SPIR-V 1.6, section 2.2).
 pub fn terminator(block: &Block) -> Option<&Inst>
     ensures { option_copied result ≡ terminator_of block.now }
 {
-    block
-        .insts
-        .as_slice()
-        .iter()
-        .find(|inst| inst.op.is_terminator())
+    insts(block).iter().find(|inst| inst.op.is_terminator())
 }
 
 /// The word at which an instruction stands, or 0 where there is none.

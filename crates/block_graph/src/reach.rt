@@ -41,9 +41,6 @@ pub fn reached(alloc: Global, nodes: &[Node]) -> Result<Vec<bool>, AllocError>
         return Ok(marks);
     }
     marks[0] = true;
-    if nodes.len() == 1 {
-        return Ok(marks);
-    }
     let mut order = Vec::with_capacity(alloc, nodes.len())?;
     order.push(0)?;
     let mut place = 0;
