@@ -69,7 +69,7 @@ module _ (count : ℕ) (group_of : ℕ → ℕ) (p q : Side) (carried : (i : ℕ
   still_answers : (s : State) (i : ℕ) (e : Event) → HaveAnswers s → AreAnswers (answers_of e) → HaveAnswers (moved count group_of s i e)
   still_answers s i e have words j = by_test (j == i)
     where
-      by_test : (t : Bool) → AreAnswers (elim t as (λ b. Past) [ true ↦ later count group_of (s.past i) e | false ↦ s.past j ]).answers
+      by_test : (t : Bool) → AreAnswers (elim t as (λ b. Past) [ true ↦ later (s.past i) e | false ↦ s.past j ]).answers
       by_test true = answers_append (s.past i).answers (answers_of e) (have i) words
       by_test false = have j
 

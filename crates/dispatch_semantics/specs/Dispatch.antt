@@ -39,6 +39,10 @@ pub record State : Type 0 where
   pub store : Store
   pub past : ℕ → Past
 
+-- with one more event
+abbrev pub later : Past → Event → Past
+later p e = record { events = p.events ++ e ∷ []; answers = p.answers ++ answers_of e }
+
 -- how many control barriers stand among these
 abbrev pub is_control : Event → Bool
 is_control control_barrier = true
@@ -55,9 +59,6 @@ module _ (count : ℕ) (group_of : ℕ → ℕ) where
   MayMove s i = (j : ℕ) → j < count → group_of j ≡ group_of i → controls (s.past i).events ≤ controls (s.past j).events
 
   -- the state behind an event of an invocation
-  abbrev pub later : Past → Event → Past
-  later p e = record { events = p.events ++ e ∷ []; answers = p.answers ++ answers_of e }
-
   abbrev pub moved : State → ℕ → Event → State
   moved s i e = record { store = after (group_of i) e s.store; past = λ j. elim (j == i) [ true ↦ later (s.past i) e | false ↦ s.past j ] }
 

@@ -1,0 +1,6 @@
+pub mod Keys
+pub mod States
+pub mod Plays
+pub mod Put
+pub mod Kept
+pub mod Examples

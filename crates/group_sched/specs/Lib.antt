@@ -1,0 +1,5 @@
+pub mod Events
+pub mod Memory
+pub mod Sides
+pub mod Schedule
+pub mod Playing
