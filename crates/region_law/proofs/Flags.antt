@@ -20,7 +20,7 @@ abbrev pub top_has : List Frame → Text → Bool
 top_has [] x = false
 top_has (f ∷ fs) x = has f x
 
-none_found : (f : Frame) (x : Text) → has f x ≡ false → found f x ≡ None
+pub none_found : (f : Frame) (x : Text) → has f x ≡ false → found f x ≡ None
 none_found [] x e = refl
 none_found (b ∷ bs) x e = by_test (bytes_eq b.0 x) (none_found bs x) e
   where
@@ -47,7 +47,7 @@ pub top_declared : (fs : List Frame) (x y : Text) (v : Variable) → x ≢ y →
 top_declared [] x y v ne = rw (other_text x y ne, has) refl
 top_declared (f ∷ fs) x y v ne = rw (other_text x y ne, has) refl
 
-found_put_first : (f : Frame) (x : Text) (o : Variable) (v : ValueTree) → found f x ≡ Some o → found (put_first f x v) x ≡ Some (record o { value = Some v })
+pub found_put_first : (f : Frame) (x : Text) (o : Variable) (v : ValueTree) → found f x ≡ Some o → found (put_first f x v) x ≡ Some (record o { value = Some v })
 found_put_first [] x o v e = cc
 found_put_first (b ∷ bs) x o v e = by_test (bytes_eq b.0 x) refl (found_put_first bs x o v) e
   where
@@ -55,7 +55,7 @@ found_put_first (b ∷ bs) x o v e = by_test (bytes_eq b.0 x) refl (found_put_fi
     by_test true is ih e = let same : b.1 ≡ o = cc in rw (is, found) (ap (λ (y : Variable). Some (record y { value = Some v })) same)
     by_test false is ih e = rw (is, found) (ih e)
 
-other_put_first : (f : Frame) (x y : Text) (v : ValueTree) → x ≢ y → found (put_first f x v) y ≡ found f y
+pub other_put_first : (f : Frame) (x y : Text) (v : ValueTree) → x ≢ y → found (put_first f x v) y ≡ found f y
 other_put_first [] x y v ne = refl
 other_put_first (b ∷ bs) x y v ne = by_test (bytes_eq b.0 x) refl (other_put_first bs x y v ne)
   where
@@ -63,7 +63,7 @@ other_put_first (b ∷ bs) x y v ne = by_test (bytes_eq b.0 x) refl (other_put_f
     by_test true is ih = let no : bytes_eq b.0 y ≡ false = other_text b.0 y (λ e. ne (sym (same_text b.0 x is) ∙ e)) in rw (no, found) refl
     by_test false is ih = ap (λ o. elim (bytes_eq b.0 y) as (λ q. Option Variable) [ true ↦ Some b.1 | false ↦ o ]) ih
 
-same_has_first : (f : Frame) (x y : Text) (v : ValueTree) → has (put_first f x v) y ≡ has f y
+pub same_has_first : (f : Frame) (x y : Text) (v : ValueTree) → has (put_first f x v) y ≡ has f y
 same_has_first [] x y v = refl
 same_has_first (b ∷ bs) x y v = by_test (bytes_eq b.0 x) (same_has_first bs x y v)
   where
