@@ -4,6 +4,9 @@ use Rattle.std.specs.Option.{option_map_or}
 use Rattle.std.specs.List.{enumerate_from, list_any}
 use Rattle.spv_ops.specs.Opcode.{is}
 use Rattle.spv_ops.specs.Groups.{is_chain, is_atomic}
+use Rattle.spv_ops.specs.OpGroups.{group_of}
+use Rattle.spv_ops.specs.declared.OpGroup.{OpGroup}
+use Rattle.spv_ops.specs.declared.OpGroup.TheVariants as groups
 use Rattle.spv_ops.specs.Shape.{is_pure}
 use Rattle.spv_ops.specs.declared.Op.{Op}
 use Rattle.spv_ops.specs.declared.Op.TheVariants as code
@@ -97,29 +100,17 @@ abbrev pub is_vector_choice : List Inst → Function → Inst → Bool
 is_vector_choice gs f i = is i.op code.Select && option_map_or (is_vector gs) (type_in gs f (slice_index i.args 0)) false
 
 -- operations that are written component by component on vectors
+abbrev pub is_by_component_in : OpGroup → Bool
+is_by_component_in groups.Comparison = true
+is_by_component_in groups.Logical = true
+is_by_component_in groups.BitFieldInsert = true
+is_by_component_in groups.BitFieldExtract = true
+is_by_component_in groups.BitOperation = true
+is_by_component_in groups.Extended = true
+is_by_component_in _ = false
+
 abbrev pub is_by_component : Op → Bool
-is_by_component code.LogicalEqual = true
-is_by_component code.LogicalNotEqual = true
-is_by_component code.LogicalOr = true
-is_by_component code.LogicalAnd = true
-is_by_component code.LogicalNot = true
-is_by_component code.IEqual = true
-is_by_component code.INotEqual = true
-is_by_component code.UGreaterThan = true
-is_by_component code.SGreaterThan = true
-is_by_component code.UGreaterThanEqual = true
-is_by_component code.SGreaterThanEqual = true
-is_by_component code.ULessThan = true
-is_by_component code.SLessThan = true
-is_by_component code.ULessThanEqual = true
-is_by_component code.SLessThanEqual = true
-is_by_component code.BitFieldInsert = true
-is_by_component code.BitFieldSExtract = true
-is_by_component code.BitFieldUExtract = true
-is_by_component code.BitReverse = true
-is_by_component code.BitCount = true
-is_by_component code.ExtInst = true
-is_by_component _ = false
+is_by_component o = is_by_component_in (group_of o)
 
 -- operations that write an operand more than once, on scalars too
 abbrev pub is_repeating : Op → Bool

@@ -5,7 +5,7 @@ ghost use Rattle.hoist_plan.specs.Plan.{user as user_of, mention_block as mentio
 
 use spv_index::{Locals, type_in};
 use spv_module::{Function, Id, Inst, Module};
-use spv_ops::Op;
+use spv_ops::{Op, OpGroup};
 use use_chains::SlotPlace;
 
 /// The instruction that mentions a value at a place.
@@ -98,28 +98,13 @@ fn is_by_component(op: Op) -> bool
     ensures { result ≡ is_by_component_opcode op }
 {
     matches!(
-        op,
-        Op::LogicalEqual
-            | Op::LogicalNotEqual
-            | Op::LogicalOr
-            | Op::LogicalAnd
-            | Op::LogicalNot
-            | Op::IEqual
-            | Op::INotEqual
-            | Op::UGreaterThan
-            | Op::SGreaterThan
-            | Op::UGreaterThanEqual
-            | Op::SGreaterThanEqual
-            | Op::ULessThan
-            | Op::SLessThan
-            | Op::ULessThanEqual
-            | Op::SLessThanEqual
-            | Op::BitFieldInsert
-            | Op::BitFieldSExtract
-            | Op::BitFieldUExtract
-            | Op::BitReverse
-            | Op::BitCount
-            | Op::ExtInst
+        op.group(),
+        OpGroup::Comparison
+            | OpGroup::Logical
+            | OpGroup::BitFieldInsert
+            | OpGroup::BitFieldExtract
+            | OpGroup::BitOperation
+            | OpGroup::Extended
     )
 }
 
