@@ -39,7 +39,7 @@ listed_values [] = refl
 listed_values (v ∷ vs) = ap (λ us. v ∷ us) (listed_values vs)
 
 -- what stands at a place of a list
-at_below : {A : Type 0} (xs : List A) (k : ℕ) (x : A) → slice_get xs k ≡ Some x → k < length xs
+pub at_below : {A : Type 0} (xs : List A) (k : ℕ) (x : A) → slice_get xs k ≡ Some x → k < length xs
 at_below [] k x e = cc
 at_below (y ∷ xs) zero x e = omega arith
 at_below (y ∷ xs) (suc k) x e = let less = at_below xs k x e in omega (arith, less)
@@ -162,7 +162,7 @@ axis_number (suc (suc zero)) low = refl
 axis_number (suc (suc (suc zero))) low = refl
 axis_number (suc (suc (suc (suc k)))) low = absurd (omega (arith, low))
 
-less_is : (k n : ℕ) → k < n → nat_lt k n ≡ true
+pub less_is : (k n : ℕ) → k < n → nat_lt k n ≡ true
 less_is k n h = grind (arith, nat_tests, h)
 
 axis_part : (e : Elem) (n k : ℕ) → k < n → n ≤ 4 → component_if n (shape_of_elem e) (component_number (axis_name k)) ≡ Some (k, shape_of_elem e)

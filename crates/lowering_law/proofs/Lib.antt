@@ -11,3 +11,4 @@ pub mod Scalars
 pub mod Vectors
 pub mod Parts
 pub mod Components
+pub mod Whole

@@ -102,7 +102,7 @@ module _ (p : Program) (calls : Text → List Argument → State → Result (Opt
   abbrev S : Expr → Typed → Type 0
   S = Says p calls s
 
-  converted_vector : (e g : Elem) (n : ℕ) (x : Expr) (vs : ValueTrees) → IsNumeric e → IsNumeric g → AreWords vs → length (listed vs) ≡ n → (n == 1) ≡ false → S x (typed (vector e n) (many vs)) → S (converted (vector_type g n) e x) (typed (vector g n) (many vs))
+  pub converted_vector : (e g : Elem) (n : ℕ) (x : Expr) (vs : ValueTrees) → IsNumeric e → IsNumeric g → AreWords vs → length (listed vs) ≡ n → (n == 1) ≡ false → S x (typed (vector e n) (many vs)) → S (converted (vector_type g n) e x) (typed (vector g n) (many vs))
   converted_vector elem.Int elem.Int n x vs he hg words count more h = h
   converted_vector elem.Uint elem.Uint n x vs he hg words count more h = h
   converted_vector elem.Int elem.Uint n x vs he hg words count more h =
