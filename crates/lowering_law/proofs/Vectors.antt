@@ -10,22 +10,23 @@ use Rattle.glsl_ast.specs.Tree.{Text, Expr, expr, no_exprs}
 use Rattle.glsl_ast.specs.Tree as tree
 use Rattle.glsl_ast.specs.declared.expressions.BinOp.{BinOp}
 use Rattle.glsl_ast.specs.declared.expressions.BinOp.TheVariants.{Add, Sub, Mul, And, Or, Xor}
+use Rattle.op_semantics.specs.declared.operation.Unary.TheVariants.{Not}
 use Rattle.op_semantics.specs.declared.operation.Binary.{Binary}
 use Rattle.op_semantics.specs.declared.operation.Binary.TheVariants.{IAdd, ISub, IMul, BitwiseOr, BitwiseXor, BitwiseAnd}
 use Rattle.op_semantics.specs.Word.{binary_word}
-use Rattle.op_semantics.specs.Component.{listed, composite, before, each_one, each_two, by_two, binary_scalar}
+use Rattle.op_semantics.specs.Component.{listed, composite, before, each_one, each_two, by_one, by_two, unary_scalar, binary_scalar}
 use Rattle.int_lowering.specs.Operand.{Operand, type_named, converted, as_elem}
 use Rattle.int_lowering.specs.Lowered as written
 use Rattle.traces.specs.Outcomes.{Result}
 use Rattle.glsl_semantics.specs.Shapes.{vector, scalar, Typed, typed}
 use Rattle.glsl_semantics.specs.States.{State}
-use Rattle.glsl_semantics.specs.Operators.{numeric, operator_kind, operated_by, operated, word_operator, on_words, by_components}
+use Rattle.glsl_semantics.specs.Operators.{numeric, operator_kind, operated_by, operated, word_operator, on_words, by_components, flipped_word, flipped}
 use Rattle.glsl_semantics.specs.Functions.{as_elem as component_as, filled, vector_of}
 use Rattle.glsl_semantics.specs.Expressions.{Program, Argument, settling}
 use Rattle.lowering_law.specs.Says.{Says}
 use Rattle.lowering_law.specs.Numbers.{IsNumeric, IsPlain}
 use Rattle.lowering_law.specs.Stands.{AreWords, StandsVector, vector_type}
-use Rattle.lowering_law.proofs.Saying.{says_binary, says_build}
+use Rattle.lowering_law.proofs.Saying.{says_flip, says_binary, says_build}
 
 each_two_alike : (f g : ValueTree → ValueTree → Option ValueTree) → ((v w : ValueTree) → f v w ≡ g v w) → (vs ws : List ValueTree) → each_two f vs ws ≡ each_two g vs ws
 each_two_alike f g same [] [] = refl
@@ -98,6 +99,23 @@ made e n vs he words count more =
 as_vector : (g e : Elem) (n : ℕ) (x : Operand) → x.word ≡ None → x.ty ≡ vector_type e n → as_elem g x ≡ converted (vector_type g n) e x.expr
 as_vector g e n x w t = rw (w, t) refl
 
+each_one_alike : (f g : ValueTree → Option ValueTree) → ((v : ValueTree) → f v ≡ g v) → (vs : List ValueTree) → each_one f vs ≡ each_one g vs
+each_one_alike f g same [] = refl
+each_one_alike f g same (v ∷ vs) = ap (λ q. before q (each_one f vs)) (same v) ∙ ap (before (g v)) (each_one_alike f g same vs)
+
+flipped_alike : (v : ValueTree) → flipped_word v ≡ unary_scalar Not v
+flipped_alike (word a) = refl
+flipped_alike (truth t) = refl
+flipped_alike (many vs) = refl
+
+flipped_vector : (e : Elem) (n : ℕ) (vs : ValueTrees) (r : ValueTree) → IsNumeric e → by_one (unary_scalar Not) (many vs) ≡ Some r → flipped (typed (vector e n) (many vs)) ≡ Some (typed (vector e n) r)
+flipped_vector e n vs r he h = by_elem e he ∙ ap (option_map (typed (vector e n))) (ap (option_map composite) (each_one_alike flipped_word (unary_scalar Not) flipped_alike (listed vs)) ∙ h)
+  where
+    by_elem : (e : Elem) → IsNumeric e → flipped (typed (vector e n) (many vs)) ≡ option_map (typed (vector e n)) (by_one flipped_word (many vs))
+    by_elem elem.Int he = refl
+    by_elem elem.Uint he = refl
+    by_elem elem.Bool he = absurd he
+
 module _ (p : Program) (calls : Text → List Argument → State → Result (Option Typed × State)) (s : State) where
   abbrev S : Expr → Typed → Type 0
   S = Says p calls s
@@ -116,6 +134,10 @@ module _ (p : Program) (calls : Text → List Argument → State → Result (Opt
   -- a vector operand, as a vector of whichever numbers it is wanted, says its components
   pub as_vector_says : (g e : Elem) (n : ℕ) (x : Operand) (vs : ValueTrees) → IsNumeric g → (n == 1) ≡ false → StandsVector p calls s x e n vs → S (as_elem g x) (typed (vector g n) (many vs))
   as_vector_says g e n x vs hg more h = subst (λ q. S q (typed (vector g n) (many vs))) (sym (as_vector g e n x h.no_word h.of_type)) (converted_vector e g n x.expr vs h.is_numeric hg h.words h.count more h.says)
+
+  -- OpNot on a vector
+  pub flip_says : (g e : Elem) (n : ℕ) (x : Operand) (vs : ValueTrees) (r : ValueTree) → IsNumeric g → (n == 1) ≡ false → StandsVector p calls s x e n vs → by_one (unary_scalar Not) (many vs) ≡ Some r → S (written.unary Not (vector_type g n) x) (typed (vector g n) r)
+  flip_says g e n x vs r hg more hx h = says_flip p calls s (as_elem g x) (typed (vector g n) (many vs)) (typed (vector g n) r) (as_vector_says g e n x vs hg more hx) (flipped_vector g n vs r hg h)
 
   module _ (g d e : Elem) (numbers : IsNumeric g) (n : ℕ) (more : (n == 1) ≡ false) (x y : Operand) (vs ws : ValueTrees) (hx : StandsVector p calls s x d n vs) (hy : StandsVector p calls s y e n ws) where
     both_say : (o : BinOp) (op : Binary) (r : ValueTree) → operator_kind o ≡ numeric → settling o ≡ None → ((a b : ℕ) → word_operator o g a b ≡ binary_word op a b) → by_two (binary_scalar op) (many vs) (many ws) ≡ Some r → S (tree.binary o (as_elem g x) (as_elem g y)) (typed (vector g n) r)
