@@ -7,6 +7,7 @@ ghost use Rattle.control_text.specs.Statements.{exit_text as text_of_exit, edge_
 use crate::block_text::BlockText;
 use crate::flags::set;
 use crate::place::Place;
+use crate::writer::Writer;
 use glsl_ast::Stmt;
 use spv_words::Memory;
 use std::alloc::Global;
@@ -20,94 +21,12 @@ pub fn is_break(exit: Exit) -> bool
     matches!(exit, Exit::Edge(_, _, EdgeKind::Break))
 }
 
-/// Sets the flag of the loop that a break from inside a switch leaves.
-fn leave_loop<B: BlockText>(
-    alloc: Global,
-    blocks: &B,
-    in_loop: Option<usize>,
-    out: &mut Vec<Stmt>,
-) -> Result<(), Memory>
-    ensures { OnOk result (map stmt_of out.new.items ≡ map stmt_of out.old.items ++ text_of_leave (B.blocks blocks.now) in_loop) }
-{
-    match in_loop {
-        None => Ok(()),
-        Some(header) => set(alloc, blocks.leave(header), out),
-    }
-}
-
 /// Appends a statement without parts.
 fn push(stmt: Stmt, out: &mut Vec<Stmt>) -> Result<(), Memory>
     ensures { OnOk result (map stmt_of out.new.items ≡ map stmt_of out.old.items ++ map stmt_of (stmt ∷ [])) }
 {
     out.push(stmt)?;
     Ok(())
-}
-
-/// Appends what an edge does, behind its copies.
-#[tactic(auto, using(glsl_ast::proofs::Views::stmt_rows))]
-fn edge_text<B: BlockText>(
-    alloc: Global,
-    blocks: &B,
-    place: Place,
-    to: usize,
-    kind: EdgeKind,
-    out: &mut Vec<Stmt>,
-) -> Result<(), Memory>
-    ensures { OnOk result (map stmt_of out.new.items ≡ map stmt_of out.old.items ++ text_of_edge (B.blocks blocks.now) place to kind) }
-{
-    match kind {
-        EdgeKind::Enter | EdgeKind::Merge => Ok(()),
-        EdgeKind::SwitchBreak => push(Stmt::Break, out),
-        EdgeKind::Break => {
-            if place.in_switch {
-                leave_loop(alloc, blocks, place.in_loop, out)?;
-            }
-            push(Stmt::Break, out)
-        }
-        EdgeKind::Continue => push(Stmt::Continue, out),
-        EdgeKind::Back if place.continues => Ok(()),
-        EdgeKind::Back => push(Stmt::Continue, out),
-        EdgeKind::Fall => set(alloc, blocks.fell(to), out),
-    }
-}
-
-/// Appends the statements with which a region ends.
-#[tactic(auto, using(glsl_ast::proofs::Views::stmt_rows))]
-pub fn exit_text<B: BlockText>(
-    alloc: Global,
-    blocks: &B,
-    place: Place,
-    exit: Exit,
-    out: &mut Vec<Stmt>,
-) -> Result<(), Memory>
-    ensures { OnOk result (map stmt_of out.new.items ≡ map stmt_of out.old.items ++ text_of_exit (B.blocks blocks.now) place exit) }
-{
-    match exit {
-        Exit::Edge(from, to, kind) => {
-            blocks.copies(alloc, from, to, out)?;
-            edge_text(alloc, blocks, place, to, kind, out)
-        }
-        Exit::Return(block) => push(Stmt::Return(blocks.value(alloc, block)?), out),
-        Exit::Lost(_) | Exit::Closed => Ok(()),
-    }
-}
-
-/// Appends the copies of an edge to the first block of a region: where the region is an edge alone, its
-/// exit writes them.
-pub fn entering<B: BlockText>(
-    alloc: Global,
-    blocks: &B,
-    from: usize,
-    to: usize,
-    region: &Region,
-    out: &mut Vec<Stmt>,
-) -> Result<(), Memory>
-    ensures { OnOk result (map stmt_of out.new.items ≡ map stmt_of out.old.items ++ text_of_entering (B.blocks blocks.now) from to (region_of region.now)) }
-{
-    if region.items.is_empty() {
-        return Ok(());
-    }
-    blocks.copies(alloc, from, to, out)
 }
 
 /// The block that a plain item is.
@@ -121,17 +40,84 @@ pub fn plain_block(item: &Item) -> Option<usize>
     }
 }
 
-/// Appends the copies of the edge from a plain block to the item behind it.
-pub fn copies_from<B: BlockText>(
-    alloc: Global,
-    blocks: &B,
-    from: Option<usize>,
-    out: &mut Vec<Stmt>,
-) -> Result<(), Memory>
-    ensures { OnOk result (map stmt_of out.new.items ≡ map stmt_of out.old.items ++ text_of_copies (B.blocks blocks.now) from) }
-{
-    match from {
-        None => Ok(()),
-        Some(block) => blocks.copies(alloc, block, blocks.target(block, 0), out),
+impl<'w, B: BlockText> Writer<'w, B> {
+    /// Sets the flag of the loop that a break from inside a switch leaves.
+    fn leave_loop(&self, in_loop: Option<usize>, out: &mut Vec<Stmt>) -> Result<(), Memory>
+        ensures { OnOk result (map stmt_of out.new.items ≡ map stmt_of out.old.items ++ text_of_leave (B.blocks self.now.blocks.now) in_loop) }
+    {
+        match in_loop {
+            None => Ok(()),
+            Some(header) => set(self.alloc, self.blocks.leave(header), out),
+        }
+    }
+
+    /// Appends what an edge does, behind its copies.
+    #[tactic(auto, using(glsl_ast::proofs::Views::stmt_rows))]
+    fn edge_text(
+        &self,
+        place: Place,
+        to: usize,
+        kind: EdgeKind,
+        out: &mut Vec<Stmt>,
+    ) -> Result<(), Memory>
+        ensures { OnOk result (map stmt_of out.new.items ≡ map stmt_of out.old.items ++ text_of_edge (B.blocks self.now.blocks.now) place to kind) }
+    {
+        match kind {
+            EdgeKind::Enter | EdgeKind::Merge => Ok(()),
+            EdgeKind::SwitchBreak => push(Stmt::Break, out),
+            EdgeKind::Break => {
+                if place.in_switch {
+                    self.leave_loop(place.in_loop, out)?;
+                }
+                push(Stmt::Break, out)
+            }
+            EdgeKind::Continue => push(Stmt::Continue, out),
+            EdgeKind::Back if place.continues => Ok(()),
+            EdgeKind::Back => push(Stmt::Continue, out),
+            EdgeKind::Fall => set(self.alloc, self.blocks.fell(to), out),
+        }
+    }
+
+    /// Appends the statements with which a region ends.
+    #[tactic(auto, using(glsl_ast::proofs::Views::stmt_rows))]
+    pub fn exit_text(&self, place: Place, exit: Exit, out: &mut Vec<Stmt>) -> Result<(), Memory>
+        ensures { OnOk result (map stmt_of out.new.items ≡ map stmt_of out.old.items ++ text_of_exit (B.blocks self.now.blocks.now) place exit) }
+    {
+        match exit {
+            Exit::Edge(from, to, kind) => {
+                self.blocks.copies(self.alloc, from, to, out)?;
+                self.edge_text(place, to, kind, out)
+            }
+            Exit::Return(block) => push(Stmt::Return(self.blocks.value(self.alloc, block)?), out),
+            Exit::Lost(_) | Exit::Closed => Ok(()),
+        }
+    }
+
+    /// Appends the copies of an edge to the first block of a region: where the region is an edge alone, its
+    /// exit writes them.
+    pub fn entering(
+        &self,
+        from: usize,
+        to: usize,
+        region: &Region,
+        out: &mut Vec<Stmt>,
+    ) -> Result<(), Memory>
+        ensures { OnOk result (map stmt_of out.new.items ≡ map stmt_of out.old.items ++ text_of_entering (B.blocks self.now.blocks.now) from to (region_of region.now)) }
+    {
+        if region.items.is_empty() {
+            return Ok(());
+        }
+        self.blocks.copies(self.alloc, from, to, out)
+    }
+
+    /// Appends the copies of the edge from a plain block to the item behind it.
+    pub fn copies_from(&self, from: Option<usize>, out: &mut Vec<Stmt>) -> Result<(), Memory>
+        ensures { OnOk result (map stmt_of out.new.items ≡ map stmt_of out.old.items ++ text_of_copies (B.blocks self.now.blocks.now) from) }
+    {
+        if let Some(block) = from {
+            let to = self.blocks.target(block, 0);
+            self.blocks.copies(self.alloc, block, to, out)?;
+        }
+        Ok(())
     }
 }

@@ -7,6 +7,7 @@ mod flags;
 mod place;
 mod regions;
 mod switches;
+mod writer;
 
 pub use block_text::BlockText;
 pub use regions::function_text;

@@ -7,98 +7,14 @@ ghost use Rattle.control_text.specs.Written.{group_written};
 ghost use Rattle.control_text.specs.Rising.{target_of, stand_so, is_behind as is_behind_of};
 
 use crate::block_text::BlockText;
-use crate::edges::entering;
 use crate::flags::{declare, named};
 use crate::place::Place;
+use crate::writer::Writer;
 use glsl_ast::{Arm, Expr, Label, Stmt};
 use spv_words::Memory;
 use std::alloc::{AllocError, Global};
 use std::collections::BTreeMap;
 use structure_recover::{Group, Region};
-
-/// The labels of a group, the default last.
-pub fn labels_text<B: BlockText>(
-    alloc: Global,
-    blocks: &B,
-    header: usize,
-    words: &[u32],
-    default: bool,
-) -> Result<Vec<Label>, Memory>
-    ensures { IfOk result (λ labels. labels.items ≡ text_of_labels (B.blocks blocks.now) header words.now default) }
-{
-    let mut labels = Vec::with_capacity(alloc, words.len() + usize::from(default))?;
-    for word in words {
-        labels.push(Label::Case(blocks.case(header, *word)))?;
-    }
-    if default {
-        labels.push(Label::Default)?;
-    }
-    Ok(labels)
-}
-
-/// Appends the copies of the edge from a switch to a case target: not after a fall.
-#[tactic(auto, using(glsl_ast::proofs::Views::stmt_rows, glsl_ast::proofs::Views::expr_rows))]
-pub fn entering_case<B: BlockText>(
-    alloc: Global,
-    blocks: &B,
-    header: usize,
-    target: usize,
-    body: &Region,
-    out: &mut Vec<Stmt>,
-) -> Result<(), Memory>
-    ensures { OnOk result (map stmt_of out.new.items ≡ map stmt_of out.old.items ++ text_of_entering_case (B.blocks blocks.now) header target (region_of body.now)) }
-{
-    let Some(flag) = blocks.fell(target) else {
-        return entering(alloc, blocks, header, target, body, out);
-    };
-    let fell = Box::new(alloc, named(alloc, flag)?)?;
-    let mut copies = Vec::with_capacity(alloc, 1)?;
-    entering(alloc, blocks, header, target, body, &mut copies)?;
-    out.push(Stmt::If(Expr::Not(fell), copies, None))?;
-    Ok(())
-}
-
-/// Appends the declarations of the flags of the case targets that are fallen into.
-#[tactic(auto, using(crate::proofs::Rows::group_rules))]
-pub fn fell_flags<B: BlockText>(
-    alloc: Global,
-    blocks: &B,
-    groups: &[Group],
-    out: &mut Vec<Stmt>,
-) -> Result<(), Memory>
-    ensures { OnOk result (map stmt_of out.new.items ≡ map stmt_of out.old.items ++ text_of_fell_flags (B.blocks blocks.now) (groups_of (map group_of groups.now))) }
-{
-    for group in groups {
-        declare(alloc, blocks.fell(group.target), out)?;
-    }
-    Ok(())
-}
-
-/// Appends what stands behind a switch by which a loop may be left.
-#[tactic(auto, using(glsl_ast::proofs::Views::stmt_rows))]
-pub fn behind_switch<B: BlockText>(
-    alloc: Global,
-    blocks: &B,
-    place: Place,
-    breaks: bool,
-    out: &mut Vec<Stmt>,
-) -> Result<(), Memory>
-    ensures { OnOk result (map stmt_of out.new.items ≡ map stmt_of out.old.items ++ text_of_behind_switch (B.blocks blocks.now) place breaks) }
-{
-    if !breaks {
-        return Ok(());
-    }
-    let Some(header) = place.in_loop else {
-        return Ok(());
-    };
-    let Some(flag) = blocks.leave(header) else {
-        return Ok(());
-    };
-    let mut leaving = Vec::with_capacity(alloc, 1)?;
-    leaving.push(Stmt::Break)?;
-    out.push(Stmt::If(named(alloc, flag)?, leaving, None))?;
-    Ok(())
-}
 
 /// Whether the target stands behind the one before it.
 fn is_behind(before: Option<usize>, target: usize) -> bool
@@ -167,4 +83,82 @@ pub fn in_order(
     }
     let arms = reordered(alloc, order, groups)?;
     Ok(arms)
+}
+
+impl<'w, B: BlockText> Writer<'w, B> {
+    /// The labels of a group, the default last.
+    pub fn labels_text(
+        &self,
+        header: usize,
+        words: &[u32],
+        default: bool,
+    ) -> Result<Vec<Label>, Memory>
+        ensures { IfOk result (λ labels. labels.items ≡ text_of_labels (B.blocks self.now.blocks.now) header words.now default) }
+    {
+        let mut labels = Vec::with_capacity(self.alloc, words.len() + usize::from(default))?;
+        for word in words {
+            labels.push(Label::Case(self.blocks.case(header, *word)))?;
+        }
+        if default {
+            labels.push(Label::Default)?;
+        }
+        Ok(labels)
+    }
+
+    /// Appends the copies of the edge from a switch to a case target: not after a fall.
+    #[tactic(auto, using(glsl_ast::proofs::Views::stmt_rows, glsl_ast::proofs::Views::expr_rows))]
+    pub fn entering_case(
+        &self,
+        header: usize,
+        target: usize,
+        body: &Region,
+        out: &mut Vec<Stmt>,
+    ) -> Result<(), Memory>
+        ensures { OnOk result (map stmt_of out.new.items ≡ map stmt_of out.old.items ++ text_of_entering_case (B.blocks self.now.blocks.now) header target (region_of body.now)) }
+    {
+        let Some(flag) = self.blocks.fell(target) else {
+            return self.entering(header, target, body, out);
+        };
+        let fell = Box::new(self.alloc, named(self.alloc, flag)?)?;
+        let mut copies = Vec::with_capacity(self.alloc, 1)?;
+        self.entering(header, target, body, &mut copies)?;
+        out.push(Stmt::If(Expr::Not(fell), copies, None))?;
+        Ok(())
+    }
+
+    /// Appends the declarations of the flags of the case targets that are fallen into.
+    #[tactic(auto, using(crate::proofs::Rows::group_rules))]
+    pub fn fell_flags(&self, groups: &[Group], out: &mut Vec<Stmt>) -> Result<(), Memory>
+        ensures { OnOk result (map stmt_of out.new.items ≡ map stmt_of out.old.items ++ text_of_fell_flags (B.blocks self.now.blocks.now) (groups_of (map group_of groups.now))) }
+    {
+        for group in groups {
+            declare(self.alloc, self.blocks.fell(group.target), out)?;
+        }
+        Ok(())
+    }
+
+    /// Appends what stands behind a switch by which a loop may be left.
+    #[tactic(auto, using(glsl_ast::proofs::Views::stmt_rows))]
+    pub fn behind_switch(
+        &self,
+        place: Place,
+        breaks: bool,
+        out: &mut Vec<Stmt>,
+    ) -> Result<(), Memory>
+        ensures { OnOk result (map stmt_of out.new.items ≡ map stmt_of out.old.items ++ text_of_behind_switch (B.blocks self.now.blocks.now) place breaks) }
+    {
+        if !breaks {
+            return Ok(());
+        }
+        let Some(header) = place.in_loop else {
+            return Ok(());
+        };
+        let Some(flag) = self.blocks.leave(header) else {
+            return Ok(());
+        };
+        let mut leaving = Vec::with_capacity(self.alloc, 1)?;
+        leaving.push(Stmt::Break)?;
+        out.push(Stmt::If(named(self.alloc, flag)?, leaving, None))?;
+        Ok(())
+    }
 }

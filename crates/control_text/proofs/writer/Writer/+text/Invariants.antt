@@ -6,7 +6,7 @@ use Rattle.control_text.specs.Statements.{region_text, groups_text, has_break, g
 use Rattle.control_text.specs.Size.{region_size, item_size, groups_size}
 use Rattle.control_text.specs.Written.{group_written}
 use Rattle.control_text.proofs.Steps.{left_text}
-use Rattle.control_text.proofs.regions.+text.Given as goal
+use Rattle.control_text.proofs.writer.Writer.+text.Given as goal
 
 abbrev pub decreases-region_text : goal.decreases-region_text
 decreases-region_text g l = region_size (region_of l.region.now) + 1
@@ -43,12 +43,12 @@ decreases-case_body g l = region_size (region_of l.body.now) + 2
 
 abbrev pub invariant-items_text-loop-item : goal.invariant-items_text-loop-item
 invariant-items_text-loop-item g l = record {
-  text : map stmt_of l.out.items ++ left_text (g.B.BlockText.blocks l.blocks) l.place l.exit l.from (drop l.item-index l.items) ≡ map stmt_of l.initial.out.items ++ region_text (g.B.BlockText.blocks l.blocks) l.place (before (map item_of l.items) (ends l.exit));
+  text : map stmt_of l.out.items ++ left_text (g.B.BlockText.blocks l.self.blocks.now) l.place l.exit l.from (drop l.item-index l.items) ≡ map stmt_of l.initial.out.items ++ region_text (g.B.BlockText.blocks l.self.blocks.now) l.place (before (map item_of l.items) (ends l.exit));
   breaks : (l.breaks || has_break (before (map item_of (drop l.item-index l.items)) (ends l.exit))) ≡ has_break (before (map item_of l.items) (ends l.exit));
 }
 
 abbrev pub invariant-groups_text-loop-group : goal.invariant-groups_text-loop-group
 invariant-groups_text-loop-group g l = record {
-  text : map group_written l.arms.items ++ groups_text (g.B.BlockText.blocks l.blocks) l.place l.head (groups_of (map group_of (drop l.group-index l.groups))) ≡ groups_text (g.B.BlockText.blocks l.blocks) l.place l.head (groups_of (map group_of l.groups));
+  text : map group_written l.arms.items ++ groups_text (g.B.BlockText.blocks l.self.blocks.now) l.place l.head (groups_of (map group_of (drop l.group-index l.groups))) ≡ groups_text (g.B.BlockText.blocks l.self.blocks.now) l.place l.head (groups_of (map group_of l.groups));
   breaks : (l.breaks || groups_have_break (groups_of (map group_of (drop l.group-index l.groups)))) ≡ groups_have_break (groups_of (map group_of l.groups));
 }

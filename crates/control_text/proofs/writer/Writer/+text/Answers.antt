@@ -8,7 +8,7 @@ use Rattle.glsl_ast.specs.View.{stmt_of}
 use Rattle.control_text.specs.Statements.{labels_text, region_text, groups_text, has_break, groups_have_break}
 use Rattle.control_text.specs.Size.{region_size}
 use Rattle.control_text.proofs.Steps.{item_smaller, group_smaller, item_more, item_breaks_more, items_end, items_breaks_end, group_more, group_breaks_more}
-use Rattle.control_text.proofs.regions.+text.Goals as goal
+use Rattle.control_text.proofs.writer.Writer.+text.Goals as goal
 
 pub region_text-items_text-requires : goal.region_text-items_text-requires
 region_text-items_text-requires g t c κs within =
@@ -21,7 +21,7 @@ pub region_text-returns-clause-text : goal.region_text-returns-clause-text
 region_text-returns-clause-text g t c =
     let r = c.args.region.now in
     let same : c.deref.result.now ≡ r.items.items = grind (arith, c.deref.ensures.value) in
-    rw (region_is r) (subst (λ (l : List Item). OnOk c.items_text.result (map stmt_of c.items_text.new.out.items ≡ map stmt_of c.args.out.now.items ++ region_text (g.B.BlockText.blocks c.args.blocks.now) c.args.place (before (map item_of l) (ends r.exit)))) same c.items_text.ensures.text)
+    rw (region_is r) (subst (λ (l : List Item). OnOk c.items_text.result (map stmt_of c.items_text.new.out.items ≡ map stmt_of c.args.out.now.items ++ region_text (g.B.BlockText.blocks c.args.self.now.blocks.now) c.args.place (before (map item_of l) (ends r.exit)))) same c.items_text.ensures.text)
 
 pub region_text-returns-clause-breaks : goal.region_text-returns-clause-breaks
 region_text-returns-clause-breaks g t c =
@@ -36,7 +36,7 @@ items_text-item_text-requires g t c κs within =
 
 pub items_text-loop-item-preserved : goal.items_text-loop-item-preserved
 items_text-loop-item-preserved g t c =
-    let w = g.B.BlockText.blocks c.args.blocks.now in
+    let w = g.B.BlockText.blocks c.args.self.now.blocks.now in
     let is = c.args.items.now in
     let i = c.loop-item.item-index in
     let x = c.item-item.result in
@@ -48,7 +48,7 @@ items_text-loop-item-preserved g t c =
 
 pub items_text-returns-clause-text : goal.items_text-returns-clause-text
 items_text-returns-clause-text g t c =
-    let w = g.B.BlockText.blocks c.args.blocks.now in
+    let w = g.B.BlockText.blocks c.args.self.now.blocks.now in
     items_end w c.args.place c.args.exit c.args.items.now c.loop-item.item-index c.loop-item.from (map stmt_of c.loop-item.out.items) (map stmt_of c.exit_text.new.out.items) (map stmt_of c.args.out.now.items ++ region_text w c.args.place (before (map item_of c.args.items.now) (ends c.args.exit))) c.loop-item-test.false c.in_ok-exit_text.ensures c.loop-item.invariant.text
 
 pub items_text-returns-clause-breaks : goal.items_text-returns-clause-breaks
@@ -61,7 +61,7 @@ groups_text-case_body-requires g t c κs within =
 
 pub groups_text-loop-group-preserved : goal.groups_text-loop-group-preserved
 groups_text-loop-group-preserved g t c =
-    let w = g.B.BlockText.blocks c.args.blocks.now in
+    let w = g.B.BlockText.blocks c.args.self.now.blocks.now in
     let gs = c.args.groups.now in
     let i = c.loop-group.group-index in
     let x = c.group-item.result in
