@@ -25,7 +25,18 @@ inner_op_of (op.Logical o) = Some (Two (two.Logical o))
 inner_op_of op.Select = Some Select
 inner_op_of op.VectorShuffle = Some Shuffle
 inner_op_of op.CompositeExtract = Some Extract
-inner_op_of _ = None
+inner_op_of (op.Clamp o) = None
+inner_op_of op.BitFieldInsert = None
+inner_op_of op.BitFieldSExtract = None
+inner_op_of op.BitFieldUExtract = None
+inner_op_of op.Any = None
+inner_op_of op.All = None
+inner_op_of op.Undef = None
+inner_op_of op.Copy = None
+inner_op_of op.VectorExtractDynamic = None
+inner_op_of op.VectorInsertDynamic = None
+inner_op_of op.CompositeConstruct = None
+inner_op_of op.CompositeInsert = None
 
 -- the operation of an opcode there
 unfoldable pub inner_op_at : Op → Option InnerOp

@@ -31,7 +31,18 @@ fn inner_op_of(operation: Operation) -> Option<InnerOp>
         Operation::Select => Some(InnerOp::Select),
         Operation::VectorShuffle => Some(InnerOp::Shuffle),
         Operation::CompositeExtract => Some(InnerOp::Extract),
-        _ => None,
+        Operation::Clamp(_)
+        | Operation::BitFieldInsert
+        | Operation::BitFieldSExtract
+        | Operation::BitFieldUExtract
+        | Operation::Any
+        | Operation::All
+        | Operation::Undef
+        | Operation::Copy
+        | Operation::VectorExtractDynamic
+        | Operation::VectorInsertDynamic
+        | Operation::CompositeConstruct
+        | Operation::CompositeInsert => None,
     }
 }
 
