@@ -4,3 +4,4 @@ pub mod Values
 pub mod Statements
 pub mod Globals
 pub mod Context
+pub mod Kinds

@@ -12,58 +12,11 @@ use Rattle.glsl_ast.specs.Tree as text
 use Rattle.glsl_ast.specs.Tree.{Expr, name, build, exprs_in, type_name}
 use Rattle.text_rules.specs.Outlines.{basic}
 use Rattle.text_rules.specs.Declarations.{shape_at, type_at, zero_at}
-use Rattle.spv_ops.specs.OpGroups.{group_of}
-use Rattle.spv_ops.specs.declared.OpGroup.{OpGroup}
-use Rattle.spv_ops.specs.declared.OpGroup.TheVariants as groups
+pub use Rattle.expr_forward.specs.Kinds.{operation_kind_of}
 use Rattle.expr_forward.specs.declared.kinds.OperationKind.{OperationKind}
 use Rattle.expr_forward.specs.declared.kinds.OperationKind.TheVariants as kind
 use Rattle.expr_forward.specs.Scope.{Scope, Argument, globals, inst_at, type_of}
 use Rattle.expr_forward.specs.Paths.{word_at, further, part_steps, place_expr}
-
--- the kind of operation of the opcodes of a group; what is no operation has a variable
-abbrev pub operation_kind_in : OpGroup → OperationKind
-operation_kind_in groups.Debug = kind.Other
-operation_kind_in groups.Head = kind.Other
-operation_kind_in groups.Type = kind.Other
-operation_kind_in groups.Truth = kind.Other
-operation_kind_in groups.Number = kind.Other
-operation_kind_in groups.Composite = kind.Other
-operation_kind_in groups.AnyConstant = kind.Other
-operation_kind_in groups.Undef = kind.Undef
-operation_kind_in groups.Function = kind.Other
-operation_kind_in groups.Variable = kind.Other
-operation_kind_in groups.Load = kind.Other
-operation_kind_in groups.Store = kind.Other
-operation_kind_in groups.Chain = kind.Other
-operation_kind_in groups.ArrayLength = kind.ArrayLength
-operation_kind_in groups.CopyObject = kind.CopyObject
-operation_kind_in groups.CopyLogical = kind.CopyLogical
-operation_kind_in groups.Bitcast = kind.Plain
-operation_kind_in groups.VectorExtractDynamic = kind.Plain
-operation_kind_in groups.VectorInsertDynamic = kind.Other
-operation_kind_in groups.VectorShuffle = kind.Plain
-operation_kind_in groups.CompositeConstruct = kind.CompositeConstruct
-operation_kind_in groups.CompositeExtract = kind.CompositeExtract
-operation_kind_in groups.CompositeInsert = kind.Other
-operation_kind_in groups.Arithmetic = kind.Plain
-operation_kind_in groups.Comparison = kind.Plain
-operation_kind_in groups.Logical = kind.Plain
-operation_kind_in groups.AnyOrAll = kind.Plain
-operation_kind_in groups.Select = kind.Plain
-operation_kind_in groups.BitFieldInsert = kind.Plain
-operation_kind_in groups.BitFieldExtract = kind.Plain
-operation_kind_in groups.BitOperation = kind.Plain
-operation_kind_in groups.Extended = kind.Extended
-operation_kind_in (groups.Atomic o) = kind.Other
-operation_kind_in groups.ControlBarrier = kind.Other
-operation_kind_in groups.MemoryBarrier = kind.Other
-operation_kind_in groups.Call = kind.Other
-operation_kind_in groups.Phi = kind.Other
-operation_kind_in groups.Merge = kind.Other
-operation_kind_in (groups.Terminator o) = kind.Other
-
-unfoldable pub operation_kind_of : Op → OperationKind
-operation_kind_of o = operation_kind_in (group_of o)
 
 -- a variable's name
 abbrev pub variable : Scope → ℕ → Expr

@@ -1,7 +1,7 @@
 // Kinds of instructions.
 ghost use Rattle.std.specs.Prelude.{◌≡◌};
-ghost use Rattle.expr_forward.specs.Statements.{atomic_of, compares, has_result, kind_of};
-ghost use Rattle.expr_forward.specs.Values.{operation_kind_of};
+ghost use Rattle.expr_forward.specs.Kinds.{atomic_of, kind_in, kind_of, plain_if_value, operation_kind_in, operation_kind_of};
+ghost use Rattle.expr_forward.specs.Statements.{compares, has_result};
 
 use spv_ops::{AtomicOp, Op, OpGroup};
 
@@ -79,11 +79,18 @@ pub enum InstKind {
 
 impl InstKind {
     /// The kind of instruction of an opcode (SPIR-V 1.6, section 3.49).
-    #[tactic(auto, unfolding(crate::specs::Statements::kind_of))]
+    #[tactic(auto, unfolding(crate::specs::Kinds::kind_of))]
     pub(crate) fn of(op: Op) -> InstKind
         ensures { result ≡ kind_of op }
     {
-        match op.group() {
+        InstKind::of_group(op.group())
+    }
+
+    #[inline(always)]
+    fn of_group(group: OpGroup) -> InstKind
+        ensures { result ≡ kind_in group }
+    {
+        match group {
             OpGroup::Load => InstKind::Load,
             OpGroup::Store => InstKind::Store,
             OpGroup::Call => InstKind::Call,
@@ -99,7 +106,7 @@ impl InstKind {
             // these stand in no block
             OpGroup::Debug | OpGroup::Head | OpGroup::Type | OpGroup::Function => InstKind::Silent,
             OpGroup::Truth | OpGroup::Number | OpGroup::Composite | OpGroup::AnyConstant => {
-                InstKind::Value
+                InstKind::Silent
             }
             // an operation
             OpGroup::Undef
@@ -142,11 +149,18 @@ pub enum OperationKind {
 
 impl OperationKind {
     /// The kind of operation of an opcode.
-    #[tactic(auto, unfolding(crate::specs::Values::operation_kind_of))]
+    #[tactic(auto, unfolding(crate::specs::Kinds::operation_kind_of))]
     pub(crate) fn of(op: Op) -> OperationKind
         ensures { result ≡ operation_kind_of op }
     {
-        match op.group() {
+        OperationKind::of_group(op.group())
+    }
+
+    #[inline(always)]
+    fn of_group(group: OpGroup) -> OperationKind
+        ensures { result ≡ operation_kind_in group }
+    {
+        match group {
             OpGroup::Undef => OperationKind::Undef,
             OpGroup::CopyObject => OperationKind::CopyObject,
             OpGroup::ArrayLength => OperationKind::ArrayLength,
@@ -154,38 +168,16 @@ impl OperationKind {
             OpGroup::CompositeConstruct => OperationKind::CompositeConstruct,
             OpGroup::CopyLogical => OperationKind::CopyLogical,
             OpGroup::Extended => OperationKind::Extended,
-            OpGroup::VectorExtractDynamic
-            | OpGroup::VectorShuffle
-            | OpGroup::Bitcast
-            | OpGroup::Arithmetic
-            | OpGroup::Comparison
-            | OpGroup::Logical
-            | OpGroup::AnyOrAll
-            | OpGroup::Select
-            | OpGroup::BitFieldInsert
-            | OpGroup::BitFieldExtract
-            | OpGroup::BitOperation => OperationKind::Plain,
-            OpGroup::Debug
-            | OpGroup::Head
-            | OpGroup::Type
-            | OpGroup::Truth
-            | OpGroup::Number
-            | OpGroup::Composite
-            | OpGroup::AnyConstant => OperationKind::Other,
-            OpGroup::VectorInsertDynamic
-            | OpGroup::CompositeInsert
-            | OpGroup::Function
-            | OpGroup::Variable
-            | OpGroup::Load
-            | OpGroup::Store
-            | OpGroup::Chain
-            | OpGroup::Atomic(_)
-            | OpGroup::ControlBarrier
-            | OpGroup::MemoryBarrier
-            | OpGroup::Call
-            | OpGroup::Phi
-            | OpGroup::Merge
-            | OpGroup::Terminator(_) => OperationKind::Other,
+            _ => OperationKind::plain_if_value(InstKind::of_group(group)),
+        }
+    }
+
+    fn plain_if_value(kind: InstKind) -> OperationKind
+        ensures { result ≡ plain_if_value kind }
+    {
+        match kind {
+            InstKind::Value => OperationKind::Plain,
+            _ => OperationKind::Other,
         }
     }
 }
