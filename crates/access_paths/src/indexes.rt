@@ -1,14 +1,12 @@
 // The indexes of a chain, and the steps that they make.
-ghost use Rattle.std.specs.Prelude.{◌≡◌, ◌++◌, IfOk, OnOk, drop, map, option_and_then};
-ghost use Rattle.profile_rules.specs.TypeRows.{constant_word as constant_word_of};
-ghost use Rattle.profile_rules.specs.MemoryRules.{is_struct as is_struct_in, step_type as step_type_in};
+ghost use Rattle.std.specs.Prelude.{◌≡◌, ◌++◌, IfOk, OnOk, map, option_and_then};
 ghost use Rattle.access_paths.specs.Ways.{is_constant_index as is_constant_index_of, captured_indexes as captured_indexes_of, member as member_of, step as step_of};
 ghost use Rattle.access_paths.specs.Links.{spot, link_steps};
 
 use crate::Step;
 use crate::links::Link;
+use spv_index::{behind_first, constant_word, is_struct, next_type};
 use spv_module::{Id, Inst, Module};
-use spv_ops::Op;
 use spv_words::Memory;
 use std::alloc::Global;
 
@@ -23,13 +21,6 @@ pub fn is_constant_index(module: &Module, index: Id) -> bool
     }
 }
 
-/// The indexes of a chain: what stands behind its base.
-pub fn indexes(inst: &Inst) -> &[u32]
-    ensures { result.now ≡ drop 1 inst.now.args }
-{
-    inst.args.as_slice().get(1..).unwrap_or(&[])
-}
-
 /// The indexes of a chain that are no constants, each with its number among the indexes, counted
 /// from 0. There is an error only for want of memory, or for more indexes than a `u32` counts.
 pub fn captured_indexes(
@@ -40,7 +31,7 @@ pub fn captured_indexes(
     ensures { IfOk result (λ list. map (λ n. (n.0, n.1.0)) list.items ≡ captured_indexes_of «module».now.globals chain.now) }
 {
     let mut list = Vec::new(alloc);
-    for (number, index) in indexes(chain).iter().enumerate() {
+    for (number, index) in behind_first(chain).iter().enumerate() {
         if !is_constant_index(module, Id(*index)) {
             list.push((counted(number)?, Id(*index)))?;
         }
@@ -54,50 +45,6 @@ fn counted(number: usize) -> Result<u32, Memory>
     match u32::try_from(number) {
         Ok(number) => Ok(number),
         Err(_) => Err(Memory),
-    }
-}
-
-/// The word of the OpConstant with this id.
-fn constant_word(module: &Module, id: u32) -> Option<u32>
-    ensures { result ≡ constant_word_of «module».now.globals id }
-{
-    let inst = module.global(Id(id))?;
-    if inst.op == Op::Constant {
-        Some(inst.operand(0))
-    } else {
-        None
-    }
-}
-
-fn is_struct(module: &Module, ty: u32) -> bool
-    ensures { result ≡ is_struct_in «module».now.globals ty }
-{
-    module
-        .global(Id(ty))
-        .map_or(false, |inst| inst.op == Op::TypeStruct)
-}
-
-/// The type to which an index into a type leads.
-fn step_type(module: &Module, index: u32, ty: u32) -> Option<u32>
-    ensures { result ≡ step_type_in «module».now.globals index ty }
-{
-    let inst = module.global(Id(ty))?;
-    match inst.op {
-        Op::TypeStruct => {
-            let member = constant_word(module, index)?;
-            inst.args.as_slice().get(member as usize).copied()
-        }
-        Op::TypeVector | Op::TypeArray | Op::TypeRuntimeArray => Some(inst.operand(0)),
-        _ => None,
-    }
-}
-
-fn next_type(module: &Module, index: u32, ty: Option<u32>) -> Option<u32>
-    ensures { result ≡ option_and_then (step_type_in «module».now.globals index) ty }
-{
-    match ty {
-        None => None,
-        Some(ty) => step_type(module, index, ty),
     }
 }
 

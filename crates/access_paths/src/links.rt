@@ -1,12 +1,10 @@
 // The chains of a function that have indexes, each with the one before it on its way.
 ghost use Rattle.std.specs.Prelude.{◌≡◌, ◌<◌, ◌∷◌, [], true, IfOk, OnOk, length};
 ghost use Rattle.spv_ops.specs.Groups.{is_chain as is_chain_op};
-ghost use Rattle.profile_rules.specs.MemoryRules.{pointee_of as pointee_in};
 ghost use Rattle.access_paths.specs.Links.{AreBack, AreLinked, AreWays, HaveMore, IsExtended, IsIn, known_in};
 
-use crate::indexes::indexes;
-use spv_index::{Locals, pointer, type_in};
-use spv_module::{Id, Inst, Module};
+use spv_index::{Locals, behind_first, pointee_of};
+use spv_module::{Inst, Module};
 use spv_words::Memory;
 use std::alloc::{AllocError, Global};
 use std::collections::BTreeMap;
@@ -37,14 +35,6 @@ pub struct Known {
 pub struct Links<'a> {
     pub links: Vec<Link<'a>>,
     pub known: BTreeMap<u32, Known>,
-}
-
-/// The type of what a value points to, where it is a pointer.
-fn pointee_of(module: &Module, locals: &Locals, id: u32) -> Option<u32>
-    ensures { result ≡ pointee_in «module».now.globals locals.now id }
-{
-    let ty = type_in(module, locals, id)?;
-    pointer(module, Id(ty)).map(|p| p.pointee.0)
 }
 
 /// The pointer to which a link leads from a known one. A link without indexes leads nowhere further,
@@ -96,7 +86,7 @@ impl<'a> Links<'a> {
         let link = Link {
             chain: inst.result,
             stands,
-            indexes: indexes(inst),
+            indexes: behind_first(inst),
             from: pointee_of(module, locals, base),
             before: known.last,
         };
