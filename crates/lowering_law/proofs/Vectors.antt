@@ -140,7 +140,7 @@ module _ (p : Program) (calls : Text → List Argument → State → Result (Opt
   flip_says g e n x vs r hg more hx h = says_flip p calls s (as_elem g x) (typed (vector g n) (many vs)) (typed (vector g n) r) (as_vector_says g e n x vs hg more hx) (flipped_vector g n vs r hg h)
 
   module _ (g d e : Elem) (numbers : IsNumeric g) (n : ℕ) (more : (n == 1) ≡ false) (x y : Operand) (vs ws : ValueTrees) (hx : StandsVector p calls s x d n vs) (hy : StandsVector p calls s y e n ws) where
-    both_say : (o : BinOp) (op : Binary) (r : ValueTree) → operator_kind o ≡ numeric → settling o ≡ None → ((a b : ℕ) → word_operator o g a b ≡ binary_word op a b) → by_two (binary_scalar op) (many vs) (many ws) ≡ Some r → S (tree.binary o (as_elem g x) (as_elem g y)) (typed (vector g n) r)
+    pub both_say : (o : BinOp) (op : Binary) (r : ValueTree) → operator_kind o ≡ numeric → settling o ≡ None → ((a b : ℕ) → word_operator o g a b ≡ binary_word op a b) → by_two (binary_scalar op) (many vs) (many ws) ≡ Some r → S (tree.binary o (as_elem g x) (as_elem g y)) (typed (vector g n) r)
     both_say o op r kind both same h = says_binary p calls s o (as_elem g x) (as_elem g y) (typed (vector g n) (many vs)) (typed (vector g n) (many ws)) (typed (vector g n) r) both (as_vector_says g d n x vs numbers more hx) (as_vector_says g e n y ws numbers more hy) (on_vectors o op g n vs ws r numbers more kind same h)
 
     -- sums, differences, products and operations on bits of vectors, as they are written

@@ -1,27 +1,32 @@
--- Operations on whole vectors: over all their truth values, a choice between two, a component by an index that is computed, and copies.
-use Rattle.std.proofs.Common.{◌≡◌, ◌<◌, ◌≤◌, ◌==◌, ℕ, Bool, false, List, [], ◌∷◌, length, slice_get, Option, Some, None, refl, sym, ap, ◌∙◌, subst, arith}
+-- Operations on whole vectors: over all their truth values, a choice between two, a component by an index that is computed, copies, and quotients of uints.
+use Rattle.std.proofs.Common.{◌≡◌, ◌<◌, ◌≤◌, ◌==◌, ℕ, Bool, true, false, List, [], ◌∷◌, length, slice_get, Option, Some, None, refl, sym, ap, ◌∙◌, subst, arith, ◌/◌, ◌%◌, ◌||◌}
 use Rattle.std.specs.Prelude.{option_map, if◌then◌else◌}
 use Rattle.std.specs.List.{list_any, list_all}
 use Rattle.std.proofs.lemmas.Bool.Decides.{nat_tests}
 use Rattle.spv_module.specs.declared.tree.Elem.{Elem}
 use Rattle.spv_module.specs.declared.tree.Elem.TheVariants as elem
-use Rattle.spv_types.specs.Tree.{ValueTree, truth, word, many, values_in}
+use Rattle.spv_types.specs.Tree.{ValueTree, truth, word, many, values_in, ValueTrees, no_values, value}
 use Rattle.glsl_ast.specs.Tree.{Text, Expr, choose}
-use Rattle.op_semantics.specs.Component.{composite, by_three, chosen}
+use Rattle.op_semantics.specs.Component.{composite, by_three, chosen, listed, by_two, binary_scalar}
 use Rattle.op_semantics.specs.Composite.{over_truths, extracted_at}
 use Rattle.int_lowering.specs.declared.basic.BasicType.{BasicType}
 use Rattle.int_lowering.specs.declared.built_ins.BuiltIn.TheVariants.{Any, All}
 use Rattle.int_lowering.specs.Operand.{Operand, converted}
 use Rattle.int_lowering.specs.Term.{call_built_in}
+use Rattle.int_lowering.specs.Lowered as written
 use Rattle.traces.specs.Outcomes.{Result}
 use Rattle.glsl_semantics.specs.Shapes.{boolean, vector, Typed, typed, scalar as shape_of_elem}
 use Rattle.glsl_semantics.specs.States.{State, index_word}
 use Rattle.glsl_semantics.specs.Expressions.{Program, Argument}
+use Rattle.op_semantics.specs.declared.operation.Binary.TheVariants.{UDiv, UMod}
+use Rattle.op_semantics.specs.Word.{binary_word}
+use Rattle.glsl_ast.specs.declared.expressions.BinOp.TheVariants.{Div, Rem}
+use Rattle.glsl_semantics.specs.Operators.{word_operator}
 use Rattle.lowering_law.specs.Says.{Says}
 use Rattle.lowering_law.specs.Numbers.{IsNumeric, number}
 use Rattle.lowering_law.specs.BuiltIns.{NoneDeclared}
-use Rattle.lowering_law.specs.Stands.{Means, AreOf, AreWords, MeansVector, vector_type}
-use Rattle.lowering_law.proofs.Vectors.{converted_vector}
+use Rattle.lowering_law.specs.Stands.{Means, AreOf, AreWords, MeansVector, vector_type, StandsVector, IsVectorOf}
+use Rattle.lowering_law.proofs.Vectors.{converted_vector, both_say}
 use Rattle.lowering_law.proofs.Functions.{call_says}
 use Rattle.lowering_law.proofs.Comparisons.{select_says}
 use Rattle.lowering_law.proofs.Components.{listed_values, at_below, less_is}
@@ -79,3 +84,36 @@ module _ (p : Program) (none : NoneDeclared p) (calls : Text → List Argument �
   copied_says g n x vs hg more m he =
       subst (λ (ty : BasicType). S (converted (vector_type g n) ty.elem x.expr) (typed (vector g n) (composite vs))) (sym m.of_type)
       (converted_vector p calls s m.elem g n x.expr (values_in vs) he hg (words_of_numbers m.elem vs he m.fit) (ap length (listed_values vs) ∙ m.count) more m.says)
+
+words_listed : (e : Elem) (vs : ValueTrees) → IsNumeric e → AreOf e (listed vs) → AreWords vs
+words_listed e no_values h a = tt
+words_listed elem.Int (value (word i) vs) h a = words_listed elem.Int vs h a.1
+words_listed elem.Uint (value (word i) vs) h a = words_listed elem.Uint vs h a.1
+words_listed elem.Int (value (truth t) vs) h a = absurd a.0
+words_listed elem.Int (value (many us) vs) h a = absurd a.0
+words_listed elem.Uint (value (truth t) vs) h a = absurd a.0
+words_listed elem.Uint (value (many us) vs) h a = absurd a.0
+words_listed elem.Bool (value v vs) h a = absurd h
+
+-- a quotient and a remainder of uints have a value by the operator where they have one as operations
+same_quotient : (a b : ℕ) → word_operator Div elem.Uint a b ≡ binary_word UDiv a b
+same_quotient a b = elim (b == 0) as (λ q. (if q || (false || false) then None else Some (a / b)) ≡ (if q then None else Some (a / b))) [ true ↦ refl | false ↦ refl ]
+
+same_remainder : (a b : ℕ) → word_operator Rem elem.Uint a b ≡ binary_word UMod a b
+same_remainder a b = elim (b == 0) as (λ q. (if q || (false || false) then None else Some (a % b)) ≡ (if q then None else Some (a % b))) [ true ↦ refl | false ↦ refl ]
+
+-- OpUDiv and OpUMod of vectors
+module _ (p : Program) (calls : Text → List Argument → State → Result (Option Typed × State)) (s : State) (g d e : Elem) (numbers : IsNumeric g) (n : ℕ) (more : (n == 1) ≡ false) (x y : Operand) (vs ws : ValueTrees) (hx : StandsVector p calls s x d n vs) (hy : StandsVector p calls s y e n ws) where
+  pub quotient_says : (r : ValueTree) → IsVectorOf g n r → by_two (binary_scalar UDiv) (many vs) (many ws) ≡ Some r → Says p calls s (written.binary UDiv (vector_type g n) x y) (typed (vector g n) r)
+  quotient_says (many rs) is h =
+      converted_vector p calls s elem.Uint g n _ rs tt numbers (words_listed g rs numbers is.0) is.1 more
+      (both_say p calls s elem.Uint d e tt n more x y vs ws hx hy Div UDiv (many rs) refl refl same_quotient h)
+  quotient_says (word a) is h = absurd is
+  quotient_says (truth t) is h = absurd is
+
+  pub remainder_says : (r : ValueTree) → IsVectorOf g n r → by_two (binary_scalar UMod) (many vs) (many ws) ≡ Some r → Says p calls s (written.binary UMod (vector_type g n) x y) (typed (vector g n) r)
+  remainder_says (many rs) is h =
+      converted_vector p calls s elem.Uint g n _ rs tt numbers (words_listed g rs numbers is.0) is.1 more
+      (both_say p calls s elem.Uint d e tt n more x y vs ws hx hy Rem UMod (many rs) refl refl same_remainder h)
+  remainder_says (word a) is h = absurd is
+  remainder_says (truth t) is h = absurd is
