@@ -6,6 +6,7 @@ ghost use Rattle.glsl_ast.specs.View.{expr_of, stmt_of};
 ghost use Rattle.expr_forward.specs.Context.{scope_of};
 ghost use Rattle.expr_forward.specs.Statements.{atomic_name as atomic_name_of, atomic_arguments as atomic_arguments_of, atomic_operand as atomic_operand_of, atomic_text, atomic_value, word_at_place as word_at_place_of, word_by as word_by_of};
 
+use crate::block::BlockContext;
 use crate::{Atomic, Context};
 use constant_text::scalar_type;
 use glsl_ast::{BinOp, Expr, Name, Stmt};
@@ -41,34 +42,30 @@ impl Context<'_, '_> {
         let ty = scalar_type(self.module(), self.pointee(pointer));
         literal(ty.unwrap_or(Elem::Uint), word)
     }
+}
 
+impl BlockContext<'_, '_, '_> {
     /// The operand of an atomic subtraction, negated.
     #[tactic(auto, using(glsl_ast::proofs::Views::expr_rows))]
-    fn negated(&self, alloc: Global, block: usize, inst: &Inst) -> Result<Expr, Memory>
-        ensures { IfOk result (λ e. expr_of e ≡ binary Sub (word_at_place_of (scope_of self.now) inst.now 0) (atomic_value (scope_of self.now) block inst.now)) }
+    fn negated(&self, inst: &Inst) -> Result<Expr, Memory>
+        ensures { IfOk result (λ e. expr_of e ≡ binary Sub (word_at_place_of (scope_of self.now.context.now) inst.now 0) (atomic_value (scope_of self.now.context.now) self.now.block inst.now)) }
     {
-        let zero = Box::new(alloc, self.word_by(Id(inst.operand(0)), 0))?;
-        let value = self.value(alloc, block, Id(inst.operand(3)))?;
-        Ok(Expr::Binary(BinOp::Sub, zero, Box::new(alloc, value)?))
+        let zero = Box::new(self.alloc, self.context.word_by(Id(inst.operand(0)), 0))?;
+        let value = self.value(Id(inst.operand(3)))?;
+        Ok(Expr::Binary(BinOp::Sub, zero, Box::new(self.alloc, value)?))
     }
 
     /// What stands behind the place, and behind the comparator where there is one, in the call of an atomic function.
-    fn atomic_operand(
-        &self,
-        alloc: Global,
-        block: usize,
-        inst: &Inst,
-        atomic: Atomic,
-    ) -> Result<Expr, Memory>
-        ensures { IfOk result (λ e. expr_of e ≡ atomic_operand_of (scope_of self.now) block inst.now atomic) }
+    fn atomic_operand(&self, inst: &Inst, kind: Atomic) -> Result<Expr, Memory>
+        ensures { IfOk result (λ e. expr_of e ≡ atomic_operand_of (scope_of self.now.context.now) self.now.block inst.now kind) }
     {
         let place = Id(inst.operand(0));
-        match atomic {
-            Atomic::Load => Ok(self.word_by(place, 0)),
-            Atomic::Increment => Ok(self.word_by(place, 1)),
-            Atomic::Decrement => Ok(self.word_by(place, u32::MAX)),
-            Atomic::Sub => self.negated(alloc, block, inst),
-            Atomic::CompareExchange => self.value(alloc, block, Id(inst.operand(4))),
+        match kind {
+            Atomic::Load => Ok(self.context.word_by(place, 0)),
+            Atomic::Increment => Ok(self.context.word_by(place, 1)),
+            Atomic::Decrement => Ok(self.context.word_by(place, u32::MAX)),
+            Atomic::Sub => self.negated(inst),
+            Atomic::CompareExchange => self.value(Id(inst.operand(4))),
             Atomic::Store
             | Atomic::Exchange
             | Atomic::Add
@@ -76,45 +73,33 @@ impl Context<'_, '_> {
             | Atomic::Max
             | Atomic::And
             | Atomic::Or
-            | Atomic::Xor => self.value(alloc, block, Id(inst.operand(3))),
+            | Atomic::Xor => self.value(Id(inst.operand(3))),
         }
     }
 
     /// The arguments of the call of an atomic function.
-    fn atomic_arguments(
-        &self,
-        alloc: Global,
-        block: usize,
-        inst: &Inst,
-        atomic: Atomic,
-    ) -> Result<Vec<Expr>, Memory>
-        ensures { IfOk result (λ list. map expr_of list.items ≡ atomic_arguments_of (scope_of self.now) block inst.now atomic) }
+    fn atomic_arguments(&self, inst: &Inst, kind: Atomic) -> Result<Vec<Expr>, Memory>
+        ensures { IfOk result (λ list. map expr_of list.items ≡ atomic_arguments_of (scope_of self.now.context.now) self.now.block inst.now kind) }
     {
-        let mut args = Vec::new(alloc);
-        args.push(self.place_expr(alloc, block, Id(inst.operand(0)))?)?;
-        if atomic.compares() {
-            args.push(self.value(alloc, block, Id(inst.operand(5)))?)?;
+        let place = Id(inst.operand(0));
+        let mut args = Vec::new(self.alloc);
+        args.push(self.context.place_expr(self.alloc, self.block, place)?)?;
+        if kind.compares() {
+            args.push(self.value(Id(inst.operand(5)))?)?;
         }
-        args.push(self.atomic_operand(alloc, block, inst, atomic)?)?;
+        args.push(self.atomic_operand(inst, kind)?)?;
         Ok(args)
     }
 
     #[inline(never)]
     #[tactic(auto, using(glsl_ast::proofs::Views::stmt_rows, glsl_ast::proofs::Views::expr_rows))]
-    pub(crate) fn add_atomic(
-        &self,
-        alloc: Global,
-        into: &mut Vec<Stmt>,
-        block: usize,
-        inst: &Inst,
-        atomic: Atomic,
-    ) -> Result<(), Memory>
-        ensures { OnOk result (map stmt_of into.new.items ≡ map stmt_of into.old.items ++ atomic_text (scope_of self.now) block inst.now atomic) }
+    pub fn add_atomic(&self, into: &mut Vec<Stmt>, inst: &Inst, kind: Atomic) -> Result<(), Memory>
+        ensures { OnOk result (map stmt_of into.new.items ≡ map stmt_of into.old.items ++ atomic_text (scope_of self.now.context.now) self.now.block inst.now kind) }
     {
-        let function = Name::from_str(alloc, atomic_name(atomic))?;
-        let args = self.atomic_arguments(alloc, block, inst, atomic)?;
-        if atomic.has_result() {
-            return self.add_result(alloc, into, inst, Expr::call(alloc, function, args)?);
+        let function = Name::from_str(self.alloc, atomic_name(kind))?;
+        let args = self.atomic_arguments(inst, kind)?;
+        if kind.has_result() {
+            return self.add_result(into, inst, Expr::call(self.alloc, function, args)?);
         }
         into.push(Stmt::Call(function, args))?;
         Ok(())

@@ -5,6 +5,7 @@ ghost use Rattle.expr_forward.specs.Context.{scope_of};
 ghost use Rattle.expr_forward.specs.Statements.{bare_call, control_barrier_text, memory_barrier, memory_barrier_text, semantics as semantics_of};
 
 use crate::Context;
+use crate::block::BlockContext;
 use glsl_ast::{Name, Stmt};
 use spv_module::{Id, Inst};
 use spv_words::Memory;
@@ -40,29 +41,23 @@ impl Context<'_, '_> {
     {
         self.word_at(id).unwrap_or(0)
     }
+}
 
+impl BlockContext<'_, '_, '_> {
     #[inline(never)]
-    pub(crate) fn add_memory_barrier(
-        &self,
-        alloc: Global,
-        into: &mut Vec<Stmt>,
-        inst: &Inst,
-    ) -> Result<(), Memory>
-        ensures { OnOk result (map stmt_of into.new.items ≡ map stmt_of into.old.items ++ memory_barrier_text (scope_of self.now) inst.now) }
+    pub fn add_memory_barrier(&self, into: &mut Vec<Stmt>, inst: &Inst) -> Result<(), Memory>
+        ensures { OnOk result (map stmt_of into.new.items ≡ map stmt_of into.old.items ++ memory_barrier_text (scope_of self.now.context.now) inst.now) }
     {
-        add_memory_barriers(alloc, into, self.semantics(Id(inst.operand(1))))
+        let semantics = self.context.semantics(Id(inst.operand(1)));
+        add_memory_barriers(self.alloc, into, semantics)
     }
 
     #[inline(never)]
-    pub(crate) fn add_control_barrier(
-        &self,
-        alloc: Global,
-        into: &mut Vec<Stmt>,
-        inst: &Inst,
-    ) -> Result<(), Memory>
-        ensures { OnOk result (map stmt_of into.new.items ≡ map stmt_of into.old.items ++ control_barrier_text (scope_of self.now) inst.now) }
+    pub fn add_control_barrier(&self, into: &mut Vec<Stmt>, inst: &Inst) -> Result<(), Memory>
+        ensures { OnOk result (map stmt_of into.new.items ≡ map stmt_of into.old.items ++ control_barrier_text (scope_of self.now.context.now) inst.now) }
     {
-        add_memory_barriers(alloc, into, self.semantics(Id(inst.operand(2))))?;
-        add_call(alloc, into, "barrier")
+        let semantics = self.context.semantics(Id(inst.operand(2)));
+        add_memory_barriers(self.alloc, into, semantics)?;
+        add_call(self.alloc, into, "barrier")
     }
 }

@@ -1,16 +1,22 @@
 // What is known where a function is written.
-ghost use Rattle.std.specs.Prelude.{◌≡◌, IfOk, is_some, unwrap_or};
-ghost use Rattle.spv_index.specs.Locals.{type_in as type_in_of};
-ghost use Rattle.spv_index.specs.Pointers.{pointee as pointee_by};
+ghost use Rattle.std.specs.Prelude.{◌≡◌, IfOk, is_some, option_map, unwrap_or};
+ghost use Rattle.std.specs.Option.{option_copied};
+ghost use Rattle.spv_index.specs.Locals.{inst_in, type_in as type_in_of};
 ghost use Rattle.profile_rules.specs.MemoryRules.{pointee_of};
+ghost use Rattle.hoist_plan.specs.Kept.{form_in};
+ghost use Rattle.glsl_ast.specs.View.{name_text, expr_of};
+ghost use Rattle.expr_forward.specs.Context.{key_text};
+ghost use Rattle.expr_forward.specs.Globals.{global_in};
 
 use crate::Globals;
+use crate::block::BlockContext;
 use access_paths::Paths;
-use constant_text::Readings;
+use constant_text::{Readings, name};
+use glsl_ast::{Expr, Name};
 use hoist_plan::{Form, Naming};
-use name_alloc::Names;
+use name_alloc::{Key, Names};
 use spv_index::{Locals, pointer, type_in};
-use spv_module::{Id, Module};
+use spv_module::{Id, Inst, Module};
 use spv_words::Memory;
 use std::alloc::Global;
 use std::marker::Model;
@@ -68,10 +74,61 @@ impl<'a, 'b> Context<'a, 'b> {
         })
     }
 
+    /// What is known in the block at a place.
+    #[inline(always)]
+    pub(crate) fn at<'c>(&'c self, alloc: Global, block: usize) -> BlockContext<'c, 'a, 'b>
+        ensures context { result.context.now ≡ self.now }
+        ensures block { result.block ≡ block }
+    {
+        BlockContext {
+            context: self,
+            alloc,
+            block,
+        }
+    }
+
     pub(crate) fn module(&self) -> &'b Module
         ensures { result.now ≡ self.now.source.of }
     {
         self.readings.module()
+    }
+
+    pub(crate) fn names(&self) -> &'a Names
+        ensures { result.now ≡ self.now.names }
+    {
+        self.names
+    }
+
+    /// The name of a key, to stand in the tree.
+    #[inline(always)]
+    pub(crate) fn name(&self, alloc: Global, key: Key) -> Result<Name, Memory>
+        ensures { IfOk result (λ w. name_text w ≡ key_text self.now.names key) }
+    {
+        name(alloc, self.names, key)
+    }
+
+    /// The expression by which a constant or a built-in variable is read, and `None` of another id.
+    #[inline(always)]
+    pub(crate) fn global(&self, id: Id) -> Option<&Expr>
+        ensures { option_map (λ e. expr_of e.now) result ≡ global_in self.now.globals id.0 }
+    {
+        self.globals.of(id)
+    }
+
+    /// How the value with an id is written.
+    #[inline(always)]
+    pub(crate) fn form(&self, id: Id) -> Form
+        ensures { result ≡ form_in self.now.plan id.0 }
+    {
+        self.plan.of(id)
+    }
+
+    /// The instruction of the function with this result.
+    #[inline(always)]
+    pub(crate) fn inst(&self, id: Id) -> Option<&'b Inst>
+        ensures { option_copied result ≡ inst_in self.now.function id.0 }
+    {
+        self.locals.inst(id.0)
     }
 
     /// The type of a value, and 0 of an id that is none.

@@ -3,6 +3,7 @@
 
 mod atomics;
 mod barriers;
+mod block;
 mod calls;
 mod context;
 mod globals;

@@ -7,7 +7,6 @@ ghost use Rattle.expr_forward.specs.Context.{setting_of};
 
 use crate::Context;
 use access_paths::Step;
-use constant_text::name;
 use glsl_ast::{Expr, LStep, LValue, Name};
 use name_alloc::Key;
 use spv_module::Id;
@@ -60,7 +59,7 @@ impl Context<'_, '_> {
     {
         match self.globals.of(id) {
             Some(expr) => name_of(alloc, expr),
-            None => name(alloc, self.names, Key::Id(id)),
+            None => self.name(alloc, Key::Id(id)),
         }
     }
 

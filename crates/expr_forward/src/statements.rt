@@ -5,9 +5,9 @@ ghost use Rattle.expr_forward.specs.Context.{scope_of};
 ghost use Rattle.expr_forward.specs.Statements.{block_text as block_text_of, capture, captured_of, chain_text, insts_at as insts_at_of, inst_text, kind_of};
 ghost use Rattle.expr_forward.specs.declared.kinds.InstKind.TheVariants as kind;
 
+use crate::block::BlockContext;
 use crate::{Context, InstKind};
 use access_paths::captured_indexes;
-use constant_text::name;
 use glsl_ast::{LValue, Stmt};
 use name_alloc::Key;
 use spv_module::{Id, Inst};
@@ -62,55 +62,6 @@ impl Context<'_, '_> {
         count
     }
 
-    #[inline(never)]
-    fn add_load(
-        &self,
-        alloc: Global,
-        into: &mut Vec<Stmt>,
-        block: usize,
-        inst: &Inst,
-    ) -> Result<(), Memory>
-        ensures { OnOk result (map stmt_of into.new.items ≡ map stmt_of into.old.items ++ inst_text (scope_of self.now) block inst.now kind.Load) }
-    {
-        let place = self.place_expr(alloc, block, Id(inst.operand(0)))?;
-        self.add_result(alloc, into, inst, place)
-    }
-
-    #[inline(never)]
-    #[tactic(auto, using(glsl_ast::proofs::Views::stmt_rows))]
-    fn add_store(
-        &self,
-        alloc: Global,
-        into: &mut Vec<Stmt>,
-        block: usize,
-        inst: &Inst,
-    ) -> Result<(), Memory>
-        ensures { OnOk result (map stmt_of into.new.items ≡ map stmt_of into.old.items ++ inst_text (scope_of self.now) block inst.now kind.Store) }
-    {
-        let place = self.place_text(alloc, block, Id(inst.operand(0)))?;
-        let value = self.value(alloc, block, Id(inst.operand(1)))?;
-        into.push(Stmt::Assign(place, value))?;
-        Ok(())
-    }
-
-    /// Adds the value of an operation, where it has a variable.
-    #[inline(always)]
-    fn add_value(
-        &self,
-        alloc: Global,
-        into: &mut Vec<Stmt>,
-        block: usize,
-        inst: &Inst,
-    ) -> Result<(), Memory>
-        ensures { OnOk result (map stmt_of into.new.items ≡ map stmt_of into.old.items ++ inst_text (scope_of self.now) block inst.now kind.Value) }
-    {
-        if !self.has_variable(inst) {
-            return Ok(());
-        }
-        let value = self.expression(alloc, block, inst)?;
-        self.add_result(alloc, into, inst, value)
-    }
-
     /// The indexes of a chain that other blocks read from variables, each with its number among the indexes. There is an error
     /// only for want of memory, or for more indexes than a `u32` counts.
     pub fn captured(&self, alloc: Global, inst: &Inst) -> Result<Vec<(u32, Id)>, Memory>
@@ -121,76 +72,6 @@ impl Context<'_, '_> {
         } else {
             Ok(Vec::new(alloc))
         }
-    }
-
-    /// Adds what captures an index of a chain.
-    #[tactic(auto, using(glsl_ast::proofs::Views::stmt_rows))]
-    fn add_capture(
-        &self,
-        alloc: Global,
-        into: &mut Vec<Stmt>,
-        inst: &Inst,
-        number: u32,
-        index: Id,
-    ) -> Result<(), Memory>
-        ensures { OnOk result (map stmt_of into.new.items ≡ map stmt_of into.old.items ++ capture (scope_of self.now) inst.now (number, index.0) ∷ []) }
-    {
-        let name = name(alloc, self.names, Key::Captured(Id(inst.result), number))?;
-        let steps = Vec::new(alloc);
-        let index = self.index_expr(alloc, index)?;
-        into.push(Stmt::Assign(LValue { name, steps }, index))?;
-        Ok(())
-    }
-
-    #[inline(never)]
-    fn add_captures(&self, alloc: Global, into: &mut Vec<Stmt>, inst: &Inst) -> Result<(), Memory>
-        ensures { OnOk result (map stmt_of into.new.items ≡ map stmt_of into.old.items ++ chain_text (scope_of self.now) inst.now) }
-    {
-        for (number, index) in self.captured(alloc, inst)? {
-            self.add_capture(alloc, into, inst, number, index)?;
-        }
-        Ok(())
-    }
-
-    /// Adds the statements of an instruction. A value without a variable has none.
-    #[inline(always)]
-    fn add_inst(
-        &self,
-        alloc: Global,
-        into: &mut Vec<Stmt>,
-        block: usize,
-        inst: &Inst,
-    ) -> Result<(), Memory>
-        ensures { OnOk result (map stmt_of into.new.items ≡ map stmt_of into.old.items ++ inst_text (scope_of self.now) block inst.now (kind_of inst.now.op)) }
-    {
-        match InstKind::of(inst.op) {
-            InstKind::Load => self.add_load(alloc, into, block, inst),
-            InstKind::Store => self.add_store(alloc, into, block, inst),
-            InstKind::Call => self.add_function_call(alloc, into, block, inst),
-            InstKind::Atomic(atomic) => self.add_atomic(alloc, into, block, inst, atomic),
-            InstKind::ControlBarrier => self.add_control_barrier(alloc, into, inst),
-            InstKind::MemoryBarrier => self.add_memory_barrier(alloc, into, inst),
-            InstKind::Chain => self.add_captures(alloc, into, inst),
-            InstKind::CompositeInsert => self.add_composite_insert(alloc, into, block, inst),
-            InstKind::VectorInsertDynamic => self.add_vector_insert(alloc, into, block, inst),
-            InstKind::Value => self.add_value(alloc, into, block, inst),
-            InstKind::Silent => Ok(()),
-        }
-    }
-
-    fn add_insts(
-        &self,
-        alloc: Global,
-        into: &mut Vec<Stmt>,
-        block: usize,
-        insts: &[Inst],
-    ) -> Result<(), Memory>
-        ensures { OnOk result (map stmt_of into.new.items ≡ map stmt_of into.old.items ++ flat_map (λ i. inst_text (scope_of self.now) block i (kind_of i.op)) insts.now) }
-    {
-        for inst in insts {
-            self.add_inst(alloc, into, block, inst)?;
-        }
-        Ok(())
     }
 
     /// The instructions of the block at a place, and none where there is no block.
@@ -210,7 +91,7 @@ impl Context<'_, '_> {
     {
         let insts = self.insts_at(block);
         reserve(into, self.room(insts))?;
-        self.add_insts(alloc, into, block, insts)
+        self.at(alloc, block).add_insts(into, insts)
     }
 
     /// The statements of the block at a place, before its terminator. There is an error only for want of memory.
@@ -220,5 +101,98 @@ impl Context<'_, '_> {
         let mut list = Vec::new(alloc);
         self.add_block(alloc, block, &mut list)?;
         Ok(list)
+    }
+}
+
+impl BlockContext<'_, '_, '_> {
+    #[inline(never)]
+    fn add_load(&self, into: &mut Vec<Stmt>, inst: &Inst) -> Result<(), Memory>
+        ensures { OnOk result (map stmt_of into.new.items ≡ map stmt_of into.old.items ++ inst_text (scope_of self.now.context.now) self.now.block inst.now kind.Load) }
+    {
+        let pointer = Id(inst.operand(0));
+        let place = self.context.place_expr(self.alloc, self.block, pointer)?;
+        self.add_result(into, inst, place)
+    }
+
+    #[inline(never)]
+    #[tactic(auto, using(glsl_ast::proofs::Views::stmt_rows))]
+    fn add_store(&self, into: &mut Vec<Stmt>, inst: &Inst) -> Result<(), Memory>
+        ensures { OnOk result (map stmt_of into.new.items ≡ map stmt_of into.old.items ++ inst_text (scope_of self.now.context.now) self.now.block inst.now kind.Store) }
+    {
+        let pointer = Id(inst.operand(0));
+        let place = self.context.place_text(self.alloc, self.block, pointer)?;
+        let value = self.value(Id(inst.operand(1)))?;
+        into.push(Stmt::Assign(place, value))?;
+        Ok(())
+    }
+
+    /// Adds the value of an operation, where it has a variable.
+    #[inline(always)]
+    fn add_value(&self, into: &mut Vec<Stmt>, inst: &Inst) -> Result<(), Memory>
+        ensures { OnOk result (map stmt_of into.new.items ≡ map stmt_of into.old.items ++ inst_text (scope_of self.now.context.now) self.now.block inst.now kind.Value) }
+    {
+        if !self.context.has_variable(inst) {
+            return Ok(());
+        }
+        let value = self.expression(inst)?;
+        self.add_result(into, inst, value)
+    }
+
+    /// Adds what captures an index of a chain.
+    #[tactic(auto, using(glsl_ast::proofs::Views::stmt_rows))]
+    fn add_capture(
+        &self,
+        into: &mut Vec<Stmt>,
+        inst: &Inst,
+        number: u32,
+        index: Id,
+    ) -> Result<(), Memory>
+        ensures { OnOk result (map stmt_of into.new.items ≡ map stmt_of into.old.items ++ capture (scope_of self.now.context.now) inst.now (number, index.0) ∷ []) }
+    {
+        let key = Key::Captured(Id(inst.result), number);
+        let name = self.context.name(self.alloc, key)?;
+        let steps = Vec::new(self.alloc);
+        let index = self.context.index_expr(self.alloc, index)?;
+        into.push(Stmt::Assign(LValue { name, steps }, index))?;
+        Ok(())
+    }
+
+    #[inline(never)]
+    fn add_captures(&self, into: &mut Vec<Stmt>, inst: &Inst) -> Result<(), Memory>
+        ensures { OnOk result (map stmt_of into.new.items ≡ map stmt_of into.old.items ++ chain_text (scope_of self.now.context.now) inst.now) }
+    {
+        for (number, index) in self.context.captured(self.alloc, inst)? {
+            self.add_capture(into, inst, number, index)?;
+        }
+        Ok(())
+    }
+
+    /// Adds the statements of an instruction. A value without a variable has none.
+    #[inline(always)]
+    fn add_inst(&self, into: &mut Vec<Stmt>, inst: &Inst) -> Result<(), Memory>
+        ensures { OnOk result (map stmt_of into.new.items ≡ map stmt_of into.old.items ++ inst_text (scope_of self.now.context.now) self.now.block inst.now (kind_of inst.now.op)) }
+    {
+        match InstKind::of(inst.op) {
+            InstKind::Load => self.add_load(into, inst),
+            InstKind::Store => self.add_store(into, inst),
+            InstKind::Call => self.add_function_call(into, inst),
+            InstKind::Atomic(kind) => self.add_atomic(into, inst, kind),
+            InstKind::ControlBarrier => self.add_control_barrier(into, inst),
+            InstKind::MemoryBarrier => self.add_memory_barrier(into, inst),
+            InstKind::Chain => self.add_captures(into, inst),
+            InstKind::CompositeInsert => self.add_composite_insert(into, inst),
+            InstKind::VectorInsertDynamic => self.add_vector_insert(into, inst),
+            InstKind::Value => self.add_value(into, inst),
+            InstKind::Silent => Ok(()),
+        }
+    }
+
+    fn add_insts(&self, into: &mut Vec<Stmt>, insts: &[Inst]) -> Result<(), Memory>
+        ensures { OnOk result (map stmt_of into.new.items ≡ map stmt_of into.old.items ++ flat_map (λ i. inst_text (scope_of self.now.context.now) self.now.block i (kind_of i.op)) insts.now) }
+    {
+        for inst in insts {
+            self.add_inst(into, inst)?;
+        }
+        Ok(())
     }
 }

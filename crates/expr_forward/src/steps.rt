@@ -7,7 +7,7 @@ ghost use Rattle.expr_forward.specs.Context.{setting_of};
 
 use crate::Context;
 use access_paths::Step;
-use constant_text::{Reading, name, scalar_type};
+use constant_text::{Reading, scalar_type};
 use glsl_ast::{Expr, LStep, Literal, Name};
 use name_alloc::Key;
 use spv_module::{Elem, Id, Inst, Module};
@@ -132,7 +132,7 @@ impl Context<'_, '_> {
     fn captured_step(&self, alloc: Global, chain: Id, number: u32) -> Result<LStep, Memory>
         ensures { IfOk result (λ s. step_of s ≡ captured_text (setting_of self.now) chain number) }
     {
-        let name = name(alloc, self.names, Key::Captured(chain, number))?;
+        let name = self.name(alloc, Key::Captured(chain, number))?;
         Ok(LStep::Index(Expr::Name(name)))
     }
 
@@ -142,7 +142,7 @@ impl Context<'_, '_> {
     {
         match step {
             Step::Member(k) => {
-                let name = name(alloc, self.names, Key::Member(Id(ty), k))?;
+                let name = self.name(alloc, Key::Member(Id(ty), k))?;
                 Ok(LStep::Member(name))
             }
             Step::Index(id) => self.index_step(alloc, ty, id),
@@ -188,7 +188,7 @@ impl Context<'_, '_> {
     {
         match self.globals.of(id) {
             Some(expr) => expr.clone_in(alloc),
-            None => Ok(Expr::Name(name(alloc, self.names, Key::Id(id))?)),
+            None => Ok(Expr::Name(self.name(alloc, Key::Id(id))?)),
         }
     }
 
@@ -203,7 +203,7 @@ impl Context<'_, '_> {
             return Ok(LStep::Member(component));
         }
         if op == Op::TypeStruct {
-            let name = name(alloc, self.names, Key::Member(Id(ty), k))?;
+            let name = self.name(alloc, Key::Member(Id(ty), k))?;
             return Ok(LStep::Member(name));
         }
         Ok(LStep::Index(Expr::Literal(Literal::Int(k))))

@@ -3,13 +3,13 @@ use Rattle.glsl_ast.specs.View.{expr_of}
 use Rattle.vec_lowering.specs.Composite.{argument_of}
 use Rattle.expr_forward.specs.Context.{operand, scope_of}
 use Rattle.expr_forward.specs.Values.{argument, value_in}
-use Rattle.expr_forward.proofs.context.Context.+value.Given as goal
+use Rattle.expr_forward.proofs.block.BlockContext.+value.Given as goal
 
 abbrev pub invariant-values-loop-id : goal.invariant-values-loop-id
-invariant-values-loop-id l = map expr_of l.list.items ≡ map (value_in (scope_of l.self) l.block l.deep) (take l.id-index l.ids)
+invariant-values-loop-id l = map expr_of l.list.items ≡ map (value_in (scope_of l.self.context.now) l.self.block l.deep) (take l.id-index l.ids)
 
 abbrev pub invariant-arguments-loop-id : goal.invariant-arguments-loop-id
-invariant-arguments-loop-id l = map argument_of l.args.items ≡ map operand (map (argument (scope_of l.self) (value_in (scope_of l.self) l.block l.deep)) (take l.id-index l.ids))
+invariant-arguments-loop-id l = map argument_of l.args.items ≡ map operand (map (argument (scope_of l.self.context.now) (value_in (scope_of l.self.context.now) l.self.block l.deep)) (take l.id-index l.ids))
 
 abbrev pub decreases-value_in : goal.decreases-value_in
 decreases-value_in l = 16 * l.deep
