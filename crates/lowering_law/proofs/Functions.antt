@@ -59,7 +59,7 @@ magnitude_is a h = by_sign (nat_lt a (2 ^ 31)) refl
     by_sign true e = rw (e, none_below a) refl
     by_sign false e = rw (e, negated_is a (let far = high_side a e in omega (arith, far)) h) refl
 
-negated_word : (a : ℕ) → (0 + (2 ^ 32 - a)) % 2 ^ 32 ≡ unary_word SNegate a
+pub negated_word : (a : ℕ) → (0 + (2 ^ 32 - a)) % 2 ^ 32 ≡ unary_word SNegate a
 negated_word a = ap (λ n. n % 2 ^ 32) (let same : 0 + (2 ^ 32 - a) ≡ 2 ^ 32 - a = omega arith in same)
 
 module _ (p : Program) (none : NoneDeclared p) (calls : Text → List Argument → State → Result (Option Typed × State)) (s : State) where

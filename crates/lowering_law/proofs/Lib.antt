@@ -12,3 +12,4 @@ pub mod Vectors
 pub mod Parts
 pub mod Components
 pub mod Whole
+pub mod Spread

@@ -50,7 +50,7 @@ on_shift o elem.Uint a n r he k h =
     ∙ ap (λ q. option_map (typed (shape_of_elem elem.Uint)) (option_map word q)) h
 on_shift o elem.Bool a n r he k h = absurd he
 
-mask_31 : (n : ℕ) → bit_and n 31 ≡ n % 32
+pub mask_31 : (n : ℕ) → bit_and n 31 ≡ n % 32
 mask_31 n = and_mask n 5
 
 below_32 : (n : ℕ) → nat_lt (n % 32) 32 ≡ true
@@ -63,13 +63,13 @@ twice_32 : (n : ℕ) → n % 32 % 32 ≡ n % 32
 twice_32 n = omega arith
 
 -- a shift by an amount modulo 32 is a shift by the amount
-left_by : (e : Elem) (a n : ℕ) → word_operator Shl e a (n % 32) ≡ binary_word ShiftLeftLogical a n
+pub left_by : (e : Elem) (a n : ℕ) → word_operator Shl e a (n % 32) ≡ binary_word ShiftLeftLogical a n
 left_by e a n = ap (λ t. if t then binary_word ShiftLeftLogical a (n % 32) else None) (below_32 n) ∙ ap (λ k. Some ((a * 2 ^ k) % 2 ^ 32)) (twice_32 n)
 
-right_by : (a n : ℕ) → word_operator Shr elem.Uint a (n % 32) ≡ binary_word ShiftRightLogical a n
+pub right_by : (a n : ℕ) → word_operator Shr elem.Uint a (n % 32) ≡ binary_word ShiftRightLogical a n
 right_by a n = ap (λ t. if t then binary_word ShiftRightLogical a (n % 32) else None) (below_32 n) ∙ ap (λ k. Some (a / 2 ^ k)) (twice_32 n)
 
-signed_right_by : (a n : ℕ) → word_operator Shr elem.Int a (n % 32) ≡ binary_word ShiftRightArithmetic a n
+pub signed_right_by : (a n : ℕ) → word_operator Shr elem.Int a (n % 32) ≡ binary_word ShiftRightArithmetic a n
 signed_right_by a n = ap (λ t. if t then binary_word ShiftRightArithmetic a (n % 32) else None) (below_32 n) ∙ ap (λ k. Some (word_of (int_shr (signed a) k))) (twice_32 n)
 
 -- a division that has a value has a divisor

@@ -41,11 +41,11 @@ words_alike f o same (word a) (many ws) = refl
 words_alike f o same (truth t) w = refl
 words_alike f o same (many vs) w = refl
 
-itself_equal : (n : ℕ) → (n == n) ≡ true
+pub itself_equal : (n : ℕ) → (n == n) ≡ true
 itself_equal n = grind (arith, nat_tests)
 
 -- operands of as many components, more than one, stay as they are
-by_component : (o : BinOp) (e : Elem) (n : ℕ) (v w : ValueTree) → (n == 1) ≡ false
+pub by_component : (o : BinOp) (e : Elem) (n : ℕ) (v w : ValueTree) → (n == 1) ≡ false
     → by_components o e n n v w (if n == n then Some n else (if n == 1 then Some n else (if n == 1 then Some n else None))) ≡ option_map (typed (vector e n)) (by_two (on_words (word_operator o e)) v w)
 by_component o e n v w more =
     ap (λ t. by_components o e n n v w (if t then Some n else (if n == 1 then Some n else (if n == 1 then Some n else None)))) (itself_equal n)
@@ -99,7 +99,7 @@ made e n vs he words count more =
 as_vector : (g e : Elem) (n : ℕ) (x : Operand) → x.word ≡ None → x.ty ≡ vector_type e n → as_elem g x ≡ converted (vector_type g n) e x.expr
 as_vector g e n x w t = rw (w, t) refl
 
-each_one_alike : (f g : ValueTree → Option ValueTree) → ((v : ValueTree) → f v ≡ g v) → (vs : List ValueTree) → each_one f vs ≡ each_one g vs
+pub each_one_alike : (f g : ValueTree → Option ValueTree) → ((v : ValueTree) → f v ≡ g v) → (vs : List ValueTree) → each_one f vs ≡ each_one g vs
 each_one_alike f g same [] = refl
 each_one_alike f g same (v ∷ vs) = ap (λ q. before q (each_one f vs)) (same v) ∙ ap (before (g v)) (each_one_alike f g same vs)
 

@@ -85,7 +85,7 @@ module _ (p : Program) (none : NoneDeclared p) (calls : Text → List Argument �
       subst (λ (ty : BasicType). S (converted (vector_type g n) ty.elem x.expr) (typed (vector g n) (composite vs))) (sym m.of_type)
       (converted_vector p calls s m.elem g n x.expr (values_in vs) he hg (words_of_numbers m.elem vs he m.fit) (ap length (listed_values vs) ∙ m.count) more m.says)
 
-words_listed : (e : Elem) (vs : ValueTrees) → IsNumeric e → AreOf e (listed vs) → AreWords vs
+pub words_listed : (e : Elem) (vs : ValueTrees) → IsNumeric e → AreOf e (listed vs) → AreWords vs
 words_listed e no_values h a = tt
 words_listed elem.Int (value (word i) vs) h a = words_listed elem.Int vs h a.1
 words_listed elem.Uint (value (word i) vs) h a = words_listed elem.Uint vs h a.1
