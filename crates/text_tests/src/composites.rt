@@ -1,11 +1,12 @@
 // Expressions on vectors and composites, with ample memory.
 use crate::names::{is_name, named};
-use glsl_ast::{Base, Expr, Extent, Name};
+use glsl_ast::{Base, Expr, Extent, Name, TypeName};
 use int_lowering::Arg;
-use name_alloc::Key;
+use name_alloc::{Key, Names};
 use spv_module::{Id, Length, Shape};
 use spv_ops::Op;
-use std::alloc::Global;
+use spv_words::Memory;
+use std::alloc::{AllocError, Global};
 use std::test::Fail;
 use vec_lowering::{lower_vector, shape_type};
 
@@ -17,15 +18,28 @@ static ITEMS: [(Key, &str); 4] = [
     (Key::Member(Id(3), 1), "sum"),
 ];
 
-fn item(alloc: Global, id: u32) -> Result<Shape, Fail> {
+fn item(alloc: Global, id: u32) -> Result<Shape, AllocError> {
     let members = vec![in alloc; Shape::Uint, Shape::Uint]?;
     Ok(Shape::Struct(Id(id), members))
 }
 
-fn variable(alloc: Global, name: &str, shape: Shape) -> Result<Vec<Arg>, Fail> {
+fn variable(alloc: Global, name: &str, shape: Shape) -> Result<Vec<Arg>, Memory> {
     let expr = Expr::Name(Name::from_str(alloc, name)?);
     let word = None;
     Ok(vec![in alloc; Arg { expr, shape, word }]?)
+}
+
+// The struct %3 in the variable `v53`, made into a struct with this id.
+fn lowered(alloc: Global, names: &Names, op: Op, id: u32) -> Result<Expr, Memory> {
+    let args = variable(alloc, "v53", item(alloc, 3)?)?;
+    lower_vector(alloc, op, 0, item(alloc, id)?, args, &[], names)
+}
+
+fn is_struct(ty: &TypeName, wanted: &str) -> bool {
+    match &ty.base {
+        Base::Struct(name) => name.as_str() == wanted,
+        _ => false,
+    }
 }
 
 fn is_member(of: &Expr, base: &str, member: &str) -> bool {
@@ -35,45 +49,41 @@ fn is_member(of: &Expr, base: &str, member: &str) -> bool {
     }
 }
 
+fn is_copy(expr: &Expr) -> bool {
+    match expr {
+        Expr::Build(ty, parts) => match parts.as_slice() {
+            [key, sum] => {
+                is_struct(ty, "Item_2")
+                    && is_member(key, "v53", "key")
+                    && is_member(sum, "v53", "sum")
+            }
+            _ => false,
+        },
+        _ => false,
+    }
+}
+
 #[test]
 fn a_struct_is_copied(rt: HostRuntime) -> Result<(), Fail> {
-    let alloc = rt.alloc();
-    let names = named(alloc, &ITEMS)?;
-    let args = variable(alloc, "v53", item(alloc, 3)?)?;
-    let copy = lower_vector(
-        alloc,
-        Op::CopyLogical,
-        0,
-        item(alloc, 21)?,
-        args,
-        &[],
-        &names,
-    );
-    let Expr::Build(ty, parts) = copy.ok().ok_or("no memory")? else {
-        return Err(Fail::from("another expression"));
-    };
-    let Base::Struct(name) = &ty.base else {
-        return Err(Fail::from("another type"));
-    };
-    assert_eq!(rt; name.as_str(), "Item_2");
-    let [key, sum] = parts.as_slice() else {
-        return Err(Fail::from("another number of members"));
-    };
-    assert!(rt; is_member(key, "v53", "key"));
-    assert!(rt; is_member(sum, "v53", "sum"));
+    let names = named(rt.alloc(), &ITEMS)?;
+    let copy = lowered(rt.alloc(), &names, Op::CopyLogical, 21)?;
+    assert!(rt; is_copy(&copy));
     Ok(())
+}
+
+fn array(alloc: Global, part: Shape, length: u32) -> Result<Shape, AllocError> {
+    Ok(Shape::Array(Box::new(alloc, part)?, Length::Fixed(length)))
+}
+
+fn type_of(alloc: Global, names: &Names, shape: &Shape) -> Result<TypeName, Memory> {
+    shape_type(alloc, names, shape)
 }
 
 #[test]
 fn a_type_of_arrays(rt: HostRuntime) -> Result<(), Fail> {
-    let alloc = rt.alloc();
-    let names = named(alloc, &ITEMS)?;
-    let inner = Box::new(
-        alloc,
-        Shape::Array(Box::new(alloc, Shape::Uint)?, Length::Fixed(2)),
-    )?;
-    let ty = shape_type(alloc, &names, &Shape::Array(inner, Length::Fixed(3)));
-    let ty = ty.ok().ok_or("no memory")?;
+    let names = named(rt.alloc(), &ITEMS)?;
+    let shape = array(rt.alloc(), array(rt.alloc(), Shape::Uint, 2)?, 3)?;
+    let ty = type_of(rt.alloc(), &names, &shape)?;
     assert!(rt;
         matches!(
             ty.extents.as_slice(),

@@ -53,17 +53,25 @@ pub fn const_text(alloc: Global, base: Base, value: Expr) -> Result<Vec<u8>, Fai
     Ok(sink.bytes().to_vec(alloc)?)
 }
 
-#[test]
-fn a_copy_of_an_expression(rt: HostRuntime) -> Result<(), Fail> {
-    let alloc = rt.alloc();
+// The array of one int with this name.
+fn array_of_one(alloc: Global, name: &str) -> Result<Expr, Memory> {
     let ty = TypeName {
         base: Base::Int,
         extents: vec![in alloc; Extent::Number(1)]?,
     };
-    let name = Expr::Name(Name::from_str(alloc, "a")?);
-    let built = Expr::Build(Box::new(alloc, ty)?, vec![in alloc; name]?);
-    let copy = built.clone_in(alloc).ok().ok_or("no memory")?;
-    let text = const_text(alloc, Base::Int, copy)?;
+    let name = Expr::Name(Name::from_str(alloc, name)?);
+    Ok(Expr::Build(Box::new(alloc, ty)?, vec![in alloc; name]?))
+}
+
+fn copy_of(alloc: Global, expr: &Expr) -> Result<Expr, Memory> {
+    expr.clone_in(alloc)
+}
+
+#[test]
+fn a_copy_of_an_expression(rt: HostRuntime) -> Result<(), Fail> {
+    let built = array_of_one(rt.alloc(), "a")?;
+    let copy = copy_of(rt.alloc(), &built)?;
+    let text = const_text(rt.alloc(), Base::Int, copy)?;
     assert!(rt; text.ends_with(b"const int c = int[1](a);\n"));
     assert!(rt; text.starts_with(Mark::Version.bytes()));
     Ok(())
@@ -84,17 +92,28 @@ fn long_unit(alloc: Global) -> Result<Unit, Memory> {
     unit(alloc, main)
 }
 
+// What comes to a sink of which these calls fail, and how it ends.
+fn printed(
+    alloc: Global,
+    unit: &Unit,
+    fails: &[u64],
+) -> Result<(Result<(), PrintEnd>, Vec<u8>), Fail> {
+    let mut sink = MemorySink::new(alloc, fails.to_vec(alloc)?);
+    let ended = print_unit(alloc, unit, &mut sink);
+    Ok((ended, sink.bytes().to_vec(alloc)?))
+}
+
+static FRONT: &[u8] = b"#version 460\nlayout(local_size_z = 8) in;\nvoid main() {\n    break;\n";
+
 #[test]
 fn a_sink_that_fails_at_its_second_call(rt: HostRuntime) -> Result<(), Fail> {
-    let alloc = rt.alloc();
-    let long = long_unit(alloc)?;
-    let mut whole = SteadySink::new(alloc);
-    assert_eq!(rt; print_unit(alloc, &long, &mut whole), Ok(()));
-    let front = b"#version 460\nlayout(local_size_z = 8) in;\nvoid main() {\n    break;\n";
-    assert!(rt; whole.bytes().starts_with(front));
-    let mut sink = MemorySink::new(alloc, [1].to_vec(alloc)?);
-    assert_eq!(rt; print_unit(alloc, &long, &mut sink), Err(PrintEnd::Fault));
-    assert_eq!(rt; sink.bytes().len(), 4096);
-    assert!(rt; whole.bytes().starts_with(sink.bytes()));
+    let long = long_unit(rt.alloc())?;
+    let (ended, whole) = printed(rt.alloc(), &long, &[])?;
+    assert_eq!(rt; ended, Ok(()));
+    assert!(rt; whole.starts_with(FRONT));
+    let (ended, front) = printed(rt.alloc(), &long, &[1])?;
+    assert_eq!(rt; ended, Err(PrintEnd::Fault));
+    assert_eq!(rt; front.len(), 4096);
+    assert!(rt; whole.starts_with(&front));
     Ok(())
 }
