@@ -4,3 +4,5 @@ pub mod Plays
 pub mod Put
 pub mod Kept
 pub mod Examples
+pub mod Turns
+pub mod Rounding

@@ -3,3 +3,4 @@ pub mod Memory
 pub mod Sides
 pub mod Schedule
 pub mod Playing
+pub mod Played

@@ -1,6 +1,7 @@
 // Many invocations on one memory: what a dispatch comes to by its schedule, event by event.
 #![tactic(auto)]
 
+mod dispatch;
 mod event;
 mod play;
 mod runner;
