@@ -1,5 +1,5 @@
 // The chains that other blocks need.
-ghost use Rattle.std.specs.Prelude.{◌≡◌, ◌||◌, ℕ, IfOk, OnOk, false, map, slice_get};
+ghost use Rattle.std.specs.Prelude.{◌≡◌, ◌==◌, ◌&&◌, ◌||◌, ℕ, IfOk, OnOk, false, map, slice_get};
 ghost use Rattle.std.specs.Option.{option_map_or};
 ghost use Rattle.std.specs.List.{list_any};
 ghost use Rattle.std.specs.BTreeSet.{contains};
@@ -77,21 +77,12 @@ fn names_chain(locals: &Locals, id: u32) -> bool
     locals.inst(id).map_or(false, |inst| inst.op.is_chain())
 }
 
-/// Adds the chain on which a carried one is based in a block that is not reached, where no slots are
-/// linked.
-fn add_base(
-    locals: &Locals,
-    graph: &[Node],
-    carried: &mut BTreeSet<u32>,
-    chain: &Chain,
-) -> Result<(), AllocError>
+/// Whether a carried chain is based on one in a block that is not reached, where no slots are linked.
+fn is_based_unreached(locals: &Locals, graph: &[Node], chain: &Chain) -> bool
     requires { graph.now ≡ graph_of locals.now }
-    ensures { OnOk result ((n : ℕ) → contains nat_cmp carried.new n ≡ (contains nat_cmp carried.old n || is_base_unreached locals.now (placed_chain chain.now) n)) }
+    ensures { (n : ℕ) → is_base_unreached locals.now (placed_chain chain.now) n ≡ (result && (chain.now.row.base == n)) }
 {
-    if !is_reached(graph, chain.row.block) && names_chain(locals, chain.row.base) {
-        carried.insert(chain.row.base)?;
-    }
-    Ok(())
+    !is_reached(graph, chain.row.block) && names_chain(locals, chain.row.base)
 }
 
 /// Adds a chain where another block needs it.
@@ -106,7 +97,9 @@ fn add_if_carried(
 {
     if is_carried(locals, carried, chain) {
         carried.insert(chain.row.result)?;
-        add_base(locals, graph, carried, chain)?;
+        if is_based_unreached(locals, graph, chain) {
+            carried.insert(chain.row.base)?;
+        }
     }
     Ok(())
 }

@@ -65,59 +65,70 @@ fn add_chain(
     Ok(())
 }
 
-/// Adds the result of an instruction, where it has one.
-fn add_result<L: Ledger>(
+/// A function of a module, with where its values are mentioned.
+#[derive(Clone, Copy)]
+struct Linked<'w, 'f> {
     alloc: Global,
-    told: &mut Told,
-    module: &Module,
-    locals: &Locals,
-    uses: &Uses,
-    place: usize,
-    inst: &Inst,
-    steps: &mut Steps<L>,
-) -> Result<(), Memory>
-    requires { AreRising uses.now }
-    ensures known { OnOk result (known_in told.new.forms ≡ fold (with_result «module».now.globals locals.now) (known_in told.old.forms) (result_of uses.now place inst.now)) }
-    ensures chains { OnOk result (map placed_chain told.new.chains.items ≡ map placed_chain told.old.chains.items ++ chains_of_inst uses.now place inst.now) }
-    ensures steps { OnOk result (steps.new ≡ steps.old + sum_by steps_of (result_of uses.now place inst.now)) }
-{
-    if !has_result(inst) {
-        return Ok(());
-    }
-    list_mentions(&mut told.places, uses, Id(inst.result), steps)?;
-    let base = inst.operand(0);
-    let row = Row {
-        block: place,
-        op: inst.op,
-        ty: inst.ty,
-        result: inst.result,
-        base,
-    };
-    add_form(&mut told.forms, module, locals, &row, &told.places)?;
-    add_chain(alloc, &mut told.chains, row, &told.places)?;
-    Ok(())
+    module: &'w Module,
+    locals: &'w Locals<'f>,
+    uses: &'w Uses,
 }
 
-/// Adds the results of a block.
-fn add_results_of_block<L: Ledger>(
-    alloc: Global,
-    told: &mut Told,
-    module: &Module,
-    locals: &Locals,
-    uses: &Uses,
-    place: usize,
-    block: &Block,
-    steps: &mut Steps<L>,
-) -> Result<(), Memory>
-    requires { AreRising uses.now }
-    ensures known { OnOk result (known_in told.new.forms ≡ fold (with_result «module».now.globals locals.now) (known_in told.old.forms) (results_of_block uses.now (place, block.now))) }
-    ensures chains { OnOk result (map placed_chain told.new.chains.items ≡ map placed_chain told.old.chains.items ++ chains_of_block uses.now (place, block.now)) }
-    ensures steps { OnOk result (steps.new ≡ steps.old + sum_by steps_of (results_of_block uses.now (place, block.now))) }
-{
-    for inst in block.insts.as_slice() {
-        add_result(alloc, told, module, locals, uses, place, inst, steps)?;
+impl<'w, 'f> Linked<'w, 'f> {
+    /// Adds the result of an instruction of the block at a place, where it has one.
+    fn add_result<L: Ledger>(
+        &self,
+        told: &mut Told,
+        place: usize,
+        inst: &Inst,
+        steps: &mut Steps<L>,
+    ) -> Result<(), Memory>
+        requires { AreRising self.now.uses.now }
+        ensures known { OnOk result (known_in told.new.forms ≡ fold (with_result self.now.«module».now.globals self.now.locals.now) (known_in told.old.forms) (result_of self.now.uses.now place inst.now)) }
+        ensures chains { OnOk result (map placed_chain told.new.chains.items ≡ map placed_chain told.old.chains.items ++ chains_of_inst self.now.uses.now place inst.now) }
+        ensures steps { OnOk result (steps.new ≡ steps.old + sum_by steps_of (result_of self.now.uses.now place inst.now)) }
+    {
+        if !has_result(inst) {
+            return Ok(());
+        }
+        list_mentions(&mut told.places, self.uses, Id(inst.result), steps)?;
+        let base = inst.operand(0);
+        let row = Row {
+            block: place,
+            op: inst.op,
+            ty: inst.ty,
+            result: inst.result,
+            base,
+        };
+        add_form(
+            &mut told.forms,
+            self.module,
+            self.locals,
+            &row,
+            &told.places,
+        )?;
+        add_chain(self.alloc, &mut told.chains, row, &told.places)?;
+        Ok(())
     }
-    Ok(())
+
+    /// Adds the results of the block at a place.
+    fn add_results_of_block<L: Ledger>(
+        &self,
+        told: &mut Told,
+        place: usize,
+        block: &Block,
+        steps: &mut Steps<L>,
+    ) -> Result<(), Memory>
+        requires { AreRising self.now.uses.now }
+        ensures known { OnOk result (known_in told.new.forms ≡ fold (with_result self.now.«module».now.globals self.now.locals.now) (known_in told.old.forms) (results_of_block self.now.uses.now (place, block.now))) }
+        ensures chains { OnOk result (map placed_chain told.new.chains.items ≡ map placed_chain told.old.chains.items ++ chains_of_block self.now.uses.now (place, block.now)) }
+        ensures steps { OnOk result (steps.new ≡ steps.old + sum_by steps_of (results_of_block self.now.uses.now (place, block.now))) }
+    {
+        for inst in block.insts.as_slice() {
+            self.add_result(told, place, inst, steps)?;
+        }
+        Ok(())
+    }
 }
 
 /// The span of the results of blocks.
@@ -156,10 +167,16 @@ pub fn results<L: Ledger>(
     ensures chains { IfOk result (λ told. map placed_chain told.chains.items ≡ chains_of uses.now locals.now) }
     ensures steps { OnOk result (steps.new ≡ steps.old + sum_by steps_of (results_in uses.now locals.now)) }
 {
+    let linked = Linked {
+        alloc,
+        module,
+        locals,
+        uses,
+    };
     let blocks = locals.function().blocks.as_slice();
     let mut told = none_for(alloc, blocks)?;
     for (place, block) in blocks.iter().enumerate() {
-        add_results_of_block(alloc, &mut told, module, locals, uses, place, block, steps)?;
+        linked.add_results_of_block(&mut told, place, block, steps)?;
     }
     Ok(told)
 }
