@@ -5,6 +5,7 @@ ghost use Rattle.id_map.specs.Entries.{is_in};
 ghost use Rattle.profile_rules.specs.Places.{defines, is_defined_elsewhere};
 
 use id_map::IdSet;
+use spv_index::count_of;
 use spv_module::{Block, Function, Id, Inst, Module};
 use std::alloc::{AllocError, Global};
 
@@ -44,24 +45,6 @@ fn add_function(ids: &mut IdSet, function: &Function) -> Result<(), AllocError>
     add_params(ids, function.params.as_slice())?;
     add_blocks(ids, function.blocks.as_slice())?;
     Ok(())
-}
-
-/// How many instructions a function has.
-fn size_of(function: &Function) -> usize {
-    let mut size: usize = 0;
-    for block in function.blocks.as_slice() {
-        size = size.saturating_add(block.insts.len());
-    }
-    size
-}
-
-/// How many instructions some functions have.
-fn count_of(functions: &[Function]) -> usize {
-    let mut count: usize = 0;
-    for function in functions {
-        count = count.saturating_add(size_of(function));
-    }
-    count
 }
 
 /// The ids of imports, functions, parameters and labels, and the results of the functions'
