@@ -28,12 +28,11 @@ pub fn stride_of(decor: &Decor, id: u32) -> Option<u32>
 }
 
 /// A literal is missing, or is another number than that of which this is the least with `CAP`.
-#[tactic(auto, using(crate::proofs::Steps::capped_test))]
 pub fn is_not(literal: Option<u32>, capped: u64) -> bool
     ensures { (n : ℕ) → min CAP capped ≡ min CAP n → result ≡ is_not_number literal n }
 {
     match literal {
-        Some(literal) => u64::from(literal) != capped,
+        Some(_) => is_other(literal, capped),
         None => true,
     }
 }
