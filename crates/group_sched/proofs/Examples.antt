@@ -1,5 +1,5 @@
 -- The definitions, computed.
-use Rattle.std.proofs.Common.{◌≡◌, ℕ, List, [], ◌∷◌, refl}
+use Rattle.std.proofs.Common.{◌≡◌, [], ◌∷◌, refl}
 use Rattle.traces.specs.Events as trace
 use Rattle.group_sched.specs.Events.{filled, weight_of}
 use Rattle.group_sched.specs.Sides.{bytes_in}

@@ -1,12 +1,12 @@
 -- A map for each workgroup.
-use Rattle.std.proofs.Common.{rules, ◌≡◌, ℕ, zero, suc, ◌<◌, ◌==◌, ◌&&◌, Bool, true, false, List, [], ◌∷◌, ◌++◌, length, get_or, slice_set, refl, sym, ap, ◌∙◌, subst, arith}
+use Rattle.std.proofs.Common.{◌≡◌, ℕ, zero, suc, ◌<◌, ◌==◌, ◌&&◌, Bool, true, false, List, [], ◌∷◌, ◌++◌, length, get_or, slice_set, refl, sym, ap, ◌∙◌, arith}
 use Rattle.std.proofs.lemmas.Bool.Decides.{nat_tests}
-use Rattle.std.specs.Prelude.{Option, Some, None, slice_get}
+use Rattle.std.specs.Prelude.{Option, Some, slice_get}
 use Rattle.std.specs.Option.{option_map_or}
 use Rattle.traces.specs.Events.{Location, buffer, push, shared}
-use Rattle.dispatch_semantics.specs.Store.{Store, same_location, home, put}
+use Rattle.dispatch_semantics.specs.Store.{same_location, home, put}
 use Rattle.group_sched.specs.declared.event.LeafPlace.{LeafPlace}
-use Rattle.group_sched.specs.Memory.{Words, word_among, entries_in, stored, put_among}
+use Rattle.group_sched.specs.Memory.{Words, word_among, stored, put_among}
 
 got : {A : Type 0} (xs : List A) (h : ℕ) (x d : A) → h < length xs → x ≡ get_or xs h d → slice_get xs h ≡ Some x
 got [] h x d inside e = absurd (omega (arith, inside))

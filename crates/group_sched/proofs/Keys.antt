@@ -11,7 +11,6 @@ use Rattle.std.specs.Map.{lookup}
 use Rattle.traces.specs.Events.{Location, buffer, push, shared}
 use Rattle.dispatch_semantics.specs.Store.{same_numbers, same_location}
 use Rattle.group_sched.specs.declared.event.LeafPlace.{LeafPlace}
-use Rattle.group_sched.specs.declared.event.LeafPlace.TheVariants.{Buffer, Push, Shared}
 use Rattle.group_sched.specs.contracts.event.LeafPlacePartialEq.TheImpl as place_eq
 use Rattle.group_sched.specs.contracts.event.LeafPlaceOrd.TheImpl as place_ord
 use Rattle.group_sched.specs.contracts.event.LeafPlaceOrd.TheImpl.Laws.{matches_eq-law}

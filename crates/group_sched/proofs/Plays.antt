@@ -1,14 +1,14 @@
 -- What stands behind an item.
-use Rattle.std.proofs.Common.{rules, ◌≡◌, ℕ, ◌+◌, ◌<◌, ◌≤◌, ◌/◌, ◌==◌, Bool, true, false, List, [], ◌∷◌, ◌++◌, length, slice_index, slice_set, refl, sym, ap, ◌∙◌, subst, arith}
+use Rattle.std.proofs.Common.{◌≡◌, ℕ, ◌+◌, ◌<◌, ◌≤◌, ◌/◌, ◌==◌, Bool, true, false, List, [], ◌∷◌, ◌++◌, length, slice_index, slice_set, refl, sym, ap, ◌∙◌, subst, arith}
 use Rattle.std.proofs.lemmas.Bool.Decides.{nat_tests}
 use Rattle.std.proofs.lemmas.List.{get_or-set_same, get_or-set_other, length-set}
-use Rattle.std.specs.Prelude.{Option, Some, None, Result, Ok, Err, IsErrOf}
+use Rattle.std.specs.Prelude.{None, Result, Ok, Err, IsErrOf}
 use Rattle.traces.specs.Events as trace
 use Rattle.traces.specs.Runs as run
 use Rattle.traces.specs.Runs.{made}
 use Rattle.traces.specs.Simulation.{IsPrefix}
 use Rattle.dispatch_semantics.specs.Store.{Store, after, answers_of, IsFound}
-use Rattle.dispatch_semantics.specs.Dispatch.{Past, State, is_control, controls, later, moved, MayMove, IsMove}
+use Rattle.dispatch_semantics.specs.Dispatch.{Past, State, is_control, controls, later, moved, IsMove}
 use Rattle.group_sched.specs.declared.play.Play.{Play}
 use Rattle.group_sched.specs.Events.{events_of, place_count, weight_of}
 use Rattle.group_sched.specs.Memory.{stored}

@@ -1,8 +1,6 @@
 -- Words put one after another.
-use Rattle.std.proofs.Common.{rules, ◌≡◌, ℕ, zero, suc, ◌+◌, ◌<◌, ◌≤◌, ◌==◌, ◌&&◌, ◌^◌, Bool, true, false, List, [], ◌∷◌, ◌++◌, length, get_or, slice_index, slice_set, drop, min, refl, sym, ap, ◌∙◌, arith, cond, map, append_assoc, add-one}
+use Rattle.std.proofs.Common.{◌≡◌, ℕ, zero, suc, ◌+◌, ◌<◌, ◌≤◌, ◌^◌, List, [], ◌∷◌, ◌++◌, length, get_or, slice_index, drop, min, refl, sym, ap, ◌∙◌, arith, map, append_assoc, add-one}
 use Rattle.std.proofs.Math.Seq.{drop-cons}
-use Rattle.std.specs.Prelude.{Option, Some, None, unwrap_or, slice_get}
-use Rattle.std.specs.BTreeMap.{BTreeMap}
 use Rattle.dispatch_semantics.specs.Store.{Store, put, put_all, AreWords}
 use Rattle.group_sched.specs.declared.event.LeafPlace.{LeafPlace}
 use Rattle.group_sched.specs.Events.{location_of, locations_of}

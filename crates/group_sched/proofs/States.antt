@@ -1,17 +1,15 @@
 -- States behind events, and items one after another.
-use Rattle.std.proofs.Common.{rules, ◌≡◌, ◌≢◌, ℕ, zero, suc, ◌+◌, ◌<◌, ◌≤◌, ◌/◌, ◌==◌, Bool, true, false, List, [], ◌∷◌, ◌++◌, length, slice_index, slice_set, inl, inr, ⊎_elim, refl, sym, ap, ◌∙◌, subst, arith, append_assoc, append-nil, length-append}
-use Rattle.std.proofs.lemmas.Bool.Decides.{nat_tests}
-use Rattle.std.specs.Prelude.{Option, Some, None}
+use Rattle.std.proofs.Common.{rules, ◌≡◌, ◌≢◌, ℕ, ◌+◌, ◌<◌, true, false, List, [], ◌∷◌, ◌++◌, length, inl, inr, ⊎_elim, refl, sym, ap, ◌∙◌, subst, arith, append_assoc, append-nil, length-append}
 use Rattle.traces.specs.Events as trace
 use Rattle.traces.specs.Invocations.{Invocation as Told}
 use Rattle.traces.specs.Runs as run
 use Rattle.traces.specs.Runs.{Run, Status, made}
 use Rattle.traces.specs.Simulation.{IsPrefix}
-use Rattle.dispatch_semantics.specs.Store.{Store, after, answers_of}
-use Rattle.dispatch_semantics.specs.Dispatch.{Past, State, is_ended, is_control, controls, later, moved, IsMove, HasEnded, IsStay, DispatchRun}
-use Rattle.group_sched.specs.Events.{place_count, weight_of}
-use Rattle.group_sched.specs.Sides.{Runs, Begun}
-use Rattle.group_sched.specs.Schedule.{Setup, number_of, side, first_state, behind, now, Goes, May, IsStill, run_so_far, IsNeither, HasEndedFreely}
+use Rattle.dispatch_semantics.specs.Store.{Store, answers_of}
+use Rattle.dispatch_semantics.specs.Dispatch.{State, is_ended, is_control, controls, moved, IsMove, HasEnded, DispatchRun}
+use Rattle.group_sched.specs.Events.{weight_of}
+use Rattle.group_sched.specs.Sides.{Runs}
+use Rattle.group_sched.specs.Schedule.{Setup, number_of, side, first_state, behind, now, Goes, May, IsStill, run_so_far, IsNeither}
 
 abbrev Events : Type 0
 Events = List (ℕ × trace.Event)

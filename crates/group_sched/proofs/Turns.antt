@@ -1,5 +1,5 @@
 -- Several items of a schedule, one after another.
-use Rattle.std.proofs.Common.{rules, ◌≡◌, ◌≢◌, ℕ, suc, ◌+◌, ◌<◌, ◌≤◌, ◌==◌, Bool, true, false, List, [], ◌∷◌, ◌++◌, length, slice_index, get_or, take, inl, inr, ⊎_elim, ◌⊎◌, refl, sym, ap, ◌∙◌, subst, arith, add-one}
+use Rattle.std.proofs.Common.{◌≡◌, ◌≢◌, ℕ, ◌+◌, ◌<◌, ◌≤◌, Bool, true, false, List, [], ◌∷◌, ◌++◌, length, slice_index, take, inl, inr, ⊎_elim, ◌⊎◌, refl, sym, ap, ◌∙◌, subst, arith, add-one}
 use Rattle.std.proofs.Math.Seq.{take-suc}
 use Rattle.std.proofs.lemmas.Bool.{cases_lt}
 use Rattle.std.specs.Prelude.{Option, Some, None}
@@ -7,15 +7,14 @@ use Rattle.traces.specs.Events as trace
 use Rattle.traces.specs.Invocations.{Invocation as Told}
 use Rattle.traces.specs.Runs as run
 use Rattle.traces.specs.Runs.{Run, Status}
-use Rattle.dispatch_semantics.specs.Dispatch.{State, is_ended}
 use Rattle.group_sched.specs.declared.play.Turn.{Turn}
 use Rattle.group_sched.specs.declared.play.Turn.TheVariants.{Waits, Ended, Moves, Undefined, Cut}
 use Rattle.group_sched.specs.declared.schedule.End.{End}
 use Rattle.group_sched.specs.declared.schedule.End.TheVariants as end
 use Rattle.group_sched.specs.Events.{place_count, weight_of}
 use Rattle.group_sched.specs.Sides.{Runs}
-use Rattle.group_sched.specs.Schedule.{Setup, number_of, side, now, Goes, May, IsStill, IsNeither, IsUndefined, HasEndedFreely, most_weight}
-use Rattle.group_sched.specs.Playing.{HasMoved, HasPaused, IsTurn, IsTooMuchNext}
+use Rattle.group_sched.specs.Schedule.{Setup, now, Goes, May, IsStill, IsUndefined, HasEndedFreely}
+use Rattle.group_sched.specs.Playing.{IsTurn, IsTooMuchNext}
 use Rattle.group_sched.specs.Played.{end_by, waits_by, StopsAt, HasStopped, Rested, IsThrough, TooMuchIn}
 use Rattle.group_sched.proofs.States.{weight-append, goes_none, goes_then, goes_stay, goes_move, has_ended, neither}
 

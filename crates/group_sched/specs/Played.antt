@@ -1,5 +1,5 @@
 -- What several items of a schedule come to.
-use Rattle.std.specs.Prelude.{◌≡◌, ℕ, ◌<◌, ◌≤◌, ◌+◌, Bool, true, false, List, [], ◌∷◌, ◌++◌, Option, Some, None, length, slice_index, take}
+use Rattle.std.specs.Prelude.{◌≡◌, ℕ, ◌<◌, ◌≤◌, ◌+◌, Bool, true, false, List, Option, Some, None, length, slice_index, take}
 use Rattle.traces.specs.Events as trace
 use Rattle.dispatch_semantics.specs.Dispatch.{State}
 use Rattle.group_sched.specs.declared.schedule.End.{End}

@@ -1,11 +1,11 @@
 -- A dispatch between two items of its schedule.
-use Rattle.std.specs.Prelude.{◌≡◌, ℕ, ◌<◌, ◌≤◌, ◌+◌, ◌/◌, List, [], ◌∷◌, ◌++◌, Option, Some, None, length, slice_index, slice_set}
+use Rattle.std.specs.Prelude.{◌≡◌, ℕ, ◌<◌, ◌≤◌, ◌+◌, ◌/◌, List, [], ◌∷◌, ◌++◌, Some, None, length, slice_index, slice_set}
 use Rattle.traces.specs.Events as trace
 use Rattle.traces.specs.Runs as run
 use Rattle.traces.specs.Runs.{made}
 use Rattle.traces.specs.Simulation.{IsPrefix}
 use Rattle.dispatch_semantics.specs.Store.{Store, after, IsFound, answers_of, AreWords, AreAnswers}
-use Rattle.dispatch_semantics.specs.Dispatch.{State, controls, later, MayMove, IsMove, HasEnded}
+use Rattle.dispatch_semantics.specs.Dispatch.{controls, later, IsMove}
 use Rattle.group_sched.specs.declared.play.Play.{Play}
 use Rattle.group_sched.specs.declared.play.Turn.{Turn}
 use Rattle.group_sched.specs.declared.play.Turn.TheVariants.{Waits, Ended, Moves, Undefined, Cut}

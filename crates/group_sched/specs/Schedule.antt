@@ -1,16 +1,16 @@
 -- What a dispatch comes to by its schedule: a list of invocations, and then rounds over all of them.
-use Rattle.std.specs.Prelude.{◌≡◌, ℕ, zero, suc, ◌<◌, ◌≤◌, ◌+◌, ◌/◌, List, [], ◌∷◌, ◌++◌, Option, None, length, slice_index, filter, nat_lt}
+use Rattle.std.specs.Prelude.{◌≡◌, ℕ, zero, suc, ◌<◌, ◌/◌, List, [], ◌∷◌, ◌++◌, filter, nat_lt}
 use Rattle.std.specs.List.{range_with_len}
 use Rattle.traces.specs.Events as trace
 use Rattle.traces.specs.Invocations.{Invocation as Told}
 use Rattle.traces.specs.Runs as run
 use Rattle.traces.specs.Runs.{Run, made}
 use Rattle.dispatch_semantics.specs.Store.{Store}
-use Rattle.dispatch_semantics.specs.Dispatch.{Past, State, Side, controls, MayMove, moved, IsMove, HasEnded, IsStay, DispatchRun}
+use Rattle.dispatch_semantics.specs.Dispatch.{State, Side, MayMove, moved, IsMove, HasEnded, IsStay, DispatchRun}
 use Rattle.group_sched.specs.declared.schedule.End.{End}
 use Rattle.group_sched.specs.declared.schedule.End.TheVariants.{Ended, Waiting, Undefined, Cut}
 use Rattle.group_sched.specs.Events.{weight_of}
-use Rattle.group_sched.specs.Sides.{Runs, Begun, nothing, side_of}
+use Rattle.group_sched.specs.Sides.{Runs, nothing, side_of}
 
 -- of how many invocations, how many of them in a workgroup, what each is told, and the memory at the start
 pub record Setup : Type 0 where

@@ -1,10 +1,9 @@
 -- What is said of a runner of invocations: what each does, and how far each is.
-use Rattle.std.specs.Prelude.{ℕ, ◌≡◌, ◌+◌, ◌==◌, ◌&&◌, ◌||◌, Bool, true, false, List, [], ◌∷◌, ◌++◌, Option, Some, None, IfSome, map, find, option_and_then, slice_get}
+use Rattle.std.specs.Prelude.{ℕ, ◌≡◌, ◌==◌, ◌&&◌, ◌||◌, Bool, true, false, List, [], ◌∷◌, ◌++◌, Option, Some, None, IfSome, map, find, option_and_then, slice_get}
 use Rattle.std.specs.Option.{option_map_or}
 use Rattle.std.specs.List.{list_any}
 use Rattle.std.specs.BTreeMap.{get}
 use Rattle.std.specs.Ordering.{nat_cmp}
-use Rattle.spv_module.specs.declared.tree.Value.{Value}
 use Rattle.spv_types.specs.Tree.{ValueTree, word, many, values_in}
 use Rattle.spv_types.specs.View.{value_of}
 use Rattle.op_semantics.specs.Component.{listed}

@@ -1,4 +1,4 @@
-use Rattle.std.proofs.Common.{◌∙◌, sym, subst, arith}
+use Rattle.std.proofs.Common.{◌∙◌, sym, subst}
 use Rattle.dispatch_semantics.specs.Store.{found_at, AreWords}
 use Rattle.group_sched.specs.Events.{location_of}
 use Rattle.group_sched.specs.Memory.{stored}
