@@ -1,5 +1,6 @@
 use Rattle.std.proofs.Common.{◌≡◌, [], Bool, ap, sym, ◌∙◌, subst}
 use Rattle.std.proofs.lemmas.Result.{err_from_is_err_and, on_ok_weaker}
+use Rattle.spv_ops.specs.OpGroups.{group_of}
 use Rattle.spv_words.specs.declared.rule.Rule.{Rule}
 use Rattle.spv_words.specs.declared.rule.Rule.TheVariants.{T1}
 use Rattle.profile_rules.specs.Operands.{breaks_t1_in, lacks}
