@@ -170,11 +170,11 @@ axis_part e n k less four =
     ap (component_if n (shape_of_elem e)) (axis_number k (omega (arith, less, four))) ∙ ap (λ b. if b then Some (k, shape_of_elem e) else None) (less_is k n less)
 
 -- a scalar, and no composite
-abbrev IsOne : ValueTree → Type 0
+abbrev pub IsOne : ValueTree → Type 0
 IsOne (many vs) = ⊥
 IsOne _ = Unit {0}
 
-not_vector : (e : Elem) (n : ℕ) (r : ValueTree) → IsOne r → IsVectorOf e n r → ⊥
+pub not_vector : (e : Elem) (n : ℕ) (r : ValueTree) → IsOne r → IsVectorOf e n r → ⊥
 not_vector e n (many vs) one is = one
 not_vector e n (word a) one is = is
 not_vector e n (truth t) one is = is
@@ -184,10 +184,10 @@ composite_some None r h = cc
 composite_some (Some rs) r h = (rs, refl, let same : composite rs ≡ r = cc in same)
 
 -- operations that take scalars to scalars
-abbrev OnOne : (ValueTree → Option ValueTree) → Type 0
+abbrev pub OnOne : (ValueTree → Option ValueTree) → Type 0
 OnOne f = (v r : ValueTree) → f v ≡ Some r → IsOne r
 
-abbrev OnTwo : (ValueTree → ValueTree → Option ValueTree) → Type 0
+abbrev pub OnTwo : (ValueTree → ValueTree → Option ValueTree) → Type 0
 OnTwo f = (v w r : ValueTree) → f v w ≡ Some r → IsOne v × IsOne w × IsOne r
 
 abbrev OnThree : (ValueTree → ValueTree → ValueTree → Option ValueTree) → Type 0
@@ -200,7 +200,7 @@ one_word (Some n) r h = let same : word n ≡ r = cc in subst IsOne same tt
 one_truth : (b : Bool) (r : ValueTree) → Some (truth b) ≡ Some r → IsOne r
 one_truth b r h = let same : truth b ≡ r = cc in subst IsOne same tt
 
-unary_one : (o : Unary) → OnOne (unary_scalar o)
+pub unary_one : (o : Unary) → OnOne (unary_scalar o)
 unary_one o (word a) r h = let same = one_word (Some _) r h in same
 unary_one o (truth t) r h = cc
 unary_one o (many vs) r h = cc
@@ -215,7 +215,7 @@ field_one f (word a) r h = one_word (f a) r h
 field_one f (truth t) r h = cc
 field_one f (many vs) r h = cc
 
-binary_two : (o : Binary) → OnTwo (binary_scalar o)
+pub binary_two : (o : Binary) → OnTwo (binary_scalar o)
 binary_two o (word a) (word b) r h = (tt, tt, one_word (binary_word o a b) r h)
 binary_two o (word a) (truth t) r h = cc
 binary_two o (word a) (many vs) r h = cc

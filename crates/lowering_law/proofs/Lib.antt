@@ -13,3 +13,4 @@ pub mod Parts
 pub mod Components
 pub mod Whole
 pub mod Spread
+pub mod Joined

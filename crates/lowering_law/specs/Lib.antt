@@ -3,3 +3,4 @@ pub mod Says
 pub mod Numbers
 pub mod BuiltIns
 pub mod Stands
+pub mod Wanted
