@@ -70,7 +70,7 @@ map_end f [] x = refl
 map_end f (y ∷ xs) x = ap (λ ys. f y ∷ ys) (map_end f xs x)
 
 -- what is given of each, at a place
-before_some : {A : Type 0} (o : Option A) (q : Option (List A)) (rs : List A) → before o q ≡ Some rs → (y : A) × (ys : List A) × (o ≡ Some y) × (q ≡ Some ys) × (rs ≡ y ∷ ys)
+pub before_some : {A : Type 0} (o : Option A) (q : Option (List A)) (rs : List A) → before o q ≡ Some rs → (y : A) × (ys : List A) × (o ≡ Some y) × (q ≡ Some ys) × (rs ≡ y ∷ ys)
 before_some None q rs h = cc
 before_some (Some y) None rs h = cc
 before_some (Some y) (Some ys) rs h = (y, ys, refl, refl, let same : rs ≡ y ∷ ys = cc in same)
@@ -139,7 +139,7 @@ each_alone : (e : Elem) (vs : List ValueTree) → AreOf e vs → each_one scalar
 each_alone e [] a = refl
 each_alone e (v ∷ vs) a = ap (λ o. before o (each_one scalars_of (map (typed (shape_of_elem e)) vs))) (one_scalar e v a.0) ∙ ap (before (Some (v ∷ []))) (each_alone e vs a.1)
 
-each_itself : (e : Elem) (vs : List ValueTree) → AreOf e vs → each_one (as_elem e) vs ≡ Some vs
+pub each_itself : (e : Elem) (vs : List ValueTree) → AreOf e vs → each_one (as_elem e) vs ≡ Some vs
 each_itself e [] a = refl
 each_itself e (v ∷ vs) a = ap (λ o. before o (each_one (as_elem e) vs)) (as_itself e v a.0) ∙ ap (before (Some v)) (each_itself e vs a.1)
 
@@ -147,7 +147,7 @@ joined_alone : (vs : List ValueTree) → joined (map (λ v. v ∷ []) vs) ≡ vs
 joined_alone [] = refl
 joined_alone (v ∷ vs) = ap (λ us. v ∷ us) (joined_alone vs)
 
-built_of : (e : Elem) (n : ℕ) (vs : List ValueTree) → AreOf e vs → length vs ≡ n → (n == 1) ≡ false → built (vector e n) (map (typed (shape_of_elem e)) vs) ≡ Some (typed (vector e n) (composite vs))
+pub built_of : (e : Elem) (n : ℕ) (vs : List ValueTree) → AreOf e vs → length vs ≡ n → (n == 1) ≡ false → built (vector e n) (map (typed (shape_of_elem e)) vs) ≡ Some (typed (vector e n) (composite vs))
 built_of e n vs a count more =
     ap (vector_built e n) (each_alone e vs a)
     ∙ ap (λ us. option_map (typed (vector e n)) (option_and_then (λ us. option_map composite (each_one (as_elem e) us)) (filled n us))) (joined_alone vs)
@@ -165,7 +165,7 @@ axis_number (suc (suc (suc (suc k)))) low = absurd (omega (arith, low))
 pub less_is : (k n : ℕ) → k < n → nat_lt k n ≡ true
 less_is k n h = grind (arith, nat_tests, h)
 
-axis_part : (e : Elem) (n k : ℕ) → k < n → n ≤ 4 → component_if n (shape_of_elem e) (component_number (axis_name k)) ≡ Some (k, shape_of_elem e)
+pub axis_part : (e : Elem) (n k : ℕ) → k < n → n ≤ 4 → component_if n (shape_of_elem e) (component_number (axis_name k)) ≡ Some (k, shape_of_elem e)
 axis_part e n k less four =
     ap (component_if n (shape_of_elem e)) (axis_number k (omega (arith, less, four))) ∙ ap (λ b. if b then Some (k, shape_of_elem e) else None) (less_is k n less)
 
@@ -179,7 +179,7 @@ not_vector e n (many vs) one is = one
 not_vector e n (word a) one is = is
 not_vector e n (truth t) one is = is
 
-composite_some : (q : Option (List ValueTree)) (r : ValueTree) → option_map composite q ≡ Some r → (rs : List ValueTree) × (q ≡ Some rs) × (composite rs ≡ r)
+pub composite_some : (q : Option (List ValueTree)) (r : ValueTree) → option_map composite q ≡ Some r → (rs : List ValueTree) × (q ≡ Some rs) × (composite rs ≡ r)
 composite_some None r h = cc
 composite_some (Some rs) r h = (rs, refl, let same : composite rs ≡ r = cc in same)
 
@@ -252,7 +252,7 @@ clamp_three o (word a) (many vs) u r h = cc
 clamp_three o (truth t) w u r h = cc
 clamp_three o (many vs) w u r h = cc
 
-type_is : (p : Program) (e : Elem) (n : ℕ) → type_of p (type_named (vector_type e n)) ≡ Some (vector e n)
+pub type_is : (p : Program) (e : Elem) (n : ℕ) → type_of p (type_named (vector_type e n)) ≡ Some (vector e n)
 type_is p elem.Bool n = refl
 type_is p elem.Int n = refl
 type_is p elem.Uint n = refl

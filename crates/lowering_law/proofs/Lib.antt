@@ -14,3 +14,4 @@ pub mod Components
 pub mod Whole
 pub mod Spread
 pub mod Joined
+pub mod Made
