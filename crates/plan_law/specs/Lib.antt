@@ -1,2 +1,3 @@
 pub mod Ordered
 pub mod InOrder
+pub mod Distinct
