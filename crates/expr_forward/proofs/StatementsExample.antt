@@ -23,8 +23,9 @@ use Rattle.glsl_ast.specs.declared.expressions.Literal.TheVariants.{Uint}
 use Rattle.glsl_ast.specs.declared.expressions.BinOp.TheVariants.{Add}
 use Rattle.expr_forward.specs.Scope.{Scope, Argument}
 use Rattle.expr_forward.specs.Paths.{literal_word}
-use Rattle.expr_forward.specs.Values.{operation_kind_of, value_in}
-use Rattle.expr_forward.specs.Statements.{block_text, kind_of}
+use Rattle.expr_forward.specs.Kinds.{kind_of, operation_kind_of}
+use Rattle.expr_forward.specs.Values.{value_in}
+use Rattle.expr_forward.specs.Statements.{block_text}
 
 inst : ℕ → Op → ℕ → ℕ → List ℕ → Inst
 inst at o ty result args = record { op = o; at = at; ty = ty; result = result; args = args }
