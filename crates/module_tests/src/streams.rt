@@ -1,12 +1,50 @@
 // Sources and sinks: that take little at a time, that fail at a call, and files.
 use cc_outside::{
-    Failed, MemorySink, MemorySource, ReadEnd, Source, StdSink, StdSource, SteadySink,
-    SteadySource, WriteEnd, read_all, write_all,
+    Failed, MemorySink, MemorySource, ReadEnd, Sink, Source, StdSink, StdSource, SteadySink,
+    SteadySource, Unwritten, WriteEnd, read_all, write_all,
 };
-use sample_modules::ByteByByte;
 use std::path::PathBuf;
 use std::test::Fail;
 use std::{env, fs, process};
+
+// Gives at most one byte in each call.
+#[derive(Drop)]
+struct Trickle {
+    source: MemorySource,
+}
+
+impl Source for Trickle {
+    ghost use Rattle.std.specs.Prelude.{None};
+
+    ghost left = { λ _. None };
+
+    ghost faults = { λ s. s.source.faults };
+
+    fn read(&mut self, buf: &mut [u8]) -> Result<usize, Failed> {
+        let end = buf.len().min(1);
+        self.source.read(&mut buf[..end])
+    }
+}
+
+// Takes at most one byte in each call.
+#[derive(Drop)]
+struct Narrow {
+    sink: MemorySink,
+}
+
+impl Sink for Narrow {
+    ghost use Rattle.std.specs.Prelude.{None};
+
+    ghost written = { λ _. None };
+
+    ghost faults = { λ s. s.sink.faults };
+
+    ghost wants = { λ s. s.sink.wants };
+
+    fn write(&mut self, piece: &[u8]) -> Result<usize, Unwritten> {
+        self.sink.write(&piece[..piece.len().min(1)])
+    }
+}
 
 // Gives one byte in each call, without end.
 #[derive(Drop)]
@@ -37,7 +75,7 @@ fn reads_all(rt: HostRuntime) -> Result<(), Fail> {
         (2, [2], Err(ReadEnd::Fault)),
     ] {
         let source = MemorySource::new(b"abcde".to_vec(alloc)?, fails.to_vec(alloc)?);
-        let read = read_all(alloc, &mut ByteByByte { stream: source }, limit);
+        let read = read_all(alloc, &mut Trickle { source }, limit);
         assert_eq!(rt; read.map(|bytes| bytes.len()), wanted, "limit {limit}");
     }
     let endless = read_all(alloc, &mut Endless, 10);
@@ -57,9 +95,9 @@ fn writes_all(rt: HostRuntime) -> Result<(), Fail> {
         (0, Err(WriteEnd::Fault), b""),
     ] {
         let sink = MemorySink::new(alloc, [fails].to_vec(alloc)?);
-        let mut narrow = ByteByByte { stream: sink };
+        let mut narrow = Narrow { sink };
         assert_eq!(rt; write_all(&mut narrow, b"abcde"), wanted, "call {fails}");
-        assert_eq!(rt; narrow.stream.bytes(), written, "call {fails}");
+        assert_eq!(rt; narrow.sink.bytes(), written, "call {fails}");
     }
     let mut steady = SteadySink::new(alloc);
     assert_eq!(rt; write_all(&mut steady, b"ab"), Ok(()));
