@@ -35,7 +35,7 @@ starts_rise at zero (w ∷ ws) =
     (let low : at ≤ at = omega arith in low, subst (λ n. Rise n (insts_from (suc at) (w / 65536 - 1) ws)) (let next : suc at ≡ at + 1 = omega arith in next) (starts_rise (suc at) (w / 65536 - 1) ws))
 starts_rise at (suc skip) (w ∷ ws) = rise_below at (suc at) (let low : at ≤ suc at = omega arith in low) (insts_from (suc at) skip ws) (starts_rise (suc at) skip ws)
 
-abbrev flat : List Block → List Inst
+abbrev pub flat : List Block → List Inst
 flat bs = flat_map (λ (b : Block). b.insts) bs
 
 -- a result that does not stand twice stands once
@@ -58,7 +58,7 @@ distinct_from (x ∷ xs) far = (
     above_zero zero some = absurd (some refl)
     above_zero (suc x) some = omega arith
 
-map_length : {A B : Type 0} (f : A → B) (xs : List A) → length (map f xs) ≡ length xs
+pub map_length : {A B : Type 0} (f : A → B) (xs : List A) → length (map f xs) ≡ length xs
 map_length f [] = refl
 map_length f (x ∷ xs) = ap (λ n. suc n) (map_length f xs)
 
@@ -86,7 +86,7 @@ module _ (ws : List ℕ) where
       by_kind k more = more
 
   -- a result that none of the words' instructions has, none of a function has
-  none_has : (id : ℕ) (is : List Inst1) → IsNone id (map (result_of ws) is) → HaveNot id (block_insts ws is ++ flat (blocks ws is)) × HaveNot id (flat (blocks ws is))
+  pub none_has : (id : ℕ) (is : List Inst1) → IsNone id (map (result_of ws) is) → HaveNot id (block_insts ws is ++ flat (blocks ws is)) × HaveNot id (flat (blocks ws is))
   none_has id [] gives = (tt, tt)
   none_has id (i ∷ is) gives = by_kind (kind_of ws i) (none_has id is gives.1) gives.0
     where
@@ -119,8 +119,11 @@ module _ (ws : List ℕ) where
   all_rise = functions_rise (insts ws) 5 (starts_rise 5 0 (drop 5 ws))
 
   -- where P3 is not broken
-  pub all_apart : ((at : ℕ) → Broken ws P3 at → ⊥) → AllApart (functions ws)
-  all_apart unbroken =
-      functions_apart (insts ws) (distinct_from (results ws) (λ k less twice.
+  pub distinct : ((at : ℕ) → Broken ws P3 at → ⊥) → AreDistinct (results ws)
+  distinct unbroken =
+      distinct_from (results ws) (λ k less twice.
       let inside : k < length (insts ws) = subst (λ n. k < n) (map_length (result_of ws) (insts ws)) less in
-      unbroken (nth_inst ws k).start (k, inside, refl, inr twice)))
+      unbroken (nth_inst ws k).start (k, inside, refl, inr twice))
+
+  pub all_apart : ((at : ℕ) → Broken ws P3 at → ⊥) → AllApart (functions ws)
+  all_apart unbroken = functions_apart (insts ws) (distinct unbroken)

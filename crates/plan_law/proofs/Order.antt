@@ -47,7 +47,7 @@ among_right : (i : Inst) (xs ys : List Inst) → IsAmong i ys → IsAmong i (xs 
 among_right i [] ys stands = stands
 among_right i (x ∷ xs) ys stands = inr (among_right i xs ys stands)
 
-not_among : (id : ℕ) (j : Inst) (is : List Inst) → HaveNot id is → IsAmong j is → j.result ≡ id → ⊥
+pub not_among : (id : ℕ) (j : Inst) (is : List Inst) → HaveNot id is → IsAmong j is → j.result ≡ id → ⊥
 not_among id j [] lacks_it stands same = stands
 not_among id j (i ∷ is) lacks_it (inl here) same = lacks_it.0 (ap (λ (x : Inst). x.result) here ∙ same)
 not_among id j (i ∷ is) lacks_it (inr stands) same = not_among id j is lacks_it.1 stands same
