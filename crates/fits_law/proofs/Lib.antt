@@ -1,2 +1,4 @@
 pub mod Parts
 pub mod Operations
+pub mod Words
+pub mod Steps

@@ -23,7 +23,7 @@ use Rattle.op_semantics.specs.Fits.{elem_tree, fits}
 use Rattle.fits_law.specs.Takes.{Sort, numbers, truths, IsOfSort, Has, Alike, shape_at, Gives, GiveAll, AreOfShape, AreMembers, AreParts, IsCondition, IsShuffle, IsField, OfOne, OfTwo, OfThree, OfFour, Takes, AllFit}
 use Rattle.fits_law.proofs.Parts.{listed_values, listed_back, EachFits, many_of, of_many, each_at, MembersFit, of_members, set_of, each_with, extracted_fits, inserted_fits, alike_fits, zero_elem_fits, zero_fits}
 
-before_some : {A : Type 0} (o : Option A) (q : Option (List A)) (rs : List A) → before o q ≡ Some rs → (y : A) × (ys : List A) × (o ≡ Some y) × (q ≡ Some ys) × (rs ≡ y ∷ ys)
+pub before_some : {A : Type 0} (o : Option A) (q : Option (List A)) (rs : List A) → before o q ≡ Some rs → (y : A) × (ys : List A) × (o ≡ Some y) × (q ≡ Some ys) × (rs ≡ y ∷ ys)
 before_some None q rs h = cc
 before_some (Some y) None rs h = cc
 before_some (Some y) (Some ys) rs h = (y, ys, refl, refl, let same : rs ≡ y ∷ ys = cc in same)
