@@ -29,7 +29,7 @@ use Rattle.lowering_law.specs.Says.{Says, AllSay}
 use Rattle.lowering_law.specs.BuiltIns.{NoneDeclared}
 use Rattle.lowering_law.specs.Stands.{GoesByComponent, Means, IsScalarOf, IsLow, AreOf, AreLow, IsVectorOf, MeansVector, MeansAny, AllMeanAny, vector_type, OnScalars}
 use Rattle.lowering_law.proofs.Counts.{by_one_operand, by_two_operands, by_three_operands, by_four_operands}
-use Rattle.lowering_law.proofs.Saying.{says_build}
+use Rattle.lowering_law.proofs.Saying.{all_end, says_build}
 use Rattle.lowering_law.proofs.Vectors.{filled_is}
 use Rattle.lowering_law.proofs.Scalars.{numeric_of, truth_of, scalar_says}
 use Rattle.lowering_law.proofs.Parts.{says_member}
@@ -54,18 +54,18 @@ low_at [] k v a is = cc
 low_at (u ∷ vs) zero v a is = let same : u ≡ v = cc in subst IsLow same a.0
 low_at (u ∷ vs) (suc k) v a is = low_at vs k v a.1 is
 
-take_end : {A : Type 0} (xs : List A) (m : ℕ) → m < length xs → (x : A) × (slice_get xs m ≡ Some x) × (take (suc m) xs ≡ take m xs ++ x ∷ [])
+pub take_end : {A : Type 0} (xs : List A) (m : ℕ) → m < length xs → (x : A) × (slice_get xs m ≡ Some x) × (take (suc m) xs ≡ take m xs ++ x ∷ [])
 take_end [] m less = absurd (omega (arith, less))
 take_end (x ∷ xs) zero less = (x, refl, refl)
 take_end (x ∷ xs) (suc m) less = let r = take_end xs m (omega (arith, less)) in (r.0, r.1, ap (λ ys. x ∷ ys) r.2)
 
-take_whole : {A : Type 0} (xs : List A) (m : ℕ) → length xs ≡ m → take m xs ≡ xs
+pub take_whole : {A : Type 0} (xs : List A) (m : ℕ) → length xs ≡ m → take m xs ≡ xs
 take_whole [] zero e = refl
 take_whole [] (suc m) e = refl
 take_whole (x ∷ xs) zero e = absurd (omega (arith, e))
 take_whole (x ∷ xs) (suc m) e = ap (λ ys. x ∷ ys) (take_whole xs m (omega (arith, e)))
 
-map_end : {A B : Type 0} (f : A → B) (xs : List A) (x : A) → map f (xs ++ x ∷ []) ≡ map f xs ++ f x ∷ []
+pub map_end : {A B : Type 0} (f : A → B) (xs : List A) (x : A) → map f (xs ++ x ∷ []) ≡ map f xs ++ f x ∷ []
 map_end f [] x = refl
 map_end f (y ∷ xs) x = ap (λ ys. f y ∷ ys) (map_end f xs x)
 
@@ -282,12 +282,6 @@ module _ (p : Program) (none : NoneDeclared p) (calls : Text → List Argument �
   abbrev S : Expr → Typed → Type 0
   S = Says p calls s
 
-  all_end : (es : List Expr) (vs : List Typed) (e : Expr) (v : Typed) → AllSay p calls s (exprs_in es) vs → S e v → AllSay p calls s (exprs_in (es ++ e ∷ [])) (vs ++ v ∷ [])
-  all_end [] [] e v a h = (h, tt)
-  all_end [] (u ∷ vs) e v a h = absurd a
-  all_end (d ∷ es) [] e v a h = absurd a
-  all_end (d ∷ es) (u ∷ vs) e v a h = (a.0, all_end es vs e v a.1 h)
-
   is_one : (x : Operand) (v : ValueTree) → Means p calls s x v → IsOne v
   is_one x (word a) m = tt
   is_one x (truth t) m = tt
@@ -330,7 +324,7 @@ module _ (p : Program) (none : NoneDeclared p) (calls : Text → List Argument �
     below_say Q rs each (suc m) le =
         let last = take_end rs m (omega (arith, le)) in
         subst (λ ys. AllSay p calls s (exprs_in (each_below (suc m) Q)) ys) (sym (ap (map (typed (shape_of_elem g))) last.2 ∙ map_end (typed (shape_of_elem g)) (take m rs) last.0))
-        (all_end (each_below m Q) (map (typed (shape_of_elem g)) (take m rs)) (Q m) (typed (shape_of_elem g) last.0) (below_say Q rs each m (omega (arith, le))) (each m last.0 last.1))
+        (all_end p calls s (each_below m Q) (map (typed (shape_of_elem g)) (take m rs)) (Q m) (typed (shape_of_elem g) last.0) (below_say Q rs each m (omega (arith, le))) (each m last.0 last.1))
 
     -- a constructor of components says the vector of them
     pub components_say : (Q : ℕ → Expr) (rs : List ValueTree) → length rs ≡ n → AreOf g rs → ((k : ℕ) (r : ValueTree) → slice_get rs k ≡ Some r → S (Q k) (typed (shape_of_elem g) r)) → S (build (type_named (vector_type g n)) (exprs_in (each_below n Q))) (typed (vector g n) (composite rs))

@@ -15,3 +15,4 @@ pub mod Whole
 pub mod Spread
 pub mod Joined
 pub mod Made
+pub mod Composites

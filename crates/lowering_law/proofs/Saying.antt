@@ -2,7 +2,7 @@
 use Rattle.std.proofs.Common.{◌≡◌, Bool, true, false, List, [], ◌∷◌, ◌++◌, Option, Some, None, refl, ap, ◌∙◌}
 use Rattle.std.specs.Prelude.{◌&&◌, ◌||◌}
 use Rattle.spv_types.specs.Tree.{ValueTree, truth}
-use Rattle.glsl_ast.specs.Tree.{Text, TypeName, Expr, literal, name, build, not, flip, binary, choose, Exprs, no_exprs, expr}
+use Rattle.glsl_ast.specs.Tree.{Text, TypeName, Expr, literal, name, build, not, flip, binary, choose, Exprs, no_exprs, expr, exprs_in}
 use Rattle.glsl_ast.specs.declared.expressions.Literal.{Literal}
 use Rattle.glsl_ast.specs.declared.expressions.BinOp.{BinOp}
 use Rattle.glsl_ast.specs.declared.expressions.BinOp.TheVariants.{Both, Either}
@@ -106,6 +106,13 @@ module _ (p : Program) (calls : Text → List Argument → State → Result (Opt
   all_values (expr e es) [] h = absurd h
   all_values (expr e es) (v ∷ vs) h =
       on_operand e v _ h.0 ∙ ap (λ g. then_get g (λ y. got [] (v ∷ y.0, y.1))) (all_values es vs h.1)
+
+  -- with one expression more
+  pub all_end : (es : List Expr) (vs : List Typed) (e : Expr) (v : Typed) → AllSay p calls s (exprs_in es) vs → S e v → AllSay p calls s (exprs_in (es ++ e ∷ [])) (vs ++ v ∷ [])
+  all_end [] [] e v a h = (h, tt)
+  all_end [] (u ∷ vs) e v a h = absurd a
+  all_end (d ∷ es) [] e v a h = absurd a
+  all_end (d ∷ es) (u ∷ vs) e v a h = (a.0, all_end es vs e v a.1 h)
 
   pub says_build : (t : TypeName) (shape : Shape) (es : Exprs) (vs : List Typed) (r : Typed) → type_of p t ≡ Some shape → AllSay p calls s es vs → built shape vs ≡ Some r → S (build t es) r
   says_build t shape es vs r is h o =

@@ -4,3 +4,4 @@ pub mod Numbers
 pub mod BuiltIns
 pub mod Stands
 pub mod Wanted
+pub mod Written
