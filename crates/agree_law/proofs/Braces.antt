@@ -34,6 +34,7 @@ module _ (m : Naming) (c : Conf) (s : State) where
     lents = λ n e. let l = a.lents n e in (l.0, own_declared s.frames (m.name n) x _ u (other.name n (lent_named m n e)) l.1, l.2);
     privates = λ n e. let p = a.privates n e in (p.0, none_declared s.frames (m.name n) x u (other.name n (private_named m n e)) p.1);
     kept = λ q k e. let i = a.kept q k e in (i.0, own_declared s.frames (m.index_name q k) x _ u (other.index q k e) i.1, i.2);
+    outside = λ y e. let o = a.outside y e in (none_declared s.frames y x u (other.outside y e) o.0, o.1);
   }
 
   pub puts : (x : Text) (u : ValueTree) → IsOther m x → Agree m c s → Agree m c (record s { frames = put_in s.frames x u })
@@ -43,6 +44,7 @@ module _ (m : Naming) (c : Conf) (s : State) where
     lents = λ n e. let l = a.lents n e in (l.0, own_put_other s.frames (m.name n) x _ u (other.name n (lent_named m n e)) l.1, l.2);
     privates = λ n e. let p = a.privates n e in (p.0, none_put s.frames (m.name n) x u p.1);
     kept = λ q k e. let i = a.kept q k e in (i.0, own_put_other s.frames (m.index_name q k) x _ u (other.index q k e) i.1, i.2);
+    outside = λ y e. let o = a.outside y e in (none_put s.frames y x u o.0, o.1);
   }
 
   -- braces are entered
@@ -53,6 +55,7 @@ module _ (m : Naming) (c : Conf) (s : State) where
     lents = λ n e. let l = a.lents n e in (l.0, own_push s.frames (m.name n) _ l.1, l.2);
     privates = λ n e. a.privates n e;
     kept = λ q k e. let i = a.kept q k e in (i.0, own_push s.frames (m.index_name q k) _ i.1, i.2);
+    outside = λ y e. a.outside y e;
   }
 
   -- and left, where other braces stand round them
@@ -63,6 +66,7 @@ module _ (m : Naming) (c : Conf) (s : State) where
     lents = λ n e. let l = a.lents n e in (l.0, one (m.name n) _ l.1, l.2);
     privates = λ n e. let p = a.privates n e in (p.0, hidden (m.name n) p.1);
     kept = λ q k e. let i = a.kept q k e in (i.0, one (m.index_name q k) _ i.1, i.2);
+    outside = λ y e. let o = a.outside y e in (hidden y o.0, o.1);
   }
     where
       one : (x : Text) (v : Variable) → Own s.frames x v → Own (drop 1 s.frames) x v

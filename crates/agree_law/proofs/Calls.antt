@@ -3,6 +3,7 @@ use Rattle.std.proofs.Common.{◌≡◌, ◌≢◌, ℕ, true, false, List, [], 
 use Rattle.std.proofs.lemmas.Bool.Decides.{eqb_tells}
 use Rattle.spv_types.specs.Tree.{ValueTree, word}
 use Rattle.module_semantics.specs.State.{Held, value, pointer, Conf}
+use Rattle.glsl_ast.specs.Tree.{Text}
 use Rattle.glsl_semantics.specs.States.{Frame, State, found, has_in, put_in}
 use Rattle.agree_law.specs.Own.{Own}
 use Rattle.agree_law.specs.Agree.{Naming, is_named, AreApart, variable_with, as_value, value_of, IfPointer, IsFar, target_value, Agree}
@@ -16,13 +17,15 @@ pub begins : (m : Naming) (c : Conf) (s : State) (f : Frame) → s.frames ≡ f 
     → ((n : ℕ) → m.is_variable n ≡ true → found f (m.name n) ≡ Some (variable_with (m.shape n) (c.top.variables n)))
     → ((n : ℕ) → m.is_lent n ≡ true → (o : Option ValueTree) × (found f (m.name n) ≡ Some (variable_with (m.shape n) o)) × IfPointer (c.top.ids n) (λ r path. IsFar r × (o ≡ target_value c r path)))
     → ((n : ℕ) → m.is_private n ≡ true → (found s.globals (m.name n) ≡ Some (variable_with (m.shape n) (c.privates n))) × (has_in (f ∷ []) (m.name n) ≡ false))
-    → ((q k : ℕ) → m.is_kept q k ≡ true → (o : Option ValueTree) × (found f (m.index_name q k) ≡ Some (variable_with (m.index_shape q k) o)) × (c.top.ids q ≡ None)) → Agree m c s
-begins m c s f one outer variables lents privates kept = record {
+    → ((q k : ℕ) → m.is_kept q k ≡ true → (o : Option ValueTree) × (found f (m.index_name q k) ≡ Some (variable_with (m.index_shape q k) o)) × (c.top.ids q ≡ None))
+    → ((y : Text) → m.is_outside y ≡ true → (has_in (f ∷ []) y ≡ false) × (found s.globals y ≡ None)) → Agree m c s
+begins m c s f one outer variables lents privates kept outside = record {
   outer = λ n e. subst (λ fs. Own fs (m.name n) (variable_with (m.shape n) (value_of c n))) (sym one) (outer n e);
   variables = λ n e. subst (λ fs. Own fs (m.name n) (variable_with (m.shape n) (c.top.variables n))) (sym one) (variables n e);
   lents = λ n e. let l = lents n e in (l.0, subst (λ fs. Own fs (m.name n) (variable_with (m.shape n) l.0)) (sym one) l.1, l.2);
   privates = λ n e. let p = privates n e in (p.0, ap (λ fs. has_in fs (m.name n)) one ∙ p.1);
   kept = λ q k e. let i = kept q k e in (i.0, subst (λ fs. Own fs (m.index_name q k) (variable_with (m.index_shape q k) i.0)) (sym one) i.1, subst (λ h. IfPointer h (λ r path. i.0 ≡ Some (word (m.index_in q k path)))) (sym i.2) tt);
+  outside = λ y e. let o = outside y e in (ap (λ fs. has_in fs y) one ∙ o.0, o.1);
 }
 
 module _ (m : Naming) (apart : AreApart m) (c : Conf) (s : State) where
@@ -39,6 +42,7 @@ module _ (m : Naming) (apart : AreApart m) (c : Conf) (s : State) where
     ];
     privates = λ k e. let p = a.privates k e in (p.0 ∙ ap (λ o. Some (variable_with (m.shape k) o)) (sym (privates k e)), none_put s.frames (m.name k) (m.name n) v p.1);
     kept = λ q k e. let i = a.kept q k e in (i.0, own_put_other s.frames (m.index_name q k) (m.name n) _ v (apart.both n q k (lent_named m n is) e) i.1, if_alike (c.top.ids q) (d.top.ids q) _ _ (sym (ids q)) (λ r path h. h) i.2);
+    outside = λ y e. let o = a.outside y e in (none_put s.frames y (m.name n) v o.0, o.1);
   }
     where
       fs : List Frame
@@ -73,13 +77,14 @@ module _ (m : Naming) (apart : AreApart m) (c : Conf) (s : State) where
 
   -- Behind a call its caller has its own braces again, and the Private variables as the call left them; what was lent is then copied back, as stores do it.
   pub goes_on : (q : ℕ → Option ValueTree) (g : Frame) → ((n : ℕ) → m.is_private n ≡ true → found g (m.name n) ≡ Some (variable_with (m.shape n) (q n))) → ((k : ℕ) → m.is_lent k ≡ true → IfPointer (c.top.ids k) (λ r path. target_value (record c { privates = q }) r path ≡ target_value c r path))
-      → Agree m c s → Agree m (record c { privates = q }) (record s { globals = g })
-  goes_on q g now alike a = record {
+      → ((y : Text) → m.is_outside y ≡ true → found g y ≡ None) → Agree m c s → Agree m (record c { privates = q }) (record s { globals = g })
+  goes_on q g now alike hidden a = record {
     outer = a.outer;
     variables = a.variables;
     lents = λ k e. let l = a.lents k e in (l.0, l.1, far (c.top.ids k) l.0 l.2 (alike k e));
     privates = λ k e. (now k e, (a.privates k e).1);
     kept = a.kept;
+    outside = λ y e. ((a.outside y e).0, hidden y e);
   }
     where
       far : (h : Option Held) (o : Option ValueTree) → IfPointer h (λ r path. IsFar r × (o ≡ target_value c r path)) → IfPointer h (λ r path. target_value (record c { privates = q }) r path ≡ target_value c r path) → IfPointer h (λ r path. IsFar r × (o ≡ target_value (record c { privates = q }) r path))

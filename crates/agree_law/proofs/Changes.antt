@@ -11,12 +11,12 @@ use Rattle.agree_law.specs.Agree.{Naming, is_named, AreApart, variable_with, as_
 use Rattle.agree_law.proofs.Owned.{own_put, own_put_other, own_declared, none_put, none_declared}
 use Rattle.agree_law.proofs.Braces.{outer_named, local_named, variable_named, lent_named, private_named}
 
-put_same : {A : Type 0} (f : ℕ → Option A) (n : ℕ) (a : A) → put f n a n ≡ Some a
+pub put_same : {A : Type 0} (f : ℕ → Option A) (n : ℕ) (a : A) → put f n a n ≡ Some a
 put_same {A} f n a =
     let on : (n == n) ≡ true = elim (eqb_tells n n) [ inl w ↦ w.0 | inr w ↦ absurd (w.1 refl) ] in
     ap (λ (b : Bool). elim b as (λ b. Option A) [ true ↦ Some a | false ↦ f n ]) on
 
-put_other : {A : Type 0} (f : ℕ → Option A) (n k : ℕ) (a : A) → k ≢ n → put f n a k ≡ f k
+pub put_other : {A : Type 0} (f : ℕ → Option A) (n k : ℕ) (a : A) → k ≢ n → put f n a k ≡ f k
 put_other {A} f n k a apart =
     let off : (k == n) ≡ false = elim (eqb_tells k n) [ inl w ↦ absurd (apart w.1) | inr w ↦ w.0 ] in
     ap (λ (b : Bool). elim b as (λ b. Option A) [ true ↦ Some a | false ↦ f k ]) off
@@ -59,10 +59,10 @@ module _ (m : Naming) (apart : AreApart m) (c : Conf) (s : State) (rest : List I
     | inr w ↦ if_alike (c.top.ids q) ((with_put c rest n v).top.ids q) _ _ (sym (put_other c.top.ids n q (value v) w.1)) (λ r path h. h) is
   ]
 
-  value_same : (n : ℕ) (v : ValueTree) → value_of (with_put c rest n v) n ≡ Some v
+  pub value_same : (n : ℕ) (v : ValueTree) → value_of (with_put c rest n v) n ≡ Some v
   value_same n v = ap as_value (put_same c.top.ids n (value v))
 
-  value_other : (n k : ℕ) (v : ValueTree) → k ≢ n → value_of (with_put c rest n v) k ≡ value_of c k
+  pub value_other : (n k : ℕ) (v : ValueTree) → k ≢ n → value_of (with_put c rest n v) k ≡ value_of c k
   value_other n k v other = ap as_value (put_other c.top.ids n k (value v) other)
 
   -- a value with a variable at the top of the function is assigned
@@ -79,6 +79,7 @@ module _ (m : Naming) (apart : AreApart m) (c : Conf) (s : State) (rest : List I
         (l.0, own_put_other s.frames (m.name k) (m.name n) _ v (differs k (lent_named m k e) other) l.1, far_alike n k v l.0 other l.2);
     privates = λ k e. let p = a.privates k e in (p.0, none_put s.frames (m.name k) (m.name n) v p.1);
     kept = λ q k e. let i = a.kept q k e in (i.0, own_put_other s.frames (m.index_name q k) (m.name n) _ v (apart.both n q k (outer_named m n is) e) i.1, index_alike n q k v i.0 i.2);
+    outside = λ y e. let o = a.outside y e in (none_put s.frames y (m.name n) v o.0, o.1);
   }
     where
       differs : (k : ℕ) → is_named m k ≡ true → k ≢ n → m.name n ≢ m.name k
@@ -100,6 +101,7 @@ module _ (m : Naming) (apart : AreApart m) (c : Conf) (s : State) (rest : List I
         (l.0, own_declared s.frames (m.name k) (m.name n) _ u (differs k (lent_named m k e) other) l.1, far_alike n k v l.0 other l.2);
     privates = λ k e. let p = a.privates k e in (p.0, none_declared s.frames (m.name k) (m.name n) u (differs k (private_named m k e) (is_local_not k (apart.privates k e).1)) p.1);
     kept = λ q k e. let i = a.kept q k e in (i.0, own_declared s.frames (m.index_name q k) (m.name n) _ u (apart.both n q k (local_named m n is) e) i.1, index_alike n q k v i.0 i.2);
+    outside = λ y e. let o = a.outside y e in (none_declared s.frames y (m.name n) u ((apart.outside y e).0 n (local_named m n is)) o.0, o.1);
   }
     where
       u : Variable
@@ -119,6 +121,7 @@ module _ (m : Naming) (apart : AreApart m) (c : Conf) (s : State) (rest : List I
     lents = λ k e. let l = a.lents k e in (l.0, l.1, far_alike n k v l.0 (is_not m.is_lent k n e far) l.2);
     privates = a.privates;
     kept = λ q k e. let i = a.kept q k e in (i.0, i.1, index_alike n q k v i.0 i.2);
+    outside = a.outside;
   }
 
   -- a Function variable is stored to
@@ -134,6 +137,7 @@ module _ (m : Naming) (apart : AreApart m) (c : Conf) (s : State) (rest : List I
         (l.0, own_put_other s.frames (m.name k) (m.name n) _ v (differs k (lent_named m k e) (is_not m.is_lent k n e (apart.variables n is).2)) l.1, if_alike (c.top.ids k) (c.top.ids k) _ _ refl (λ r path h. (h.0, h.1 ∙ far_target r path h.0)) l.2);
     privates = λ k e. let p = a.privates k e in (p.0, none_put s.frames (m.name k) (m.name n) v p.1);
     kept = λ q k e. let i = a.kept q k e in (i.0, own_put_other s.frames (m.index_name q k) (m.name n) _ v (apart.both n q k (variable_named m n is) e) i.1, i.2);
+    outside = λ y e. let o = a.outside y e in (none_put s.frames y (m.name n) v o.0, o.1);
   }
     where
       differs : (k : ℕ) → is_named m k ≡ true → k ≢ n → m.name n ≢ m.name k
@@ -172,6 +176,7 @@ module _ (m : Naming) (apart : AreApart m) (c : Conf) (s : State) (rest : List I
         | inr none ↦ subst (λ h. IfPointer h (λ r path. i.0 ≡ Some (word (m.index_in q k path)))) (sym none.0) tt
       ],
     );
+    outside = a.outside;
   }
 
   pub keeps_index : (q k i : ℕ) → m.is_kept q k ≡ true → c.top.ids q ≡ None → Agree m c s → Agree m c (record s { frames = put_in s.frames (m.index_name q k) (word i) })
@@ -184,6 +189,7 @@ module _ (m : Naming) (apart : AreApart m) (c : Conf) (s : State) (rest : List I
       | inl w ↦ own_index r l e w.1
       | inr w ↦ let old = a.kept r l e in (old.0, own_put_other s.frames (m.index_name r l) x _ (word i) (λ same. w.1 (sym (apart.indexes q k r l is e same).0)) old.1, old.2)
     ];
+    outside = λ y e. let o = a.outside y e in (none_put s.frames y x (word i) o.0, o.1);
   }
     where
       x : Text
@@ -218,6 +224,7 @@ module _ (m : Naming) (apart : AreApart m) (c : Conf) (s : State) (rest : List I
       | inl w ↦ here n k e w.1
       | inr w ↦ let i = a.kept n k e in (i.0, i.1, if_alike (c.top.ids n) (put c.top.ids q (pointer r path) n) _ _ (sym (put_other c.top.ids q n (pointer r path) w.1)) (λ z y h. h) i.2)
     ];
+    outside = a.outside;
   }
     where
       here : (n k : ℕ) → m.is_kept n k ≡ true → n ≡ q → (o : Option ValueTree) × Own s.frames (m.index_name n k) (variable_with (m.index_shape n k) o) × IfPointer (put c.top.ids q (pointer r path) n) (λ _ y. o ≡ Some (word (m.index_in n k y)))

@@ -9,7 +9,7 @@ use Rattle.glsl_semantics.specs.Shapes.{Shape}
 use Rattle.glsl_semantics.specs.States.{Variable, State, found, found_in, has_in}
 use Rattle.agree_law.specs.Own.{Own}
 
--- The names of a function's text, by ids: of results that are declared at its top and of value parameters, of results that are declared in their blocks, of Function variables, of pointer parameters, and of Private variables; and of the indexes that are kept of chains, by the chain and the number of the index, with the index that a pointer's path has there.
+-- The names of a function's text, by ids: of results that are declared at its top and of value parameters, of results that are declared in their blocks, of Function variables, of pointer parameters, and of Private variables; and of the indexes that are kept of chains, by the chain and the number of the index, with the index that a pointer's path has there. Besides, the names of what stands outside of functions: constants, blocks, workgroup variables, and what is built in.
 pub record Naming : Type 0 where
   pub name : ℕ → Text
   pub index_name : ℕ → ℕ → Text
@@ -21,6 +21,7 @@ pub record Naming : Type 0 where
   pub is_lent : ℕ → Bool
   pub is_private : ℕ → Bool
   pub is_kept : ℕ → ℕ → Bool
+  pub is_outside : Text → Bool
   pub index_in : ℕ → ℕ → List ℕ → ℕ
 
 abbrev pub is_named : Naming → ℕ → Bool
@@ -31,6 +32,7 @@ pub record AreApart (m : Naming) : Type 0 where
   pub names : (a b : ℕ) → is_named m a ≡ true → is_named m b ≡ true → m.name a ≡ m.name b → a ≡ b
   pub indexes : (q k r l : ℕ) → m.is_kept q k ≡ true → m.is_kept r l ≡ true → m.index_name q k ≡ m.index_name r l → (q ≡ r) × (k ≡ l)
   pub both : (a q k : ℕ) → is_named m a ≡ true → m.is_kept q k ≡ true → m.name a ≢ m.index_name q k
+  pub outside : (x : Text) → m.is_outside x ≡ true → ((n : ℕ) → is_named m n ≡ true → m.name n ≢ x) × ((q k : ℕ) → m.is_kept q k ≡ true → m.index_name q k ≢ x)
   pub once : (n : ℕ) → m.is_outer n ≡ true → m.is_local n ≡ false
   pub variables : (n : ℕ) → m.is_variable n ≡ true → (m.is_outer n ≡ false) × (m.is_local n ≡ false) × (m.is_lent n ≡ false) × (m.is_private n ≡ false)
   pub lents : (n : ℕ) → m.is_lent n ≡ true → (m.is_outer n ≡ false) × (m.is_local n ≡ false) × (m.is_private n ≡ false)
@@ -40,6 +42,7 @@ pub record AreApart (m : Naming) : Type 0 where
 pub record IsOther (m : Naming) (x : Text) : Type 0 where
   pub name : (n : ℕ) → is_named m n ≡ true → x ≢ m.name n
   pub index : (q k : ℕ) → m.is_kept q k ≡ true → x ≢ m.index_name q k
+  pub outside : (y : Text) → m.is_outside y ≡ true → x ≢ y
 
 -- a variable of a type, with a value or none
 abbrev pub variable_with : Shape → Option ValueTree → Variable
@@ -86,6 +89,8 @@ pub record Agree (m : Naming) (c : Conf) (s : State) : Type 0 where
   pub privates : (n : ℕ) → m.is_private n ≡ true → (found s.globals (m.name n) ≡ Some (variable_with (m.shape n) (c.privates n))) × (has_in s.frames (m.name n) ≡ false)
   -- a kept index is declared always, and right while the chain leads somewhere
   pub kept : (q k : ℕ) → m.is_kept q k ≡ true → (o : Option ValueTree) × Own s.frames (m.index_name q k) (variable_with (m.index_shape q k) o) × IfPointer (c.top.ids q) (λ r path. o ≡ Some (word (m.index_in q k path)))
+  -- what stands outside of functions is hidden by no variable
+  pub outside : (x : Text) → m.is_outside x ≡ true → (has_in s.frames x ≡ false) × (found s.globals x ≡ None)
 
 -- and in a block, behind these results: those that are declared there
 pub record AgreeIn (m : Naming) (done : ℕ → Bool) (c : Conf) (s : State) : Type 0 where
