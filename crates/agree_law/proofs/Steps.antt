@@ -23,7 +23,7 @@ pub record Both (m : Naming) (c : Supplied Conf) (s : State) : Type 0 where
   pub answers : s.answers ≡ c.answers
 
 -- what goes on from what is known
-on_known : {A : Type 0} (g : Result A) (a : A) (f : A → Run) → g ≡ got [] a → on_got g f ≡ f a
+pub on_known : {A : Type 0} (g : Result A) (a : A) (f : A → Run) → g ≡ got [] a → on_got g f ≡ f a
 on_known {A} g a f is = ap (λ (g : Result A). on_got g f) is ∙ begun_none (f a)
 
 module _ (p : Program) (calls : Text → List Argument → State → Result (Option Typed × State)) (k : ℕ) (s : State) where

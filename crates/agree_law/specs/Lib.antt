@@ -1,3 +1,6 @@
 pub mod Own
 pub mod Agree
 pub mod Points
+pub mod Blocks
+pub mod Evaluates
+pub mod Tables
