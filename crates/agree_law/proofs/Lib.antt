@@ -4,3 +4,15 @@ pub mod Changes
 pub mod Points
 pub mod Calls
 pub mod Steps
+pub mod InBlocks
+pub mod Settling
+pub mod Evaluating
+pub mod Insts
+pub mod Machine
+pub mod Accesses
+pub mod Values
+pub mod Terminators
+pub mod Chains
+pub mod Tables
+pub mod Closed
+pub mod Calling
