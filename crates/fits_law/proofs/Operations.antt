@@ -428,7 +428,7 @@ gives_fit e n (array t l) v g f = scalar_gives e n (array t l) v g f
 gives_fit e n (runtime t) v g f = scalar_gives e n (runtime t) v g f
 gives_fit e n (struct id ts) v g f = scalar_gives e n (struct id ts) v g f
 
-all_give : (e : Elem) (us : List Tree) (vs : List ValueTree) (n : ℕ) → GiveAll e n us → AllFit us vs → EachFits (elem_tree e) (flat_map components vs) × (length (flat_map components vs) ≡ n)
+pub all_give : (e : Elem) (us : List Tree) (vs : List ValueTree) (n : ℕ) → GiveAll e n us → AllFit us vs → EachFits (elem_tree e) (flat_map components vs) × (length (flat_map components vs) ≡ n)
 all_give e [] [] n g fit = (tt, sym g)
 all_give e [] (v ∷ vs) n g fit = absurd fit
 all_give e (u ∷ us) [] n g fit = absurd fit
@@ -438,13 +438,13 @@ all_give e (u ∷ us) (v ∷ vs) n g fit =
     let count : length (components v ++ flat_map components vs) ≡ n = length-append (components v) (flat_map components vs) ∙ ap (λ k. k + length (flat_map components vs)) first.1 ∙ ap (λ k. g.0 + k) rest.1 ∙ sym g.4 in
     (each_both (elem_tree e) (components v) (flat_map components vs) first.0 rest.0, count)
 
-all_of_shape : (t : Tree) (us : List Tree) (vs : List ValueTree) → AreOfShape t us → AllFit us vs → EachFits t vs × (length vs ≡ length us)
+pub all_of_shape : (t : Tree) (us : List Tree) (vs : List ValueTree) → AreOfShape t us → AllFit us vs → EachFits t vs × (length vs ≡ length us)
 all_of_shape t [] [] same fit = (tt, refl)
 all_of_shape t [] (v ∷ vs) same fit = absurd fit
 all_of_shape t (u ∷ us) [] same fit = absurd fit
 all_of_shape t (u ∷ us) (v ∷ vs) same fit = let rest = all_of_shape t us vs same.1 fit.1 in ((subst (λ x. fits x v ≡ true) same.0 fit.0, rest.0), ap (λ k. suc k) rest.1)
 
-all_members : (ts : Trees) (us : List Tree) (vs : List ValueTree) → AreMembers ts us → AllFit us vs → MembersFit ts vs
+pub all_members : (ts : Trees) (us : List Tree) (vs : List ValueTree) → AreMembers ts us → AllFit us vs → MembersFit ts vs
 all_members no_trees [] [] same fit = tt
 all_members no_trees [] (v ∷ vs) same fit = absurd fit
 all_members (tree t ts) (u ∷ us) [] same fit = absurd fit

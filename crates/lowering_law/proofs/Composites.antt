@@ -186,7 +186,7 @@ module _ (p : Program) (names : Naming) where
     no_more elem.Int (i ∷ is) u v r shape at = cc
     no_more elem.Uint (i ∷ is) u v r shape at = cc
 
-    scalar_as : (d : Elem) → text_shape names (elem_tree d) ≡ scalar d
+    pub scalar_as : (d : Elem) → text_shape names (elem_tree d) ≡ scalar d
     scalar_as elem.Bool = refl
     scalar_as elem.Int = refl
     scalar_as elem.Uint = refl

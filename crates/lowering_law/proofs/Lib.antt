@@ -16,3 +16,4 @@ pub mod Spread
 pub mod Joined
 pub mod Made
 pub mod Composites
+pub mod Arguments

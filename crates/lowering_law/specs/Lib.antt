@@ -5,3 +5,4 @@ pub mod BuiltIns
 pub mod Stands
 pub mod Wanted
 pub mod Written
+pub mod Arguments
