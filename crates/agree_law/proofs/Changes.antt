@@ -5,7 +5,8 @@ use Rattle.spv_module.specs.declared.inst.Inst.{Inst}
 use Rattle.spv_types.specs.Tree.{ValueTree, word}
 use Rattle.module_semantics.specs.State.{Root, global, own, lent, Held, value, pointer, Conf, put, with_top}
 use Rattle.glsl_ast.specs.Tree.{Text}
-use Rattle.glsl_semantics.specs.States.{Variable, State, put_in, declared}
+use Rattle.glsl_semantics.specs.States.{Variable, State, found, put_first, put_in, declared}
+use Rattle.region_law.proofs.Flags.{found_put_first, other_put_first}
 use Rattle.agree_law.specs.Own.{Own}
 use Rattle.agree_law.specs.Agree.{Naming, is_named, AreApart, variable_with, as_value, value_of, IfPointer, IsFar, target_value, Agree}
 use Rattle.agree_law.proofs.Owned.{own_put, own_put_other, own_declared, none_put, none_declared}
@@ -150,6 +151,34 @@ module _ (m : Naming) (apart : AreApart m) (c : Conf) (s : State) (rest : List I
       far_target (global id) path far = refl
       far_target (own id) path far = absurd far
       far_target (lent depth id) path far = refl
+
+  -- a Private variable is stored to, to which no pointer parameter leads
+  pub stores_private : (n : ℕ) (v : ValueTree) (d : Conf) → m.is_private n ≡ true → d.top.ids ≡ c.top.ids → d.top.variables ≡ c.top.variables → d.privates ≡ put c.privates n v
+      → ((k : ℕ) → m.is_lent k ≡ true → IfPointer (c.top.ids k) (λ r path. target_value d r path ≡ target_value c r path)) → Agree m c s → Agree m d (record s { globals = put_first s.globals (m.name n) v })
+  stores_private n v d is ids variables privates others a = record {
+    outer = λ k e. subst (λ (q : ℕ → Option Held). Own s.frames (m.name k) (variable_with (m.shape k) (as_value (q k)))) (sym ids) (a.outer k e);
+    variables = λ k e. subst (λ (q : ℕ → Option ValueTree). Own s.frames (m.name k) (variable_with (m.shape k) (q k))) (sym variables) (a.variables k e);
+    lents = λ k e. let l = a.lents k e in (l.0, l.1, subst (λ (q : ℕ → Option Held). IfPointer (q k) (λ r path. IsFar r × (l.0 ≡ target_value d r path))) (sym ids) (both (c.top.ids k) l.0 l.2 (others k e)));
+    privates = λ k e. (
+      (elim (eqb_tells k n) [
+        | inl w ↦ own_private k e w.1
+        | inr w ↦ other_put_first s.globals (m.name n) (m.name k) v (λ same. w.1 (sym (apart.names n k (private_named m n is) (private_named m k e) same))) ∙ (a.privates k e).0 ∙ ap (λ (o : Option ValueTree). Some (variable_with (m.shape k) o)) (sym (ap (λ (q : ℕ → Option ValueTree). q k) privates ∙ put_other c.privates n k v w.1))
+      ]),
+      (a.privates k e).1,
+    );
+    kept = λ q k e. let i = a.kept q k e in (i.0, i.1, subst (λ (o : ℕ → Option Held). IfPointer (o q) (λ r path. i.0 ≡ Some (word (m.index_in q k path)))) (sym ids) i.2);
+    outside = λ y e. let o = a.outside y e in (o.0, other_put_first s.globals (m.name n) y v ((apart.outside y e).0 n (private_named m n is)) ∙ o.1);
+  }
+    where
+      both : (h : Option Held) (o : Option ValueTree) → IfPointer h (λ r path. IsFar r × (o ≡ target_value c r path)) → IfPointer h (λ r path. target_value d r path ≡ target_value c r path) → IfPointer h (λ r path. IsFar r × (o ≡ target_value d r path))
+      both None o l q = tt
+      both (Some (value u)) o l q = tt
+      both (Some (pointer r path)) o l q = (l.0, l.1 ∙ sym q)
+
+      own_private : (k : ℕ) → m.is_private k ≡ true → k ≡ n → found (put_first s.globals (m.name n) v) (m.name k) ≡ Some (variable_with (m.shape k) (d.privates k))
+      own_private k e same =
+          subst (λ j. found (put_first s.globals (m.name j) v) (m.name k) ≡ Some (variable_with (m.shape k) (d.privates k))) same
+          (found_put_first s.globals (m.name k) (variable_with (m.shape k) (c.privates k)) v (a.privates k e).0 ∙ ap (λ (o : Option ValueTree). Some (variable_with (m.shape k) o)) (sym (ap (λ (q : ℕ → Option ValueTree). q k) privates ∙ ap (put c.privates n v) same ∙ put_same c.privates n v)))
 
   -- A chain is set: first it leads nowhere, and neither do those based on it; then its indexes are kept one by one; then it leads where they say.
   pub forgets : (ids : ℕ → Option Held) → ((k : ℕ) → (ids k ≡ c.top.ids k) ⊎ ((ids k ≡ None) × (m.is_outer k ≡ false))) → Agree m c s → Agree m (with_id c rest ids) s
