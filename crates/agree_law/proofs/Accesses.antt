@@ -44,7 +44,7 @@ module _ (p : Program) (calls : Text → List Argument → State → Result (Opt
   Plain c o = Follows (Supplied Conf) step State (Option Typed) (At m s Holds f b (i ∷ done) rest) (Never (Supplied Conf) step State (Option Typed)) (Never (Supplied Conf) step State (Option Typed)) (NeverGives (Supplied Conf) step State (Option Typed)) 0 k c o
 
   -- where the result's value has come with an answer, or with none
-  got_value : (c : Supplied Conf) (z : State) (v : ValueTree) (e : List Event) (more : List (List ℕ)) → Stands m s Holds f b done c z → IsNew i done → has_outcome (step_kind i.op) ≡ false → step c ≡ go e (supplied (set_value c.at rest i v) more) → G (supplied (set_value c.at rest i v) more) (typed (m.shape i.result) v, record z { answers = more })
+  pub got_value : (c : Supplied Conf) (z : State) (v : ValueTree) (e : List Event) (more : List (List ℕ)) → Stands m s Holds f b done c z → IsNew i done → has_outcome (step_kind i.op) ≡ false → step c ≡ go e (supplied (set_value c.at rest i v) more) → G (supplied (set_value c.at rest i v) more) (typed (m.shape i.result) v, record z { answers = more })
   got_value c z v e more stands new off goes = record {
     before = c.at;
     stands = record { function = stands.function; block = stands.block; agree = answers_in m (have_result done) c.at z more stands.agree; settled = stands.settled; holds = stands.holds; answers = refl };

@@ -15,7 +15,7 @@ use Rattle.agree_law.specs.Evaluates.{as_outcome, Evaluates}
 
 module _ (C : Type 0) (step : C → Move C) where
   -- what fails before goes on has failed behind it
-  fails_then : {A B : Type 0} (c : C) (g : Result A) (f : A → Result B) → Fails C step c (events_of (as_outcome g)) → Fails C step c (events_of (as_outcome (then_get g f)))
+  pub fails_then : {A B : Type 0} (c : C) (g : Result A) (f : A → Result B) → Fails C step c (events_of (as_outcome g)) → Fails C step c (events_of (as_outcome (then_get g f)))
   fails_then {A} {B} c (got e a) f b = by_result (f a)
     where
       by_result : (q : Result B) → Fails C step c (events_of (as_outcome (with_before e q)))

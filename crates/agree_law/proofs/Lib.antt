@@ -16,3 +16,5 @@ pub mod Chains
 pub mod Tables
 pub mod Closed
 pub mod Calling
+pub mod Instructions
+pub mod Stores

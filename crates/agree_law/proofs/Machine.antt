@@ -1,18 +1,23 @@
 -- What the machine of a module does next, by the kind of the instruction: where it goes on, asks or has no meaning.
-use Rattle.std.proofs.Common.{◌≡◌, ◌⊎◌, ℕ, List, [], ◌∷◌, Option, Some, None, inl, inr, refl, ap, ◌∙◌}
-use Rattle.std.specs.Prelude.{slice_get}
+use Rattle.std.proofs.Common.{◌≡◌, ◌⊎◌, ◌++◌, ℕ, List, [], ◌∷◌, Option, Some, None, inl, inr, refl, ap, ◌∙◌}
+use Rattle.std.specs.Prelude.{slice_get, option_map, option_and_then}
+use Rattle.spv_ops.specs.declared.AtomicOp.{AtomicOp}
 use Rattle.spv_ops.specs.declared.Terminator.{Terminator}
 use Rattle.spv_module.specs.declared.inst.Inst.{Inst}
 use Rattle.spv_module.specs.declared.inst.Block.{Block}
-use Rattle.spv_types.specs.Tree.{ValueTree}
+use Rattle.spv_types.specs.Tree.{ValueTree, word}
 use Rattle.spv_index.specs.Locals.{block_in}
 use Rattle.op_semantics.specs.Component.{each_one}
-use Rattle.traces.specs.Runs.{Move, Act, goes, fails, move, Supplied, step_of}
+use Rattle.traces.specs.Events as event
+use Rattle.traces.specs.Events.{updating}
+use Rattle.traces.specs.Runs.{Move, Act, goes, asks, fails, move, Supplied, step_of}
 use Rattle.module_semantics.specs.Setting.{Setting}
-use Rattle.module_semantics.specs.State.{Conf}
-use Rattle.module_semantics.specs.Operands.{value_at, pointer_at, Target, arg}
+use Rattle.module_semantics.specs.State.{value, pointer, own, Conf}
+use Rattle.module_semantics.specs.Memory.{location, elements}
+use Rattle.module_semantics.specs.Operands.{value_at, word_at, pointer_at, Target, arg}
 use Rattle.module_semantics.specs.Accesses.{seen}
-use Rattle.module_semantics.specs.Steps.{StepKind, step_kind, step_by, act, act_on, with_some, set_value, computed, operation_step, load_step, load_from, store_step, store_to, edge_step, branch_step, target_label, phis, phi_value, present_label, gone_to, return_value_step, given_to}
+use Rattle.agree_law.specs.Blocks.{measured}
+use Rattle.module_semantics.specs.Steps.{StepKind, step_kind, step_by, act, act_on, with_some, advanced, set, set_value, set_found, atomic_step, atomic_operation, atomic_operands, length_step, variable_step, memory_barrier_step, control_barrier_step, memory_barriers, computed, operation_step, load_step, load_from, store_step, store_to, edge_step, branch_step, target_label, phis, phi_value, present_label, gone_to, return_value_step, given_to}
 
 -- the machine
 abbrev pub machine : Setting → Supplied Conf → Move (Supplied Conf)
@@ -99,3 +104,111 @@ branch_fails s c o i is = ap (λ (l : Option ℕ). with_some l (edge_step s c)) 
 pub return_value_fails : (s : Setting) (c : Conf) (i : Inst) → value_at s c.top (arg i 0) ≡ None → return_value_step s c i ≡ fails
 unfolding return_value_step
 return_value_fails s c i is = ap (λ (o : Option ValueTree). with_some o (λ v. given_to v c c.below)) is
+
+-- an atomic instruction, and what it lacks where it has no meaning
+pub atomic_goes : (o : AtomicOp) (s : Setting) (c : Conf) (rest : List Inst) (i : Inst) (p : Target) (v : Inst) (ws : List ℕ) → pointer_at s c.top (arg i 0) ≡ Some p → seen s p.0 ≡ Some v → atomic_operands o s c.top i ≡ Some ws
+    → atomic_step o s c rest i ≡ asks (updating (atomic_operation o) (location s v p.1) ws) (set_found c rest i o)
+unfolding atomic_step
+atomic_goes o s c rest i p v ws is sees has =
+    ap (λ (q : Option Target). with_some q (λ p. with_some (seen s p.0) (λ v. with_some (atomic_operands o s c.top i) (λ operands. asks (updating (atomic_operation o) (location s v p.1) operands) (set_found c rest i o))))) is
+    ∙ ap (λ (q : Option Inst). with_some q (λ v. with_some (atomic_operands o s c.top i) (λ operands. asks (updating (atomic_operation o) (location s v p.1) operands) (set_found c rest i o)))) sees
+    ∙ ap (λ (q : Option (List ℕ)). with_some q (λ operands. asks (updating (atomic_operation o) (location s v p.1) operands) (set_found c rest i o))) has
+
+-- where each of these has something, or one has not
+pub record IsUpdate (o : AtomicOp) (s : Setting) (c : Conf) (rest : List Inst) (i : Inst) : Type 0 where
+  pub target : Target
+  pub variable : Inst
+  pub operands : List ℕ
+  pub pointer_is : pointer_at s c.top (arg i 0) ≡ Some target
+  pub seen_is : seen s target.0 ≡ Some variable
+  pub operands_are : atomic_operands o s c.top i ≡ Some operands
+
+pub atomic_cases : (o : AtomicOp) (s : Setting) (c : Conf) (rest : List Inst) (i : Inst) → IsUpdate o s c rest i ⊎ (atomic_step o s c rest i ≡ fails)
+unfolding atomic_step
+atomic_cases o s c rest i = by_pointer (pointer_at s c.top (arg i 0)) refl
+  where
+    asked : Target → Inst → Option (List ℕ) → Act Conf
+    asked p v q = with_some q (λ operands. asks (updating (atomic_operation o) (location s v p.1) operands) (set_found c rest i o))
+
+    seen_by : Target → Option Inst → Act Conf
+    seen_by p q = with_some q (λ v. asked p v (atomic_operands o s c.top i))
+
+    first : Option Target → Act Conf
+    first q = with_some q (λ p. seen_by p (seen s p.0))
+
+    by_operands : (p : Target) (v : Inst) (q : Option (List ℕ)) → pointer_at s c.top (arg i 0) ≡ Some p → seen s p.0 ≡ Some v → atomic_operands o s c.top i ≡ q → IsUpdate o s c rest i ⊎ (atomic_step o s c rest i ≡ fails)
+    by_operands p v None is sees has = inr (ap first is ∙ ap (seen_by p) sees ∙ ap (asked p v) has)
+    by_operands p v (Some ws) is sees has = inl (record { target = p; variable = v; operands = ws; pointer_is = is; seen_is = sees; operands_are = has })
+
+    by_seen : (p : Target) (q : Option Inst) → pointer_at s c.top (arg i 0) ≡ Some p → seen s p.0 ≡ q → IsUpdate o s c rest i ⊎ (atomic_step o s c rest i ≡ fails)
+    by_seen p None is sees = inr (ap first is ∙ ap (seen_by p) sees)
+    by_seen p (Some v) is sees = by_operands p v (atomic_operands o s c.top i) is sees refl
+
+    by_pointer : (q : Option Target) → pointer_at s c.top (arg i 0) ≡ q → IsUpdate o s c rest i ⊎ (atomic_step o s c rest i ≡ fails)
+    by_pointer None is = inr (ap first is)
+    by_pointer (Some p) is = by_seen p (seen s p.0) is refl
+
+-- the length of an array
+pub length_goes : (s : Setting) (c : Conf) (rest : List Inst) (i : Inst) (w : ℕ) → measured s c.top i ≡ Some (value (word w)) → length_step s c rest i ≡ goes [] (set_value c rest i (word w))
+unfolding length_step
+length_goes s c rest i w is = by_pointer (pointer_at s c.top (arg i 0)) is
+  where
+    by_seen : (p : Target) (q : Option Inst) → option_map (λ (v : Inst). value (word (elements s v (arg i 1)))) q ≡ Some (value (word w)) → with_some q (λ v. goes [] (set_value c rest i (word (elements s v (arg i 1))))) ≡ goes [] (set_value c rest i (word w))
+    by_seen p None e = cc
+    by_seen p (Some v) e = let same : elements s v (arg i 1) ≡ w = cc in ap (λ w. goes [] (set_value c rest i (word w))) same
+
+    by_pointer : (q : Option Target) → option_and_then (λ (p : Target). option_map (λ (v : Inst). value (word (elements s v (arg i 1)))) (seen s p.0)) q ≡ Some (value (word w))
+        → with_some q (λ p. with_some (seen s p.0) (λ v. goes [] (set_value c rest i (word (elements s v (arg i 1)))))) ≡ goes [] (set_value c rest i (word w))
+    by_pointer None e = cc
+    by_pointer (Some p) e = by_seen p (seen s p.0) e
+
+pub length_fails : (s : Setting) (c : Conf) (rest : List Inst) (i : Inst) → measured s c.top i ≡ None → length_step s c rest i ≡ fails
+unfolding length_step
+length_fails s c rest i is = by_pointer (pointer_at s c.top (arg i 0)) is
+  where
+    by_seen : (q : Option Inst) → option_map (λ (v : Inst). value (word (elements s v (arg i 1)))) q ≡ None → with_some q (λ v. goes [] (set_value c rest i (word (elements s v (arg i 1))))) ≡ fails
+    by_seen None e = refl
+    by_seen (Some v) e = cc
+
+    by_pointer : (q : Option Target) → option_and_then (λ (p : Target). option_map (λ (v : Inst). value (word (elements s v (arg i 1)))) (seen s p.0)) q ≡ None
+        → with_some q (λ p. with_some (seen s p.0) (λ v. goes [] (set_value c rest i (word (elements s v (arg i 1)))))) ≡ fails
+    by_pointer None e = refl
+    by_pointer (Some p) e = by_seen (seen s p.0) e
+
+-- it is a word, where there is one
+pub length_cases : (s : Setting) (c : Conf) (i : Inst) → ((w : ℕ) × (measured s c.top i ≡ Some (value (word w)))) ⊎ (measured s c.top i ≡ None)
+length_cases s c i = by_pointer (pointer_at s c.top (arg i 0))
+  where
+    by_seen : (q : Option Inst) → ((w : ℕ) × (option_map (λ (v : Inst). value (word (elements s v (arg i 1)))) q ≡ Some (value (word w)))) ⊎ (option_map (λ (v : Inst). value (word (elements s v (arg i 1)))) q ≡ None)
+    by_seen None = inr refl
+    by_seen (Some v) = inl (elements s v (arg i 1), refl)
+
+    by_pointer : (q : Option Target) → ((w : ℕ) × (option_and_then (λ (p : Target). option_map (λ (v : Inst). value (word (elements s v (arg i 1)))) (seen s p.0)) q ≡ Some (value (word w)))) ⊎ (option_and_then (λ (p : Target). option_map (λ (v : Inst). value (word (elements s v (arg i 1)))) (seen s p.0)) q ≡ None)
+    by_pointer None = inr refl
+    by_pointer (Some p) = by_seen (seen s p.0)
+
+-- OpVariable in a function
+pub variable_goes : (s : Setting) (c : Conf) (rest : List Inst) (i : Inst) → (variable_step s c rest i ≡ goes [] (set c rest i (pointer (own i.result) []))) ⊎ (variable_step s c rest i ≡ fails)
+unfolding variable_step
+variable_goes s c rest i = by_value (c.top.variables i.result)
+  where
+    by_value : (o : Option ValueTree) → (with_some o (λ v. goes [] (set c rest i (pointer (own i.result) []))) ≡ goes [] (set c rest i (pointer (own i.result) []))) ⊎ (with_some o (λ v. goes [] (set c rest i (pointer (own i.result) []))) ≡ fails)
+    by_value None = inr refl
+    by_value (Some v) = inl refl
+
+-- barriers, by the word of the semantics
+pub memory_barrier_goes : (s : Setting) (c : Conf) (rest : List Inst) (i : Inst) (w : ℕ) → word_at s c.top (arg i 1) ≡ Some w → memory_barrier_step s c rest i ≡ goes (memory_barriers w) (advanced c rest)
+unfolding memory_barrier_step
+memory_barrier_goes s c rest i w is = ap (λ (o : Option ℕ). with_some o (λ w. goes (memory_barriers w) (advanced c rest))) is
+
+pub memory_barrier_fails : (s : Setting) (c : Conf) (rest : List Inst) (i : Inst) → word_at s c.top (arg i 1) ≡ None → memory_barrier_step s c rest i ≡ fails
+unfolding memory_barrier_step
+memory_barrier_fails s c rest i is = ap (λ (o : Option ℕ). with_some o (λ w. goes (memory_barriers w) (advanced c rest))) is
+
+pub control_barrier_goes : (s : Setting) (c : Conf) (rest : List Inst) (i : Inst) (w : ℕ) → word_at s c.top (arg i 2) ≡ Some w → control_barrier_step s c rest i ≡ goes (memory_barriers w ++ event.control_barrier ∷ []) (advanced c rest)
+unfolding control_barrier_step
+control_barrier_goes s c rest i w is = ap (λ (o : Option ℕ). with_some o (λ w. goes (memory_barriers w ++ event.control_barrier ∷ []) (advanced c rest))) is
+
+pub control_barrier_fails : (s : Setting) (c : Conf) (rest : List Inst) (i : Inst) → word_at s c.top (arg i 2) ≡ None → control_barrier_step s c rest i ≡ fails
+unfolding control_barrier_step
+control_barrier_fails s c rest i is = ap (λ (o : Option ℕ). with_some o (λ w. goes (memory_barriers w ++ event.control_barrier ∷ []) (advanced c rest))) is

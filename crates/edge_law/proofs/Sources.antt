@@ -14,6 +14,7 @@ use Rattle.phi_copies.specs.Sequence.{Pair, target, no_pair, pair_at, HaveOwnTar
 use Rattle.phi_copies.specs.Meaning.{State as Values, value as value_by}
 use Rattle.phi_copies.proofs.Reading.{as_number, source_unset}
 use Rattle.phi_copies.proofs.Moved.{IsMoved, after, moved}
+use Rattle.agree_law.proofs.Stores.{same_number}
 use Rattle.edge_law.specs.Copies.{V, read_by, AllRead}
 
 -- some pair passes, or none does
@@ -34,9 +35,6 @@ read_source : (a b c : Bool) → (not a && (b && not c)) ≡ true → b ≡ true
 read_source true b c e = cc
 read_source false true c e = refl
 read_source false false c e = cc
-
-same_number : (a b : ℕ) → (a == b) ≡ true → a ≡ b
-same_number a b e = elim (eqb_tells a b) [ inl w ↦ w.1 | inr w ↦ (let never : true ≡ false = sym e ∙ w.0 in cc) ]
 
 -- what a source has that is this variable
 source_has : (constants before : ℕ → V) (src : Src) (v : ℕ) → is_var v src ≡ true → value_by V constants before src ≡ before v
