@@ -18,3 +18,4 @@ pub mod Closed
 pub mod Calling
 pub mod Instructions
 pub mod Stores
+pub mod Bodies
