@@ -93,40 +93,47 @@ module _ (p : Program) (calls : Text → List Argument → State → Result (Opt
   here : (d : Supplied Conf) (z : State) → At m s Holds f b (i ∷ done) rest d z → Plain d (normal [] z)
   here d z at = inl (record { to = d; comes = stays (Supplied Conf) step d; holds = at })
 
+  -- the states agree where the value has been assigned, and where it has been declared
+  pub assigned_at : (d : Supplied Conf) (r : Typed × State) → m.is_outer n ≡ true → (g : G d r) → At m s Holds f b (i ∷ done) rest d (record r.1 { frames = put_in r.1.frames x g.value })
+  assigned_at d r is g = record {
+    stands = record {
+      function = ap (λ (c : Conf). c.top.function) g.at ∙ g.stands.function;
+      block = ap (λ (c : Conf). c.top.block) g.at ∙ g.stands.block;
+      agree = subst (λ (c : Conf). AgreeAt c (record r.1 { frames = put_in r.1.frames x g.value })) (sym g.at) (assigns_in m apart (have_result done) g.before r.1 rest n g.value is g.stands.agree);
+      settled = g.settled;
+      holds = g.holds;
+      answers = g.stands.answers;
+    };
+    next = ap (λ (c : Conf). c.top.rest) g.at;
+  }
+
+  pub declared_at : (d : Supplied Conf) (r : Typed × State) → m.is_local n ≡ true → (g : G d r) → At m s Holds f b (i ∷ done) rest d (with_first_value x t (typed t g.value) r.1)
+  declared_at d r is g = record {
+    stands = record {
+      function = ap (λ (c : Conf). c.top.function) g.at ∙ g.stands.function;
+      block = ap (λ (c : Conf). c.top.block) g.at ∙ g.stands.block;
+      agree = subst (λ (c : Conf). AgreeAt c (with_first_value x t (typed t g.value) r.1)) (sym g.at) (declares_value_in m apart (have_result done) g.before r.1 rest n g.value is g.stands.agree);
+      settled = g.settled;
+      holds = g.holds;
+      answers = g.stands.answers;
+    };
+    next = ap (λ (c : Conf). c.top.rest) g.at;
+  }
+
   -- behind an assignment
   assigned : (d : Supplied Conf) (r : Typed × State) (o : Option ValueTree) → m.is_outer n ≡ true → same_shape t t ≡ true → G d r → Plain d (on_got (store (variable x [] t o) r.0 r.1) (λ q. normal [] q))
   assigned d r o is same g =
       let has : has_in r.1.frames x ≡ true = in_found r.1.frames x _ (own_found r.1.frames x _ (g.stands.agree.all.outer n is)) in
       subst (λ (v : Typed). Plain d (on_got (store (variable x [] t o) v r.1) (λ q. normal [] q))) (sym g.comes_to)
       (subst (Plain d) (sym (on_known (store (variable x [] t o) (typed t g.value) r.1) (record r.1 { frames = put_in r.1.frames x g.value }) (λ q. normal [] q) (store_is x t o g.value r.1 same has)))
-      (here d (record r.1 { frames = put_in r.1.frames x g.value }) (record {
-        stands = record {
-          function = ap (λ (c : Conf). c.top.function) g.at ∙ g.stands.function;
-          block = ap (λ (c : Conf). c.top.block) g.at ∙ g.stands.block;
-          agree = subst (λ (c : Conf). AgreeAt c (record r.1 { frames = put_in r.1.frames x g.value })) (sym g.at) (assigns_in m apart (have_result done) g.before r.1 rest n g.value is g.stands.agree);
-          settled = g.settled;
-          holds = g.holds;
-          answers = g.stands.answers;
-        };
-        next = ap (λ (c : Conf). c.top.rest) g.at;
-      })))
+      (here d (record r.1 { frames = put_in r.1.frames x g.value }) (assigned_at d r is g)))
 
   -- and behind a declaration
   declared_it : (d : Supplied Conf) (r : Typed × State) → m.is_local n ≡ true → same_shape t t ≡ true → G d r → Plain d (declaration x t r.0 r.1)
   declared_it d r is same g =
       subst (λ (v : Typed). Plain d (declaration x t v r.1)) (sym g.comes_to)
       (subst (Plain d) (sym (ap (λ (q : Bool). elim q as (λ q. Run) [ true ↦ normal [] (with_first_value x t (typed t g.value) r.1) | false ↦ stuck [] ]) same))
-      (here d (with_first_value x t (typed t g.value) r.1) (record {
-        stands = record {
-          function = ap (λ (c : Conf). c.top.function) g.at ∙ g.stands.function;
-          block = ap (λ (c : Conf). c.top.block) g.at ∙ g.stands.block;
-          agree = subst (λ (c : Conf). AgreeAt c (with_first_value x t (typed t g.value) r.1)) (sym g.at) (declares_value_in m apart (have_result done) g.before r.1 rest n g.value is g.stands.agree);
-          settled = g.settled;
-          holds = g.holds;
-          answers = g.stands.answers;
-        };
-        next = ap (λ (c : Conf). c.top.rest) g.at;
-      })))
+      (here d (with_first_value x t (typed t g.value) r.1) (declared_at d r is g)))
 
   -- a result with a variable at the top of the function
   pub assign_follows : (c : Supplied Conf) (z : State) (e : Expr) → m.is_outer n ≡ true → same_shape t t ≡ true → Stands m s Holds f b done c z → Evaluates (Supplied Conf) step (Typed × State) G k c (evaluate p calls e z) → Plain c (stmt_run p calls k (assign (lvalue x []) e) z)

@@ -57,11 +57,11 @@ module _ (p : Program) (calls : Text → List Argument → State → Result (Opt
   n = i.result
 
   -- the next step, by the kind of the instruction
-  next : (c : Supplied Conf) (z : State) (kind : StepKind) (a : Act Conf) → Here c z → step_kind i.op ≡ kind → step_by kind s c.at rest i ≡ a → machine s c ≡ move a c.answers
+  pub next : (c : Supplied Conf) (z : State) (kind : StepKind) (a : Act Conf) → Here c z → step_kind i.op ≡ kind → step_by kind s c.at rest i ≡ a → machine s c ≡ move a c.answers
   next c z kind a here is same = kind_is s c i rest kind here.next is ∙ ap (λ (a : Act Conf). move a c.answers) same
 
   -- where the result's value has come without an event
-  got_now : (c : Supplied Conf) (z : State) (v : ValueTree) → Here c z → IsNew i done → (has_outcome (step_kind i.op) ≡ true → outcome (step_kind i.op) s c.at.top i ≡ Some (value v)) → machine s c ≡ go [] (supplied (set_value c.at rest i v) c.answers) → G (supplied (set_value c.at rest i v) c.answers) (typed (m.shape n) v, z)
+  pub got_now : (c : Supplied Conf) (z : State) (v : ValueTree) → Here c z → IsNew i done → (has_outcome (step_kind i.op) ≡ true → outcome (step_kind i.op) s c.at.top i ≡ Some (value v)) → machine s c ≡ go [] (supplied (set_value c.at rest i v) c.answers) → G (supplied (set_value c.at rest i v) c.answers) (typed (m.shape n) v, z)
   got_now c z v here new from goes_on = record {
     before = c.at;
     stands = here.stands;

@@ -19,3 +19,4 @@ pub mod Calling
 pub mod Instructions
 pub mod Stores
 pub mod Bodies
+pub mod Inserts

@@ -43,7 +43,7 @@ store_variable x path u o v old whole t z same there is =
     ap (λ (q : Bool). elim q as (λ q. Result State) [ true ↦ assigned x path v z (or_outer (found_in z.frames x) (found z.globals x)) | false ↦ stuck [] ]) same
     ∙ ap (assigned x path v z) there ∙ assigned_is x path v old whole t z is
 
-with_own : (x : Text) (u : ValueTree) (z : State) → has_in z.frames x ≡ true → with_value x u z ≡ record z { frames = put_in z.frames x u }
+pub with_own : (x : Text) (u : ValueTree) (z : State) → has_in z.frames x ≡ true → with_value x u z ≡ record z { frames = put_in z.frames x u }
 with_own x u z has = ap (λ (b : Bool). elim b as (λ b. State) [ true ↦ record z { frames = put_in z.frames x u } | false ↦ record z { globals = put_first z.globals x u } ]) has
 
 with_text : (x : Text) (u : ValueTree) (z : State) → has_in z.frames x ≡ false → with_value x u z ≡ record z { globals = put_first z.globals x u }
@@ -91,6 +91,15 @@ call_other depth height (b ∷ bs) g other = by_test (length bs == depth) refl (
         ap (λ l. elim (l == height) as (λ t. Option Frame) [ true ↦ Some b.0 | false ↦ call_at height (with_call depth g bs) ]) (length_with depth g bs)
         ∙ ap (λ (o : Option Frame). elim (length bs == height) as (λ t. Option Frame) [ true ↦ Some b.0 | false ↦ o ]) ih
 
+-- an assignment to a variable that has a value, or to a part of it
+pub part_runs : (p : Program) (calls : Text → List Argument → State → Result (Option Typed × State)) (k : ℕ) (w : Text) (ls : List LStep) (e : Expr) (x : Text) (path : List ℕ) (shape : Shape) (o : Option ValueTree) (v was whole : ValueTree) (t : Shape) (z : State)
+    → or_stuck (named p z w) (λ (y : Thing). steps p calls y ls z) ≡ got [] (variable x path shape o, z) → evaluate p calls e z ≡ got [] (typed shape v, z) → same_shape shape shape ≡ true
+    → or_outer (found_in z.frames x) (found z.globals x) ≡ Some (variable_with t (Some was)) → inserted v path was ≡ Some whole → stmt_run p calls k (assign (lvalue w ls) e) z ≡ normal [] (with_value x whole z)
+part_runs p calls k w ls e x path shape o v was whole t z place says same there is =
+    on_known (or_stuck (named p z w) (λ (y : Thing). steps p calls y ls z)) (variable x path shape o, z) (λ y. on_got (evaluate p calls e y.1) (λ v. on_got (store y.0 v.0 v.1) (λ q. normal [] q))) place
+    ∙ (on_known (evaluate p calls e z) (typed shape v, z) (λ v. on_got (store (variable x path shape o) v.0 v.1) (λ q. normal [] q)) says
+    ∙ on_known (store (variable x path shape o) (typed shape v) z) (with_value x whole z) (λ q. normal [] q) (store_variable x path shape o v was whole t z same there is))
+
 module _ (p : Program) (calls : Text → List Argument → State → Result (Option Typed × State)) (k : ℕ) (m : Naming) (apart : AreApart m) (s : Setting) (Holds : Conf → Type 0) (f : Function) (b : ℕ) (step : Supplied Conf → Move (Supplied Conf)) (keeps : IsKept step Holds) (done : List Inst) (i : Inst) (rest : List Inst) where
   abbrev Plain : Supplied Conf → Run → Type 0
   Plain c o = Follows (Supplied Conf) step State (Option Typed) (At m s Holds f b (i ∷ done) rest) (Never (Supplied Conf) step State (Option Typed)) (Never (Supplied Conf) step State (Option Typed)) (NeverGives (Supplied Conf) step State (Option Typed)) 0 k c o
@@ -109,10 +118,7 @@ module _ (p : Program) (calls : Text → List Argument → State → Result (Opt
   -- where the variable has this value, and the part gets the other
   runs_to : (c : Supplied Conf) (z : State) (w : Text) (ls : List LStep) (e : Expr) (x : Text) (path : List ℕ) (v was whole : ValueTree) (t : Shape) → Storing c z w ls e x path v → or_outer (found_in z.frames x) (found z.globals x) ≡ Some (variable_with t (Some was)) → inserted v path was ≡ Some whole
       → stmt_run p calls k (assign (lvalue w ls) e) z ≡ normal [] (with_value x whole z)
-  runs_to c z w ls e x path v was whole t g there is =
-      on_known (or_stuck (named p z w) (λ (y : Thing). steps p calls y ls z)) (variable x path g.shape g.old, z) (λ y. on_got (evaluate p calls e y.1) (λ v. on_got (store y.0 v.0 v.1) (λ q. normal [] q))) g.place
-      ∙ (on_known (evaluate p calls e z) (typed g.shape v, z) (λ v. on_got (store (variable x path g.shape g.old) v.0 v.1) (λ q. normal [] q)) g.says
-      ∙ on_known (store (variable x path g.shape g.old) (typed g.shape v) z) (with_value x whole z) (λ q. normal [] q) (store_variable x path g.shape g.old v was whole t z g.same there is))
+  runs_to c z w ls e x path v was whole t g there is = part_runs p calls k w ls e x path g.shape g.old v was whole t z g.place g.says g.same there is
 
   lands : (c : Supplied Conf) (d : Conf) (z y : State) → Stands m s Holds f b done c z → has_outcome (step_kind i.op) ≡ false → step c ≡ go [] (supplied d c.answers) → d.top.function ≡ c.at.top.function → d.top.block ≡ c.at.top.block → d.top.rest ≡ rest → ((n : ℕ) → d.top.ids n ≡ c.at.top.ids n) → y.answers ≡ z.answers
       → AgreeIn m (have_result (i ∷ done)) d y → Plain c (normal [] y)
