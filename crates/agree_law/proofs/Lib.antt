@@ -20,3 +20,4 @@ pub mod Instructions
 pub mod Stores
 pub mod Bodies
 pub mod Inserts
+pub mod Returning

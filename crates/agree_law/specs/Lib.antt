@@ -4,3 +4,4 @@ pub mod Points
 pub mod Blocks
 pub mod Evaluates
 pub mod Tables
+pub mod Outs
