@@ -1,3 +1,4 @@
 pub mod Rows
 pub mod Scalars
 pub mod Operands
+pub mod Choices

@@ -26,11 +26,11 @@ use Rattle.type_law.specs.Shaped.{AllHave}
 use Rattle.type_law.proofs.Rows.{int_has}
 use Rattle.type_law.proofs.Scalars.{row_of, like_ints, compared_ints, like_bools}
 
-some_first : {A B : Type 0} (f : A → Option B) (o : Option A) (b : B) → option_and_then f o ≡ Some b → (a : A) × (o ≡ Some a) × (f a ≡ Some b)
+pub some_first : {A B : Type 0} (f : A → Option B) (o : Option A) (b : B) → option_and_then f o ≡ Some b → (a : A) × (o ≡ Some a) × (f a ≡ Some b)
 some_first f None b e = cc
 some_first f (Some a) b e = (a, refl, e)
 
-is_not_off : (b : Bool) → not b ≡ false → b ≡ true
+pub is_not_off : (b : Bool) → not b ≡ false → b ≡ true
 is_not_off true e = refl
 is_not_off false e = cc
 

@@ -34,11 +34,11 @@ one_of n e = ap size_by e
 more_of : (n : ℕ) → nat_le 2 n ≡ true → size_by n ≡ Some n
 more_of n le = let many : (n == 1) ≡ false = grind (arith, nat_tests, le) in ap (λ b. if b then None else Some n) many
 
-or_left : (a b : Bool) → (a || b) ≡ false → a ≡ false
+pub or_left : (a b : Bool) → (a || b) ≡ false → a ≡ false
 or_left true b e = cc
 or_left false b e = refl
 
-or_right : (a b : Bool) → (a || b) ≡ false → b ≡ false
+pub or_right : (a b : Bool) → (a || b) ≡ false → b ≡ false
 or_right true b e = cc
 or_right false b e = e
 
@@ -52,7 +52,7 @@ module _ (test : Inst → Bool) (k : Sort) (scalar : (gs : List Inst) (f : ℕ �
       by_global (Some g) is e = (g, ap (option_and_then if_type) is ∙ ap (λ b. if b then Some g else None) (is_a_type gs (tree_before gs g.at) g t e), e)
 
   -- what stands before is a type with that shape
-  before_row : (n c : ℕ) (u : Tree) → tree_before gs n c ≡ Some u → type_tree gs c ≡ Some u
+  pub before_row : (n c : ℕ) (u : Tree) → tree_before gs n c ≡ Some u → type_tree gs c ≡ Some u
   before_row n c u e = by_global (global gs c) refl (sym (tree_before_is gs n c) ∙ e)
     where
       by_earlier : (g : Inst) (b : Bool) → option_map_or (tree_at gs) (if b then Some g else None) None ≡ Some u → tree_at gs g ≡ Some u
