@@ -47,7 +47,10 @@ module _ (p : Program) (calls : Text → List Argument → State → Result (Opt
   pub got_value : (c : Supplied Conf) (z : State) (v : ValueTree) (e : List Event) (more : List (List ℕ)) → Stands m s Holds f b done c z → IsNew i done → has_outcome (step_kind i.op) ≡ false → step c ≡ go e (supplied (set_value c.at rest i v) more) → G (supplied (set_value c.at rest i v) more) (typed (m.shape i.result) v, record z { answers = more })
   got_value c z v e more stands new off goes = record {
     before = c.at;
-    stands = record { function = stands.function; block = stands.block; agree = answers_in m (have_result done) c.at z more stands.agree; settled = stands.settled; holds = stands.holds; answers = refl };
+    function = stands.function;
+    block = stands.block;
+    agree = answers_in m (have_result done) c.at z more stands.agree;
+    answers = refl;
     value = v;
     comes_to = refl;
     at = refl;

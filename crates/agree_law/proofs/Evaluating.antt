@@ -97,12 +97,12 @@ module _ (p : Program) (calls : Text → List Argument → State → Result (Opt
   pub assigned_at : (d : Supplied Conf) (r : Typed × State) → m.is_outer n ≡ true → (g : G d r) → At m s Holds f b (i ∷ done) rest d (record r.1 { frames = put_in r.1.frames x g.value })
   assigned_at d r is g = record {
     stands = record {
-      function = ap (λ (c : Conf). c.top.function) g.at ∙ g.stands.function;
-      block = ap (λ (c : Conf). c.top.block) g.at ∙ g.stands.block;
-      agree = subst (λ (c : Conf). AgreeAt c (record r.1 { frames = put_in r.1.frames x g.value })) (sym g.at) (assigns_in m apart (have_result done) g.before r.1 rest n g.value is g.stands.agree);
+      function = ap (λ (c : Conf). c.top.function) g.at ∙ g.function;
+      block = ap (λ (c : Conf). c.top.block) g.at ∙ g.block;
+      agree = subst (λ (c : Conf). AgreeAt c (record r.1 { frames = put_in r.1.frames x g.value })) (sym g.at) (assigns_in m apart (have_result done) g.before r.1 rest n g.value is g.agree);
       settled = g.settled;
       holds = g.holds;
-      answers = g.stands.answers;
+      answers = g.answers;
     };
     next = ap (λ (c : Conf). c.top.rest) g.at;
   }
@@ -110,12 +110,12 @@ module _ (p : Program) (calls : Text → List Argument → State → Result (Opt
   pub declared_at : (d : Supplied Conf) (r : Typed × State) → m.is_local n ≡ true → (g : G d r) → At m s Holds f b (i ∷ done) rest d (with_first_value x t (typed t g.value) r.1)
   declared_at d r is g = record {
     stands = record {
-      function = ap (λ (c : Conf). c.top.function) g.at ∙ g.stands.function;
-      block = ap (λ (c : Conf). c.top.block) g.at ∙ g.stands.block;
-      agree = subst (λ (c : Conf). AgreeAt c (with_first_value x t (typed t g.value) r.1)) (sym g.at) (declares_value_in m apart (have_result done) g.before r.1 rest n g.value is g.stands.agree);
+      function = ap (λ (c : Conf). c.top.function) g.at ∙ g.function;
+      block = ap (λ (c : Conf). c.top.block) g.at ∙ g.block;
+      agree = subst (λ (c : Conf). AgreeAt c (with_first_value x t (typed t g.value) r.1)) (sym g.at) (declares_value_in m apart (have_result done) g.before r.1 rest n g.value is g.agree);
       settled = g.settled;
       holds = g.holds;
-      answers = g.stands.answers;
+      answers = g.answers;
     };
     next = ap (λ (c : Conf). c.top.rest) g.at;
   }
@@ -123,7 +123,7 @@ module _ (p : Program) (calls : Text → List Argument → State → Result (Opt
   -- behind an assignment
   assigned : (d : Supplied Conf) (r : Typed × State) (o : Option ValueTree) → m.is_outer n ≡ true → same_shape t t ≡ true → G d r → Plain d (on_got (store (variable x [] t o) r.0 r.1) (λ q. normal [] q))
   assigned d r o is same g =
-      let has : has_in r.1.frames x ≡ true = in_found r.1.frames x _ (own_found r.1.frames x _ (g.stands.agree.all.outer n is)) in
+      let has : has_in r.1.frames x ≡ true = in_found r.1.frames x _ (own_found r.1.frames x _ (g.agree.all.outer n is)) in
       subst (λ (v : Typed). Plain d (on_got (store (variable x [] t o) v r.1) (λ q. normal [] q))) (sym g.comes_to)
       (subst (Plain d) (sym (on_known (store (variable x [] t o) (typed t g.value) r.1) (record r.1 { frames = put_in r.1.frames x g.value }) (λ q. normal [] q) (store_is x t o g.value r.1 same has)))
       (here d (record r.1 { frames = put_in r.1.frames x g.value }) (assigned_at d r is g)))
@@ -156,12 +156,12 @@ module _ (p : Program) (calls : Text → List Argument → State → Result (Opt
     comes = fewer (Supplied Conf) step 1 0 c d [] (omega arith) (one_step (Supplied Conf) step c d [] goes);
     holds = record {
       stands = record {
-        function = ap (λ (c : Conf). c.top.function) g.at ∙ g.stands.function;
-        block = ap (λ (c : Conf). c.top.block) g.at ∙ g.stands.block;
-        agree = subst (λ (c : Conf). AgreeAt c z) (sym g.at) (forwards_in m apart (have_result done) g.before z rest n g.value outer far off g.stands.agree);
+        function = ap (λ (c : Conf). c.top.function) g.at ∙ g.function;
+        block = ap (λ (c : Conf). c.top.block) g.at ∙ g.block;
+        agree = subst (λ (c : Conf). AgreeAt c z) (sym g.at) (forwards_in m apart (have_result done) g.before z rest n g.value outer far off g.agree);
         settled = g.settled;
         holds = g.holds;
-        answers = g.stands.answers;
+        answers = g.answers;
       };
       next = ap (λ (c : Conf). c.top.rest) g.at;
     };

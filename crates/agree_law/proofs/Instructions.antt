@@ -64,7 +64,10 @@ module _ (p : Program) (calls : Text → List Argument → State → Result (Opt
   pub got_now : (c : Supplied Conf) (z : State) (v : ValueTree) → Here c z → IsNew i done → (has_outcome (step_kind i.op) ≡ true → outcome (step_kind i.op) s c.at.top i ≡ Some (value v)) → machine s c ≡ go [] (supplied (set_value c.at rest i v) c.answers) → G (supplied (set_value c.at rest i v) c.answers) (typed (m.shape n) v, z)
   got_now c z v here new from goes_on = record {
     before = c.at;
-    stands = here.stands;
+    function = here.stands.function;
+    block = here.stands.block;
+    agree = here.stands.agree;
+    answers = here.stands.answers;
     value = v;
     comes_to = refl;
     at = refl;

@@ -21,3 +21,4 @@ pub mod Stores
 pub mod Bodies
 pub mod Inserts
 pub mod Returning
+pub mod Called

@@ -12,12 +12,12 @@ use Rattle.traces.specs.Events as event
 use Rattle.traces.specs.Events.{updating}
 use Rattle.traces.specs.Runs.{Move, Act, goes, asks, fails, move, Supplied, step_of}
 use Rattle.module_semantics.specs.Setting.{Setting}
-use Rattle.module_semantics.specs.State.{value, pointer, own, Conf}
+use Rattle.module_semantics.specs.State.{value, pointer, own, Frame, Conf}
 use Rattle.module_semantics.specs.Memory.{location, elements}
 use Rattle.module_semantics.specs.Operands.{value_at, word_at, pointer_at, Target, arg}
 use Rattle.module_semantics.specs.Accesses.{seen}
 use Rattle.agree_law.specs.Blocks.{measured}
-use Rattle.module_semantics.specs.Steps.{StepKind, step_kind, step_by, act, act_on, with_some, advanced, set, set_value, set_found, atomic_step, atomic_operation, atomic_operands, length_step, variable_step, memory_barrier_step, control_barrier_step, memory_barriers, computed, operation_step, load_step, load_from, store_step, store_to, edge_step, branch_step, target_label, phis, phi_value, present_label, gone_to, return_value_step, given_to}
+use Rattle.module_semantics.specs.Steps.{StepKind, step_kind, step_by, act, act_on, with_some, advanced, set, set_value, set_found, atomic_step, atomic_operation, atomic_operands, length_step, variable_step, memory_barrier_step, control_barrier_step, memory_barriers, computed, operation_step, load_step, load_from, store_step, store_to, edge_step, branch_step, target_label, phis, phi_value, present_label, gone_to, return_step, return_value_step, given, given_to}
 
 -- the machine
 abbrev pub machine : Setting → Supplied Conf → Move (Supplied Conf)
@@ -212,3 +212,12 @@ control_barrier_goes s c rest i w is = ap (λ (o : Option ℕ). with_some o (λ 
 pub control_barrier_fails : (s : Setting) (c : Conf) (rest : List Inst) (i : Inst) → word_at s c.top (arg i 2) ≡ None → control_barrier_step s c rest i ≡ fails
 unfolding control_barrier_step
 control_barrier_fails s c rest i is = ap (λ (o : Option ℕ). with_some o (λ w. goes (memory_barriers w ++ event.control_barrier ∷ []) (advanced c rest))) is
+
+-- a call is left for the one below it
+pub return_goes : (c : Conf) (b : Frame × ℕ) (below : List (Frame × ℕ)) → c.below ≡ b ∷ below → return_step c c.below ≡ goes [] (record c { top = b.0; below = below })
+unfolding return_step
+return_goes c b below is = ap (λ (l : List (Frame × ℕ)). return_step c l) is
+
+pub return_value_goes : (s : Setting) (c : Conf) (i : Inst) (v : ValueTree) (b : Frame × ℕ) (below : List (Frame × ℕ)) → value_at s c.top (arg i 0) ≡ Some v → c.below ≡ b ∷ below → return_value_step s c i ≡ goes [] (record c { top = given v b; below = below })
+unfolding return_value_step
+return_value_goes s c i v b below has is = ap (λ (o : Option ValueTree). with_some o (λ v. given_to v c c.below)) has ∙ ap (given_to v c) is

@@ -6,15 +6,15 @@ use Rattle.traces.specs.Outcomes.{Result, got, with_before, then_get, or_stuck}
 use Rattle.module_semantics.specs.State.{Held, value, pointer, Conf}
 use Rattle.glsl_ast.specs.Tree.{Text, Param, param}
 use Rattle.glsl_semantics.specs.Shapes.{Typed, typed, same_shape}
-use Rattle.glsl_semantics.specs.States.{Variable, Frame, State, found, found_in, has_in, put_in, Thing, variable, store}
+use Rattle.glsl_semantics.specs.States.{Variable, Frame, State, found, found_in, has_in, put_in, Thing, store}
 use Rattle.glsl_semantics.specs.Expressions.{Argument}
-use Rattle.glsl_semantics.specs.Run.{last_value, copied_out, returned}
+use Rattle.glsl_semantics.specs.Run.{copied_out, returned}
 use Rattle.region_law.proofs.Flags.{in_found, other_put}
 use Rattle.agree_law.specs.Own.{Own}
-use Rattle.agree_law.specs.Agree.{Naming, is_named, AreApart, variable_with, as_value, value_of, IfPointer, IsFar, target_value, Agree, AgreeIn}
+use Rattle.agree_law.specs.Agree.{Naming, is_named, AreApart, variable_with, as_value, IfPointer, IsFar, target_value, Agree, AgreeIn}
 use Rattle.agree_law.specs.Outs.{Outs, IsOut, NotOut, AreOnce, AreLent, puts, AreOuts}
 use Rattle.agree_law.proofs.Owned.{own_found, own_put, own_put_other, none_put}
-use Rattle.agree_law.proofs.Braces.{outer_named, local_named, variable_named, lent_named, private_named}
+use Rattle.agree_law.proofs.Braces.{outer_named, local_named, variable_named, lent_named}
 use Rattle.agree_law.proofs.Changes.{is_not}
 use Rattle.agree_law.proofs.Evaluating.{store_is}
 

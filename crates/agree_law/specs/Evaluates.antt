@@ -4,7 +4,7 @@ use Rattle.spv_module.specs.declared.inst.Inst.{Inst}
 use Rattle.spv_module.specs.declared.inst.Function.{Function}
 use Rattle.spv_types.specs.Tree.{ValueTree}
 use Rattle.traces.specs.Events.{Event}
-use Rattle.traces.specs.Runs.{Move, go, Supplied, supplied}
+use Rattle.traces.specs.Runs.{Move, go, Supplied}
 use Rattle.traces.specs.Outcomes.{Outcome, normal, cut, waits, stuck, Result, got}
 use Rattle.traces.specs.Simulation.{Follows}
 use Rattle.module_semantics.specs.Setting.{Setting}
@@ -12,8 +12,8 @@ use Rattle.module_semantics.specs.State.{Conf}
 use Rattle.module_semantics.specs.Steps.{set_value}
 use Rattle.glsl_semantics.specs.Shapes.{Typed, typed}
 use Rattle.glsl_semantics.specs.States.{State}
-use Rattle.agree_law.specs.Agree.{Naming}
-use Rattle.agree_law.specs.Blocks.{IsSettled, Stands}
+use Rattle.agree_law.specs.Agree.{Naming, AgreeIn}
+use Rattle.agree_law.specs.Blocks.{have_result, IsSettled}
 
 abbrev pub as_outcome : {A : Type 0} → Result A → Outcome A (Option Typed)
 as_outcome (got e a) = normal e a
@@ -33,7 +33,10 @@ IsKept step Holds = (c d : Supplied Conf) (e : List Event) → step c ≡ go e d
 -- The machine is where the instruction's result has just got the value to which the evaluation came; all else agrees, as it did before.
 pub record Gets (m : Naming) (s : Setting) (Holds : Conf → Type 0) (f : Function) (b : ℕ) (done : List Inst) (i : Inst) (rest : List Inst) (d : Supplied Conf) (r : Typed × State) : Type 0 where
   pub before : Conf
-  pub stands : Stands m s Holds f b done (supplied before d.answers) r.1
+  pub function : before.top.function ≡ f
+  pub block : before.top.block ≡ b
+  pub agree : AgreeIn m (have_result done) before r.1
+  pub answers : r.1.answers ≡ d.answers
   pub value : ValueTree
   pub comes_to : r.0 ≡ typed (m.shape i.result) value
   pub at : d.at ≡ set_value before rest i value
