@@ -23,25 +23,25 @@ use Rattle.type_law.proofs.Rows.{int_has, bool_has, vector_parts}
 use Rattle.type_law.proofs.Scalars.{or_left, or_right, row_of, before_row, shape_has, is_counted}
 use Rattle.type_law.proofs.Operands.{some_first, is_not_off, int_scalar, same_shape_of}
 
-both_off : (a b : Bool) → (a && b) ≡ false → a ≡ true → b ≡ false
+pub both_off : (a b : Bool) → (a && b) ≡ false → a ≡ true → b ≡ false
 both_off true b e on = e
 both_off false b e on = cc
 
-both_on : (a b : Bool) → a ≡ true → b ≡ true → (a && b) ≡ true
+pub both_on : (a b : Bool) → a ≡ true → b ≡ true → (a && b) ≡ true
 both_on true b on e = e
 both_on false b on e = cc
 
-some_same : {A : Type 0} (a b : A) → Some a ≡ Some b → a ≡ b
+pub some_same : {A : Type 0} (a b : A) → Some a ≡ Some b → a ≡ b
 some_same a b e = cc
 
-same_count : (m n : ℕ) → not (m == n) ≡ false → m ≡ n
+pub same_count : (m n : ℕ) → not (m == n) ≡ false → m ≡ n
 same_count m n e = elim (eqb_tells m n) [ inl w ↦ w.1 | inr w ↦ absurd (never (m == n) w.0 e) ]
   where
     never : (b : Bool) → b ≡ false → not b ≡ false → ⊥
     never true off on = cc
     never false off on = cc
 
-scalar_elem : (u : Tree) (e : Elem) → elem_of u ≡ Some e → u ≡ elem_tree e
+pub scalar_elem : (u : Tree) (e : Elem) → elem_of u ≡ Some e → u ≡ elem_tree e
 scalar_elem boolean e is = ap elem_tree (some_same elem.Bool e is)
 scalar_elem int e is = ap elem_tree (some_same elem.Int e is)
 scalar_elem uint e is = ap elem_tree (some_same elem.Uint e is)

@@ -2,3 +2,4 @@ pub mod Rows
 pub mod Scalars
 pub mod Operands
 pub mod Choices
+pub mod Parts
