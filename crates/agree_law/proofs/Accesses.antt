@@ -55,7 +55,7 @@ module _ (p : Program) (calls : Text → List Argument → State → Result (Opt
     comes_to = refl;
     at = refl;
     settled = settled_put s c.at.top (set_value c.at rest i v).top i done (value v) refl new (λ on. let never : true ≡ false = sym on ∙ off in cc) stands.settled;
-    holds = keeps c (supplied (set_value c.at rest i v) more) e goes stands.holds;
+    holds = keeps c (supplied (set_value c.at rest i v) more) e refl goes stands.holds;
   }
 
   -- What is read of memory: the expression stands for a place with the scalars that the module reads, and the value of the words is the same.
@@ -83,7 +83,7 @@ module _ (p : Program) (calls : Text → List Argument → State → Result (Opt
       block = stands.block;
       agree = passes_in m apart (have_result done) c.at z rest i.result none (forgets m apart c.at z rest c.at.top.ids (λ k. inl refl) stands.agree.all) stands.agree;
       settled = settled_pass s c.at.top (advanced c.at rest).top i done (λ n. refl) off stands.settled;
-      holds = keeps c (supplied (advanced c.at rest) c.answers) e goes stands.holds;
+      holds = keeps c (supplied (advanced c.at rest) c.answers) e refl goes stands.holds;
       answers = stands.answers;
     };
     next = refl;

@@ -127,7 +127,7 @@ module _ (p : Program) (calls : Text → List Argument → State → Result (Opt
 
   -- OpReturn
   pub goes_back : (R : C → Option Typed → State → Type 0) (c : C) (z : State) (ps : List Param) (as' : List Argument) (d : C) (y : State) (last : Inst) → Stands m s Holds f b done c z → (g : Returning c z ps as' d y) → has_outcome (step_kind i.op) ≡ false → m.is_local i.result ≡ false
-      → d.at.top.rest ≡ last ∷ [] → step_kind last.op ≡ return → Holds d.at → GoesBack C (machine s) p calls k GivesNothing R z None ps as' d None y
+      → d.at.top.rest ≡ last ∷ [] → step_kind last.op ≡ return → ((e : C) → machine s d ≡ go [] e → Holds e.at) → GoesBack C (machine s) p calls k GivesNothing R z None ps as' d None y
   goes_back R c z ps as' d y last stands g off none at kind holds =
       let e : C = supplied (popped d g.frame g.below) d.answers in
       let goes_on : machine s d ≡ go [] e = kind_is s d last [] return at kind ∙ ap (λ (a : Act Conf). move a d.answers) (return_goes d.at (g.frame, i.result) g.below g.is) in
@@ -143,7 +143,7 @@ module _ (p : Program) (calls : Text → List Argument → State → Result (Opt
             block = g.block;
             agree = (let a = back_in c z ps as' d y stands g in record { all = a.all; local = λ n e l. a.local n (before_it (have_result done) i.result n (is_not m.is_local n i.result l none) e) l });
             settled = settled_pass s c.at.top g.frame i done g.left.ids off stands.settled;
-            holds = keeps d e [] goes_on holds;
+            holds = holds e goes_on;
             answers = g.answers;
           };
           next = g.next;
@@ -152,7 +152,7 @@ module _ (p : Program) (calls : Text → List Argument → State → Result (Opt
 
   -- OpReturnValue
   pub goes_back_with : (R : C → Option Typed → State → Type 0) (c : C) (z : State) (ps : List Param) (as' : List Argument) (d : C) (y : State) (last : Inst) (v : ValueTree) → Stands m s Holds f b done c z → (g : Returning c z ps as' d y) → IsNew i done → has_outcome (step_kind i.op) ≡ false
-      → d.at.top.rest ≡ last ∷ [] → step_kind last.op ≡ return_value → value_at s d.at.top (arg last 0) ≡ Some v → same_shape (m.shape i.result) (m.shape i.result) ≡ true → Holds d.at → GoesBack C (machine s) p calls k GivesValue R z (Some (m.shape i.result)) ps as' d (Some (typed (m.shape i.result) v)) y
+      → d.at.top.rest ≡ last ∷ [] → step_kind last.op ≡ return_value → value_at s d.at.top (arg last 0) ≡ Some v → same_shape (m.shape i.result) (m.shape i.result) ≡ true → ((e : C) → machine s d ≡ go [] e → Holds e.at) → GoesBack C (machine s) p calls k GivesValue R z (Some (m.shape i.result)) ps as' d (Some (typed (m.shape i.result) v)) y
   goes_back_with R c z ps as' d y last v stands g new off at kind has same holds =
       let e : C = supplied (record d.at { top = record g.frame { ids = put g.frame.ids i.result (value v) }; below = g.below }) d.answers in
       let goes_on : machine s d ≡ go [] e = kind_is s d last [] return_value at kind ∙ ap (λ (a : Act Conf). move a d.answers) (return_value_goes s d.at last v (g.frame, i.result) g.below has g.is) in
@@ -175,7 +175,7 @@ module _ (p : Program) (calls : Text → List Argument → State → Result (Opt
             comes_to = refl;
             at = ap (λ (l : List Inst). record d.at { top = record g.frame { rest = l; ids = put g.frame.ids i.result (value v) }; below = g.below }) g.next;
             settled = settled_put s c.at.top e.at.top i done (value v) (ap (λ (ids : ℕ → Option Held). put ids i.result (value v)) (λ j n. g.left.ids n j)) new (λ on. let never : true ≡ false = sym on ∙ off in cc) stands.settled;
-            holds = keeps d e [] goes_on holds;
+            holds = holds e goes_on;
           },
         );
       }

@@ -261,7 +261,7 @@ module _ (p : Program) (calls : Text → List Argument → State → Result (Opt
                 block = stands.block;
                 agree = leads_in c.at r.to g.from g.indexes outer off far (λ j e. r.own j (inr (all j e))) r.agree;
                 settled = led_settled c g kind new free stands.settled;
-                holds = keeps c d [] goes_on stands.holds;
+                holds = keeps c d [] refl goes_on stands.holds;
                 answers = r.answers ∙ stands.answers;
               };
               next = refl;

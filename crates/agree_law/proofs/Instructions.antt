@@ -72,7 +72,7 @@ module _ (p : Program) (calls : Text → List Argument → State → Result (Opt
     comes_to = refl;
     at = refl;
     settled = settled_put s c.at.top (set_value c.at rest i v).top i done (value v) refl new from here.stands.settled;
-    holds = keeps c (supplied (set_value c.at rest i v) c.answers) [] goes_on here.stands.holds;
+    holds = keeps c (supplied (set_value c.at rest i v) c.answers) [] refl goes_on here.stands.holds;
   }
 
   known : (c : Supplied Conf) (z : State) (e : Expr) (v : ValueTree) → Here c z → IsNew i done → (has_outcome (step_kind i.op) ≡ true → outcome (step_kind i.op) s c.at.top i ≡ Some (value v)) → machine s c ≡ go [] (supplied (set_value c.at rest i v) c.answers) → evaluate p calls e z ≡ got [] (typed (m.shape n) v, z) → E c (evaluate p calls e z)
@@ -184,7 +184,7 @@ module _ (p : Program) (calls : Text → List Argument → State → Result (Opt
                     here.stands.agree.local j (before_it (have_result done) n j other d) l ∙ ap (λ (h : Option Held). Some (variable_with (m.shape j) (as_value h))) (sym (put_other c.at.top.ids n j (pointer (own n) []) other));
               };
               settled = settled_put s c.at.top d.at.top i done (pointer (own n) []) refl new (λ on. let never : true ≡ false = sym on ∙ ap has_outcome kind in cc) here.stands.settled;
-              holds = keeps c d [] goes_on here.stands.holds;
+              holds = keeps c d [] refl goes_on here.stands.holds;
               answers = here.stands.answers;
             };
             next = refl;
@@ -333,7 +333,7 @@ module _ (p : Program) (calls : Text → List Argument → State → Result (Opt
           block = here.stands.block;
           agree = answers_in m (have_result (i ∷ done)) (advanced c.at rest) z more (passes_in m apart (have_result done) c.at z rest n off (forgets m apart c.at z rest c.at.top.ids (λ j. inl refl) here.stands.agree.all) here.stands.agree);
           settled = settled_pass s c.at.top (advanced c.at rest).top i done (λ j. refl) (ap has_outcome kind) here.stands.settled;
-          holds = keeps c (supplied (advanced c.at rest) more) e goes_on here.stands.holds;
+          holds = keeps c (supplied (advanced c.at rest) more) e refl goes_on here.stands.holds;
           answers = refl;
         };
         next = refl;

@@ -120,9 +120,9 @@ module _ (p : Program) (calls : Text → List Argument → State → Result (Opt
       → stmt_run p calls k (assign (lvalue w ls) e) z ≡ normal [] (with_value x whole z)
   runs_to c z w ls e x path v was whole t g there is = part_runs p calls k w ls e x path g.shape g.old v was whole t z g.place g.says g.same there is
 
-  lands : (c : Supplied Conf) (d : Conf) (z y : State) → Stands m s Holds f b done c z → has_outcome (step_kind i.op) ≡ false → step c ≡ go [] (supplied d c.answers) → d.top.function ≡ c.at.top.function → d.top.block ≡ c.at.top.block → d.top.rest ≡ rest → ((n : ℕ) → d.top.ids n ≡ c.at.top.ids n) → y.answers ≡ z.answers
+  lands : (c : Supplied Conf) (d : Conf) (z y : State) → Stands m s Holds f b done c z → has_outcome (step_kind i.op) ≡ false → length d.below ≡ length c.at.below → step c ≡ go [] (supplied d c.answers) → d.top.function ≡ c.at.top.function → d.top.block ≡ c.at.top.block → d.top.rest ≡ rest → ((n : ℕ) → d.top.ids n ≡ c.at.top.ids n) → y.answers ≡ z.answers
       → AgreeIn m (have_result (i ∷ done)) d y → Plain c (normal [] y)
-  lands c d z y stands off goes function block next ids same agree = inl (record {
+  lands c d z y stands off below goes function block next ids same agree = inl (record {
     to = supplied d c.answers;
     comes = fewer (Supplied Conf) step 1 0 c (supplied d c.answers) [] (omega arith) (one_step (Supplied Conf) step c (supplied d c.answers) [] goes);
     holds = record {
@@ -131,7 +131,7 @@ module _ (p : Program) (calls : Text → List Argument → State → Result (Opt
         block = block ∙ stands.block;
         agree = agree;
         settled = settled_pass s c.at.top d.top i done ids off stands.settled;
-        holds = keeps c (supplied d c.answers) [] goes stands.holds;
+        holds = keeps c (supplied d c.answers) [] below goes stands.holds;
         answers = same ∙ stands.answers;
       };
       next = next;
@@ -144,7 +144,7 @@ module _ (p : Program) (calls : Text → List Argument → State → Result (Opt
   store_own_follows c z w ls e id path v was whole g is had into goes =
       let found_is : found_in z.frames (m.name id) ≡ Some (variable_with (m.shape id) (Some was)) = own_found z.frames (m.name id) _ (g.stands.agree.all.variables id is) ∙ ap (λ (o : Option ValueTree). Some (variable_with (m.shape id) o)) had in
       subst (Plain c) (sym (runs_to c z w ls e (m.name id) path v was whole (m.shape id) g (ap (λ (o : Option Variable). or_outer o (found z.globals (m.name id))) found_is) into ∙ ap (λ (y : State). normal [] y) (with_own (m.name id) whole z (in_found z.frames (m.name id) _ found_is))))
-      (lands c (keeping (own id) whole (advanced c.at rest)) z (record z { frames = put_in z.frames (m.name id) whole }) g.stands g.no_outcome goes refl refl refl (λ n. refl) refl
+      (lands c (keeping (own id) whole (advanced c.at rest)) z (record z { frames = put_in z.frames (m.name id) whole }) g.stands g.no_outcome refl goes refl refl refl (λ n. refl) refl
       (stores_in m apart (have_result done) c.at z rest id i.result whole is g.no_result g.stands.agree))
 
   -- a Private variable
@@ -155,7 +155,7 @@ module _ (p : Program) (calls : Text → List Argument → State → Result (Opt
       let a = g.stands.agree.all.privates id is in
       let found_is : found z.globals (m.name id) ≡ Some (variable_with (m.shape id) (Some was)) = a.0 ∙ ap (λ (o : Option ValueTree). Some (variable_with (m.shape id) o)) had in
       subst (Plain c) (sym (runs_to c z w ls e (m.name id) path v was whole (m.shape id) g (ap (λ (o : Option Variable). or_outer o (found z.globals (m.name id))) (none_found_in z.frames (m.name id) a.1) ∙ found_is) into ∙ ap (λ (y : State). normal [] y) (with_text (m.name id) whole z a.1)))
-      (lands c d z (record z { globals = put_first z.globals (m.name id) whole }) g.stands g.no_outcome goes refl refl refl (λ n. refl) refl
+      (lands c d z (record z { globals = put_first z.globals (m.name id) whole }) g.stands g.no_outcome refl goes refl refl refl (λ n. refl) refl
       (record {
         all = stores_private m apart c.at z rest id whole d is refl refl refl (λ n l. far (c.at.top.ids n) (others n l)) g.stands.agree.all;
         local = λ n e l. g.stands.agree.local n (before_it (have_result done) i.result n (is_not m.is_local n i.result l g.no_result) e) l;
@@ -177,12 +177,13 @@ module _ (p : Program) (calls : Text → List Argument → State → Result (Opt
   -- a variable of another call, or one of the module that the function does not name, has another value; nothing else has changed
   pub record IsSet (c : Conf) (r : Root) (whole : ValueTree) (d : Conf) : Type 0 where
     pub top : d.top ≡ (advanced c rest).top
+    pub below : length d.below ≡ length c.below
     pub here : root_value d r ≡ Some whole
     pub others : (y : Root) → IsFar y → y ≢ r → root_value d y ≡ root_value c y
     pub privates : (n : ℕ) → m.is_private n ≡ true → d.privates n ≡ c.privates n
 
   pub set_global : (c : Conf) (id : ℕ) (whole : ValueTree) → m.is_private id ≡ false → IsSet c (global id) whole (keeping (global id) whole (advanced c rest))
-  set_global c id whole off = record { top = refl; here = put_same c.privates id whole; others = others; privates = λ n is. put_other c.privates id n whole (is_not m.is_private n id is off) }
+  set_global c id whole off = record { top = refl; below = refl; here = put_same c.privates id whole; others = others; privates = λ n is. put_other c.privates id n whole (is_not m.is_private n id is off) }
     where
       others : (y : Root) → IsFar y → y ≢ global id → root_value (keeping (global id) whole (advanced c rest)) y ≡ root_value c y
       others (global n) far other = put_other c.privates id n whole (λ same. other (ap global same))
@@ -192,6 +193,7 @@ module _ (p : Program) (calls : Text → List Argument → State → Result (Opt
   pub set_lent : (c : Conf) (depth id : ℕ) (whole : ValueTree) (g : Frame) → call_at depth c.below ≡ Some g → IsSet c (lent depth id) whole (keeping (lent depth id) whole (advanced c rest))
   set_lent c depth id whole g is = subst (IsSet c (lent depth id) whole) (sym (ap (with_lent depth id whole (advanced c rest)) is)) (record {
     top = refl;
+    below = length_with depth (with_variable id whole g) c.below;
     here = ap (λ (o : Option Frame). variable_in o id) (call_same depth c.below g (with_variable id whole g) is) ∙ put_same g.variables id whole;
     others = others;
     privates = λ n is. refl;
@@ -221,7 +223,7 @@ module _ (p : Program) (calls : Text → List Argument → State → Result (Opt
       let o_is : l.0 ≡ Some was = at_pointer (c.at.top.ids q) l.0 leads_to l.2 ∙ ap (option_and_then (extracted [])) had in
       let found_is : found_in z.frames (m.name q) ≡ Some (variable_with (m.shape q) (Some was)) = own_found z.frames (m.name q) _ l.1 ∙ ap (λ (o : Option ValueTree). Some (variable_with (m.shape q) o)) o_is in
       subst (Plain c) (sym (runs_to c z w ls e (m.name q) path v was whole (m.shape q) g (ap (λ (o : Option Variable). or_outer o (found z.globals (m.name q))) found_is) into ∙ ap (λ (y : State). normal [] y) (with_own (m.name q) whole z (in_found z.frames (m.name q) _ found_is))))
-      (lands c d z (record z { frames = put_in z.frames (m.name q) whole }) g.stands g.no_outcome goes (ap (λ (x : Frame). x.function) set.top) (ap (λ (x : Frame). x.block) set.top) (ap (λ (x : Frame). x.rest) set.top) ids refl
+      (lands c d z (record z { frames = put_in z.frames (m.name q) whole }) g.stands g.no_outcome set.below goes (ap (λ (x : Frame). x.function) set.top) (ap (λ (x : Frame). x.block) set.top) (ap (λ (x : Frame). x.rest) set.top) ids refl
       (record {
         all = writes m apart c.at z q whole d is ids (λ n e. ap (λ (x : Frame). x.variables n) set.top) set.privates (here (c.at.top.ids q) leads_to) (λ n l other. far (c.at.top.ids n) (others n l other)) g.stands.agree.all;
         local = λ n e l.

@@ -65,7 +65,7 @@ module _ (p : Program) (calls : Text → List Argument → State → Result (Opt
                 there = sym (ap (λ (g : Function). slice_get g.blocks t) stop.at.stands.function) ∙ a.there;
                 sources = a.sources;
                 at = refl;
-                holds = keeps c (supplied (gone_to c.at t a.block a.values) c.answers) [] goes_on stop.at.stands.holds;
+                holds = keeps c (supplied (gone_to c.at t a.block a.values) c.answers) [] refl goes_on stop.at.stands.holds;
               },
             )
         | inr e ↦ inr (first ∙ ap (λ (q : Act Conf). move q c.answers) e)

@@ -1,5 +1,5 @@
 -- When evaluations of a text do what a machine does.
-use Rattle.std.specs.Prelude.{◌≡◌, ℕ, List, ◌∷◌, Option}
+use Rattle.std.specs.Prelude.{◌≡◌, ℕ, List, ◌∷◌, Option, length}
 use Rattle.spv_module.specs.declared.inst.Inst.{Inst}
 use Rattle.spv_module.specs.declared.inst.Function.{Function}
 use Rattle.spv_types.specs.Tree.{ValueTree}
@@ -26,9 +26,9 @@ module _ (C : Type 0) (step : C → Move C) (A : Type 0) (P : C → A → Type 0
   abbrev pub Evaluates : C → Result A → Type 0
   Evaluates c g = Follows C step A (Option Typed) P (λ d a. ⊥) (λ d a. ⊥) (λ d r a. ⊥) 0 k c (as_outcome g)
 
--- what is known of a module's state alone stays so
+-- what is known of a module's state alone stays so in a call; what a call that it makes leaves of it is told where that one returns
 abbrev pub IsKept : (Supplied Conf → Move (Supplied Conf)) → (Conf → Type 0) → Type 0
-IsKept step Holds = (c d : Supplied Conf) (e : List Event) → step c ≡ go e d → Holds c.at → Holds d.at
+IsKept step Holds = (c d : Supplied Conf) (e : List Event) → length d.at.below ≡ length c.at.below → step c ≡ go e d → Holds c.at → Holds d.at
 
 -- The machine is where the instruction's result has just got the value to which the evaluation came; all else agrees, as it did before.
 pub record Gets (m : Naming) (s : Setting) (Holds : Conf → Type 0) (f : Function) (b : ℕ) (done : List Inst) (i : Inst) (rest : List Inst) (d : Supplied Conf) (r : Typed × State) : Type 0 where
