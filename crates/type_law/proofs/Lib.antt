@@ -3,3 +3,4 @@ pub mod Scalars
 pub mod Operands
 pub mod Choices
 pub mod Parts
+pub mod Made

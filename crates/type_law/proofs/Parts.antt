@@ -63,7 +63,7 @@ constant_length code.SpecConstantComposite id w n e = cc
 constant_length code.SpecConstantOp id w n e = cc
 constant_length o id w n e = cc
 
-fixed_word : (gs : List Inst) (id n : ℕ) → length_by id (global gs id) ≡ Some (Fixed n) → constant_word gs id ≡ Some n
+pub fixed_word : (gs : List Inst) (id n : ℕ) → length_by id (global gs id) ≡ Some (Fixed n) → constant_word gs id ≡ Some n
 fixed_word gs id n e = by_global (global gs id) e
   where
     by_global : (o : Option Inst) → length_by id o ≡ Some (Fixed n) → option_and_then constant_if o ≡ Some n
@@ -102,10 +102,10 @@ module _ (s : Setting) (f : Function) where
   abbrev Gs : List Inst
   Gs = s.of.globals
 
-  row : (ty : ℕ) (t : Tree) → type_tree Gs ty ≡ Some t → (g : Inst) × (type_row Gs ty ≡ Some g) × (tree_at Gs g ≡ Some t)
+  pub row : (ty : ℕ) (t : Tree) → type_tree Gs ty ≡ Some t → (g : Inst) × (type_row Gs ty ≡ Some g) × (tree_at Gs g ≡ Some t)
   row = row_of is_int numbers int_has Gs
 
-  earlier_is : (n c : ℕ) (u : Tree) → tree_before Gs n c ≡ Some u → type_tree Gs c ≡ Some u
+  pub earlier_is : (n c : ℕ) (u : Tree) → tree_before Gs n c ≡ Some u → type_tree Gs c ≡ Some u
   earlier_is = before_row is_int numbers int_has Gs
 
   -- one literal leads to nothing, or to a part with the shape of the part
@@ -200,7 +200,7 @@ module _ (s : Setting) (f : Function) where
         | inr q ↦ inr (q.0, q.1, ap (λ r. walk (literal_step Gs) r ks) w.2 ∙ q.2, q.3, ap (option_and_then (λ x. shape_at x ks)) w.4 ∙ q.4)
       ]
 
-  same_types : (a b : ℕ) (t u : Tree) → type_tree Gs a ≡ Some t → type_tree Gs b ≡ Some u → differ Gs a b ≡ false → t ≡ u
+  pub same_types : (a b : ℕ) (t u : Tree) → type_tree Gs a ≡ Some t → type_tree Gs b ≡ Some u → differ Gs a b ≡ false → t ≡ u
   same_types a b t u ta tb right =
       let ra = row a t ta in
       let rb = row b u tb in
