@@ -1,3 +1,4 @@
 pub mod Moves
 pub mod Copies
 pub mod Sources
+pub mod Pairs

@@ -1,10 +1,12 @@
 -- What is written of the moves of an edge, and what is asked of them.
-use Rattle.std.specs.Prelude.{◌≡◌, ◌⊎◌, ℕ, Bool, true, List, [], ◌∷◌, Option, Some}
+use Rattle.std.specs.Prelude.{◌≡◌, ◌⊎◌, ℕ, Bool, true, false, List, [], ◌∷◌, Option, Some}
 use Rattle.phi_copies.specs.declared.moves.Src.{Src}
 use Rattle.phi_copies.specs.declared.moves.Src.TheVariants.{Var as Variable, Constant}
 use Rattle.phi_copies.specs.declared.moves.Move.{Move}
 use Rattle.phi_copies.specs.declared.moves.Move.TheVariants.{Set, Save, Restore}
 use Rattle.phi_copies.specs.Meaning.{State as Values, value, step}
+use Rattle.phi_copies.specs.Sequence.{Pair, target}
+use Rattle.spv_module.specs.declared.inst.Inst.{Inst}
 use Rattle.spv_types.specs.Tree.{ValueTree}
 use Rattle.glsl_ast.specs.Tree.{Text, TypeName, Expr, name, Stmt, declare, assign, lvalue}
 use Rattle.glsl_semantics.specs.Shapes.{Shape, same_shape}
@@ -75,3 +77,14 @@ read_by constants st (Restore v k) = st.spares k
 abbrev pub AllRead : (ℕ → V) → Values V → List Move → Type 0
 AllRead constants st [] = Unit {0}
 AllRead constants st (q ∷ qs) = ((u : ValueTree) × (read_by constants st q ≡ Some u)) × AllRead constants (step V constants st q) qs
+
+-- the first pair is that of the phi, and this holds of the others
+abbrev pub IsPaired : Naming → (ℕ → V) → (ℕ → V) → Inst → ValueTree → (List Pair → Type 0) → List Pair → Type 0
+IsPaired m constants before i v P [] = ⊥
+IsPaired m constants before i v P (q ∷ qs) = (target q ≡ i.result) × (value V constants before q.1 ≡ Some v) × P qs
+
+-- The pairs of these phis, which take these values: one for each phi that has a variable at the top of the function, in their order, whose source has what the phi takes.
+abbrev pub ArePairs : Naming → (ℕ → V) → (ℕ → V) → List Inst → List ValueTree → List Pair → Type 0
+ArePairs m constants before [] [] [] = Unit {0}
+ArePairs m constants before (i ∷ is) (v ∷ vs) ps = ((m.is_outer i.result ≡ false) × ArePairs m constants before is vs ps) ⊎ IsPaired m constants before i v (ArePairs m constants before is vs) ps
+ArePairs m constants before _ _ _ = ⊥
