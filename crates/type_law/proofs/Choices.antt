@@ -60,7 +60,8 @@ module _ (s : Setting) (f : Function) where
   row : (ty : ℕ) (t : Tree) → type_tree Gs ty ≡ Some t → (g : Inst) × (type_row Gs ty ≡ Some g) × (tree_at Gs g ≡ Some t)
   row = row_of is_int numbers int_has Gs
 
-  passes : (test : Inst → Bool) (ty : ℕ) (g : Inst) → type_row Gs ty ≡ Some g → fails test Gs ty ≡ false → test g ≡ true
+  -- the type with a row passes a test that it does not fail
+  pub passes : (test : Inst → Bool) (ty : ℕ) (g : Inst) → type_row Gs ty ≡ Some g → fails test Gs ty ≡ false → test g ≡ true
   passes test ty g is right = is_not_off (test g) (ap (λ o. option_map_or (λ x. not (test x)) o false) (sym is) ∙ right)
 
   -- T16: a bool of a vector of bools

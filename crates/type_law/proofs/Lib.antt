@@ -4,3 +4,5 @@ pub mod Operands
 pub mod Choices
 pub mod Parts
 pub mod Made
+pub mod Vectors
+pub mod Accessed

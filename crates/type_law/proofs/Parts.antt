@@ -13,7 +13,7 @@ use Rattle.spv_module.specs.declared.tree.Elem.{Elem}
 use Rattle.spv_module.specs.declared.tree.Elem.TheVariants as elem
 use Rattle.spv_module.specs.declared.tree.Length.{Length}
 use Rattle.spv_module.specs.declared.tree.Length.TheVariants.{Fixed, Spec}
-use Rattle.spv_types.specs.declared.kind.TypeKind.TheVariants.{Int, Array, Runtime, Struct}
+use Rattle.spv_types.specs.declared.kind.TypeKind.TheVariants.{Array, Runtime, Struct}
 use Rattle.spv_types.specs.Tree.{Tree, vector, array, runtime, struct, Trees, no_trees, tree}
 use Rattle.spv_types.specs.Leaves.{IsSized, AreSized}
 use Rattle.spv_types.specs.Types.{kind, elem_of, length_of, length_by, array_tree, both, all_trees, tree_before, tree_at, type_tree}
