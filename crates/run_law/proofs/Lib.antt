@@ -1,2 +1,2 @@
-pub mod Reached
+pub mod OneStep
 pub mod Settled

@@ -1,8 +1,8 @@
 -- A run that does not wait does the same with more answers.
-use Rattle.std.proofs.Common.{◌≡◌, ◌≢◌, ℕ, zero, suc, ◌+◌, List, [], ◌∷◌, ◌++◌, refl, sym, ap, ◌∙◌}
+use Rattle.std.proofs.Common.{◌≡◌, ◌≢◌, ℕ, zero, suc, List, [], ◌∷◌, ◌++◌, refl, ap}
 use Rattle.std.specs.Prelude.{Option, Some, None}
 use Rattle.traces.specs.Events.{Event, Access, event_of}
-use Rattle.traces.specs.Runs.{Run, waiting, made, before, after, exec, Act, goes, asks, stops, fails, Supplied, supplied, told, move, step_of, run_of}
+use Rattle.traces.specs.Runs.{waiting, before, after, exec, Act, goes, asks, stops, fails, told, move, step_of, run_of}
 
 module _ (C : Type 0) (act : C → Act C) where
   -- of the runs of so many steps

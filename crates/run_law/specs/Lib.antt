@@ -1,1 +1,1 @@
-pub mod Reaches
+pub mod Walks

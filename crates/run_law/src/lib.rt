@@ -1,2 +1,2 @@
-// How far a machine has come that gets its words from outside. Definitions and laws alone.
+// What machines do that get their words from outside, step by step. Definitions and laws alone.
 #![tactic(auto)]

@@ -9,7 +9,7 @@ use Rattle.dispatch_semantics.specs.Store.{answers_of, AreWords}
 use Rattle.dispatch_semantics.specs.Dispatch.{later}
 use Rattle.group_items.specs.Sides.{Begun, told_of}
 use Rattle.traces.specs.Invocations.{Invocation as Told}
-use Rattle.run_law.specs.Reaches.{Walk}
+use Rattle.run_law.specs.Walks.{Walk}
 use Rattle.step_run.specs.declared.row.Row.{Row}
 use Rattle.step_run.specs.Answers.{answers_in}
 use Rattle.step_run.specs.Kept.{told_events, untold_events, begun_of, IsGoing, IsTold, IsSame}

@@ -6,7 +6,7 @@ use Rattle.group_items.specs.Events.{event_of}
 use Rattle.group_items.specs.declared.event.Event.{Event}
 use Rattle.group_items.specs.declared.event.Pause.{Pause}
 use Rattle.group_items.specs.Sides.{Runs, Begun, told_of, behind_pause}
-use Rattle.run_law.specs.Reaches.{Walk}
+use Rattle.run_law.specs.Walks.{Walk}
 use Rattle.step_run.specs.declared.row.Row.{Row}
 use Rattle.step_run.specs.Answers.{answers_in}
 

@@ -6,7 +6,7 @@ use Rattle.traces.specs.Runs.{made, before}
 use Rattle.traces.specs.Simulation.{IsPrefix}
 use Rattle.dispatch_semantics.specs.Store.{AreWords}
 use Rattle.group_items.specs.Events.{event_of, access_of}
-use Rattle.run_law.specs.Reaches.{Walk}
+use Rattle.run_law.specs.Walks.{Walk}
 use Rattle.step_run.specs.Answers.{answers_in}
 use Rattle.step_run.specs.declared.program.Step.{Step}
 use Rattle.step_run.specs.declared.program.Step.TheVariants.{Moves, Makes, Asks, Stops, Fails}

@@ -1,7 +1,7 @@
 // An invocation under way, to its next event.
 ghost use Rattle.std.specs.Prelude.{◌≡◌, ◌<◌, ◌+◌, [], None, IfOk, OnErr, IfSome, MatchOption};
 ghost use Rattle.group_items.specs.Sides.{IsNext, behind_pause};
-ghost use Rattle.run_law.specs.Reaches.{Walk};
+ghost use Rattle.run_law.specs.Walks.{Walk};
 ghost use Rattle.step_run.specs.Kept.{IsGoing, untold_events, begun_of, begun_with, behind_step, runs_of};
 
 use crate::program::{Program, Step};

@@ -3,7 +3,7 @@ ghost use Rattle.std.specs.Prelude.{◌≡◌, ◌≢◌, ◌++◌, ℕ, List, [
 ghost use Rattle.traces.specs.Events.{Access};
 ghost use Rattle.traces.specs.Invocations.{Invocation as Told};
 ghost use Rattle.traces.specs.Runs.{waiting, running, made};
-ghost use Rattle.run_law.specs.Reaches.{Walk};
+ghost use Rattle.run_law.specs.Walks.{Walk};
 ghost use Rattle.group_items.specs.Sides.{told_of, IsWhole};
 ghost use Rattle.step_run.specs.Steps.{IsStart, IsStep, event_asked, IsResumed};
 
