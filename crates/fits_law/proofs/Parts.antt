@@ -1,7 +1,7 @@
 -- Values of a shape by their parts.
 use Rattle.std.proofs.Common.{◌≡◌, ◌==◌, ◌&&◌, ℕ, zero, suc, Bool, true, false, List, [], ◌∷◌, length, replicate, Option, Some, None, inl, inr, refl, sym, ap, ◌∙◌, subst, arith}
 use Rattle.std.specs.Prelude.{nat_lt, option_and_then, slice_get, slice_set, if◌then◌else◌}
-use Rattle.std.proofs.lemmas.Bool.Decides.{eqb_tells}
+use Rattle.std.proofs.lemmas.Bool.Decides.{eqb_tells, nat_tests}
 use Rattle.spv_module.specs.declared.tree.Elem.{Elem}
 use Rattle.spv_module.specs.declared.tree.Elem.TheVariants as elem
 use Rattle.spv_module.specs.declared.tree.Length.TheVariants.{Fixed, Spec}
@@ -11,6 +11,7 @@ use Rattle.op_semantics.specs.Component.{listed, composite}
 use Rattle.op_semantics.specs.Composite.{part_at, with_part, extracted, inserted}
 use Rattle.op_semantics.specs.Fits.{count_of, elem_tree, fits, each_fits, fits_parts}
 use Rattle.fits_law.specs.Takes.{Alike, AreAlike, AllAlike, nth_of, part_shape, shape_at}
+use Rattle.fits_law.specs.State.{element_shape, place_shape}
 
 pub listed_values : (vs : List ValueTree) → listed (values_in vs) ≡ vs
 listed_values [] = refl
@@ -182,6 +183,50 @@ inserted_fits (i ∷ is) t u object v r shape o e at =
     let part = some_first (λ part. option_and_then (with_part v i) (inserted object is part)) (part_at v i) r at in
     let new = some_first (with_part v i) (inserted object is part.0) r part.2 in
     with_fits t inner.0 i v new.0 r inner.1 e (inserted_fits is inner.0 u object part.0 new.0 inner.2 o (part_fits t inner.0 i v part.0 inner.1 e part.1) new.1) new.2
+
+-- a part that a value has is below the number of parts
+part_below : (vs : List ValueTree) (i : ℕ) (r : ValueTree) → slice_get vs i ≡ Some r → nat_lt i (length vs) ≡ true
+part_below [] i r at = cc
+part_below (v ∷ vs) zero r at = grind (arith, nat_tests)
+part_below (v ∷ vs) (suc i) r at = lower (part_below vs i r at)
+  where
+    lower : nat_lt i (length vs) ≡ true → nat_lt (suc i) (suc (length vs)) ≡ true
+    lower e = grind (arith, nat_tests, e)
+
+element_below : (t u : Tree) (n : ℕ) (vs : List ValueTree) (i : ℕ) (r : ValueTree) → length vs ≡ n → slice_get vs i ≡ Some r → Some t ≡ Some u → (if nat_lt i n then Some t else None) ≡ Some u
+element_below t u n vs i r count at shape = ap (λ (b : Bool). if b then Some t else None) (ap (nat_lt i) (sym count) ∙ part_below vs i r at) ∙ shape
+
+-- the same along indexes into a variable, which has a value of its shape
+element_is : (t u : Tree) (i : ℕ) (v r : ValueTree) → element_shape t i ≡ Some u → fits t v ≡ true → part_at v i ≡ Some r → part_shape t i ≡ Some u
+element_is boolean u i v r shape e at = cc
+element_is int u i v r shape e at = cc
+element_is uint u i v r shape e at = cc
+element_is (vector d n) u i (many vs) r shape e at = element_below (elem_tree d) u n (listed vs) i r (many_of (elem_tree d) n vs e).0 at shape
+element_is (vector d n) u i (word w) r shape e at = cc
+element_is (vector d n) u i (truth b) r shape e at = cc
+element_is (array t (Fixed n)) u i (many vs) r shape e at = element_below t u n (listed vs) i r (many_of t n vs e).0 at shape
+element_is (array t (Fixed n)) u i (word w) r shape e at = cc
+element_is (array t (Fixed n)) u i (truth b) r shape e at = cc
+element_is (array t (Spec id)) u i v r shape e at = cc
+element_is (runtime t) u i v r shape e at = cc
+element_is (struct id ts) u i v r shape e at = shape
+
+pub place_is : (is : List ℕ) (t u : Tree) (v r : ValueTree) → place_shape t is ≡ Some u → fits t v ≡ true → extracted is v ≡ Some r → shape_at t is ≡ Some u
+place_is [] t u v r shape e at = shape
+place_is (i ∷ is) t u v r shape e at =
+    let inner = some_first (λ x. place_shape x is) (element_shape t i) u shape in
+    let part = some_first (extracted is) (part_at v i) r at in
+    let one = element_is t inner.0 i v part.0 inner.1 e part.1 in
+    ap (option_and_then (λ x. shape_at x is)) one ∙ place_is is inner.0 u part.0 r inner.2 (part_fits t inner.0 i v part.0 one e part.1) part.2
+
+pub placed_is : (is : List ℕ) (t u : Tree) (object v r : ValueTree) → place_shape t is ≡ Some u → fits t v ≡ true → inserted object is v ≡ Some r → shape_at t is ≡ Some u
+placed_is [] t u object v r shape e at = shape
+placed_is (i ∷ is) t u object v r shape e at =
+    let inner = some_first (λ x. place_shape x is) (element_shape t i) u shape in
+    let part = some_first (λ part. option_and_then (with_part v i) (inserted object is part)) (part_at v i) r at in
+    let new = some_first (with_part v i) (inserted object is part.0) r part.2 in
+    let one = element_is t inner.0 i v part.0 inner.1 e part.1 in
+    ap (option_and_then (λ x. shape_at x is)) one ∙ placed_is is inner.0 u object part.0 new.0 inner.2 (part_fits t inner.0 i v part.0 one e part.1) new.1
 
 -- values of alike shapes
 alike_elem : (e d : Elem) (v : ValueTree) → AreAlike e d → fits (elem_tree d) v ≡ true → fits (elem_tree e) v ≡ true

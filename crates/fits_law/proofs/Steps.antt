@@ -35,10 +35,10 @@ use Rattle.module_semantics.specs.Operands.{of_module, held, as_value, as_pointe
 use Rattle.module_semantics.specs.Accesses.{seen, kept, keeping, with_lent, global_value, global_value_by}
 use Rattle.module_semantics.specs.Steps as the
 use Rattle.module_semantics.specs.Steps.{with_some, advanced, set, set_value, computed, operation_step, base, without_based, is_based_on, lead_if, chain_step, length_step, variable_step, read_shape, load_from, load_step, store_to, store_step, atomic_operands, set_found, atomic_step, memory_barriers, memory_barrier_step, control_barrier_step, phis, passed, argument_of, entered, call_step, return_step, given_to, return_value_step, target_label, phi_value, source_from, with_phis, present_label, edge_step, branch_step, StepKind, step_kind, step_by, act_on, act}
-use Rattle.fits_law.specs.Takes.{shape_at, AllFit}
-use Rattle.fits_law.specs.State.{value_shape, target_shape, global_shape, result_shape, functions_of, function_at, root_shape, HasShape, LeadsTo, HeldFits, IdsFit, VariablesFit, FrameFits, CallsFit, Await, ConfFits, ActFits, ModuleFits}
+use Rattle.fits_law.specs.Takes.{AllFit}
+use Rattle.fits_law.specs.State.{value_shape, target_shape, global_shape, result_shape, place_shape, functions_of, function_at, root_shape, HasShape, LeadsTo, HeldFits, IdsFit, VariablesFit, FrameFits, CallsFit, Await, ConfFits, ActFits, ModuleFits}
 use Rattle.fits_law.specs.Typed.{HaveShapes, IsOfWords, AreArguments, ArePhis, IsAtomic, IsLoad, IsChain, IsTyped}
-use Rattle.fits_law.proofs.Parts.{extracted_fits, inserted_fits}
+use Rattle.fits_law.proofs.Parts.{extracted_fits, inserted_fits, place_is, placed_is}
 use Rattle.fits_law.proofs.Operations.{before_some, op_fits}
 use Rattle.fits_law.proofs.Words.{read_fits, scalars}
 
@@ -62,16 +62,16 @@ has_some o t v e has = subst (λ q. HasShape q v) e has
 some_has : (o : Option Tree) (t : Tree) (v : ValueTree) → o ≡ Some t → fits t v ≡ true → HasShape o v
 some_has o t v e f = subst (λ q. HasShape q v) (sym e) f
 
-shape_append : (is js : List ℕ) (t u : Tree) → shape_at t is ≡ Some u → shape_at t (is ++ js) ≡ shape_at u js
-shape_append [] js t u e = ap (λ x. shape_at x js) (some_same t u e)
-shape_append (i ∷ is) js t u e = let part = some_first (λ x. shape_at x is) _ u e in ap (option_and_then (λ x. shape_at x (is ++ js))) part.1 ∙ shape_append is js part.0 u part.2
+shape_append : (is js : List ℕ) (t u : Tree) → place_shape t is ≡ Some u → place_shape t (is ++ js) ≡ place_shape u js
+shape_append [] js t u e = ap (λ x. place_shape x js) (some_same t u e)
+shape_append (i ∷ is) js t u e = let part = some_first (λ x. place_shape x is) _ u e in ap (option_and_then (λ x. place_shape x (is ++ js))) part.1 ∙ shape_append is js part.0 u part.2
 
 leads_on : (r u w : Option Tree) (is js : List ℕ) → LeadsTo r is u → LeadsTo u js w → LeadsTo r (is ++ js) w
 leads_on None u w is js a b = absurd a
 leads_on (Some t) None w is js a b = absurd b
 leads_on (Some t) (Some u) w is js a b = shape_append is js t u a ∙ b
 
-leads_shape : (r : Option Tree) (is : List ℕ) (u : Tree) → LeadsTo r is (Some u) → (t : Tree) × (r ≡ Some t) × (shape_at t is ≡ Some u)
+leads_shape : (r : Option Tree) (is : List ℕ) (u : Tree) → LeadsTo r is (Some u) → (t : Tree) × (r ≡ Some t) × (place_shape t is ≡ Some u)
 leads_shape None is u a = absurd a
 leads_shape (Some t) is u a = (t, refl, a)
 
@@ -283,9 +283,10 @@ module _ (s : Setting) (right : ModuleFits s) where
       some_fits (option_and_then (extracted p.1) (kept s c p.0)) _ (λ v got.
       let whole = some_first (extracted p.1) (kept s c p.0) v got in
       let shape = leads_shape (root_shape s (functions_of c.below) c.top.function p.0) p.1 typed.shape (subst (LeadsTo (root_shape s (functions_of c.below) c.top.function p.0) p.1) typed.target leads) in
+      let old = has_some (root_shape s (functions_of c.below) c.top.function p.0) shape.0 whole.0 shape.1 (kept_has c p.0 whole.0 fit whole.1) in
       set_fits c rest i (value v) fit
       (some_has (value_shape s c.top.function i.result) typed.shape v typed.result
-      (extracted_fits p.1 shape.0 typed.shape whole.0 v shape.2 (has_some (root_shape s (functions_of c.below) c.top.function p.0) shape.0 whole.0 shape.1 (kept_has c p.0 whole.0 fit whole.1)) whole.2)))
+      (extracted_fits p.1 shape.0 typed.shape whole.0 v (place_is p.1 shape.0 typed.shape whole.0 v shape.2 old whole.2) old whole.2)))
 
   load_fits : (c : Conf) (rest : List Inst) (i : Inst) → ConfFits s c → IsLoad s c.top.function i → ActFits s (load_step s c rest i)
   unfolding load_step
@@ -343,7 +344,7 @@ module _ (s : Setting) (right : ModuleFits s) where
       let new = has_is u v has in
       let shape = leads_shape (root_shape s (functions_of c.below) c.top.function p.0) p.1 new.0 (subst (LeadsTo (root_shape s (functions_of c.below) c.top.function p.0) p.1) new.1 leads) in
       let old = has_some (root_shape s (functions_of c.below) c.top.function p.0) shape.0 whole.0 shape.1 (kept_has c p.0 whole.0 fit whole.1) in
-      keeping_fits (advanced c rest) p.0 w (advanced_fits c rest fit) (some_has (root_shape s (functions_of c.below) c.top.function p.0) shape.0 w shape.1 (inserted_fits p.1 shape.0 new.0 v whole.0 w shape.2 new.2 old whole.2)))
+      keeping_fits (advanced c rest) p.0 w (advanced_fits c rest fit) (some_has (root_shape s (functions_of c.below) c.top.function p.0) shape.0 w shape.1 (inserted_fits p.1 shape.0 new.0 v whole.0 w (placed_is p.1 shape.0 new.0 v whole.0 w shape.2 old whole.2) new.2 old whole.2)))
 
   store_fits : (c : Conf) (rest : List Inst) (i : Inst) → ConfFits s c → value_shape s c.top.function (arg i 1) ≡ target_shape s c.top.function (arg i 0) → ActFits s (store_step s c rest i)
   unfolding store_step

@@ -2,18 +2,18 @@
 use Rattle.std.specs.Prelude.{◌≡◌, ◌==◌, ℕ, true, false, List, [], ◌∷◌, length, map, Option, Some, None, option_and_then}
 use Rattle.spv_module.specs.declared.inst.Function.{Function}
 use Rattle.spv_module.specs.declared.inst.Inst.{Inst}
-use Rattle.spv_types.specs.Tree.{Tree, ValueTree}
+use Rattle.spv_types.specs.Tree.{Tree, vector, array, runtime, struct, ValueTree}
 use Rattle.spv_types.specs.Types.{type_tree}
 use Rattle.spv_index.specs.Locals.{type_in, global_type}
 use Rattle.spv_index.specs.Pointers.{pointee, pointee_of}
-use Rattle.op_semantics.specs.Fits.{fits}
+use Rattle.op_semantics.specs.Fits.{elem_tree, fits}
 use Rattle.traces.specs.Events.{Event, event_of}
 use Rattle.traces.specs.Runs.{Act, goes, asks, stops, fails}
 use Rattle.module_semantics.specs.Setting.{Setting, global_variable}
 use Rattle.module_semantics.specs.Memory.{shape_along}
 use Rattle.module_semantics.specs.Accesses.{seen, input_value}
 use Rattle.module_semantics.specs.State.{Root, global, own, lent, Held, value, pointer, Frame, Conf}
-use Rattle.fits_law.specs.Takes.{shape_at}
+use Rattle.fits_law.specs.Takes.{nth_of}
 
 -- the shape of the value with an id of a function, of what a pointer with the id leads to, of a variable of the module, and of a function's result
 abbrev pub value_shape : Setting → Function → ℕ → Option Tree
@@ -46,10 +46,22 @@ abbrev pub HasShape : Option Tree → ValueTree → Type 0
 HasShape None v = ⊥
 HasShape (Some t) v = fits t v ≡ true
 
+-- the shape of the part of a variable at an index, and of that to which indexes lead: in memory a runtime array has elements, and so has an array whose length is a specialization constant, though no value has such a shape
+abbrev pub element_shape : Tree → ℕ → Option Tree
+element_shape (vector e n) i = Some (elem_tree e)
+element_shape (array t l) i = Some t
+element_shape (runtime t) i = Some t
+element_shape (struct id ts) i = nth_of ts i
+element_shape _ i = None
+
+abbrev pub place_shape : Tree → List ℕ → Option Tree
+place_shape t [] = Some t
+place_shape t (i ∷ is) = option_and_then (λ u. place_shape u is) (element_shape t i)
+
 -- from a variable of the first shape these indexes lead to the second
 abbrev pub LeadsTo : Option Tree → List ℕ → Option Tree → Type 0
 LeadsTo None path u = ⊥
-LeadsTo (Some t) path u = shape_at t path ≡ u
+LeadsTo (Some t) path u = place_shape t path ≡ u
 
 abbrev pub HeldFits : Setting → List Function → Function → ℕ → Held → Type 0
 HeldFits s fs f id (value v) = HasShape (value_shape s f id) v
