@@ -6,3 +6,4 @@ pub mod Parts
 pub mod Made
 pub mod Vectors
 pub mod Accessed
+pub mod Places
