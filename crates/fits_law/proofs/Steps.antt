@@ -36,8 +36,8 @@ use Rattle.module_semantics.specs.Accesses.{seen, kept, keeping, with_lent, glob
 use Rattle.module_semantics.specs.Steps as the
 use Rattle.module_semantics.specs.Steps.{with_some, advanced, set, set_value, computed, operation_step, base, without_based, is_based_on, lead_if, chain_step, length_step, variable_step, read_shape, load_from, load_step, store_to, store_step, atomic_operands, set_found, atomic_step, memory_barriers, memory_barrier_step, control_barrier_step, phis, passed, argument_of, entered, call_step, return_step, given_to, return_value_step, target_label, phi_value, source_from, with_phis, present_label, edge_step, branch_step, StepKind, step_kind, step_by, act_on, act}
 use Rattle.fits_law.specs.Takes.{AllFit}
-use Rattle.fits_law.specs.State.{value_shape, target_shape, global_shape, result_shape, place_shape, functions_of, function_at, root_shape, HasShape, LeadsTo, HeldFits, IdsFit, VariablesFit, FrameFits, CallsFit, Await, ConfFits, ActFits, ModuleFits}
-use Rattle.fits_law.specs.Typed.{HaveShapes, IsOfWords, AreArguments, ArePhis, IsAtomic, IsLoad, IsChain, IsTyped}
+use Rattle.fits_law.specs.State.{value_shape, target_shape, global_shape, result_shape, place_shape, functions_of, function_at, root_shape, HasShape, LeadsTo, IsLocal, HeldFits, IdsFit, VariablesFit, FrameFits, CallsFit, Await, ConfFits, ActFits, ModuleFits}
+use Rattle.fits_law.specs.Typed.{HaveShapes, AreArguments, ArePhis, IsAtomic, IsLoad, IsTyped}
 use Rattle.fits_law.proofs.Parts.{extracted_fits, inserted_fits, place_is, placed_is}
 use Rattle.fits_law.proofs.Operations.{before_some, op_fits}
 use Rattle.fits_law.proofs.Words.{read_fits, scalars}
@@ -86,8 +86,8 @@ put_some {A} f n a id b P mine other e = by_test (id == n) (eqb_tells id n) e
     by_test false (inr w) e = other b e
 
 module _ (s : Setting) (right : ModuleFits s) where
-  ids_put : (fs : List Function) (f : Function) (ids : ℕ → Option Held) (n : ℕ) (h : Held) → IdsFit s fs f ids → HeldFits s fs f n h → IdsFit s fs f (put ids n h)
-  ids_put fs f ids n h fit mine id g e = put_some ids n h id g (λ k x. HeldFits s fs f k x) mine (λ x there. fit id x there) e
+  ids_put : (fs : List Function) (f : Function) (ids : ℕ → Option Held) (n : ℕ) (h : Held) → IdsFit s fs f ids → IsLocal s n → HeldFits s fs f n h → IdsFit s fs f (put ids n h)
+  ids_put fs f ids n h fit local mine id g e = put_some ids n h id g (λ k x. IsLocal s k × HeldFits s fs f k x) (local, mine) (λ x there. fit id x there) e
 
   variables_put : (f : Function) (vars : ℕ → Option ValueTree) (n : ℕ) (v : ValueTree) → VariablesFit s f vars → HasShape (target_shape s f n) v → VariablesFit s f (put vars n v)
   variables_put f vars n v fit mine id w e = put_some vars n v id w (λ k x. HasShape (target_shape s f k) x) mine (λ x there. fit id x there) e
@@ -105,7 +105,7 @@ module _ (s : Setting) (right : ModuleFits s) where
           by_constant (Some v) is e = subst (HeldFits s fs c.function id) (some_same (value v) h e) (right.constants c.function id v is)
 
       by_own : (o : Option Held) → c.ids id ≡ o → elim o [ Some h ↦ Some h | None ↦ of_module s id ] ≡ Some h → HeldFits s fs c.function id h
-      by_own (Some g) is e = subst (HeldFits s fs c.function id) (some_same g h e) (fit id g is)
+      by_own (Some g) is e = subst (HeldFits s fs c.function id) (some_same g h e) (fit id g is).1
       by_own None is e = by_global (global_variable s id) refl e
 
   value_has : (fs : List Function) (c : Frame) (id : ℕ) (v : ValueTree) → IdsFit s fs c.function c.ids → value_at s c id ≡ Some v → HasShape (value_shape s c.function id) v
@@ -146,8 +146,8 @@ module _ (s : Setting) (right : ModuleFits s) where
   advanced_fits : (c : Conf) (rest : List Inst) → ConfFits s c → ConfFits s (advanced c rest)
   advanced_fits c rest fit = record { top = fit.top; calls = fit.calls; awaited = fit.awaited; privates = fit.privates }
 
-  set_fits : (c : Conf) (rest : List Inst) (i : Inst) (h : Held) → ConfFits s c → HeldFits s (functions_of c.below) c.top.function i.result h → ConfFits s (set c rest i h)
-  set_fits c rest i h fit mine = record { top = (ids_put (functions_of c.below) c.top.function c.top.ids i.result h fit.top.0 mine, fit.top.1); calls = fit.calls; awaited = fit.awaited; privates = fit.privates }
+  set_fits : (c : Conf) (rest : List Inst) (i : Inst) (h : Held) → ConfFits s c → IsLocal s i.result → HeldFits s (functions_of c.below) c.top.function i.result h → ConfFits s (set c rest i h)
+  set_fits c rest i h fit local mine = record { top = (ids_put (functions_of c.below) c.top.function c.top.ids i.result h fit.top.0 local mine, fit.top.1); calls = fit.calls; awaited = fit.awaited; privates = fit.privates }
 
   operation_fits : (c : Conf) (rest : List Inst) (i : Inst) → ConfFits s c → IsTyped s c.top.function i the.operation → ActFits s (operation_step s c rest i)
   unfolding operation_step
@@ -156,8 +156,8 @@ module _ (s : Setting) (right : ModuleFits s) where
       let t = some_first (λ (t : Tree). option_and_then (op_value i.op t (literal_operands i.op i.args)) (values_at s c.top (value_operands i.op i.args))) (type_tree s.of.globals i.ty) v e in
       let vs = some_first (op_value i.op t.0 (literal_operands i.op i.args)) (values_at s c.top (value_operands i.op i.args)) v t.2 in
       let o = some_first (λ (o : Operation). value_of_operation o t.0 (literal_operands i.op i.args) vs.0) (operation_of i.op (literal_operands i.op i.args)) v vs.2 in
-      let is = typed o.0 t.0 o.1 t.1 in
-      set_fits c rest i (value v) fit
+      let is = typed.1 o.0 t.0 o.1 t.1 in
+      set_fits c rest i (value v) fit typed.0
       (some_has (value_shape s c.top.function i.result) t.0 v is.0
       (op_fits o.0 t.0 (literal_operands i.op i.args) is.1.shapes vs.0 v is.1.takes (all_fit (functions_of c.below) c.top (value_operands i.op i.args) is.1.shapes vs.0 fit.top.0 is.1.have vs.1) o.2)))
 
@@ -165,11 +165,11 @@ module _ (s : Setting) (right : ModuleFits s) where
   without_fits : (fs : List Function) (f : Function) (chain : ℕ) (ids : ℕ → Option Held) → IdsFit s fs f ids → IdsFit s fs f (without_based f chain ids)
   without_fits fs f chain ids fit id h e = by_test (is_based_on f chain id) e
     where
-      by_test : (b : Bool) → elim b [ true ↦ None | false ↦ ids id ] ≡ Some h → HeldFits s fs f id h
+      by_test : (b : Bool) → elim b [ true ↦ None | false ↦ ids id ] ≡ Some h → IsLocal s id × HeldFits s fs f id h
       by_test true e = cc
       by_test false e = fit id h e
 
-  chain_fits : (c : Conf) (rest : List Inst) (i : Inst) → ConfFits s c → IsChain s c.top.function i → ActFits s (chain_step s c rest i)
+  chain_fits : (c : Conf) (rest : List Inst) (i : Inst) → ConfFits s c → IsTyped s c.top.function i the.chain → ActFits s (chain_step s c rest i)
   unfolding chain_step
   chain_fits c rest i fit typed =
       some_fits (pointer_at s c.top (base i)) _ (λ p has_base.
@@ -180,8 +180,8 @@ module _ (s : Setting) (right : ModuleFits s) where
       by_test p indexes ty has_base have is false allowed = tt
       by_test p indexes ty has_base have is true allowed = record {
         top = (
-          ids_put (functions_of c.below) c.top.function (without_based c.top.function i.result c.top.ids) i.result (pointer p.0 (p.1 ++ indexes)) (without_fits (functions_of c.below) c.top.function i.result c.top.ids fit.top.0)
-              (leads_on (root_shape s (functions_of c.below) c.top.function p.0) (target_shape s c.top.function (base i)) (target_shape s c.top.function i.result) p.1 indexes (pointer_leads (functions_of c.below) c.top (base i) p fit.top.0 has_base) (typed c.top indexes ty refl have is allowed)),
+          ids_put (functions_of c.below) c.top.function (without_based c.top.function i.result c.top.ids) i.result (pointer p.0 (p.1 ++ indexes)) (without_fits (functions_of c.below) c.top.function i.result c.top.ids fit.top.0) typed.0
+              (leads_on (root_shape s (functions_of c.below) c.top.function p.0) (target_shape s c.top.function (base i)) (target_shape s c.top.function i.result) p.1 indexes (pointer_leads (functions_of c.below) c.top (base i) p fit.top.0 has_base) (typed.1 c.top indexes ty refl (λ id h e. (fit.top.0 id h e).0) have is allowed)),
           fit.top.1,
         );
         calls = fit.calls;
@@ -189,17 +189,17 @@ module _ (s : Setting) (right : ModuleFits s) where
         privates = fit.privates;
       }
 
-  length_fits : (c : Conf) (rest : List Inst) (i : Inst) → ConfFits s c → IsOfWords (value_shape s c.top.function i.result) → ActFits s (length_step s c rest i)
+  length_fits : (c : Conf) (rest : List Inst) (i : Inst) → ConfFits s c → IsTyped s c.top.function i the.array_length → ActFits s (length_step s c rest i)
   unfolding length_step
-  length_fits c rest i fit typed = some_fits (pointer_at s c.top (arg i 0)) _ (λ p e. some_fits (seen s p.0) _ (λ v is. set_fits c rest i (value (word (elements s v (arg i 1)))) fit (typed (elements s v (arg i 1)))))
+  length_fits c rest i fit typed = some_fits (pointer_at s c.top (arg i 0)) _ (λ p e. some_fits (seen s p.0) _ (λ v is. set_fits c rest i (value (word (elements s v (arg i 1)))) fit typed.1 (typed.0 (elements s v (arg i 1)))))
 
   leads_here : (o : Option Tree) (v : ValueTree) → HasShape o v → LeadsTo o [] o
   leads_here None v has = absurd has
   leads_here (Some t) v has = refl
 
-  variable_fits : (c : Conf) (rest : List Inst) (i : Inst) → ConfFits s c → ActFits s (variable_step s c rest i)
+  variable_fits : (c : Conf) (rest : List Inst) (i : Inst) → ConfFits s c → IsLocal s i.result → ActFits s (variable_step s c rest i)
   unfolding variable_step
-  variable_fits c rest i fit = some_fits (c.top.variables i.result) _ (λ v e. set_fits c rest i (pointer (own i.result) []) fit (leads_here (target_shape s c.top.function i.result) v (fit.top.1 i.result v e)))
+  variable_fits c rest i fit local = some_fits (c.top.variables i.result) _ (λ v e. set_fits c rest i (pointer (own i.result) []) fit local (leads_here (target_shape s c.top.function i.result) v (fit.top.1 i.result v e)))
 
   -- what variables have that no other invocation sees
   named : (gs : List Inst) (id : ℕ) (g : Inst) → find (λ (x : Inst). x.result == id) gs ≡ Some g → g.result ≡ id
@@ -272,7 +272,7 @@ module _ (s : Setting) (right : ModuleFits s) where
       some_fits (shape_along s v p.1) (read_shape s c rest i v p) (λ t shape words e event.
       let same : t ≡ typed.shape = by_root p.0 is (subst (LeadsTo (root_shape s (functions_of c.below) c.top.function p.0) p.1) typed.target leads) t shape in
       let count = words_read t v p.1 words e shape event in
-      set_fits c rest i (value (value_from t words)) fit
+      set_fits c rest i (value (value_from t words)) fit typed.local
       (some_has (value_shape s c.top.function i.result) t (value_from t words) (typed.result ∙ ap (λ x. Some x) (sym same)) (read_fits t words (subst IsSized (sym same) typed.sized) (let enough : leaf_count t ≤ length words = omega (arith, count) in enough))))
     where
       by_root : (r : Root) → seen s r ≡ Some v → LeadsTo (root_shape s (functions_of c.below) c.top.function r) p.1 (Some typed.shape) → (t : Tree) → shape_along s v p.1 ≡ Some t → t ≡ typed.shape
@@ -284,7 +284,7 @@ module _ (s : Setting) (right : ModuleFits s) where
       let whole = some_first (extracted p.1) (kept s c p.0) v got in
       let shape = leads_shape (root_shape s (functions_of c.below) c.top.function p.0) p.1 typed.shape (subst (LeadsTo (root_shape s (functions_of c.below) c.top.function p.0) p.1) typed.target leads) in
       let old = has_some (root_shape s (functions_of c.below) c.top.function p.0) shape.0 whole.0 shape.1 (kept_has c p.0 whole.0 fit whole.1) in
-      set_fits c rest i (value v) fit
+      set_fits c rest i (value v) fit typed.local
       (some_has (value_shape s c.top.function i.result) typed.shape v typed.result
       (extracted_fits p.1 shape.0 typed.shape whole.0 v (place_is p.1 shape.0 typed.shape whole.0 v shape.2 old whole.2) old whole.2)))
 
@@ -314,7 +314,7 @@ module _ (s : Setting) (right : ModuleFits s) where
   await_with depth f (b ∷ bs) g id v wait e = by_test (length bs == depth) (await_with depth b.0.function bs g id v wait.1) e
     where
       by_test : (t : Bool) → (call_at depth bs ≡ Some g → Await s b.0.function (with_call depth (with_variable id v g) bs)) → elim t [ true ↦ Some b.0 | false ↦ call_at depth bs ] ≡ Some g → Await s f (elim t [ true ↦ (with_variable id v g, b.1) ∷ bs | false ↦ b ∷ with_call depth (with_variable id v g) bs ])
-      by_test true later e = subst (λ (x : Frame). (value_shape s x.function b.1 ≡ result_shape s f) × Await s x.function bs) (some_same b.0 g e) wait
+      by_test true later e = subst (λ (x : Frame). ((value_shape s x.function b.1 ≡ result_shape s f) × IsLocal s b.1) × Await s x.function bs) (some_same b.0 g e) wait
       by_test false later e = (wait.0, later e)
 
   keeping_fits : (c : Conf) (r : Root) (v : ValueTree) → ConfFits s c → HasShape (root_shape s (functions_of c.below) c.top.function r) v → ConfFits s (keeping r v c)
@@ -356,7 +356,7 @@ module _ (s : Setting) (right : ModuleFits s) where
 
   found_fits : (o : AtomicOp) (c : Conf) (rest : List Inst) (i : Inst) (words : List ℕ) → ConfFits s c → IsAtomic o s c.top.function i → ConfFits s (set_found c rest i o words)
   found_fits atomics.Store c rest i words fit typed = advanced_fits c rest fit
-  found_fits o c rest i words fit typed = set_fits c rest i (value (word _)) fit (typed _)
+  found_fits o c rest i words fit typed = set_fits c rest i (value (word _)) fit typed.1 (typed.0 _)
 
   atomic_fits : (o : AtomicOp) (c : Conf) (rest : List Inst) (i : Inst) → ConfFits s c → IsAtomic o s c.top.function i → ActFits s (atomic_step o s c rest i)
   unfolding atomic_step
@@ -411,11 +411,11 @@ module _ (s : Setting) (right : ModuleFits s) where
       let first : k ≡ b.0 = same_head k b.0 hs b.1 b.4 in
       let rest : hs ≡ b.1 = same_tail k b.0 hs b.1 b.4 in
       let own_fits = passed_fits fs c.function g depth p.0.0 x k size are.0 are.1 (held_fits fs c x k fit (b.2 ∙ ap (λ y. Some y) (sym first))) in
-      by_test (p.0.0 == id) (eqb_tells p.0.0 id) own_fits (arguments_fit fs c g depth size fit ps ids hs are.2 (b.3 ∙ ap (λ l. Some l) (sym rest)) id h) at
+      by_test (p.0.0 == id) (eqb_tells p.0.0 id) (are.2, own_fits) (arguments_fit fs c g depth size fit ps ids hs are.3 (b.3 ∙ ap (λ l. Some l) (sym rest)) id h) at
     where
-      by_test : (t : Bool) → ((t ≡ true) × (p.0.0 ≡ id)) ⊎ ((t ≡ false) × (p.0.0 ≡ id → ⊥)) → HeldFits s (c.function ∷ fs) g p.0.0 (passed depth k) → (argument_of ps (map (passed depth) hs) id ≡ Some h → HeldFits s (c.function ∷ fs) g id h)
-          → elim t [ true ↦ Some (passed depth k) | false ↦ argument_of ps (map (passed depth) hs) id ] ≡ Some h → HeldFits s (c.function ∷ fs) g id h
-      by_test true (inl w) own_fits later at = subst (λ n. HeldFits s (c.function ∷ fs) g n h) w.1 (subst (HeldFits s (c.function ∷ fs) g p.0.0) (some_same (passed depth k) h at) own_fits)
+      by_test : (t : Bool) → ((t ≡ true) × (p.0.0 ≡ id)) ⊎ ((t ≡ false) × (p.0.0 ≡ id → ⊥)) → IsLocal s p.0.0 × HeldFits s (c.function ∷ fs) g p.0.0 (passed depth k) → (argument_of ps (map (passed depth) hs) id ≡ Some h → IsLocal s id × HeldFits s (c.function ∷ fs) g id h)
+          → elim t [ true ↦ Some (passed depth k) | false ↦ argument_of ps (map (passed depth) hs) id ] ≡ Some h → IsLocal s id × HeldFits s (c.function ∷ fs) g id h
+      by_test true (inl w) own_fits later at = subst (λ n. IsLocal s n × HeldFits s (c.function ∷ fs) g n h) w.1 (own_fits.0, subst (HeldFits s (c.function ∷ fs) g p.0.0) (some_same (passed depth k) h at) own_fits.1)
       by_test true (inr w) own_fits later at = cc
       by_test false (inl w) own_fits later at = cc
       by_test false (inr w) own_fits later at = later at
@@ -428,7 +428,7 @@ module _ (s : Setting) (right : ModuleFits s) where
       let how = typed g is in record {
         top = (arguments_fit (functions_of c.below) c.top g (length c.below) (length-map c.below (λ (b : Frame × ℕ). b.0.function)) fit.top.0 g.params (drop 1 i.args) arguments how.arguments have, how.variables);
         calls = (fit.top, fit.calls);
-        awaited = (how.result, fit.awaited);
+        awaited = ((how.result, how.local), fit.awaited);
         privates = fit.privates;
       }))
 
@@ -440,7 +440,7 @@ module _ (s : Setting) (right : ModuleFits s) where
   given_fits : (c : Conf) (v : ValueTree) (bs : List (Frame × ℕ)) → CallsFit s bs → Await s c.top.function bs → HasShape (result_shape s c.top.function) v → ConfFits s c → ActFits s (given_to v c bs)
   given_fits c v [] calls wait has fit = tt
   given_fits c v (b ∷ bs) calls wait has fit = record {
-    top = (ids_put (functions_of bs) b.0.function b.0.ids b.1 (value v) calls.0.0 (subst (λ o. HasShape o v) (sym wait.0) has), calls.0.1);
+    top = (ids_put (functions_of bs) b.0.function b.0.ids b.1 (value v) calls.0.0 wait.0.1 (subst (λ o. HasShape o v) (sym wait.0.0) has), calls.0.1);
     calls = calls.1;
     awaited = wait.1;
     privates = fit.privates;
@@ -460,7 +460,7 @@ module _ (s : Setting) (right : ModuleFits s) where
       let first : v ≡ b.0 = same_head v b.0 vs b.1 b.4 in
       let rest : vs ≡ b.1 = same_tail v b.0 vs b.1 b.4 in
       let source = some_first (value_at s c) (source_from from i.args) v (b.2 ∙ ap (λ x. Some x) (sym first)) in
-      ids_put fs c.function (with_phis is vs c.ids) i.result (value v) (phis_fit fs c from fit is vs are.1 (b.3 ∙ ap (λ l. Some l) (sym rest)))
+      ids_put fs c.function (with_phis is vs c.ids) i.result (value v) (phis_fit fs c from fit is vs are.2 (b.3 ∙ ap (λ l. Some l) (sym rest))) are.1
       (subst (λ o. HasShape o v) (are.0 from source.0 source.1) (value_has fs c source.0 v fit source.2))
 
   edge_fits : (c : Conf) (label : ℕ) → ConfFits s c → ((t : ℕ) (b : Block) → slice_get c.top.function.blocks t ≡ Some b → ArePhis s c.top.function (phis b)) → ActFits s (edge_step s c label)
@@ -479,7 +479,7 @@ module _ (s : Setting) (right : ModuleFits s) where
   steps_fit the.operation c rest i fit typed = operation_fits c rest i fit typed
   steps_fit the.chain c rest i fit typed = chain_fits c rest i fit typed
   steps_fit the.array_length c rest i fit typed = length_fits c rest i fit typed
-  steps_fit the.variable c rest i fit typed = variable_fits c rest i fit
+  steps_fit the.variable c rest i fit typed = variable_fits c rest i fit typed
   steps_fit the.load c rest i fit typed = load_fits c rest i fit typed
   steps_fit the.store c rest i fit typed = store_fits c rest i fit typed
   steps_fit (the.atomic o) c rest i fit typed = atomic_fits o c rest i fit typed

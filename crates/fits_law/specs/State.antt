@@ -1,5 +1,6 @@
 -- The state of a module's run fits its types: values have the shapes of their ids, pointers lead to what their types say, variables hold values of their types.
 use Rattle.std.specs.Prelude.{◌≡◌, ◌==◌, ℕ, true, false, List, [], ◌∷◌, length, map, Option, Some, None, option_and_then}
+use Rattle.spv_module.specs.Held.{global as global_inst}
 use Rattle.spv_module.specs.declared.inst.Function.{Function}
 use Rattle.spv_module.specs.declared.inst.Inst.{Inst}
 use Rattle.spv_types.specs.Tree.{Tree, vector, array, runtime, struct, ValueTree}
@@ -67,8 +68,12 @@ abbrev pub HeldFits : Setting → List Function → Function → ℕ → Held �
 HeldFits s fs f id (value v) = HasShape (value_shape s f id) v
 HeldFits s fs f id (pointer r path) = LeadsTo (root_shape s fs f r) path (target_shape s f id)
 
+-- the id is none of the module's constants and variables: a call has its own value for it
+abbrev pub IsLocal : Setting → ℕ → Type 0
+IsLocal s id = global_inst s.of.globals id ≡ None
+
 abbrev pub IdsFit : Setting → List Function → Function → (ℕ → Option Held) → Type 0
-IdsFit s fs f ids = (id : ℕ) (h : Held) → ids id ≡ Some h → HeldFits s fs f id h
+IdsFit s fs f ids = (id : ℕ) (h : Held) → ids id ≡ Some h → IsLocal s id × HeldFits s fs f id h
 
 abbrev pub VariablesFit : Setting → Function → (ℕ → Option ValueTree) → Type 0
 VariablesFit s f variables = (id : ℕ) (v : ValueTree) → variables id ≡ Some v → HasShape (target_shape s f id) v
@@ -81,9 +86,12 @@ CallsFit s [] = Unit {0}
 CallsFit s (b ∷ bs) = FrameFits s (functions_of bs) b.0 × CallsFit s bs
 
 -- each call waits for a result of its callee's type
+abbrev pub IsAwaited : Setting → Function → Frame × ℕ → Type 0
+IsAwaited s f b = (value_shape s b.0.function b.1 ≡ result_shape s f) × IsLocal s b.1
+
 abbrev pub Await : Setting → Function → List (Frame × ℕ) → Type 0
 Await s f [] = Unit {0}
-Await s f (b ∷ bs) = (value_shape s b.0.function b.1 ≡ result_shape s f) × Await s b.0.function bs
+Await s f (b ∷ bs) = IsAwaited s f b × Await s b.0.function bs
 
 pub record ConfFits (s : Setting) (c : Conf) : Type 0 where
   pub top : FrameFits s (functions_of c.below) c.top

@@ -15,12 +15,12 @@ use Rattle.op_semantics.specs.Value.{operation_of}
 use Rattle.profile_rules.specs.Entry.{function_of}
 use Rattle.module_semantics.specs.Setting.{Setting}
 use Rattle.module_semantics.specs.Memory.{are_allowed}
-use Rattle.module_semantics.specs.State.{Frame}
+use Rattle.module_semantics.specs.State.{Held, Frame}
 use Rattle.module_semantics.specs.Operands.{arg, value_operands, literal_operands, words_at}
 use Rattle.module_semantics.specs.Accesses.{initial_in}
-use Rattle.module_semantics.specs.Steps.{StepKind, operation, chain, array_length, load, store, atomic, call, branch, return_value, base, phis, source_from}
+use Rattle.module_semantics.specs.Steps.{StepKind, operation, chain, array_length, variable, load, store, atomic, call, branch, return_value, base, phis, source_from}
 use Rattle.fits_law.specs.Takes.{Takes}
-use Rattle.fits_law.specs.State.{value_shape, target_shape, result_shape, HasShape, LeadsTo, VariablesFit}
+use Rattle.fits_law.specs.State.{value_shape, target_shape, result_shape, HasShape, LeadsTo, IsLocal, VariablesFit}
 
 -- the ids have these shapes, one by one
 abbrev pub HaveShapes : Setting → Function → List ℕ → List Tree → Type 0
@@ -42,37 +42,44 @@ IsOfWords t = (w : ℕ) → HasShape t (word w)
 abbrev pub AreArguments : Setting → Function → Function → List (Id × Id) → List ℕ → Type 0
 AreArguments s f g [] ids = Unit {0}
 AreArguments s f g (p ∷ ps) [] = Unit {0}
-AreArguments s f g (p ∷ ps) (id ∷ ids) = (value_shape s g p.0.0 ≡ value_shape s f id) × (target_shape s g p.0.0 ≡ target_shape s f id) × AreArguments s f g ps ids
+AreArguments s f g (p ∷ ps) (id ∷ ids) = (value_shape s g p.0.0 ≡ value_shape s f id) × (target_shape s g p.0.0 ≡ target_shape s f id) × IsLocal s p.0.0 × AreArguments s f g ps ids
 
 pub record IsCall (s : Setting) (f g : Function) (i : Inst) : Type 0 where
   pub arguments : AreArguments s f g g.params (drop 1 i.args)
   pub result : value_shape s f i.result ≡ result_shape s g
   pub variables : VariablesFit s g (initial_in s g)
+  pub local : IsLocal s i.result
 
 -- phis take values of their own shapes
 abbrev pub ArePhis : Setting → Function → List Inst → Type 0
 ArePhis s f [] = Unit {0}
-ArePhis s f (i ∷ is) = ((from id : ℕ) → source_from from i.args ≡ Some id → value_shape s f id ≡ value_shape s f i.result) × ArePhis s f is
+ArePhis s f (i ∷ is) = ((from id : ℕ) → source_from from i.args ≡ Some id → value_shape s f id ≡ value_shape s f i.result) × IsLocal s i.result × ArePhis s f is
 
 abbrev pub IsAtomic : AtomicOp → Setting → Function → Inst → Type 0
 IsAtomic atomics.Store s f i = Unit {0}
-IsAtomic _ s f i = IsOfWords (value_shape s f i.result)
+IsAtomic _ s f i = IsOfWords (value_shape s f i.result) × IsLocal s i.result
 
 pub record IsLoad (s : Setting) (f : Function) (i : Inst) : Type 0 where
   pub shape : Tree
   pub result : value_shape s f i.result ≡ Some shape
   pub target : target_shape s f (arg i 0) ≡ Some shape
   pub sized : IsSized shape
+  pub local : IsLocal s i.result
+
+-- a frame has values of its own for its own ids alone
+abbrev pub HasOwn : Setting → Frame → Type 0
+HasOwn s c = (id : ℕ) (h : Held) → c.ids id ≡ Some h → IsLocal s id
 
 -- a chain leads from what its base points to, by indexes that its types allow, to what it points to
 abbrev pub IsChain : Setting → Function → Inst → Type 0
-IsChain s f i = (c : Frame) (indexes : List ℕ) (ty : ℕ) → c.function ≡ f → words_at s c (drop 1 i.args) ≡ Some indexes → pointee_of s.of.globals f (base i) ≡ Some ty → are_allowed s ty indexes ≡ true
+IsChain s f i = (c : Frame) (indexes : List ℕ) (ty : ℕ) → c.function ≡ f → HasOwn s c → words_at s c (drop 1 i.args) ≡ Some indexes → pointee_of s.of.globals f (base i) ≡ Some ty → are_allowed s ty indexes ≡ true
     → LeadsTo (target_shape s f (base i)) indexes (target_shape s f i.result)
 
 abbrev pub IsTyped : Setting → Function → Inst → StepKind → Type 0
-IsTyped s f i operation = (o : Operation) (t : Tree) → operation_of i.op (literal_operands i.op i.args) ≡ Some o → type_tree s.of.globals i.ty ≡ Some t → (value_shape s f i.result ≡ Some t) × IsOperation s f i o t
-IsTyped s f i chain = IsChain s f i
-IsTyped s f i array_length = IsOfWords (value_shape s f i.result)
+IsTyped s f i operation = IsLocal s i.result × ((o : Operation) (t : Tree) → operation_of i.op (literal_operands i.op i.args) ≡ Some o → type_tree s.of.globals i.ty ≡ Some t → (value_shape s f i.result ≡ Some t) × IsOperation s f i o t)
+IsTyped s f i chain = IsLocal s i.result × IsChain s f i
+IsTyped s f i array_length = IsOfWords (value_shape s f i.result) × IsLocal s i.result
+IsTyped s f i variable = IsLocal s i.result
 IsTyped s f i load = IsLoad s f i
 IsTyped s f i store = value_shape s f (arg i 1) ≡ target_shape s f (arg i 0)
 IsTyped s f i (atomic o) = IsAtomic o s f i

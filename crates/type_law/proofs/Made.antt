@@ -29,7 +29,7 @@ use Rattle.profile_rules.specs.ValueRules.{are_other_parts, are_other_members, m
 use Rattle.module_semantics.specs.Setting.{Setting}
 use Rattle.module_semantics.specs.Operands.{arg}
 use Rattle.fits_law.specs.Takes.{Gives, GiveAll, AreOfShape, AreMembers, AreParts, Takes}
-use Rattle.fits_law.specs.State.{value_shape, target_shape, result_shape}
+use Rattle.fits_law.specs.State.{value_shape, target_shape, result_shape, IsLocal}
 use Rattle.fits_law.specs.Typed.{HaveShapes, IsLoad}
 use Rattle.type_law.proofs.Rows.{by_kind, vector_parts}
 use Rattle.type_law.proofs.Scalars.{or_left, or_right}
@@ -207,12 +207,12 @@ module _ (s : Setting) (f : Function) where
       value ∙ ap (λ x. Some x) same ∙ sym target
 
   -- T4: what is loaded has the shape of what the pointer leads to
-  pub load_typed : (i : Inst) (t w : Tree) → points_to_other Gs T (arg i 0) i.ty ≡ false → type_tree Gs i.ty ≡ Some t → value_shape s f i.result ≡ Some t → target_shape s f (arg i 0) ≡ Some w → IsSized t → IsLoad s f i
-  load_typed i t w right shape result target sized =
+  pub load_typed : (i : Inst) (t w : Tree) → points_to_other Gs T (arg i 0) i.ty ≡ false → type_tree Gs i.ty ≡ Some t → value_shape s f i.result ≡ Some t → target_shape s f (arg i 0) ≡ Some w → IsSized t → IsLocal s i.result → IsLoad s f i
+  load_typed i t w right shape result target sized local =
       let part = some_first (type_tree Gs) (option_and_then (pointee Gs) (T (arg i 0))) w target in
       let other = or_right (value_fails is_pointer Gs T (arg i 0)) (option_map_or (λ p. differ Gs p i.ty) (pointee_of Gs T (arg i 0)) false) right in
       let same = same_types s f part.0 i.ty w t part.2 shape (ap (λ o. option_map_or (λ p. differ Gs p i.ty) o false) (sym part.1) ∙ other) in
-      record { shape = t; result = result; target = target ∙ ap (λ x. Some x) same; sized = sized }
+      record { shape = t; result = result; target = target ∙ ap (λ x. Some x) same; sized = sized; local = local }
 
   -- T24: what is returned has the shape of the function's result
   pub return_typed : (i : Inst) (t u : Tree) → is_other Gs T f.result.0 (arg i 0) ≡ false → type_tree Gs f.result.0 ≡ Some t → value_shape s f (arg i 0) ≡ Some u → value_shape s f (arg i 0) ≡ result_shape s f
