@@ -7,3 +7,4 @@ pub mod Made
 pub mod Vectors
 pub mod Accessed
 pub mod Places
+pub mod Chains

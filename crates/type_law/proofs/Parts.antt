@@ -71,7 +71,7 @@ fixed_word gs id n e = by_global (global gs id) e
     by_global (Some g) e = let c = constant_length g.op id (slice_index g.args 0) n e in ap (λ b. if b then Some (word g 0) else None) c.0 ∙ ap (λ m. Some m) c.1
 
 -- the shape of a struct's member
-all_nth : (f : ℕ → Option Tree) (ids : List ℕ) (ts : Trees) (k : ℕ) → all_trees f ids ≡ Some ts → nat_lt k (length ids) ≡ true → (u : Tree) × (f (slice_index ids k) ≡ Some u) × (nth_of ts k ≡ Some u)
+pub all_nth : (f : ℕ → Option Tree) (ids : List ℕ) (ts : Trees) (k : ℕ) → all_trees f ids ≡ Some ts → nat_lt k (length ids) ≡ true → (u : Tree) × (f (slice_index ids k) ≡ Some u) × (nth_of ts k ≡ Some u)
 all_nth f [] ts k e less = absurd (none k less)
   where
     none : (k : ℕ) → nat_lt k 0 ≡ true → ⊥

@@ -1,6 +1,6 @@
 -- Parts of variables along indexes: the types of a module lead where their shapes do.
-use Rattle.std.proofs.Common.{◌≡◌, ◌&&◌, ◌==◌, ℕ, zero, suc, Bool, true, false, List, [], ◌∷◌, length, Option, Some, None, inl, inr, refl, sym, ap, ◌∙◌, subst, if◌then◌else◌}
-use Rattle.std.specs.Prelude.{option_map, option_and_then, nat_le, nat_lt, slice_index, unwrap_or}
+use Rattle.std.proofs.Common.{◌≡◌, ◌&&◌, ◌==◌, ℕ, zero, suc, Bool, true, false, List, [], ◌∷◌, Option, Some, None, refl, sym, ap, ◌∙◌, if◌then◌else◌}
+use Rattle.std.specs.Prelude.{option_map, option_and_then, nat_le, slice_index, unwrap_or}
 use Rattle.std.specs.Option.{option_map_or}
 use Rattle.spv_ops.specs.declared.Op.{Op}
 use Rattle.spv_ops.specs.declared.Op.TheVariants as code
@@ -11,8 +11,7 @@ use Rattle.spv_module.specs.declared.tree.Length.{Length}
 use Rattle.spv_types.specs.declared.kind.TypeKind.{TypeKind}
 use Rattle.spv_types.specs.declared.kind.TypeKind.TheVariants.{Bool as BoolKind, Int, Vector, Array, Runtime, Struct, Other}
 use Rattle.spv_types.specs.Tree.{Tree, boolean, int, uint, vector, array, runtime, struct, Trees, no_trees, tree}
-use Rattle.spv_types.specs.Types.{kind, elem_of, length_by, int_tree, sized_vector, vector_tree, array_tree, both, all_trees, tree_by_kind, tree_before, tree_at, type_tree}
-use Rattle.op_semantics.specs.Fits.{elem_tree}
+use Rattle.spv_types.specs.Types.{kind, elem_of, length_by, sized_vector, vector_tree, array_tree, both, all_trees, tree_by_kind, tree_before, tree_at, type_tree}
 use Rattle.spv_ops.specs.declared.StorageClass.{StorageClass}
 use Rattle.spv_index.specs.Locals.{typed, global_type}
 use Rattle.spv_index.specs.Pointers.{pointee}

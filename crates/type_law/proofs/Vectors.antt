@@ -30,7 +30,7 @@ pub five_off : (a b c d e : Bool) → (a || b || c || d || e) ≡ false → (a �
 five_off false false false false false h = (refl, refl, refl, refl, refl)
 five_off a b c d e h = cc
 
-three_off : (a b c : Bool) → (a || b || c) ≡ false → (a ≡ false) × (b ≡ false) × (c ≡ false)
+pub three_off : (a b c : Bool) → (a || b || c) ≡ false → (a ≡ false) × (b ≡ false) × (c ≡ false)
 three_off false false false h = (refl, refl, refl)
 three_off a b c h = cc
 
