@@ -8,3 +8,4 @@ pub mod Vectors
 pub mod Accessed
 pub mod Places
 pub mod Chains
+pub mod Constants
