@@ -85,6 +85,17 @@ put_some {A} f n a id b P mine other e = by_test (id == n) (eqb_tells id n) e
     by_test false (inl w) e = cc
     by_test false (inr w) e = other b e
 
+-- what is found by its result has it
+pub named : (gs : List Inst) (id : ℕ) (g : Inst) → find (λ (x : Inst). x.result == id) gs ≡ Some g → g.result ≡ id
+named [] id g e = cc
+named (h ∷ gs) id g e = by_test (h.result == id) (eqb_tells h.result id) (named gs id g) e
+  where
+    by_test : (t : Bool) → ((t ≡ true) × (h.result ≡ id)) ⊎ ((t ≡ false) × (h.result ≡ id → ⊥)) → (find (λ (x : Inst). x.result == id) gs ≡ Some g → g.result ≡ id) → (if t then Some h else find (λ (x : Inst). x.result == id) gs) ≡ Some g → g.result ≡ id
+    by_test true (inl w) later e = ap (λ (x : Inst). x.result) (sym (some_same h g e)) ∙ w.1
+    by_test true (inr w) later e = cc
+    by_test false (inl w) later e = cc
+    by_test false (inr w) later e = later e
+
 module _ (s : Setting) (right : ModuleFits s) where
   ids_put : (fs : List Function) (f : Function) (ids : ℕ → Option Held) (n : ℕ) (h : Held) → IdsFit s fs f ids → IsLocal s n → HeldFits s fs f n h → IdsFit s fs f (put ids n h)
   ids_put fs f ids n h fit local mine id g e = put_some ids n h id g (λ k x. IsLocal s k × HeldFits s fs f k x) (local, mine) (λ x there. fit id x there) e
@@ -202,16 +213,6 @@ module _ (s : Setting) (right : ModuleFits s) where
   variable_fits c rest i fit local = some_fits (c.top.variables i.result) _ (λ v e. set_fits c rest i (pointer (own i.result) []) fit local (leads_here (target_shape s c.top.function i.result) v (fit.top.1 i.result v e)))
 
   -- what variables have that no other invocation sees
-  named : (gs : List Inst) (id : ℕ) (g : Inst) → find (λ (x : Inst). x.result == id) gs ≡ Some g → g.result ≡ id
-  named [] id g e = cc
-  named (h ∷ gs) id g e = by_test (h.result == id) (eqb_tells h.result id) (named gs id g) e
-    where
-      by_test : (t : Bool) → ((t ≡ true) × (h.result ≡ id)) ⊎ ((t ≡ false) × (h.result ≡ id → ⊥)) → (find (λ (x : Inst). x.result == id) gs ≡ Some g → g.result ≡ id) → (if t then Some h else find (λ (x : Inst). x.result == id) gs) ≡ Some g → g.result ≡ id
-      by_test true (inl w) later e = ap (λ (x : Inst). x.result) (sym (some_same h g e)) ∙ w.1
-      by_test true (inr w) later e = cc
-      by_test false (inl w) later e = cc
-      by_test false (inr w) later e = later e
-
   variable_named : (id : ℕ) (v : Inst) → global_variable s id ≡ Some v → v.result ≡ id
   variable_named id v e = by_global (global_inst s.of.globals id) refl e
     where

@@ -9,3 +9,4 @@ pub mod Accessed
 pub mod Places
 pub mod Chains
 pub mod Constants
+pub mod Copies
