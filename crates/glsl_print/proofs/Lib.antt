@@ -2,4 +2,3 @@ pub mod Levels
 pub mod Parts
 pub mod Steps
 pub mod Reading
-pub mod Blanks

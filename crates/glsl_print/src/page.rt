@@ -1,5 +1,5 @@
 // The piece of a text that is not yet handed to the sink.
-ghost use Rattle.std.specs.Prelude.{◌≡◌, ◌+◌, ◌*◌, ◌++◌, ◌≤◌, [], Ok, length, replicate};
+ghost use Rattle.std.specs.Prelude.{◌≡◌, ◌+◌, ◌++◌, ◌≤◌, [], Ok, length, replicate};
 ghost use Rattle.glsl_grammar.specs.Layout.{indent_text};
 ghost use Rattle.glsl_grammar.specs.Marks.{mark_text};
 ghost use Rattle.glsl_print.specs.Printed.{Goes};
@@ -11,9 +11,6 @@ use std::marker::Model;
 
 /// The number of bytes that the sink is handed at once.
 const PIECE: usize = 4096;
-
-/// The blanks of four levels.
-const FEW: [u8; 16] = [b' '; 16];
 
 /// The bytes that the sink was not handed yet, and how the printing stands. After an end it hands the sink nothing.
 #[derive(Drop)]
@@ -91,17 +88,6 @@ impl Page {
         self.len = end;
     }
 
-    // Holds four blanks for each of at most four levels. It writes all 16 bytes, which is one move.
-    fn hold_levels(&mut self, levels: usize)
-        requires few { levels ≤ 4 }
-        requires room { length self.old.held + 16 ≤ 4096 }
-        ensures { self.new ≡ record { held = self.old.held ++ replicate (4 * levels) 32; status = self.old.status } }
-    {
-        let end = self.len + FEW.len();
-        self.bytes[self.len..end].copy_from_slice(&FEW);
-        self.len += 4 * levels;
-    }
-
     /// Hands the sink what is held.
     pub fn hand_on<K: Sink>(&mut self, sink: &mut K)
         ensures empty { self.new.held ≡ [] }
@@ -168,11 +154,6 @@ impl Page {
     pub fn put_levels<K: Sink>(&mut self, levels: u8, sink: &mut K)
         ensures { Goes K.written K.faults K.wants sink.old self.old (indent_text levels) sink.new self.new }
     {
-        let levels = levels as usize;
-        if levels <= 4 && self.room() >= FEW.len() {
-            self.hold_levels(levels);
-        } else {
-            self.put_blanks(4 * levels, sink);
-        }
+        self.put_blanks(4 * levels as usize, sink);
     }
 }

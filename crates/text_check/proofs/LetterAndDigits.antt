@@ -1,5 +1,5 @@
 -- A letter and digits are a name.
-use Rattle.std.proofs.Common.{◌≡◌, ◌==◌, ◌||◌, ◌&&◌, not, ℕ, true, false, List, [], ◌∷◌, bytes_eq, refl, sym, ap, ◌∙◌, arith}
+use Rattle.std.proofs.Common.{◌≡◌, ◌==◌, ◌||◌, ◌&&◌, not, ℕ, Bool, true, false, List, [], ◌∷◌, bytes_eq, refl, sym, ap, ◌∙◌, arith}
 use Rattle.std.specs.Char.{is_ascii_digit}
 use Rattle.std.specs.List.{list_all, list_any}
 use Rattle.std.proofs.lemmas.Bool.{and_parts, false≢true}
@@ -7,7 +7,6 @@ use Rattle.std.proofs.Math.Bool.{and-false}
 use Rattle.std.proofs.lemmas.Bool.Decides.{nat_tests}
 use Rattle.glsl_ast.specs.Tree.{Text}
 use Rattle.glsl_grammar.specs.Lex.{is_digit, is_word}
-use Rattle.word_search.specs.Words.{is_lettered}
 use Rattle.text_check.specs.Words.{is_keyword, is_name, is_letter_and_digits}
 use Rattle.text_check.proofs.Keywords.{table, are_keywords}
 
@@ -23,6 +22,12 @@ digits_are_words (c ∷ w) h =
 
 digits_differ : (d b : ℕ) → is_ascii_digit d ≡ true → not (is_ascii_digit b) ≡ true → (d == b) ≡ false
 digits_differ d b h g = grind (arith, nat_tests)
+
+-- there is a second byte, and it is no digit
+abbrev is_lettered : Text → Bool
+is_lettered [] = false
+is_lettered (a ∷ []) = false
+is_lettered (a ∷ b ∷ w) = not (is_ascii_digit b)
 
 -- it is no word of two bytes or more whose second is no digit
 no_word : (c : ℕ) (w k : Text) → list_all is_ascii_digit w ≡ true → is_lettered k ≡ true → bytes_eq (c ∷ w) k ≡ false
