@@ -56,20 +56,6 @@ fn any_other(ids: &BTreeSet<u32>, pairs: &[(u32, Given)]) -> bool
     pairs.iter().any(|pair| !ids.contains(&pair.0))
 }
 
-/// Whether an override's id is the SpecId of no constant.
-fn has_unknown(
-    alloc: Global,
-    module: &Module,
-    decor: &Decor,
-    pairs: &[(u32, Given)],
-) -> Result<bool, Memory>
-    requires { decor.now ≡ «module».now.heads }
-    ensures { IfOk result (λ unknown. unknown ≡ breaks_x3 «module».now pairs.now) }
-{
-    let ids = spec_ids(alloc, module, decor)?;
-    Ok(any_other(&ids, pairs))
-}
-
 /// Whether this is a composite that is decorated WorkgroupSize.
 fn is_size_composite(decor: &Decor, inst: &Inst) -> bool
     ensures { result ≡ is_size_composite_in decor.now inst.now }
@@ -231,7 +217,8 @@ pub fn check_overrides(
     ensures passes { OnOk result ((breaks_x3 «module».now pairs.now ≡ false) × (breaks_x4 «module».now pairs.now ≡ false)) }
     ensures refused { IfErr result (IsCause «module».now pairs.now) }
 {
-    if has_unknown(alloc, module, decor, pairs)? {
+    let ids = spec_ids(alloc, module, decor)?;
+    if any_other(&ids, pairs) {
         return Err(refused(Rule::X3));
     }
     if has_misfit(alloc, module, decor, pairs)? {

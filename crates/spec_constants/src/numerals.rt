@@ -20,8 +20,8 @@ fn number(digits: &[u8], base: u32, most: u32) -> Option<u32>
     if n <= most { Some(n) } else { None }
 }
 
-/// A decimal number without leading zeros, if it is at most `most`.
-fn decimal(digits: &[u8], most: u32) -> Option<u32>
+/// The decimal number without leading zeros that these bytes write, if it is at most `most`.
+pub fn decimal(digits: &[u8], most: u32) -> Option<u32>
     ensures { result ≡ decimal_up_to most digits.now }
 {
     if digits.is_empty() || (digits[0] == b'0' && digits.len() != 1) {
