@@ -11,6 +11,9 @@ use Rattle.glsl_ast.specs.declared.statements.Label.{Label}
 pub under : (h n : ℕ) → 1 ≤ n → nat_le (1 + h) n ≡ nat_le h (n - 1)
 under h n p = grind (arith, nat_tests)
 
+pub parts_under : (h n : ℕ) → nat_le (1 + h) (1 + n) ≡ nat_le h n
+parts_under h n = grind (arith, nat_tests)
+
 pub both : (a b n : ℕ) → nat_le (max a b) n ≡ (nat_le a n && nat_le b n)
 both a b n = grind (arith, nat_tests)
 
@@ -86,4 +89,4 @@ stmt_high s n p = high (stmt_height s) n (stmt_some s) p
 pub item_high : (d : Decl) (n : ℕ) → n ≡ 0 → nat_le (decl_height d) n ≡ false
 item_high d n p = high (decl_height d) n (item_some d) p
 
-pub ruleset low_rules = (under, both, zero_low, each_low)
+pub ruleset low_rules = (under, parts_under, both, zero_low, each_low)

@@ -1,5 +1,5 @@
 // Expressions.
-ghost use Rattle.std.specs.Prelude.{◌≡◌, nat_le, option_map};
+ghost use Rattle.std.specs.Prelude.{◌≡◌, ◌+◌, nat_le, option_map};
 ghost use Rattle.glsl_ast.specs.Height.{height, heights, highest_in};
 ghost use Rattle.glsl_ast.specs.View.{expr_of, exprs_of};
 
@@ -9,38 +9,34 @@ use glsl_ast::Expr;
 /// Whether the expression is at most so high. Most are names.
 #[cycle(expression)]
 #[inline(always)]
-#[tactic(auto, using(glsl_ast::proofs::Views::expr_rows, crate::proofs::Low::low_rules))]
+#[tactic(auto, using(glsl_ast::proofs::Views::expr_rows, crate::proofs::Low::low_rules, crate::proofs::Low::expr_high))]
 pub fn is_low_expr(expr: &Expr, limit: u32) -> bool
     ensures { result ≡ nat_le (height (expr_of expr.now)) limit }
 {
     match expr {
         Expr::Name(_) => 2 <= limit,
-        _ => is_low_tree(expr, limit),
+        _ => 0 < limit && is_low_tree(expr, limit - 1),
     }
 }
 
-/// Whether the expression, with each that stands in it, is at most so high.
+/// Whether what stands in the expression is at most so high.
 #[cycle(expression)]
-#[tactic(auto, using(glsl_ast::proofs::Views::expr_rows, crate::proofs::Low::low_rules, crate::proofs::Low::expr_high))]
+#[tactic(auto, using(glsl_ast::proofs::Views::expr_rows, crate::proofs::Low::low_rules))]
 fn is_low_tree(expr: &Expr, limit: u32) -> bool
-    ensures { result ≡ nat_le (height (expr_of expr.now)) limit }
+    ensures { result ≡ nat_le (height (expr_of expr.now)) (1 + limit) }
 {
-    if limit == 0 {
-        return false;
-    }
-    let under = limit - 1;
     match expr {
         Expr::Literal(_) => true,
-        Expr::Name(_) => 1 <= under,
-        Expr::Build(ty, args) => is_low_type(ty, under) && are_low_exprs(args, under),
-        Expr::Call(_, args) => 1 <= under && are_low_exprs(args, under),
-        Expr::Not(of) | Expr::Flip(of) | Expr::Length(of) => is_low_expr(of, under),
-        Expr::Binary(_, left, right) => is_low_expr(left, under) && is_low_expr(right, under),
+        Expr::Name(_) => 1 <= limit,
+        Expr::Build(ty, args) => is_low_type(ty, limit) && are_low_exprs(args, limit),
+        Expr::Call(_, args) => 1 <= limit && are_low_exprs(args, limit),
+        Expr::Not(of) | Expr::Flip(of) | Expr::Length(of) => is_low_expr(of, limit),
+        Expr::Binary(_, left, right) => is_low_expr(left, limit) && is_low_expr(right, limit),
         Expr::Choose(test, yes, no) => {
-            is_low_expr(test, under) && is_low_expr(yes, under) && is_low_expr(no, under)
+            is_low_expr(test, limit) && is_low_expr(yes, limit) && is_low_expr(no, limit)
         }
-        Expr::Member(of, _) => is_low_expr(of, under) && 1 <= under,
-        Expr::Index(of, at) => is_low_expr(of, under) && is_low_expr(at, under),
+        Expr::Member(of, _) => is_low_expr(of, limit) && 1 <= limit,
+        Expr::Index(of, at) => is_low_expr(of, limit) && is_low_expr(at, limit),
     }
 }
 

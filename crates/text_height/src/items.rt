@@ -55,29 +55,33 @@ fn is_low_function(ty: &Option<TypeName>, params: &[Param], body: &[Stmt], limit
         && are_low_stmts(body, limit)
 }
 
-/// Whether the item is at most so high.
-#[tactic(auto, using(crate::proofs::Low::low_rules, crate::proofs::Low::item_high))]
-fn is_low_item(item: &Decl, limit: u32) -> bool
-    ensures { result ≡ nat_le (decl_height (decl_of item.now)) limit }
+/// Whether what stands in the item is at most so high.
+#[tactic(auto, using(crate::proofs::Low::low_rules))]
+fn is_low_inside(item: &Decl, limit: u32) -> bool
+    ensures { result ≡ nat_le (decl_height (decl_of item.now)) (1 + limit) }
 {
-    if limit == 0 {
-        return false;
-    }
-    let under = limit - 1;
     match item {
-        Decl::Struct { fields, .. } => 1 <= under && are_low_fields(fields, under),
+        Decl::Struct { fields, .. } => 1 <= limit && are_low_fields(fields, limit),
         Decl::Const { ty, value, .. } | Decl::Global { ty, value, .. } => {
-            is_low_type(ty, under) && 1 <= under && is_low_expr(value, under)
+            is_low_type(ty, limit) && 1 <= limit && is_low_expr(value, limit)
         }
-        Decl::Shared { ty, .. } => is_low_named(ty, limit),
-        Decl::Block { members, .. } => 1 <= under && are_low_members(members, under),
+        Decl::Shared { ty, .. } => is_low_type(ty, limit) && 1 <= limit,
+        Decl::Block { members, .. } => 1 <= limit && are_low_members(members, limit),
         Decl::Function {
             result: ty,
             params,
             body,
             ..
-        } => is_low_function(ty, params, body, under),
+        } => is_low_function(ty, params, body, limit),
     }
+}
+
+/// Whether the item is at most so high.
+#[tactic(auto, using(crate::proofs::Low::item_high))]
+fn is_low_item(item: &Decl, limit: u32) -> bool
+    ensures { result ≡ nat_le (decl_height (decl_of item.now)) limit }
+{
+    0 < limit && is_low_inside(item, limit - 1)
 }
 
 /// Whether each of the items is at most so high.

@@ -1,5 +1,5 @@
 // Statements.
-ghost use Rattle.std.specs.Prelude.{◌≡◌, nat_le};
+ghost use Rattle.std.specs.Prelude.{◌≡◌, ◌+◌, nat_le};
 ghost use Rattle.std.specs.List.{list_all};
 ghost use Rattle.glsl_ast.specs.Height.{highest, label_height, step_height, lvalue_height, stmt_height, stmts_height, arms_height};
 ghost use Rattle.glsl_ast.specs.View.{step_of, lvalue_of, stmt_of, stmts_of, arms_of};
@@ -38,31 +38,37 @@ fn are_low_labels(labels: &[Label], limit: u32) -> bool
     1 <= limit || labels.is_empty()
 }
 
+/// Whether what stands in the statement is at most so high.
+#[cycle(statement)]
+#[tactic(auto, using(glsl_ast::proofs::Views::stmt_rows, crate::proofs::Low::low_rules))]
+fn is_low_inside(stmt: &Stmt, limit: u32) -> bool
+    ensures { result ≡ nat_le (stmt_height (stmt_of stmt.now)) (1 + limit) }
+{
+    match stmt {
+        Stmt::Declare(ty, _, value) => {
+            is_low_type(ty, limit) && 1 <= limit && is_low_value(value, limit)
+        }
+        Stmt::Assign(place, value) => is_low_lvalue(place, limit) && is_low_expr(value, limit),
+        Stmt::Call(_, args) => 1 <= limit && are_low_exprs(args, limit),
+        Stmt::If(test, yes, None) => is_low_expr(test, limit) && are_low_stmts(yes, limit),
+        Stmt::If(test, yes, Some(no)) => {
+            is_low_expr(test, limit) && are_low_stmts(yes, limit) && are_low_stmts(no, limit)
+        }
+        Stmt::For(body) => are_low_stmts(body, limit),
+        Stmt::Switch(on, arms) => is_low_expr(on, limit) && are_low_arms(arms, limit),
+        Stmt::Break | Stmt::Continue => true,
+        Stmt::Return(value) => is_low_value(value, limit),
+    }
+}
+
 /// Whether the statement is at most so high.
 #[cycle(statement)]
-#[tactic(auto, using(glsl_ast::proofs::Views::stmt_rows, crate::proofs::Low::low_rules, crate::proofs::Low::stmt_high))]
+#[inline(always)]
+#[tactic(auto, using(crate::proofs::Low::stmt_high))]
 fn is_low_stmt(stmt: &Stmt, limit: u32) -> bool
     ensures { result ≡ nat_le (stmt_height (stmt_of stmt.now)) limit }
 {
-    if limit == 0 {
-        return false;
-    }
-    let under = limit - 1;
-    match stmt {
-        Stmt::Declare(ty, _, value) => {
-            is_low_type(ty, under) && 1 <= under && is_low_value(value, under)
-        }
-        Stmt::Assign(place, value) => is_low_lvalue(place, under) && is_low_expr(value, under),
-        Stmt::Call(_, args) => 1 <= under && are_low_exprs(args, under),
-        Stmt::If(test, yes, None) => is_low_expr(test, under) && are_low_stmts(yes, under),
-        Stmt::If(test, yes, Some(no)) => {
-            is_low_expr(test, under) && are_low_stmts(yes, under) && are_low_stmts(no, under)
-        }
-        Stmt::For(body) => are_low_stmts(body, under),
-        Stmt::Switch(on, arms) => is_low_expr(on, under) && are_low_arms(arms, under),
-        Stmt::Break | Stmt::Continue => true,
-        Stmt::Return(value) => is_low_value(value, under),
-    }
+    0 < limit && is_low_inside(stmt, limit - 1)
 }
 
 /// Whether each of the statements is at most so high.
