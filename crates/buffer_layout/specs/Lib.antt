@@ -1,3 +1,4 @@
+pub mod Ruler
 pub mod Members
 pub mod Measures
 pub mod Plan

@@ -9,6 +9,7 @@ ghost use Rattle.buffer_layout.specs.Plan.{IsPlanAt, IsPlanOf, IsWithinLimits, I
 use crate::layouts::plan;
 use crate::members::{Member, first_broken, members_of};
 use crate::plan::BlockPlan;
+use crate::ruler::Ruler;
 use layout_rules::Kind;
 use spv_decor::Decor;
 use spv_index::{is_uniform_struct, pointer};
@@ -74,9 +75,9 @@ fn taken_kind(module: &Module, decor: &Decor, first: Kind, members: &[Member]) -
     ensures none { OnErr result (kind_of_members decor.now «module».now.globals first (map member_of members.now) ≡ None) }
     ensures broken { IfErr result (λ rule. members_break decor.now «module».now.globals first (map member_of members.now) rule ≡ true) }
 {
-    match first_broken(module, decor, first, members) {
+    match first_broken(&Ruler::new(module, decor, first), members) {
         None => Ok(first),
-        Some(rule) => match first_broken(module, decor, Kind::Std140, members) {
+        Some(rule) => match first_broken(&Ruler::new(module, decor, Kind::Std140), members) {
             None => Ok(Kind::Std140),
             Some(_) => Err(rule),
         },
@@ -100,7 +101,7 @@ fn plan_of(
     let members = members_of(alloc, module, decor, block)?;
     let first = first_kind(decor, variable.operand(0), Id(block.result));
     match taken_kind(module, decor, first, &members) {
-        Ok(kind) => Ok(plan(alloc, module, decor, kind, &members)?),
+        Ok(kind) => Ok(plan(alloc, &Ruler::new(module, decor, kind), &members)?),
         Err(rule) => Err(Fault::Refused(Refusal {
             rule,
             at: variable.at,

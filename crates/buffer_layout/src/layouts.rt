@@ -7,25 +7,24 @@ ghost use Rattle.layout_rules.specs.Rules.{ends_past};
 ghost use Rattle.buffer_layout.specs.Members.{member_of};
 ghost use Rattle.buffer_layout.specs.Plan.{type_layout, layouts_of, is_too_large, IsPlan, AllFit};
 
-use crate::measure::{measure, measure_stride, part_id};
+use crate::measure::{measure, measure_stride};
 use crate::members::Member;
 use crate::plan::{BlockPlan, Layout};
+use crate::ruler::Ruler;
 use crate::sizes::{LAST, next_aligned};
-use layout_rules::Kind;
-use spv_decor::Decor;
-use spv_module::{Module, Shape};
+use spv_module::Shape;
 use spv_words::Memory;
 use std::alloc::Global;
 
 /// The stride of an array, or 0.
 #[tactic(auto, using(spv_types::proofs::Views::shape_rows, crate::proofs::Fits::stride_fits))]
-fn stride_of(module: &Module, decor: &Decor, kind: Kind, id: u32, shape: &Shape) -> u32
-    requires { ends_past kind (tree_of shape.now) ≡ false }
-    ensures { result ≡ option_map_or (λ n. n) (stride_in kind (tree_of shape.now)) 0 }
+fn stride_of(ruler: &Ruler, id: u32, shape: &Shape) -> u32
+    requires { ends_past ruler.now.kind (tree_of shape.now) ≡ false }
+    ensures { result ≡ option_map_or (λ n. n) (stride_in ruler.now.kind (tree_of shape.now)) 0 }
 {
     match shape {
         Shape::Array(part, _) | Shape::Runtime(part) => {
-            measure_stride(module, decor, kind, id, part).size as u32
+            measure_stride(ruler, id, part).size as u32
         }
         _ => 0,
     }
@@ -35,19 +34,17 @@ fn stride_of(module: &Module, decor: &Decor, kind: Kind, id: u32, shape: &Shape)
 #[tactic(auto, using(crate::proofs::Fits::offset_rules))]
 fn offsets_behind(
     alloc: Global,
-    module: &Module,
-    decor: &Decor,
-    kind: Kind,
+    ruler: &Ruler,
     id: u32,
     members: &[Shape],
 ) -> Result<Vec<u32>, Memory>
-    requires { end_from kind 0 (trees_of members.now) ≤ LAST }
-    ensures { IfOk result (λ v. v.items ≡ offsets_from kind 0 (trees_of members.now)) }
+    requires { end_from ruler.now.kind 0 (trees_of members.now) ≤ LAST }
+    ensures { IfOk result (λ v. v.items ≡ offsets_from ruler.now.kind 0 (trees_of members.now)) }
 {
     let mut offsets = Vec::new(alloc);
     let mut end: u64 = 0;
     for (k, member) in members.iter().enumerate() {
-        let found = measure(module, decor, kind, part_id(module, id, k), member);
+        let found = measure(ruler, ruler.part_id(id, k), member);
         let offset = next_aligned(end, found.alignment);
         offsets.push(offset as u32)?;
         end = offset + found.size;
@@ -57,42 +54,28 @@ fn offsets_behind(
 
 /// The offsets of a struct's members; there are none of another type.
 #[tactic(auto, using(spv_types::proofs::Views::shape_rows, crate::proofs::Fits::members_fit))]
-fn offsets_of(
-    alloc: Global,
-    module: &Module,
-    decor: &Decor,
-    kind: Kind,
-    id: u32,
-    shape: &Shape,
-) -> Result<Vec<u32>, Memory>
-    requires { ends_past kind (tree_of shape.now) ≡ false }
-    ensures { IfOk result (λ v. v.items ≡ offsets_in kind (tree_of shape.now)) }
+fn offsets_of(alloc: Global, ruler: &Ruler, id: u32, shape: &Shape) -> Result<Vec<u32>, Memory>
+    requires { ends_past ruler.now.kind (tree_of shape.now) ≡ false }
+    ensures { IfOk result (λ v. v.items ≡ offsets_in ruler.now.kind (tree_of shape.now)) }
 {
     match shape {
-        Shape::Struct(_, members) => offsets_behind(alloc, module, decor, kind, id, members),
+        Shape::Struct(_, members) => offsets_behind(alloc, ruler, id, members),
         _ => Ok(Vec::new(alloc)),
     }
 }
 
 /// The layout of the type with this id and this shape.
 #[tactic(auto, using(crate::proofs::Fits::size_fits))]
-pub fn layout_of(
-    alloc: Global,
-    module: &Module,
-    decor: &Decor,
-    kind: Kind,
-    id: u32,
-    shape: &Shape,
-) -> Result<Layout, Memory>
-    requires { ends_past kind (tree_of shape.now) ≡ false }
-    ensures { IfOk result (λ l. type_layout l ≡ layout_in kind (tree_of shape.now)) }
+pub fn layout_of(alloc: Global, ruler: &Ruler, id: u32, shape: &Shape) -> Result<Layout, Memory>
+    requires { ends_past ruler.now.kind (tree_of shape.now) ≡ false }
+    ensures { IfOk result (λ l. type_layout l ≡ layout_in ruler.now.kind (tree_of shape.now)) }
 {
-    let found = measure(module, decor, kind, id, shape);
+    let found = measure(ruler, id, shape);
     Ok(Layout {
         size: found.size as u32,
         align: found.alignment as u32,
-        stride: stride_of(module, decor, kind, id, shape),
-        offsets: offsets_of(alloc, module, decor, kind, id, shape)?,
+        stride: stride_of(ruler, id, shape),
+        offsets: offsets_of(alloc, ruler, id, shape)?,
     })
 }
 
@@ -109,37 +92,25 @@ pub fn zeros(alloc: Global) -> Layout
 }
 
 /// The layout of a member's type.
-fn member_layout(
-    alloc: Global,
-    module: &Module,
-    decor: &Decor,
-    kind: Kind,
-    member: &Member,
-) -> Result<Layout, Memory>
-    requires { is_too_large kind (member_of member.now) ≡ false }
-    ensures { IfOk result (λ l. type_layout l ≡ layout_or_zeros kind (member_of member.now).shape) }
+fn member_layout(alloc: Global, ruler: &Ruler, member: &Member) -> Result<Layout, Memory>
+    requires { is_too_large ruler.now.kind (member_of member.now) ≡ false }
+    ensures { IfOk result (λ l. type_layout l ≡ layout_or_zeros ruler.now.kind (member_of member.now).shape) }
 {
     match &member.shape {
-        Some(shape) => layout_of(alloc, module, decor, kind, member.id, shape),
+        Some(shape) => layout_of(alloc, ruler, member.id, shape),
         None => Ok(zeros(alloc)),
     }
 }
 
 /// The layouts of the types of members.
 #[tactic(auto, using(crate::proofs::Fits::layout_rows))]
-fn layouts(
-    alloc: Global,
-    module: &Module,
-    decor: &Decor,
-    kind: Kind,
-    members: &[Member],
-) -> Result<Vec<Layout>, Memory>
-    requires { AllFit kind (map member_of members.now) }
-    ensures { IfOk result (λ v. map type_layout v.items ≡ layouts_of kind (map member_of members.now)) }
+fn layouts(alloc: Global, ruler: &Ruler, members: &[Member]) -> Result<Vec<Layout>, Memory>
+    requires { AllFit ruler.now.kind (map member_of members.now) }
+    ensures { IfOk result (λ v. map type_layout v.items ≡ layouts_of ruler.now.kind (map member_of members.now)) }
 {
     let mut layouts = Vec::new(alloc);
     for member in members {
-        layouts.push(member_layout(alloc, module, decor, kind, member)?)?;
+        layouts.push(member_layout(alloc, ruler, member)?)?;
     }
     Ok(layouts)
 }
@@ -157,19 +128,13 @@ fn offsets(alloc: Global, members: &[Member]) -> Result<Vec<u32>, Memory>
 }
 
 /// The plan of a block with these members.
-pub fn plan(
-    alloc: Global,
-    module: &Module,
-    decor: &Decor,
-    kind: Kind,
-    members: &[Member],
-) -> Result<BlockPlan, Memory>
-    requires { AllFit kind (map member_of members.now) }
-    ensures { IfOk result (IsPlan kind (map member_of members.now)) }
+pub fn plan(alloc: Global, ruler: &Ruler, members: &[Member]) -> Result<BlockPlan, Memory>
+    requires { AllFit ruler.now.kind (map member_of members.now) }
+    ensures { IfOk result (IsPlan ruler.now.kind (map member_of members.now)) }
 {
     Ok(BlockPlan {
-        kind,
-        members: layouts(alloc, module, decor, kind, members)?,
+        kind: ruler.kind(),
+        members: layouts(alloc, ruler, members)?,
         offsets: offsets(alloc, members)?,
     })
 }

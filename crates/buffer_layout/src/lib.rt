@@ -7,6 +7,7 @@ mod layouts;
 mod measure;
 mod members;
 mod plan;
+mod ruler;
 mod sizes;
 mod types;
 

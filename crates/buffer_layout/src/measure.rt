@@ -4,17 +4,15 @@ ghost use Rattle.spv_module.specs.declared.inst.Inst.{Inst as InstOf};
 ghost use Rattle.spv_types.specs.Tree.{vector as vector_tree, array, runtime, boolean, int, uint, struct as struct_tree};
 ghost use Rattle.spv_types.specs.View.{tree_of, trees_of};
 ghost use Rattle.layout_rules.specs.declared.Kind.{Kind as KindOf};
-ghost use Rattle.layout_rules.specs.Parts.{part_id as part_id_in};
 ghost use Rattle.layout_rules.specs.Rules.{has_bool as has_bool_in};
 ghost use Rattle.buffer_layout.specs.Measures.{IsMeasure, IsMeasureOfStride, IsMeasureOfMembers, IsWhole, IsWithMember};
 
-use crate::decorations::{is_not, is_other, offset_of, stride_of};
+use crate::decorations::{is_not, is_other};
+use crate::ruler::Ruler;
 use crate::sizes::{
     CAP, MOST_ALIGNED, array_size, next_aligned, vector_alignment, whole_alignment, whole_size,
 };
-use layout_rules::Kind;
-use spv_decor::Decor;
-use spv_module::{Elem, Id, Inst, Length, Module, Shape};
+use spv_module::{Elem, Length, Shape};
 
 /// What a layout makes of a type: its size, or `CAP` where it is greater, its alignment, and what is
 /// wrong with it or with a part of it: a struct of which a member lacks its Offset; an array whose
@@ -29,16 +27,6 @@ pub struct Measured {
     pub has_bool: bool,
     pub other_offset: bool,
     pub ends_past: bool,
-}
-
-/// The id of an array's element type (operand 0), or of the type of a struct's member.
-pub fn part_id(module: &Module, id: u32, k: usize) -> u32
-    ensures { result ≡ part_id_in «module».now.globals id k }
-{
-    match module.global(Id(id)) {
-        Some(inst) => inst.operand(k),
-        None => 0,
-    }
 }
 
 /// One of the two.
@@ -136,51 +124,44 @@ fn with_member(before: Measured, member: Measured, offset: Option<u32>) -> Measu
 /// The measure of the type with this id and this shape. Each part is measured once.
 #[cycle(measuring)]
 #[tactic(auto, using(spv_types::proofs::Views::shape_rows))]
-pub fn measure(module: &Module, decor: &Decor, kind: Kind, id: u32, shape: &Shape) -> Measured
-    ensures { IsMeasure decor.now «module».now.globals kind id (tree_of shape.now) result }
+pub fn measure(ruler: &Ruler, id: u32, shape: &Shape) -> Measured
+    ensures { IsMeasure ruler.now.heads ruler.now.globals ruler.now.kind id (tree_of shape.now) result }
 {
     match shape {
         Shape::Bool => bool_scalar(),
         Shape::Int => int_scalar(),
         Shape::Uint => int_scalar(),
         Shape::Vector(elem, size) => vector(*elem, *size),
-        Shape::Array(part, length) => measure_array(module, decor, kind, id, part, *length),
-        Shape::Runtime(part) => measure_runtime(module, decor, kind, id, part),
-        Shape::Struct(_, members) => measure_struct(module, decor, kind, id, members),
+        Shape::Array(part, length) => measure_array(ruler, id, part, *length),
+        Shape::Runtime(part) => measure_runtime(ruler, id, part),
+        Shape::Struct(_, members) => measure_struct(ruler, id, members),
     }
 }
 
 /// The elements of an array, as if one stride were its size.
 #[cycle(measuring)]
 #[tactic(auto, using(crate::proofs::Measures::stride_rules))]
-pub fn measure_stride(module: &Module, decor: &Decor, kind: Kind, id: u32, part: &Shape) -> Measured
-    ensures { IsMeasureOfStride decor.now «module».now.globals kind id (tree_of part.now) result }
+pub fn measure_stride(ruler: &Ruler, id: u32, part: &Shape) -> Measured
+    ensures { IsMeasureOfStride ruler.now.heads ruler.now.globals ruler.now.kind id (tree_of part.now) result }
 {
-    let element = measure(module, decor, kind, part_id(module, id, 0), part);
-    let stride = whole_size(element.size, element.alignment, kind);
-    let differs = is_not(stride_of(decor, id), stride);
+    let element = measure(ruler, ruler.part_id(id, 0), part);
+    let stride = whole_size(element.size, element.alignment, ruler.kind());
+    let differs = is_not(ruler.stride_of(id), stride);
     whole(
         Measured {
             other_stride: either(differs, element.other_stride),
             ..element
         },
         stride,
-        whole_alignment(element.alignment, kind),
+        whole_alignment(element.alignment, ruler.kind()),
     )
 }
 
 #[cycle(measuring)]
-fn measure_array(
-    module: &Module,
-    decor: &Decor,
-    kind: Kind,
-    id: u32,
-    part: &Shape,
-    length: Length,
-) -> Measured
-    ensures { IsMeasure decor.now «module».now.globals kind id (array (tree_of part.now) length) result }
+fn measure_array(ruler: &Ruler, id: u32, part: &Shape, length: Length) -> Measured
+    ensures { IsMeasure ruler.now.heads ruler.now.globals ruler.now.kind id (array (tree_of part.now) length) result }
 {
-    let elements = measure_stride(module, decor, kind, id, part);
+    let elements = measure_stride(ruler, id, part);
     whole(
         elements,
         array_size(elements.size, length),
@@ -189,46 +170,34 @@ fn measure_array(
 }
 
 #[cycle(measuring)]
-fn measure_runtime(module: &Module, decor: &Decor, kind: Kind, id: u32, part: &Shape) -> Measured
-    ensures { IsMeasure decor.now «module».now.globals kind id (runtime (tree_of part.now)) result }
+fn measure_runtime(ruler: &Ruler, id: u32, part: &Shape) -> Measured
+    ensures { IsMeasure ruler.now.heads ruler.now.globals ruler.now.kind id (runtime (tree_of part.now)) result }
 {
-    let elements = measure_stride(module, decor, kind, id, part);
+    let elements = measure_stride(ruler, id, part);
     whole(elements, 0, elements.alignment)
 }
 
 #[cycle(measuring)]
-fn measure_struct(
-    module: &Module,
-    decor: &Decor,
-    kind: Kind,
-    id: u32,
-    members: &[Shape],
-) -> Measured
-    ensures { (n : ℕ) → IsMeasure decor.now «module».now.globals kind id (struct_tree n (trees_of members.now)) result }
+fn measure_struct(ruler: &Ruler, id: u32, members: &[Shape]) -> Measured
+    ensures { (n : ℕ) → IsMeasure ruler.now.heads ruler.now.globals ruler.now.kind id (struct_tree n (trees_of members.now)) result }
 {
-    let members = measure_members(module, decor, kind, id, members);
+    let members = measure_members(ruler, id, members);
     whole(
         members,
-        whole_size(members.size, members.alignment, kind),
-        whole_alignment(members.alignment, kind),
+        whole_size(members.size, members.alignment, ruler.kind()),
+        whole_alignment(members.alignment, ruler.kind()),
     )
 }
 
 /// The members of a struct: their end and their greatest alignment, or 1.
 #[cycle(measuring)]
-fn measure_members(
-    module: &Module,
-    decor: &Decor,
-    kind: Kind,
-    id: u32,
-    members: &[Shape],
-) -> Measured
-    ensures { IsMeasureOfMembers decor.now «module».now.globals kind id (trees_of members.now) result }
+fn measure_members(ruler: &Ruler, id: u32, members: &[Shape]) -> Measured
+    ensures { IsMeasureOfMembers ruler.now.heads ruler.now.globals ruler.now.kind id (trees_of members.now) result }
 {
     let mut all = leaf(0, 1, false);
     for (k, member) in members.iter().enumerate() {
-        let found = measure(module, decor, kind, part_id(module, id, k), member);
-        all = with_member(all, found, offset_of(decor, id, k));
+        let found = measure(ruler, ruler.part_id(id, k), member);
+        all = with_member(all, found, ruler.offset_of(id, k));
     }
     all
 }

@@ -12,8 +12,8 @@ ghost use Rattle.buffer_layout.specs.Measures.{IsMeasureOfMember};
 
 use crate::decorations::offset_of;
 use crate::measure::{Measured, either, leaf, measure};
+use crate::ruler::Ruler;
 use crate::sizes::CAP;
-use layout_rules::Kind;
 use spv_decor::Decor;
 use spv_module::{Id, Inst, Module, Shape};
 use spv_types::shape;
@@ -69,22 +69,22 @@ pub fn members_of(
 }
 
 /// The measure of a member's type, in which nothing is wrong where it has no shape.
-fn measure_inside(module: &Module, decor: &Decor, kind: Kind, member: &Member) -> Measured
-    ensures { IsMeasureOfMember decor.now «module».now.globals kind (member_of member.now) result }
+fn measure_inside(ruler: &Ruler, member: &Member) -> Measured
+    ensures { IsMeasureOfMember ruler.now.heads ruler.now.globals ruler.now.kind (member_of member.now) result }
 {
     match &member.shape {
-        Some(shape) => measure(module, decor, kind, member.id, shape),
+        Some(shape) => measure(ruler, member.id, shape),
         None => leaf(0, 1, false),
     }
 }
 
 /// The Offset of a member is no multiple of its alignment.
-fn is_misaligned(module: &Module, decor: &Decor, kind: Kind, member: &Member) -> bool
-    ensures { result ≡ is_misaligned_in kind (member_of member.now) }
+fn is_misaligned(ruler: &Ruler, member: &Member) -> bool
+    ensures { result ≡ is_misaligned_in ruler.now.kind (member_of member.now) }
 {
     match (member.offset, &member.shape) {
         (Some(offset), Some(shape)) => {
-            u64::from(offset) % measure(module, decor, kind, member.id, shape).alignment != 0
+            u64::from(offset) % measure(ruler, member.id, shape).alignment != 0
         }
         _ => false,
     }
@@ -99,23 +99,21 @@ fn end_behind(offset: u32, size: u64) -> u64
 }
 
 /// Where a member ends; its size is counted up to `CAP`.
-fn end_capped(module: &Module, decor: &Decor, kind: Kind, member: &Member) -> u64
-    ensures { min CAP result ≡ min CAP (end_of kind (member_of member.now)) }
+fn end_capped(ruler: &Ruler, member: &Member) -> u64
+    ensures { min CAP result ≡ min CAP (end_of ruler.now.kind (member_of member.now)) }
 {
     match (member.offset, &member.shape) {
-        (Some(offset), Some(shape)) => {
-            end_behind(offset, measure(module, decor, kind, member.id, shape).size)
-        }
+        (Some(offset), Some(shape)) => { end_behind(offset, measure(ruler, member.id, shape).size) }
         _ => 0,
     }
 }
 
 /// The end of a member is past the last byte.
 #[tactic(auto, using(crate::proofs::Steps::past_of_capped))]
-fn is_end_past(module: &Module, decor: &Decor, kind: Kind, member: &Member) -> bool
-    ensures { result ≡ is_past (end_of kind (member_of member.now)) }
+fn is_end_past(ruler: &Ruler, member: &Member) -> bool
+    ensures { result ≡ is_past (end_of ruler.now.kind (member_of member.now)) }
 {
-    end_capped(module, decor, kind, member) >= CAP
+    end_capped(ruler, member) >= CAP
 }
 
 /// An offset is below an end that is counted up to `CAP`.
@@ -127,39 +125,33 @@ fn is_below(offset: u32, end: u64) -> bool
 }
 
 /// A member begins below the end of another.
-fn begins_below(module: &Module, decor: &Decor, kind: Kind, other: &Member, member: &Member) -> bool
-    ensures { result ≡ begins_below_in kind (member_of other.now) (member_of member.now) }
+fn begins_below(ruler: &Ruler, other: &Member, member: &Member) -> bool
+    ensures { result ≡ begins_below_in ruler.now.kind (member_of other.now) (member_of member.now) }
 {
     match (member.offset, &member.shape) {
-        (Some(offset), Some(_)) => is_below(offset, end_capped(module, decor, kind, other)),
+        (Some(offset), Some(_)) => is_below(offset, end_capped(ruler, other)),
         _ => false,
     }
 }
 
 /// A member begins below the end of the one directly before it, where there is one.
-fn overlaps(
-    module: &Module,
-    decor: &Decor,
-    kind: Kind,
-    before: Option<&Member>,
-    member: &Member,
-) -> bool
-    ensures { result ≡ option_map_or (λ other. begins_below_in kind other (member_of member.now)) (option_map (λ b. member_of b.now) before.entry) false }
+fn overlaps(ruler: &Ruler, before: Option<&Member>, member: &Member) -> bool
+    ensures { result ≡ option_map_or (λ other. begins_below_in ruler.now.kind other (member_of member.now)) (option_map (λ b. member_of b.now) before.entry) false }
 {
     match before {
-        Some(other) => begins_below(module, decor, kind, other, member),
+        Some(other) => begins_below(ruler, other, member),
         None => false,
     }
 }
 
 /// Some member does.
 #[tactic(auto, using(crate::proofs::Rows::overlap_rows))]
-fn any_overlap(module: &Module, decor: &Decor, kind: Kind, members: &[Member]) -> bool
-    ensures { result ≡ any_overlap_in kind None (map member_of members.now) }
+fn any_overlap(ruler: &Ruler, members: &[Member]) -> bool
+    ensures { result ≡ any_overlap_in ruler.now.kind None (map member_of members.now) }
 {
     let mut before: Option<&Member> = None;
     for member in members {
-        if overlaps(module, decor, kind, before, member) {
+        if overlaps(ruler, before, member) {
             return true;
         }
         before = Some(member);
@@ -169,21 +161,21 @@ fn any_overlap(module: &Module, decor: &Decor, kind: Kind, members: &[Member]) -
 
 /// A member breaks a rule.
 #[tactic(auto, unfolding(layout_rules::specs::Blocks::member_breaks))]
-fn member_breaks(module: &Module, decor: &Decor, kind: Kind, rule: Rule, member: &Member) -> bool
-    ensures { result ≡ member_breaks_in decor.now «module».now.globals kind rule (member_of member.now) }
+fn member_breaks(ruler: &Ruler, rule: Rule, member: &Member) -> bool
+    ensures { result ≡ member_breaks_in ruler.now.heads ruler.now.globals ruler.now.kind rule (member_of member.now) }
 {
     match rule {
         Rule::L1 => either(
             member.offset.is_none(),
-            measure_inside(module, decor, kind, member).lacks_offset,
+            measure_inside(ruler, member).lacks_offset,
         ),
-        Rule::L2 => measure_inside(module, decor, kind, member).other_stride,
-        Rule::L3 => measure_inside(module, decor, kind, member).has_bool,
-        Rule::L4 => is_misaligned(module, decor, kind, member),
-        Rule::L6 => measure_inside(module, decor, kind, member).other_offset,
+        Rule::L2 => measure_inside(ruler, member).other_stride,
+        Rule::L3 => measure_inside(ruler, member).has_bool,
+        Rule::L4 => is_misaligned(ruler, member),
+        Rule::L6 => measure_inside(ruler, member).other_offset,
         Rule::L7 => either(
-            is_end_past(module, decor, kind, member),
-            measure_inside(module, decor, kind, member).ends_past,
+            is_end_past(ruler, member),
+            measure_inside(ruler, member).ends_past,
         ),
         _ => false,
     }
@@ -191,11 +183,11 @@ fn member_breaks(module: &Module, decor: &Decor, kind: Kind, rule: Rule, member:
 
 /// Some member does.
 #[tactic(auto, using(crate::proofs::Rows::any_rows))]
-fn some_breaks(module: &Module, decor: &Decor, kind: Kind, rule: Rule, members: &[Member]) -> bool
-    ensures { result ≡ list_any (member_breaks_in decor.now «module».now.globals kind rule) (map member_of members.now) }
+fn some_breaks(ruler: &Ruler, rule: Rule, members: &[Member]) -> bool
+    ensures { result ≡ list_any (member_breaks_in ruler.now.heads ruler.now.globals ruler.now.kind rule) (map member_of members.now) }
 {
     for member in members {
-        if member_breaks(module, decor, kind, rule, member) {
+        if member_breaks(ruler, rule, member) {
             return true;
         }
     }
@@ -204,18 +196,18 @@ fn some_breaks(module: &Module, decor: &Decor, kind: Kind, rule: Rule, members: 
 
 /// A block with these members breaks a rule.
 #[tactic(auto, unfolding(layout_rules::specs::Blocks::members_break))]
-fn members_break(module: &Module, decor: &Decor, kind: Kind, rule: Rule, members: &[Member]) -> bool
-    ensures { result ≡ members_break_in decor.now «module».now.globals kind (map member_of members.now) rule }
+fn members_break(ruler: &Ruler, rule: Rule, members: &[Member]) -> bool
+    ensures { result ≡ members_break_in ruler.now.heads ruler.now.globals ruler.now.kind (map member_of members.now) rule }
 {
     match rule {
-        Rule::L5 => any_overlap(module, decor, kind, members),
-        _ => some_breaks(module, decor, kind, rule, members),
+        Rule::L5 => any_overlap(ruler, members),
+        _ => some_breaks(ruler, rule, members),
     }
 }
 
 /// The first rule that a block with these members breaks.
-pub fn first_broken(module: &Module, decor: &Decor, kind: Kind, members: &[Member]) -> Option<Rule>
-    ensures { result ≡ first_broken_in decor.now «module».now.globals kind (map member_of members.now) }
+pub fn first_broken(ruler: &Ruler, members: &[Member]) -> Option<Rule>
+    ensures { result ≡ first_broken_in ruler.now.heads ruler.now.globals ruler.now.kind (map member_of members.now) }
 {
     [
         Rule::L1,
@@ -228,5 +220,5 @@ pub fn first_broken(module: &Module, decor: &Decor, kind: Kind, members: &[Membe
     ]
     .iter()
     .copied()
-    .find(|rule| members_break(module, decor, kind, *rule, members))
+    .find(|rule| members_break(ruler, *rule, members))
 }

@@ -11,6 +11,7 @@ ghost use Rattle.buffer_layout.specs.Plan.{type_layout};
 use crate::layouts::{layout_of, zeros};
 use crate::measure::measure;
 use crate::plan::Layout;
+use crate::ruler::Ruler;
 use layout_rules::Kind;
 use spv_decor::Decor;
 use spv_module::{Id, Module, Shape};
@@ -26,10 +27,10 @@ fn place_of(module: &Module, id: Id) -> u32
 }
 
 /// The first rule that the type with this id and this shape, or a part of it, breaks by itself.
-fn first_broken(module: &Module, decor: &Decor, kind: Kind, id: u32, shape: &Shape) -> Option<Rule>
-    ensures { result ≡ find (λ rule. any_part (breaks_in decor.now kind rule) «module».now.globals id (tree_of shape.now)) type_rules }
+fn first_broken(ruler: &Ruler, id: u32, shape: &Shape) -> Option<Rule>
+    ensures { result ≡ find (λ rule. any_part (breaks_in ruler.now.heads ruler.now.kind rule) ruler.now.globals id (tree_of shape.now)) type_rules }
 {
-    let found = measure(module, decor, kind, id, shape);
+    let found = measure(ruler, id, shape);
     if found.other_stride {
         return Some(Rule::L2);
     }
@@ -65,11 +66,12 @@ pub fn layout(
     let Some(shape) = shape(alloc, module, ty)? else {
         return Ok(zeros(alloc));
     };
-    match first_broken(module, decor, kind, ty.0, &shape) {
+    let ruler = Ruler::new(module, decor, kind);
+    match first_broken(&ruler, ty.0, &shape) {
         Some(rule) => Err(Fault::Refused(Refusal {
             rule,
             at: place_of(module, variable),
         })),
-        None => Ok(layout_of(alloc, module, decor, kind, ty.0, &shape)?),
+        None => Ok(layout_of(alloc, &ruler, ty.0, &shape)?),
     }
 }

@@ -5,6 +5,6 @@ use Rattle.buffer_layout.proofs.layouts.layouts.Given as goal
 
 abbrev pub invariant-loop-member : goal.invariant-loop-member
 invariant-loop-member l = record {
-  fit : AllFit l.kind (map member_of (drop l.member-index l.members));
-  all : map type_layout l.layouts.items ++ layouts_of l.kind (map member_of (drop l.member-index l.members)) ≡ layouts_of l.kind (map member_of l.members);
+  fit : AllFit l.ruler.kind (map member_of (drop l.member-index l.members));
+  all : map type_layout l.layouts.items ++ layouts_of l.ruler.kind (map member_of (drop l.member-index l.members)) ≡ layouts_of l.ruler.kind (map member_of l.members);
 }

@@ -10,7 +10,7 @@ use Rattle.buffer_layout.proofs.layouts.offsets_behind.Goals as goal
 
 pub loop-k-preserved : goal.loop-k-preserved
 loop-k-preserved c =
-    let kind = c.args.kind in
+    let kind = c.args.ruler.now.kind in
     let l = c.args.members.now in
     let i = c.loop-k.k in
     let m = c.index-members-k.result in

@@ -7,6 +7,6 @@ use Rattle.buffer_layout.proofs.layouts.offsets_behind.Given as goal
 abbrev pub invariant-loop-k : goal.invariant-loop-k
 invariant-loop-k l = record {
   within : l.end ≤ LAST;
-  end : end_from l.kind l.end (trees_of (drop l.k l.members)) ≡ end_from l.kind 0 (trees_of l.members);
-  offsets : l.offsets.items ++ offsets_from l.kind l.end (trees_of (drop l.k l.members)) ≡ offsets_from l.kind 0 (trees_of l.members);
+  end : end_from l.ruler.kind l.end (trees_of (drop l.k l.members)) ≡ end_from l.ruler.kind 0 (trees_of l.members);
+  offsets : l.offsets.items ++ offsets_from l.ruler.kind l.end (trees_of (drop l.k l.members)) ≡ offsets_from l.ruler.kind 0 (trees_of l.members);
 }

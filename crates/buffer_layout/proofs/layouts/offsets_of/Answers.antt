@@ -10,4 +10,4 @@ pub offsets_behind-requires : goal.offsets_behind-requires
 offsets_behind-requires c =
     let ts = trees_of c.in-Struct.members.items in
     let row : tree_of c.args.shape.now ≡ struct c.in-Struct.field-0.0 ts = ap tree_of c.in-Struct.is ∙ shape-Struct c.in-Struct.field-0 c.in-Struct.members in
-    rw c.deref.ensures.value (members_fit c.args.kind c.in-Struct.field-0.0 ts (rw row at c.requires))
+    rw c.deref.ensures.value (members_fit c.args.ruler.now.kind c.in-Struct.field-0.0 ts (rw row at c.requires))

@@ -4,7 +4,7 @@ use Rattle.spv_words.specs.declared.rule.Rule.{Rule}
 use Rattle.spv_words.specs.declared.rule.Rule.TheVariants.{L1, L2, L3, L6, L7}
 use Rattle.spv_types.specs.View.{tree_of, trees_of}
 use Rattle.spv_types.proofs.Views.{shape-Bool, shape-Int, shape-Uint, shape-Vector, shape-Struct}
-use Rattle.layout_rules.specs.Sizes.{aligned, size_of}
+use Rattle.layout_rules.specs.Sizes.{aligned, whole_alignment, size_of}
 use Rattle.layout_rules.specs.Parts.{part_id, any_part, any_member}
 use Rattle.layout_rules.specs.Rules.{breaks, is_other, lacks_from, others_from}
 use Rattle.buffer_layout.specs.Measures.{IsMeasure}
@@ -14,16 +14,16 @@ use Rattle.buffer_layout.proofs.Measures.{array_measure, runtime_measure, struct
 use Rattle.buffer_layout.proofs.measure.+measuring.Goals as goal
 
 pub measure-returns-in-Bool : goal.measure-returns-in-Bool
-measure-returns-in-Bool t c = rw (ap tree_of c.in-Bool.is ∙ shape-Bool) (c.bool_scalar.ensures c.args.decor.now c.args.module.now.globals c.args.kind c.args.id)
+measure-returns-in-Bool t c = rw (ap tree_of c.in-Bool.is ∙ shape-Bool) (c.bool_scalar.ensures c.args.ruler.now.heads c.args.ruler.now.globals c.args.ruler.now.kind c.args.id)
 
 pub measure-returns-in-Int : goal.measure-returns-in-Int
-measure-returns-in-Int t c = rw (ap tree_of c.in-Int.is ∙ shape-Int) (c.int_scalar.ensures.int c.args.decor.now c.args.module.now.globals c.args.kind c.args.id)
+measure-returns-in-Int t c = rw (ap tree_of c.in-Int.is ∙ shape-Int) (c.int_scalar.ensures.int c.args.ruler.now.heads c.args.ruler.now.globals c.args.ruler.now.kind c.args.id)
 
 pub measure-returns-in-Uint : goal.measure-returns-in-Uint
-measure-returns-in-Uint t c = rw (ap tree_of c.in-Uint.is ∙ shape-Uint) (c.int_scalar-in-Uint.ensures.uint c.args.decor.now c.args.module.now.globals c.args.kind c.args.id)
+measure-returns-in-Uint t c = rw (ap tree_of c.in-Uint.is ∙ shape-Uint) (c.int_scalar-in-Uint.ensures.uint c.args.ruler.now.heads c.args.ruler.now.globals c.args.ruler.now.kind c.args.id)
 
 pub measure-returns-in-Vector : goal.measure-returns-in-Vector
-measure-returns-in-Vector t c = rw (ap tree_of c.in-Vector.is ∙ shape-Vector c.in-Vector.elem c.in-Vector.size) (c.vector.ensures c.args.decor.now c.args.module.now.globals c.args.kind c.args.id)
+measure-returns-in-Vector t c = rw (ap tree_of c.in-Vector.is ∙ shape-Vector c.in-Vector.elem c.in-Vector.size) (c.vector.ensures c.args.ruler.now.heads c.args.ruler.now.globals c.args.ruler.now.kind c.args.id)
 
 pub measure-returns-in-Struct : goal.measure-returns-in-Struct
 measure-returns-in-Struct t c = rw (ap tree_of c.in-Struct.is ∙ shape-Struct c.in-Struct.field-0 c.in-Struct.members) (rw c.deref-in-Struct.ensures.value at (c.measure_struct.ensures c.in-Struct.field-0.0))
@@ -33,7 +33,7 @@ measure_members-loop-k-init t c =
     let e = c.leaf-all.ensures in
     record {
       size = e.size;
-      greatest = omega (arith, e.alignment, greatest_positive c.args.kind (trees_of c.args.members.now));
+      greatest = omega (arith, e.alignment, greatest_positive c.args.ruler.now.kind (trees_of c.args.members.now));
       positive = omega (arith, e.alignment);
       small = omega (arith, e.alignment);
       l1 = rw e.l1 refl;
@@ -45,9 +45,9 @@ measure_members-loop-k-init t c =
 
 pub measure_members-loop-k-preserved : goal.measure_members-loop-k-preserved
 measure_members-loop-k-preserved t c =
-    let heads = c.args.decor.now in
-    let gs = c.args.module.now.globals in
-    let kind = c.args.kind in
+    let heads = c.args.ruler.now.heads in
+    let gs = c.args.ruler.now.globals in
+    let kind = c.args.ruler.now.kind in
     let id = c.args.id in
     let l = c.args.members.now in
     let i = c.loop-k.k in
@@ -81,10 +81,14 @@ measure_members-loop-k-preserved t c =
     }
 
 pub measure_array-returns : goal.measure_array-returns
-measure_array-returns t c = array_measure c.args.decor.now c.args.module.now.globals c.args.kind c.args.id (tree_of c.args.part.now) c.args.length c.measure_stride-elements.result c.whole.result c.array_size.result c.measure_stride-elements.ensures c.whole.ensures (c.array_size.ensures c.args.kind (tree_of c.args.part.now) c.measure_stride-elements.ensures.size)
+measure_array-returns t c = array_measure c.args.ruler.now.heads c.args.ruler.now.globals c.args.ruler.now.kind c.args.id (tree_of c.args.part.now) c.args.length c.measure_stride-elements.result c.whole.result c.array_size.result c.measure_stride-elements.ensures c.whole.ensures (c.array_size.ensures c.args.ruler.now.kind (tree_of c.args.part.now) c.measure_stride-elements.ensures.size)
 
 pub measure_runtime-returns : goal.measure_runtime-returns
-measure_runtime-returns t c = runtime_measure c.args.decor.now c.args.module.now.globals c.args.kind c.args.id (tree_of c.args.part.now) c.measure_stride-elements.result c.whole.result c.measure_stride-elements.ensures c.whole.ensures
+measure_runtime-returns t c = runtime_measure c.args.ruler.now.heads c.args.ruler.now.globals c.args.ruler.now.kind c.args.id (tree_of c.args.part.now) c.measure_stride-elements.result c.whole.result c.measure_stride-elements.ensures c.whole.ensures
 
 pub measure_struct-returns : goal.measure_struct-returns
-measure_struct-returns t c = λ n. struct_measure c.args.decor.now c.args.module.now.globals c.args.kind c.args.id n (trees_of c.args.members.now) c.measure_members-members.result c.whole.result c.whole_size.result c.whole_alignment.result c.measure_members-members.ensures c.whole.ensures c.whole_size.ensures c.whole_alignment.ensures.value c.whole_alignment.ensures.positive c.whole_alignment.ensures.small
+measure_struct-returns t c =
+    let parts = c.measure_members-members.result in
+    let size = c.whole_size.ensures ∙ ap (λ kind. min 4294967296 (aligned parts.size (whole_alignment kind parts.alignment))) c.kind.ensures in
+    let alignment = c.whole_alignment.ensures.value ∙ ap (λ kind. whole_alignment kind parts.alignment) c.kind-2.ensures in
+    λ n. struct_measure c.args.ruler.now.heads c.args.ruler.now.globals c.args.ruler.now.kind c.args.id n (trees_of c.args.members.now) parts c.whole.result c.whole_size.result c.whole_alignment.result c.measure_members-members.ensures c.whole.ensures size alignment c.whole_alignment.ensures.positive c.whole_alignment.ensures.small
