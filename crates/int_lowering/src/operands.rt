@@ -23,6 +23,9 @@ pub struct Arg {
     pub word: Option<u32>,
 }
 
+/// The operands of an operation that are left, in order.
+pub type Args = IntoIter<Arg>;
+
 /// The same of an operand that is a scalar or a vector.
 #[derive(Drop)]
 pub struct Operand {
@@ -102,7 +105,7 @@ impl Operand {
 
 /// The next operand, or `0u` where none is left.
 #[inline(always)]
-pub fn next_operand(args: &mut IntoIter<Arg>) -> Operand
+pub fn next_operand(args: &mut Args) -> Operand
     ensures operand { plain result ≡ first (map operand_of (into_iter_items args.old)) }
     ensures rest { map operand_of (into_iter_items args.new) ≡ rest (map operand_of (into_iter_items args.old)) }
 {
@@ -121,7 +124,7 @@ fn missing_boxed(alloc: Global, elem: Elem) -> Result<Box<Expr>, Memory>
 }
 
 /// The next operand as components of a type, for an operator over it.
-pub fn next_boxed(alloc: Global, args: &mut IntoIter<Arg>, elem: Elem) -> Result<Box<Expr>, Memory>
+pub fn next_boxed(alloc: Global, args: &mut Args, elem: Elem) -> Result<Box<Expr>, Memory>
     ensures boxed { IfOk result (λ e. expr_of e.value ≡ as_elem elem (first (map operand_of (into_iter_items args.old)))) }
     ensures rest { map operand_of (into_iter_items args.new) ≡ rest (map operand_of (into_iter_items args.old)) }
 {
@@ -143,7 +146,7 @@ fn shift_amount(alloc: Global, amount: Operand) -> Result<Expr, Memory>
 }
 
 /// The next operand as a shift amount.
-pub fn next_amount(alloc: Global, args: &mut IntoIter<Arg>) -> Result<Box<Expr>, Memory>
+pub fn next_amount(alloc: Global, args: &mut Args) -> Result<Box<Expr>, Memory>
     ensures boxed { IfOk result (λ e. expr_of e.value ≡ amount_of (first (map operand_of (into_iter_items args.old)))) }
     ensures rest { map operand_of (into_iter_items args.new) ≡ rest (map operand_of (into_iter_items args.old)) }
 {

@@ -4,17 +4,17 @@ ghost use Rattle.std.specs.Vec.Iter.{into_iter_items};
 ghost use Rattle.glsl_ast.specs.View.{expr_of};
 ghost use Rattle.glsl_ast.specs.Tree as tree;
 ghost use Rattle.op_semantics.specs.declared.operation.Unary.TheVariants.{BitCount};
-ghost use Rattle.spv_module.specs.declared.tree.Elem.TheVariants.{Int, Uint};
+ghost use Rattle.spv_module.specs.declared.tree.Elem.TheVariants.{Int};
 ghost use Rattle.int_lowering.specs.Operator.{second_operand, operated as operated_on};
 ghost use Rattle.int_lowering.specs.Operand.{operand_of, plain, converted, first, second, third, fourth};
+ghost use Rattle.int_lowering.specs.declared.built_ins.BuiltIn.TheVariants.{Min, Max};
 ghost use Rattle.int_lowering.specs.Term.{call_built_in as built_in_called};
-ghost use Rattle.int_lowering.specs.Division as division;
 ghost use Rattle.int_lowering.specs.Lowered as lowered;
 
 use crate::basic::{BasicType, same_elem};
 use crate::built_ins::{BuiltIn, call_built_in};
 use crate::division::{magnitude, signed_modulo, signed_quotient, signed_remainder};
-use crate::operands::{Arg, Operand, next_amount, next_boxed, next_operand};
+use crate::operands::{Args, Operand, next_amount, next_boxed, next_operand};
 use crate::operators::{Operator, arithmetic_operator, comparison_operator};
 use crate::terms::{binary, call_one, call_two, choose, convert, flip, literal, not};
 use glsl_ast::{BinOp, Expr};
@@ -22,15 +22,10 @@ use op_semantics::{Binary, Clamp, Comparison, Logical, Unary};
 use spv_module::Elem;
 use spv_words::Memory;
 use std::alloc::Global;
-use std::vec::IntoIter;
 
 /// The next operand, as an operator reads its second one.
 #[inline(always)]
-fn next_second(
-    alloc: Global,
-    operator: Operator,
-    args: &mut IntoIter<Arg>,
-) -> Result<Box<Expr>, Memory>
+fn next_second(alloc: Global, operator: Operator, args: &mut Args) -> Result<Box<Expr>, Memory>
     ensures { IfOk result (λ e. expr_of e.value ≡ second_operand operator (first (map operand_of (into_iter_items args.old)))) }
 {
     if operator.shifts {
@@ -41,31 +36,20 @@ fn next_second(
 }
 
 /// An operator on two operands, as a value of this type.
-fn operated(
-    alloc: Global,
-    operator: Operator,
-    ty: BasicType,
-    args: &mut IntoIter<Arg>,
-) -> Result<Expr, Memory>
-    ensures { IfOk result (λ e. expr_of e ≡ operated_on operator ty (first (map operand_of (into_iter_items args.old))) (second (map operand_of (into_iter_items args.old)))) }
+fn operated(alloc: Global, by: Operator, ty: BasicType, args: &mut Args) -> Result<Expr, Memory>
+    ensures { IfOk result (λ e. expr_of e ≡ operated_on by ty (first (map operand_of (into_iter_items args.old))) (second (map operand_of (into_iter_items args.old)))) }
 {
-    let left = next_boxed(alloc, args, operator.elem)?;
-    let right = next_second(alloc, operator, args)?;
-    operator.over(alloc, ty, left, right)
+    let left = next_boxed(alloc, args, by.elem)?;
+    let right = next_second(alloc, by, args)?;
+    by.over(alloc, ty, left, right)
 }
 
 /// A function of two operands as components of a type.
-fn function_of_both(
-    alloc: Global,
-    elem: Elem,
-    function: BuiltIn,
-    a: Operand,
-    b: Operand,
-) -> Result<Expr, Memory>
-    ensures { IfOk result (λ e. expr_of e ≡ lowered.function_of_both elem function (plain a) (plain b)) }
+fn of_both(alloc: Global, elem: Elem, f: BuiltIn, a: Operand, b: Operand) -> Result<Expr, Memory>
+    ensures { IfOk result (λ e. expr_of e ≡ lowered.function_of_both elem f (plain a) (plain b)) }
 {
     let left = a.into_elem(alloc, elem)?;
-    call_two(alloc, function, left, b.into_elem(alloc, elem)?)
+    call_two(alloc, f, left, b.into_elem(alloc, elem)?)
 }
 
 /// A function of an operand as components of a type.
@@ -76,16 +60,10 @@ fn function_of(alloc: Global, elem: Elem, function: BuiltIn, a: Operand) -> Resu
 }
 
 /// A function that answers an int, converted to a type.
-fn int_function(
-    alloc: Global,
-    ty: BasicType,
-    elem: Elem,
-    function: BuiltIn,
-    a: Operand,
-) -> Result<Expr, Memory>
-    ensures { IfOk result (λ e. expr_of e ≡ converted ty Int (lowered.function_of elem function (plain a))) }
+fn int_of(alloc: Global, ty: BasicType, elem: Elem, f: BuiltIn, a: Operand) -> Result<Expr, Memory>
+    ensures { IfOk result (λ e. expr_of e ≡ converted ty Int (lowered.function_of elem f (plain a))) }
 {
-    let of = function_of(alloc, elem, function, a)?;
+    let of = function_of(alloc, elem, f, a)?;
     convert(alloc, ty, Elem::Int, of)
 }
 
@@ -98,12 +76,7 @@ fn bit_count(alloc: Global, ty: BasicType, a: Operand) -> Result<Expr, Memory>
 }
 
 /// The operation on one operand, from the type of its result.
-pub fn unary(
-    alloc: Global,
-    op: Unary,
-    ty: BasicType,
-    args: &mut IntoIter<Arg>,
-) -> Result<Expr, Memory>
+pub fn unary(alloc: Global, op: Unary, ty: BasicType, args: &mut Args) -> Result<Expr, Memory>
     ensures { IfOk result (λ e. expr_of e ≡ lowered.unary op ty (first (map operand_of (into_iter_items args.old)))) }
 {
     let a = next_operand(args);
@@ -116,80 +89,41 @@ pub fn unary(
         Unary::BitReverse => function_of(alloc, ty.elem, BuiltIn::BitfieldReverse, a),
         Unary::BitCount => bit_count(alloc, ty, a),
         Unary::SAbs => convert(alloc, ty, Elem::Uint, magnitude(alloc, &a)?),
-        Unary::SSign => int_function(alloc, ty, Elem::Int, BuiltIn::Sign, a),
-        Unary::FindILsb => int_function(alloc, ty, Elem::Uint, BuiltIn::FindLsb, a),
-        Unary::FindSMsb => int_function(alloc, ty, Elem::Int, BuiltIn::FindMsb, a),
-        Unary::FindUMsb => int_function(alloc, ty, Elem::Uint, BuiltIn::FindMsb, a),
+        Unary::SSign => int_of(alloc, ty, Elem::Int, BuiltIn::Sign, a),
+        Unary::FindILsb => int_of(alloc, ty, Elem::Uint, BuiltIn::FindLsb, a),
+        Unary::FindSMsb => int_of(alloc, ty, Elem::Int, BuiltIn::FindMsb, a),
+        Unary::FindUMsb => int_of(alloc, ty, Elem::Uint, BuiltIn::FindMsb, a),
     }
 }
 
-/// A function of two operands as components of a type, converted to the type of the result.
-fn converted_function(
-    alloc: Global,
-    ty: BasicType,
-    elem: Elem,
-    function: BuiltIn,
-    args: &mut IntoIter<Arg>,
-) -> Result<Expr, Memory>
-    ensures { IfOk result (λ e. expr_of e ≡ converted ty elem (lowered.function_of_both elem function (first (map operand_of (into_iter_items args.old))) (second (map operand_of (into_iter_items args.old))))) }
+/// The lesser of two operands as components of a type, converted to the type of the result.
+fn lesser(alloc: Global, ty: BasicType, elem: Elem, a: Operand, b: Operand) -> Result<Expr, Memory>
+    ensures { IfOk result (λ e. expr_of e ≡ converted ty elem (lowered.function_of_both elem Min (plain a) (plain b))) }
 {
-    let a = next_operand(args);
-    let of = function_of_both(alloc, elem, function, a, next_operand(args))?;
-    convert(alloc, ty, elem, of)
+    let least = of_both(alloc, elem, BuiltIn::Min, a, b)?;
+    convert(alloc, ty, elem, least)
 }
 
-/// A quotient, converted to the type of the result.
-fn converted_quotient(
-    alloc: Global,
-    ty: BasicType,
-    args: &mut IntoIter<Arg>,
-) -> Result<Expr, Memory>
-    ensures { IfOk result (λ e. expr_of e ≡ converted ty Uint (division.signed_quotient (first (map operand_of (into_iter_items args.old))) (second (map operand_of (into_iter_items args.old))))) }
+/// The greater of them.
+fn greater(alloc: Global, ty: BasicType, elem: Elem, a: Operand, b: Operand) -> Result<Expr, Memory>
+    ensures { IfOk result (λ e. expr_of e ≡ converted ty elem (lowered.function_of_both elem Max (plain a) (plain b))) }
 {
-    let a = next_operand(args);
-    let of = signed_quotient(alloc, &a, &next_operand(args))?;
-    convert(alloc, ty, Elem::Uint, of)
-}
-
-/// A remainder with the sign of the dividend, converted to the type of the result.
-fn converted_remainder(
-    alloc: Global,
-    ty: BasicType,
-    args: &mut IntoIter<Arg>,
-) -> Result<Expr, Memory>
-    ensures { IfOk result (λ e. expr_of e ≡ converted ty Uint (division.signed_remainder (first (map operand_of (into_iter_items args.old))) (second (map operand_of (into_iter_items args.old))))) }
-{
-    let a = next_operand(args);
-    let of = signed_remainder(alloc, &a, &next_operand(args))?;
-    convert(alloc, ty, Elem::Uint, of)
-}
-
-/// A remainder with the sign of the divisor, converted to the type of the result.
-fn converted_modulo(alloc: Global, ty: BasicType, args: &mut IntoIter<Arg>) -> Result<Expr, Memory>
-    ensures { IfOk result (λ e. expr_of e ≡ converted ty Uint (division.signed_modulo (first (map operand_of (into_iter_items args.old))) (second (map operand_of (into_iter_items args.old))))) }
-{
-    let a = next_operand(args);
-    let of = signed_modulo(alloc, &a, &next_operand(args))?;
-    convert(alloc, ty, Elem::Uint, of)
+    let most = of_both(alloc, elem, BuiltIn::Max, a, b)?;
+    convert(alloc, ty, elem, most)
 }
 
 /// The operation on two operands that is no operator, from the type of its result.
-fn called(
-    alloc: Global,
-    op: Binary,
-    ty: BasicType,
-    args: &mut IntoIter<Arg>,
-) -> Result<Expr, Memory>
-    ensures { IfOk result (λ e. expr_of e ≡ lowered.called op ty (first (map operand_of (into_iter_items args.old))) (second (map operand_of (into_iter_items args.old)))) }
+fn called(alloc: Global, op: Binary, ty: BasicType, a: Operand, b: Operand) -> Result<Expr, Memory>
+    ensures { IfOk result (λ e. expr_of e ≡ lowered.called op ty (plain a) (plain b)) }
 {
     match op {
-        Binary::SDiv => converted_quotient(alloc, ty, args),
-        Binary::SRem => converted_remainder(alloc, ty, args),
-        Binary::SMod => converted_modulo(alloc, ty, args),
-        Binary::UMin => converted_function(alloc, ty, Elem::Uint, BuiltIn::Min, args),
-        Binary::SMin => converted_function(alloc, ty, Elem::Int, BuiltIn::Min, args),
-        Binary::UMax => converted_function(alloc, ty, Elem::Uint, BuiltIn::Max, args),
-        Binary::SMax => converted_function(alloc, ty, Elem::Int, BuiltIn::Max, args),
+        Binary::SDiv => convert(alloc, ty, Elem::Uint, signed_quotient(alloc, &a, &b)?),
+        Binary::SRem => convert(alloc, ty, Elem::Uint, signed_remainder(alloc, &a, &b)?),
+        Binary::SMod => convert(alloc, ty, Elem::Uint, signed_modulo(alloc, &a, &b)?),
+        Binary::UMin => lesser(alloc, ty, Elem::Uint, a, b),
+        Binary::SMin => lesser(alloc, ty, Elem::Int, a, b),
+        Binary::UMax => greater(alloc, ty, Elem::Uint, a, b),
+        Binary::SMax => greater(alloc, ty, Elem::Int, a, b),
         Binary::IAdd
         | Binary::ISub
         | Binary::IMul
@@ -209,18 +143,21 @@ pub fn binary_operation(
     alloc: Global,
     op: Binary,
     ty: BasicType,
-    args: &mut IntoIter<Arg>,
+    args: &mut Args,
 ) -> Result<Expr, Memory>
     ensures { IfOk result (λ e. expr_of e ≡ lowered.binary op ty (first (map operand_of (into_iter_items args.old))) (second (map operand_of (into_iter_items args.old)))) }
 {
     match arithmetic_operator(op, ty.elem) {
         Some(operator) => operated(alloc, operator, ty, args),
-        None => called(alloc, op, ty, args),
+        None => {
+            let a = next_operand(args);
+            called(alloc, op, ty, a, next_operand(args))
+        }
     }
 }
 
 /// Whether two words are equal, or differ: as they are where they are of one type.
-fn compared_as_they_are(alloc: Global, op: BinOp, args: &mut IntoIter<Arg>) -> Result<Expr, Memory>
+fn compared_as_they_are(alloc: Global, op: BinOp, args: &mut Args) -> Result<Expr, Memory>
     ensures { IfOk result (λ e. expr_of e ≡ lowered.compared_as_they_are op (first (map operand_of (into_iter_items args.old))) (second (map operand_of (into_iter_items args.old)))) }
 {
     let a = next_operand(args);
@@ -234,7 +171,7 @@ fn compared_as_they_are(alloc: Global, op: BinOp, args: &mut IntoIter<Arg>) -> R
 }
 
 /// The comparison of equality, or of difference.
-fn compared(alloc: Global, op: Comparison, args: &mut IntoIter<Arg>) -> Result<Expr, Memory>
+fn compared(alloc: Global, op: Comparison, args: &mut Args) -> Result<Expr, Memory>
     ensures { IfOk result (λ e. expr_of e ≡ lowered.compared op (first (map operand_of (into_iter_items args.old))) (second (map operand_of (into_iter_items args.old)))) }
 {
     let op = match op {
@@ -244,7 +181,7 @@ fn compared(alloc: Global, op: Comparison, args: &mut IntoIter<Arg>) -> Result<E
     compared_as_they_are(alloc, op, args)
 }
 
-pub fn comparison(alloc: Global, op: Comparison, args: &mut IntoIter<Arg>) -> Result<Expr, Memory>
+pub fn comparison(alloc: Global, op: Comparison, args: &mut Args) -> Result<Expr, Memory>
     ensures { IfOk result (λ e. expr_of e ≡ lowered.comparison op (first (map operand_of (into_iter_items args.old))) (second (map operand_of (into_iter_items args.old)))) }
 {
     let ty = BasicType {
@@ -257,7 +194,7 @@ pub fn comparison(alloc: Global, op: Comparison, args: &mut IntoIter<Arg>) -> Re
     }
 }
 
-pub fn logical(alloc: Global, op: Logical, args: &mut IntoIter<Arg>) -> Result<Expr, Memory>
+pub fn logical(alloc: Global, op: Logical, args: &mut Args) -> Result<Expr, Memory>
     ensures { IfOk result (λ e. expr_of e ≡ lowered.logical op (first (map operand_of (into_iter_items args.old))) (second (map operand_of (into_iter_items args.old)))) }
 {
     let op = match op {
@@ -281,18 +218,13 @@ fn clamped(
 ) -> Result<Expr, Memory>
     ensures { IfOk result (λ e. expr_of e ≡ converted ty elem (lowered.clamped elem (plain x) (plain low) (plain high))) }
 {
-    let raised = function_of_both(alloc, elem, BuiltIn::Max, x, low)?;
+    let raised = of_both(alloc, elem, BuiltIn::Max, x, low)?;
     let high = high.into_elem(alloc, elem)?;
     let of = call_two(alloc, BuiltIn::Min, raised, high)?;
     convert(alloc, ty, elem, of)
 }
 
-pub fn clamp(
-    alloc: Global,
-    op: Clamp,
-    ty: BasicType,
-    args: &mut IntoIter<Arg>,
-) -> Result<Expr, Memory>
+pub fn clamp(alloc: Global, op: Clamp, ty: BasicType, args: &mut Args) -> Result<Expr, Memory>
     ensures { IfOk result (λ e. expr_of e ≡ lowered.clamp op ty (first (map operand_of (into_iter_items args.old))) (second (map operand_of (into_iter_items args.old))) (third (map operand_of (into_iter_items args.old)))) }
 {
     let x = next_operand(args);
@@ -305,12 +237,7 @@ pub fn clamp(
 }
 
 /// A bit field of an operand as components of a type, read with or without a sign.
-pub fn extract(
-    alloc: Global,
-    elem: Elem,
-    ty: BasicType,
-    args: &mut IntoIter<Arg>,
-) -> Result<Expr, Memory>
+pub fn extract(alloc: Global, elem: Elem, ty: BasicType, args: &mut Args) -> Result<Expr, Memory>
     ensures { IfOk result (λ e. expr_of e ≡ lowered.extracted elem ty (first (map operand_of (into_iter_items args.old))) (second (map operand_of (into_iter_items args.old))) (third (map operand_of (into_iter_items args.old)))) }
 {
     let x = next_operand(args).into_elem(alloc, elem)?;
@@ -321,7 +248,7 @@ pub fn extract(
     convert(alloc, ty, elem, of)
 }
 
-pub fn insert(alloc: Global, elem: Elem, args: &mut IntoIter<Arg>) -> Result<Expr, Memory>
+pub fn insert(alloc: Global, elem: Elem, args: &mut Args) -> Result<Expr, Memory>
     ensures { IfOk result (λ e. expr_of e ≡ lowered.inserted elem (first (map operand_of (into_iter_items args.old))) (second (map operand_of (into_iter_items args.old))) (third (map operand_of (into_iter_items args.old))) (fourth (map operand_of (into_iter_items args.old)))) }
 {
     let base = next_operand(args).into_elem(alloc, elem)?;
@@ -332,24 +259,20 @@ pub fn insert(alloc: Global, elem: Elem, args: &mut IntoIter<Arg>) -> Result<Exp
     call_built_in(alloc, BuiltIn::BitfieldInsert, parts)
 }
 
-pub fn logical_not(alloc: Global, args: &mut IntoIter<Arg>) -> Result<Expr, Memory>
+pub fn logical_not(alloc: Global, args: &mut Args) -> Result<Expr, Memory>
     ensures { IfOk result (λ e. expr_of e ≡ tree.not (first (map operand_of (into_iter_items args.old))).expr) }
 {
     not(alloc, next_operand(args).expr)
 }
 
 /// A function of an operand as it is.
-pub fn function_of_next(
-    alloc: Global,
-    function: BuiltIn,
-    args: &mut IntoIter<Arg>,
-) -> Result<Expr, Memory>
+pub fn function_of_next(alloc: Global, function: BuiltIn, args: &mut Args) -> Result<Expr, Memory>
     ensures { IfOk result (λ e. expr_of e ≡ built_in_called function ((first (map operand_of (into_iter_items args.old))).expr ∷ [])) }
 {
     call_one(alloc, function, next_operand(args).expr)
 }
 
-pub fn select(alloc: Global, args: &mut IntoIter<Arg>) -> Result<Expr, Memory>
+pub fn select(alloc: Global, args: &mut Args) -> Result<Expr, Memory>
     ensures { IfOk result (λ e. expr_of e ≡ tree.choose (first (map operand_of (into_iter_items args.old))).expr (second (map operand_of (into_iter_items args.old))).expr (third (map operand_of (into_iter_items args.old))).expr) }
 {
     let test = next_operand(args);
@@ -358,7 +281,7 @@ pub fn select(alloc: Global, args: &mut IntoIter<Arg>) -> Result<Expr, Memory>
 }
 
 /// A value as it is, converted to the type of the result.
-pub fn copy(alloc: Global, ty: BasicType, args: &mut IntoIter<Arg>) -> Result<Expr, Memory>
+pub fn copy(alloc: Global, ty: BasicType, args: &mut Args) -> Result<Expr, Memory>
     ensures { IfOk result (λ e. expr_of e ≡ converted ty (first (map operand_of (into_iter_items args.old))).ty.elem (first (map operand_of (into_iter_items args.old))).expr) }
 {
     let a = next_operand(args);

@@ -37,10 +37,8 @@ fn converting(op: BinOp, elem: Elem) -> Operator
     ensures { result ≡ operator.converting op elem }
 {
     Operator {
-        op,
-        elem,
-        shifts: false,
         converts: true,
+        ..plain(op, elem)
     }
 }
 
@@ -49,10 +47,9 @@ fn shifting(op: BinOp, elem: Elem, converts: bool) -> Operator
     ensures { result ≡ operator.shifting op elem converts }
 {
     Operator {
-        op,
-        elem,
         shifts: true,
         converts,
+        ..plain(op, elem)
     }
 }
 

@@ -1,14 +1,15 @@
 -- Operations on vectors, as GLSL writes them on vectors or component by component.
-use Rattle.std.specs.Prelude.{ℕ, zero, suc, ◌==◌, Bool, true, false, List, [], ◌∷◌, ◌++◌, map, Option, Some, None, codes, is_none, if◌then◌else◌}
+use Rattle.std.specs.Prelude.{ℕ, zero, suc, ◌==◌, Bool, true, false, List, [], ◌∷◌, ◌++◌, map, Option, Some, None, codes, is_none, is_some, if◌then◌else◌}
 use Rattle.spv_module.specs.declared.tree.Elem.{Elem}
+use Rattle.spv_module.specs.declared.tree.Elem.TheVariants as elem
 use Rattle.glsl_ast.specs.Tree.{Text, Expr, build, exprs_in}
 use Rattle.op_semantics.specs.declared.operation.Unary.TheVariants.{SNegate, Not}
 use Rattle.op_semantics.specs.declared.operation.Binary.{Binary}
-use Rattle.op_semantics.specs.declared.operation.Binary.TheVariants.{IAdd, ISub, IMul, UDiv, UMod, ShiftRightLogical, ShiftRightArithmetic, ShiftLeftLogical, BitwiseOr, BitwiseXor, BitwiseAnd}
 use Rattle.op_semantics.specs.declared.operation.Operation.{Operation}
 use Rattle.op_semantics.specs.declared.operation.Operation.TheVariants as op
 use Rattle.int_lowering.specs.declared.basic.BasicType.{BasicType}
 use Rattle.int_lowering.specs.Operand.{Operand, scalar, type_named, first}
+use Rattle.int_lowering.specs.Operator.{arithmetic_operator}
 use Rattle.int_lowering.specs.Lowered.{applied}
 
 -- the names of components (GLSL 4.60, section 5.5)
@@ -33,20 +34,9 @@ abbrev pub by_component : Operation → Elem → ℕ → List Operand → Expr
 by_component o e n xs =
     build (type_named (record { elem = e; size = Some n })) (exprs_in (each_below n (λ k. applied o (scalar e) (map (component k) xs))))
 
--- operators that GLSL has on vectors too (GLSL 4.60, section 5.9)
+-- the operation is one operator, which GLSL has on vectors too (GLSL 4.60, section 5.9)
 abbrev pub is_operator : Binary → Bool
-is_operator IAdd = true
-is_operator ISub = true
-is_operator IMul = true
-is_operator UDiv = true
-is_operator UMod = true
-is_operator ShiftRightLogical = true
-is_operator ShiftRightArithmetic = true
-is_operator ShiftLeftLogical = true
-is_operator BitwiseOr = true
-is_operator BitwiseXor = true
-is_operator BitwiseAnd = true
-is_operator _ = false
+is_operator o = is_some (arithmetic_operator o elem.Uint)
 
 -- an operation that is written on vectors as on scalars, where its first operand is of this type; so is a choice by one bool
 abbrev pub is_alike : Operation → BasicType → Bool

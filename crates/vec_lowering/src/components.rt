@@ -7,7 +7,7 @@ ghost use Rattle.int_lowering.specs.Operand.{operand_of, basic_type as basic_typ
 ghost use Rattle.vec_lowering.specs.Component as component;
 
 use glsl_ast::{Expr, Name};
-use int_lowering::{Arg, BasicType, basic_type, lower_operation, type_name};
+use int_lowering::{Arg, BasicType, arithmetic_operator, basic_type, lower_operation, type_name};
 use op_semantics::{Binary, Operation, Unary};
 use spv_module::{Elem, Shape};
 use spv_words::Memory;
@@ -98,24 +98,11 @@ fn by_component(
     Expr::build(alloc, type_name(alloc, BasicType { elem, size }), parts)
 }
 
-/// GLSL has an operator on vectors too (GLSL 4.60, section 5.9).
+/// The operation is one operator, which GLSL has on vectors too (GLSL 4.60, section 5.9).
 fn is_operator(op: Binary) -> bool
     ensures { result ≡ component.is_operator op }
 {
-    matches!(
-        op,
-        Binary::IAdd
-            | Binary::ISub
-            | Binary::IMul
-            | Binary::UDiv
-            | Binary::UMod
-            | Binary::ShiftRightLogical
-            | Binary::ShiftRightArithmetic
-            | Binary::ShiftLeftLogical
-            | Binary::BitwiseOr
-            | Binary::BitwiseXor
-            | Binary::BitwiseAnd
-    )
+    arithmetic_operator(op, Elem::Uint).is_some()
 }
 
 /// An operation is written on vectors as on scalars, where its first operand is of this type.
