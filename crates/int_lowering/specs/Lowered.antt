@@ -13,7 +13,7 @@ use Rattle.op_semantics.specs.declared.operation.Unary.TheVariants.{SNegate, Not
 use Rattle.op_semantics.specs.declared.operation.Binary.{Binary}
 use Rattle.op_semantics.specs.declared.operation.Binary.TheVariants.{SDiv, SRem, SMod, UMin, SMin, UMax, SMax}
 use Rattle.op_semantics.specs.declared.operation.Comparison.{Comparison}
-use Rattle.op_semantics.specs.declared.operation.Comparison.TheVariants.{INotEqual}
+use Rattle.op_semantics.specs.declared.operation.Comparison.TheVariants.{IEqual, INotEqual, UGreaterThan, SGreaterThan, UGreaterThanEqual, SGreaterThanEqual, ULessThan, SLessThan, ULessThanEqual, SLessThanEqual}
 use Rattle.op_semantics.specs.declared.operation.Logical.{Logical}
 use Rattle.op_semantics.specs.declared.operation.Logical.TheVariants.{LogicalEqual, LogicalNotEqual, LogicalOr, LogicalAnd}
 use Rattle.op_semantics.specs.declared.operation.Clamp.{Clamp}
@@ -73,13 +73,21 @@ binary_by None op ty a b = called op ty a b
 abbrev pub binary : Binary → BasicType → Operand → Operand → Expr
 binary o ty a b = binary_by (arithmetic_operator o ty.elem) o ty a b
 
--- equal words are compared as they are where they are of one type
+-- equal words are compared as they are where they are of one type; other comparisons have operators
 abbrev pub compared_as_they_are : BinOp → Operand → Operand → Expr
 compared_as_they_are o a b = if same_elem a.ty.elem b.ty.elem then tree.binary o a.expr b.expr else both_as elem.Uint o a b
 
 abbrev pub compared : Comparison → Operand → Operand → Expr
+compared IEqual a b = compared_as_they_are Equal a b
 compared INotEqual a b = compared_as_they_are NotEqual a b
-compared _ a b = compared_as_they_are Equal a b
+compared UGreaterThan a b = compared_as_they_are Equal a b
+compared SGreaterThan a b = compared_as_they_are Equal a b
+compared UGreaterThanEqual a b = compared_as_they_are Equal a b
+compared SGreaterThanEqual a b = compared_as_they_are Equal a b
+compared ULessThan a b = compared_as_they_are Equal a b
+compared SLessThan a b = compared_as_they_are Equal a b
+compared ULessThanEqual a b = compared_as_they_are Equal a b
+compared SLessThanEqual a b = compared_as_they_are Equal a b
 
 abbrev pub comparison_by : Option Operator → Comparison → Operand → Operand → Expr
 comparison_by (Some o) op a b = operated o (scalar elem.Bool) a b

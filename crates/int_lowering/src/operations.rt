@@ -175,8 +175,17 @@ fn compared(alloc: Global, op: Comparison, args: &mut Args) -> Result<Expr, Memo
     ensures { IfOk result (λ e. expr_of e ≡ lowered.compared op (first (map operand_of (into_iter_items args.old))) (second (map operand_of (into_iter_items args.old)))) }
 {
     let op = match op {
+        Comparison::IEqual => BinOp::Equal,
         Comparison::INotEqual => BinOp::NotEqual,
-        _ => BinOp::Equal,
+        // each has an operator
+        Comparison::UGreaterThan
+        | Comparison::SGreaterThan
+        | Comparison::UGreaterThanEqual
+        | Comparison::SGreaterThanEqual
+        | Comparison::ULessThan
+        | Comparison::SLessThan
+        | Comparison::ULessThanEqual
+        | Comparison::SLessThanEqual => BinOp::Equal,
     };
     compared_as_they_are(alloc, op, args)
 }
