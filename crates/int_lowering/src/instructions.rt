@@ -34,16 +34,11 @@ pub fn operation(op: Op, ext: u32) -> Option<Operation>
 
 /// The expression of an operation, from the type of its result and its operands.
 #[inline(always)]
-fn write_operation(
-    alloc: Global,
-    operation: Operation,
-    ty: BasicType,
-    operands: Vec<Arg>,
-) -> Result<Expr, Memory>
-    ensures { IfOk result (λ e. expr_of e ≡ lowered.applied operation ty (map operand_of operands.items)) }
+fn written(alloc: Global, op: Operation, ty: BasicType, operands: Vec<Arg>) -> Result<Expr, Memory>
+    ensures { IfOk result (λ e. expr_of e ≡ lowered.applied op ty (map operand_of operands.items)) }
 {
     let args = &mut operands.into_iter();
-    match operation {
+    match op {
         Operation::Unary(op) => unary(alloc, op, ty, args),
         Operation::Binary(op) => binary_operation(alloc, op, ty, args),
         Operation::Comparison(op) => comparison(alloc, op, args),
@@ -67,8 +62,26 @@ fn write_operation(
     }
 }
 
-/// The expression of an opcode's operation, or a zero where it has none.
-fn write_opcode(
+/// The expression of an operation whose result is of this type, where GLSL writes it on vectors as on scalars: all operations
+/// with a scalar result, and of those on vectors OpIAdd to OpIMul, OpUDiv, OpUMod, OpSNegate, the shifts, the bitwise
+/// operations, OpNot, OpBitcast, OpCopyObject and OpSelect by one bool (GLSL 4.60, sections 5.9 and 8.8).
+///
+/// An operand that is not there counts as `0u`, and of an operation that is none on scalars the expression is a zero. There is
+/// an error only for want of memory.
+pub fn lower_operation(
+    alloc: Global,
+    operation: Operation,
+    ty: BasicType,
+    operands: Vec<Arg>,
+) -> Result<Expr, Memory>
+    ensures lowered { IfOk result (λ e. expr_of e ≡ lowered.applied operation ty (map operand_of operands.items)) }
+    ensures height { IfOk result (λ e. height (expr_of e) ≤ 40 + highest_operand (map operand_of operands.items)) }
+{
+    written(alloc, operation, ty, operands)
+}
+
+/// The expression of an opcode's operation with a result of this type, or a zero where it has none.
+fn written_opcode(
     alloc: Global,
     op: Op,
     ext: u32,
@@ -79,40 +92,8 @@ fn write_opcode(
 {
     match operation(op, ext) {
         None => Ok(literal(ty.elem, 0)),
-        Some(operation) => write_operation(alloc, operation, ty, operands),
+        Some(operation) => written(alloc, operation, ty, operands),
     }
-}
-
-/// What `lower_basic` says of an opcode that stands for this operation.
-pub fn lower_operation(
-    alloc: Global,
-    operation: Operation,
-    ty: BasicType,
-    operands: Vec<Arg>,
-) -> Result<Expr, Memory>
-    ensures lowered { IfOk result (λ e. expr_of e ≡ lowered.applied operation ty (map operand_of operands.items)) }
-    ensures height { IfOk result (λ e. height (expr_of e) ≤ 40 + highest_operand (map operand_of operands.items)) }
-{
-    write_operation(alloc, operation, ty, operands)
-}
-
-/// The expression of an operation whose result is of this type, where GLSL writes it on vectors as on scalars: all operations
-/// with a scalar result, and of those on vectors OpIAdd to OpIMul, OpUDiv, OpUMod, OpSNegate, the shifts, the bitwise
-/// operations, OpNot, OpBitcast, OpCopyObject and OpSelect by one bool (GLSL 4.60, sections 5.9 and 8.8).
-///
-/// `op` is the opcode and `ext`, of OpExtInst, the number in GLSL.std.450. An operand that is not there counts as `0u`, and of
-/// an opcode that is no operation on scalars the expression is a zero. There is an error only for want of memory.
-pub fn lower_basic(
-    alloc: Global,
-    op: Op,
-    ext: u32,
-    ty: BasicType,
-    operands: Vec<Arg>,
-) -> Result<Expr, Memory>
-    ensures lowered { IfOk result (λ e. expr_of e ≡ lowered.lowered_basic op ext ty (map operand_of operands.items)) }
-    ensures height { IfOk result (λ e. height (expr_of e) ≤ 40 + highest_operand (map operand_of operands.items)) }
-{
-    write_opcode(alloc, op, ext, ty, operands)
 }
 
 /// The expression of an operation with a scalar result of this type: arithmetic, divisions, shifts, bitwise and bit field
@@ -131,5 +112,5 @@ pub fn lower(
     ensures lowered { IfOk result (λ e. expr_of e ≡ lowered.lowered op ext elem (map operand_of operands.items)) }
     ensures height { IfOk result (λ e. height (expr_of e) ≤ 40 + highest_operand (map operand_of operands.items)) }
 {
-    lower_basic(alloc, op, ext, BasicType { elem, size: None }, operands)
+    written_opcode(alloc, op, ext, BasicType { elem, size: None }, operands)
 }

@@ -13,7 +13,7 @@ mod terms;
 
 pub use basic::{BasicType, basic_type, type_name};
 pub use built_ins::BuiltIn;
-pub use instructions::{lower, lower_basic, lower_operation, operation};
+pub use instructions::{lower, lower_operation, operation};
 pub use operands::Arg;
 pub use operators::{Operator, arithmetic_operator, comparison_operator, modulo_32};
 pub use terms::{convert, literal};

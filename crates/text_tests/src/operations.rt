@@ -1,7 +1,7 @@
 // Operations as text.
 use crate::printed::const_text;
 use glsl_ast::{Expr, Name};
-use int_lowering::{Arg, BasicType, basic_type, literal, lower, lower_basic, operation, type_name};
+use int_lowering::{Arg, BasicType, basic_type, literal, lower, lower_operation, operation, type_name};
 use op_semantics::{Operation, Unary};
 use spv_module::{Elem, Shape};
 use spv_ops::Op;
@@ -43,9 +43,9 @@ fn an_operation_as_text(rt: HostRuntime) -> Result<(), Fail> {
 }
 
 // An operation on one vector, as text.
-fn on_vector(alloc: Global, op: Op, shape: &Shape, arg: Arg) -> Result<Vec<u8>, Fail> {
+fn on_vector(alloc: Global, op: Operation, shape: &Shape, arg: Arg) -> Result<Vec<u8>, Fail> {
     let args = vec![in alloc; arg]?;
-    let expr = lower_basic(alloc, op, 0, basic_type(shape), args)?;
+    let expr = lower_operation(alloc, op, basic_type(shape), args)?;
     text_of(alloc, basic_type(shape), expr)
 }
 
@@ -53,7 +53,7 @@ fn on_vector(alloc: Global, op: Op, shape: &Shape, arg: Arg) -> Result<Vec<u8>, 
 fn an_operation_on_vectors(rt: HostRuntime) -> Result<(), Fail> {
     let shape = Shape::Vector(Elem::Int, 2);
     let v = variable(rt.alloc(), "v", Shape::Vector(Elem::Int, 2))?;
-    let text = on_vector(rt.alloc(), Op::Not, &shape, v)?;
+    let text = on_vector(rt.alloc(), Operation::Unary(Unary::Not), &shape, v)?;
     assert!(rt; text.ends_with(b"const ivec2 c = ~v;\n"));
     Ok(())
 }

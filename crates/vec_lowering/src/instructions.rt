@@ -137,24 +137,6 @@ fn write_operation(
     }
 }
 
-/// The expression of an opcode's operation, or a zero where it has none.
-fn write_opcode(
-    alloc: Global,
-    op: Op,
-    ext: u32,
-    shape: &Shape,
-    operands: Vec<Arg>,
-    extra: &[u32],
-    names: &Names,
-) -> Result<Expr, Memory>
-    ensures { IfOk result (λ e. expr_of e ≡ lowered.lowered_vector (naming_of names.now) op ext (tree_of shape.now) extra.now (map argument_of operands.items)) }
-{
-    match operation(op, ext) {
-        None => Ok(literal(basic_type(shape).elem, 0)),
-        Some(operation) => write_operation(alloc, op, operation, shape, operands, extra, names),
-    }
-}
-
 /// The expression of an operation with a result of this shape, which may be a vector, an array or a struct: what `lower` says of
 /// scalars; on vectors GLSL's operators, and else a constructor of the components (GLSL 4.60, sections 5.4 and 5.9);
 /// OpCompositeConstruct, OpVectorShuffle and OpCopyLogical as constructors; OpCompositeExtract and OpVectorExtractDynamic as
@@ -176,5 +158,8 @@ pub fn lower_vector(
     ensures lowered { IfOk result (λ e. expr_of e ≡ lowered.lowered_vector (naming_of names.now) op ext (tree_of shape) extra.now (map argument_of operands.items)) }
     ensures height { IfOk result (λ e. depth (tree_of shape) ≤ 15 → deepest_argument (map argument_of operands.items) ≤ 15 → height (expr_of e) ≤ 40 + highest_argument (map argument_of operands.items)) }
 {
-    write_opcode(alloc, op, ext, &shape, operands, extra, names)
+    match operation(op, ext) {
+        None => Ok(literal(basic_type(&shape).elem, 0)),
+        Some(operation) => write_operation(alloc, op, operation, &shape, operands, extra, names),
+    }
 }

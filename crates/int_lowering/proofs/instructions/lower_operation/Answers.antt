@@ -6,4 +6,4 @@ use Rattle.int_lowering.proofs.instructions.lower_operation.Goals as goal
 
 pub returns-clause-height : goal.returns-clause-height
 returns-clause-height c =
-    height-operation c.write_operation.result c.args.operation c.args.ty (map operand_of c.args.operands.items) c.write_operation.ensures
+    height-operation c.written.result c.args.operation c.args.ty (map operand_of c.args.operands.items) c.written.ensures
