@@ -13,8 +13,9 @@ use spv_module::{Elem, Shape};
 use spv_words::Memory;
 use std::alloc::Global;
 
+/// The name of a component of a vector, by its number (GLSL 4.60, section 5.5). From 3 on it is that of the last.
 #[tactic(auto, unfolding(crate::specs::Component::axis_name))]
-fn axis_text(k: u32) -> &'static str
+pub fn axis_text(k: u32) -> &'static str
     ensures { result.now ≡ component.axis_name k }
 {
     match k {

@@ -9,6 +9,7 @@ mod instructions;
 mod names;
 mod operators;
 
+pub use components::axis_text;
 pub use instructions::lower_vector;
 pub use names::shape_type;
 pub use operators::operator;
