@@ -13,7 +13,7 @@ returns-in-None-clause-height c =
     let is_lowered : expr_of c.literal.result ≡ lowered_vector (naming_of c.args.names.now) c.args.op c.args.ext (tree_of c.args.shape) c.args.extra.now (map argument_of c.args.operands.items) = search rules in
     height-result (Ok c.literal.result) (naming_of c.args.names.now) c.args.op c.args.ext (tree_of c.args.shape) c.args.extra.now (map argument_of c.args.operands.items) is_lowered
 
-pub returns-in-Some-clause-height : goal.returns-in-Some-clause-height
-returns-in-Some-clause-height c =
+pub returns-clause-height : goal.returns-clause-height
+returns-clause-height c =
     let is_lowered : IfOk c.write_operation.result (λ e. expr_of e ≡ lowered_vector (naming_of c.args.names.now) c.args.op c.args.ext (tree_of c.args.shape) c.args.extra.now (map argument_of c.args.operands.items)) = search rules in
     height-result c.write_operation.result (naming_of c.args.names.now) c.args.op c.args.ext (tree_of c.args.shape) c.args.extra.now (map argument_of c.args.operands.items) is_lowered
