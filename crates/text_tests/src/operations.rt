@@ -1,7 +1,9 @@
 // Operations as text.
 use crate::printed::const_text;
 use glsl_ast::{Expr, Name};
-use int_lowering::{Arg, BasicType, basic_type, literal, lower, lower_operation, operation, type_name};
+use int_lowering::{
+    Arg, BasicType, basic_type, literal, lower, lower_operation, operation, type_name,
+};
 use op_semantics::{Operation, Unary};
 use spv_module::{Elem, Shape};
 use spv_ops::Op;
