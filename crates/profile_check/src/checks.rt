@@ -59,29 +59,6 @@ pub struct Profile {
     pub blocks: Vec<BlockPlan>,
 }
 
-/// Judges accesses, overrides and the number of scalars.
-#[tactic(auto, using(crate::proofs::Causes::rest_causes))]
-fn check_uses(
-    alloc: Global,
-    module: &Module,
-    decor: &Decor,
-    functions: &[Locals],
-    overrides: &Overrides,
-) -> Result<(), Fault>
-    requires heads { decor.now ≡ «module».now.heads }
-    requires functions { functions.now ≡ «module».now.functions }
-    ensures within { OnOk result (leaves_of_module «module».now ≤ limit_number Leaves) }
-    ensures accessed { OnOk result (NoRuleBroken (BreaksAccess «module».now) access_rules) }
-    ensures known { OnOk result (breaks_x3 «module».now overrides.now.pairs.items ≡ false) }
-    ensures fits { OnOk result (breaks_x4 «module».now overrides.now.pairs.items ≡ false) }
-    ensures refused { IfErr result (IsRestRight «module».now overrides.now.pairs.items) }
-{
-    check_leaves(alloc, module)?;
-    check_accesses(alloc, module, decor, functions)?;
-    check_overrides(alloc, module, decor, &overrides.pairs)?;
-    Ok(())
-}
-
 /// Judges what the rules on declarations leave open; a block that many variables have is laid out once.
 ///
 /// It refuses by the limits on leaves and on types; by L1 to L7, the layout of blocks (SPIR-V 1.6,
@@ -107,7 +84,9 @@ pub fn check_rest(
     ensures fits { OnOk result (breaks_x4 «module».now overrides.now.pairs.items ≡ false) }
     ensures refused { IfErr result (IsRestRight «module».now overrides.now.pairs.items) }
 {
-    check_uses(alloc, module, decor, functions, overrides)?;
+    check_leaves(alloc, module)?;
+    check_accesses(alloc, module, decor, functions)?;
+    check_overrides(alloc, module, decor, &overrides.pairs)?;
     check_layouts(alloc, module, decor)?;
     Ok(())
 }
@@ -143,13 +122,9 @@ pub fn check_data(
     let Entry { function, size } = check_declarations(alloc, module, decor, options.entry_name())?;
     check_limits(alloc, module)?;
     let functions = locals_of(alloc, module.functions())?;
-    check_uses(
-        alloc,
-        module,
-        decor,
-        functions.as_slice(),
-        &options.overrides,
-    )?;
+    check_leaves(alloc, module)?;
+    check_accesses(alloc, module, decor, functions.as_slice())?;
+    check_overrides(alloc, module, decor, &options.overrides.pairs)?;
     let blocks = plans(alloc, module, decor)?;
     Ok(Profile {
         entry: function,
