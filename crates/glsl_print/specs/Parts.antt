@@ -55,9 +55,13 @@ args_from (suc i) es = more_args_text es
 abbrev pub named_text : TypeName → Text → Text
 named_text t w = type_text t ++ (mark_text mark.Space ++ w)
 
--- a value, and the end of the line
-abbrev pub value_text : Expr → Text
-value_text e = mark_text mark.Equals ++ (expr_text e ++ mark_text mark.End)
+-- a type and a name, and the end of the line
+abbrev pub line_text : TypeName → Text → Text
+line_text t w = type_text t ++ (mark_text mark.Space ++ (w ++ mark_text mark.End))
+
+-- a value behind a fixed piece, and the end of the line
+abbrev pub value_text : Mark → Expr → Text
+value_text m e = mark_text m ++ (expr_text e ++ mark_text mark.End)
 
 -- a block up to its name
 abbrev pub memory_text : BlockPlace → BlockRules → List Qual → Bool → Text

@@ -4,7 +4,7 @@ ghost use Rattle.glsl_ast.specs.View.{expr_of, exprs_of};
 ghost use Rattle.glsl_grammar.specs.Layout.{op_mark as mark_of, expr_text, operand_text, args_text};
 ghost use Rattle.glsl_grammar.specs.Levels.{unary_level};
 ghost use Rattle.glsl_grammar.specs.Marks.{mark_text};
-ghost use Rattle.glsl_print.specs.Parts.{separator_text, text_unless};
+ghost use Rattle.glsl_print.specs.Parts.{separator_text, text_unless, value_text};
 ghost use Rattle.glsl_print.specs.Printed.{Goes};
 
 use crate::page::Page;
@@ -170,4 +170,12 @@ pub fn print_separator<K: Sink>(i: usize, sink: &mut K, page: &mut Page)
     if i > 0 {
         page.put_mark(Mark::Comma, sink);
     }
+}
+
+/// Prints a value behind a fixed piece, and the end of the line.
+pub fn print_value<K: Sink>(mark: Mark, value: &Expr, sink: &mut K, page: &mut Page)
+    ensures { Goes K.written K.faults K.wants sink.old page.old (value_text mark (expr_of value.now)) sink.new page.new }
+{
+    page.put_mark(mark, sink);
+    print_part(value, Mark::End, sink, page);
 }

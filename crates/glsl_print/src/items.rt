@@ -5,10 +5,10 @@ ghost use Rattle.glsl_ast.specs.Tree as tree;
 ghost use Rattle.glsl_ast.specs.View.{name_text, type_of, expr_of, field_of, member_of, param_of, stmts_of, decl_of};
 ghost use Rattle.glsl_grammar.specs.Layout.{rules_mark as mark_of_rules, kind_mark as mark_of_kind, inout_text, qual_mark as mark_of_qual, place_text, quals_text, field_text, fields_text, member_text, members_text, param_text, params_text, more_params_text, result_type_text, const_text, body_text, decl_text, decls_text};
 ghost use Rattle.glsl_grammar.specs.Marks.{mark_text};
-ghost use Rattle.glsl_print.specs.Parts.{named_text, value_text, memory_text, instance_text, block_text, head_text, offset_text};
+ghost use Rattle.glsl_print.specs.Parts.{named_text, line_text, memory_text, instance_text, block_text, head_text, offset_text};
 ghost use Rattle.glsl_print.specs.Printed.{Goes};
 
-use crate::expressions::print_part;
+use crate::expressions::print_value;
 use crate::level::Level;
 use crate::page::Page;
 use crate::statements::print_body;
@@ -28,20 +28,19 @@ fn print_named<K: Sink>(ty: &TypeName, name: &Name, sink: &mut K, page: &mut Pag
     page.put(name.as_bytes(), sink);
 }
 
-// Prints a value, and the end of the line.
-fn print_value<K: Sink>(value: &Expr, sink: &mut K, page: &mut Page)
-    ensures { Goes K.written K.faults K.wants sink.old page.old (value_text (expr_of value.now)) sink.new page.new }
+// Prints a type and a name, and the end of the line.
+fn print_line<K: Sink>(ty: &TypeName, name: &Name, sink: &mut K, page: &mut Page)
+    ensures { Goes K.written K.faults K.wants sink.old page.old (line_text (type_of ty.now) (name_text name.now)) sink.new page.new }
 {
-    page.put_mark(Mark::Equals, sink);
-    print_part(value, Mark::End, sink, page);
+    print_named(ty, name, sink, page);
+    page.put_mark(Mark::End, sink);
 }
 
 fn print_field<K: Sink>(field: &Field, sink: &mut K, page: &mut Page)
     ensures { Goes K.written K.faults K.wants sink.old page.old (field_text (field_of field.now)) sink.new page.new }
 {
     page.put_mark(Mark::Indent, sink);
-    print_named(&field.ty, &field.name, sink, page);
-    page.put_mark(Mark::End, sink);
+    print_line(&field.ty, &field.name, sink, page);
 }
 
 fn print_fields<K: Sink>(fields: &[Field], sink: &mut K, page: &mut Page)
@@ -86,8 +85,7 @@ fn print_member<K: Sink>(member: &Member, sink: &mut K, page: &mut Page)
 {
     print_offset(member.offset, sink, page);
     print_quals(&member.quals, sink, page);
-    print_named(&member.ty, &member.name, sink, page);
-    page.put_mark(Mark::End, sink);
+    print_line(&member.ty, &member.name, sink, page);
 }
 
 fn print_members<K: Sink>(members: &[Member], sink: &mut K, page: &mut Page)
@@ -259,7 +257,7 @@ fn print_const<K: Sink>(
 {
     print_const_start(id, sink, page);
     print_named(ty, name, sink, page);
-    print_value(value, sink, page);
+    print_value(Mark::Equals, value, sink, page);
 }
 
 fn print_function<K: Sink>(
@@ -300,12 +298,11 @@ fn print_decl<K: Sink>(decl: &Decl, sink: &mut K, page: &mut Page)
         } => print_const(*id, ty, name, value, sink, page),
         Decl::Shared { ty, name } => {
             page.put_mark(Mark::Shared, sink);
-            print_named(ty, name, sink, page);
-            page.put_mark(Mark::End, sink);
+            print_line(ty, name, sink, page);
         }
         Decl::Global { ty, name, value } => {
             print_named(ty, name, sink, page);
-            print_value(value, sink, page);
+            print_value(Mark::Equals, value, sink, page);
         }
         Decl::Block {
             place,

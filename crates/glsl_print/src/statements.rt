@@ -5,10 +5,10 @@ ghost use Rattle.glsl_ast.specs.View.{name_text, type_of, expr_of, step_of, lval
 ghost use Rattle.glsl_grammar.specs.Layout.{expr_text, indent_text, type_text, steps_text, lvalue_text, start_text, result_text, label_text, labels_text, stmt_text, body_text, arms_text};
 ghost use Rattle.glsl_grammar.specs.Marks.{mark_text};
 ghost use Rattle.glsl_print.specs.Level.{level_of};
-ghost use Rattle.glsl_print.specs.Parts.{step_text, inner_text, if_text, else_text, body_of};
+ghost use Rattle.glsl_print.specs.Parts.{step_text, value_text, inner_text, if_text, else_text, body_of};
 ghost use Rattle.glsl_print.specs.Printed.{Goes};
 
-use crate::expressions::{print_args, print_part};
+use crate::expressions::{print_args, print_part, print_value};
 use crate::level::Level;
 use crate::page::Page;
 use crate::types::{print_literal, print_type};
@@ -53,12 +53,11 @@ fn print_steps<K: Sink>(steps: &[LStep], sink: &mut K, page: &mut Page)
 }
 
 fn print_assign<K: Sink>(place: &LValue, value: &Expr, sink: &mut K, page: &mut Page)
-    ensures { Goes K.written K.faults K.wants sink.old page.old (lvalue_text (lvalue_of place.now) ++ (mark_text Mark.Equals ++ (expr_text (expr_of value.now) ++ mark_text Mark.End))) sink.new page.new }
+    ensures { Goes K.written K.faults K.wants sink.old page.old (lvalue_text (lvalue_of place.now) ++ value_text Mark.Equals (expr_of value.now)) sink.new page.new }
 {
     page.put(place.name.as_bytes(), sink);
     print_steps(&place.steps, sink, page);
-    page.put_mark(Mark::Equals, sink);
-    print_part(value, Mark::End, sink, page);
+    print_value(Mark::Equals, value, sink, page);
 }
 
 // Prints the value that a declaration begins with, and the end of the line.
@@ -67,10 +66,7 @@ fn print_start<K: Sink>(value: &Option<Expr>, sink: &mut K, page: &mut Page)
 {
     match value {
         None => page.put_mark(Mark::End, sink),
-        Some(value) => {
-            page.put_mark(Mark::Equals, sink);
-            print_part(value, Mark::End, sink, page);
-        }
+        Some(value) => print_value(Mark::Equals, value, sink, page),
     }
 }
 
@@ -94,10 +90,7 @@ fn print_return<K: Sink>(value: &Option<Expr>, sink: &mut K, page: &mut Page)
 {
     match value {
         None => page.put_mark(Mark::ReturnVoid, sink),
-        Some(value) => {
-            page.put_mark(Mark::Return, sink);
-            print_part(value, Mark::End, sink, page);
-        }
+        Some(value) => print_value(Mark::Return, value, sink, page),
     }
 }
 
