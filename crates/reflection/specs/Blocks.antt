@@ -11,6 +11,8 @@ use Rattle.glsl_ast.specs.declared.items.Qual.TheVariants.{Coherent, Volatile, R
 use Rattle.glsl_grammar.specs.Layout.{type_text}
 use Rattle.serde_json.specs.Data.{Data, number, unsigned, string, object, member, no_members}
 use Rattle.reflection.specs.Sizes.{number_or_null, array_of}
+use Rattle.reflection.specs.declared.blocks.Told.{Told}
+use Rattle.reflection.specs.declared.blocks.Told.TheVariants.{Blocks, SharedVariables}
 
 abbrev pub set_number : BlockPlace → Option ℕ
 set_number (Set set binding) = Some set
@@ -56,3 +58,8 @@ block_data _ = None
 abbrev pub shared_data : Decl → Option Data
 shared_data (shared ty name) = Some (object (member (codes "name") (string name) (member (codes "type") (string (type_text ty)) no_members)))
 shared_data _ = None
+
+-- of an item, where the list tells of such
+abbrev pub item_data : Told → Decl → Option Data
+item_data Blocks = block_data
+item_data SharedVariables = shared_data

@@ -2,7 +2,7 @@
 ghost use Rattle.std.specs.Prelude.{◌≡◌, codes, map, option_map, IfOk};
 ghost use Rattle.std.specs.List.{filter_map};
 ghost use Rattle.glsl_ast.specs.View.{decl_of, member_of};
-ghost use Rattle.reflection.specs.Blocks.{set_number, binding_number, kind_text, rules_text, qualifier_text, member_data, qualifier_data, block_data, shared_data};
+ghost use Rattle.reflection.specs.Blocks.{set_number, binding_number, kind_text, rules_text, qualifier_text, member_data, qualifier_data, block_data, shared_data, item_data};
 ghost use Rattle.serde_json.specs.View.{view};
 
 use crate::sizes::optional;
@@ -113,19 +113,6 @@ fn block_value(alloc: Global, item: &Decl) -> Result<Option<Value>, AllocError>
     }
 }
 
-/// What is told of the blocks among the items.
-pub fn blocks(alloc: Global, items: &[Decl]) -> Result<Vec<Value>, AllocError>
-    ensures { IfOk result (λ list. map view list.items ≡ filter_map block_data (map decl_of items.now)) }
-{
-    let mut list = Vec::new(alloc);
-    for item in items {
-        if let Some(value) = block_value(alloc, item)? {
-            list.push(value)?;
-        }
-    }
-    Ok(list)
-}
-
 /// What is told of an item that is a shared variable.
 fn shared_value(alloc: Global, item: &Decl) -> Result<Option<Value>, AllocError>
     ensures { IfOk result (λ v. option_map view v ≡ shared_data (decl_of item.now)) }
@@ -139,13 +126,29 @@ fn shared_value(alloc: Global, item: &Decl) -> Result<Option<Value>, AllocError>
     }
 }
 
-/// What is told of the shared variables among the items.
-pub fn shared(alloc: Global, items: &[Decl]) -> Result<Vec<Value>, AllocError>
-    ensures { IfOk result (λ list. map view list.items ≡ filter_map shared_data (map decl_of items.now)) }
+/// The items of which a list tells.
+#[derive(Clone, Copy)]
+pub enum Told {
+    Blocks,
+    SharedVariables,
+}
+
+fn item_value(alloc: Global, told: Told, item: &Decl) -> Result<Option<Value>, AllocError>
+    ensures { IfOk result (λ v. option_map view v ≡ item_data told (decl_of item.now)) }
+{
+    match told {
+        Told::Blocks => block_value(alloc, item),
+        Told::SharedVariables => shared_value(alloc, item),
+    }
+}
+
+/// What is told of the blocks, or of the shared variables, among the items.
+pub fn items_told(alloc: Global, told: Told, items: &[Decl]) -> Result<Vec<Value>, AllocError>
+    ensures { IfOk result (λ list. map view list.items ≡ filter_map (item_data told) (map decl_of items.now)) }
 {
     let mut list = Vec::new(alloc);
     for item in items {
-        if let Some(value) = shared_value(alloc, item)? {
+        if let Some(value) = item_value(alloc, told, item)? {
             list.push(value)?;
         }
     }

@@ -7,7 +7,7 @@ ghost use Rattle.module_check.specs.Judged.{IsRead, IsFine, IsFault};
 ghost use Rattle.reflection.specs.Report.{is_entry_point, entry_name as entry_name_in, report_data, IsReport};
 ghost use Rattle.serde_json.specs.View.{view};
 
-use crate::blocks::{blocks, shared};
+use crate::blocks::{Told, items_told};
 use crate::constants::constants;
 use crate::sizes::{size_ids_value, size_value};
 use emit_glsl::translate;
@@ -54,9 +54,9 @@ pub fn report_of(
     ensures { IfOk result (λ v. view v ≡ report_data «module».now (option_map (λ n. n.now) name.entry) (unit_of unit.now)) }
 {
     json!(in alloc; {
-        "blocks": blocks(alloc, &unit.items)?,
+        "blocks": items_told(alloc, Told::Blocks, &unit.items)?,
         "entry": entry_name(alloc, name, module.heads())?,
-        "shared": shared(alloc, &unit.items)?,
+        "shared": items_told(alloc, Told::SharedVariables, &unit.items)?,
         "size": size_value(alloc, &unit.sizes)?,
         "size_ids": size_ids_value(alloc, &unit.sizes)?,
         "spec": constants(alloc, unit, module, decor)?,

@@ -1,6 +1,6 @@
 // The size of workgroups.
-ghost use Rattle.std.specs.Prelude.{◌≡◌, IfOk};
-ghost use Rattle.reflection.specs.Sizes.{number_at, id_at, number_or_null, size_data, size_ids_data};
+ghost use Rattle.std.specs.Prelude.{◌≡◌, ◌∷◌, [], map, IfOk};
+ghost use Rattle.reflection.specs.Sizes.{number_at, id_at, number_or_null, array_of, size_data, size_ids_data};
 ghost use Rattle.serde_json.specs.View.{view};
 
 use glsl_ast::Size;
@@ -37,24 +37,33 @@ pub fn optional(number: Option<u32>) -> Value
     }
 }
 
+/// What stands along the three axes, null where nothing does.
+fn along_axes(
+    alloc: Global,
+    x: Option<u32>,
+    y: Option<u32>,
+    z: Option<u32>,
+) -> Result<Value, AllocError>
+    ensures { IfOk result (λ v. view v ≡ array_of (map number_or_null (x ∷ y ∷ z ∷ []))) }
+{
+    json!(in alloc; [optional(x), optional(y), optional(z)])
+}
+
 /// The three numbers.
 pub fn size_value(alloc: Global, sizes: &[Size]) -> Result<Value, AllocError>
     ensures { IfOk result (λ v. view v ≡ size_data sizes.now) }
 {
-    json!(in alloc; [
-        optional(number_of(sizes, 0)),
-        optional(number_of(sizes, 1)),
-        optional(number_of(sizes, 2)),
-    ])
+    along_axes(
+        alloc,
+        number_of(sizes, 0),
+        number_of(sizes, 1),
+        number_of(sizes, 2),
+    )
 }
 
 /// The three SpecIds.
 pub fn size_ids_value(alloc: Global, sizes: &[Size]) -> Result<Value, AllocError>
     ensures { IfOk result (λ v. view v ≡ size_ids_data sizes.now) }
 {
-    json!(in alloc; [
-        optional(id_of(sizes, 0)),
-        optional(id_of(sizes, 1)),
-        optional(id_of(sizes, 2)),
-    ])
+    along_axes(alloc, id_of(sizes, 0), id_of(sizes, 1), id_of(sizes, 2))
 }
