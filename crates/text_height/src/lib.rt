@@ -3,8 +3,10 @@
 
 mod expressions;
 mod items;
+mod limit;
 mod statements;
 mod types;
 mod unit;
 
+use limit::Limit;
 pub use unit::is_within;

@@ -3,7 +3,7 @@ ghost use Rattle.std.specs.Prelude.{◌≡◌, ◌≤◌, nat_le, IsTrue};
 ghost use Rattle.glsl_ast.specs.Height.{unit_height};
 ghost use Rattle.glsl_ast.specs.View.{unit_of};
 
-use crate::items::are_low_items;
+use crate::Limit;
 use glsl_ast::Unit;
 
 /// Whether the tree of the text is at most so high, where its height is the greatest number of items, statements, expressions
@@ -13,5 +13,5 @@ pub fn is_within(unit: &Unit, limit: u32) -> bool
     ensures tested { result ≡ nat_le (unit_height (unit_of unit.now)) limit }
     ensures low { IsTrue result → unit_height (unit_of unit.now) ≤ limit }
 {
-    are_low_items(&unit.items, limit)
+    Limit { most: limit }.holds_items(&unit.items)
 }

@@ -8,5 +8,5 @@ use Rattle.text_height.proofs.unit.is_within.Goals as goal
 
 pub returns-clause-low : goal.returns-clause-low
 returns-clause-low c = λ t.
-    let seen = subst (λ (ds : List Decl). c.are_low_items.result ≡ list_all (λ d. nat_le (decl_height (decl_of d)) c.args.limit) ds) c.deref.ensures.value c.are_low_items.ensures in
-    within (unit_height (unit_of c.args.unit.now)) c.args.limit c.are_low_items.result (seen ∙ sym (each_low decl_height decl_of c.args.unit.now.items.items c.args.limit)) t
+    let seen = subst (λ (ds : List Decl). c.holds_items.result ≡ list_all (λ d. nat_le (decl_height (decl_of d)) c.args.limit) ds) c.deref.ensures.value c.holds_items.ensures in
+    within (unit_height (unit_of c.args.unit.now)) c.args.limit c.holds_items.result (seen ∙ sym (each_low decl_height decl_of c.args.unit.now.items.items c.args.limit)) t
