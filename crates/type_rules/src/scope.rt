@@ -1,16 +1,17 @@
 // Types, and the types of values, as an instruction sees them.
-ghost use Rattle.std.specs.Prelude.{◌≡◌, not};
+ghost use Rattle.std.specs.Prelude.{◌≡◌, not, Some, None, if◌then◌else◌};
 ghost use Rattle.std.specs.Option.{option_copied};
 ghost use Rattle.spv_ops.specs.Opcode.{is};
 ghost use Rattle.spv_module.specs.Held.{global};
+ghost use Rattle.spv_decor.specs.Rows.{word};
 ghost use Rattle.spv_index.specs.Pointers.{pointee, storage_class};
 ghost use Rattle.spv_index.specs.ValueTypes.{is_no_value_type};
 ghost use Rattle.profile_rules.specs.NumberRules.{pointee_of};
-ghost use Rattle.profile_rules.specs.TypeRows.{type_row, fails, is_void, is_uint, differ, value_fails, is_other, component, size, constant_word};
+ghost use Rattle.profile_rules.specs.TypeRows.{type_row, fails, is_void, is_uint, differ, value_fails, is_other, is_vector, component, size, constant_word as constant_word_of};
 ghost use Rattle.type_rules.specs.Scopes.{types, scalars, scalars_of, outside, inside};
 
 use crate::index::ModuleIndex;
-use spv_index::{Locals, global_type, pointer, type_in};
+use spv_index::{Locals, constant_word, global_type, pointer, type_in};
 use spv_module::{Id, Inst};
 use spv_ops::Op;
 use std::marker::Model;
@@ -29,6 +30,18 @@ impl<'a, 'b> Model for Scope<'a, 'b> {
     ghost Value = { Scoped };
 
     ghost view = { λ s. record { m = s.index.now; function = option_copied s.locals } };
+}
+
+/// Operand k of a vector type.
+#[inline(always)]
+fn vector_word(row: &Inst, k: usize) -> Option<u32>
+    ensures { result ≡ (if is_vector row.now then Some (word row.now k) else None) }
+{
+    if row.op == Op::TypeVector {
+        Some(row.operand(k))
+    } else {
+        None
+    }
 }
 
 impl<'a, 'b> Scope<'a, 'b> {
@@ -158,24 +171,14 @@ impl<'a, 'b> Scope<'a, 'b> {
     pub fn component(&self, ty: u32) -> Option<u32>
         ensures { result ≡ component self.now.m.globals ty }
     {
-        let row = self.type_row(ty)?;
-        if row.op == Op::TypeVector {
-            Some(row.operand(0))
-        } else {
-            None
-        }
+        vector_word(self.type_row(ty)?, 0)
     }
 
     /// The number of components of a vector type.
     pub fn size(&self, ty: u32) -> Option<u32>
         ensures { result ≡ size self.now.m.globals ty }
     {
-        let row = self.type_row(ty)?;
-        if row.op == Op::TypeVector {
-            Some(row.operand(1))
-        } else {
-            None
-        }
+        vector_word(self.type_row(ty)?, 1)
     }
 
     /// How many scalars that this opcode declares a scalar or vector type is made of, and 0 of every
@@ -229,13 +232,8 @@ impl<'a, 'b> Scope<'a, 'b> {
 
     /// The word of an OpConstant.
     pub fn constant_word(&self, id: u32) -> Option<u32>
-        ensures { result ≡ constant_word self.now.m.globals id }
+        ensures { result ≡ constant_word_of self.now.m.globals id }
     {
-        let inst = self.global(id)?;
-        if inst.op == Op::Constant {
-            Some(inst.operand(0))
-        } else {
-            None
-        }
+        constant_word(self.index.module(), id)
     }
 }
