@@ -17,31 +17,6 @@ use std::alloc::{AllocError, Global};
 use std::collections::BTreeMap;
 use std::marker::Model;
 
-/// A module, its types that are no value types, its functions and its imports by id. Contracts see
-/// the module.
-#[derive(Drop)]
-pub struct ModuleIndex<'a> {
-    source: &'a Module,
-    values: ValueTypes<'a>,
-    functions: Functions<'a>,
-    // the word at which each import stands
-    imports: BTreeMap<u32, u32>,
-}
-
-impl<'a> Model for ModuleIndex<'a> {
-    ghost use Rattle.std.specs.BTreeMap.{get};
-    ghost use Rattle.std.specs.Ordering.{nat_cmp};
-    ghost use Rattle.spv_module.specs.State.{ModuleState};
-
-    ghost Value = { ModuleState };
-
-    ghost use Rattle.type_rules.specs.Indexed.{IsIndex};
-
-    ghost view = { λ i. i.source.now };
-
-    ghost invariant = { λ i. IsIndex i.source.now i.values i.functions (get nat_cmp i.imports) };
-}
-
 /// Puts a value under a key that has none.
 fn put_first(map: &mut BTreeMap<u32, u32>, key: u32, value: u32) -> Result<(), AllocError>
     ensures { OnOk result ((id : ℕ) → get nat_cmp map.new id ≡ or_entry (get nat_cmp map.old id) key value id) }
@@ -63,6 +38,30 @@ fn imports_of(alloc: Global, heads: &[Inst]) -> Result<BTreeMap<u32, u32>, Alloc
         }
     }
     Ok(imports)
+}
+
+/// A module, its types that are no value types, its functions and its imports by id. Contracts see
+/// the module.
+#[derive(Drop)]
+pub struct ModuleIndex<'a> {
+    source: &'a Module,
+    values: ValueTypes<'a>,
+    functions: Functions<'a>,
+    // the word at which each import stands
+    imports: BTreeMap<u32, u32>,
+}
+
+impl<'a> Model for ModuleIndex<'a> {
+    ghost use Rattle.std.specs.BTreeMap.{get};
+    ghost use Rattle.std.specs.Ordering.{nat_cmp};
+    ghost use Rattle.spv_module.specs.State.{ModuleState};
+    ghost use Rattle.type_rules.specs.Indexed.{IsIndex};
+
+    ghost Value = { ModuleState };
+
+    ghost view = { λ i. i.source.now };
+
+    ghost invariant = { λ i. IsIndex i.source.now i.values i.functions (get nat_cmp i.imports) };
 }
 
 impl<'a> ModuleIndex<'a> {
