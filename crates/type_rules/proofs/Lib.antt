@@ -7,3 +7,4 @@ mod Repeats
 mod Matched
 mod Refused
 mod Needed
+pub mod Contents

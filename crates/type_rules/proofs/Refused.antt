@@ -1,5 +1,7 @@
 -- Refusals of lists that are put together.
-use Rattle.std.proofs.Common.{◌≡◌, ◌<◌, ◌≤◌, ◌+◌, ◌==◌, ℕ, zero, suc, true, false, Some, Result, IfErr, if◌then◌else◌, arith, List, [], ◌∷◌, ◌++◌, length, take, get_or, ap, sym, ◌∙◌, subst}
+use Rattle.std.proofs.Common.{◌≡◌, ◌<◌, ◌≤◌, ◌+◌, ◌==◌, ℕ, zero, suc, true, false, Bool, ◌||◌, refl, Some, Result, IfErr, if◌then◌else◌, arith, List, [], ◌∷◌, ◌++◌, length, take, get_or, ap, sym, ◌∙◌, subst}
+use Rattle.std.specs.Prelude.{IfOk}
+use Rattle.std.proofs.lemmas.Result.{IfOk-weaker}
 use Rattle.std.specs.List.{flat_map, Contains}
 use Rattle.std.proofs.lemmas.Bool.Decides.{nat_tests}
 use Rattle.std.proofs.lemmas.List.{take_more, take_all, append-nil}
@@ -97,3 +99,13 @@ rules_right m (Exceeded l) h = absurd h
 rules_right m Memory h = h
 
 pub ruleset checked_rules = (none_broken, limits_right, rules_right)
+
+-- what is judged outside functions too
+pub flow_none : {E : Type 0} (r : Result Bool E) (a : Bool) → IfOk r (λ b. b ≡ a) → IfOk r (λ b. b ≡ (a || false))
+flow_none r a h = IfOk-weaker r (λ b. b ≡ a) (λ b. b ≡ (a || false)) (λ b e. e ∙ or_no a) h
+  where
+    or_no : (x : Bool) → x ≡ (x || false)
+    or_no true = refl
+    or_no false = refl
+
+pub ruleset flow_rules = (flow_none)

@@ -3,3 +3,4 @@ pub mod Indexed
 pub mod Edges
 pub mod Matches
 pub mod Needed
+pub mod Judging

@@ -21,14 +21,14 @@ pub fn points_to_other(scope: &Scope, pointer: u32, ty: u32) -> bool
 
 /// Whether a value is not of the type to which a pointer points.
 #[inline(always)]
+#[tactic(auto, using(crate::proofs::Contents::content_rules))]
 pub fn is_no_content(scope: &Scope, pointer: u32, id: u32) -> bool
     ensures { result ≡ is_other_content scope.now.m.globals (types scope.now) pointer id }
 {
-    scope.value_fails(Op::TypePointer, pointer)
-        || match scope.pointee_of(pointer) {
-            Some(pointee) => scope.is_other(pointee, id),
-            None => false,
-        }
+    match scope.type_of(id) {
+        Some(ty) => points_to_other(scope, pointer, ty),
+        None => scope.value_fails(Op::TypePointer, pointer),
+    }
 }
 
 /// T25: OpAtomicLoad, OpAtomicIIncrement, OpAtomicIDecrement.

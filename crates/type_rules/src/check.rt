@@ -1,24 +1,22 @@
 // The instructions and functions of a module, one by one.
-ghost use Rattle.std.specs.Prelude.{◌≡◌, [], true, IfOk, IfErr, OnOk, flat_map, map, is_some};
-ghost use Rattle.spv_index.specs.Locals.{block_in};
+ghost use Rattle.std.specs.Prelude.{◌≡◌, [], IfOk, IfErr, OnOk, flat_map, map};
 ghost use Rattle.std.specs.List.{list_any};
 ghost use Rattle.spv_words.specs.Breaks.{NoRuleBroken};
 ghost use Rattle.profile_rules.specs.Operands.{lacks_type, breaks_t1_of};
-ghost use Rattle.profile_rules.specs.TypeRules.{Broken, type_rules, is_broken_outside as is_at_fault_outside, is_broken_in as is_at_fault_in, broken_if, broken_as, broken_inside, broken_by_global, broken_by_local, broken_by_block, broken_by_function, broken, is_sound, AreWithin, IsRefusedBy, IsRight, inner as inner_of};
+ghost use Rattle.profile_rules.specs.TypeRules.{Broken, type_rules, broken_if, broken_as, broken_inside, broken_by_global, broken_by_local, broken_by_block, broken_by_function, broken, is_sound, AreWithin, IsRefusedBy, IsRight, inner as inner_of};
 ghost use Rattle.type_rules.specs.Scopes.{outside, inside};
 
-use crate::dispatch::{is_flow_broken, is_number_broken, is_value_broken, rule_of};
-use crate::edges::LazyEdges;
-use crate::flow::is_function_broken;
+use crate::dispatch::rule_of;
+use crate::flow::{is_broken_in, is_function_broken};
 use crate::index::ModuleIndex;
-use crate::matching::Matching;
+use crate::judge::{InBlock, Judge};
 use crate::numbers::behind;
 use crate::operands::{is_global, is_lacking};
 use crate::scope::Scope;
 use profile_rules::Need;
 use spv_index::Locals;
-use spv_module::{Args, Block, Function, Inst, Module};
-use spv_ops::{Op, OpGroup};
+use spv_module::{Args, Function, Inst, Module};
+use spv_ops::Op;
 use spv_types::check_limits;
 use spv_words::{Fault, Memory, Refusal, Rule};
 use std::alloc::{AllocError, Global};
@@ -34,31 +32,15 @@ fn refuse_if(is_broken: bool, rule: Rule, at: u32) -> Result<(), Fault>
     Ok(())
 }
 
-/// Whether an instruction outside functions is at fault.
-fn is_broken_outside(
-    matching: &mut Matching,
-    scope: &Scope,
-    inst: &Inst,
-    group: OpGroup,
-) -> Result<bool, Memory>
-    requires same_module { matching.old ≡ scope.now.m }
-    requires scope { scope.now ≡ outside scope.now.m }
-    ensures value { IfOk result (λ b. b ≡ is_at_fault_outside scope.now.m inst.now group) }
-    ensures same { matching.new ≡ matching.old }
-{
-    Ok(is_value_broken(matching, scope, inst, group)? || is_number_broken(scope, inst, group))
-}
-
 /// Checks an instruction outside functions, judged as one with this opcode.
-fn check_as(matching: &mut Matching, scope: &Scope, inst: &Inst, op: Op) -> Result<(), Fault>
-    requires same_module { matching.old ≡ scope.now.m }
-    requires scope { scope.now ≡ outside scope.now.m }
-    ensures passes { OnOk result (broken_as scope.now.m inst.now op ≡ []) }
-    ensures refused { IfErr result (IsRefusedBy (broken_as scope.now.m inst.now op)) }
-    ensures same { matching.new ≡ matching.old }
+fn check_as(judge: &mut Judge, inst: &Inst, op: Op) -> Result<(), Fault>
+    requires { judge.old ≡ outside judge.old.m }
+    ensures passes { OnOk result (broken_as judge.old.m inst.now op ≡ []) }
+    ensures refused { IfErr result (IsRefusedBy (broken_as judge.old.m inst.now op)) }
+    ensures same { judge.new ≡ judge.old }
 {
     let group = op.group();
-    let is_broken = is_broken_outside(matching, scope, inst, group)?;
+    let is_broken = judge.is_broken(inst, group)?;
     refuse_if(is_broken, rule_of(group), inst.at)
 }
 
@@ -76,17 +58,11 @@ fn inner(alloc: Global, inst: &Inst) -> Result<Inst, AllocError>
 }
 
 /// Checks the instruction inside an OpSpecConstantOp.
-fn check_inside(
-    alloc: Global,
-    matching: &mut Matching,
-    scope: &Scope,
-    inst: &Inst,
-) -> Result<(), Fault>
-    requires same_module { matching.old ≡ scope.now.m }
-    requires scope { scope.now ≡ outside scope.now.m }
-    ensures passes { OnOk result (broken_inside scope.now.m inst.now ≡ []) }
-    ensures refused { IfErr result (IsRefusedBy (broken_inside scope.now.m inst.now)) }
-    ensures same { matching.new ≡ matching.old }
+fn check_inside(judge: &mut Judge, inst: &Inst) -> Result<(), Fault>
+    requires { judge.old ≡ outside judge.old.m }
+    ensures passes { OnOk result (broken_inside judge.old.m inst.now ≡ []) }
+    ensures refused { IfErr result (IsRefusedBy (broken_inside judge.old.m inst.now)) }
+    ensures same { judge.new ≡ judge.old }
 {
     if inst.op != Op::SpecConstantOp {
         return Ok(());
@@ -94,43 +70,31 @@ fn check_inside(
     let Some(op) = Op::of_word(inst.operand(0)) else {
         return Ok(());
     };
-    let inside = inner(alloc, inst)?;
-    check_as(matching, scope, &inside, op)
+    let inside = inner(judge.alloc(), inst)?;
+    check_as(judge, &inside, op)
 }
 
 /// Checks an instruction outside functions.
 #[tactic(auto, using(crate::proofs::Refused::list_rules))]
-fn check_global(
-    alloc: Global,
-    matching: &mut Matching,
-    scope: &Scope,
-    inst: &Inst,
-) -> Result<(), Fault>
-    requires same_module { matching.old ≡ scope.now.m }
-    requires scope { scope.now ≡ outside scope.now.m }
-    ensures passes { OnOk result (broken_by_global scope.now.m inst.now ≡ []) }
-    ensures refused { IfErr result (IsRefusedBy (broken_by_global scope.now.m inst.now)) }
-    ensures same { matching.new ≡ matching.old }
+fn check_global(judge: &mut Judge, inst: &Inst) -> Result<(), Fault>
+    requires { judge.old ≡ outside judge.old.m }
+    ensures passes { OnOk result (broken_by_global judge.old.m inst.now ≡ []) }
+    ensures refused { IfErr result (IsRefusedBy (broken_by_global judge.old.m inst.now)) }
+    ensures same { judge.new ≡ judge.old }
 {
-    refuse_if(is_lacking(scope, inst), Rule::T1, inst.at)?;
-    check_as(matching, scope, inst, inst.op)?;
-    check_inside(alloc, matching, scope, inst)
+    refuse_if(is_lacking(judge.scope(), inst), Rule::T1, inst.at)?;
+    check_as(judge, inst, inst.op)?;
+    check_inside(judge, inst)
 }
 
 /// Whether an instruction outside functions breaks no rule on types.
 #[tactic(auto, using(crate::proofs::Refused::sound_rules))]
-fn is_global_sound(
-    alloc: Global,
-    matching: &mut Matching,
-    scope: &Scope,
-    inst: &Inst,
-) -> Result<bool, Memory>
-    requires same_module { matching.old ≡ scope.now.m }
-    requires scope { scope.now ≡ outside scope.now.m }
-    ensures value { IfOk result (λ sound. sound ≡ is_sound scope.now.m inst.now) }
-    ensures same { matching.new ≡ matching.old }
+fn is_global_sound(judge: &mut Judge, inst: &Inst) -> Result<bool, Memory>
+    requires { judge.old ≡ outside judge.old.m }
+    ensures value { IfOk result (λ sound. sound ≡ is_sound judge.old.m inst.now) }
+    ensures same { judge.new ≡ judge.old }
 {
-    match check_global(alloc, matching, scope, inst) {
+    match check_global(judge, inst) {
         Ok(()) => Ok(true),
         Err(Fault::Refused(_)) => Ok(false),
         Err(Fault::Limit(_) | Fault::Memory) => Err(Memory),
@@ -145,11 +109,10 @@ fn sound_among<'a>(
 ) -> Result<Vec<bool>, Memory>
     ensures { IfOk result (λ sound. sound.items ≡ map (is_sound index.now) globals.now) }
 {
-    let mut matching = Matching::of(alloc, index);
-    let scope = Scope::outside(index);
+    let mut judge = Judge::of(alloc, index);
     let mut sound = Vec::with_capacity(alloc, globals.len())?;
     for inst in globals {
-        sound.push(is_global_sound(alloc, &mut matching, &scope, inst)?)?;
+        sound.push(is_global_sound(&mut judge, inst)?)?;
     }
     Ok(sound)
 }
@@ -164,118 +127,58 @@ pub fn sound_globals(alloc: Global, module: &Module) -> Result<Vec<bool>, Memory
 }
 
 /// Checks the instructions outside functions.
-fn check_globals(
-    alloc: Global,
-    matching: &mut Matching,
-    scope: &Scope,
-    globals: &[Inst],
-) -> Result<(), Fault>
-    requires same_module { matching.old ≡ scope.now.m }
-    requires scope { scope.now ≡ outside scope.now.m }
-    ensures passes { OnOk result (flat_map (broken_by_global scope.now.m) globals.now ≡ []) }
-    ensures refused { IfErr result (IsRefusedBy (flat_map (broken_by_global scope.now.m) globals.now)) }
-    ensures same { matching.new ≡ matching.old }
+fn check_globals(judge: &mut Judge, globals: &[Inst]) -> Result<(), Fault>
+    requires { judge.old ≡ outside judge.old.m }
+    ensures passes { OnOk result (flat_map (broken_by_global judge.old.m) globals.now ≡ []) }
+    ensures refused { IfErr result (IsRefusedBy (flat_map (broken_by_global judge.old.m) globals.now)) }
+    ensures same { judge.new ≡ judge.old }
 {
     for inst in globals {
-        check_global(alloc, matching, scope, inst)?;
+        check_global(judge, inst)?;
     }
     Ok(())
-}
-
-/// Whether an instruction of a block, of this group, is at fault.
-fn is_broken_in<'b>(
-    alloc: Global,
-    matching: &mut Matching,
-    scope: &Scope,
-    locals: &Locals<'b>,
-    edges: &mut LazyEdges<'b>,
-    block: &Block,
-    inst: &Inst,
-    group: OpGroup,
-) -> Result<bool, Memory>
-    requires same_module { matching.old ≡ scope.now.m }
-    requires edges { edges.old ≡ locals.now }
-    requires scope { scope.now ≡ inside scope.now.m locals.now }
-    requires known { is_some (block_in locals.now block.now.label.0) ≡ true }
-    ensures value { IfOk result (λ b. b ≡ is_at_fault_in scope.now.m locals.now block.now inst.now group) }
-    ensures same { matching.new ≡ matching.old }
-    ensures same_edges { edges.new ≡ edges.old }
-{
-    Ok(
-        is_value_broken(matching, scope, inst, group)?
-            || is_number_broken(scope, inst, group)
-            || is_flow_broken(alloc, scope, locals, edges, block, inst, group)?,
-    )
 }
 
 /// Checks an instruction of a block.
 #[tactic(auto, using(crate::proofs::Refused::list_rules))]
 fn check_local<'b>(
-    alloc: Global,
-    matching: &mut Matching,
-    scope: &Scope,
-    locals: &Locals<'b>,
-    edges: &mut LazyEdges<'b>,
-    block: &Block,
+    judge: &mut Judge<'_, 'b>,
+    here: &InBlock<'_, 'b>,
     inst: &Inst,
 ) -> Result<(), Fault>
-    requires same_module { matching.old ≡ scope.now.m }
-    requires edges { edges.old ≡ locals.now }
-    requires scope { scope.now ≡ inside scope.now.m locals.now }
-    requires known { is_some (block_in locals.now block.now.label.0) ≡ true }
-    ensures passes { OnOk result (broken_by_local scope.now.m locals.now block.now inst.now ≡ []) }
-    ensures refused { IfErr result (IsRefusedBy (broken_by_local scope.now.m locals.now block.now inst.now)) }
-    ensures same { matching.new ≡ matching.old }
-    ensures same_edges { edges.new ≡ edges.old }
+    requires { judge.old ≡ inside judge.old.m here.now.function }
+    ensures passes { OnOk result (broken_by_local judge.old.m here.now.function here.now.block inst.now ≡ []) }
+    ensures refused { IfErr result (IsRefusedBy (broken_by_local judge.old.m here.now.function here.now.block inst.now)) }
+    ensures same { judge.new ≡ judge.old }
 {
-    refuse_if(is_lacking(scope, inst), Rule::T1, inst.at)?;
+    refuse_if(is_lacking(judge.scope(), inst), Rule::T1, inst.at)?;
     let group = inst.op.group();
-    let is_broken = is_broken_in(alloc, matching, scope, locals, edges, block, inst, group)?;
+    let is_broken = is_broken_in(judge, here, inst, group)?;
     refuse_if(is_broken, rule_of(group), inst.at)
 }
 
 /// Checks the instructions of a block.
-fn check_block<'b>(
-    alloc: Global,
-    matching: &mut Matching,
-    scope: &Scope,
-    locals: &Locals<'b>,
-    edges: &mut LazyEdges<'b>,
-    block: &Block,
-) -> Result<(), Fault>
-    requires same_module { matching.old ≡ scope.now.m }
-    requires edges { edges.old ≡ locals.now }
-    requires scope { scope.now ≡ inside scope.now.m locals.now }
-    requires known { is_some (block_in locals.now block.now.label.0) ≡ true }
-    ensures passes { OnOk result (broken_by_block scope.now.m locals.now block.now ≡ []) }
-    ensures refused { IfErr result (IsRefusedBy (broken_by_block scope.now.m locals.now block.now)) }
-    ensures same { matching.new ≡ matching.old }
-    ensures same_edges { edges.new ≡ edges.old }
+fn check_block<'b>(judge: &mut Judge<'_, 'b>, here: &InBlock<'_, 'b>) -> Result<(), Fault>
+    requires { judge.old ≡ inside judge.old.m here.now.function }
+    ensures passes { OnOk result (broken_by_block judge.old.m here.now.function here.now.block ≡ []) }
+    ensures refused { IfErr result (IsRefusedBy (broken_by_block judge.old.m here.now.function here.now.block)) }
+    ensures same { judge.new ≡ judge.old }
 {
-    for inst in block.insts.as_slice() {
-        check_local(alloc, matching, scope, locals, edges, block, inst)?;
+    for inst in here.block().insts.as_slice() {
+        check_local(judge, here, inst)?;
     }
     Ok(())
 }
 
 /// Checks the blocks of a function.
-fn check_blocks<'b>(
-    alloc: Global,
-    matching: &mut Matching,
-    scope: &Scope,
-    locals: &Locals<'b>,
-    edges: &mut LazyEdges<'b>,
-) -> Result<(), Fault>
-    requires same_module { matching.old ≡ scope.now.m }
-    requires edges { edges.old ≡ locals.now }
-    requires scope { scope.now ≡ inside scope.now.m locals.now }
-    ensures passes { OnOk result (flat_map (broken_by_block scope.now.m locals.now) locals.now.blocks ≡ []) }
-    ensures refused { IfErr result (IsRefusedBy (flat_map (broken_by_block scope.now.m locals.now) locals.now.blocks)) }
-    ensures same { matching.new ≡ matching.old }
-    ensures same_edges { edges.new ≡ edges.old }
+fn check_blocks<'b>(judge: &mut Judge<'_, 'b>, locals: &Locals<'b>) -> Result<(), Fault>
+    requires { judge.old ≡ inside judge.old.m locals.now }
+    ensures passes { OnOk result (flat_map (broken_by_block judge.old.m locals.now) locals.now.blocks ≡ []) }
+    ensures refused { IfErr result (IsRefusedBy (flat_map (broken_by_block judge.old.m locals.now) locals.now.blocks)) }
+    ensures same { judge.new ≡ judge.old }
 {
     for block in locals.function().blocks.as_slice() {
-        check_block(alloc, matching, scope, locals, edges, block)?;
+        check_block(judge, &InBlock::of(locals, block))?;
     }
     Ok(())
 }
@@ -303,76 +206,47 @@ fn is_lacking_type(scope: &Scope, function: &Function) -> bool
 
 /// Checks a function and its blocks.
 #[tactic(auto, using(crate::proofs::Refused::list_rules))]
-fn check_in_function<'b>(
-    alloc: Global,
-    matching: &mut Matching,
-    scope: &Scope,
-    locals: &Locals<'b>,
-    edges: &mut LazyEdges<'b>,
-) -> Result<(), Fault>
-    requires same_module { matching.old ≡ scope.now.m }
-    requires edges { edges.old ≡ locals.now }
-    requires scope { scope.now ≡ inside scope.now.m locals.now }
-    ensures passes { OnOk result (broken_by_function scope.now.m locals.now ≡ []) }
-    ensures refused { IfErr result (IsRefusedBy (broken_by_function scope.now.m locals.now)) }
-    ensures same { matching.new ≡ matching.old }
-    ensures same_edges { edges.new ≡ edges.old }
+fn check_in_function<'b>(judge: &mut Judge<'_, 'b>, locals: &Locals<'b>) -> Result<(), Fault>
+    requires { judge.old ≡ inside judge.old.m locals.now }
+    ensures passes { OnOk result (broken_by_function judge.old.m locals.now ≡ []) }
+    ensures refused { IfErr result (IsRefusedBy (broken_by_function judge.old.m locals.now)) }
+    ensures same { judge.new ≡ judge.old }
 {
     let function = locals.function();
-    refuse_if(is_lacking_type(scope, function), Rule::T1, function.at)?;
-    refuse_if(is_function_broken(scope, function), Rule::T21, function.at)?;
-    check_blocks(alloc, matching, scope, locals, edges)
-}
-
-/// Checks a function, with its edges.
-fn check_with_edges<'a, 'b>(
-    alloc: Global,
-    matching: &mut Matching,
-    index: &'a ModuleIndex<'a>,
-    locals: &'a Locals<'b>,
-    edges: &mut LazyEdges<'b>,
-) -> Result<(), Fault>
-    requires same_module { matching.old ≡ index.now }
-    requires edges { edges.old ≡ locals.now }
-    ensures passes { OnOk result (broken_by_function index.now locals.now ≡ []) }
-    ensures refused { IfErr result (IsRefusedBy (broken_by_function index.now locals.now)) }
-    ensures same { matching.new ≡ matching.old }
-    ensures same_edges { edges.new ≡ edges.old }
-{
-    let scope = Scope::inside(index, locals);
-    check_in_function(alloc, matching, &scope, locals, edges)
+    refuse_if(
+        is_lacking_type(judge.scope(), function),
+        Rule::T1,
+        function.at,
+    )?;
+    refuse_if(
+        is_function_broken(judge.scope(), function),
+        Rule::T21,
+        function.at,
+    )?;
+    check_blocks(judge, locals)
 }
 
 /// Checks a function.
-fn check_function<'a, 'b>(
-    alloc: Global,
-    matching: &mut Matching,
-    index: &'a ModuleIndex<'a>,
-    locals: &'a Locals<'b>,
-) -> Result<(), Fault>
-    requires { matching.old ≡ index.now }
-    ensures passes { OnOk result (broken_by_function index.now locals.now ≡ []) }
-    ensures refused { IfErr result (IsRefusedBy (broken_by_function index.now locals.now)) }
-    ensures same { matching.new ≡ matching.old }
+fn check_function<'a, 'b>(judge: &mut Judge<'a, 'b>, locals: &'a Locals<'b>) -> Result<(), Fault>
+    ensures passes { OnOk result (broken_by_function judge.old.m locals.now ≡ []) }
+    ensures refused { IfErr result (IsRefusedBy (broken_by_function judge.old.m locals.now)) }
+    ensures same { judge.new.m ≡ judge.old.m }
 {
-    let mut edges = LazyEdges::of(locals.function());
-    check_with_edges(alloc, matching, index, locals, &mut edges)
+    judge.enter(locals);
+    check_in_function(judge, locals)
 }
 
 /// Checks the functions.
 fn check_functions<'a, 'b>(
-    alloc: Global,
-    matching: &mut Matching,
-    index: &'a ModuleIndex<'a>,
+    judge: &mut Judge<'a, 'b>,
     functions: &'a [Locals<'b>],
 ) -> Result<(), Fault>
-    requires { matching.old ≡ index.now }
-    ensures passes { OnOk result (flat_map (broken_by_function index.now) functions.now ≡ []) }
-    ensures refused { IfErr result (IsRefusedBy (flat_map (broken_by_function index.now) functions.now)) }
-    ensures same { matching.new ≡ matching.old }
+    ensures passes { OnOk result (flat_map (broken_by_function judge.old.m) functions.now ≡ []) }
+    ensures refused { IfErr result (IsRefusedBy (flat_map (broken_by_function judge.old.m) functions.now)) }
+    ensures same { judge.new.m ≡ judge.old.m }
 {
     for function in functions {
-        check_function(alloc, matching, index, function)?;
+        check_function(judge, function)?;
     }
     Ok(())
 }
@@ -388,11 +262,9 @@ fn check_with_index<'a, 'b>(
     ensures passes { OnOk result (broken index.now ≡ []) }
     ensures refused { IfErr result (IsRefusedBy (broken index.now)) }
 {
-    let mut matching = Matching::of(alloc, index);
-    let scope = Scope::outside(index);
-    let module = index.module();
-    check_globals(alloc, &mut matching, &scope, module.globals())?;
-    check_functions(alloc, &mut matching, index, functions)
+    let mut judge = Judge::of(alloc, index);
+    check_globals(&mut judge, index.module().globals())?;
+    check_functions(&mut judge, functions)
 }
 
 /// Checks the rules on types.

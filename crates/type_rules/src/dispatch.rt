@@ -1,8 +1,8 @@
 // Each instruction against the rule of its group.
-ghost use Rattle.std.specs.Prelude.{◌≡◌, true, IfOk, is_some};
-ghost use Rattle.spv_index.specs.Locals.{block_in};
-ghost use Rattle.profile_rules.specs.TypeRules.{rule_of as rule_in, rule_at_end as rule_at_end_of, breaks_t25, is_end_broken as is_end_at_fault, is_value_broken as is_value_at_fault, is_number_broken as is_number_at_fault, is_flow_broken as is_flow_at_fault};
-ghost use Rattle.type_rules.specs.Scopes.{types, inside};
+ghost use Rattle.std.specs.Prelude.{◌≡◌, IfOk};
+ghost use Rattle.profile_rules.specs.TypeRules.{rule_of as rule_in, rule_at_end as rule_at_end_of, breaks_t25, is_value_broken as is_value_at_fault, is_number_broken as is_number_at_fault};
+ghost use Rattle.type_rules.specs.Scopes.{types};
+ghost use Rattle.type_rules.specs.Matches.{AreKnown};
 
 use crate::atomics::{
     is_atomic_exchange_broken, is_atomic_load_broken, is_atomic_store_broken,
@@ -12,12 +12,7 @@ use crate::composites::{
     is_composite_broken, is_constant_broken, is_construct_broken, is_copy_broken,
     is_number_broken as is_number_constant_broken, is_truth_broken, is_undef_broken,
 };
-use crate::edges::LazyEdges;
-use crate::flow::{
-    is_branch_broken, is_call_broken, is_phi_broken, is_return_broken, is_return_value_broken,
-    is_switch_broken,
-};
-use crate::matching::{Matching, is_copy_logical_broken};
+use crate::matching::{Known, is_copy_logical_broken};
 use crate::memory::{is_array_length_broken, is_chain_broken, is_load_broken, is_store_broken};
 use crate::numbers::{
     is_any_or_all_broken, is_arithmetic_broken, is_bit_operation_broken, is_bitcast_broken,
@@ -27,11 +22,9 @@ use crate::parts::{is_extract_broken, is_insert_broken};
 use crate::scope::Scope;
 use crate::select::is_select_broken;
 use crate::vectors::{is_extract_dynamic_broken, is_insert_dynamic_broken, is_shuffle_broken};
-use spv_index::Locals;
-use spv_module::{Block, Function, Inst};
+use spv_module::Inst;
 use spv_ops::{AtomicOp, OpGroup, Terminator};
 use spv_words::{Memory, Rule};
-use std::alloc::Global;
 
 /// The rule of a terminator.
 fn rule_at_end(terminator: Terminator) -> Rule
@@ -84,14 +77,14 @@ pub fn rule_of(group: OpGroup) -> Rule
 
 /// T2 to T12.
 pub fn is_value_broken(
-    matching: &mut Matching,
+    known: &mut Known,
     scope: &Scope,
     inst: &Inst,
     group: OpGroup,
 ) -> Result<bool, Memory>
-    requires { matching.old ≡ scope.now.m }
+    requires { AreKnown scope.now.m.globals known.old }
     ensures value { IfOk result (λ b. b ≡ is_value_at_fault scope.now.m (types scope.now) inst.now group) }
-    ensures same { matching.new ≡ matching.old }
+    ensures known { AreKnown scope.now.m.globals known.new }
 {
     match group {
         OpGroup::Truth => Ok(is_truth_broken(scope, inst)),
@@ -110,7 +103,7 @@ pub fn is_value_broken(
         OpGroup::CompositeConstruct => Ok(is_construct_broken(scope, inst)),
         OpGroup::CompositeExtract => Ok(is_extract_broken(scope, inst)),
         OpGroup::CompositeInsert => Ok(is_insert_broken(scope, inst)),
-        OpGroup::CopyLogical => is_copy_logical_broken(matching, scope, inst),
+        OpGroup::CopyLogical => is_copy_logical_broken(known, scope, inst),
         _ => Ok(false),
     }
 }
@@ -155,51 +148,5 @@ pub fn is_number_broken(scope: &Scope, inst: &Inst, group: OpGroup) -> bool
         OpGroup::Atomic(op) => is_atomic_broken(scope, inst, op),
         OpGroup::ControlBarrier | OpGroup::MemoryBarrier => is_barrier_broken(scope, inst),
         _ => false,
-    }
-}
-
-/// T23 and T24, of terminators.
-fn is_end_broken(
-    alloc: Global,
-    scope: &Scope,
-    function: &Function,
-    inst: &Inst,
-    terminator: Terminator,
-) -> Result<bool, Memory>
-    requires { scope.now ≡ inside scope.now.m function.now }
-    ensures { IfOk result (λ b. b ≡ is_end_at_fault scope.now.m function.now inst.now terminator) }
-{
-    match terminator {
-        Terminator::BranchConditional => Ok(is_branch_broken(scope, inst)),
-        Terminator::Switch => is_switch_broken(alloc, scope, inst),
-        Terminator::Return => Ok(is_return_broken(scope, function)),
-        Terminator::ReturnValue => Ok(is_return_value_broken(scope, function, inst)),
-        Terminator::Branch | Terminator::Unreachable => Ok(false),
-    }
-}
-
-/// T21 to T24, in a block of a function.
-pub fn is_flow_broken<'b>(
-    alloc: Global,
-    scope: &Scope,
-    locals: &Locals<'b>,
-    edges: &mut LazyEdges<'b>,
-    block: &Block,
-    inst: &Inst,
-    group: OpGroup,
-) -> Result<bool, Memory>
-    requires edges { edges.old ≡ locals.now }
-    requires scope { scope.now ≡ inside scope.now.m locals.now }
-    requires known { is_some (block_in locals.now block.now.label.0) ≡ true }
-    ensures value { IfOk result (λ b. b ≡ is_flow_at_fault scope.now.m locals.now block.now inst.now group) }
-    ensures same { edges.new ≡ edges.old }
-{
-    match group {
-        OpGroup::Call => Ok(is_call_broken(scope, inst)),
-        OpGroup::Phi => is_phi_broken(alloc, scope, locals, edges, block, inst),
-        OpGroup::Terminator(terminator) => {
-            is_end_broken(alloc, scope, locals.function(), inst, terminator)
-        }
-        _ => Ok(false),
     }
 }

@@ -132,101 +132,76 @@ fn add_at(
     Ok(())
 }
 
-/// Adds a block to those that go to a label.
-#[tactic(auto, using(crate::proofs::Sources::edge_rules))]
-fn add_edge(
+/// A block that goes somewhere, and the blocks of its function by their labels.
+#[derive(Clone, Copy)]
+struct Adding<'f, 'a> {
     alloc: Global,
-    lists: &mut Vec<Sources>,
-    locals: &Locals,
+    locals: &'f Locals<'a>,
     source: Source,
-    label: u32,
-) -> Result<(), AllocError>
-    requires { length lists.old.items ≡ length locals.now.blocks }
-    ensures { OnOk result (Adds locals.now source (λ x. label == x) lists.old.items lists.new.items) }
-{
-    match locals.block(label) {
-        Some(at) => {
-            add_at(alloc, lists, at, source)?;
+}
+
+impl<'f, 'a> Adding<'f, 'a> {
+    /// Adds the block to those that go to a label.
+    #[tactic(auto, using(crate::proofs::Sources::edge_rules))]
+    fn add_edge(&self, lists: &mut Vec<Sources>, label: u32) -> Result<(), AllocError>
+        requires { length lists.old.items ≡ length self.now.locals.now.blocks }
+        ensures { OnOk result (Adds self.now.locals.now self.now.source (λ x. label == x) lists.old.items lists.new.items) }
+    {
+        match self.locals.block(label) {
+            Some(at) => {
+                add_at(self.alloc, lists, at, self.source)?;
+                Ok(())
+            }
+            None => Ok(()),
+        }
+    }
+
+    /// The same, where operand k of an instruction is a target.
+    #[tactic(auto, using(crate::proofs::Sources::operand_rules))]
+    fn add_operand(
+        &self,
+        lists: &mut Vec<Sources>,
+        op: Op,
+        k: usize,
+        label: u32,
+    ) -> Result<(), AllocError>
+        requires { length lists.old.items ≡ length self.now.locals.now.blocks }
+        ensures { OnOk result (Adds self.now.locals.now self.now.source (λ x. is_target_of op k && (label == x)) lists.old.items lists.new.items) }
+    {
+        if is_target(op, k) {
+            self.add_edge(lists, label)?;
+            Ok(())
+        } else {
             Ok(())
         }
-        None => Ok(()),
     }
-}
 
-/// Adds a block to those that go to a label, where operand k of its instruction is a target.
-#[tactic(auto, using(crate::proofs::Sources::operand_rules))]
-fn add_operand(
-    alloc: Global,
-    lists: &mut Vec<Sources>,
-    locals: &Locals,
-    source: Source,
-    op: Op,
-    k: usize,
-    label: u32,
-) -> Result<(), AllocError>
-    requires { length lists.old.items ≡ length locals.now.blocks }
-    ensures { OnOk result (Adds locals.now source (λ x. is_target_of op k && (label == x)) lists.old.items lists.new.items) }
-{
-    if is_target(op, k) {
-        add_edge(alloc, lists, locals, source, label)?;
-        Ok(())
-    } else {
+    /// Adds the block to those that go to the labels of an instruction. Only terminators have some.
+    #[tactic(auto, using(crate::proofs::Sources::start_rules))]
+    fn add_inst(&self, lists: &mut Vec<Sources>, inst: &Inst) -> Result<(), AllocError>
+        requires { length lists.old.items ≡ length self.now.locals.now.blocks }
+        ensures { OnOk result (Adds self.now.locals.now self.now.source (λ x. goes x inst.now) lists.old.items lists.new.items) }
+    {
+        if !inst.op.is_terminator() {
+            return Ok(());
+        }
+        for (k, label) in inst.args.as_slice().iter().enumerate() {
+            self.add_operand(lists, inst.op, k, *label)?;
+        }
         Ok(())
     }
-}
 
-/// Adds a block to those that go to the labels of a branch.
-#[tactic(auto, using(crate::proofs::Sources::start_rules))]
-fn add_targets(
-    alloc: Global,
-    lists: &mut Vec<Sources>,
-    locals: &Locals,
-    source: Source,
-    inst: &Inst,
-) -> Result<(), AllocError>
-    requires { length lists.old.items ≡ length locals.now.blocks }
-    ensures { OnOk result (Adds locals.now source (λ x. goes x inst.now) lists.old.items lists.new.items) }
-{
-    for (k, label) in inst.args.as_slice().iter().enumerate() {
-        add_operand(alloc, lists, locals, source, inst.op, k, *label)?;
-    }
-    Ok(())
-}
-
-/// Adds a block to those that go to the labels of an instruction. Only terminators have some.
-fn add_inst(
-    alloc: Global,
-    lists: &mut Vec<Sources>,
-    locals: &Locals,
-    source: Source,
-    inst: &Inst,
-) -> Result<(), AllocError>
-    requires { length lists.old.items ≡ length locals.now.blocks }
-    ensures { OnOk result (Adds locals.now source (λ x. goes x inst.now) lists.old.items lists.new.items) }
-{
-    if inst.op.is_terminator() {
-        add_targets(alloc, lists, locals, source, inst)
-    } else {
+    /// Adds the block to those that go to the labels of its instructions.
+    #[tactic(auto, using(crate::proofs::Sources::start_rules))]
+    fn add_block(&self, lists: &mut Vec<Sources>, block: &Block) -> Result<(), AllocError>
+        requires { length lists.old.items ≡ length self.now.locals.now.blocks }
+        ensures { OnOk result (Adds self.now.locals.now self.now.source (λ x. goes_to x block.now) lists.old.items lists.new.items) }
+    {
+        for inst in block.insts.as_slice() {
+            self.add_inst(lists, inst)?;
+        }
         Ok(())
     }
-}
-
-/// Adds a block to those that go to the labels of its instructions.
-#[tactic(auto, using(crate::proofs::Sources::start_rules))]
-fn add_block(
-    alloc: Global,
-    lists: &mut Vec<Sources>,
-    locals: &Locals,
-    source: Source,
-    block: &Block,
-) -> Result<(), AllocError>
-    requires { length lists.old.items ≡ length locals.now.blocks }
-    ensures { OnOk result (Adds locals.now source (λ x. goes_to x block.now) lists.old.items lists.new.items) }
-{
-    for inst in block.insts.as_slice() {
-        add_inst(alloc, lists, locals, source, inst)?;
-    }
-    Ok(())
 }
 
 /// As many empty lists.
@@ -247,11 +222,15 @@ fn lists_of(alloc: Global, locals: &Locals) -> Result<Vec<Sources>, AllocError>
     let blocks = locals.function().blocks.as_slice();
     let mut lists = empty_lists(alloc, blocks.len())?;
     for (place, block) in blocks.iter().enumerate() {
-        let source = Source {
-            place,
-            label: block.label.0,
+        let adding = Adding {
+            alloc,
+            locals,
+            source: Source {
+                place,
+                label: block.label.0,
+            },
         };
-        add_block(alloc, &mut lists, locals, source, block)?;
+        adding.add_block(&mut lists, block)?;
     }
     Ok(lists)
 }
@@ -277,54 +256,5 @@ impl<'a> Edges<'a> {
             Some(at) => self.sources[at].as_slice(),
             None => &[],
         }
-    }
-}
-
-/// The edges of a function, which are found when they are first asked for. Contracts see the function.
-#[derive(Drop)]
-pub struct LazyEdges<'a> {
-    function: &'a Function,
-    found: Option<Edges<'a>>,
-}
-
-impl<'a> Model for LazyEdges<'a> {
-    ghost use Rattle.std.specs.Prelude.{◌≡◌, IfSome};
-    ghost use Rattle.spv_module.specs.declared.inst.Function.{Function};
-
-    ghost Value = { Function };
-
-    ghost view = { λ e. e.function.now };
-
-    ghost invariant = { λ e. IfSome e.found (λ found. found ≡ e.function.now) };
-}
-
-impl<'a> LazyEdges<'a> {
-    pub fn of(function: &'a Function) -> LazyEdges<'a>
-        ensures { result ≡ function.now }
-    {
-        LazyEdges {
-            function,
-            found: None,
-        }
-    }
-
-    /// The edges, which `put` gives back.
-    pub fn take(&mut self, alloc: Global, locals: &Locals<'a>) -> Result<Edges<'a>, AllocError>
-        requires { locals.now ≡ self.old }
-        ensures value { IfOk result (λ e. e ≡ self.old) }
-        ensures same { self.new ≡ self.old }
-    {
-        match self.found.take() {
-            Some(edges) => Ok(edges),
-            None => Edges::of(alloc, locals),
-        }
-    }
-
-    /// Keeps the edges for when they are asked for again.
-    pub fn put(&mut self, edges: Edges<'a>)
-        requires { edges ≡ self.old }
-        ensures { self.new ≡ self.old }
-    {
-        self.found = Some(edges);
     }
 }

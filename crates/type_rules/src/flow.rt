@@ -1,23 +1,24 @@
 // The types of calls, phis, branches and returns.
-ghost use Rattle.std.specs.Prelude.{◌≡◌, ◌==◌, ◌||◌, ℕ, true, IfOk, OnOk, not, nat_le, count_by, is_some, option_and_then};
+ghost use Rattle.std.specs.Prelude.{◌≡◌, ◌==◌, ◌||◌, ℕ, IfOk, OnOk, not, nat_le, count_by, option_and_then};
 ghost use Rattle.std.specs.List.{list_any, zip};
 ghost use Rattle.std.specs.Option.{option_copied};
 ghost use Rattle.spv_decor.specs.Rows.{word as word_of};
 ghost use Rattle.profile_rules.specs.TypeRows.{differ, is_other};
 ghost use Rattle.std.specs.BTreeSet.{contains};
 ghost use Rattle.std.specs.Ordering.{nat_cmp};
-ghost use Rattle.spv_index.specs.Locals.{block_in};
 ghost use Rattle.type_rules.specs.Edges.{is_source as is_source_label, are_not_sources as are_other_labels};
 ghost use Rattle.profile_rules.specs.FlowRules.{callee, is_from_elsewhere as is_elsewhere, function_type as function_type_of, is_miscalled as is_call_other, is_misdeclared as is_function_other, are_no_predecessors as are_others, are_labels as are_all_labels, every_second as every_second_of, has_repeat as has_a_repeat, breaks_t21, breaks_t21_of, breaks_t22, breaks_t23_branch, breaks_t23_switch, breaks_t24_return, breaks_t24_value};
-ghost use Rattle.type_rules.specs.Scopes.{types};
+ghost use Rattle.type_rules.specs.Scopes.{types, inside};
+ghost use Rattle.profile_rules.specs.TypeRules.{is_broken_in as is_at_fault_in, is_end_broken as is_end_at_fault};
 
 use crate::composites::{are_other_members, has_other};
-use crate::edges::{Edges, LazyEdges, Source};
+use crate::edges::{Edges, Source};
+use crate::judge::{InBlock, Judge};
 use crate::numbers::behind;
 use crate::scope::Scope;
 use spv_index::Locals;
-use spv_module::{Block, Function, Id, Inst};
-use spv_ops::Op;
+use spv_module::{Function, Id, Inst};
+use spv_ops::{Op, OpGroup, Terminator};
 use spv_words::Memory;
 use std::alloc::{AllocError, Global};
 use std::collections::BTreeSet;
@@ -50,7 +51,7 @@ fn callee_type<'a>(scope: &Scope<'a, '_>, inst: &Inst) -> Option<&'a Inst>
 }
 
 /// T21: OpFunctionCall.
-pub fn is_call_broken(scope: &Scope, inst: &Inst) -> bool
+fn is_call_broken(scope: &Scope, inst: &Inst) -> bool
     ensures { result ≡ breaks_t21 scope.now.m.functions scope.now.m.globals (types scope.now) inst.now }
 {
     match callee_type(scope, inst) {
@@ -218,54 +219,32 @@ fn are_not_sources(alloc: Global, sources: &[Source], labels: &[u32]) -> Result<
 #[tactic(auto, using(crate::proofs::Sources::asked_of_sources))]
 fn are_no_predecessors(
     alloc: Global,
-    locals: &Locals,
+    here: &InBlock,
     edges: &Edges,
-    label: u32,
     labels: &[u32],
 ) -> Result<bool, AllocError>
-    requires same { edges.now ≡ locals.now }
-    requires known { is_some (block_in locals.now label) ≡ true }
-    ensures { IfOk result (λ b. b ≡ are_others locals.now label labels.now) }
+    requires { edges.now ≡ here.now.function }
+    ensures { IfOk result (λ b. b ≡ are_others here.now.function here.now.block.label.0 labels.now) }
 {
-    are_not_sources(alloc, edges.sources(locals, label), labels)
+    let label = here.block().label.0;
+    are_not_sources(alloc, edges.sources(here.locals(), label), labels)
 }
 
 /// Whether the labels of a phi are labels, but not the predecessors of its block, each once.
 fn is_from_elsewhere(
     alloc: Global,
-    locals: &Locals,
+    here: &InBlock,
     edges: &Edges,
-    label: u32,
     inst: &Inst,
 ) -> Result<bool, AllocError>
-    requires same { edges.now ≡ locals.now }
-    requires known { is_some (block_in locals.now label) ≡ true }
-    ensures { IfOk result (λ b. b ≡ is_elsewhere locals.now label inst.now) }
+    requires { edges.now ≡ here.now.function }
+    ensures { IfOk result (λ b. b ≡ is_elsewhere here.now.function here.now.block.label.0 inst.now) }
 {
     let labels = every_second(alloc, 1, inst.args.as_slice())?;
-    if !are_labels(locals, &labels) {
+    if !are_labels(here.locals(), &labels) {
         return Ok(false);
     }
-    are_no_predecessors(alloc, locals, edges, label, &labels)
-}
-
-/// The same, with the edges as they are kept.
-fn is_from_elsewhere_in<'b>(
-    alloc: Global,
-    locals: &Locals<'b>,
-    edges: &mut LazyEdges<'b>,
-    label: u32,
-    inst: &Inst,
-) -> Result<bool, Memory>
-    requires edges { edges.old ≡ locals.now }
-    requires known { is_some (block_in locals.now label) ≡ true }
-    ensures value { IfOk result (λ b. b ≡ is_elsewhere locals.now label inst.now) }
-    ensures same { edges.new ≡ edges.old }
-{
-    let found = edges.take(alloc, locals)?;
-    let answer = is_from_elsewhere(alloc, locals, &found, label, inst);
-    edges.put(found);
-    Ok(answer?)
+    are_no_predecessors(alloc, here, edges, &labels)
 }
 
 /// Whether a value of a phi is of another type.
@@ -277,37 +256,36 @@ fn has_other_value(alloc: Global, scope: &Scope, inst: &Inst) -> Result<bool, Al
 }
 
 /// T22: OpPhi.
-pub fn is_phi_broken<'b>(
-    alloc: Global,
-    scope: &Scope,
-    locals: &Locals<'b>,
-    edges: &mut LazyEdges<'b>,
-    block: &Block,
+fn is_phi_broken<'b>(
+    judge: &mut Judge<'_, 'b>,
+    here: &InBlock<'_, 'b>,
     inst: &Inst,
 ) -> Result<bool, Memory>
-    requires edges { edges.old ≡ locals.now }
-    requires known { is_some (block_in locals.now block.now.label.0) ≡ true }
-    ensures value { IfOk result (λ b. b ≡ breaks_t22 scope.now.m.heads scope.now.m.globals (types scope.now) locals.now block.now inst.now) }
-    ensures same { edges.new ≡ edges.old }
+    requires { judge.old ≡ inside judge.old.m here.now.function }
+    ensures value { IfOk result (λ b. b ≡ breaks_t22 judge.old.m.heads judge.old.m.globals (types judge.old) here.now.function here.now.block inst.now) }
+    ensures same { judge.new ≡ judge.old }
 {
-    if scope.is_no_value_type(inst.ty) {
+    if judge.scope().is_no_value_type(inst.ty) {
         return Ok(true);
     }
-    if has_other_value(alloc, scope, inst)? {
+    if has_other_value(judge.alloc(), judge.scope(), inst)? {
         return Ok(true);
     }
-    is_from_elsewhere_in(alloc, locals, edges, block.label.0, inst)
+    let edges = judge.take_edges(here.locals())?;
+    let answer = is_from_elsewhere(judge.alloc(), here, &edges, inst);
+    judge.put_edges(edges);
+    Ok(answer?)
 }
 
 /// T23: OpBranchConditional.
-pub fn is_branch_broken(scope: &Scope, inst: &Inst) -> bool
+fn is_branch_broken(scope: &Scope, inst: &Inst) -> bool
     ensures { result ≡ breaks_t23_branch scope.now.m.globals (types scope.now) inst.now }
 {
     scope.value_fails(Op::TypeBool, inst.operand(0))
 }
 
 /// T23: OpSwitch.
-pub fn is_switch_broken(alloc: Global, scope: &Scope, inst: &Inst) -> Result<bool, Memory>
+fn is_switch_broken(alloc: Global, scope: &Scope, inst: &Inst) -> Result<bool, Memory>
     ensures { IfOk result (λ b. b ≡ breaks_t23_switch scope.now.m.globals (types scope.now) inst.now) }
 {
     if scope.value_fails(Op::TypeInt, inst.operand(0)) {
@@ -318,15 +296,59 @@ pub fn is_switch_broken(alloc: Global, scope: &Scope, inst: &Inst) -> Result<boo
 }
 
 /// T24: OpReturn.
-pub fn is_return_broken(scope: &Scope, function: &Function) -> bool
+fn is_return_broken(scope: &Scope, function: &Function) -> bool
     ensures { result ≡ breaks_t24_return scope.now.m.globals function.now }
 {
     scope.fails(Op::TypeVoid, function.result.0)
 }
 
 /// T24: OpReturnValue.
-pub fn is_return_value_broken(scope: &Scope, function: &Function, inst: &Inst) -> bool
+fn is_return_value_broken(scope: &Scope, function: &Function, inst: &Inst) -> bool
     ensures { result ≡ breaks_t24_value scope.now.m.globals (types scope.now) function.now inst.now }
 {
     scope.is_void(function.result.0) || scope.is_other(function.result.0, inst.operand(0))
+}
+
+/// T23 and T24, of terminators.
+fn is_end_broken(
+    alloc: Global,
+    scope: &Scope,
+    function: &Function,
+    inst: &Inst,
+    terminator: Terminator,
+) -> Result<bool, Memory>
+    requires { scope.now ≡ inside scope.now.m function.now }
+    ensures { IfOk result (λ b. b ≡ is_end_at_fault scope.now.m function.now inst.now terminator) }
+{
+    match terminator {
+        Terminator::BranchConditional => Ok(is_branch_broken(scope, inst)),
+        Terminator::Switch => is_switch_broken(alloc, scope, inst),
+        Terminator::Return => Ok(is_return_broken(scope, function)),
+        Terminator::ReturnValue => Ok(is_return_value_broken(scope, function, inst)),
+        Terminator::Branch | Terminator::Unreachable => Ok(false),
+    }
+}
+
+/// Whether an instruction of a block, of this group, is at fault: by T21 to T24, or as one outside functions.
+#[tactic(auto, using(crate::proofs::Refused::flow_rules))]
+pub fn is_broken_in<'b>(
+    judge: &mut Judge<'_, 'b>,
+    here: &InBlock<'_, 'b>,
+    inst: &Inst,
+    group: OpGroup,
+) -> Result<bool, Memory>
+    requires { judge.old ≡ inside judge.old.m here.now.function }
+    ensures value { IfOk result (λ b. b ≡ is_at_fault_in judge.old.m here.now.function here.now.block inst.now group) }
+    ensures same { judge.new ≡ judge.old }
+{
+    let scope = judge.scope();
+    let function = here.locals().function();
+    match group {
+        OpGroup::Call => Ok(is_call_broken(scope, inst)),
+        OpGroup::Phi => is_phi_broken(judge, here, inst),
+        OpGroup::Terminator(terminator) => {
+            is_end_broken(judge.alloc(), scope, function, inst, terminator)
+        }
+        _ => judge.is_broken(inst, group),
+    }
 }

@@ -8,6 +8,7 @@ mod dispatch;
 mod edges;
 mod flow;
 mod index;
+mod judge;
 mod matching;
 mod memory;
 mod numbers;

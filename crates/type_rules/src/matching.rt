@@ -7,18 +7,16 @@ ghost use Rattle.profile_rules.specs.ValueRules.{is_same_length as is_length_sam
 ghost use Rattle.type_rules.specs.Scopes.{types};
 ghost use Rattle.type_rules.specs.Matches.{AreKnown};
 
-use crate::index::ModuleIndex;
 use crate::numbers::is_not;
 use crate::scope::Scope;
 use spv_module::Inst;
 use spv_ops::Op;
 use spv_words::Memory;
-use std::alloc::{AllocError, Global};
+use std::alloc::AllocError;
 use std::collections::BTreeMap;
-use std::marker::Model;
 
 /// The answers for the pairs of types that were compared, so that none is compared twice.
-type Known = BTreeMap<(u32, u32), bool>;
+pub type Known = BTreeMap<(u32, u32), bool>;
 
 /// Whether two array lengths are equal, as far as they are known.
 fn is_same_length(scope: &Scope, a: u32, b: u32) -> bool
@@ -135,59 +133,26 @@ fn match_all(
     Ok(true)
 }
 
-/// A module, with the answers for the pairs of types that were compared. Contracts see the module.
-#[derive(Drop)]
-pub struct Matching<'a> {
-    scope: Scope<'a, 'a>,
-    known: Known,
-}
-
-impl<'a> Model for Matching<'a> {
-    ghost use Rattle.spv_module.specs.State.{ModuleState};
-
-    ghost Value = { ModuleState };
-
-    ghost use Rattle.type_rules.specs.Matches.{AreKnown};
-
-    ghost view = { λ x. x.scope.m };
-
-    ghost invariant = { λ x. AreKnown x.scope.m.globals x.known };
-}
-
-impl<'a> Matching<'a> {
-    pub fn of(alloc: Global, index: &'a ModuleIndex<'a>) -> Matching<'a>
-        ensures { result ≡ index.now }
-    {
-        Matching {
-            scope: Scope::outside(index),
-            known: BTreeMap::new(alloc),
-        }
-    }
-
-    /// Whether two types match part by part.
-    fn do_match(&mut self, a: u32, b: u32) -> Result<bool, AllocError>
-        ensures value { IfOk result (λ r. r ≡ do_types_match self.old.globals a b) }
-        ensures same { self.new ≡ self.old }
-    {
-        match self.scope.type_row(a) {
-            Some(row) => match_row(&self.scope, row, b, &mut self.known),
-            None => Ok(true),
-        }
+/// Whether two types match part by part.
+fn do_match(scope: &Scope, a: u32, b: u32, known: &mut Known) -> Result<bool, AllocError>
+    requires { AreKnown scope.now.m.globals known.old }
+    ensures value { IfOk result (λ r. r ≡ do_types_match scope.now.m.globals a b) }
+    ensures known { AreKnown scope.now.m.globals known.new }
+{
+    match scope.type_row(a) {
+        Some(row) => match_row(scope, row, b, known),
+        None => Ok(true),
     }
 }
 
 /// T12: OpCopyLogical.
-pub fn is_copy_logical_broken(
-    matching: &mut Matching,
-    scope: &Scope,
-    inst: &Inst,
-) -> Result<bool, Memory>
-    requires { matching.old ≡ scope.now.m }
+pub fn is_copy_logical_broken(known: &mut Known, scope: &Scope, inst: &Inst) -> Result<bool, Memory>
+    requires { AreKnown scope.now.m.globals known.old }
     ensures value { IfOk result (λ b. b ≡ breaks_t12 scope.now.m.globals (types scope.now) inst.now) }
-    ensures same { matching.new ≡ matching.old }
+    ensures known { AreKnown scope.now.m.globals known.new }
 {
     match scope.type_of(inst.operand(0)) {
-        Some(ty) => Ok(!matching.do_match(ty, inst.ty)?),
+        Some(ty) => Ok(!do_match(scope, ty, inst.ty, known)?),
         None => Ok(false),
     }
 }

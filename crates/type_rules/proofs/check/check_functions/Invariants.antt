@@ -5,6 +5,6 @@ use Rattle.type_rules.proofs.check.check_functions.Given as goal
 
 abbrev pub invariant-loop-function : goal.invariant-loop-function
 invariant-loop-function l = record {
-  same : l.matching ≡ l.initial.matching;
-  none : flat_map (broken_by_function l.index) (take l.function-index l.functions) ≡ [];
+  same : l.judge.m ≡ l.initial.judge.m;
+  none : flat_map (broken_by_function l.initial.judge.m) (take l.function-index l.functions) ≡ [];
 }

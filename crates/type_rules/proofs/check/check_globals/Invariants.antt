@@ -5,6 +5,6 @@ use Rattle.type_rules.proofs.check.check_globals.Given as goal
 
 abbrev pub invariant-loop-inst : goal.invariant-loop-inst
 invariant-loop-inst l = record {
-  same : l.matching ≡ l.initial.matching;
-  none : flat_map (broken_by_global l.scope.m) (take l.inst-index l.globals) ≡ [];
+  same : l.judge ≡ l.initial.judge;
+  none : flat_map (broken_by_global l.initial.judge.m) (take l.inst-index l.globals) ≡ [];
 }

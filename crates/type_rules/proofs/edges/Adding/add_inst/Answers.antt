@@ -1,14 +1,15 @@
-use Rattle.std.proofs.Common.{◌≡◌, ◌==◌, ◌&&◌, ◌<◌, ◌≤◌, ℕ, List, length, get_or, arith, sym, subst}
+use Rattle.std.proofs.Common.{◌≡◌, false, ◌==◌, ◌&&◌, ◌<◌, ◌≤◌, ℕ, List, length, get_or, arith, sym, ◌∙◌, subst}
 use Rattle.std.proofs.lemmas.Grind.{get_or_default_zero}
+use Rattle.std.proofs.lemmas.Grind.{common_steps}
 use Rattle.profile_rules.specs.FlowRules.{is_target}
 use Rattle.type_rules.specs.Edges.{Adds}
-use Rattle.type_rules.proofs.Sources.{operand_more, adds_targets}
-use Rattle.type_rules.proofs.edges.add_targets.Goals as goal
+use Rattle.type_rules.proofs.Sources.{operand_more, adds_targets, inst_passed}
+use Rattle.type_rules.proofs.edges.Adding.add_inst.Goals as goal
 
 pub loop-k-preserved : goal.loop-k-preserved
 loop-k-preserved c =
-    let f = c.args.locals.now in
-    let s = c.args.source in
+    let f = c.args.self.now.locals.now in
+    let s = c.args.self.now.source in
     let op = c.args.inst.now.op in
     let args : List ℕ = c.args.inst.now.args in
     let k = c.loop-k.k in
@@ -23,4 +24,9 @@ pub returns : goal.returns
 returns c =
     let k = c.loop-k.k in
     let all : length c.as_slice-label-items.result.now ≤ k = omega arith in
-    adds_targets c.args.locals.now c.args.source c.args.inst.now k c.args.lists.now.items c.loop-k.lists.items (subst (λ (l : List ℕ). length l ≤ k) c.as_slice-label-items.ensures all) c.loop-k.invariant
+    adds_targets c.args.self.now.locals.now c.args.self.now.source c.args.inst.now k c.args.lists.now.items c.loop-k.lists.items (subst (λ (l : List ℕ). length l ≤ k) c.as_slice-label-items.ensures all) c.loop-k.invariant
+
+pub returns-then-not-is_terminator : goal.returns-then-not-is_terminator
+returns-then-not-is_terminator c =
+    let other : c.is_terminator.result ≡ false = grind (arith, common_steps, c.if-not-is_terminator.true) in
+    inst_passed c.args.self.now.locals.now c.args.self.now.source c.args.inst.now c.args.lists.now.items (sym c.is_terminator.ensures ∙ other)
