@@ -13,9 +13,12 @@ use Rattle.structure_rules.specs.Nesting.{Links, has_link, first_of, inner}
 use Rattle.structure_rules.specs.EdgeKinds.{innermost, case_target, is_fall}
 use Rattle.structure_rules.specs.Structure.{BrokenIn, fall_link, fall_links, falls_from, after_falls}
 use Rattle.block_graph.specs.Within.{AreWithin}
+use Rattle.spv_words.specs.declared.rule.Fault.{Fault}
 use Rattle.nest_place.specs.declared.links.Clash.{Clash}
-use Rattle.nest_place.specs.Checks.{IsUnbroken}
-use Rattle.nest_place.specs.Links.{IsSingle, IsClash, IsTable, turned_links, AreWithin as LinksWithin}
+use Rattle.nest_place.specs.declared.links.NoTable.{NoTable}
+use Rattle.nest_place.specs.declared.links.NoTable.TheVariants.{Clash as Clashed, Memory as NoMemory}
+use Rattle.nest_place.specs.Checks.{IsUnbroken, IsBroken, fault_by}
+use Rattle.nest_place.specs.Links.{IsSingle, IsClash, IsRightEnd, IsTable, turned_links, AreWithin as LinksWithin}
 use Rattle.nest_place.specs.Spots.{IsGrounded}
 use Rattle.nest_place.proofs.LinkLemmas.{equal_nat, no_item, no_table, no_clash}
 use Rattle.nest_place.proofs.Each.{each_has, links_within, member_at}
@@ -143,20 +146,6 @@ next_fine g links is single at broken =
     let two : first_of links u ≡ Some broken.2 = single u broken.2 (ap (λ ls. has_link ls u broken.2) is ∙ broken.4) in
     broken.5 (let same : Some broken.1 ≡ Some broken.2 = sym one ∙ two in cc)
 
-pub within_has : (n : ℕ) (links : Links) (a b : ℕ) → LinksWithin n links → has_link links a b ≡ true → a < n
-within_has n [] a b within e = cc
-within_has n (l ∷ links) a b within e =
-    elim (or_cases ((l.0 == a) && (l.1 == b)) (has_link links a b) e) [
-      | inl here ↦ subst (λ q. q < n) (equal_nat l.0 a (and_parts (l.0 == a) (l.1 == b) here).0) (within 0 (let h : 0 < suc (length links) = omega arith in h))
-      | inr there ↦ within_has n links a b (λ k h. within (suc k) (let less : suc k < suc (length links) = omega (arith, h) in less)) there
-    ]
-
-pub next_inside : (g : List Node) (links : Links) (c : Clash) → links ≡ fall_links g → IsGrounded g → IsClash links c → c.block < length g
-next_inside g links c is grounded clash = within_has (length g) links c.block c.first (falls_within g links is grounded) clash.0
-
-pub last_inside : (g : List Node) (links turned : Links) (c : Clash) → turned ≡ turned_links links → links ≡ fall_links g → AreWithin g → IsClash turned c → c.block < length g
-last_inside g links turned c now is within clash = within_has (length g) turned c.block c.first (turned_within g links turned now is within) clash.0
-
 turned_link : (g : List Node) (links turned : Links) (t u : ℕ) → turned ≡ turned_links links → links ≡ fall_links g → has_link turned t u ≡ has_link (fall_links g) u t
 turned_link g links turned t u now is = ap (λ ls. has_link ls t u) now ∙ turned_has links t u ∙ ap (λ ls. has_link ls u t) is
 
@@ -213,10 +202,25 @@ none_cyclic links g is none at broken =
     let nothing : fall_links g ≡ [] = no_item (fall_links g) (no_falls links g is none) in
     leads_nowhere cycle.4.0 cycle.1 (subst (λ (ls : Links). after_falls ls (suc cycle.4.0) cycle.1 ≡ Some cycle.1) nothing cycle.4.2)
 
+-- falls that make no table, and falls the other way round that make none
+pub next_clash : (g : List Node) (links : Links) (why : NoTable) (fault : Fault) → fault ≡ fault_by g K9 why → links ≡ fall_links g → IsRightEnd links why → IsBroken g K9 fault
+next_clash g links why fault made is end = subst (IsBroken g K9) (sym made) (by_end why end)
+  where
+    by_end : (why : NoTable) → IsRightEnd links why → IsBroken g K9 (fault_by g K9 why)
+    by_end (Clashed c) clash = (refl, two_next g links c is clash)
+    by_end NoMemory h = tt
+
+pub last_clash : (g : List Node) (links turned : Links) (why : NoTable) (fault : Fault) → fault ≡ fault_by g K10 why → turned ≡ turned_links links → links ≡ fall_links g → IsRightEnd turned why → IsBroken g K10 fault
+last_clash g links turned why fault made now is end = subst (IsBroken g K10) (sym made) (by_end why end)
+  where
+    by_end : (why : NoTable) → IsRightEnd turned why → IsBroken g K10 (fault_by g K10 why)
+    by_end (Clashed c) clash = (refl, two_last g links turned c now is clash)
+    by_end NoMemory h = tt
+
 pub ruleset add_rules = (fall_none, fall_some, fall_end)
 
 pub ruleset block_rules = (edges_reached, edges_none)
 
-pub ruleset next_rules = (falls_within, next_inside, two_next, next_fine, same_table)
+pub ruleset next_rules = (falls_within, next_clash, next_fine, same_table)
 
-pub ruleset last_rules = (turned_within, last_inside, two_last, last_fine, same_turned)
+pub ruleset last_rules = (turned_within, last_clash, last_fine, same_turned)

@@ -10,10 +10,13 @@ use Rattle.structure_rules.specs.declared.graph.Role.TheVariants.{First, Merge a
 use Rattle.structure_rules.specs.Graph.{nth, edges, is_value, is_switch, merge_block}
 use Rattle.structure_rules.specs.Nesting.{Links, has_link, first_of, header_of, switch_of, case_targets, case_links, later_targets, entry_links, is_parent, named_role, role_by, role}
 use Rattle.structure_rules.specs.Structure.{BrokenIn, IsOnlyParent, has_first, parent}
-use Rattle.nest_place.specs.Links.{IsSingle, IsClash, AreWithin as LinksWithin}
+use Rattle.spv_words.specs.declared.rule.Fault.{Fault}
+use Rattle.nest_place.specs.Links.{IsSingle, IsClash, IsRightEnd, AreWithin as LinksWithin}
 use Rattle.nest_place.specs.declared.links.Clash.{Clash}
+use Rattle.nest_place.specs.declared.links.NoTable.{NoTable}
+use Rattle.nest_place.specs.declared.links.NoTable.TheVariants.{Clash as Clashed, Memory as NoMemory}
 use Rattle.nest_place.specs.Steps.{IsFormed, AreParentLinks, NoneIsOrphan}
-use Rattle.nest_place.specs.Checks.{IsUnbroken}
+use Rattle.nest_place.specs.Checks.{IsUnbroken, IsBroken, fault_by}
 use Rattle.nest_place.proofs.LinkLemmas.{same_nat, equal_nat, has_first as has_first_link}
 use Rattle.nest_place.proofs.Each.{link_from, links_within, member_at, filter_has}
 use Rattle.nest_place.proofs.Reading.{NoneBelow, none_start}
@@ -93,8 +96,13 @@ clash_parents g links c all clash =
     let two = all c.block c.second clash.1 in
     (c.block, one.inside, one.reached, (one.later, (λ p only. let first : c.first ≡ p = only.1 c.first one.parent in let second : c.second ≡ p = only.1 c.second two.parent in clash.2 (first ∙ sym second)), refl))
 
-pub clash_block : (g : List Node) (links : Links) (c : Clash) → AreParentLinks g links → IsClash links c → c.block < length g
-clash_block g links c all clash = (all c.block c.first clash.0).inside
+-- links to parents that make no table
+pub parents_clash : (g : List Node) (links : Links) (why : NoTable) (fault : Fault) → fault ≡ fault_by g K4 why → AreParentLinks g links → IsRightEnd links why → IsBroken g K4 fault
+parents_clash g links why fault is all end = subst (IsBroken g K4) (sym is) (by_end why end)
+  where
+    by_end : (why : NoTable) → IsRightEnd links why → IsBroken g K4 (fault_by g K4 why)
+    by_end (Clashed c) clash = (refl, clash_parents g links c all clash)
+    by_end NoMemory h = tt
 
 abbrev pub IsOrphan : List Node → ℕ → Node → Type 0
 IsOrphan g t n = (t ≢ 0) × (role g t ≡ First)
@@ -208,7 +216,7 @@ IsEarly g t n = (p : ℕ) × (parent g t ≡ Some p) × (t ≤ p)
 pub order_fine : (g : List Node) (i : ℕ) → length g ≤ i → NoneBelow g i (IsEarly g) → IsUnbroken g K5
 order_fine g i all none at broken = let inside : broken.0 < length g = broken.1 in none broken.0 (omega (arith, all, inside)) broken.2 broken.3.0
 
-pub ruleset table_rules = (parents_within, clash_parents, clash_block)
+pub ruleset table_rules = (parents_within, parents_clash)
 
 pub ruleset orphan_rules = (none_start, orphans_fine, orphan_bad)
 

@@ -5,6 +5,9 @@ use Rattle.spv_words.specs.declared.rule.Fault.{Fault}
 use Rattle.spv_words.specs.declared.rule.Fault.TheVariants.{Refused, Limit, Memory}
 use Rattle.spv_words.specs.Breaks.{NoRuleBroken}
 use Rattle.structure_rules.specs.declared.graph.Node.{Node}
+use Rattle.structure_rules.specs.Graph.{nth}
+use Rattle.nest_place.specs.declared.links.NoTable.{NoTable}
+use Rattle.nest_place.specs.declared.links.NoTable.TheVariants.{Clash, Memory as NoMemory}
 use Rattle.structure_rules.specs.Structure.{BrokenIn, earlier_structure}
 
 -- the rule is broken nowhere
@@ -16,6 +19,11 @@ abbrev pub IsBroken : List Node → Rule → Fault → Type 0
 IsBroken g rule (Refused r) = (r.rule ≡ rule) × BrokenIn g rule r.at
 IsBroken g rule (Limit l) = ⊥
 IsBroken g rule Memory = Unit {0}
+
+-- why links make no table, as the refusal by a rule of the block that is related to two others
+abbrev pub fault_by : List Node → Rule → NoTable → Fault
+fault_by g rule (Clash c) = Refused (record { rule = rule; at = (nth g c.block).at })
+fault_by g rule NoMemory = Memory
 
 -- no rule with a smaller number is broken
 pub record IsFineBefore (g : List Node) (rule : Rule) : Type 0 where

@@ -12,9 +12,9 @@ ghost use Rattle.nest_place.specs.Nests.{AllInside};
 ghost use Rattle.nest_place.specs.Spots.{IsGrounded};
 
 use crate::cycles::{check_cycles, heights};
-use crate::links::{Link, NoTable, table_of};
+use crate::links::{Link, table_of};
 use crate::nest::Nest;
-use spv_words::{Fault, Refusal, Rule};
+use spv_words::{Fault, Rule};
 use std::alloc::{AllocError, Global};
 
 /// Adds the falls among the edges to these blocks: the case target in whose construct they begin, with
@@ -82,11 +82,7 @@ fn next_table(alloc: Global, nest: &Nest, links: &[Link]) -> Result<Vec<Option<u
     let nodes = nest.nodes();
     match table_of(alloc, nodes.len(), links) {
         Ok(table) => Ok(table),
-        Err(NoTable::Memory) => Err(Fault::Memory),
-        Err(NoTable::Clash(clash)) => Err(Fault::Refused(Refusal {
-            rule: Rule::K9,
-            at: nodes[clash.block].at,
-        })),
+        Err(why) => Err(why.at_block(nodes, Rule::K9)),
     }
 }
 
@@ -115,11 +111,7 @@ fn last_table(alloc: Global, nest: &Nest, links: &[Link]) -> Result<Vec<Option<u
     let turned = turned(alloc, links)?;
     match table_of(alloc, nodes.len(), &turned) {
         Ok(table) => Ok(table),
-        Err(NoTable::Memory) => Err(Fault::Memory),
-        Err(NoTable::Clash(clash)) => Err(Fault::Refused(Refusal {
-            rule: Rule::K10,
-            at: nodes[clash.block].at,
-        })),
+        Err(why) => Err(why.at_block(nodes, Rule::K10)),
     }
 }
 

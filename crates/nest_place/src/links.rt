@@ -1,8 +1,12 @@
 // Relations between blocks, as lists of links.
 ghost use Rattle.std.specs.Prelude.{◌≡◌, ◌<◌, length, None, IfOk, OnOk, IfErr};
+ghost use Rattle.structure_rules.specs.Graph.{nth};
 ghost use Rattle.nest_place.specs.Links.{AreWithin, IsTable, IsSingle, IsRightEnd};
+ghost use Rattle.nest_place.specs.Checks.{fault_by};
 
+use spv_words::{Fault, Refusal, Rule};
 use std::alloc::{AllocError, Global};
+use structure_rules::Node;
 
 /// A block, and another to which it is related.
 pub type Link = (usize, usize);
@@ -29,6 +33,28 @@ impl From<AllocError> for NoTable {
 
     fn from(_: AllocError) -> Self {
         NoTable::Memory
+    }
+}
+
+/// The word at which a block stands.
+fn word_of(nodes: &[Node], block: usize) -> u32
+    ensures { result ≡ (nth nodes.now block).at }
+{
+    nodes.get(block).map_or(0, |node| node.at)
+}
+
+impl NoTable {
+    /// The refusal by a rule at the block that is related to two others.
+    pub fn at_block(self, nodes: &[Node], rule: Rule) -> Fault
+        ensures { result ≡ fault_by nodes.now rule self }
+    {
+        match self {
+            NoTable::Memory => Fault::Memory,
+            NoTable::Clash(clash) => Fault::Refused(Refusal {
+                rule,
+                at: word_of(nodes, clash.block),
+            }),
+        }
     }
 }
 

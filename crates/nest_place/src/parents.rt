@@ -9,7 +9,7 @@ ghost use Rattle.nest_place.specs.Steps.{IsFormed, AreParentLinks, AreRoles, Non
 use crate::forms::is_switch;
 use crate::headers::{Headers, add_links};
 use crate::kinds::merges_to;
-use crate::links::{Link, NoTable, short_table_of};
+use crate::links::{Link, short_table_of};
 use spv_words::{Fault, Refusal, Rule};
 use std::alloc::{AllocError, Global};
 use std::marker::Model;
@@ -73,11 +73,7 @@ fn parent_table(alloc: Global, nodes: &[Node], links: &[Link]) -> Result<Vec<Opt
 {
     match short_table_of(alloc, nodes.len(), links) {
         Ok(table) => Ok(table),
-        Err(NoTable::Memory) => Err(Fault::Memory),
-        Err(NoTable::Clash(clash)) => Err(Fault::Refused(Refusal {
-            rule: Rule::K4,
-            at: nodes[clash.block].at,
-        })),
+        Err(why) => Err(why.at_block(nodes, Rule::K4)),
     }
 }
 
