@@ -4,8 +4,9 @@ ghost use Rattle.std.specs.Option.{option_copied};
 ghost use Rattle.structure_rules.specs.declared.graph.Exit.TheVariants.{Branch, Conditional};
 ghost use Rattle.structure_rules.specs.Graph.{merge_inst as merge_inst_of, terminator as terminator_of, word_of as word_of_inst, index_of, seconds, exit_by, exit_in as exit_in_of, exit_at_end as exit_at_end_of, labels_by, target_labels, merge_by, node_by, nodes as nodes_of};
 
-use crate::labels::Labels;
-use spv_module::{Block, Function, Inst};
+use crate::labels::index;
+use spv_index::Locals;
+use spv_module::{Block, Inst};
 use spv_ops::{Op, OpGroup, Terminator};
 use std::alloc::{AllocError, Global};
 use structure_rules::{Exit, Merge, Node, Targets};
@@ -38,15 +39,15 @@ fn word_of(inst: Option<&Inst>) -> u32
 }
 
 /// What a merge instruction names.
-fn merge_of(labels: &Labels, inst: Option<&Inst>) -> Merge
-    ensures { result ≡ merge_by (index_of labels.now) (option_copied inst.entry) }
+fn merge_of(locals: &Locals, inst: Option<&Inst>) -> Merge
+    ensures { result ≡ merge_by (index_of locals.now) (option_copied inst.entry) }
 {
     let Some(inst) = inst else {
         return Merge::Absent;
     };
-    let merge = labels.index(inst.operand(0));
+    let merge = index(locals, inst.operand(0));
     if inst.op == Op::LoopMerge {
-        Merge::Loop(merge, labels.index(inst.operand(1)))
+        Merge::Loop(merge, index(locals, inst.operand(1)))
     } else {
         Merge::Selection(merge)
     }
@@ -85,88 +86,87 @@ fn exit_of(inst: Option<&Inst>) -> Exit
 }
 
 /// The blocks whose labels are the second of each two words.
-fn seconds_of(alloc: Global, labels: &Labels, words: &[u32]) -> Result<Vec<usize>, AllocError>
-    ensures { IfOk result (λ targets. targets.items ≡ map (index_of labels.now) (seconds words.now)) }
+fn seconds_of(alloc: Global, locals: &Locals, words: &[u32]) -> Result<Vec<usize>, AllocError>
+    ensures { IfOk result (λ targets. targets.items ≡ map (index_of locals.now) (seconds words.now)) }
 {
     let mut rest = words;
     let mut targets = Vec::with_capacity(alloc, words.len() / 2)?;
     while let [_, label, after @ ..] = rest {
-        targets.push(labels.index(*label))?;
+        targets.push(index(locals, *label))?;
         rest = after;
     }
     Ok(targets)
 }
 
 /// The block of an OpBranch with these operands.
-fn branch_target(alloc: Global, labels: &Labels, args: &[u32]) -> Targets
-    ensures { result ≡ map (index_of labels.now) (labels_by Branch args.now) }
+fn branch_target(alloc: Global, locals: &Locals, args: &[u32]) -> Targets
+    ensures { result ≡ map (index_of locals.now) (labels_by Branch args.now) }
 {
     match args {
-        [label, ..] => Targets::one(labels.index(*label)),
+        [label, ..] => Targets::one(index(locals, *label)),
         [] => Targets::listed(Vec::new(alloc)),
     }
 }
 
 /// The blocks of an OpBranchConditional with these operands.
-fn conditional_targets(alloc: Global, labels: &Labels, args: &[u32]) -> Targets
-    ensures { result ≡ map (index_of labels.now) (labels_by Conditional args.now) }
+fn conditional_targets(alloc: Global, locals: &Locals, args: &[u32]) -> Targets
+    ensures { result ≡ map (index_of locals.now) (labels_by Conditional args.now) }
 {
     match args {
-        [_, taken, other, ..] => Targets::two(labels.index(*taken), labels.index(*other)),
-        [_, taken] => Targets::one(labels.index(*taken)),
+        [_, taken, other, ..] => Targets::two(index(locals, *taken), index(locals, *other)),
+        [_, taken] => Targets::one(index(locals, *taken)),
         _ => Targets::listed(Vec::new(alloc)),
     }
 }
 
 /// The blocks to which a terminator of this kind leads.
-fn exits_of(alloc: Global, labels: &Labels, exit: Exit, args: &[u32]) -> Result<Targets, AllocError>
-    ensures { IfOk result (λ targets. targets ≡ map (index_of labels.now) (labels_by exit args.now)) }
+fn exits_of(alloc: Global, locals: &Locals, exit: Exit, args: &[u32]) -> Result<Targets, AllocError>
+    ensures { IfOk result (λ targets. targets ≡ map (index_of locals.now) (labels_by exit args.now)) }
 {
     match exit {
-        Exit::Branch => Ok(branch_target(alloc, labels, args)),
-        Exit::Conditional => Ok(conditional_targets(alloc, labels, args)),
-        Exit::Switch => Ok(Targets::listed(seconds_of(alloc, labels, args)?)),
+        Exit::Branch => Ok(branch_target(alloc, locals, args)),
+        Exit::Conditional => Ok(conditional_targets(alloc, locals, args)),
+        Exit::Switch => Ok(Targets::listed(seconds_of(alloc, locals, args)?)),
         Exit::Leave => Ok(Targets::listed(Vec::new(alloc))),
     }
 }
 
 /// The blocks to which a terminator leads.
-fn targets_of(alloc: Global, labels: &Labels, inst: Option<&Inst>) -> Result<Targets, AllocError>
-    ensures { IfOk result (λ targets. targets ≡ map (index_of labels.now) (target_labels (option_copied inst.entry))) }
+fn targets_of(alloc: Global, locals: &Locals, inst: Option<&Inst>) -> Result<Targets, AllocError>
+    ensures { IfOk result (λ targets. targets ≡ map (index_of locals.now) (target_labels (option_copied inst.entry))) }
 {
     match inst {
         None => Ok(Targets::listed(Vec::new(alloc))),
-        Some(terminator) => exits_of(alloc, labels, exit_of(inst), terminator.args.as_slice()),
+        Some(terminator) => exits_of(alloc, locals, exit_of(inst), terminator.args.as_slice()),
     }
 }
 
 /// The node of a block.
-fn node_of(alloc: Global, labels: &Labels, block: &Block) -> Result<Node, AllocError>
-    ensures { IfOk result (λ node. node ≡ node_by (index_of labels.now) block.now) }
+fn node_of(alloc: Global, locals: &Locals, block: &Block) -> Result<Node, AllocError>
+    ensures { IfOk result (λ node. node ≡ node_by (index_of locals.now) block.now) }
 {
     let merge = merge_inst(block);
     let terminator = terminator(block);
     Ok(Node {
         at: block.at,
-        merge: merge_of(labels, merge),
+        merge: merge_of(locals, merge),
         merge_at: word_of(merge),
         exit: exit_of(terminator),
         exit_at: word_of(terminator),
-        targets: targets_of(alloc, labels, terminator)?,
+        targets: targets_of(alloc, locals, terminator)?,
         reached: false,
     })
 }
 
 /// The nodes of a function's blocks, none of them known to be reached.
 #[tactic(auto, unfolding(structure_rules::specs::Graph::nodes))]
-pub fn nodes(alloc: Global, function: &Function) -> Result<Vec<Node>, AllocError>
-    ensures { IfOk result (λ nodes. nodes.items ≡ nodes_of function.now) }
+pub fn nodes(alloc: Global, locals: &Locals) -> Result<Vec<Node>, AllocError>
+    ensures { IfOk result (λ nodes. nodes.items ≡ nodes_of locals.now) }
 {
-    let labels = Labels::of(alloc, function)?;
-    let blocks = function.blocks.as_slice();
+    let blocks = locals.function().blocks.as_slice();
     let mut nodes = Vec::with_capacity(alloc, blocks.len())?;
     for block in blocks {
-        nodes.push(node_of(alloc, &labels, block)?)?;
+        nodes.push(node_of(alloc, locals, block)?)?;
     }
     Ok(nodes)
 }

@@ -5,7 +5,7 @@ ghost use Rattle.block_graph.specs.Within.{AreWithin, AreReached};
 
 use crate::blocks::nodes;
 use crate::reach::reached;
-use spv_module::Function;
+use spv_index::Locals;
 use std::alloc::{AllocError, Global};
 use structure_rules::Node;
 
@@ -25,13 +25,13 @@ fn tell(nodes: &mut Vec<Node>, marks: &[bool])
 ///
 /// A label that no block has counts as that of the first block.
 #[tactic(auto, using(crate::proofs::Within::graph_rules), unfolding(structure_rules::specs::Graph::graph))]
-pub fn control_flow(alloc: Global, function: &Function) -> Result<Vec<Node>, AllocError>
-    ensures graph { IfOk result (λ graph. graph.items ≡ graph_of function.now) }
-    ensures sized { IfOk result (λ graph. length graph.items ≡ length function.now.blocks) }
+pub fn control_flow(alloc: Global, locals: &Locals) -> Result<Vec<Node>, AllocError>
+    ensures graph { IfOk result (λ graph. graph.items ≡ graph_of locals.now) }
+    ensures sized { IfOk result (λ graph. length graph.items ≡ length locals.now.blocks) }
     ensures within { IfOk result (λ graph. AreWithin graph.items) }
     ensures reached { IfOk result (λ graph. AreReached graph.items) }
 {
-    let mut nodes = nodes(alloc, function)?;
+    let mut nodes = nodes(alloc, locals)?;
     let marks = reached(alloc, &nodes)?;
     tell(&mut nodes, &marks);
     Ok(nodes)

@@ -17,8 +17,9 @@ use glsl_print::print;
 use module_check::read_module;
 use profile_check::Options;
 use spv_decor::Decor;
+use spv_index::Locals;
 use spv_module::Module;
-use spv_words::Fault;
+use spv_words::{Fault, Memory};
 use std::alloc::{AllocError, Global};
 use structure_rules::{Merge, Node};
 
@@ -51,7 +52,7 @@ fn reached_loops(nodes: &[Node]) -> usize
 }
 
 /// The counts of the module's first function.
-fn counts_in(alloc: Global, module: &Module) -> Result<Counts, AllocError>
+fn counts_in(alloc: Global, module: &Module) -> Result<Counts, Memory>
     ensures blocks { IfOk result (λ c. c.blocks ≡ count_blocks is_reached_node «module».now) }
     ensures loops { IfOk result (λ c. c.loops ≡ count_blocks is_reached_loop_node «module».now) }
 {
@@ -61,7 +62,7 @@ fn counts_in(alloc: Global, module: &Module) -> Result<Counts, AllocError>
             loops: 0,
         }),
         Some(function) => {
-            let nodes = control_flow(alloc, function)?;
+            let nodes = control_flow(alloc, &Locals::of(alloc, function)?)?;
             Ok(Counts {
                 blocks: reached_blocks(&nodes),
                 loops: reached_loops(&nodes),

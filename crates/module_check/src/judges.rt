@@ -52,7 +52,7 @@ fn check_later<'m>(
     ensures refused { IfErr result (IsLaterFault «module».now overrides.now.pairs.items entry.function.0) }
 {
     check_rest(alloc, module, decor, locals.as_slice(), overrides)?;
-    let places = check_structure(alloc, module.functions())?;
+    let places = check_structure(alloc, locals.as_slice())?;
     let order = order(alloc, module, entry.function)?;
     Ok(Conforming {
         entry,

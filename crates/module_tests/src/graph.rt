@@ -1,6 +1,7 @@
 // The graph of a small function.
 use block_graph::{control_flow, terminator};
 use sample_modules::module_of;
+use spv_index::Locals;
 use std::test::Fail;
 use structure_rules::{Exit, Merge, Node};
 
@@ -25,7 +26,8 @@ fn is_as(node: &Node, row: &Row) -> bool {
 fn tells_the_graph(rt: HostRuntime) -> Result<(), Fail> {
     let module = module_of(rt.alloc(), &[&MODULE])?;
     let function = module.functions().first().expect(&rt, "one function");
-    let graph = control_flow(rt.alloc(), function)?;
+    let locals = Locals::of(rt.alloc(), function)?;
+    let graph = control_flow(rt.alloc(), &locals)?;
     let rows: [Row; 5] = [
         (10, (Merge::Absent, 0), (Exit::Branch, 12), &[1], true),
         (

@@ -1,23 +1,23 @@
 // The rules of structured control flow, one after another.
 ghost use Rattle.std.specs.Prelude.{◌≡◌, length, IfOk, OnOk, IfErr};
-ghost use Rattle.spv_words.specs.declared.rule.Rule.TheVariants.{K6};
+ghost use Rattle.spv_words.specs.declared.rule.Rule.TheVariants.{K6, K9};
 ghost use Rattle.spv_words.specs.Breaks.{NoRuleBroken};
 ghost use Rattle.structure_rules.specs.Graph.{graph};
-ghost use Rattle.structure_rules.specs.Structure.{BrokenIn, BrokenStructure, IsRightIn, IsRightStructure, IsTooDeep, fall_links, structure_rules};
+ghost use Rattle.structure_rules.specs.Structure.{BrokenIn, BrokenStructure, IsRightIn, IsRightStructure, IsTooDeep, structure_rules};
 ghost use Rattle.block_graph.specs.Within.{AreWithin, AreReached};
 ghost use Rattle.nest_place.specs.Checks.{IsFineBefore};
-ghost use Rattle.nest_place.specs.Links.{IsTable, turned_links};
 ghost use Rattle.nest_place.specs.Spots.{IsGrounded, IsShallow};
 ghost use Rattle.nest_place.specs.Steps.{AreRoles};
 
 use crate::edges::{check_kinds, check_loose};
-use crate::falls::{Falls, check_falls};
+use crate::falls::check_falls;
 use crate::forms::{check_first, check_merges, check_targets};
 use crate::found::Places;
 use crate::headers::Headers;
 use crate::nest::Nest;
 use crate::parents::{check_order, roles};
 use block_graph::control_flow;
+use spv_index::Locals;
 use spv_module::Function;
 use spv_words::Fault;
 use std::alloc::Global;
@@ -54,20 +54,17 @@ fn nest_of(alloc: Global, nodes: Vec<Node>) -> Result<Nest, Fault>
     Nest::of(alloc, nodes, roles)
 }
 
-/// The falls between case targets, where rules K6 to K11 are unbroken.
-fn check_edges(alloc: Global, nest: &Nest) -> Result<Falls, Fault>
+/// Rules K6 to K8, where none before is broken.
+fn check_edges(nest: &Nest) -> Result<(), Fault>
     requires within { AreWithin nest.now }
-    requires grounded { IsGrounded nest.now }
     requires earlier { IsFineBefore nest.now K6 }
-    ensures next { IfOk result (λ falls. IsTable (fall_links nest.now) falls.next.items) }
-    ensures last { IfOk result (λ falls. IsTable (turned_links (fall_links nest.now)) falls.last.items) }
-    ensures passes { OnOk result (NoRuleBroken (BrokenIn nest.now) structure_rules) }
+    ensures passes { OnOk result (IsFineBefore nest.now K9) }
     ensures refused { IfErr result (IsRightIn nest.now) }
 {
     check_targets(nest.nodes())?;
     check_kinds(nest)?;
     check_loose(nest)?;
-    check_falls(alloc, nest)
+    Ok(())
 }
 
 /// The places of a function's blocks (SPIR-V 1.6, section 2.11).
@@ -76,7 +73,6 @@ fn check_edges(alloc: Global, nest: &Nest) -> Result<Falls, Fault>
 /// function, by the one with the smallest number. There is an error `Limit::Depth` where a reached
 /// block is nested more than 127 deep and none of K1 to K5 is broken. A label that no block has counts
 /// as that of the first block.
-#[tactic(auto, using(crate::proofs::Verdict::place_rules))]
 pub fn places(alloc: Global, f: &Function) -> Result<Places, Fault>
     ensures places { IfOk result (λ places. places ≡ graph f.now) }
     ensures sized { IfOk result (λ places. length places ≡ length f.now.blocks) }
@@ -84,8 +80,21 @@ pub fn places(alloc: Global, f: &Function) -> Result<Places, Fault>
     ensures within { OnOk result (IsTooDeep (graph f.now) → ⊥) }
     ensures refused { IfErr result (IsRightStructure f.now) }
 {
-    let nodes = control_flow(alloc, f)?;
+    let locals = Locals::of(alloc, f)?;
+    places_by(alloc, &locals)
+}
+
+/// The same, where it is known what the function defines.
+#[tactic(auto, using(crate::proofs::Verdict::place_rules))]
+pub fn places_by(alloc: Global, locals: &Locals) -> Result<Places, Fault>
+    ensures places { IfOk result (λ places. places ≡ graph locals.now) }
+    ensures passes { OnOk result (NoRuleBroken (BrokenStructure locals.now) structure_rules) }
+    ensures within { OnOk result (IsTooDeep (graph locals.now) → ⊥) }
+    ensures refused { IfErr result (IsRightStructure locals.now) }
+{
+    let nodes = control_flow(alloc, locals)?;
     let nest = nest_of(alloc, nodes)?;
-    let falls = check_edges(alloc, &nest)?;
+    check_edges(&nest)?;
+    let falls = check_falls(alloc, &nest)?;
     Ok(Places::sound(nest, falls))
 }

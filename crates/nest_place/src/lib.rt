@@ -17,5 +17,5 @@ mod parents;
 mod spots;
 
 pub use found::Places;
-pub use judge::places;
+pub use judge::{places, places_by};
 pub use structure_rules::{EdgeKind, Part};

@@ -37,7 +37,7 @@ pub fn planned<L: Ledger>(
 {
     let mut steps = Steps::<L>::new(blank);
     let locals = Locals::of(alloc, f)?;
-    let graph = control_flow(alloc, f)?;
+    let graph = control_flow(alloc, &locals)?;
     let uses = Uses::build(alloc, &locals, reached, &mut steps)?;
     plan(alloc, module, &locals, &graph, &uses, &mut steps)
 }

@@ -1,4 +1,4 @@
-use Rattle.std.proofs.Common.{subst}
+use Rattle.std.proofs.Common.{◌∙◌, subst}
 use Rattle.module_check.specs.Structure.{AreStructured}
 use Rattle.module_check.proofs.judges.check_later.Goals as goal
 
@@ -9,7 +9,7 @@ returns-clause-passes c = record {
   access = c.in_ok-check_rest.ensures.accessed;
   known = c.in_ok-check_rest.ensures.known;
   fits = c.in_ok-check_rest.ensures.fits;
-  structure = subst AreStructured c.functions.ensures c.in_ok-places.ensures.passes;
+  structure = subst AreStructured (c.as_slice-2.ensures.value ∙ c.requires.locals) c.in_ok-places.ensures.passes;
   acyclic = c.in_ok-order.ensures.acyclic;
   calls = c.in_ok-order.ensures.within;
 }

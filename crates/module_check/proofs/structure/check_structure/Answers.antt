@@ -13,9 +13,9 @@ returns-in_err-push-clause-refused c =
 pub loop-function-preserved : goal.loop-function-preserved
 loop-function-preserved c =
     let inside : c.loop-function.function-index < length c.args.functions.now = search rules in
-    let here : IsStructured c.function-item.result = record { unbroken = c.in_ok-places.ensures.passes; shallow = c.in_ok-places.ensures.within } in (
+    let here : IsStructured c.function-item.result = record { unbroken = c.in_ok-places_by.ensures.passes; shallow = c.in_ok-places_by.ensures.within } in (
       structured_more c.args.functions.now c.loop-function.function-index c.function-item.result inside c.function-item.is c.loop-function.invariant.0 here,
-      graphs_more c.args.functions.now c.loop-function.function-index c.function-item.result _ _ c.in_ok-places.field-0 inside c.function-item.is c.loop-function.invariant.1 c.in_ok-places.ensures.places c.in_ok-push.ensures.items,
+      graphs_more c.args.functions.now c.loop-function.function-index c.function-item.result _ _ c.in_ok-places_by.field-0 inside c.function-item.is c.loop-function.invariant.1 c.in_ok-places_by.ensures.places c.in_ok-push.ensures.items,
     )
 
 pub returns-clause-passes : goal.returns-clause-passes

@@ -16,8 +16,8 @@ returns-in_err-check_loose-clause-refused c =
     let right : IsRightIn c.args.nest.now c.in_err-check_loose.field-0.0 = right_after c.args.nest.now K8 c.in_err-check_loose.field-0.0 before c.in_err-check_loose.ensures.refused in
     search rules
 
-pub check_falls-requires-clause-earlier : goal.check_falls-requires-clause-earlier
-check_falls-requires-clause-earlier c =
+pub returns-clause-passes : goal.returns-clause-passes
+returns-clause-passes c =
     fine_9 c.args.nest.now
     (fine_8 c.args.nest.now (before_7 c.args.nest.now c.nodes.result.now c.nodes.ensures c.requires.earlier c.in_ok-check_targets.ensures.passes) c.in_ok-check_kinds.ensures.passes)
     c.in_ok-check_loose.ensures.passes
