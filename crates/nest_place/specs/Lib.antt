@@ -1,3 +1,4 @@
+pub mod Views
 pub mod Links
 pub mod Checks
 pub mod Steps

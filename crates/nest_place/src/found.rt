@@ -24,14 +24,12 @@ pub struct Places {
 }
 
 impl Model for Places {
-    ghost use Rattle.std.specs.Prelude.{List};
-    ghost use Rattle.structure_rules.specs.declared.graph.Node.{Node};
-
-    ghost Value = { List Node };
-
+    ghost use Rattle.nest_place.specs.Views.{Graph};
     ghost use Rattle.structure_rules.specs.Structure.{fall_links};
     ghost use Rattle.nest_place.specs.Links.{IsTable, turned_links};
     ghost use Rattle.nest_place.specs.Nests.{IsSound};
+
+    ghost Value = { Graph };
 
     ghost view = { λ p. p.nest };
 

@@ -23,12 +23,10 @@ pub struct Headers<'a> {
 }
 
 impl<'a> Model for Headers<'a> {
-    ghost use Rattle.std.specs.Prelude.{List};
-    ghost use Rattle.structure_rules.specs.declared.graph.Node.{Node};
-
-    ghost Value = { List Node };
-
+    ghost use Rattle.nest_place.specs.Views.{Graph};
     ghost use Rattle.nest_place.specs.Steps.{AreNamers};
+
+    ghost Value = { Graph };
 
     ghost view = { λ h. h.nodes.now };
 

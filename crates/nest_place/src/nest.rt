@@ -25,12 +25,10 @@ pub struct Nest {
 }
 
 impl Model for Nest {
-    ghost use Rattle.std.specs.Prelude.{List};
-    ghost use Rattle.structure_rules.specs.declared.graph.Node.{Node};
-
-    ghost Value = { List Node };
-
+    ghost use Rattle.nest_place.specs.Views.{Graph};
     ghost use Rattle.nest_place.specs.Nests.{IsNest};
+
+    ghost Value = { Graph };
 
     ghost view = { λ n. n.nodes.items };
 

@@ -12,10 +12,9 @@ pub struct Constructs {
 }
 
 impl Model for Constructs {
-    ghost use Rattle.std.specs.Prelude.{List};
-    ghost use Rattle.structure_rules.specs.declared.graph.Part.{Part};
+    ghost use Rattle.nest_place.specs.Views.{Parts};
 
-    ghost Value = { List Part };
+    ghost Value = { Parts };
 
     ghost view = { λ c. c.parts.items };
 }

@@ -1,6 +1,7 @@
 // The parents of blocks: their headers, switches and predecessors.
 ghost use Rattle.std.specs.Prelude.{◌≡◌, filter, is_none, OnOk, IfOk, IfErr};
 ghost use Rattle.spv_words.specs.declared.rule.Rule.TheVariants.{K4, K5};
+ghost use Rattle.structure_rules.specs.Graph.{edges as edges_of};
 ghost use Rattle.structure_rules.specs.Nesting.{linked, header_of, switch_of, case_targets as case_targets_of, case_links as case_links_of, later_targets as later_targets_of, entry_links as entry_links_of, role as role_of, named_role as named_role_of, parent_of};
 ghost use Rattle.nest_place.specs.Links.{IsSingle, IsTable};
 ghost use Rattle.nest_place.specs.Checks.{IsUnbroken, IsBroken};
@@ -23,31 +24,40 @@ pub struct Cases<'a> {
 }
 
 impl<'a> Model for Cases<'a> {
-    ghost use Rattle.std.specs.Prelude.{List};
-    ghost use Rattle.structure_rules.specs.declared.graph.Node.{Node};
-
-    ghost Value = { List Node };
-
+    ghost use Rattle.nest_place.specs.Views.{Graph};
     ghost use Rattle.nest_place.specs.Steps.{AreSwitches};
+
+    ghost Value = { Graph };
 
     ghost view = { λ c. c.headers };
 
     ghost invariant = { λ c. AreSwitches c.headers c.switches.items };
 }
 
+/// The blocks to which edges lead from a block: none where it is not reached.
+fn edges(node: &Node) -> &[usize]
+    ensures { result.now ≡ edges_of node.now }
+{
+    if node.reached {
+        node.targets.as_slice()
+    } else {
+        &[]
+    }
+}
+
 /// The targets of a reached OpSwitch that no header names.
 fn case_targets(alloc: Global, headers: &Headers, node: &Node) -> Result<Vec<usize>, AllocError>
     ensures { IfOk result (λ targets. targets.items ≡ case_targets_of headers.now node.now) }
 {
-    if !node.reached || !is_switch(node.exit) {
-        return Ok(Vec::new(alloc));
+    if is_switch(node.exit) {
+        edges(node)
+            .iter()
+            .copied()
+            .filter(|target| headers.header(*target).is_none())
+            .collect(alloc)
+    } else {
+        Ok(Vec::new(alloc))
     }
-    node.targets
-        .as_slice()
-        .iter()
-        .copied()
-        .filter(|target| headers.header(*target).is_none())
-        .collect(alloc)
 }
 
 /// Each case target, with its switch.
@@ -120,11 +130,7 @@ fn later_targets(
 ) -> Result<Vec<usize>, AllocError>
     ensures { IfOk result (λ targets. targets.items ≡ later_targets_of cases.now block node.now) }
 {
-    if !node.reached {
-        return Ok(Vec::new(alloc));
-    }
-    node.targets
-        .as_slice()
+    edges(node)
         .iter()
         .copied()
         .filter(|target| {
