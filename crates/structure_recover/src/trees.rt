@@ -1,8 +1,8 @@
 // From blocks to regions.
-ghost use Rattle.std.specs.Prelude.{◌≡◌, ◌++◌, ◌∷◌, [], true, false, IfOk, OnOk};
+ghost use Rattle.std.specs.Prelude.{◌≡◌, ◌++◌, ◌∷◌, [], true, false, IfOk, OnOk, map};
 ghost use Rattle.structure_rules.specs.Graph.{graph, nth, is_conditional, is_switch};
-ghost use Rattle.structure_recover.specs.Tree.{head as head_of, is_loop};
-ghost use Rattle.structure_recover.specs.View.{region_of, item_of};
+ghost use Rattle.structure_recover.specs.Tree.{head as head_of, is_loop, switch as switch_item};
+ghost use Rattle.structure_recover.specs.View.{region_of, item_of, group_of, groups_of};
 ghost use Rattle.structure_recover.specs.Follows.{Follows, FollowsItem, StandsAt, IsTree, first as first_of};
 ghost use Rattle.structure_recover.specs.Once.{StandsOnce};
 ghost use Rattle.structure_recover.specs.Later.{IsReached, block_of};
@@ -107,7 +107,13 @@ fn block_item(alloc: Global, f: &Function, places: &Places, block: usize) -> Res
     match node(places, block).exit {
         Terminator::Branch | Terminator::Leave => Ok(Item::Plain(block)),
         Terminator::Conditional => conditional(alloc, f, places, block),
-        Terminator::Switch => switch(alloc, f, places, block),
+        Terminator::Switch => {
+            let groups = groups(alloc, f, places, block)?;
+            Ok(Item::Switch {
+                head: block,
+                groups,
+            })
+        }
     }
 }
 
@@ -131,14 +137,12 @@ fn conditional(alloc: Global, f: &Function, places: &Places, head: usize) -> Res
     }
 }
 
-/// A switch.
+/// The groups of a switch.
 #[cycle(recover)]
-#[tactic(auto, using(crate::proofs::Views::view_rules))]
-fn switch(alloc: Global, f: &Function, places: &Places, head: usize) -> Result<Item, Memory>
+fn groups(alloc: Global, f: &Function, places: &Places, head: usize) -> Result<Vec<Group>, Memory>
     requires reached { (nth places.now head).reached ≡ true }
     requires switch { is_switch (nth places.now head).exit ≡ true }
-    ensures head { IfOk result (λ i. (head_of (item_of i) ≡ head) × (is_loop (item_of i) ≡ false)) }
-    ensures follows { IfOk result (λ i. FollowsItem f.now places.now (item_of i)) }
+    ensures { IfOk result (λ groups. FollowsItem f.now places.now (switch_item head (groups_of (map group_of groups.items)))) }
 {
     let arms = arms_of(alloc, f, places, head)?;
     let mut groups = Vec::with_capacity(alloc, arms.len())?;
@@ -151,7 +155,7 @@ fn switch(alloc: Global, f: &Function, places: &Places, head: usize) -> Result<I
             body,
         })?;
     }
-    Ok(Item::Switch { head, groups })
+    Ok(groups)
 }
 
 /// Where the tree of a function begins: with its first block, where it has one.

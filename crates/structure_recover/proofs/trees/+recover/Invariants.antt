@@ -21,8 +21,8 @@ decreases-block_item l = (length l.places.now - l.block) * 8 + 1
 abbrev pub decreases-conditional : goal.decreases-conditional
 decreases-conditional l = (length l.places.now - l.head) * 8
 
-abbrev pub decreases-switch : goal.decreases-switch
-decreases-switch l = (length l.places.now - l.head) * 8
+abbrev pub decreases-groups : goal.decreases-groups
+decreases-groups l = (length l.places.now - l.head) * 8
 
 abbrev pub invariant-region-loop-next : goal.invariant-region-loop-next
 invariant-region-loop-next l = record {
@@ -34,8 +34,8 @@ invariant-region-loop-next l = record {
 abbrev pub decreases-region-loop-next : goal.decreases-region-loop-next
 decreases-region-loop-next l = rank (length l.places) l.next
 
-abbrev pub invariant-switch-loop-arm : goal.invariant-switch-loop-arm
-invariant-switch-loop-arm l = record {
+abbrev pub invariant-groups-loop-arm : goal.invariant-groups-loop-arm
+invariant-groups-loop-arm l = record {
   targets : tree.targets (groups_of (map group_of l.groups.items)) ≡ map (λ (a : Arm). a.target) l.yielded;
   follows : FollowsGroups l.f l.places (groups_of (map group_of l.groups.items)) l.head;
 }
