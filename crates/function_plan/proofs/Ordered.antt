@@ -1,19 +1,20 @@
 -- The orders of the targets of switches, one after another.
-use Rattle.std.proofs.Common.{◌≡◌, ◌≤◌, ◌+◌, ℕ, true, false, List, [], ◌∷◌, ◌++◌, Some, None, cond, length, map, refl, sym, ◌∙◌, ap, inl, inr, arith}
+use Rattle.std.proofs.Common.{◌≡◌, ◌<◌, ◌≤◌, ◌+◌, ℕ, Bool, true, false, not, List, [], ◌∷◌, ◌++◌, Some, None, cond, filter, get_or, length, map, take, refl, sym, ◌∙◌, ap, inl, inr, arith}
 use Rattle.std.specs.Prelude.{if◌then◌else◌}
 use Rattle.std.specs.List.{concat, flat_map}
 use Rattle.std.specs.BTreeMap.{BTreeMap, get, is_at}
 use Rattle.std.specs.Ordering.{nat_cmp}
 use Rattle.std.specs.declared.vec.Vec.{Vec}
 use Rattle.std.specs.declared.alloc.Global.{Global}
-use Rattle.std.proofs.lemmas.List.{get_or_past}
+use Rattle.std.proofs.lemmas.List.{append_assoc, get_or_past}
+use Rattle.std.proofs.lemmas.List.Elements.{filter_more}
 use Rattle.std.proofs.lemmas.Bool.{cases_lt}
 use Rattle.std.proofs.lemmas.Bool.Decides.{eqb_tells}
 use Rattle.structure_rules.specs.declared.graph.Node.{Node}
 use Rattle.structure_rules.specs.Graph.{no_node, nth}
 use Rattle.switch_ladder.specs.Ladder.{items_of}
 use Rattle.function_plan.specs.Moved.{items_at}
-use Rattle.function_plan.specs.Orders.{is_reached_switch, order_of, order_by}
+use Rattle.function_plan.specs.Orders.{others_of, is_reached_switch, order_of, order_by}
 use Rattle.function_plan.specs.Planned.{order_in, AreOrdersBelow}
 use Rattle.function_plan.proofs.Moving.{at_is}
 
@@ -23,6 +24,18 @@ Orders = BTreeMap ℕ (Vec ℕ Global)
 pub joined : (cs : List (Vec ℕ Global)) → flat_map items_of cs ≡ concat (map items_of cs)
 joined [] = refl
 joined (c ∷ cs) = ap (λ xs. c.items ++ xs) (joined cs)
+
+-- one target more
+pub other_more : (set : ℕ → Bool) (ts : List ℕ) (i : ℕ) (passes : Bool) (start old new : List ℕ) → i < length ts → passes ≡ not (set (get_or ts i 0)) → new ≡ old ++ (if passes then get_or ts i 0 ∷ [] else [])
+    → old ≡ start ++ others_of set (take i ts) → new ≡ start ++ others_of set (take (i + 1) ts)
+other_more set ts i passes start old new less is more e =
+    let t = get_or ts i 0 in
+    let one : Bool → List ℕ = λ b. if b then t ∷ [] else [] in
+    let before = others_of set (take i ts) in
+    more
+    ∙ (ap (λ q. q ++ one passes) e
+    ∙ (append_assoc start before (one passes)
+    ∙ ap (λ q. start ++ q) (ap (λ b. before ++ one b) is ∙ sym (filter_more (λ x. not (set x)) ts i 0 less))))
 
 -- at first there are none
 pub orders_none : (g : List Node) (orders : Orders) → ((h : ℕ) → get nat_cmp orders h ≡ None) → AreOrdersBelow g 0 orders

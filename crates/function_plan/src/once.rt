@@ -16,12 +16,12 @@ pub fn is_new(seen: &mut BTreeSet<usize>, id: usize) -> Result<bool, AllocError>
     Ok(new)
 }
 
-/// Adds a number, where it is new.
-fn add_if(list: &mut Vec<usize>, id: usize, passes: bool) -> Result<(), AllocError>
-    ensures { OnOk result (list.new.items ≡ list.old.items ++ (if passes then id ∷ [] else [])) }
+/// Adds an item, where it passes.
+pub fn add_if<T: Copy>(list: &mut Vec<T>, item: T, passes: bool) -> Result<(), AllocError>
+    ensures { OnOk result (list.new.items ≡ list.old.items ++ (if passes then item ∷ [] else [])) }
 {
     if passes {
-        list.push(id)?;
+        list.push(item)?;
     }
     Ok(())
 }

@@ -1,21 +1,20 @@
 // In which order the targets of switches are written.
-ghost use Rattle.std.specs.Prelude.{◌≡◌, ◌<◌, ◌++◌, ◌||◌, ◌==◌, ◌+◌, ℕ, true, IfOk, OnOk, flat_map, length, map};
+ghost use Rattle.std.specs.Prelude.{◌≡◌, ◌<◌, ◌++◌, ◌||◌, ◌==◌, ◌+◌, ℕ, true, IfOk, OnOk, flat_map, length};
 ghost use Rattle.std.specs.BTreeSet.{contains};
 ghost use Rattle.std.specs.Ordering.{nat_cmp};
-ghost use Rattle.structure_rules.specs.Graph.{graph, nth};
+ghost use Rattle.structure_rules.specs.Graph.{nth};
 ghost use Rattle.switch_ladder.specs.Ladder.{items_of};
-ghost use Rattle.structure_recover.specs.Follows.{switch_targets};
 ghost use Rattle.function_plan.specs.Orders.{is_among, others_of, order_with as order_with_targets, order_of as order_at, order_by, is_reached_switch as is_reached_switch_node};
 ghost use Rattle.function_plan.specs.Planned.{order_in, AreOrdersBelow};
 
+use crate::once::add_if;
 use nest_place::Places;
-use spv_module::Function;
 use spv_words::Memory;
 use std::alloc::{AllocError, Global};
 use std::collections::{BTreeMap, BTreeSet};
-use structure_recover::{Arm, arms_of};
+use structure_recover::targets_of;
 use structure_rules::{Exit, Node};
-use switch_ladder::chains;
+use switch_ladder::chains_among;
 
 /// For each switch that is reached the order of its targets.
 pub type Orders = BTreeMap<usize, Vec<usize>>;
@@ -61,44 +60,40 @@ pub fn set_of(alloc: Global, blocks: &[usize]) -> Result<BTreeSet<usize>, AllocE
 /// Adds the targets that are in no chain.
 fn add_others(
     order: &mut Vec<usize>,
-    arms: &[Arm],
+    targets: &[usize],
     chained: &BTreeSet<usize>,
 ) -> Result<(), AllocError>
-    ensures { OnOk result (order.new.items ≡ order.old.items ++ others_of (contains nat_cmp chained.now) (map (λ a. a.target) arms.now)) }
+    ensures { OnOk result (order.new.items ≡ order.old.items ++ others_of (contains nat_cmp chained.now) targets.now) }
 {
-    for arm in arms {
-        if !chained.contains(&arm.target) {
-            order.push(arm.target)?;
-        }
+    for target in targets {
+        add_if(order, *target, !chained.contains(target))?;
     }
     Ok(())
 }
 
 /// The blocks of chains, and then those targets that are in no chain.
-fn order_with(alloc: Global, chains: &[Vec<usize>], arms: &[Arm]) -> Result<Vec<usize>, AllocError>
-    ensures { IfOk result (λ order. order.items ≡ order_with_targets (flat_map items_of chains.now) (map (λ a. a.target) arms.now)) }
+fn order_with(
+    alloc: Global,
+    chains: &[Vec<usize>],
+    targets: &[usize],
+) -> Result<Vec<usize>, AllocError>
+    ensures { IfOk result (λ order. order.items ≡ order_with_targets (flat_map items_of chains.now) targets.now) }
 {
-    let mut order = chained(alloc, chains, arms.len())?;
+    let mut order = chained(alloc, chains, targets.len())?;
     let set = set_of(alloc, order.as_slice())?;
-    add_others(&mut order, arms, &set)?;
+    add_others(&mut order, targets, &set)?;
     Ok(order)
 }
 
 /// The targets of a switch in the order in which they are written: its chains, and then the others in the order of the
 /// function (GLSL 4.60, section 6.2).
-fn order_of(
-    alloc: Global,
-    function: &Function,
-    places: &Places,
-    header: usize,
-) -> Result<Vec<usize>, Memory>
-    requires graph { places.now ≡ graph function.now }
-    requires reached { (nth places.now header).reached ≡ true }
+fn order_of(alloc: Global, places: &Places, header: usize) -> Result<Vec<usize>, Memory>
+    requires { (nth places.now header).reached ≡ true }
     ensures { IfOk result (λ order. order.items ≡ order_at places.now header) }
 {
-    let chains = chains(alloc, function, places, header)?;
-    let arms = arms_of(alloc, function, places, header)?;
-    let order = order_with(alloc, chains.as_slice(), arms.as_slice())?;
+    let targets = targets_of(alloc, places, header)?;
+    let chains = chains_among(alloc, places, header, targets.as_slice())?;
+    let order = order_with(alloc, chains.as_slice(), targets.as_slice())?;
     Ok(order)
 }
 
@@ -112,17 +107,15 @@ fn is_reached_switch(node: &Node) -> bool
 fn add_order(
     orders: &mut Orders,
     alloc: Global,
-    function: &Function,
     places: &Places,
     header: usize,
 ) -> Result<(), Memory>
-    requires graph { places.now ≡ graph function.now }
     requires within { header < length places.now }
     requires below { AreOrdersBelow places.now header orders.old }
     ensures { OnOk result (AreOrdersBelow places.now (header + 1) orders.new) }
 {
     if is_reached_switch(&places.nodes()[header]) {
-        let order = order_of(alloc, function, places, header)?;
+        let order = order_of(alloc, places, header)?;
         orders.insert(header, order)?;
     }
     Ok(())
@@ -130,13 +123,12 @@ fn add_order(
 
 /// The orders of the targets of the switches that are reached.
 #[tactic(auto, using(crate::proofs::Ordered::order_rules))]
-pub fn orders_of(alloc: Global, function: &Function, places: &Places) -> Result<Orders, Memory>
-    requires { places.now ≡ graph function.now }
+pub fn orders_of(alloc: Global, places: &Places) -> Result<Orders, Memory>
     ensures { IfOk result (λ orders. (h : ℕ) → order_in orders h ≡ order_by places.now h) }
 {
     let mut orders = BTreeMap::new(alloc);
     for header in 0..places.nodes().len() {
-        add_order(&mut orders, alloc, function, places, header)?;
+        add_order(&mut orders, alloc, places, header)?;
     }
     Ok(orders)
 }

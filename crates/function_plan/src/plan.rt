@@ -89,7 +89,7 @@ impl<'a> FunctionPlan<'a> {
         let region = recover(alloc, function, &places)?;
         let phis = phi_blocks(alloc, function, &naming)?;
         let flags = flag_sets(alloc, function, &places, &region, phis.as_slice())?;
-        let orders = orders_of(alloc, function, &places)?;
+        let orders = orders_of(alloc, &places)?;
         let nodes = places.into_nodes();
         let named = named(alloc, function, nodes.as_slice(), &naming)?;
         let moves = moves_of(alloc, module, &locals, &naming, phis.as_slice())?;

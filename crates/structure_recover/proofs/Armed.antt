@@ -16,7 +16,7 @@ use Rattle.nest_place.proofs.LinkLemmas.{same_nat}
 use Rattle.nest_place.proofs.Verdict.{edge_inside}
 use Rattle.structure_recover.specs.declared.arms.Arm.{Arm}
 use Rattle.structure_recover.specs.Follows.{switch_targets, labels_to, literals_by, last_inst}
-use Rattle.structure_recover.specs.Arms.{IsArm, AreArms, AreLabelled, Adds, target_of}
+use Rattle.structure_recover.specs.Arms.{IsArm, AreArms, AreTargets, AreLabelled, Adds, target_of}
 use Rattle.structure_recover.proofs.Kids.{not_equal}
 
 -- each number is at least this one, and more than the one before it
@@ -80,6 +80,29 @@ rising_filter p (suc n) i (k ∷ ks) up same low = elim (eqb_tells k i) [
     or_later true b e = refl
     or_later false b e = e
 
+-- each of these is one of them
+any_own : (ts : List ℕ) (k d : ℕ) → k < length ts → list_any (λ t. t == get_or ts k d) ts ≡ true
+any_own [] k d less = absurd (omega (arith, less))
+any_own (t ∷ ts) zero d less = ap (λ b. b || list_any (λ x. x == t) ts) (same_nat t)
+any_own (t ∷ ts) (suc k) d less = or_later (t == get_or ts k d) (list_any (λ x. x == get_or ts k d) ts) (any_own ts k d (omega (arith, less)))
+  where
+    or_later : (a b : Bool) → b ≡ true → (a || b) ≡ true
+    or_later true b e = refl
+    or_later false b e = e
+
+-- the blocks to which a node leads, each once, in their order
+pub are_targets : (g : List Node) (h : ℕ) (n : Node) (ts order : List ℕ) → IsSound g → (nth g h).reached ≡ true → n ≡ nth g h → ts ≡ n.targets
+    → IsStrictlyIncreasing order → ((q : ℕ) → list_any (λ t. t == q) order ≡ list_any (λ t. t == q) ts) → AreTargets g h order
+are_targets g h n ts order sound here n_is ts_is up same = record { all = order_filter; leads = λ k d less. sym (leads (get_or order k d)) ∙ any_own order k d less }
+  where
+    leads : (q : ℕ) → list_any (λ t. t == q) order ≡ leads_to q (nth g h)
+    leads q = same q ∙ ap (list_any (λ t. t == q)) (ts_is ∙ ap (λ (m : Node). m.targets) n_is)
+
+    order_filter : order ≡ switch_targets g h
+    order_filter =
+        rising_filter (λ t. leads_to t (nth g h)) (length g) 0 order (rises order 0 (sorted_from_strictly_increasing order up) (λ k rest e. omega arith))
+        (λ t a b. leads t) (λ t e. let less = edge_inside g h t sound here (sym (leads t) ∙ e) in omega (arith, less))
+
 -- an arm's target is among the targets
 any_target : (arms : List Arm) (k : ℕ) (d : Arm) → k < length arms → list_any (λ t. t == (get_or arms k d).target) (map target_of arms) ≡ true
 any_target [] k d less = absurd (omega (arith, less))
@@ -103,9 +126,7 @@ are_arms f g h order ts ls default bare arms sound here ts_is ls_is default_is u
     all_targets = adds.targets ∙ targets
 
     order_filter : order ≡ switch_targets g h
-    order_filter =
-        rising_filter (λ t. leads_to t (nth g h)) (length g) 0 order (rises order 0 (sorted_from_strictly_increasing order up) (λ k rest e. omega arith))
-        (λ t a b. leads t) (λ t e. let less = edge_inside g h t sound here (sym (leads t) ∙ e) in omega (arith, less))
+    order_filter = (are_targets g h (nth g h) ts order sound here refl ts_is up same).all
 
     each : (k : ℕ) (d : Arm) → k < length arms → IsArm f g h (get_or arms k d)
     each k d less =

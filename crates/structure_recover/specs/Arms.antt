@@ -15,6 +15,11 @@ pub record AreArms (f : Function) (g : List Node) (s : ℕ) (arms : List Arm) : 
   pub targets : map (λ (a : Arm). a.target) arms ≡ switch_targets g s
   pub each : (k : ℕ) (d : Arm) → k < length arms → IsArm f g s (slice_index_or arms k d)
 
+-- the blocks to which a switch leads, in the order in which they stand in the function
+pub record AreTargets (g : List Node) (s : ℕ) (ts : List ℕ) : Type 0 where
+  pub all : ts ≡ switch_targets g s
+  pub leads : (k d : ℕ) → k < length ts → leads_to (slice_index_or ts k d) (nth g s) ≡ true
+
 abbrev pub target_of : Arm → ℕ
 target_of a = a.target
 

@@ -4,7 +4,7 @@ ghost use Rattle.std.specs.List.{list_any, zip};
 ghost use Rattle.std.specs.List.Sorted.{IsStrictlyIncreasing};
 ghost use Rattle.structure_rules.specs.Graph.{nth};
 ghost use Rattle.structure_recover.specs.Follows.{firsts, literals_by, last_inst};
-ghost use Rattle.structure_recover.specs.Arms.{AreArms, AreLabelled, Adds, first_literal as first_of_cases, target_of};
+ghost use Rattle.structure_recover.specs.Arms.{AreArms, AreTargets, AreLabelled, Adds, first_literal as first_of_cases, target_of};
 
 use crate::edges::node;
 use block_graph::terminator;
@@ -152,7 +152,16 @@ fn add_literals(
     Ok(())
 }
 
-/// The targets of a switch, in the order in which they stand in the function.
+/// The blocks to which a switch leads, in the order in which they stand in the function.
+pub fn targets_of(alloc: Global, places: &Places, head: usize) -> Result<Vec<usize>, Memory>
+    requires { (nth places.now head).reached ≡ true }
+    ensures { IfOk result (λ targets. AreTargets places.now head targets.items) }
+{
+    let order = in_function(alloc, node(places, head).targets.as_slice())?;
+    Ok(order)
+}
+
+/// The targets of a switch with their literals, in the order in which they stand in the function.
 pub fn arms_of(
     alloc: Global,
     f: &Function,

@@ -6,7 +6,7 @@ mod edges;
 mod region;
 mod trees;
 
-pub use arms::{Arm, arms_of};
+pub use arms::targets_of;
 pub use edges::continue_block;
 pub use region::{Exit, Group, Item, Region};
 pub use trees::recover;

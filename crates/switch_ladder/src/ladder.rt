@@ -2,14 +2,14 @@
 ghost use Rattle.std.specs.Prelude.{◌≡◌, ◌++◌, ◌∷◌, [], true, length, map, filter, if◌then◌else◌, IfOk, OnOk};
 ghost use Rattle.structure_rules.specs.Graph.{graph, nth, leads_to};
 ghost use Rattle.structure_rules.specs.Structure.{fall_links};
-ghost use Rattle.structure_recover.specs.Follows.{switch_targets};
+ghost use Rattle.structure_recover.specs.Arms.{AreTargets};
 ghost use Rattle.switch_ladder.specs.Ladder.{items_of, begins_chain as begins_chain_at, chain_of, chains_of as chains_at};
 
 use nest_place::{EdgeKind, Places};
 use spv_module::Function;
 use spv_words::Memory;
 use std::alloc::{AllocError, Global};
-use structure_recover::arms_of;
+use structure_recover::targets_of;
 
 /// Whether a switch enters the case target, and no case falls into it.
 #[tactic(auto, using(crate::proofs::Chained::begin_rules))]
@@ -52,17 +52,41 @@ pub fn add_if(blocks: &mut Vec<usize>, block: usize, passes: bool) -> Result<(),
 }
 
 /// The case targets of a switch into which no case falls.
-fn starts(alloc: Global, f: &Function, places: &Places, head: usize) -> Result<Vec<usize>, Memory>
-    requires { (nth places.now head).reached ≡ true }
-    ensures { IfOk result (λ starts. starts.items ≡ filter (begins_chain_at places.now head) (switch_targets places.now head)) }
+fn starts(
+    alloc: Global,
+    places: &Places,
+    head: usize,
+    targets: &[usize],
+) -> Result<Vec<usize>, AllocError>
+    requires reached { (nth places.now head).reached ≡ true }
+    requires targets { AreTargets places.now head targets.now }
+    ensures { IfOk result (λ starts. starts.items ≡ filter (begins_chain_at places.now head) targets.now) }
 {
-    let arms = arms_of(alloc, f, places, head)?;
     let mut starts = Vec::new(alloc);
-    for arm in &arms {
-        let begins = begins_chain(places, head, arm.target);
-        add_if(&mut starts, arm.target, begins)?;
+    for target in targets {
+        let begins = begins_chain(places, head, *target);
+        add_if(&mut starts, *target, begins)?;
     }
     Ok(starts)
+}
+
+/// The chains of a switch, where these are its targets.
+pub fn chains_among(
+    alloc: Global,
+    places: &Places,
+    header: usize,
+    targets: &[usize],
+) -> Result<Vec<Vec<usize>>, Memory>
+    requires reached { (nth places.now header).reached ≡ true }
+    requires targets { AreTargets places.now header targets.now }
+    ensures { IfOk result (λ chains. map items_of chains.items ≡ chains_at places.now header) }
+{
+    let starts = starts(alloc, places, header, targets)?;
+    let mut chains = Vec::new(alloc);
+    for start in &starts {
+        chains.push(chain(alloc, places, *start)?)?;
+    }
+    Ok(chains)
 }
 
 /// The case targets of a switch, each followed by the one into which its construct falls
@@ -70,18 +94,14 @@ fn starts(alloc: Global, f: &Function, places: &Places, head: usize) -> Result<V
 /// the function.
 pub fn chains(
     alloc: Global,
-    f: &Function,
+    _f: &Function,
     places: &Places,
     header: usize,
 ) -> Result<Vec<Vec<usize>>, Memory>
-    requires graph { places.now ≡ graph f.now }
+    requires graph { places.now ≡ graph _f.now }
     requires reached { (nth places.now header).reached ≡ true }
-    ensures { IfOk result (λ chains. map items_of chains.items ≡ chains_at places.now header) }
+    ensures chains { IfOk result (λ chains. map items_of chains.items ≡ chains_at places.now header) }
 {
-    let starts = starts(alloc, f, places, header)?;
-    let mut chains = Vec::new(alloc);
-    for start in &starts {
-        chains.push(chain(alloc, places, *start)?)?;
-    }
-    Ok(chains)
+    let targets = targets_of(alloc, places, header)?;
+    chains_among(alloc, places, header, &targets)
 }

@@ -4,5 +4,5 @@
 mod ladder;
 mod plan;
 
-pub use ladder::chains;
+pub use ladder::{chains, chains_among};
 pub use plan::{FlagPlan, flags};

@@ -1,14 +1,15 @@
-use Rattle.std.proofs.Common.{◌∙◌, ap, map, filter}
-use Rattle.structure_recover.specs.declared.arms.Arm.{Arm}
+use Rattle.std.proofs.Common.{ℕ, get_or}
 use Rattle.switch_ladder.specs.Ladder.{begins_chain}
 use Rattle.switch_ladder.proofs.Chained.{pass_more, pass_end}
 use Rattle.switch_ladder.proofs.ladder.starts.Goals as goal
 
-pub loop-arm-preserved : goal.loop-arm-preserved
-loop-arm-preserved c =
-    pass_more (begins_chain c.args.places.now c.args.head) c.deref-arm-items.result.now c.loop-arm.arm-index c.arm-item.result c.loop-arm.starts.items c.add_if.new.blocks.items _ c.begins_chain-begins.result c.loop-arm-test.true c.arm-item.is c.begins_chain-begins.ensures c.in_ok-add_if.ensures c.loop-arm.invariant
+pub begins_chain-begins-requires-clause-leads : goal.begins_chain-begins-requires-clause-leads
+begins_chain-begins-requires-clause-leads c = c.requires.targets.leads c.loop-target.target-index 0 c.loop-target-test.true
+
+pub loop-target-preserved : goal.loop-target-preserved
+loop-target-preserved c =
+    pass_more (begins_chain c.args.places.now c.args.head) c.args.targets.now c.loop-target.target-index c.loop-target.starts.items c.add_if.new.blocks.items _ c.begins_chain-begins.result c.loop-target-test.true c.begins_chain-begins.ensures c.in_ok-add_if.ensures c.loop-target.invariant
 
 pub returns : goal.returns
 returns c =
-    pass_end (begins_chain c.args.places.now c.args.head) c.deref-arm-items.result.now c.loop-arm.arm-index c.loop-arm.starts.items _ c.loop-arm-test.false c.loop-arm.invariant
-    ∙ ap (filter (begins_chain c.args.places.now c.args.head)) (ap (map (λ (a : Arm). a.target)) c.deref-arm-items.ensures.value ∙ c.in_ok-arms.ensures.targets)
+    pass_end (begins_chain c.args.places.now c.args.head) c.args.targets.now c.loop-target.target-index c.loop-target.starts.items _ c.loop-target-test.false c.loop-target.invariant
