@@ -6,6 +6,5 @@ pub mod Edges
 pub mod Phied
 pub mod Moving
 pub mod Ordered
-pub mod Twos
 pub mod One
 pub mod Lone

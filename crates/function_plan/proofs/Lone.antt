@@ -1,8 +1,6 @@
 -- The moves of one phi.
-use Rattle.std.proofs.Common.{◌≡◌, ◌==◌, ◌≤◌, ◌+◌, ◌||◌, ℕ, zero, suc, Bool, true, false, List, [], ◌∷◌, ◌++◌, Option, Some, None, cond, if◌then◌else◌, length, get_or, drop, map, filter, find, refl, sym, ◌∙◌, ap, subst, arith}
-use Rattle.std.specs.Prelude.{slice_get}
-use Rattle.std.specs.Option.{option_map_or}
-use Rattle.std.specs.List.{enumerate_from, flat_map, list_any}
+use Rattle.std.proofs.Common.{◌≡◌, ◌==◌, ◌≤◌, ℕ, Bool, true, false, List, [], ◌∷◌, ◌++◌, Option, Some, None, cond, if◌then◌else◌, length, get_or, drop, map, filter, find, refl, sym, ◌∙◌, ap, subst, arith}
+use Rattle.std.specs.List.{flat_map}
 use Rattle.std.specs.declared.vec.Vec.{Vec}
 use Rattle.std.specs.declared.alloc.Global.{Global}
 use Rattle.std.proofs.lemmas.Bool.{eq-eqb}
@@ -15,8 +13,8 @@ use Rattle.phi_copies.specs.declared.moves.Move.{Move}
 use Rattle.phi_copies.specs.Sequence.{Pair, target, IsSequence}
 use Rattle.function_plan.specs.declared.edge_moves.Moves.{Moves}
 use Rattle.function_plan.specs.Once.{with_id, once_by, no_id}
-use Rattle.function_plan.specs.Phis.{is_live_phi, live_phis, has_live_phi, phi_block, phi_blocks, pair_with, values_in, comes_from, given_words, given_by, pairs_into, pairs, firsts}
-use Rattle.function_plan.specs.Moved.{items_at, moves_from, moves_in, single, first_moves, left_moves, AreMovesFor}
+use Rattle.function_plan.specs.Phis.{is_live_phi, live_phis, pair_with, values_in, comes_from, given_words, given_by, pairs_into, firsts}
+use Rattle.function_plan.specs.Moved.{items_at, moves_from, single, first_moves, left_moves, AreMovesFor}
 use Rattle.function_plan.proofs.Moving.{none_left}
 use Rattle.function_plan.proofs.One.{single_moves}
 use Rattle.function_plan.proofs.Phied.{one, given_step}
@@ -58,7 +56,7 @@ first_sequence gs f b phi = first_by gs phi.result (filter (comes_from f b) (val
 pub only_given : {A B : Type 0} (g : A → List B) (xs : List A) (x : A) → xs ≡ x ∷ [] → flat_map g xs ≡ g x
 only_given g xs x is = ap (flat_map g) is ∙ append-nil (g x)
 
-pub no_items : {A : Type 0} (zs : List A) → length zs ≡ 0 → zs ≡ []
+no_items : {A : Type 0} (zs : List A) → length zs ≡ 0 → zs ≡ []
 no_items [] e = refl
 no_items (z ∷ zs) e = absurd (omega (arith, e))
 
@@ -75,27 +73,3 @@ pub moves_one : (gs : List Inst) (form : ℕ → Form) (f : Function) (block : B
 moves_one gs form f block phi moves size found made b =
     let all : pairs_into gs form f b block ≡ given_by gs f b phi = only_given (given_by gs f b) (live_phis form block) phi (only_found (is_live_phi form) block.insts phi size found) in
     subst (λ (ps : List Pair). IsSequence (firsts ps) (items_at (moves_from moves b))) (sym all) (made b)
-
--- a function without live phis
-none_kept : {A : Type 0} (p : A → Bool) (xs : List A) → list_any p xs ≡ false → filter p xs ≡ []
-none_kept p [] none = refl
-none_kept p (x ∷ xs) none = step (p x) (none_kept p xs) none
-  where
-    step : (b : Bool) → (list_any p xs ≡ false → filter p xs ≡ []) → (b || list_any p xs) ≡ false → (if b then x ∷ filter p xs else filter p xs) ≡ []
-    step true rest e = cc
-    step false rest e = rest e
-
-no_pairs : (gs : List Inst) (form : ℕ → Form) (f : Function) (b n : ℕ) (blocks : List Block) (t : ℕ) → flat_map (phi_block form) (enumerate_from n blocks) ≡ [] → option_map_or (pairs_into gs form f b) (slice_get blocks t) [] ≡ []
-no_pairs gs form f b n [] t none = refl
-no_pairs gs form f b n (x ∷ xs) t none = step (has_live_phi form x) t (no_pairs gs form f b (n + 1) xs) refl none
-  where
-    step : (y : Bool) (t : ℕ) → ((u : ℕ) → flat_map (phi_block form) (enumerate_from (n + 1) xs) ≡ [] → option_map_or (pairs_into gs form f b) (slice_get xs u) [] ≡ [])
-        → has_live_phi form x ≡ y → (if y then n ∷ [] else []) ++ flat_map (phi_block form) (enumerate_from (n + 1) xs) ≡ [] → option_map_or (pairs_into gs form f b) (slice_get (x ∷ xs) t) [] ≡ []
-    step true t rest e all = cc
-    step false zero rest e all = ap (flat_map (given_by gs f b)) (none_kept (is_live_phi form) x.insts e)
-    step false (suc u) rest e all = rest u all
-
-pub no_moves : (gs : List Inst) (form : ℕ → Form) (f : Function) (moves : List Moves) → phi_blocks form f ≡ [] → moves ≡ [] → (b t : ℕ) → IsSequence (firsts (pairs gs form f b t)) (moves_in moves b t)
-no_moves gs form f moves none empty b t =
-    subst (λ (ms : List Moves). IsSequence (firsts (pairs gs form f b t)) (moves_in ms b t)) (sym empty)
-    (subst (λ (ps : List Pair). IsSequence (firsts ps) []) (sym (no_pairs gs form f b 0 f.blocks t none)) none_left)

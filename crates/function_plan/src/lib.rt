@@ -14,7 +14,7 @@ mod plan;
 mod single;
 
 pub use edge_moves::Moves;
-pub use flag_sets::{FlagSets, Flags, again_at, fell_at, leave_at};
+pub use flag_sets::{FlagSets, again_at, fell_at, leave_at};
 pub use named::{is_captured, is_live};
 pub use nodes::target;
 pub use orders::Orders;

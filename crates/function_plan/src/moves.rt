@@ -9,8 +9,7 @@ ghost use Rattle.std.specs.Ordering.{nat_cmp};
 ghost use Rattle.function_plan.specs.Moved.{items_at, first_from, pairs_from, moves_in, single, both, go_in_order as go_in_order_pairs, AreListed, AreMovesFor};
 
 use crate::edge_moves::Moves;
-use crate::flag_sets::are_none;
-use crate::once::is_new;
+use crate::once::{add_if, is_new};
 use crate::single::{first_phi, moves_of_phi, phi_count};
 use hoist_plan::{Form, Naming};
 use phi_copies::{Move, Src, Var, copies};
@@ -48,28 +47,13 @@ fn has_live_phi(naming: &Naming, block: &Block) -> bool
         .any(|inst| is_live_phi(naming, inst))
 }
 
-/// Adds a block, where it has a live phi.
-fn add_phi_block(
-    found: &mut Vec<usize>,
-    naming: &Naming,
-    index: usize,
-    block: &Block,
-) -> Result<(), AllocError>
-    ensures { OnOk result (found.new.items ≡ found.old.items ++ phi_block (form_in naming.now) (index, block.now)) }
-{
-    if has_live_phi(naming, block) {
-        found.push(index)?;
-    }
-    Ok(())
-}
-
 /// The places of those blocks of a list that have a live phi.
 fn phi_places(alloc: Global, blocks: &[Block], naming: &Naming) -> Result<Vec<usize>, AllocError>
     ensures { IfOk result (λ found. found.items ≡ flat_map (phi_block (form_in naming.now)) (enumerate_from 0 blocks.now)) }
 {
     let mut found = Vec::new(alloc);
     for (index, block) in blocks.iter().enumerate() {
-        add_phi_block(&mut found, naming, index, block)?;
+        add_if(&mut found, index, has_live_phi(naming, block))?;
     }
     Ok(found)
 }
@@ -175,35 +159,6 @@ fn add_phi(
         let pair = (Var(phi.result), source(module, rest[0]));
         add_pair(pairs, alloc, locals.block(rest[1]), pair)?;
         rest = behind(rest, 2);
-    }
-    Ok(())
-}
-
-/// What the live phis of a block are given, in their order.
-fn pairs_of(
-    alloc: Global,
-    module: &Module,
-    locals: &Locals,
-    naming: &Naming,
-    block: &Block,
-) -> Result<Pairs, AllocError>
-    ensures { IfOk result (λ pairs. (b : ℕ) → pairs_from pairs b ≡ pairs_into «module».now.globals (form_in naming.now) locals.now b block.now) }
-{
-    let mut pairs = BTreeMap::new(alloc);
-    for inst in block.insts.as_slice() {
-        if is_live_phi(naming, inst) {
-            add_phi(&mut pairs, alloc, module, locals, inst)?;
-        }
-    }
-    Ok(pairs)
-}
-
-/// Adds a pair, where its target is new.
-fn add_if(list: &mut Vec<(Var, Src)>, pair: (Var, Src), passes: bool) -> Result<(), AllocError>
-    ensures { OnOk result (list.new.items ≡ list.old.items ++ (if passes then pair ∷ [] else [])) }
-{
-    if passes {
-        list.push(pair)?;
     }
     Ok(())
 }
@@ -343,98 +298,96 @@ fn moves_from(
     Ok(moves)
 }
 
-/// The moves of the edges into a block with several live phis.
-fn moves_of_several(
-    alloc: Global,
-    module: &Module,
-    locals: &Locals,
-    naming: &Naming,
-    block: &Block,
-) -> Result<Moves, Memory>
-    ensures { IfOk result (λ moves. AreMovesFor «module».now.globals (form_in naming.now) locals.now block.now moves) }
-{
-    let pairs = pairs_of(alloc, module, locals, naming, block)?;
-    let blocks = origins(alloc, &pairs)?;
-    let list = moves_from(alloc, &pairs, blocks.as_slice())?;
-    let moves = Moves::of(alloc, list)?;
-    Ok(moves)
+/// A function of a module, and the forms of its values, by which its phis are read.
+#[derive(Clone, Copy)]
+struct Phis<'p, 'f> {
+    module: &'p Module,
+    locals: &'p Locals<'f>,
+    naming: &'p Naming,
 }
 
-/// The moves of the edges into a block with one live phi.
-fn moves_of_one(
-    alloc: Global,
-    module: &Module,
-    locals: &Locals,
-    naming: &Naming,
-    block: &Block,
-) -> Result<Moves, Memory>
-    requires { length (live_phis (form_in naming.now) block.now) ≡ 1 }
-    ensures { IfOk result (λ moves. AreMovesFor «module».now.globals (form_in naming.now) locals.now block.now moves) }
-{
-    match first_phi(naming, block) {
-        None => moves_of_several(alloc, module, locals, naming, block),
-        Some(phi) => {
-            let list = moves_of_phi(alloc, module, locals, phi)?;
-            let moves = Moves::of(alloc, list)?;
-            Ok(moves)
+impl<'p, 'f> Phis<'p, 'f> {
+    /// What the live phis of a block are given, in their order.
+    fn pairs_of(&self, alloc: Global, block: &Block) -> Result<Pairs, AllocError>
+        ensures { IfOk result (λ pairs. (b : ℕ) → pairs_from pairs b ≡ pairs_into self.now.«module».now.globals (form_in self.now.naming.now) self.now.locals.now b block.now) }
+    {
+        let mut pairs = BTreeMap::new(alloc);
+        for inst in block.insts.as_slice() {
+            if is_live_phi(self.naming, inst) {
+                add_phi(&mut pairs, alloc, self.module, self.locals, inst)?;
+            }
+        }
+        Ok(pairs)
+    }
+
+    /// The moves of the edges into a block with several live phis.
+    fn moves_of_several(&self, alloc: Global, block: &Block) -> Result<Moves, Memory>
+        ensures { IfOk result (λ moves. AreMovesFor self.now.«module».now.globals (form_in self.now.naming.now) self.now.locals.now block.now moves) }
+    {
+        let pairs = self.pairs_of(alloc, block)?;
+        let blocks = origins(alloc, &pairs)?;
+        let list = moves_from(alloc, &pairs, blocks.as_slice())?;
+        let moves = Moves::of(alloc, list)?;
+        Ok(moves)
+    }
+
+    /// The moves of the edges into a block with one live phi.
+    fn moves_of_one(&self, alloc: Global, block: &Block) -> Result<Moves, Memory>
+        requires { length (live_phis (form_in self.now.naming.now) block.now) ≡ 1 }
+        ensures { IfOk result (λ moves. AreMovesFor self.now.«module».now.globals (form_in self.now.naming.now) self.now.locals.now block.now moves) }
+    {
+        match first_phi(self.naming, block) {
+            None => self.moves_of_several(alloc, block),
+            Some(phi) => {
+                let list = moves_of_phi(alloc, self.module, self.locals, phi)?;
+                let moves = Moves::of(alloc, list)?;
+                Ok(moves)
+            }
         }
     }
+
+    /// The moves of the edges into a block.
+    fn moves_into(&self, alloc: Global, block: &Block) -> Result<Moves, Memory>
+        ensures { IfOk result (λ moves. AreMovesFor self.now.«module».now.globals (form_in self.now.naming.now) self.now.locals.now block.now moves) }
+    {
+        let count = phi_count(self.naming, block);
+        if count == 0 {
+            return Ok(Moves::Few(Vec::new(alloc)));
+        }
+        if count == 1 {
+            return self.moves_of_one(alloc, block);
+        }
+        self.moves_of_several(alloc, block)
+    }
+
+    /// The moves of the edges into each of these blocks.
+    fn moves_to(&self, alloc: Global, blocks: &[Block]) -> Result<Vec<Moves>, Memory>
+        ensures { IfOk result (λ moves. AllZip (AreMovesFor self.now.«module».now.globals (form_in self.now.naming.now) self.now.locals.now) blocks.now moves.items) }
+    {
+        let mut moves = Vec::with_capacity(alloc, blocks.len())?;
+        for block in blocks {
+            let own = self.moves_into(alloc, block)?;
+            moves.push(own)?;
+        }
+        Ok(moves)
+    }
 }
 
-/// The moves of the edges into a block.
-fn moves_into(
-    alloc: Global,
-    module: &Module,
-    locals: &Locals,
-    naming: &Naming,
-    block: &Block,
-) -> Result<Moves, Memory>
-    ensures { IfOk result (λ moves. AreMovesFor «module».now.globals (form_in naming.now) locals.now block.now moves) }
-{
-    let count = phi_count(naming, block);
-    if count == 0 {
-        return Ok(Moves::Few(Vec::new(alloc)));
-    }
-    if count == 1 {
-        return moves_of_one(alloc, module, locals, naming, block);
-    }
-    moves_of_several(alloc, module, locals, naming, block)
-}
-
-/// The moves of the edges into each of these blocks.
-fn moves_to(
-    alloc: Global,
-    module: &Module,
-    locals: &Locals,
-    naming: &Naming,
-    blocks: &[Block],
-) -> Result<Vec<Moves>, Memory>
-    ensures { IfOk result (λ moves. AllZip (AreMovesFor «module».now.globals (form_in naming.now) locals.now) blocks.now moves.items) }
-{
-    let mut moves = Vec::with_capacity(alloc, blocks.len())?;
-    for block in blocks {
-        let own = moves_into(alloc, module, locals, naming, block)?;
-        moves.push(own)?;
-    }
-    Ok(moves)
-}
-
-/// The moves of the edges into each block of a function with these blocks with live phis, and none where there are no such
-/// blocks: what makes the live phis of a block take their values at once.
+/// The moves of the edges into each block of a function: what makes the live phis of a block take their values at once.
 pub fn moves_of(
     alloc: Global,
     module: &Module,
     locals: &Locals,
     naming: &Naming,
-    phi_blocks: &[usize],
 ) -> Result<Vec<Moves>, Memory>
-    requires { phi_blocks.now ≡ phi_blocks_of (form_in naming.now) locals.now }
     ensures { IfOk result (λ moves. (b t : ℕ) → IsSequence (first_pairs (pairs_of_edge «module».now.globals (form_in naming.now) locals.now b t)) (moves_in moves.items b t)) }
 {
-    if are_none(phi_blocks) {
-        return Ok(Vec::new(alloc));
-    }
     let blocks = locals.function().blocks.as_slice();
-    let moves = moves_to(alloc, module, locals, naming, blocks)?;
+    let phis = Phis {
+        module,
+        locals,
+        naming,
+    };
+    let moves = phis.moves_to(alloc, blocks)?;
     Ok(moves)
 }

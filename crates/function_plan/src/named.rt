@@ -51,20 +51,6 @@ fn add_named(
     Ok(())
 }
 
-/// Adds the results of the block at a place that have names.
-fn add_named_at(
-    ids: &mut Vec<u32>,
-    naming: &Naming,
-    nodes: &[Node],
-    index: usize,
-    block: &Block,
-) -> Result<(), AllocError>
-    ensures { OnOk result ((id : ℕ) → list_any (λ n. n == id) ids.new.items ≡ (list_any (λ n. n == id) ids.old.items || block_names (form_in naming.now) nodes.now id (index, block.now))) }
-{
-    add_named(ids, naming, is_reached(nodes, index), block)?;
-    Ok(())
-}
-
 /// The results of blocks that have names.
 fn named_in(
     alloc: Global,
@@ -76,7 +62,7 @@ fn named_in(
 {
     let mut ids = Vec::new(alloc);
     for (index, block) in blocks.iter().enumerate() {
-        add_named_at(&mut ids, naming, nodes, index, block)?;
+        add_named(&mut ids, naming, is_reached(nodes, index), block)?;
     }
     Ok(ids)
 }

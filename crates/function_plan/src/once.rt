@@ -1,5 +1,5 @@
 // Each key once.
-ghost use Rattle.std.specs.Prelude.{◌≡◌, ◌++◌, ◌∷◌, [], ℕ, not, true, IfOk, OnOk, if◌then◌else◌};
+ghost use Rattle.std.specs.Prelude.{◌≡◌, ◌++◌, ◌∷◌, [], ℕ, not, IfOk, OnOk, if◌then◌else◌};
 ghost use Rattle.std.specs.BTreeSet.{contains};
 ghost use Rattle.std.specs.Ordering.{nat_cmp};
 ghost use Rattle.function_plan.specs.Once.{with_id, once, itself};
@@ -26,9 +26,9 @@ pub fn add_if<T: Copy>(list: &mut Vec<T>, item: T, passes: bool) -> Result<(), A
     Ok(())
 }
 
-/// Each of these numbers once, where it stands first, by a set of those that were seen.
+/// Each of these numbers once, where it stands first.
 #[tactic(auto, using(crate::proofs::Singled::once_rules))]
-fn each_by_set(alloc: Global, ids: &[usize]) -> Result<Vec<usize>, AllocError>
+pub fn each_once(alloc: Global, ids: &[usize]) -> Result<Vec<usize>, AllocError>
     ensures { IfOk result (λ list. list.items ≡ once itself ids.now) }
 {
     let mut list = Vec::new(alloc);
@@ -38,28 +38,4 @@ fn each_by_set(alloc: Global, ids: &[usize]) -> Result<Vec<usize>, AllocError>
         add_if(&mut list, *id, new)?;
     }
     Ok(list)
-}
-
-/// Whether these are at most two, which differ.
-#[tactic(auto, using(crate::proofs::Twos::two_once))]
-fn are_few(ids: &[usize]) -> bool
-    ensures { result ≡ true → once itself ids.now ≡ ids.now }
-{
-    match ids {
-        [] | [_] => true,
-        [one, other] => *one != *other,
-        _ => false,
-    }
-}
-
-/// Each of these numbers once, where it stands first.
-pub fn each_once(alloc: Global, ids: &[usize]) -> Result<Vec<usize>, AllocError>
-    ensures { IfOk result (λ list. list.items ≡ once itself ids.now) }
-{
-    if are_few(ids) {
-        let list = Vec::from_slice(alloc, ids)?;
-        Ok(list)
-    } else {
-        each_by_set(alloc, ids)
-    }
 }

@@ -6,7 +6,7 @@ ghost use Rattle.function_plan.specs.Moved.{moves_in};
 ghost use Rattle.function_plan.specs.Plans.{IsNamed, IsPlanned};
 
 use crate::edge_moves::Moves;
-use crate::flag_sets::{Flags, flag_sets};
+use crate::flag_sets::FlagSets;
 use crate::moves::{moves_of, phi_blocks};
 use crate::named::named;
 use crate::orders::{Orders, orders_of};
@@ -21,6 +21,7 @@ use std::alloc::Global;
 use std::sync::ledger::Ledger;
 use structure_recover::{Region, recover};
 use structure_rules::Node;
+use switch_ladder::flags;
 use use_chains::{Steps, Uses};
 
 /// What is planned of a function that is written: what it defines; its control-flow graph, and which blocks of it are reached; which
@@ -37,7 +38,7 @@ pub struct FunctionPlan<'a> {
     pub named: IdSet,
     pub region: Region,
     pub moves: Vec<Moves>,
-    pub flags: Flags,
+    pub flags: FlagSets,
     pub orders: Orders,
 }
 
@@ -88,11 +89,12 @@ impl<'a> FunctionPlan<'a> {
         let naming = naming_of(alloc, module, &locals, &places, &reached, steps)?;
         let region = recover(alloc, function, &places)?;
         let phis = phi_blocks(alloc, function, &naming)?;
-        let flags = flag_sets(alloc, function, &places, &region, phis.as_slice())?;
+        let needed = flags(alloc, function, &places, &region, phis.as_slice())?;
+        let flags = FlagSets::of(alloc, &needed)?;
         let orders = orders_of(alloc, &places)?;
         let nodes = places.into_nodes();
         let named = named(alloc, function, nodes.as_slice(), &naming)?;
-        let moves = moves_of(alloc, module, &locals, &naming, phis.as_slice())?;
+        let moves = moves_of(alloc, module, &locals, &naming)?;
         Ok(FunctionPlan {
             source: module,
             locals,

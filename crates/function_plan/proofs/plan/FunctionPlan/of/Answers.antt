@@ -20,6 +20,7 @@ returns g c =
     let read : c.as_slice-2.result.now ≡ graph f = c.as_slice-2.ensures.value ∙ nodes_are in
     let phis_are : c.as_slice.result.now ≡ phi_blocks form f = c.as_slice.ensures.value ∙ (c.in_ok-phis.ensures ∙ ap (phi_blocks form) own) in
     let flags = c.in_ok-flags.ensures in
+    let needed = c.in_ok-needed.ensures in
     record {
       of_module = refl;
       of_function = refl;
@@ -29,8 +30,8 @@ returns g c =
       named = λ n. c.in_ok-named.ensures n ∙ (ap (λ (g : List Node). is_named_in form g c.function-function.result.now.blocks n) read ∙ ap (λ (l : Function). is_named_in form (graph f) l.blocks n) own);
       tree = subst (λ (l : Function). IsTree l (region_of c.in_ok-region.region)) own c.in_ok-region.ensures.follows;
       moves = c.in_ok-moves.ensures;
-      again = λ b. flags.again b ∙ ap (λ (l : Function). is_among (blocks_that (needs_again (graph l)) (graph l)) b) own;
-      leave = λ b. flags.leave b ∙ ap (λ (l : Function). is_among (blocks_that (needs_leave (graph l)) (graph l)) b) own;
-      fell = λ b. flags.fell b ∙ (ap (λ (l : Function). is_among (blocks_that (needs_fell (graph l) c.as_slice.result.now) (graph l)) b) own ∙ ap (λ (ps : List ℕ). is_among (blocks_that (needs_fell (graph f) ps) (graph f)) b) phis_are);
+      again = λ b. flags.again b ∙ ap (λ (bs : List ℕ). is_among bs b) needed.again ∙ ap (λ (l : Function). is_among (blocks_that (needs_again (graph l)) (graph l)) b) own;
+      leave = λ b. flags.leave b ∙ ap (λ (bs : List ℕ). is_among bs b) needed.leave ∙ ap (λ (l : Function). is_among (blocks_that (needs_leave (graph l)) (graph l)) b) own;
+      fell = λ b. flags.fell b ∙ ap (λ (bs : List ℕ). is_among bs b) needed.fell ∙ (ap (λ (l : Function). is_among (blocks_that (needs_fell (graph l) c.as_slice.result.now) (graph l)) b) own ∙ ap (λ (ps : List ℕ). is_among (blocks_that (needs_fell (graph f) ps) (graph f)) b) phis_are);
       orders = λ h. c.in_ok-orders.ensures h ∙ ap (λ (g : List Node). order_by g h) c.requires;
     }

@@ -6,7 +6,7 @@ use Rattle.phi_copies.specs.Sequence.{Pair, IsSequence}
 use Rattle.function_plan.specs.Phis.{firsts}
 use Rattle.function_plan.specs.Moved.{items_at, moves_from, pairs_from}
 use Rattle.function_plan.proofs.Moving.{listed}
-use Rattle.function_plan.proofs.moves.moves_of_several.Goals as goal
+use Rattle.function_plan.proofs.moves.Phis.moves_of_several.Goals as goal
 
 pub moves_from-requires : goal.moves_from-requires
 moves_from-requires c = listed c.in_ok-pairs.pairs c.as_slice.result.now (c.as_slice.ensures.value ∙ c.in_ok-blocks.ensures)

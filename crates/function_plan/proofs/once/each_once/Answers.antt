@@ -3,7 +3,7 @@ use Rattle.std.specs.BTreeSet.{contains}
 use Rattle.std.specs.Ordering.{nat_cmp}
 use Rattle.function_plan.specs.Once.{once, itself}
 use Rattle.function_plan.proofs.Singled.{once_step}
-use Rattle.function_plan.proofs.once.each_by_set.Goals as goal
+use Rattle.function_plan.proofs.once.each_once.Goals as goal
 
 pub loop-id-preserved : goal.loop-id-preserved
 loop-id-preserved c =

@@ -7,12 +7,12 @@ use Rattle.phi_copies.specs.Sequence.{IsSequence}
 use Rattle.function_plan.specs.Phis.{firsts, given_by}
 use Rattle.function_plan.specs.Moved.{items_at}
 use Rattle.function_plan.proofs.Lone.{moves_one}
-use Rattle.function_plan.proofs.moves.moves_of_one.Goals as goal
+use Rattle.function_plan.proofs.moves.Phis.moves_of_one.Goals as goal
 
 pub returns-in_ok-moves-in-Some : goal.returns-in_ok-moves-in-Some
 returns-in_ok-moves-in-Some c =
-    let gs = c.args.«module».now.globals in
-    let f = c.args.locals.now in
+    let gs = c.args.self.now.«module».now.globals in
+    let f = c.args.self.now.locals.now in
     let phi = c.in-Some.phi.now in
-    moves_one gs (form_in c.args.naming.now) f c.args.block.now phi c.in_ok-moves-in-Some.moves c.requires (sym c.in-Some.ensures)
+    moves_one gs (form_in c.args.self.now.naming.now) f c.args.block.now phi c.in_ok-moves-in-Some.moves c.requires (sym c.in-Some.ensures)
     (λ b. subst (λ (o : Option (Vec Move Global)). IsSequence (firsts (given_by gs f b phi)) (items_at o)) (sym (c.in_ok-moves-in-Some.ensures b)) (c.in_ok-list-in-Some.ensures b))
