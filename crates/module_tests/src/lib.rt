@@ -2,22 +2,4 @@
 #![tactic(auto)]
 
 #[cfg(test)]
-mod decorations;
-#[cfg(test)]
-mod generated;
-#[cfg(test)]
-mod graph;
-#[cfg(test)]
-mod ids;
-#[cfg(test)]
-mod lists;
-#[cfg(test)]
-mod opcodes;
-#[cfg(test)]
-mod operations;
-#[cfg(test)]
-mod shapes;
-#[cfg(test)]
-mod streams;
-#[cfg(test)]
-mod words;
+mod tests;

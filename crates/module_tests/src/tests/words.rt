@@ -20,27 +20,37 @@ fn words_of(alloc: Global, bytes: &[u8]) -> Result<Words, Fault> {
     Words::of(alloc, bytes)
 }
 
+// The third instruction is the entry point, with the name in its fourth word, and no text behind its last one.
+fn has_entry(words: &Words) -> bool {
+    if words.count() < 3 {
+        return false;
+    }
+    let entry = words.at(2);
+    if entry.len != 6 || entry.opcode != Op::EntryPoint.number() || entry.start != 10 {
+        return false;
+    }
+    let name = words
+        .text(2, 3)
+        .map(|text| (text.first, text.bytes, text.words));
+    let past_the_end = Refusal {
+        rule: Rule::W9,
+        at: 10,
+    };
+    words.operand(2, 3) == 0x6E69616D
+        && name == Ok((13, 4, 2))
+        && words.text(2, 6).err() == Some(past_the_end)
+}
+
+fn is_read(words: &Words) -> bool {
+    words.header(3) == 22 && words.count() == 34 && has_entry(words)
+}
+
 #[test]
 fn reads_a_module_in_either_byte_order(rt: HostRuntime) -> Result<(), Fail> {
     let little = bytes_of(rt.alloc(), &[&INCREMENT])?;
     let big = big(rt.alloc(), &INCREMENT)?;
     for bytes in [&little, &big] {
-        let words = words_of(rt.alloc(), bytes)?;
-        assert_eq!(rt; words.header(3), 22);
-        assert!(rt; words.count() == 34);
-        let entry = words.at(2);
-        assert!(rt; entry.len == 6);
-        assert_eq!(rt; (entry.opcode, entry.start), (Op::EntryPoint.number(), 10));
-        assert_eq!(rt; words.operand(2, 3), 0x6E69616D);
-        let name = words
-            .text(2, 3)
-            .map(|text| (text.first, text.bytes, text.words));
-        assert_eq!(rt; name, Ok((13, 4, 2)));
-        let past_the_end = Refusal {
-            rule: Rule::W9,
-            at: 10,
-        };
-        assert_eq!(rt; words.text(2, 6).err(), Some(past_the_end));
+        assert!(rt; is_read(&words_of(rt.alloc(), bytes)?));
     }
     assert_eq!(rt; first_zero(b"main\0"), Some(4));
     Ok(())

@@ -1,50 +1,13 @@
 // Sources and sinks: that take little at a time, that fail at a call, and files.
 use cc_outside::{
-    Failed, MemorySink, MemorySource, ReadEnd, Sink, Source, StdSink, StdSource, SteadySink,
-    SteadySource, Unwritten, WriteEnd, read_all, write_all,
+    Failed, MemorySink, MemorySource, ReadEnd, Source, StdSink, StdSource, SteadySink,
+    SteadySource, WriteEnd, read_all, write_all,
 };
+use sample_modules::ByteByByte;
+use std::alloc::{AllocError, Global};
 use std::path::PathBuf;
 use std::test::Fail;
 use std::{env, fs, process};
-
-// Gives at most one byte in each call.
-#[derive(Drop)]
-struct Trickle {
-    source: MemorySource,
-}
-
-impl Source for Trickle {
-    ghost use Rattle.std.specs.Prelude.{None};
-
-    ghost left = { λ _. None };
-
-    ghost faults = { λ s. s.source.faults };
-
-    fn read(&mut self, buf: &mut [u8]) -> Result<usize, Failed> {
-        let end = buf.len().min(1);
-        self.source.read(&mut buf[..end])
-    }
-}
-
-// Takes at most one byte in each call.
-#[derive(Drop)]
-struct Narrow {
-    sink: MemorySink,
-}
-
-impl Sink for Narrow {
-    ghost use Rattle.std.specs.Prelude.{None};
-
-    ghost written = { λ _. None };
-
-    ghost faults = { λ s. s.sink.faults };
-
-    ghost wants = { λ s. s.sink.wants };
-
-    fn write(&mut self, piece: &[u8]) -> Result<usize, Unwritten> {
-        self.sink.write(&piece[..piece.len().min(1)])
-    }
-}
 
 // Gives one byte in each call, without end.
 #[derive(Drop)]
@@ -64,44 +27,72 @@ impl Source for Endless {
     }
 }
 
+type Read = Result<usize, ReadEnd>;
+
+// How many of these bytes are read, one in each call, where a call fails.
+fn trickled(alloc: Global, bytes: &[u8], limit: usize, fails: u64) -> Result<Read, AllocError> {
+    let source = MemorySource::new(bytes.to_vec(alloc)?, vec![in alloc; fails]?);
+    let read = read_all(alloc, &mut ByteByByte { stream: source }, limit);
+    Ok(read.map(|bytes| bytes.len()))
+}
+
+fn read_endless(alloc: Global, limit: usize) -> Option<ReadEnd> {
+    read_all(alloc, &mut Endless, limit).err()
+}
+
+fn steady(alloc: Global, bytes: &[u8], limit: usize) -> Result<Vec<u8>, Fail> {
+    let mut source = SteadySource::new(bytes.to_vec(alloc)?);
+    Ok(read_all(alloc, &mut source, limit).ok().ok_or("not read")?)
+}
+
 #[test]
 fn reads_all(rt: HostRuntime) -> Result<(), Fail> {
-    let alloc = rt.alloc();
     for (limit, fails, wanted) in [
-        (5, [9], Ok(5)),
-        (4, [9], Err(ReadEnd::TooLong)),
-        (5, [3], Err(ReadEnd::Fault)),
-        (5, [5], Err(ReadEnd::Fault)),
-        (2, [2], Err(ReadEnd::Fault)),
+        (5, 9, Ok(5)),
+        (4, 9, Err(ReadEnd::TooLong)),
+        (5, 3, Err(ReadEnd::Fault)),
+        (5, 5, Err(ReadEnd::Fault)),
+        (2, 2, Err(ReadEnd::Fault)),
     ] {
-        let source = MemorySource::new(b"abcde".to_vec(alloc)?, fails.to_vec(alloc)?);
-        let read = read_all(alloc, &mut Trickle { source }, limit);
-        assert_eq!(rt; read.map(|bytes| bytes.len()), wanted, "limit {limit}");
+        let read = trickled(rt.alloc(), b"abcde", limit, fails)?;
+        assert_eq!(rt; read, wanted, "limit {limit}");
     }
-    let endless = read_all(alloc, &mut Endless, 10);
-    assert_eq!(rt; endless.err(), Some(ReadEnd::TooLong));
-    let mut steady = SteadySource::new(b"abc".to_vec(alloc)?);
-    let read = read_all(alloc, &mut steady, 3).ok().ok_or("not read")?;
+    assert_eq!(rt; read_endless(rt.alloc(), 10), Some(ReadEnd::TooLong));
+    let read = steady(rt.alloc(), b"abc", 3)?;
     assert_eq!(rt; read.as_slice(), b"abc".as_slice());
     Ok(())
 }
 
+type Written = (Result<(), WriteEnd>, Vec<u8>);
+
+// What of these bytes is written, one in each call, where a call fails.
+fn narrowed(alloc: Global, bytes: &[u8], fails: u64) -> Result<Written, AllocError> {
+    let sink = MemorySink::new(alloc, vec![in alloc; fails]?);
+    let mut narrow = ByteByByte { stream: sink };
+    let ended = write_all(&mut narrow, bytes);
+    Ok((ended, narrow.stream.bytes().to_vec(alloc)?))
+}
+
+fn steadily(alloc: Global, bytes: &[u8]) -> Result<Written, AllocError> {
+    let mut steady = SteadySink::new(alloc);
+    let ended = write_all(&mut steady, bytes);
+    Ok((ended, steady.bytes().to_vec(alloc)?))
+}
+
 #[test]
 fn writes_all(rt: HostRuntime) -> Result<(), Fail> {
-    let alloc = rt.alloc();
     for (fails, wanted, written) in [
         (5, Ok(()), b"abcde".as_slice()),
         (3, Err(WriteEnd::Fault), b"abc"),
         (0, Err(WriteEnd::Fault), b""),
     ] {
-        let sink = MemorySink::new(alloc, [fails].to_vec(alloc)?);
-        let mut narrow = Narrow { sink };
-        assert_eq!(rt; write_all(&mut narrow, b"abcde"), wanted, "call {fails}");
-        assert_eq!(rt; narrow.sink.bytes(), written, "call {fails}");
+        let (ended, bytes) = narrowed(rt.alloc(), b"abcde", fails)?;
+        assert_eq!(rt; ended, wanted, "call {fails}");
+        assert_eq!(rt; bytes.as_slice(), written, "call {fails}");
     }
-    let mut steady = SteadySink::new(alloc);
-    assert_eq!(rt; write_all(&mut steady, b"ab"), Ok(()));
-    assert_eq!(rt; steady.bytes(), b"ab".as_slice());
+    let (ended, bytes) = steadily(rt.alloc(), b"ab")?;
+    assert_eq!(rt; ended, Ok(()));
+    assert_eq!(rt; bytes.as_slice(), b"ab".as_slice());
     Ok(())
 }
 
