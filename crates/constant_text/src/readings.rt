@@ -145,6 +145,20 @@ impl<'a> Readings<'a> {
         self.source
     }
 
+    /// The decorations of the module.
+    pub fn decor(&self) -> &'a Decor<'a>
+        ensures { result.now ≡ self.now.of.heads }
+    {
+        self.decor
+    }
+
+    /// The function of the entry point.
+    pub fn entry(&self) -> Id
+        ensures { result.0 ≡ self.now.entry }
+    {
+        self.entry
+    }
+
     /// What the overrides give a SpecId.
     pub(crate) fn given(&self, spec_id: u32) -> Option<Given>
         ensures { result ≡ given_to self.now.overrides spec_id }
