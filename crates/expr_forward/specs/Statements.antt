@@ -5,6 +5,8 @@ use Rattle.spv_ops.specs.Opcode.{is}
 use Rattle.spv_ops.specs.Groups.{is_chain}
 use Rattle.spv_ops.specs.declared.Op.{Op}
 use Rattle.spv_ops.specs.declared.Op.TheVariants as code
+use Rattle.spv_ops.specs.declared.AtomicOp.{AtomicOp}
+use Rattle.spv_ops.specs.declared.AtomicOp.TheVariants as atomic
 use Rattle.spv_module.specs.Held.{global}
 use Rattle.spv_module.specs.Lists.{id}
 use Rattle.spv_module.specs.declared.inst.Inst.{Inst}
@@ -21,15 +23,13 @@ use Rattle.glsl_ast.specs.Tree as text
 use Rattle.glsl_ast.specs.Tree.{Text, Expr, literal, binary, exprs_in, Stmt, declare, assign, LStep, lvalue}
 use Rattle.glsl_ast.specs.declared.expressions.BinOp.TheVariants.{Sub}
 use Rattle.int_lowering.specs.Operand.{literal_of}
-use Rattle.expr_forward.specs.declared.kinds.Atomic.{Atomic}
-use Rattle.expr_forward.specs.declared.kinds.Atomic.TheVariants as atomic
 use Rattle.expr_forward.specs.declared.kinds.InstKind.{InstKind}
 use Rattle.expr_forward.specs.declared.kinds.InstKind.TheVariants as kind
 use Rattle.expr_forward.specs.Scope.{Scope, globals}
 use Rattle.text_rules.specs.Declarations.{type_at}
 use Rattle.expr_forward.specs.Paths.{index_expr, word_at, part_steps, place_text, place_expr}
 use Rattle.expr_forward.specs.Values.{value, expression}
-pub use Rattle.expr_forward.specs.Kinds.{atomic_of, kind_of}
+pub use Rattle.expr_forward.specs.Kinds.{kind_of}
 
 -- the result gets a value: its variable is declared here, or was declared at the top of the function
 abbrev pub set_by : Scope → Inst → Expr → Form → List Stmt
@@ -73,18 +73,20 @@ word_by w pointer n = literal (literal_of (scalar_at w (unwrap_or (pointee_of (g
 abbrev pub word_at_place : Scope → Inst → ℕ → Expr
 word_at_place w i n = word_by w (slice_index i.args 0) n
 
--- the function of an atomic instruction (GLSL 4.60, section 8.11)
-abbrev pub atomic_name : Atomic → Text
+-- the function of an atomic instruction, one for numbers with and without a sign (GLSL 4.60, section 8.11)
+abbrev pub atomic_name : AtomicOp → Text
 atomic_name atomic.Load = codes "atomicAdd"
 atomic_name atomic.Store = codes "atomicExchange"
 atomic_name atomic.Exchange = codes "atomicExchange"
 atomic_name atomic.CompareExchange = codes "atomicCompSwap"
-atomic_name atomic.Increment = codes "atomicAdd"
-atomic_name atomic.Decrement = codes "atomicAdd"
-atomic_name atomic.Add = codes "atomicAdd"
-atomic_name atomic.Sub = codes "atomicAdd"
-atomic_name atomic.Min = codes "atomicMin"
-atomic_name atomic.Max = codes "atomicMax"
+atomic_name atomic.IIncrement = codes "atomicAdd"
+atomic_name atomic.IDecrement = codes "atomicAdd"
+atomic_name atomic.IAdd = codes "atomicAdd"
+atomic_name atomic.ISub = codes "atomicAdd"
+atomic_name atomic.SMin = codes "atomicMin"
+atomic_name atomic.UMin = codes "atomicMin"
+atomic_name atomic.SMax = codes "atomicMax"
+atomic_name atomic.UMax = codes "atomicMax"
 atomic_name atomic.And = codes "atomicAnd"
 atomic_name atomic.Or = codes "atomicOr"
 atomic_name atomic.Xor = codes "atomicXor"
@@ -93,31 +95,31 @@ abbrev pub atomic_value : Scope → ℕ → Inst → Expr
 atomic_value w block i = value w block (slice_index i.args 3)
 
 -- it has a comparator; it has a result
-abbrev pub compares : Atomic → Bool
+abbrev pub compares : AtomicOp → Bool
 compares atomic.CompareExchange = true
 compares _ = false
 
-abbrev pub has_result : Atomic → Bool
+abbrev pub has_result : AtomicOp → Bool
 has_result atomic.Store = false
 has_result _ = true
 
 -- what stands behind the place: of OpAtomicCompareExchange the comparator first
-abbrev pub comparator : Scope → ℕ → Inst → Atomic → List Expr
+abbrev pub comparator : Scope → ℕ → Inst → AtomicOp → List Expr
 comparator w block i a = if compares a then value w block (slice_index i.args 5) ∷ [] else []
 
 -- OpAtomicLoad adds 0, OpAtomicIIncrement 1, OpAtomicIDecrement the greatest word, and OpAtomicISub the negated operand
-abbrev pub atomic_operand : Scope → ℕ → Inst → Atomic → Expr
+abbrev pub atomic_operand : Scope → ℕ → Inst → AtomicOp → Expr
 atomic_operand w block i atomic.Load = word_at_place w i 0
-atomic_operand w block i atomic.Increment = word_at_place w i 1
-atomic_operand w block i atomic.Decrement = word_at_place w i 0xFFFFFFFF
-atomic_operand w block i atomic.Sub = binary Sub (word_at_place w i 0) (atomic_value w block i)
+atomic_operand w block i atomic.IIncrement = word_at_place w i 1
+atomic_operand w block i atomic.IDecrement = word_at_place w i 0xFFFFFFFF
+atomic_operand w block i atomic.ISub = binary Sub (word_at_place w i 0) (atomic_value w block i)
 atomic_operand w block i atomic.CompareExchange = value w block (slice_index i.args 4)
 atomic_operand w block i _ = atomic_value w block i
 
-abbrev pub atomic_arguments : Scope → ℕ → Inst → Atomic → List Expr
+abbrev pub atomic_arguments : Scope → ℕ → Inst → AtomicOp → List Expr
 atomic_arguments w block i a = (place_expr w.setting block (slice_index i.args 0) ∷ comparator w block i a) ++ (atomic_operand w block i a ∷ [])
 
-abbrev pub atomic_text : Scope → ℕ → Inst → Atomic → List Stmt
+abbrev pub atomic_text : Scope → ℕ → Inst → AtomicOp → List Stmt
 atomic_text w block i a =
     if has_result a then set w i (Expr.call (atomic_name a) (exprs_in (atomic_arguments w block i a)))
     else Stmt.call (atomic_name a) (exprs_in (atomic_arguments w block i a)) ∷ []
@@ -167,6 +169,10 @@ abbrev pub insert_where_named : Scope → ℕ → Inst → ℕ → List LStep �
 insert_where_named w block i composite steps object =
     if is_variable_form (w.form i.result) then insert_text w block i composite steps object else []
 
+-- the value of an operation
+abbrev pub set_value : Scope → ℕ → Inst → List Stmt
+set_value w block i = set w i (expression w (value w block) block i)
+
 abbrev pub inst_text : Scope → ℕ → Inst → InstKind → List Stmt
 inst_text w block i kind.Load = set w i (place_expr w.setting block (slice_index i.args 0))
 inst_text w block i kind.Store = assign (place_text w.setting block (slice_index i.args 0)) (value w block (slice_index i.args 1)) ∷ []
@@ -179,7 +185,7 @@ inst_text w block i kind.CompositeInsert =
     insert_where_named w block i (slice_index i.args 1) (part_steps w.setting i.ty (drop 2 i.args)) (slice_index i.args 0)
 inst_text w block i kind.VectorInsertDynamic =
     insert_where_named w block i (slice_index i.args 0) (text.LStep.index (value w block (slice_index i.args 2)) ∷ []) (slice_index i.args 1)
-inst_text w block i kind.Value = set w i (expression w (value w block) block i)
+inst_text w block i (kind.Value _) = set_value w block i
 inst_text w block i kind.Silent = []
 
 -- the instructions of a block

@@ -1,79 +1,40 @@
 // Kinds of instructions.
 ghost use Rattle.std.specs.Prelude.{◌≡◌};
-ghost use Rattle.expr_forward.specs.Kinds.{atomic_of, kind_in, kind_of, plain_if_value, operation_kind_in, operation_kind_of};
-ghost use Rattle.expr_forward.specs.Statements.{compares, has_result};
+ghost use Rattle.expr_forward.specs.Kinds.{kind_in, kind_of, operation_of, operation_kind_of};
 
 use spv_ops::{AtomicOp, Op, OpGroup};
 
-/// An atomic instruction (SPIR-V 1.6, section 3.49.18), where GLSL has one function for numbers with and without a sign.
+/// How the value of an operation is written: OpUndef, OpCopyObject, OpArrayLength, OpCompositeExtract,
+/// OpCompositeConstruct, OpCopyLogical, OpExtInst, and any other, which is on scalars and vectors. What is
+/// no such operation has a variable.
 #[derive(Clone, Copy, Debug, PartialEq, Eq)]
-pub enum Atomic {
-    Load,
-    Store,
-    Exchange,
-    CompareExchange,
-    Increment,
-    Decrement,
-    Add,
-    Sub,
-    Min,
-    Max,
-    And,
-    Or,
-    Xor,
-}
-
-impl Atomic {
-    fn of(op: AtomicOp) -> Atomic
-        ensures { result ≡ atomic_of op }
-    {
-        match op {
-            AtomicOp::Load => Atomic::Load,
-            AtomicOp::Store => Atomic::Store,
-            AtomicOp::Exchange => Atomic::Exchange,
-            AtomicOp::CompareExchange => Atomic::CompareExchange,
-            AtomicOp::IIncrement => Atomic::Increment,
-            AtomicOp::IDecrement => Atomic::Decrement,
-            AtomicOp::IAdd => Atomic::Add,
-            AtomicOp::ISub => Atomic::Sub,
-            AtomicOp::SMin | AtomicOp::UMin => Atomic::Min,
-            AtomicOp::SMax | AtomicOp::UMax => Atomic::Max,
-            AtomicOp::And => Atomic::And,
-            AtomicOp::Or => Atomic::Or,
-            AtomicOp::Xor => Atomic::Xor,
-        }
-    }
-
-    /// Whether it has a comparator.
-    pub(crate) fn compares(self) -> bool
-        ensures { result ≡ compares self }
-    {
-        matches!(self, Atomic::CompareExchange)
-    }
-
-    /// Whether it has a result.
-    pub(crate) fn has_result(self) -> bool
-        ensures { result ≡ has_result self }
-    {
-        !matches!(self, Atomic::Store)
-    }
+pub enum OperationKind {
+    Undef,
+    CopyObject,
+    ArrayLength,
+    CompositeExtract,
+    CompositeConstruct,
+    CopyLogical,
+    Extended,
+    Plain,
+    Other,
 }
 
 /// What is written for an instruction: a read or a write of memory; a call; an atomic operation; a barrier;
 /// the captured indexes of a chain; a copy of a composite with another part; the value of an operation; or
 /// nothing, as for OpVariable, OpPhi, merge instructions and terminators.
-#[derive(Clone, Copy, Debug, PartialEq, Eq)]
+#[derive(Clone, Copy, Debug)]
 pub enum InstKind {
     Load,
     Store,
     Call,
-    Atomic(Atomic),
+    Atomic(AtomicOp),
     ControlBarrier,
     MemoryBarrier,
     Chain,
     CompositeInsert,
     VectorInsertDynamic,
-    Value,
+    Value(OperationKind),
     Silent,
 }
 
@@ -94,7 +55,7 @@ impl InstKind {
             OpGroup::Load => InstKind::Load,
             OpGroup::Store => InstKind::Store,
             OpGroup::Call => InstKind::Call,
-            OpGroup::Atomic(op) => InstKind::Atomic(Atomic::of(op)),
+            OpGroup::Atomic(op) => InstKind::Atomic(op),
             OpGroup::ControlBarrier => InstKind::ControlBarrier,
             OpGroup::MemoryBarrier => InstKind::MemoryBarrier,
             OpGroup::Chain => InstKind::Chain,
@@ -108,76 +69,45 @@ impl InstKind {
             OpGroup::Truth | OpGroup::Number | OpGroup::Composite | OpGroup::AnyConstant => {
                 InstKind::Silent
             }
-            // an operation
-            OpGroup::Undef
-            | OpGroup::ArrayLength
-            | OpGroup::CopyObject
-            | OpGroup::CopyLogical
-            | OpGroup::Bitcast
-            | OpGroup::CompositeConstruct
-            | OpGroup::CompositeExtract
-            | OpGroup::VectorExtractDynamic
-            | OpGroup::VectorShuffle
-            | OpGroup::Arithmetic
-            | OpGroup::Comparison
-            | OpGroup::Logical
+            OpGroup::Undef => InstKind::Value(OperationKind::Undef),
+            OpGroup::ArrayLength => InstKind::Value(OperationKind::ArrayLength),
+            OpGroup::CopyObject => InstKind::Value(OperationKind::CopyObject),
+            OpGroup::CopyLogical => InstKind::Value(OperationKind::CopyLogical),
+            OpGroup::CompositeConstruct => InstKind::Value(OperationKind::CompositeConstruct),
+            OpGroup::CompositeExtract => InstKind::Value(OperationKind::CompositeExtract),
+            OpGroup::Extended => InstKind::Value(OperationKind::Extended),
+            // on scalars and vectors
+            OpGroup::Arithmetic | OpGroup::Comparison | OpGroup::Logical | OpGroup::Select => {
+                InstKind::Value(OperationKind::Plain)
+            }
+            OpGroup::BitFieldInsert | OpGroup::BitFieldExtract | OpGroup::BitOperation => {
+                InstKind::Value(OperationKind::Plain)
+            }
+            OpGroup::Bitcast
             | OpGroup::AnyOrAll
-            | OpGroup::Select
-            | OpGroup::BitFieldInsert
-            | OpGroup::BitFieldExtract
-            | OpGroup::BitOperation
-            | OpGroup::Extended => InstKind::Value,
+            | OpGroup::VectorExtractDynamic
+            | OpGroup::VectorShuffle => InstKind::Value(OperationKind::Plain),
         }
     }
-}
 
-/// How the value of an operation is written: OpUndef, OpCopyObject, OpArrayLength, OpCompositeExtract,
-/// OpCompositeConstruct, OpCopyLogical, OpExtInst, and any other, which is on scalars and vectors. What is
-/// no such operation has a variable.
-#[derive(Clone, Copy, Debug, PartialEq, Eq)]
-pub enum OperationKind {
-    Undef,
-    CopyObject,
-    ArrayLength,
-    CompositeExtract,
-    CompositeConstruct,
-    CopyLogical,
-    Extended,
-    Plain,
-    Other,
+    #[inline(always)]
+    fn operation(self) -> OperationKind
+        ensures { result ≡ operation_of self }
+    {
+        match self {
+            InstKind::Value(kind) => kind,
+            _ => OperationKind::Other,
+        }
+    }
 }
 
 impl OperationKind {
     /// The kind of operation of an opcode.
+    #[inline(always)]
     #[tactic(auto, unfolding(crate::specs::Kinds::operation_kind_of))]
     pub(crate) fn of(op: Op) -> OperationKind
         ensures { result ≡ operation_kind_of op }
     {
-        OperationKind::of_group(op.group())
-    }
-
-    #[inline(always)]
-    fn of_group(group: OpGroup) -> OperationKind
-        ensures { result ≡ operation_kind_in group }
-    {
-        match group {
-            OpGroup::Undef => OperationKind::Undef,
-            OpGroup::CopyObject => OperationKind::CopyObject,
-            OpGroup::ArrayLength => OperationKind::ArrayLength,
-            OpGroup::CompositeExtract => OperationKind::CompositeExtract,
-            OpGroup::CompositeConstruct => OperationKind::CompositeConstruct,
-            OpGroup::CopyLogical => OperationKind::CopyLogical,
-            OpGroup::Extended => OperationKind::Extended,
-            _ => OperationKind::plain_if_value(InstKind::of_group(group)),
-        }
-    }
-
-    fn plain_if_value(kind: InstKind) -> OperationKind
-        ensures { result ≡ plain_if_value kind }
-    {
-        match kind {
-            InstKind::Value => OperationKind::Plain,
-            _ => OperationKind::Other,
-        }
+        InstKind::of(op).operation()
     }
 }

@@ -19,5 +19,5 @@ mod values;
 
 pub use context::Context;
 pub use globals::Globals;
-pub use kinds::{Atomic, InstKind, OperationKind};
+pub use kinds::{InstKind, OperationKind};
 pub use statements::reserve;

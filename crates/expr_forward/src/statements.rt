@@ -2,7 +2,7 @@
 ghost use Rattle.std.specs.Prelude.{◌≡◌, ◌++◌, ◌∷◌, [], IfOk, OnOk, flat_map, map};
 ghost use Rattle.glsl_ast.specs.View.{stmt_of};
 ghost use Rattle.expr_forward.specs.Context.{scope_of};
-ghost use Rattle.expr_forward.specs.Statements.{block_text as block_text_of, capture, captured_of, chain_text, insts_at as insts_at_of, inst_text, kind_of};
+ghost use Rattle.expr_forward.specs.Statements.{block_text as block_text_of, capture, captured_of, chain_text, insts_at as insts_at_of, inst_text, kind_of, set_value};
 ghost use Rattle.expr_forward.specs.declared.kinds.InstKind.TheVariants as kind;
 
 use crate::block::BlockContext;
@@ -44,7 +44,7 @@ impl Context<'_, '_> {
             InstKind::Chain | InstKind::Silent => 0,
             InstKind::Store | InstKind::ControlBarrier | InstKind::MemoryBarrier => 1,
             InstKind::CompositeInsert | InstKind::VectorInsertDynamic => 2,
-            InstKind::Load | InstKind::Call | InstKind::Atomic(_) | InstKind::Value => {
+            InstKind::Load | InstKind::Call | InstKind::Atomic(_) | InstKind::Value(_) => {
                 if self.has_variable(inst) { 1 } else { 0 }
             }
         }
@@ -129,7 +129,7 @@ impl BlockContext<'_, '_, '_> {
     /// Adds the value of an operation, where it has a variable.
     #[inline(always)]
     fn add_value(&self, into: &mut Vec<Stmt>, inst: &Inst) -> Result<(), Memory>
-        ensures { OnOk result (map stmt_of into.new.items ≡ map stmt_of into.old.items ++ inst_text (scope_of self.now.context.now) self.now.block inst.now kind.Value) }
+        ensures { OnOk result (map stmt_of into.new.items ≡ map stmt_of into.old.items ++ set_value (scope_of self.now.context.now) self.now.block inst.now) }
     {
         if !self.context.has_variable(inst) {
             return Ok(());
@@ -182,7 +182,7 @@ impl BlockContext<'_, '_, '_> {
             InstKind::Chain => self.add_captures(into, inst),
             InstKind::CompositeInsert => self.add_composite_insert(into, inst),
             InstKind::VectorInsertDynamic => self.add_vector_insert(into, inst),
-            InstKind::Value => self.add_value(into, inst),
+            InstKind::Value(_) => self.add_value(into, inst),
             InstKind::Silent => Ok(()),
         }
     }
