@@ -21,6 +21,7 @@ use Rattle.glsl_ast.specs.Tree as text
 use Rattle.glsl_ast.specs.Tree.{Text, Expr, name, literal, binary, member, index, declare, assign, lvalue, type_name, uint}
 use Rattle.glsl_ast.specs.declared.expressions.Literal.TheVariants.{Uint}
 use Rattle.glsl_ast.specs.declared.expressions.BinOp.TheVariants.{Add}
+use Rattle.vec_lowering.specs.Component.{axis_name}
 use Rattle.expr_forward.specs.Scope.{Scope, Argument}
 use Rattle.expr_forward.specs.Paths.{literal_word}
 use Rattle.expr_forward.specs.Kinds.{kind_of, operation_kind_of}
@@ -92,5 +93,5 @@ incremented : block_text scope 0 ≡
     declare (type_name uint []) (1 ∷ 18 ∷ []) (Some (member (name (codes "gl_GlobalInvocationID")) (codes "x"))) ∷
     declare (type_name uint []) (1 ∷ 20 ∷ []) (Some (index (member (name (1 ∷ 5 ∷ [])) (2 ∷ 3 ∷ 0 ∷ [])) (name (1 ∷ 18 ∷ [])))) ∷
     assign (lvalue (1 ∷ 5 ∷ []) (text.LStep.member (2 ∷ 3 ∷ 0 ∷ []) ∷ text.LStep.index (name (1 ∷ 18 ∷ [])) ∷ [])) (binary Add (name (1 ∷ 20 ∷ [])) (literal (Uint 1))) ∷ []
-unfolding number_of_op inst kind below key_of constant_kind kind_of operation_kind_of group_of literal_word value_in key added
+unfolding number_of_op inst kind below key_of constant_kind axis_name kind_of operation_kind_of group_of literal_word value_in key added
 incremented = refl

@@ -1,5 +1,5 @@
 -- How a pointer is written: the name of what it leads from, and its steps (GLSL 4.60, sections 5.5 to 5.7).
-use Rattle.std.specs.Prelude.{ℕ, ◌==◌, ◌&&◌, nat_lt, Bool, true, false, List, [], ◌∷◌, codes, Option, Some, None, option_and_then, unwrap_or, if◌then◌else◌, slice_index}
+use Rattle.std.specs.Prelude.{ℕ, ◌&&◌, nat_lt, Bool, true, false, List, [], ◌∷◌, Option, Some, None, option_and_then, unwrap_or, if◌then◌else◌, slice_index}
 use Rattle.std.specs.Option.{option_map_or}
 use Rattle.spv_ops.specs.Opcode.{is}
 use Rattle.spv_ops.specs.declared.Op.{Op}
@@ -23,11 +23,8 @@ use Rattle.text_rules.specs.declared.readings.Reading.{Reading}
 use Rattle.text_rules.specs.declared.readings.Reading.TheVariants.{Plain}
 use Rattle.text_rules.specs.Constants.{is_constant, reading, plain_value}
 use Rattle.text_rules.specs.Declarations.{word_of}
+use Rattle.vec_lowering.specs.Component.{axis_name}
 use Rattle.expr_forward.specs.Scope.{Setting, globals_in}
-
--- the components of a vector
-abbrev pub component_text : ℕ → Text
-component_text n = if n == 0 then codes "x" else (if n == 1 then codes "y" else (if n == 2 then codes "z" else codes "w"))
 
 abbrev pub is_plain : Reading → Bool
 is_plain Plain = true
@@ -62,7 +59,7 @@ vector_size w ty = vector_size_in (globals_in w) ty
 
 -- a component by a literal below the size, and any other by an index
 abbrev pub index_by : Setting → ℕ → ℕ → Option ℕ → LStep
-index_by w size n (Some k) = if nat_lt k size then text.LStep.member (component_text k) else text.LStep.index (index_expr w n)
+index_by w size n (Some k) = if nat_lt k size then text.LStep.member (axis_name k) else text.LStep.index (index_expr w n)
 index_by w size n None = text.LStep.index (index_expr w n)
 
 -- an index that was captured where the chain stands
@@ -109,7 +106,7 @@ further e (text.LStep.index i ∷ ss) = further (Expr.index e i) ss
 -- the step from a composite to a part, by a literal: OpTypeVector, OpTypeStruct, and arrays
 abbrev pub part_step_by : Setting → ℕ → ℕ → Op → LStep
 part_step_by w ty k o =
-    if is o code.TypeVector then text.LStep.member (component_text k) else
+    if is o code.TypeVector then text.LStep.member (axis_name k) else
     (if is o code.TypeStruct then text.LStep.member (w.key (Member (id ty) k)) else text.LStep.index (literal (Int k)))
 
 -- the opcode of a composite's type; what is no type counts as an array

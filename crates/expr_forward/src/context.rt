@@ -2,7 +2,7 @@
 ghost use Rattle.std.specs.Prelude.{◌≡◌, IfOk, is_some, option_map, unwrap_or};
 ghost use Rattle.std.specs.Option.{option_copied};
 ghost use Rattle.spv_index.specs.Locals.{inst_in, type_in as type_in_of};
-ghost use Rattle.profile_rules.specs.MemoryRules.{pointee_of};
+ghost use Rattle.profile_rules.specs.MemoryRules.{pointee_of as pointee_in};
 ghost use Rattle.hoist_plan.specs.Kept.{form_in};
 ghost use Rattle.glsl_ast.specs.View.{name_text, expr_of};
 ghost use Rattle.expr_forward.specs.Context.{key_text};
@@ -15,7 +15,7 @@ use constant_text::{Readings, name};
 use glsl_ast::{Expr, Name};
 use hoist_plan::{Form, Naming};
 use name_alloc::{Key, Names};
-use spv_index::{Locals, pointer, type_in};
+use spv_index::{Locals, pointee_of, type_in};
 use spv_module::{Id, Inst, Module};
 use spv_words::Memory;
 use std::alloc::Global;
@@ -139,26 +139,17 @@ impl<'a, 'b> Context<'a, 'b> {
         type_in(self.module(), self.locals, id.0).unwrap_or(0)
     }
 
-    /// The type of what a value points to, where it is a pointer.
-    #[inline(always)]
-    fn pointee_if_any(&self, id: Id) -> Option<u32>
-        ensures { result ≡ pointee_of self.now.source.of.globals self.now.function id.0 }
-    {
-        let ty = type_in(self.module(), self.locals, id.0)?;
-        pointer(self.module(), Id(ty)).map(|p| p.pointee.0)
-    }
-
     /// The type of what a value points to, and 0 of one that is no pointer.
     pub fn pointee(&self, id: Id) -> u32
-        ensures { result ≡ unwrap_or (pointee_of self.now.source.of.globals self.now.function id.0) 0 }
+        ensures { result ≡ unwrap_or (pointee_in self.now.source.of.globals self.now.function id.0) 0 }
     {
-        self.pointee_if_any(id).unwrap_or(0)
+        pointee_of(self.module(), self.locals, id.0).unwrap_or(0)
     }
 
     /// Whether a value is a pointer.
     pub(crate) fn is_pointer(&self, id: Id) -> bool
-        ensures { result ≡ is_some (pointee_of self.now.source.of.globals self.now.function id.0) }
+        ensures { result ≡ is_some (pointee_in self.now.source.of.globals self.now.function id.0) }
     {
-        self.pointee_if_any(id).is_some()
+        pointee_of(self.module(), self.locals, id.0).is_some()
     }
 }

@@ -2,7 +2,7 @@
 ghost use Rattle.std.specs.Prelude.{◌≡◌, IfOk, map};
 ghost use Rattle.glsl_ast.specs.View.{expr_of, step_of};
 ghost use Rattle.access_paths.specs.declared.forms.Step.TheVariants.{Index};
-ghost use Rattle.expr_forward.specs.Paths.{component_text as component_text_of, is_plain as is_plain_of, is_number as is_number_of, literal_word as literal_word_of, word_at as word_at_of, components as components_of, composite_op_in, vector_size as vector_size_of, vector_size_in as vector_size_in_of, index_expr as index_expr_of, captured_text, step_text, step_type as step_type_of, steps_text, part_step as part_step_of, part_type as part_type_of, part_type_by, part_type_in as part_type_in_of, part_steps as part_steps_of};
+ghost use Rattle.expr_forward.specs.Paths.{is_plain as is_plain_of, is_number as is_number_of, literal_word as literal_word_of, word_at as word_at_of, components as components_of, composite_op_in, vector_size as vector_size_of, vector_size_in as vector_size_in_of, index_expr as index_expr_of, captured_text, step_text, step_type as step_type_of, steps_text, part_step as part_step_of, part_type as part_type_of, part_type_by, part_type_in as part_type_in_of, part_steps as part_steps_of};
 ghost use Rattle.expr_forward.specs.Context.{setting_of};
 
 use crate::Context;
@@ -14,18 +14,7 @@ use spv_module::{Elem, Id, Inst, Module};
 use spv_ops::Op;
 use spv_words::Memory;
 use std::alloc::Global;
-
-/// The components of a vector.
-pub(crate) fn component_text(n: u32) -> &'static str
-    ensures { result.now ≡ component_text_of n }
-{
-    match n {
-        0 => "x",
-        1 => "y",
-        2 => "z",
-        _ => "w",
-    }
-}
+use vec_lowering::axis_text;
 
 /// The type of the part with a number of a composite of the type that an instruction declares.
 fn part_operand(inst: &Inst, k: u32) -> u32
@@ -121,7 +110,7 @@ impl Context<'_, '_> {
         let size = self.vector_size(ty);
         match self.word_at(id) {
             Some(k) if k < size => {
-                let component = Name::from_str(alloc, component_text(k))?;
+                let component = Name::from_str(alloc, axis_text(k))?;
                 Ok(LStep::Member(component))
             }
             Some(_) | None => Ok(LStep::Index(self.index_expr(alloc, id)?)),
@@ -199,7 +188,7 @@ impl Context<'_, '_> {
     {
         let op = composite_op(self.module(), ty);
         if op == Op::TypeVector {
-            let component = Name::from_str(alloc, component_text(k))?;
+            let component = Name::from_str(alloc, axis_text(k))?;
             return Ok(LStep::Member(component));
         }
         if op == Op::TypeStruct {
