@@ -67,32 +67,23 @@ fn item_at(alloc: Global, f: &Function, places: &Places, start: Start) -> Result
     ensures follows { IfOk result (λ i. FollowsItem f.now places.now (item_of i)) }
 {
     match start {
-        Start::Block(block) if heads_loop(places, block) => loop_of(alloc, f, places, block),
-        Start::Block(block) | Start::Body(block) => block_item(alloc, f, places, block),
-    }
-}
-
-/// The loop that a block heads.
-#[cycle(recover)]
-#[tactic(auto, using(crate::proofs::Views::view_rules))]
-fn loop_of(alloc: Global, f: &Function, places: &Places, head: usize) -> Result<Item, Memory>
-    requires { (nth places.now head).reached ≡ true }
-    ensures head { IfOk result (λ i. (head_of (item_of i) ≡ head) × (is_loop (item_of i) ≡ true)) }
-    ensures follows { IfOk result (λ i. FollowsItem f.now places.now (item_of i)) }
-{
-    let body = region(alloc, f, places, Next::At(Start::Body(head)))?;
-    let body = Box::new(alloc, body)?;
-    match continue_block(places, head) {
-        None => Ok(Item::Loop {
-            head,
-            cont: None,
-            body,
-        }),
-        Some(block) => {
-            let cont = region(alloc, f, places, Next::At(Start::Block(block)))?;
-            let cont = Some(Box::new(alloc, cont)?);
-            Ok(Item::Loop { head, cont, body })
+        Start::Block(head) if heads_loop(places, head) => {
+            let body = region(alloc, f, places, Next::At(Start::Body(head)))?;
+            let body = Box::new(alloc, body)?;
+            match continue_block(places, head) {
+                None => Ok(Item::Loop {
+                    head,
+                    cont: None,
+                    body,
+                }),
+                Some(block) => {
+                    let cont = region(alloc, f, places, Next::At(Start::Block(block)))?;
+                    let cont = Some(Box::new(alloc, cont)?);
+                    Ok(Item::Loop { head, cont, body })
+                }
+            }
         }
+        Start::Block(block) | Start::Body(block) => block_item(alloc, f, places, block),
     }
 }
 

@@ -12,9 +12,6 @@ decreases-region l = rank (length l.places.now) l.from + 3
 abbrev pub decreases-item_at : goal.decreases-item_at
 decreases-item_at l = rank_at (length l.places.now) l.start + 2
 
-abbrev pub decreases-loop_of : goal.decreases-loop_of
-decreases-loop_of l = (length l.places.now - l.head) * 8 + 5
-
 abbrev pub decreases-block_item : goal.decreases-block_item
 decreases-block_item l = (length l.places.now - l.block) * 8 + 1
 
