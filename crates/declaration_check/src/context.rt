@@ -38,10 +38,9 @@ impl<'a> Model for Context<'a> {
     ghost use Rattle.std.specs.Prelude.{map};
     ghost use Rattle.id_map.specs.Entries.{is_in};
     ghost use Rattle.spv_module.specs.State.{ModuleState};
+    ghost use Rattle.declaration_check.specs.Context.{IsContext};
 
     ghost Value = { ModuleState };
-
-    ghost use Rattle.declaration_check.specs.Context.{IsContext};
 
     ghost view = { λ c. c.«module».now };
 

@@ -6,6 +6,7 @@ ghost use Rattle.spv_module.specs.Held.{global};
 ghost use Rattle.spv_words.specs.declared.rule.Rule.TheVariants.{P8, P9};
 ghost use Rattle.profile_rules.specs.Entry.{is_result, is_called as is_called_row, function_of as function_in_list, is_no_kernel as is_no_kernel_row, is_mode_of as is_mode_of_row, is_local_size as is_local_size_row, is_local_size_id as is_local_size_id_row, is_other_mode as is_other_mode_row, is_bad_mode as is_bad_mode_row, is_size_composite as is_size_composite_row, has_no_size as has_no_size_in, p8_of, p9_of};
 ghost use Rattle.declaration_check.specs.Checked.{IsChecked};
+ghost use Rattle.declaration_check.specs.SizeModes.{gives_size as gives_size_row};
 
 use crate::context::Context;
 use crate::refusal::{refuse_at, refuse_if};
@@ -71,7 +72,7 @@ fn is_mode_of(function: u32, inst: &Inst) -> bool
 }
 
 /// OpExecutionMode LocalSize of a function.
-pub fn is_local_size(function: u32, inst: &Inst) -> bool
+fn is_local_size(function: u32, inst: &Inst) -> bool
     ensures { result ≡ is_local_size_row function inst.now }
 {
     inst.op == Op::ExecutionMode
@@ -127,24 +128,41 @@ fn is_bad_mode(literals: usize, ids: usize, function: u32, inst: &Inst) -> bool
         || is_local_size_id(function, inst) && ids >= 2
 }
 
-fn count_local_sizes(context: &Context, function: u32) -> usize
-    ensures { result ≡ count_by (is_local_size_row function) context.now.heads }
+/// The modes that give the size of workgroups: by literals, or by the ids of constants.
+#[derive(Clone, Copy)]
+pub enum SizeMode {
+    Literals,
+    Ids,
+}
+
+/// Whether this is such a mode of a function.
+fn gives_size(mode: SizeMode, function: u32, inst: &Inst) -> bool
+    ensures { result ≡ gives_size_row mode function inst.now }
+{
+    match mode {
+        SizeMode::Literals => is_local_size(function, inst),
+        SizeMode::Ids => is_local_size_id(function, inst),
+    }
+}
+
+fn count_modes(context: &Context, mode: SizeMode, function: u32) -> usize
+    ensures { result ≡ count_by (gives_size_row mode function) context.now.heads }
 {
     context
         .heads()
         .iter()
-        .filter(|inst| is_local_size(function, *inst))
+        .filter(|inst| gives_size(mode, function, *inst))
         .count()
 }
 
-fn count_local_size_ids(context: &Context, function: u32) -> usize
-    ensures { result ≡ count_by (is_local_size_id_row function) context.now.heads }
+/// The first such mode of a function.
+pub fn first_mode<'a>(context: &Context<'a>, mode: SizeMode, function: u32) -> Option<&'a Inst>
+    ensures { option_copied result ≡ find (gives_size_row mode function) context.now.heads }
 {
     context
         .heads()
         .iter()
-        .filter(|inst| is_local_size_id(function, *inst))
-        .count()
+        .find(|inst| gives_size(mode, function, *inst))
 }
 
 fn first_bad_mode<'a>(
@@ -197,8 +215,8 @@ fn has_no_size(context: &Context, function: u32) -> bool
 fn mode_fault<'a>(context: &Context<'a>, function: u32) -> Option<&'a Inst>
     ensures { option_copied result ≡ find (is_bad_mode_row (count_by (is_local_size_row function) context.now.heads) (count_by (is_local_size_id_row function) context.now.heads) function) context.now.heads }
 {
-    let literals = count_local_sizes(context, function);
-    let ids = count_local_size_ids(context, function);
+    let literals = count_modes(context, SizeMode::Literals, function);
+    let ids = count_modes(context, SizeMode::Ids, function);
     first_bad_mode(context, literals, ids, function)
 }
 

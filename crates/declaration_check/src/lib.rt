@@ -6,6 +6,7 @@ mod context;
 mod declarations;
 mod elsewhere;
 mod heads;
+mod holders;
 mod kernel;
 mod refusal;
 mod rows;

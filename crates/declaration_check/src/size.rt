@@ -9,11 +9,11 @@ ghost use Rattle.spv_words.specs.declared.rule.Rule.TheVariants.{P10};
 ghost use Rattle.profile_rules.specs.declared.size.SizePart.TheVariants.{Fixed};
 ghost use Rattle.profile_rules.specs.TypeRows.{type_row};
 ghost use Rattle.profile_rules.specs.Places.{is_defined_elsewhere};
-ghost use Rattle.profile_rules.specs.Entry.{is_same_spec as is_same_spec_in, is_uint as is_uint_row, is_no_uint as is_no_uint_in, is_no_uvec3 as is_no_uvec3_in, is_no_size as is_no_size_in, is_no_part as is_no_part_in, are_no_sizes as are_no_sizes_in, is_bad_composite as is_bad_composite_in, is_bad_size as is_bad_size_in, is_bad_size_id as is_bad_size_id_in, is_size_composite as is_size_composite_row, is_local_size as is_local_size_row, is_local_size_id as is_local_size_id_row, size_part as size_part_in, size_by_literals, size_by_ids, group_size as group_size_in, p10_of, composite_faults};
+ghost use Rattle.profile_rules.specs.Entry.{is_same_spec as is_same_spec_in, is_uint as is_uint_row, is_no_uint as is_no_uint_in, is_no_uvec3 as is_no_uvec3_in, is_no_size as is_no_size_in, is_no_part as is_no_part_in, are_no_sizes as are_no_sizes_in, is_bad_composite as is_bad_composite_in, is_bad_size as is_bad_size_in, is_bad_size_id as is_bad_size_id_in, is_size_composite as is_size_composite_row, size_part as size_part_in, size_by_literals, size_by_ids, group_size as group_size_in, p10_of, composite_faults};
 ghost use Rattle.declaration_check.specs.Checked.{IsChecked};
 
 use crate::context::Context;
-use crate::kernel::{is_local_size, is_local_size_id, is_size_composite, mode_operands};
+use crate::kernel::{SizeMode, first_mode, is_local_size_id, is_size_composite, mode_operands};
 use crate::refusal::refuse_at;
 use profile_rules::SizePart;
 use spv_module::Inst;
@@ -135,31 +135,16 @@ fn is_bad_size(context: &Context, count: usize, inst: &Inst) -> bool
     is_size_composite(context, inst) && (count >= 2 || is_bad_composite(context, inst))
 }
 
-fn count_composites(context: &Context) -> usize
-    ensures { result ≡ count_by (is_size_composite_row context.now.heads) context.now.globals }
-{
-    context
-        .globals()
-        .iter()
-        .filter(|inst| is_size_composite(context, *inst))
-        .count()
-}
-
-fn first_bad_size<'a>(context: &Context<'a>, count: usize) -> Option<&'a Inst>
-    ensures { option_copied result ≡ find (is_bad_size_in context.now count) context.now.globals }
-{
-    context
-        .globals()
-        .iter()
-        .find(|inst| is_bad_size(context, count, *inst))
-}
-
 /// The first composite decorated WorkgroupSize that is bad, or one of several.
 fn composite_fault<'a>(context: &Context<'a>) -> Option<&'a Inst>
     ensures { option_copied result ≡ find (is_bad_size_in context.now (count_by (is_size_composite_row context.now.heads) context.now.globals)) context.now.globals }
 {
-    let count = count_composites(context);
-    first_bad_size(context, count)
+    let globals = context.globals();
+    let count = globals
+        .iter()
+        .filter(|i| is_size_composite(context, *i))
+        .count();
+    globals.iter().find(|i| is_bad_size(context, count, *i))
 }
 
 /// OpExecutionModeId LocalSizeId of a function, not with three such constants.
@@ -223,24 +208,6 @@ fn size_composite<'a>(context: &Context<'a>) -> Option<&'a Inst>
         .find(|inst| is_size_composite(context, *inst))
 }
 
-fn local_size_id<'a>(context: &Context<'a>, function: u32) -> Option<&'a Inst>
-    ensures { option_copied result ≡ find (is_local_size_id_row function) context.now.heads }
-{
-    context
-        .heads()
-        .iter()
-        .find(|inst| is_local_size_id(function, *inst))
-}
-
-fn local_size<'a>(context: &Context<'a>, function: u32) -> Option<&'a Inst>
-    ensures { option_copied result ≡ find (is_local_size_row function) context.now.heads }
-{
-    context
-        .heads()
-        .iter()
-        .find(|inst| is_local_size(function, *inst))
-}
-
 /// The parts of the size of a function's workgroups: by the composite decorated WorkgroupSize, else by
 /// LocalSizeId, else by LocalSize (SPIR-V 1.6, "BuiltIn" WorkgroupSize).
 pub fn group_size(alloc: Global, context: &Context, function: u32) -> Result<Vec<SizePart>, Memory>
@@ -249,10 +216,10 @@ pub fn group_size(alloc: Global, context: &Context, function: u32) -> Result<Vec
     if let Some(composite) = size_composite(context) {
         return Ok(parts_by_ids(alloc, context, composite.args.as_slice())?);
     }
-    if let Some(mode) = local_size_id(context, function) {
+    if let Some(mode) = first_mode(context, SizeMode::Ids, function) {
         return Ok(parts_by_ids(alloc, context, mode_operands(mode))?);
     }
-    match local_size(context, function) {
+    match first_mode(context, SizeMode::Literals, function) {
         None => Ok(Vec::new(alloc)),
         Some(mode) => Ok(parts_by_literals(alloc, mode_operands(mode))?),
     }

@@ -8,11 +8,13 @@ ghost use Rattle.spv_words.specs.declared.rule.Rule.TheVariants.{P17, P18, P19};
 ghost use Rattle.profile_rules.specs.TypeForm.{is_misused as is_misused_in, is_other_int as is_other_int_row, is_no_scalar as is_no_scalar_in, is_other_vector as is_other_vector_in, is_signed as is_signed_in, is_above_zero as is_above_zero_in, is_no_int as is_no_int_in, is_workgroup_length as is_workgroup_length_in, is_length as is_length_in, is_other_array as is_other_array_in, is_empty_struct as is_empty_struct_row, is_no_data as is_no_data_in, parts_of as parts_in, is_misformed as is_misformed_in, is_other_pointer as is_other_pointer_in, is_no_variable as is_no_variable_in, is_other_parameter as is_other_parameter_in, is_other_result as is_other_result_in, is_other_function as is_other_function_in, p17, p18, p19};
 ghost use Rattle.profile_rules.specs.Places.{is_defined_elsewhere};
 ghost use Rattle.declaration_check.specs.Checked.{IsChecked};
-ghost use Rattle.declaration_check.specs.Classes.{AreMisuses, AreHolders};
+ghost use Rattle.declaration_check.specs.Classes.{AreMisuses};
 
 use crate::context::Context;
+use crate::holders::Holders;
 use crate::refusal::refuse_at;
-use crate::uses::{Holders, Misuses, find_holders, find_misuses, parts_of};
+use crate::uses::{Misuses, find_misuses, parts_of};
+use spv_index::behind_first;
 use spv_module::Inst;
 use spv_ops::{Op, StorageClass};
 use spv_words::{Fault, Rule};
@@ -100,42 +102,38 @@ fn is_no_int(context: &Context, constant: &Inst) -> bool
 
 /// Whether a specialization constant may be the length of an array: it is an int, a Workgroup variable
 /// is or holds the array, and nothing else does.
-fn is_workgroup_length(context: &Context, holders: &Holders, constant: &Inst, array: u32) -> bool
-    requires { AreHolders context.now (is_in holders.now.workgroup) (is_in holders.now.others) }
-    ensures { result ≡ is_workgroup_length_in context.now constant.now array }
+fn is_workgroup_length(holders: &Holders, constant: &Inst, array: u32) -> bool
+    ensures { result ≡ is_workgroup_length_in holders.now constant.now array }
 {
-    !is_no_int(context, constant) && holders.workgroup.has(array) && !holders.others.has(array)
+    !is_no_int(holders.context(), constant) && holders.is_of_workgroup_alone(array)
 }
 
 /// Whether a global instruction may be the length of an array.
-fn is_length(context: &Context, holders: &Holders, array: u32, constant: &Inst) -> bool
-    requires { AreHolders context.now (is_in holders.now.workgroup) (is_in holders.now.others) }
-    ensures { result ≡ is_length_in context.now array constant.now }
+fn is_length(holders: &Holders, array: u32, constant: &Inst) -> bool
+    ensures { result ≡ is_length_in holders.now array constant.now }
 {
     if constant.op == Op::Constant {
-        is_above_zero(context, constant)
+        is_above_zero(holders.context(), constant)
     } else {
-        constant.op.is_specialization() && is_workgroup_length(context, holders, constant, array)
+        constant.op.is_specialization() && is_workgroup_length(holders, constant, array)
     }
 }
 
 /// Whether an id is that of no length of an array.
-fn is_no_length(context: &Context, holders: &Holders, array: u32, id: u32) -> bool
-    requires { AreHolders context.now (is_in holders.now.workgroup) (is_in holders.now.others) }
-    ensures { result ≡ option_map_or (λ c. not (is_length_in context.now array c)) (global context.now.globals id) (is_defined_elsewhere context.now id) }
+fn is_no_length(holders: &Holders, array: u32, id: u32) -> bool
+    ensures { result ≡ option_map_or (λ c. not (is_length_in holders.now array c)) (global holders.now.globals id) (is_defined_elsewhere holders.now id) }
 {
-    match context.global(id) {
-        None => context.is_defined_elsewhere(id),
-        Some(inst) => !is_length(context, holders, array, inst),
+    match holders.context().global(id) {
+        None => holders.context().is_defined_elsewhere(id),
+        Some(inst) => !is_length(holders, array, inst),
     }
 }
 
 /// OpTypeArray of another length.
-fn is_other_array(context: &Context, holders: &Holders, inst: &Inst) -> bool
-    requires { AreHolders context.now (is_in holders.now.workgroup) (is_in holders.now.others) }
-    ensures { result ≡ is_other_array_in context.now inst.now }
+fn is_other_array(holders: &Holders, inst: &Inst) -> bool
+    ensures { result ≡ is_other_array_in holders.now inst.now }
 {
-    inst.op == Op::TypeArray && is_no_length(context, holders, inst.result, inst.operand(1))
+    inst.op == Op::TypeArray && is_no_length(holders, inst.result, inst.operand(1))
 }
 
 /// OpTypeStruct without members.
@@ -165,25 +163,25 @@ fn holds_no_data(context: &Context, inst: &Inst) -> bool
 }
 
 /// Whether an int, vector, array or struct is not formed as it has to be.
-fn is_misformed(context: &Context, holders: &Holders, inst: &Inst) -> bool
-    requires { AreHolders context.now (is_in holders.now.workgroup) (is_in holders.now.others) }
-    ensures { result ≡ is_misformed_in context.now inst.now }
+fn is_misformed(holders: &Holders, inst: &Inst) -> bool
+    ensures { result ≡ is_misformed_in holders.now inst.now }
 {
+    let context = holders.context();
     is_other_int(inst)
         || is_other_vector(context, inst)
-        || is_other_array(context, holders, inst)
+        || is_other_array(holders, inst)
         || is_empty_struct(inst)
         || holds_no_data(context, inst)
 }
 
-fn first_misformed<'a>(context: &Context<'a>, holders: &Holders) -> Option<&'a Inst>
-    requires { AreHolders context.now (is_in holders.now.workgroup) (is_in holders.now.others) }
-    ensures { option_copied result ≡ find (is_misformed_in context.now) context.now.globals }
+fn first_misformed<'a>(holders: &Holders<'_, 'a>) -> Option<&'a Inst>
+    ensures { option_copied result ≡ find (is_misformed_in holders.now) holders.now.globals }
 {
+    let context = holders.context();
     context
         .globals()
         .iter()
-        .find(|inst| is_misformed(context, holders, *inst))
+        .find(|inst| is_misformed(holders, *inst))
 }
 
 /// P18: an int is not 32 bits wide or its signedness is above 1; a vector has not two to four bool or
@@ -193,8 +191,8 @@ fn first_misformed<'a>(context: &Context<'a>, holders: &Holders) -> Option<&'a I
 pub fn check_form(alloc: Global, context: &Context) -> Result<(), Fault>
     ensures { IsChecked P18 (p18 context.now) result }
 {
-    let holders = find_holders(alloc, context)?;
-    refuse_at(Rule::P18, first_misformed(context, &holders))
+    let holders = Holders::of(alloc, context)?;
+    refuse_at(Rule::P18, first_misformed(&holders))
 }
 
 /// OpTypePointer to a pointer, void or a function.
@@ -237,17 +235,10 @@ fn is_other_result(context: &Context, id: u32) -> bool
     }
 }
 
-/// The parameters of a function type.
-fn parameters(inst: &Inst) -> &[u32]
-    ensures { result.now ≡ drop 1 inst.now.args }
-{
-    inst.args.as_slice().get(1..).unwrap_or(&[])
-}
-
 fn has_other_parameter(context: &Context, inst: &Inst) -> bool
     ensures { result ≡ list_any (is_other_parameter_in context.now.heads context.now.globals) (drop 1 inst.now.args) }
 {
-    parameters(inst)
+    behind_first(inst)
         .iter()
         .any(|id| is_other_parameter(context, *id))
 }

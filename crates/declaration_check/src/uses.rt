@@ -1,10 +1,10 @@
 // What the types of a module are used for.
-ghost use Rattle.std.specs.Prelude.{◌≡◌, ◌==◌, ◌++◌, ◌∷◌, ◌||◌, ℕ, ◌-◌, ◌&&◌, not, length, take, map, flat_map, filter_map, IfOk, OnOk};
+ghost use Rattle.std.specs.Prelude.{◌≡◌, ◌==◌, ◌++◌, ◌||◌, ℕ, ◌-◌, length, take, map, flat_map, filter_map, IfOk, OnOk};
 ghost use Rattle.id_map.specs.Entries.{is_in as has_id};
 ghost use Rattle.profile_rules.specs.Places.{is_among};
-ghost use Rattle.profile_rules.specs.TypeForm.{parts_of as parts_in, pointee_by as pointee_of, pointees as pointees_in, signature, signature_types as signature_types_in, is_workgroup as is_workgroup_row, is_of_storage as is_of_storage_in, fixed_parts as fixed_parts_in, is_held};
+ghost use Rattle.profile_rules.specs.TypeForm.{parts_of as parts_in, pointee_by as pointee_of, pointees as pointees_in, signature, signature_types as signature_types_in, is_workgroup as is_workgroup_row, is_of_storage as is_of_storage_in, fixed_parts as fixed_parts_in};
 ghost use Rattle.declaration_check.specs.Kept.{variables_of};
-ghost use Rattle.declaration_check.specs.Classes.{is_in, AreMisuses, AreHolders};
+ghost use Rattle.declaration_check.specs.Classes.{is_in, AreMisuses};
 
 use crate::context::Context;
 use crate::variables::is_variable;
@@ -69,7 +69,7 @@ fn pointees_of(alloc: Global, context: &Context, classes: Classes) -> Result<Vec
 
 /// The same, among all instructions.
 #[tactic(auto, using(crate::proofs::Asked::pointees_same))]
-fn pointees(alloc: Global, context: &Context, classes: Classes) -> Result<Vec<u32>, AllocError>
+pub fn pointees(alloc: Global, context: &Context, classes: Classes) -> Result<Vec<u32>, AllocError>
     ensures { IfOk result (λ ids. ids.items ≡ pointees_in context.now (is_in context.now classes)) }
 {
     pointees_of(alloc, context, classes)
@@ -150,7 +150,7 @@ fn add_id(set: &mut IdSet, id: u32) -> Result<(), AllocError>
 }
 
 /// Adds ids to a set.
-fn add_ids(set: &mut IdSet, ids: &[u32]) -> Result<(), AllocError>
+pub fn add_ids(set: &mut IdSet, ids: &[u32]) -> Result<(), AllocError>
     ensures { OnOk result ((id : ℕ) → has_id set.new id ≡ (has_id set.old id || is_among ids.now id)) }
 {
     for id in ids {
@@ -159,7 +159,7 @@ fn add_ids(set: &mut IdSet, ids: &[u32]) -> Result<(), AllocError>
     Ok(())
 }
 
-fn set_of(alloc: Global, context: &Context, ids: &[u32]) -> Result<IdSet, AllocError>
+pub fn set_of(alloc: Global, context: &Context, ids: &[u32]) -> Result<IdSet, AllocError>
     ensures { IfOk result (λ set. (id : ℕ) → has_id set id ≡ is_among ids.now id) }
 {
     let mut set = IdSet::below(alloc, context.bound(), ids.len())?;
@@ -254,60 +254,5 @@ pub fn find_misuses(alloc: Global, context: &Context) -> Result<Misuses, AllocEr
     Ok(Misuses {
         blocks: set_of(alloc, context, &blocks)?,
         runtimes: set_of(alloc, context, &runtimes)?,
-    })
-}
-
-/// Adds the parts of a type that is in the set.
-fn add_parts(set: &mut IdSet, inst: &Inst) -> Result<(), AllocError>
-    ensures { OnOk result ((id : ℕ) → has_id set.new id ≡ (has_id set.old id || ((has_id set.old inst.now.result) && is_among (parts_in inst.now) id))) }
-{
-    if set.has(inst.result) {
-        add_ids(set, parts_of(inst))?;
-    }
-    Ok(())
-}
-
-/// These types and all that they hold, from the last to the first, as what holds a type stands after
-/// it.
-fn held(alloc: Global, context: &Context, types: &[u32]) -> Result<IdSet, AllocError>
-    ensures { IfOk result (λ set. (id : ℕ) → has_id set id ≡ is_held context.now.globals types.now id) }
-{
-    let globals = context.globals();
-    let mut set = set_of(alloc, context, types)?;
-    let mut left = globals.len();
-    while left > 0 {
-        left -= 1;
-        add_parts(&mut set, &globals[left])?;
-    }
-    Ok(set)
-}
-
-/// The types of what may not hold an array whose length is a specialization constant, where values have
-/// these types.
-fn other_types(alloc: Global, context: &Context, types: &[u32]) -> Result<Vec<u32>, AllocError>
-    ensures { IfOk result (λ ids. ids.items ≡ pointees_in context.now (is_in context.now Classes.OtherThanWorkgroup) ++ types.now) }
-{
-    let mut ids = pointees(alloc, context, Classes::OtherThanWorkgroup)?;
-    ids.extend_from_slice(types)?;
-    Ok(ids)
-}
-
-/// The ids of the types that Workgroup variables are or hold, and that other variables, constants and
-/// values of functions are or hold.
-#[derive(Drop)]
-pub struct Holders {
-    pub workgroup: IdSet,
-    pub others: IdSet,
-}
-
-/// What holds types that may be arrays whose length is a specialization constant.
-pub fn find_holders(alloc: Global, context: &Context) -> Result<Holders, AllocError>
-    ensures { IfOk result (λ h. AreHolders context.now (has_id h.workgroup) (has_id h.others)) }
-{
-    let workgroup = pointees(alloc, context, Classes::Workgroup)?;
-    let others = other_types(alloc, context, context.types_of_values())?;
-    Ok(Holders {
-        workgroup: held(alloc, context, &workgroup)?,
-        others: held(alloc, context, &others)?,
     })
 }

@@ -10,7 +10,8 @@ ghost use Rattle.spv_words.specs.declared.rule.Rule.TheVariants.{P13, P14, P15, 
 ghost use Rattle.profile_rules.specs.Places.{is_among, is_variable as is_variable_row};
 ghost use Rattle.profile_rules.specs.Variables.{classes, is_other_class as is_other_class_in, is_misclassed as is_misclassed_in, is_pointee, pointed_type as pointed_type_in, inputs, is_other_input_type as is_other_input_type_in, is_other_input as is_other_input_in, is_buffer as is_buffer_row, is_push as is_push_row, is_no_block as is_no_block_in, is_unbound as is_unbound_in, is_other_block as is_other_block_in, is_of_other_type as is_of_other_type_in, is_other_value as is_other_value_in, is_other_initializer as is_other_initializer_in, p13, p14, p15, p16};
 ghost use Rattle.declaration_check.specs.Checked.{IsChecked};
-ghost use Rattle.declaration_check.specs.Kept.{inner_variables, variables_of};
+ghost use Rattle.declaration_check.specs.Kept.{variables_of};
+ghost use Rattle.declaration_check.specs.Flaws.{has_flaw as has_flaw_in};
 
 use crate::context::Context;
 use crate::refusal::refuse_at;
@@ -69,25 +70,16 @@ fn first_misclassed_outside<'a>(context: &Context<'a>) -> Option<&'a Inst>
         .find(|inst| is_misclassed(context, false, *inst))
 }
 
-#[tactic(auto, using(crate::proofs::Finds::behind_rules))]
-fn first_misclassed_inside<'a>(context: &Context<'a>) -> Option<&'a Inst>
-    ensures { option_copied result ≡ find (is_misclassed_in true context.now.globals) (inner_variables context.now) }
-{
-    for inst in context.local_variables() {
-        if is_misclassed(context, true, *inst) {
-            return Some(*inst);
-        }
-    }
-    None
-}
-
 /// P13: the storage class of a variable is none of the profile's, or not its pointer's, or is Function
 /// exactly where the variable stands outside a function (SPIR-V 1.6, section 3.7).
 pub fn check_classes(context: &Context) -> Result<(), Fault>
     ensures { IsChecked P13 (p13 context.now) result }
 {
     refuse_at(Rule::P13, first_misclassed_outside(context))?;
-    refuse_at(Rule::P13, first_misclassed_inside(context))
+    refuse_at(
+        Rule::P13,
+        first_flawed(context, context.local_variables(), Flaw::Misclassed),
+    )
 }
 
 /// NumWorkgroups, WorkgroupId, LocalInvocationId, GlobalInvocationId and LocalInvocationIndex (SPIR-V
@@ -148,24 +140,15 @@ fn is_other_input(context: &Context, inst: &Inst) -> bool
         && is_no_input(context, inst)
 }
 
-#[tactic(auto, using(crate::proofs::Finds::behind_rules))]
-fn first_other_input<'a>(context: &Context<'a>) -> Option<&'a Inst>
-    ensures { option_copied result ≡ find (is_other_input_in context.now.heads context.now.globals) (variables_of context.now) }
-{
-    for inst in context.variables() {
-        if is_other_input(context, *inst) {
-            return Some(*inst);
-        }
-    }
-    None
-}
-
 /// P14: an Input variable lacks a BuiltIn of the profile other than WorkgroupSize, or its type is not
 /// uvec3, or uint for LocalInvocationIndex (SPIR-V 1.6, section 3.21).
 pub fn check_inputs(context: &Context) -> Result<(), Fault>
     ensures { IsChecked P14 (p14 context.now) result }
 {
-    refuse_at(Rule::P14, first_other_input(context))
+    refuse_at(
+        Rule::P14,
+        first_flawed(context, context.variables(), Flaw::OtherInput),
+    )
 }
 
 /// Whether a variable is of class Uniform or StorageBuffer.
@@ -240,23 +223,11 @@ fn count_pushes(context: &Context) -> usize
     count
 }
 
-#[tactic(auto, using(crate::proofs::Finds::behind_rules))]
-fn first_other_block<'a>(context: &Context<'a>, pushes: usize) -> Option<&'a Inst>
-    ensures { option_copied result ≡ find (is_other_block_in context.now.heads context.now.globals pushes) (variables_of context.now) }
-{
-    for inst in context.variables() {
-        if is_other_block(context, pushes, *inst) {
-            return Some(*inst);
-        }
-    }
-    None
-}
-
 fn block_fault<'a>(context: &Context<'a>) -> Option<&'a Inst>
     ensures { option_copied result ≡ find (is_other_block_in context.now.heads context.now.globals (count_by is_push_row (variables_of context.now))) (variables_of context.now) }
 {
     let pushes = count_pushes(context);
-    first_other_block(context, pushes)
+    first_flawed(context, context.variables(), Flaw::OtherBlock(pushes))
 }
 
 /// P15: a StorageBuffer or PushConstant variable does not point to a struct decorated Block; or a
@@ -300,22 +271,50 @@ fn is_other_initializer(context: &Context, inst: &Inst) -> bool
             || is_other_value(context, inst, inst.operand(1)))
 }
 
-#[tactic(auto, using(crate::proofs::Finds::behind_rules))]
-fn first_other_initializer<'a>(context: &Context<'a>) -> Option<&'a Inst>
-    ensures { option_copied result ≡ find (is_other_initializer_in context.now) (variables_of context.now) }
-{
-    for inst in context.variables() {
-        if is_other_initializer(context, *inst) {
-            return Some(*inst);
-        }
-    }
-    None
-}
-
 /// P16: an initializer stands on another class than Function or Private, or is no constant of the type
 /// that the variable points to (SPIR-V 1.6, "Memory Instructions", OpVariable).
 pub fn check_initializers(context: &Context) -> Result<(), Fault>
     ensures { IsChecked P16 (p16 context.now) result }
 {
-    refuse_at(Rule::P16, first_other_initializer(context))
+    refuse_at(
+        Rule::P16,
+        first_flawed(context, context.variables(), Flaw::OtherInitializer),
+    )
+}
+
+/// What a variable may not be.
+#[derive(Clone, Copy)]
+enum Flaw {
+    /// A variable of a function whose class is not Function, or not its pointer's.
+    Misclassed,
+    /// An Input variable that is none of the profile's.
+    OtherInput,
+    /// A block that is none of the profile's, where there are so many PushConstant variables.
+    OtherBlock(usize),
+    /// A variable whose initializer is not of the profile.
+    OtherInitializer,
+}
+
+fn has_flaw(context: &Context, flaw: Flaw, variable: &Inst) -> bool
+    ensures { result ≡ has_flaw_in context.now flaw variable.now }
+{
+    match flaw {
+        Flaw::Misclassed => is_misclassed(context, true, variable),
+        Flaw::OtherInput => is_other_input(context, variable),
+        Flaw::OtherBlock(pushes) => is_other_block(context, pushes, variable),
+        Flaw::OtherInitializer => is_other_initializer(context, variable),
+    }
+}
+
+/// The first of these variables that is what it may not be.
+#[tactic(auto, using(crate::proofs::Finds::behind_rules))]
+fn first_flawed<'a>(context: &Context<'a>, variables: &[&'a Inst], flaw: Flaw) -> Option<&'a Inst>
+    ensures { option_copied result ≡ find (has_flaw_in context.now flaw) (map (λ i. i.now) variables.now) }
+{
+    for inst in variables {
+        if has_flaw(context, flaw, *inst) {
+            return Some(*inst);
+        }
+    }
+    None
 }

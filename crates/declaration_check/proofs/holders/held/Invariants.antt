@@ -1,7 +1,7 @@
 use Rattle.std.proofs.Common.{◌≡◌, ℕ, drop, length, ◌≤◌}
 use Rattle.profile_rules.specs.TypeForm.{is_held}
 use Rattle.id_map.specs.Entries.{is_in}
-use Rattle.declaration_check.proofs.uses.held.Given as goal
+use Rattle.declaration_check.proofs.holders.held.Given as goal
 
 abbrev pub invariant-loop-left : goal.invariant-loop-left
 invariant-loop-left l = record {

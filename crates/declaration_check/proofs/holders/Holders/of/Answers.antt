@@ -2,10 +2,10 @@ use Rattle.std.proofs.Common.{◌++◌, ◌∙◌, ℕ, List, not, ap}
 use Rattle.profile_rules.specs.TypeForm.{is_workgroup, pointees, value_types, other_types, is_held}
 use Rattle.spv_module.specs.State.{ModuleState}
 use Rattle.declaration_check.proofs.Asked.{same_behind, held_same}
-use Rattle.declaration_check.proofs.uses.find_holders.Goals as goal
+use Rattle.declaration_check.proofs.holders.Holders.of.Goals as goal
 
-pub returns : goal.returns
-returns c =
+pub invariant_of-result : goal.invariant_of-result
+invariant_of-result c =
     let m : ModuleState = c.args.context.now in
     let front : List ℕ = pointees m (λ v. not (is_workgroup v)) in
     record {

@@ -4,7 +4,7 @@ use Rattle.spv_module.specs.declared.inst.Inst.{Inst}
 use Rattle.profile_rules.specs.Places.{is_among}
 use Rattle.profile_rules.specs.TypeForm.{parts_of}
 use Rattle.declaration_check.proofs.HeldTypes.{held_step}
-use Rattle.declaration_check.proofs.uses.held.Goals as goal
+use Rattle.declaration_check.proofs.holders.held.Goals as goal
 
 pub loop-left-preserved : goal.loop-left-preserved
 loop-left-preserved c =
