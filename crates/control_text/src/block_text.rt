@@ -8,6 +8,13 @@ use glsl_ast::{Expr, Literal, Stmt};
 use spv_words::Memory;
 use std::alloc::Global;
 
+/// An edge between blocks of a function.
+#[derive(Clone, Copy, Debug)]
+pub struct Edge {
+    pub from: usize,
+    pub to: usize,
+}
+
 /// What is written of the blocks of a function and of the edges between them. Blocks are named by their
 /// indexes in the function, loops and switches by the block with their merge instruction (SPIR-V 1.6,
 /// section 2.11). Each method has an answer for any number. There is an error only where there is no
@@ -38,14 +45,8 @@ pub trait BlockText {
 
     /// Appends the copies of an edge: what it assigns to the variables of the OpPhi instructions of the
     /// block to which it leads.
-    fn copies(
-        &self,
-        alloc: Global,
-        from: usize,
-        to: usize,
-        out: &mut Vec<Stmt>,
-    ) -> Result<(), Memory>
-        ensures { OnOk result (map stmt_of out.new.items ≡ map stmt_of out.old.items ++ (blocks self.now).copies from to) };
+    fn copies(&self, alloc: Global, edge: Edge, out: &mut Vec<Stmt>) -> Result<(), Memory>
+        ensures { OnOk result (map stmt_of out.new.items ≡ map stmt_of out.old.items ++ (blocks self.now).copies edge.from edge.to) };
 
     /// The name of the flag of a loop that is false in its first turn only, where one is needed.
     fn again(&self, header: usize) -> Option<&str>

@@ -4,7 +4,7 @@ ghost use Rattle.glsl_ast.specs.View.{stmt_of};
 ghost use Rattle.structure_recover.specs.View.{region_of, item_of};
 ghost use Rattle.control_text.specs.Statements.{exit_text as text_of_exit, edge_text as text_of_edge, leave_loop as text_of_leave, entering as text_of_entering, copies_from as text_of_copies, plain_block as block_of_plain, is_break as is_break_exit};
 
-use crate::block_text::BlockText;
+use crate::block_text::{BlockText, Edge};
 use crate::flags::set;
 use crate::place::Place;
 use crate::writer::Writer;
@@ -85,7 +85,7 @@ impl<'w, B: BlockText> Writer<'w, B> {
     {
         match exit {
             Exit::Edge(from, to, kind) => {
-                self.blocks.copies(self.alloc, from, to, out)?;
+                self.blocks.copies(self.alloc, Edge { from, to }, out)?;
                 self.edge_text(place, to, kind, out)
             }
             Exit::Return(block) => push(Stmt::Return(self.blocks.value(self.alloc, block)?), out),
@@ -95,28 +95,22 @@ impl<'w, B: BlockText> Writer<'w, B> {
 
     /// Appends the copies of an edge to the first block of a region: where the region is an edge alone, its
     /// exit writes them.
-    pub fn entering(
-        &self,
-        from: usize,
-        to: usize,
-        region: &Region,
-        out: &mut Vec<Stmt>,
-    ) -> Result<(), Memory>
-        ensures { OnOk result (map stmt_of out.new.items ≡ map stmt_of out.old.items ++ text_of_entering (B.blocks self.now.blocks.now) from to (region_of region.now)) }
+    pub fn entering(&self, edge: Edge, region: &Region, out: &mut Vec<Stmt>) -> Result<(), Memory>
+        ensures { OnOk result (map stmt_of out.new.items ≡ map stmt_of out.old.items ++ text_of_entering (B.blocks self.now.blocks.now) edge.from edge.to (region_of region.now)) }
     {
         if region.items.is_empty() {
             return Ok(());
         }
-        self.blocks.copies(self.alloc, from, to, out)
+        self.blocks.copies(self.alloc, edge, out)
     }
 
     /// Appends the copies of the edge from a plain block to the item behind it.
     pub fn copies_from(&self, from: Option<usize>, out: &mut Vec<Stmt>) -> Result<(), Memory>
         ensures { OnOk result (map stmt_of out.new.items ≡ map stmt_of out.old.items ++ text_of_copies (B.blocks self.now.blocks.now) from) }
     {
-        if let Some(block) = from {
-            let to = self.blocks.target(block, 0);
-            self.blocks.copies(self.alloc, block, to, out)?;
+        if let Some(from) = from {
+            let to = self.blocks.target(from, 0);
+            self.blocks.copies(self.alloc, Edge { from, to }, out)?;
         }
         Ok(())
     }

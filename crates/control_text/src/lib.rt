@@ -9,5 +9,5 @@ mod regions;
 mod switches;
 mod writer;
 
-pub use block_text::BlockText;
+pub use block_text::{BlockText, Edge};
 pub use regions::function_text;

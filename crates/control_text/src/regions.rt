@@ -7,7 +7,7 @@ ghost use Rattle.control_text.specs.Statements.{region_text as text_of_region, i
 ghost use Rattle.control_text.specs.declared.place.Place.{Place};
 ghost use Rattle.control_text.specs.Written.{group_written};
 
-use crate::block_text::BlockText;
+use crate::block_text::{BlockText, Edge};
 use crate::edges::{is_break, plain_block};
 use crate::flags::{declare, named, set_flag};
 use crate::place::{Place, in_loop, in_switch};
@@ -151,7 +151,7 @@ impl<'w, B: BlockText> Writer<'w, B> {
     {
         let mut text = Vec::new(self.alloc);
         let to = self.blocks.target(from, number);
-        self.entering(from, to, region, &mut text)?;
+        self.entering(Edge { from, to }, region, &mut text)?;
         let breaks = self.region_text(place, region, &mut text)?;
         Ok(Part { text, breaks })
     }
@@ -261,7 +261,11 @@ impl<'w, B: BlockText> Writer<'w, B> {
         let mut breaks = false;
         for group in groups {
             let labels = self.labels_text(head, &group.labels, group.default)?;
-            let part = self.case_body(place, head, group.target, &group.body)?;
+            let edge = Edge {
+                from: head,
+                to: group.target,
+            };
+            let part = self.case_body(place, edge, &group.body)?;
             breaks |= part.breaks;
             let body = part.text;
             arms.push((group.target, Arm { labels, body }))?;
@@ -271,18 +275,12 @@ impl<'w, B: BlockText> Writer<'w, B> {
 
     /// The statements of a group of a switch, with the copies of the edge to it.
     #[cycle(text)]
-    fn case_body(
-        &self,
-        place: Place,
-        head: usize,
-        target: usize,
-        body: &Region,
-    ) -> Result<Part, Memory>
-        ensures text { IfOk result (λ part. map stmt_of part.text.items ≡ text_of_entering_case (B.blocks self.now.blocks.now) head target (region_of body.now) ++ text_of_region (B.blocks self.now.blocks.now) place (region_of body.now)) }
+    fn case_body(&self, place: Place, edge: Edge, body: &Region) -> Result<Part, Memory>
+        ensures text { IfOk result (λ part. map stmt_of part.text.items ≡ text_of_entering_case (B.blocks self.now.blocks.now) edge.from edge.to (region_of body.now) ++ text_of_region (B.blocks self.now.blocks.now) place (region_of body.now)) }
         ensures breaks { IfOk result (λ part. part.breaks ≡ has_break (region_of body.now)) }
     {
         let mut text = Vec::new(self.alloc);
-        self.entering_case(head, target, body, &mut text)?;
+        self.entering_case(edge, body, &mut text)?;
         let breaks = self.region_text(place, body, &mut text)?;
         Ok(Part { text, breaks })
     }

@@ -6,7 +6,7 @@ ghost use Rattle.control_text.specs.Statements.{labels_text as text_of_labels, e
 ghost use Rattle.control_text.specs.Written.{group_written};
 ghost use Rattle.control_text.specs.Rising.{target_of, stand_so, is_behind as is_behind_of};
 
-use crate::block_text::BlockText;
+use crate::block_text::{BlockText, Edge};
 use crate::flags::{declare, named};
 use crate::place::Place;
 use crate::writer::Writer;
@@ -109,19 +109,18 @@ impl<'w, B: BlockText> Writer<'w, B> {
     #[tactic(auto, using(glsl_ast::proofs::Views::stmt_rows, glsl_ast::proofs::Views::expr_rows))]
     pub fn entering_case(
         &self,
-        header: usize,
-        target: usize,
+        edge: Edge,
         body: &Region,
         out: &mut Vec<Stmt>,
     ) -> Result<(), Memory>
-        ensures { OnOk result (map stmt_of out.new.items ≡ map stmt_of out.old.items ++ text_of_entering_case (B.blocks self.now.blocks.now) header target (region_of body.now)) }
+        ensures { OnOk result (map stmt_of out.new.items ≡ map stmt_of out.old.items ++ text_of_entering_case (B.blocks self.now.blocks.now) edge.from edge.to (region_of body.now)) }
     {
-        let Some(flag) = self.blocks.fell(target) else {
-            return self.entering(header, target, body, out);
+        let Some(flag) = self.blocks.fell(edge.to) else {
+            return self.entering(edge, body, out);
         };
         let fell = Box::new(self.alloc, named(self.alloc, flag)?)?;
         let mut copies = Vec::with_capacity(self.alloc, 1)?;
-        self.entering(header, target, body, &mut copies)?;
+        self.entering(edge, body, &mut copies)?;
         out.push(Stmt::If(Expr::Not(fell), copies, None))?;
         Ok(())
     }

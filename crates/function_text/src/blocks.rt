@@ -16,7 +16,7 @@ ghost use Rattle.function_text.specs.State.{plan_in};
 use crate::scope::PlannedFunction;
 use block_graph::terminator;
 use constant_text::int_literal;
-use control_text::BlockText;
+use control_text::{BlockText, Edge};
 use expr_forward::reserve;
 use function_plan::{again_at, fell_at, leave_at, target};
 use glsl_ast::{Expr, LValue, Literal, Name, Stmt};
@@ -201,13 +201,8 @@ impl BlockText for PlannedFunction<'_, '_> {
         target(self.plan().nodes.as_slice(), block, number)
     }
 
-    fn copies(
-        &self,
-        alloc: Global,
-        from: usize,
-        to: usize,
-        out: &mut Vec<Stmt>,
-    ) -> Result<(), Memory> {
+    fn copies(&self, alloc: Global, edge: Edge, out: &mut Vec<Stmt>) -> Result<(), Memory> {
+        let Edge { from, to } = edge;
         let moves = self.plan().moves_of(from, to);
         reserve(out, moves.len())?;
         for step in moves {
