@@ -1,2 +1,3 @@
 pub mod Three
 pub mod Cases
+pub mod Written
