@@ -10,8 +10,8 @@ ghost use Rattle.group_items.specs.Sides.{three as three_words, built_ins as bui
 ghost use Rattle.group_items.specs.Events.{location_of};
 ghost use Rattle.group_items.specs.Playing.{IsAt};
 ghost use Rattle.dispatch_case.specs.Three.{triple_of};
-ghost use Rattle.group_sched.specs.Sides.{AreAbove, AreSmall, IsExtent};
-ghost use Rattle.dispatch_case.specs.Cases.{parts_of, buffer_view, is_short, is_fine, most_numbers};
+ghost use Rattle.group_sched.specs.Sides.{IsGridOf, IsExtent, CanStart};
+ghost use Rattle.dispatch_case.specs.Cases.{parts_of, buffer_view, is_short, most_numbers};
 ghost use Rattle.group_sched.specs.Stores.{words_in, rooms_in, location_in};
 ghost use Rattle.group_sched.specs.Start.{size_of, spread, with_buffers, nowhere, first_store, setup_of};
 
@@ -104,11 +104,8 @@ fn built_ins(
     who: usize,
 ) -> Result<Vec<Value>, Memory>
     ghost grid: { Grid }
-    requires groups { grid.groups ≡ triple_of groups }
-    requires size { grid.size ≡ triple_of size }
+    requires grid { IsGridOf grid groups size }
     requires group { group ≡ product grid.size }
-    requires above { AreAbove grid.groups × AreAbove grid.size }
-    requires small { AreSmall grid.groups × AreSmall grid.size }
     requires few { who ≤ 1024 }
     ensures { IfOk result (λ values. map value_of values.items ≡ built_in_values (told_by grid who)) }
 {
@@ -169,11 +166,8 @@ fn begin_one<R: Runner>(
     who: usize,
 ) -> Result<(), Memory>
     ghost grid: { Grid }
-    requires groups { grid.groups ≡ triple_of groups }
-    requires size { grid.size ≡ triple_of size }
+    requires grid { IsGridOf grid groups size }
     requires group { group ≡ product grid.size }
-    requires above { AreAbove grid.groups × AreAbove grid.size }
-    requires small { AreSmall grid.groups × AreSmall grid.size }
     requires few { who ≤ 1024 }
     requires sizes { bytes_in inv.old.sizes.items ≡ grid.buffer_bytes }
     requires apart { keys_repeat inv.old.sizes.items ≡ false }
@@ -202,11 +196,8 @@ fn begin_all<R: Runner>(
     extent: Extent,
 ) -> Result<(), Memory>
     ghost grid: { Grid }
-    requires groups { grid.groups ≡ triple_of groups }
-    requires size { grid.size ≡ triple_of size }
+    requires grid { IsGridOf grid groups size }
     requires extent { IsExtent grid.groups grid.size extent }
-    requires above { AreAbove grid.groups × AreAbove grid.size }
-    requires small { AreSmall grid.groups × AreSmall grid.size }
     requires sizes { bytes_in inv.old.sizes.items ≡ grid.buffer_bytes }
     requires apart { keys_repeat inv.old.sizes.items ≡ false }
     requires special { get nat_cmp inv.old.special ≡ grid.specialization }
@@ -237,9 +228,7 @@ pub fn begin<R: Runner>(
     special: BTreeMap<u32, u32>,
     extent: Extent,
 ) -> Result<Play, Memory>
-    requires fine { IsTrue (is_fine (parts_of case.now)) }
-    requires size { AreAbove (triple_of size) }
-    requires extent { IsExtent (triple_of case.now.groups) (triple_of size) extent }
+    requires start { CanStart (parts_of case.now) (triple_of size) extent }
     requires takes { R.takes side.old (get nat_cmp special) }
     requires none { R.count side.old ≡ 0 }
     ensures at { IfOk result (IsAt (setup_of (parts_of case.now) (triple_of size) (get nat_cmp special)) (R.at side.new)) }

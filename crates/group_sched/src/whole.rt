@@ -6,7 +6,7 @@ ghost use Rattle.dispatch_semantics.specs.Grid.{product};
 ghost use Rattle.group_items.specs.Events.{events_of, weight_of};
 ghost use Rattle.group_items.specs.Schedule.{Setup, Comes, IsTooMuch, most_weight};
 ghost use Rattle.dispatch_case.specs.Three.{triple_of};
-ghost use Rattle.group_sched.specs.Sides.{AreAbove, IsExtent};
+ghost use Rattle.group_sched.specs.Sides.{AreAbove, CanStart};
 ghost use Rattle.group_sched.specs.Stores.{words_in};
 ghost use Rattle.dispatch_case.specs.Cases.{parts_of, is_fine};
 ghost use Rattle.group_sched.specs.Start.{setup_of};
@@ -65,9 +65,7 @@ fn run<R: Runner>(
 ) -> Result<Outcome, Stop>
     ghost d: { Setup }
     requires setup { d ≡ setup_of (parts_of case.now) (triple_of size) (get nat_cmp special) }
-    requires fine { IsTrue (is_fine (parts_of case.now)) }
-    requires size { AreAbove (triple_of size) }
-    requires extent { IsExtent (triple_of case.now.groups) (triple_of size) extent }
+    requires start { CanStart (parts_of case.now) (triple_of size) extent }
     requires takes { R.takes side.old (get nat_cmp special) }
     requires none { R.count side.old ≡ 0 }
     ensures comes { IfOk result (λ o. Comes d (R.runs side.old) case.now.first.items (events_of o.events.items) (words_in o.store) o.end) }

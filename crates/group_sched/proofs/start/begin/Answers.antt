@@ -16,30 +16,26 @@ pub begin_all-requires : goal.begin_all-requires
 begin_all-requires g c κs within =
     let parts = parts_of c.args.case.now in
     let size = triple_of c.args.size in
-    let e = c.requires.extent in
-    let above = groups_above parts c.requires.fine in
+    let e = c.requires.start.extent in
+    let above = groups_above parts c.requires.start.fine in
     let few = subst (λ n. n ≤ 1024) e.count e.small in (
       within,
       (
-        refl,
+        record {
+          groups_are = refl;
+          size_is = refl;
+          above = (above, c.requires.start.above);
+          small = (groups_small parts c.requires.start.fine, sides_small parts.groups size above c.requires.start.above few);
+        },
         (
-          refl,
+          e,
           (
-            e,
+            refl,
             (
-              (above, c.requires.size),
+              ap keys_repeat c.in_ok-inv.ensures.sizes ∙ sizes_apart parts c.requires.start.fine,
               (
-                (groups_small parts c.requires.fine, sides_small parts.groups size above c.requires.size few),
-                (
-                  refl,
-                  (
-                    ap keys_repeat c.in_ok-inv.ensures.sizes ∙ sizes_apart parts c.requires.fine,
-                    (
-                      refl,
-                      (subst (λ (m : BTreeMap ℕ ℕ). g.R.Runner.takes c.args.side.now (get nat_cmp m)) (sym c.in_ok-inv.ensures.special) c.requires.takes, c.requires.none),
-                    ),
-                  ),
-                ),
+                refl,
+                (subst (λ (m : BTreeMap ℕ ℕ). g.R.Runner.takes c.args.side.now (get nat_cmp m)) (sym c.in_ok-inv.ensures.special) c.requires.takes, c.requires.none),
               ),
             ),
           ),
@@ -49,22 +45,22 @@ begin_all-requires g c κs within =
 
 pub memory-requires-clause-some : goal.memory-requires-clause-some
 memory-requires-clause-some g c =
-    subst (λ n. 0 < n) (sym c.requires.extent.groups) (product_above (triple_of c.args.case.now.groups) (groups_above (parts_of c.args.case.now) c.requires.fine))
+    subst (λ n. 0 < n) (sym c.requires.start.extent.groups) (product_above (triple_of c.args.case.now.groups) (groups_above (parts_of c.args.case.now) c.requires.start.fine))
 
 pub returns-clause-at : goal.returns-clause-at
 returns-clause-at g c =
     let parts = parts_of c.args.case.now in
     let size = triple_of c.args.size in
     let special = get nat_cmp c.args.special in
-    let e = c.requires.extent in
+    let e = c.requires.start.extent in
     let zeros = c.in_ok-zeros.ensures in
     begins (setup_of parts size special) (g.R.Runner.at c.begin_all.new.side)
     (record { group = c.args.extent.group; passed = c.in_ok-zeros.field-0; store = c.in_ok-memory.field-0; events = c.new.result; weight = 0 })
     (ap length zeros ∙ length-replicate c.args.extent.count 0 ∙ e.count)
     (λ i less. ap (λ (xs : List ℕ). slice_index xs i) zeros ∙ get_or-replicate c.args.extent.count i 0 0 (subst (λ n. i < n) (sym e.count) less))
     e.group
-    (product_above size c.requires.size)
-    (λ i less. subst (λ n. i / product size < n) (sym (c.in_ok-memory.ensures.rooms ∙ e.groups)) (div_below i (product size) (product parts.groups) (product_above size c.requires.size) less))
+    (product_above size c.requires.start.above)
+    (λ i less. subst (λ n. i / product size < n) (sym (c.in_ok-memory.ensures.rooms ∙ e.groups)) (div_below i (product size) (product parts.groups) (product_above size c.requires.start.above) less))
     (λ i less. c.in_ok-begin_all.ensures.begun i (subst (λ n. i < n) (sym e.count) less)
     ∙ ap (λ (zs : List (ℕ × ℕ × ℕ)). fresh (invocation (record { groups = parts.groups; size = size; buffer_bytes = bytes_in zs; specialization = get nat_cmp c.in_ok-inv.inv.special }) i)) c.in_ok-inv.ensures.sizes
     ∙ ap (λ (m : BTreeMap ℕ ℕ). fresh (invocation (record { groups = parts.groups; size = size; buffer_bytes = bytes_in (map size_of parts.buffers); specialization = get nat_cmp m }) i)) c.in_ok-inv.ensures.special)
