@@ -1,8 +1,8 @@
 // Reads and writes that fail, or that go a byte at a time, and an input that is too long.
-use cc_outside::{Failed, MemorySink, MemorySource, Sink, Source, Unwritten};
+use cc_outside::{MemorySink, MemorySource};
 use cross_core::cross;
 use module_gen::generate;
-use sample_modules::{INCREMENT, PREFIX_SUMS, bytes_of};
+use sample_modules::{ByteByByte, INCREMENT, PREFIX_SUMS, bytes_of};
 use std::alloc::{AllocError, Global};
 use std::test::Fail;
 
@@ -70,56 +70,17 @@ fn leaves_a_front_of_the_text(rt: HostRuntime) -> Result<(), Fail> {
     Ok(())
 }
 
-/// Gives at most one byte in each call.
-#[derive(Drop)]
-struct Trickle {
-    source: MemorySource,
-}
-
-impl Source for Trickle {
-    ghost use Rattle.std.specs.Prelude.{None};
-
-    ghost left = { λ _. None };
-
-    ghost faults = { λ s. s.source.faults };
-
-    fn read(&mut self, buf: &mut [u8]) -> Result<usize, Failed> {
-        let end = buf.len().min(1);
-        self.source.read(&mut buf[..end])
-    }
-}
-
-/// Takes at most one byte in each call.
-#[derive(Drop)]
-struct Narrow {
-    sink: MemorySink,
-}
-
-impl Sink for Narrow {
-    ghost use Rattle.std.specs.Prelude.{None};
-
-    ghost written = { λ _. None };
-
-    ghost faults = { λ s. s.sink.faults };
-
-    ghost wants = { λ s. s.sink.wants };
-
-    fn write(&mut self, piece: &[u8]) -> Result<usize, Unwritten> {
-        self.sink.write(&piece[..piece.len().min(1)])
-    }
-}
-
 /// What came of the sums over a source that gives one byte in each call and fails at one, and a sink that takes one byte in
 /// each call and fails at one.
 fn trickled(alloc: Global, read: u64, write: u64) -> Result<(u8, Vec<u8>), Fail> {
     let bytes = bytes_of(alloc, &[&PREFIX_SUMS])?;
     let source = MemorySource::new(bytes, vec![in alloc; read]?);
     let sink = MemorySink::new(alloc, vec![in alloc; write]?);
-    let mut input = Trickle { source };
-    let mut output = Narrow { sink };
+    let mut input = ByteByByte { stream: source };
+    let mut output = ByteByByte { stream: sink };
     let mut notes = MemorySink::new(alloc, Vec::new(alloc));
     let status = cross(alloc, &["glsl"], &mut input, &mut output, &mut notes);
-    Ok((status, output.sink.bytes().to_vec(alloc)?))
+    Ok((status, output.stream.bytes().to_vec(alloc)?))
 }
 
 #[test]
