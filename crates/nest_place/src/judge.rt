@@ -3,7 +3,7 @@ ghost use Rattle.std.specs.Prelude.{◌≡◌, length, IfOk, OnOk, IfErr};
 ghost use Rattle.spv_words.specs.declared.rule.Rule.TheVariants.{K6, K9};
 ghost use Rattle.spv_words.specs.Breaks.{NoRuleBroken};
 ghost use Rattle.structure_rules.specs.Graph.{graph};
-ghost use Rattle.structure_rules.specs.Structure.{BrokenIn, BrokenStructure, IsRightIn, IsRightStructure, IsTooDeep, structure_rules};
+ghost use Rattle.structure_rules.specs.Structure.{BrokenStructure, IsRightIn, IsRightStructure, IsTooDeep, structure_rules};
 ghost use Rattle.block_graph.specs.Within.{AreWithin, AreReached};
 ghost use Rattle.nest_place.specs.Checks.{IsFineBefore};
 ghost use Rattle.nest_place.specs.Spots.{IsGrounded, IsShallow};

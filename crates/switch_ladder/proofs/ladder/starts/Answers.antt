@@ -1,4 +1,3 @@
-use Rattle.std.proofs.Common.{ℕ, get_or}
 use Rattle.switch_ladder.specs.Ladder.{begins_chain}
 use Rattle.switch_ladder.proofs.Chained.{pass_more, pass_end}
 use Rattle.switch_ladder.proofs.ladder.starts.Goals as goal

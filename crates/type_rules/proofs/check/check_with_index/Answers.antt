@@ -1,4 +1,4 @@
-use Rattle.std.proofs.Common.{◌≡◌, ◌∙◌, ap, refl, subst, sym}
+use Rattle.std.proofs.Common.{◌≡◌, refl, subst, sym}
 use Rattle.type_rules.specs.Scopes.{Scoped, outside}
 use Rattle.type_rules.proofs.check.check_with_index.Goals as goal
 
