@@ -1,3 +1,1 @@
 pub mod EdgePairs
-pub mod Selectors
-pub mod Firsts
