@@ -2,22 +2,4 @@
 #![tactic(auto)]
 
 #[cfg(test)]
-mod accesses;
-#[cfg(test)]
-mod calls;
-#[cfg(test)]
-mod constants;
-#[cfg(test)]
-mod data;
-#[cfg(test)]
-mod declarations;
-#[cfg(test)]
-mod ladders;
-#[cfg(test)]
-mod layouts;
-#[cfg(test)]
-mod overrides;
-#[cfg(test)]
-mod structure;
-#[cfg(test)]
-mod types;
+mod tests;

@@ -1,8 +1,10 @@
 // The blocks and types of a small module.
-use buffer_layout::{Kind, check_block, is_block_variable, layout};
+use buffer_layout::{BlockPlan, Kind, Layout, check_block, is_block_variable, layout};
 use sample_modules::module_of;
 use spv_decor::Decor;
-use spv_module::Id;
+use spv_module::{Id, Module};
+use spv_words::Fault;
+use std::alloc::Global;
 use std::test::Fail;
 
 // %1 uint, %2 a vector of three, %3 a runtime array of these with stride 16, %4 a struct of two uints
@@ -20,14 +22,20 @@ static MODULE: [u32; 117] = [
     15, 12,
 ];
 
+// The plan of a block, where this is the id of its variable.
+fn plan_of(alloc: Global, module: &Module, id: u32) -> Result<Option<BlockPlan>, Fault> {
+    let decor = Decor::read(alloc, module)?;
+    if !is_block_variable(module, Id(id)) {
+        return Ok(None);
+    }
+    Ok(Some(check_block(alloc, module, &decor, Id(id))?))
+}
+
 #[test]
 fn a_plan(rt: HostRuntime) -> Result<(), Fail> {
-    let alloc = rt.alloc();
-    let module = module_of(alloc, &[&MODULE])?;
-    let decor = Decor::read(alloc, &module)?;
-    assert_eq!(rt; is_block_variable(&module, Id(6)), false);
-    assert!(rt; is_block_variable(&module, Id(7)));
-    let plan = check_block(alloc, &module, &decor, Id(7))?;
+    let module = module_of(rt.alloc(), &[&MODULE])?;
+    assert!(rt; plan_of(rt.alloc(), &module, 6)?.is_none());
+    let plan = plan_of(rt.alloc(), &module, 7)?.ok_or("no plan")?;
     assert_eq!(rt; plan.offsets.as_slice(), [0, 12, 32, 48].as_slice());
     let sizes = [(12, 16, 0), (4, 4, 0), (4, 4, 0), (0, 16, 16)];
     assert_eq!(rt; plan.members.len(), sizes.len());
@@ -37,17 +45,24 @@ fn a_plan(rt: HostRuntime) -> Result<(), Fail> {
     Ok(())
 }
 
+fn layout_of(alloc: Global, module: &Module, ty: u32, kind: Kind) -> Result<Layout, Fault> {
+    let decor = Decor::read(alloc, module)?;
+    layout(alloc, module, &decor, Id(7), Id(ty), kind)
+}
+
 #[test]
 fn types(rt: HostRuntime) -> Result<(), Fail> {
     let alloc = rt.alloc();
     let module = module_of(alloc, &[&MODULE])?;
-    let decor = Decor::read(alloc, &module)?;
-    let pair = layout(alloc, &module, &decor, Id(7), Id(4), Kind::Std140)?;
-    assert_eq!(rt; (pair.size, pair.align, pair.stride), (16, 16, 0));
+    for (ty, kind, sizes) in [
+        (4, Kind::Std140, (16, 16, 0)),
+        (12, Kind::Std140, (32, 16, 16)),
+        (6, Kind::Std430, (0, 0, 0)),
+    ] {
+        let found = layout_of(alloc, &module, ty, kind)?;
+        assert_eq!(rt; (found.size, found.align, found.stride), sizes, "type {ty}");
+    }
+    let pair = layout_of(alloc, &module, 4, Kind::Std140)?;
     assert_eq!(rt; pair.offsets.as_slice(), [0, 4].as_slice());
-    let array = layout(alloc, &module, &decor, Id(7), Id(12), Kind::Std140)?;
-    assert_eq!(rt; (array.size, array.align, array.stride), (32, 16, 16));
-    let none = layout(alloc, &module, &decor, Id(7), Id(6), Kind::Std430)?;
-    assert_eq!(rt; (none.size, none.align, none.stride), (0, 0, 0));
     Ok(())
 }

@@ -2,6 +2,7 @@
 use sample_modules::{SPECIALIZED, module_of};
 use spec_constants::{Given, Overrides, check_leaves, check_overrides, givens, word_given};
 use spv_decor::Decor;
+use spv_module::Module;
 use spv_words::Fault;
 use std::alloc::Global;
 use std::test::Fail;
@@ -37,14 +38,16 @@ fn words_of_a_command_line(rt: HostRuntime) -> Result<(), Fail> {
     Ok(())
 }
 
+fn judged(alloc: Global, module: &Module, overrides: &Overrides) -> Result<(), Fault> {
+    let decor = Decor::read(alloc, module)?;
+    check_overrides(alloc, module, &decor, &overrides.pairs)
+}
+
 #[test]
 fn overrides_of_a_module(rt: HostRuntime) -> Result<(), Fail> {
-    let alloc = rt.alloc();
-    let module = module_of(alloc, &[&SPECIALIZED])?;
-    let decor = Decor::read(alloc, &module)?;
-    let overrides = parsed(alloc, &["3=128", "2=-2147483648"])?;
-    let judged = check_overrides(alloc, &module, &decor, &overrides.pairs);
-    assert_eq!(rt; judged, Ok(()));
+    let module = module_of(rt.alloc(), &[&SPECIALIZED])?;
+    let overrides = parsed(rt.alloc(), &["3=128", "2=-2147483648"])?;
+    assert_eq!(rt; judged(rt.alloc(), &module, &overrides), Ok(()));
     Ok(())
 }
 
