@@ -1,1 +1,2 @@
 pub mod EdgePairs
+pub mod Selectors
