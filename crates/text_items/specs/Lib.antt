@@ -1,5 +1,6 @@
 pub mod State
 pub mod Names
+pub mod Wording
 pub mod Globals
 pub mod Plain
 pub mod Blocks

@@ -2,8 +2,8 @@
 ghost use Rattle.std.specs.Prelude.{◌≡◌, IfOk, Some, map};
 ghost use Rattle.std.specs.List.{enumerate_from};
 ghost use Rattle.layout_rules.specs.Blocks.{block_of, kind_at};
-ghost use Rattle.glsl_ast.specs.View.{decl_of, member_of};
-ghost use Rattle.text_rules.specs.Declarations.{is_buffer as is_buffer_variable, place_of as place_of_variable, rules_by as rules_by_kind, member_decl, block_decl};
+ghost use Rattle.glsl_ast.specs.View.{decl_of, member_of, type_of};
+ghost use Rattle.text_rules.specs.Declarations.{type_at as type_at_of, is_buffer as is_buffer_variable, place_of as place_of_variable, rules_by as rules_by_kind, member_decl, block_decl};
 ghost use Rattle.text_items.specs.Names.{item_names};
 ghost use Rattle.text_items.specs.Blocks.{is_like as is_like_inst, is_found as is_found_in};
 
@@ -11,9 +11,10 @@ use crate::Written;
 use crate::constants::type_at;
 use crate::numbers::counted;
 use crate::qualifiers::{member_qualifiers, variable_qualifiers};
+use crate::wording::Wording;
 use buffer_layout::{Kind, check_block, is_block_variable};
 use constant_text::name;
-use glsl_ast::{BlockPlace, BlockRules, Decl, Member};
+use glsl_ast::{BlockPlace, BlockRules, Decl, Member, TypeName};
 use name_alloc::{Key, Names};
 use spv_decor::Decor;
 use spv_index::is_storage_struct;
@@ -98,6 +99,19 @@ fn rules_of(
     }
 }
 
+/// The name of the type of a member.
+fn type_in(alloc: Global, written: &Written, names: &Names, ty: u32) -> Result<TypeName, Memory>
+    ensures { IfOk result (λ t. type_of t ≡ type_at_of written.now.source (item_names written.now.source names.now) ty) }
+{
+    let wording = Wording {
+        alloc,
+        readings: written.readings(),
+        names,
+    };
+    let ty = type_at(&wording, ty)?;
+    Ok(ty)
+}
+
 /// A member of a block, by its number and the id of its type.
 fn member(
     alloc: Global,
@@ -117,7 +131,7 @@ fn member(
     let quals = member_qualifiers(alloc, decor, buffer, id, number)?;
     let value = decor.member_value(id, number, Decoration::Offset.number());
     let offset = value.unwrap_or(0);
-    let ty = type_at(alloc, written.readings(), names, part)?;
+    let ty = type_in(alloc, written, names, part)?;
     let name = name(alloc, names, Key::Member(id, number))?;
     Ok(Member {
         offset,

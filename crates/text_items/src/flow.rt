@@ -1,59 +1,17 @@
 // The claims of flags, captured indexes and spares, and all claims.
 ghost use Rattle.std.specs.Prelude.{◌≡◌, ◌++◌, IfOk, OnOk, flat_map, map};
 ghost use Rattle.std.specs.List.{enumerate_from};
-ghost use Rattle.text_rules.specs.Claims.{when, label as label_of, claim_captured as claims_of_captured, claim_spares as claims_of_spares, claim_flow as claims_of_flow, claim_function as claims_of_function, claims as all_claims};
+ghost use Rattle.text_rules.specs.Claims.{label as label_of, claim_captured as claims_of_captured, claim_spares as claims_of_spares, claim_flow as claims_of_flow, claim_function as claims_of_function, claims as all_claims};
 ghost use Rattle.text_items.specs.Claimed.{claim_flows as claims_of_flows};
 ghost use Rattle.text_items.specs.View.{claims_of};
 
 use crate::Written;
-use crate::functions::{FunctionClaims, claim_function};
-use crate::named_globals::claim_globals;
+use crate::functions::FunctionClaims;
+use crate::list::ClaimList;
 use name_alloc::{Claim, Key};
 use spv_module::{Block, Function, Id, Inst};
 use spv_words::Memory;
 use std::alloc::Global;
-
-/// Adds the claim of a key that the module gives no name, where there is one.
-fn claim_flag(claims: &mut Vec<Claim>, is_needed: bool, key: Key) -> Result<(), Memory>
-    ensures { OnOk result (claims_of claims.new.items ≡ claims_of claims.old.items ++ when is_needed key) }
-{
-    if is_needed {
-        claims.push(Claim { key, given: None })?;
-    }
-    Ok(())
-}
-
-fn claim_captured<P: FunctionClaims>(
-    alloc: Global,
-    claims: &mut Vec<Claim>,
-    plan: &P,
-    inst: &Inst,
-) -> Result<(), Memory>
-    ensures { OnOk result (claims_of claims.new.items ≡ claims_of claims.old.items ++ claims_of_captured (P.plan plan.now) inst.now) }
-{
-    if !plan.has_captured(inst) {
-        return Ok(());
-    }
-    let numbers = plan.captured(alloc, inst)?;
-    for number in &numbers {
-        claim_flag(claims, true, Key::Captured(Id(inst.result), *number))?;
-    }
-    Ok(())
-}
-
-fn claim_indexes<P: FunctionClaims>(
-    alloc: Global,
-    claims: &mut Vec<Claim>,
-    plan: &P,
-    insts: &[Inst],
-) -> Result<(), Memory>
-    ensures { OnOk result (claims_of claims.new.items ≡ claims_of claims.old.items ++ flat_map (claims_of_captured (P.plan plan.now)) insts.now) }
-{
-    for inst in insts {
-        claim_captured(alloc, claims, plan, inst)?;
-    }
-    Ok(())
-}
 
 /// The label of the block with an index, 0 where there is none.
 fn label(function: &Function, block: usize) -> Id
@@ -65,125 +23,132 @@ fn label(function: &Function, block: usize) -> Id
     }
 }
 
-fn claim_spares<P: FunctionClaims>(
-    claims: &mut Vec<Claim>,
-    plan: &P,
-    from: usize,
-    to: usize,
-) -> Result<(), Memory>
-    ensures { OnOk result (claims_of claims.new.items ≡ claims_of claims.old.items ++ claims_of_spares (P.plan plan.now) from to) }
-{
-    let source = label(plan.function(), from);
-    let target = label(plan.function(), to);
-    for number in 0..plan.spares(from, to) {
-        claim_flag(claims, true, Key::Spare(source, target, number))?;
+impl ClaimList {
+    fn claim_captured<P: FunctionClaims>(&mut self, plan: &P, inst: &Inst) -> Result<(), Memory>
+        ensures { OnOk result (self.new ≡ self.old ++ claims_of_captured (P.plan plan.now) inst.now) }
+    {
+        if !plan.has_captured(inst) {
+            return Ok(());
+        }
+        let numbers = plan.captured(self.alloc(), inst)?;
+        for number in &numbers {
+            self.add_flag(true, Key::Captured(Id(inst.result), *number))?;
+        }
+        Ok(())
     }
-    Ok(())
-}
 
-fn claim_edges<P: FunctionClaims>(
-    claims: &mut Vec<Claim>,
-    plan: &P,
-    from: usize,
-    targets: &[usize],
-) -> Result<(), Memory>
-    ensures { OnOk result (claims_of claims.new.items ≡ claims_of claims.old.items ++ flat_map (claims_of_spares (P.plan plan.now) from) targets.now) }
-{
-    for target in targets {
-        claim_spares(claims, plan, from, *target)?;
+    fn claim_indexes<P: FunctionClaims>(&mut self, plan: &P, insts: &[Inst]) -> Result<(), Memory>
+        ensures { OnOk result (self.new ≡ self.old ++ flat_map (claims_of_captured (P.plan plan.now)) insts.now) }
+    {
+        for inst in insts {
+            self.claim_captured(plan, inst)?;
+        }
+        Ok(())
     }
-    Ok(())
-}
 
-/// Adds the spares of the edges that leave a block.
-fn claim_own_spares<P: FunctionClaims>(
-    alloc: Global,
-    claims: &mut Vec<Claim>,
-    plan: &P,
-    from: usize,
-) -> Result<(), Memory>
-    ensures { OnOk result (claims_of claims.new.items ≡ claims_of claims.old.items ++ flat_map (claims_of_spares (P.plan plan.now) from) ((P.plan plan.now).targets from)) }
-{
-    if !plan.has_spares(from) {
-        return Ok(());
+    fn claim_spares<P: FunctionClaims>(
+        &mut self,
+        plan: &P,
+        from: usize,
+        to: usize,
+    ) -> Result<(), Memory>
+        ensures { OnOk result (self.new ≡ self.old ++ claims_of_spares (P.plan plan.now) from to) }
+    {
+        let source = label(plan.function(), from);
+        let target = label(plan.function(), to);
+        for number in 0..plan.spares(from, to) {
+            self.add_flag(true, Key::Spare(source, target, number))?;
+        }
+        Ok(())
     }
-    let targets = plan.targets(alloc, from)?;
-    claim_edges(claims, plan, from, &targets)?;
-    Ok(())
-}
 
-/// Adds what a block claims besides: flags, captured indexes, and the spares of the edges that leave it.
-fn claim_flow<P: FunctionClaims>(
-    alloc: Global,
-    claims: &mut Vec<Claim>,
-    plan: &P,
-    index: usize,
-    block: &Block,
-) -> Result<(), Memory>
-    ensures { OnOk result (claims_of claims.new.items ≡ claims_of claims.old.items ++ claims_of_flow (P.plan plan.now) (index, block.now)) }
-{
-    claim_flag(claims, plan.again(index), Key::Again(block.label))?;
-    claim_flag(claims, plan.leave(index), Key::Leave(block.label))?;
-    claim_flag(claims, plan.fell(index), Key::Fell(block.label))?;
-    claim_indexes(alloc, claims, plan, block.insts.as_slice())?;
-    claim_own_spares(alloc, claims, plan, index)?;
-    Ok(())
-}
-
-fn claim_flows<P: FunctionClaims>(
-    alloc: Global,
-    claims: &mut Vec<Claim>,
-    plan: &P,
-    blocks: &[Block],
-) -> Result<(), Memory>
-    ensures { OnOk result (claims_of claims.new.items ≡ claims_of claims.old.items ++ flat_map (claims_of_flow (P.plan plan.now)) (enumerate_from 0 blocks.now)) }
-{
-    for (index, block) in blocks.iter().enumerate() {
-        claim_flow(alloc, claims, plan, index, block)?;
+    fn claim_edges<P: FunctionClaims>(
+        &mut self,
+        plan: &P,
+        from: usize,
+        targets: &[usize],
+    ) -> Result<(), Memory>
+        ensures { OnOk result (self.new ≡ self.old ++ flat_map (claims_of_spares (P.plan plan.now) from) targets.now) }
+    {
+        for target in targets {
+            self.claim_spares(plan, from, *target)?;
+        }
+        Ok(())
     }
-    Ok(())
-}
 
-fn claim_own_flows<P: FunctionClaims>(
-    alloc: Global,
-    claims: &mut Vec<Claim>,
-    plan: &P,
-    function: &Function,
-) -> Result<(), Memory>
-    requires { function.now ≡ (P.plan plan.now).function }
-    ensures { OnOk result (claims_of claims.new.items ≡ claims_of claims.old.items ++ claims_of_flows (P.plan plan.now)) }
-{
-    claim_flows(alloc, claims, plan, function.blocks.as_slice())?;
-    Ok(())
-}
-
-fn claim_functions<P: FunctionClaims>(
-    alloc: Global,
-    claims: &mut Vec<Claim>,
-    written: &Written,
-    entry: Id,
-    plans: &[P],
-) -> Result<(), Memory>
-    requires { entry.0 ≡ written.now.source.entry }
-    ensures { OnOk result (claims_of claims.new.items ≡ claims_of claims.old.items ++ flat_map (claims_of_function written.now.source) (map P.plan plans.now)) }
-{
-    for plan in plans {
-        claim_function(alloc, claims, written, entry, plan)?;
+    /// Adds the spares of the edges that leave a block.
+    fn claim_own_spares<P: FunctionClaims>(&mut self, plan: &P, from: usize) -> Result<(), Memory>
+        ensures { OnOk result (self.new ≡ self.old ++ flat_map (claims_of_spares (P.plan plan.now) from) ((P.plan plan.now).targets from)) }
+    {
+        if !plan.has_spares(from) {
+            return Ok(());
+        }
+        let targets = plan.targets(self.alloc(), from)?;
+        self.claim_edges(plan, from, &targets)?;
+        Ok(())
     }
-    Ok(())
-}
 
-fn claim_all_flows<P: FunctionClaims>(
-    alloc: Global,
-    claims: &mut Vec<Claim>,
-    plans: &[P],
-) -> Result<(), Memory>
-    ensures { OnOk result (claims_of claims.new.items ≡ claims_of claims.old.items ++ flat_map claims_of_flows (map P.plan plans.now)) }
-{
-    for plan in plans {
-        claim_own_flows(alloc, claims, plan, plan.function())?;
+    /// Adds what a block claims besides: flags, captured indexes, and the spares of the edges that leave it.
+    fn claim_flow<P: FunctionClaims>(
+        &mut self,
+        plan: &P,
+        index: usize,
+        block: &Block,
+    ) -> Result<(), Memory>
+        ensures { OnOk result (self.new ≡ self.old ++ claims_of_flow (P.plan plan.now) (index, block.now)) }
+    {
+        self.add_flag(plan.again(index), Key::Again(block.label))?;
+        self.add_flag(plan.leave(index), Key::Leave(block.label))?;
+        self.add_flag(plan.fell(index), Key::Fell(block.label))?;
+        self.claim_indexes(plan, block.insts.as_slice())?;
+        self.claim_own_spares(plan, index)?;
+        Ok(())
     }
-    Ok(())
+
+    fn claim_flows<P: FunctionClaims>(&mut self, plan: &P, blocks: &[Block]) -> Result<(), Memory>
+        ensures { OnOk result (self.new ≡ self.old ++ flat_map (claims_of_flow (P.plan plan.now)) (enumerate_from 0 blocks.now)) }
+    {
+        for (index, block) in blocks.iter().enumerate() {
+            self.claim_flow(plan, index, block)?;
+        }
+        Ok(())
+    }
+
+    fn claim_own_flows<P: FunctionClaims>(
+        &mut self,
+        plan: &P,
+        function: &Function,
+    ) -> Result<(), Memory>
+        requires { function.now ≡ (P.plan plan.now).function }
+        ensures { OnOk result (self.new ≡ self.old ++ claims_of_flows (P.plan plan.now)) }
+    {
+        self.claim_flows(plan, function.blocks.as_slice())?;
+        Ok(())
+    }
+
+    fn claim_functions<P: FunctionClaims>(
+        &mut self,
+        written: &Written,
+        entry: Id,
+        plans: &[P],
+    ) -> Result<(), Memory>
+        requires { entry.0 ≡ written.now.source.entry }
+        ensures { OnOk result (self.new ≡ self.old ++ flat_map (claims_of_function written.now.source) (map P.plan plans.now)) }
+    {
+        for plan in plans {
+            self.claim_function(written, entry, plan)?;
+        }
+        Ok(())
+    }
+
+    fn claim_all_flows<P: FunctionClaims>(&mut self, plans: &[P]) -> Result<(), Memory>
+        ensures { OnOk result (self.new ≡ self.old ++ flat_map claims_of_flows (map P.plan plans.now)) }
+    {
+        for plan in plans {
+            self.claim_own_flows(plan, plan.function())?;
+        }
+        Ok(())
+    }
 }
 
 /// The claims of all names of a text in their order, where this is the entry of the readings, and these are the plans of the
@@ -199,10 +164,10 @@ pub fn claims<P: FunctionClaims>(
     requires { entry.0 ≡ written.now.source.entry }
     ensures { IfOk result (λ claims. claims_of claims.items ≡ all_claims written.now.source written.now.reached (map P.plan plans.now)) }
 {
-    let mut claims = Vec::with_capacity(alloc, written.inst_count())?;
-    claim_flag(&mut claims, true, Key::Main)?;
-    claim_globals(alloc, &mut claims, written)?;
-    claim_functions(alloc, &mut claims, written, entry, plans)?;
-    claim_all_flows(alloc, &mut claims, plans)?;
-    Ok(claims)
+    let mut claims = ClaimList::with_capacity(alloc, written.inst_count())?;
+    claims.add_flag(true, Key::Main)?;
+    claims.claim_globals(written)?;
+    claims.claim_functions(written, entry, plans)?;
+    claims.claim_all_flows(plans)?;
+    Ok(claims.into_claims())
 }

@@ -2,11 +2,9 @@
 ghost use Rattle.std.specs.Prelude.{◌≡◌, ◌++◌, [], IfOk, OnOk, false, flat_map};
 ghost use Rattle.text_rules.specs.Claims.{Plan, claim_id as claim_of_id, claim_spares, claim_function as claims_of_function};
 ghost use Rattle.text_items.specs.Claimed.{claim_own as claim_of_own, claim_param, claim_result, claim_all};
-ghost use Rattle.text_items.specs.View.{claims_of};
 
 use crate::Written;
-use crate::named_globals::claim_id;
-use name_alloc::Claim;
+use crate::list::ClaimList;
 use spv_module::{Block, Function, Id, Inst};
 use spv_words::Memory;
 use std::alloc::Global;
@@ -58,114 +56,100 @@ pub trait FunctionClaims {
         ensures { result ≡ (plan self.now).spares from to };
 }
 
-/// Adds the claim of a function, but for the entry, which is `main`.
-fn claim_own(
-    alloc: Global,
-    claims: &mut Vec<Claim>,
-    written: &Written,
-    entry: Id,
-    id: Id,
-) -> Result<(), Memory>
-    requires { entry.0 ≡ written.now.source.entry }
-    ensures { OnOk result (claims_of claims.new.items ≡ claims_of claims.old.items ++ claim_of_own written.now.source id.0) }
-{
-    if id.0 == entry.0 {
-        Ok(())
-    } else {
-        claim_id(alloc, claims, written, id)
+impl ClaimList {
+    /// Adds the claim of a function, but for the entry, which is `main`.
+    fn claim_own(&mut self, written: &Written, entry: Id, id: Id) -> Result<(), Memory>
+        requires { entry.0 ≡ written.now.source.entry }
+        ensures { OnOk result (self.new ≡ self.old ++ claim_of_own written.now.source id.0) }
+    {
+        if id.0 == entry.0 {
+            Ok(())
+        } else {
+            self.claim_id(written, id)
+        }
     }
-}
 
-/// Adds the claims of the parameters of a function.
-fn claim_params(
-    alloc: Global,
-    claims: &mut Vec<Claim>,
-    written: &Written,
-    params: &[(Id, Id)],
-) -> Result<(), Memory>
-    ensures { OnOk result (claims_of claims.new.items ≡ claims_of claims.old.items ++ flat_map (claim_param written.now.source) params.now) }
-{
-    for (id, _) in params {
-        claim_id(alloc, claims, written, *id)?;
-    }
-    Ok(())
-}
-
-/// Adds the claim of a result, where it has a variable.
-fn claim_named<P: FunctionClaims>(
-    alloc: Global,
-    claims: &mut Vec<Claim>,
-    written: &Written,
-    plan: &P,
-    inst: &Inst,
-) -> Result<(), Memory>
-    ensures { OnOk result (claims_of claims.new.items ≡ claims_of claims.old.items ++ claim_result written.now.source (P.plan plan.now) inst.now) }
-{
-    if plan.is_named(inst.result) {
-        claim_id(alloc, claims, written, Id(inst.result))
-    } else {
+    /// Adds the claims of the parameters of a function.
+    fn claim_params(&mut self, written: &Written, params: &[(Id, Id)]) -> Result<(), Memory>
+        ensures { OnOk result (self.new ≡ self.old ++ flat_map (claim_param written.now.source) params.now) }
+    {
+        for (id, _) in params {
+            self.claim_id(written, *id)?;
+        }
         Ok(())
     }
-}
 
-fn claim_insts<P: FunctionClaims>(
-    alloc: Global,
-    claims: &mut Vec<Claim>,
-    written: &Written,
-    plan: &P,
-    insts: &[Inst],
-) -> Result<(), Memory>
-    ensures { OnOk result (claims_of claims.new.items ≡ claims_of claims.old.items ++ flat_map (claim_result written.now.source (P.plan plan.now)) insts.now) }
-{
-    for inst in insts {
-        claim_named(alloc, claims, written, plan, inst)?;
+    /// Adds the claim of a result, where it has a variable.
+    fn claim_named<P: FunctionClaims>(
+        &mut self,
+        written: &Written,
+        plan: &P,
+        inst: &Inst,
+    ) -> Result<(), Memory>
+        ensures { OnOk result (self.new ≡ self.old ++ claim_result written.now.source (P.plan plan.now) inst.now) }
+    {
+        if plan.is_named(inst.result) {
+            self.claim_id(written, Id(inst.result))
+        } else {
+            Ok(())
+        }
     }
-    Ok(())
-}
 
-fn claim_blocks<P: FunctionClaims>(
-    alloc: Global,
-    claims: &mut Vec<Claim>,
-    written: &Written,
-    plan: &P,
-    blocks: &[Block],
-) -> Result<(), Memory>
-    ensures { OnOk result (claims_of claims.new.items ≡ claims_of claims.old.items ++ flat_map (claim_result written.now.source (P.plan plan.now)) (flat_map (λ b. b.insts) blocks.now)) }
-{
-    for block in blocks {
-        claim_insts(alloc, claims, written, plan, block.insts.as_slice())?;
+    fn claim_insts<P: FunctionClaims>(
+        &mut self,
+        written: &Written,
+        plan: &P,
+        insts: &[Inst],
+    ) -> Result<(), Memory>
+        ensures { OnOk result (self.new ≡ self.old ++ flat_map (claim_result written.now.source (P.plan plan.now)) insts.now) }
+    {
+        for inst in insts {
+            self.claim_named(written, plan, inst)?;
+        }
+        Ok(())
     }
-    Ok(())
-}
 
-fn claim_parts<P: FunctionClaims>(
-    alloc: Global,
-    claims: &mut Vec<Claim>,
-    written: &Written,
-    entry: Id,
-    plan: &P,
-    function: &Function,
-) -> Result<(), Memory>
-    requires { entry.0 ≡ written.now.source.entry }
-    ensures { OnOk result (claims_of claims.new.items ≡ claims_of claims.old.items ++ claim_all written.now.source (P.plan plan.now) function.now) }
-{
-    claim_own(alloc, claims, written, entry, function.id)?;
-    claim_params(alloc, claims, written, function.params.as_slice())?;
-    claim_blocks(alloc, claims, written, plan, function.blocks.as_slice())?;
-    Ok(())
-}
+    fn claim_blocks<P: FunctionClaims>(
+        &mut self,
+        written: &Written,
+        plan: &P,
+        blocks: &[Block],
+    ) -> Result<(), Memory>
+        ensures { OnOk result (self.new ≡ self.old ++ flat_map (claim_result written.now.source (P.plan plan.now)) (flat_map (λ b. b.insts) blocks.now)) }
+    {
+        for block in blocks {
+            self.claim_insts(written, plan, block.insts.as_slice())?;
+        }
+        Ok(())
+    }
 
-/// Adds the claims of a function: its own, its parameters, and the results that have variables.
-pub fn claim_function<P: FunctionClaims>(
-    alloc: Global,
-    claims: &mut Vec<Claim>,
-    written: &Written,
-    entry: Id,
-    plan: &P,
-) -> Result<(), Memory>
-    requires { entry.0 ≡ written.now.source.entry }
-    ensures { OnOk result (claims_of claims.new.items ≡ claims_of claims.old.items ++ claims_of_function written.now.source (P.plan plan.now)) }
-{
-    claim_parts(alloc, claims, written, entry, plan, plan.function())?;
-    Ok(())
+    fn claim_parts<P: FunctionClaims>(
+        &mut self,
+        written: &Written,
+        entry: Id,
+        plan: &P,
+        function: &Function,
+    ) -> Result<(), Memory>
+        requires { entry.0 ≡ written.now.source.entry }
+        ensures { OnOk result (self.new ≡ self.old ++ claim_all written.now.source (P.plan plan.now) function.now) }
+    {
+        self.claim_own(written, entry, function.id)?;
+        self.claim_params(written, function.params.as_slice())?;
+        self.claim_blocks(written, plan, function.blocks.as_slice())?;
+        Ok(())
+    }
+
+    /// Adds the claims of a function: its own, its parameters, and the results that have variables.
+    pub fn claim_function<P: FunctionClaims>(
+        &mut self,
+        written: &Written,
+        entry: Id,
+        plan: &P,
+    ) -> Result<(), Memory>
+        requires { entry.0 ≡ written.now.source.entry }
+        ensures { OnOk result (self.new ≡ self.old ++ claims_of_function written.now.source (P.plan plan.now)) }
+    {
+        self.claim_parts(written, entry, plan, plan.function())?;
+        Ok(())
+    }
 }

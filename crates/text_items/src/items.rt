@@ -3,11 +3,12 @@ ghost use Rattle.std.specs.Prelude.{◌≡◌, ◌++◌, ◌∷◌, [], IfOk, On
 ghost use Rattle.glsl_ast.specs.View.{decl_of};
 ghost use Rattle.text_rules.specs.Declarations.{constant_decl, declaration, declarations as declarations_of};
 ghost use Rattle.text_items.specs.Names.{item_names};
+ghost use Rattle.text_items.specs.Wording.{source_of, names_of};
 
 use crate::Written;
 use crate::constants::{declare_constant, declare_struct};
 use crate::variables::declare_variable;
-use constant_text::Readings;
+use crate::wording::Wording;
 use glsl_ast::Decl;
 use name_alloc::Names;
 use spv_module::Inst;
@@ -15,35 +16,33 @@ use spv_words::Memory;
 use std::alloc::Global;
 
 /// Adds the declaration of a constant.
-fn add_constant(
-    alloc: Global,
-    readings: &Readings,
-    names: &Names,
-    inst: &Inst,
-    items: &mut Vec<Decl>,
-) -> Result<(), Memory>
-    ensures { OnOk result (map decl_of items.new.items ≡ map decl_of items.old.items ++ constant_decl readings.now (item_names readings.now names.now) inst.now ∷ []) }
+fn add_constant(items: &mut Vec<Decl>, wording: &Wording, inst: &Inst) -> Result<(), Memory>
+    ensures { OnOk result (map decl_of items.new.items ≡ map decl_of items.old.items ++ constant_decl (source_of wording.now) (names_of wording.now) inst.now ∷ []) }
 {
-    let constant = declare_constant(alloc, readings, names, inst)?;
+    let constant = declare_constant(wording, inst)?;
     items.push(constant)?;
     Ok(())
 }
 
 /// Adds what is written for a global instruction.
 fn add_declaration(
+    items: &mut Vec<Decl>,
     alloc: Global,
     written: &Written,
     names: &Names,
     inst: &Inst,
-    items: &mut Vec<Decl>,
 ) -> Result<(), Memory>
     ensures { OnOk result (map decl_of items.new.items ≡ map decl_of items.old.items ++ declaration written.now.source written.now.reached (item_names written.now.source names.now) inst.now) }
 {
-    let readings = written.readings();
+    let wording = Wording {
+        alloc,
+        readings: written.readings(),
+        names,
+    };
     if written.has_struct(inst) {
-        items.push(declare_struct(alloc, readings, names, inst)?)?;
+        items.push(declare_struct(&wording, inst)?)?;
     } else if written.has_constant(inst) {
-        add_constant(alloc, readings, names, inst, items)?;
+        add_constant(items, &wording, inst)?;
     } else if written.has_variable(inst) {
         items.push(declare_variable(alloc, written, names, inst)?)?;
     }
@@ -58,7 +57,7 @@ pub fn declarations(alloc: Global, written: &Written, names: &Names) -> Result<V
 {
     let mut items = Vec::new(alloc);
     for inst in written.module().globals() {
-        add_declaration(alloc, written, names, inst, &mut items)?;
+        add_declaration(&mut items, alloc, written, names, inst)?;
     }
     Ok(items)
 }

@@ -7,5 +7,5 @@ use Rattle.text_items.proofs.constants.expr_at.Goals as goal
 
 pub returns : goal.returns
 returns c =
-    let found : option_copied c.global-inst.result ≡ global c.args.readings.now.of.globals c.args.id = search rules in
-    c.in_ok-expr.ensures ∙ ap (expr_if_any c.args.readings.now (id_names c.args.names.now)) found
+    let found : option_copied c.global-inst.result ≡ global c.args.wording.now.readings.now.of.globals c.args.id = search rules in
+    c.in_ok-expr.ensures ∙ ap (expr_if_any c.args.wording.now.readings.now (id_names c.args.wording.now.names.now)) found

@@ -11,5 +11,5 @@ pub returns-in_ok-add_constant : goal.returns-in_ok-add_constant
 returns-in_ok-add_constant c =
     c.in_ok-add_constant.ensures
     ∙ ap (λ (d : List Decl). map decl_of c.args.items.now.items ++ d)
-    (ap (λ (o : Source). constant_decl o (item_names o c.args.names.now) c.args.inst.now ∷ []) c.readings-readings.ensures
+    (ap (λ (o : Source). constant_decl o (item_names o c.args.names.now) c.args.inst.now ∷ []) c.readings.ensures
     ∙ sym (constant_item c.args.written.now.source c.args.written.now.reached (item_names c.args.written.now.source c.args.names.now) c.args.inst.now (sym c.has_struct.ensures ∙ c.if-has_struct.false) (sym c.has_constant.ensures ∙ c.if-has_constant.true)))

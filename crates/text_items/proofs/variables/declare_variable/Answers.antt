@@ -10,5 +10,5 @@ use Rattle.text_items.proofs.variables.declare_variable.Goals as goal
 pub returns-in_ok-decl-in-None : goal.returns-in_ok-decl-in-None
 returns-in_ok-decl-in-None c =
     let none : None ≡ block_of c.args.written.now.source.of.globals c.args.inst.now = search rules in
-    ap (λ (d : Decl). d ∷ []) (c.in_ok-decl-in-None.ensures ∙ ap (λ (o : Source). plain_decl o (item_names o c.args.names.now) c.args.inst.now) c.readings-readings.ensures)
+    ap (λ (d : Decl). d ∷ []) (c.in_ok-decl-in-None.ensures ∙ ap (λ (o : Source). plain_decl o (item_names o c.args.names.now) c.args.inst.now) c.readings.ensures)
     ∙ ap (variable_decl c.args.written.now.source (item_names c.args.written.now.source c.args.names.now) c.args.inst.now) none

@@ -1,9 +1,9 @@
 use Rattle.std.proofs.Common.{◌≡◌, ◌∙◌, ap, rules}
 use Rattle.text_rules.specs.Declarations.{type_at, pointee_at}
-use Rattle.text_items.specs.Names.{item_names}
+use Rattle.text_items.specs.Wording.{source_of, names_of}
 use Rattle.text_items.proofs.variables.type_behind.Goals as goal
 
 pub returns : goal.returns
 returns c =
-    let at : c.pointee_at-pointee.result ≡ pointee_at c.args.readings.now c.args.ty = search rules in
-    c.in_ok-ty.ensures ∙ ap (type_at c.args.readings.now (item_names c.args.readings.now c.args.names.now)) at
+    let at : c.pointee_at-pointee.result ≡ pointee_at (source_of c.args.wording.now) c.args.ty = search rules in
+    c.in_ok-ty.ensures ∙ ap (type_at (source_of c.args.wording.now) (names_of c.args.wording.now)) at

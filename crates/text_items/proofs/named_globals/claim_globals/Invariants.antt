@@ -1,8 +1,0 @@
-use Rattle.std.proofs.Common.{◌≡◌, ◌++◌, take}
-use Rattle.std.specs.List.{flat_map}
-use Rattle.text_rules.specs.Claims.{claim_global}
-use Rattle.text_items.specs.View.{claims_of}
-use Rattle.text_items.proofs.named_globals.claim_globals.Given as goal
-
-abbrev pub invariant-loop-inst : goal.invariant-loop-inst
-invariant-loop-inst l = claims_of l.claims.items ≡ claims_of l.initial.claims.items ++ flat_map (claim_global l.written.source l.written.reached) (take l.inst-index l.inst-items)
