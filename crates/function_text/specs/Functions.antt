@@ -36,6 +36,8 @@ use Rattle.expr_forward.specs.Values.{value}
 use Rattle.expr_forward.specs.Statements.{block_text, is_void, captured_of}
 use Rattle.control_text.specs.Statements.{Blocks, function_text}
 use Rattle.function_plan.specs.Targets.{target_of}
+use Rattle.function_text.specs.declared.heads.TopKind.{TopKind}
+use Rattle.function_text.specs.declared.heads.TopKind.TheVariants as kind
 
 -- what is planned of a function: where its blocks are written, its control-flow graph, the tree of that, the moves of its edges, which flags are needed, and the order of the targets of its switches
 pub record FunctionPlan : Type 0 where
@@ -174,12 +176,17 @@ captured_texts_of w i = map (captured_text w i) (captured_of w i)
 abbrev pub captured_texts : Scope → List Inst → List Stmt
 captured_texts w insts = flat_map (captured_texts_of w) insts
 
+abbrev pub kind_texts : Scope → TopKind → List Inst → List Stmt
+kind_texts w kind.Variable insts = variables_text w insts
+kind_texts w kind.Hoisted insts = hoisted_texts w insts
+kind_texts w kind.Captured insts = captured_texts w insts
+
 abbrev pub in_blocks : (List Inst → List Stmt) → List Block → List Stmt
 in_blocks text blocks = flat_map (λ (b : Block). text b.insts) blocks
 
 abbrev pub top_text : Scope → List Block → List Stmt
 top_text w blocks =
-    in_blocks (variables_text w) blocks ++ (in_blocks (hoisted_texts w) blocks ++ in_blocks (captured_texts w) blocks)
+    in_blocks (kind_texts w kind.Variable) blocks ++ (in_blocks (kind_texts w kind.Hoisted) blocks ++ in_blocks (kind_texts w kind.Captured) blocks)
 
 abbrev pub param_text : Scope → IdOf × IdOf → Param
 param_text w q =

@@ -3,7 +3,7 @@ ghost use Rattle.std.specs.Prelude.{◌≡◌, ◌++◌, IfOk, OnOk, map};
 ghost use Rattle.glsl_ast.specs.View.{stmt_of};
 ghost use Rattle.expr_forward.specs.Context.{scope_of};
 ghost use Rattle.function_plan.specs.Planned.{is_captured as is_captured_inst};
-ghost use Rattle.function_text.specs.Functions.{is_variable as is_variable_inst, variable_text as text_of_variable, variables_text, is_hoisted as is_hoisted_form, hoisted_texts, index_of, captured_text, captured_texts_of, captured_texts, in_blocks, top_text};
+ghost use Rattle.function_text.specs.Functions.{is_variable as is_variable_inst, variable_text as text_of_variable, variables_text, is_hoisted as is_hoisted_form, hoisted_texts, index_of, captured_text, captured_texts_of, captured_texts, kind_texts, in_blocks, top_text};
 
 use crate::scope::PlannedFunction;
 use function_plan::is_captured;
@@ -14,6 +14,14 @@ use spv_module::{Block, Id, Inst};
 use spv_ops::Op;
 use spv_words::Memory;
 use std::alloc::Global;
+
+/// What is declared at the top of a function: a variable, a value that other blocks need, or a captured index.
+#[derive(Clone, Copy)]
+enum TopKind {
+    Variable,
+    Hoisted,
+    Captured,
+}
 
 /// Whether a result is declared at the top of its function.
 pub fn is_hoisted(form: Form) -> bool
@@ -135,47 +143,35 @@ impl PlannedFunction<'_, '_> {
         Ok(())
     }
 
-    /// Appends the declarations of the variables in blocks.
-    fn add_all_variables(
+    /// Appends the declarations of one kind among instructions.
+    fn add_kind(
         &self,
         alloc: Global,
-        blocks: &[Block],
+        kind: TopKind,
+        insts: &[Inst],
         out: &mut Vec<Stmt>,
     ) -> Result<(), Memory>
-        ensures { OnOk result (map stmt_of out.new.items ≡ map stmt_of out.old.items ++ in_blocks (variables_text (scope_of self.now.context)) blocks.now) }
+        ensures { OnOk result (map stmt_of out.new.items ≡ map stmt_of out.old.items ++ kind_texts (scope_of self.now.context) kind insts.now) }
     {
-        for block in blocks {
-            self.add_variables(alloc, block.insts.as_slice(), out)?;
+        match kind {
+            TopKind::Variable => self.add_variables(alloc, insts, out),
+            TopKind::Hoisted => self.add_hoisted(alloc, insts, out),
+            TopKind::Captured => self.add_captured(alloc, insts, out),
         }
-        Ok(())
     }
 
-    /// Appends the declarations of the results in blocks that are declared at the top.
-    fn add_all_hoisted(
+    /// Appends the declarations of one kind in blocks.
+    fn add_in_blocks(
         &self,
         alloc: Global,
+        kind: TopKind,
         blocks: &[Block],
         out: &mut Vec<Stmt>,
     ) -> Result<(), Memory>
-        ensures { OnOk result (map stmt_of out.new.items ≡ map stmt_of out.old.items ++ in_blocks (hoisted_texts (scope_of self.now.context)) blocks.now) }
+        ensures { OnOk result (map stmt_of out.new.items ≡ map stmt_of out.old.items ++ in_blocks (kind_texts (scope_of self.now.context) kind) blocks.now) }
     {
         for block in blocks {
-            self.add_hoisted(alloc, block.insts.as_slice(), out)?;
-        }
-        Ok(())
-    }
-
-    /// Appends the declarations of the captured indexes of the chains in blocks.
-    fn add_all_captured(
-        &self,
-        alloc: Global,
-        blocks: &[Block],
-        out: &mut Vec<Stmt>,
-    ) -> Result<(), Memory>
-        ensures { OnOk result (map stmt_of out.new.items ≡ map stmt_of out.old.items ++ in_blocks (captured_texts (scope_of self.now.context)) blocks.now) }
-    {
-        for block in blocks {
-            self.add_captured(alloc, block.insts.as_slice(), out)?;
+            self.add_kind(alloc, kind, block.insts.as_slice(), out)?;
         }
         Ok(())
     }
@@ -191,9 +187,9 @@ impl PlannedFunction<'_, '_> {
     ) -> Result<(), Memory>
         ensures { OnOk result (map stmt_of out.new.items ≡ map stmt_of out.old.items ++ top_text (scope_of self.now.context) blocks.now) }
     {
-        self.add_all_variables(alloc, blocks, out)?;
-        self.add_all_hoisted(alloc, blocks, out)?;
-        self.add_all_captured(alloc, blocks, out)?;
+        self.add_in_blocks(alloc, TopKind::Variable, blocks, out)?;
+        self.add_in_blocks(alloc, TopKind::Hoisted, blocks, out)?;
+        self.add_in_blocks(alloc, TopKind::Captured, blocks, out)?;
         Ok(())
     }
 }
