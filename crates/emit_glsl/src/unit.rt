@@ -50,26 +50,6 @@ fn ids_of(alloc: Global, module: &Module, order: &[Id]) -> Result<IdSet, AllocEr
     Ok(ids)
 }
 
-/// Adds the plan of a function by what it defines and its places, where its id is among these.
-fn add_plan<'a, L: Ledger>(
-    plans: &mut Vec<FunctionPlan<'a>>,
-    alloc: Global,
-    module: &'a Module,
-    ids: &IdSet,
-    locals: Locals<'a>,
-    places: Nested,
-    steps: &mut Steps<L>,
-) -> Result<(), Memory>
-    requires { places ≡ graph locals }
-    ensures { OnOk result (IsPlannedNext «module».now (is_among ids.now) locals.entry plans.old.items plans.new.items) }
-{
-    if ids.has(locals.function().id.0) {
-        let plan = FunctionPlan::of(alloc, module, locals, places, steps)?;
-        plans.push(plan)?;
-    }
-    Ok(())
-}
-
 /// Adds the plan of a function that has the first of these places, where its id is among these.
 fn add_next<'a, L: Ledger>(
     plans: &mut Vec<FunctionPlan<'a>>,
@@ -86,7 +66,13 @@ fn add_next<'a, L: Ledger>(
 {
     match places.next() {
         None => Ok(()),
-        Some(own) => add_plan(plans, alloc, module, ids, locals, own, steps),
+        Some(own) => {
+            if ids.has(locals.function().id.0) {
+                let plan = FunctionPlan::of(alloc, module, locals, own, steps)?;
+                plans.push(plan)?;
+            }
+            Ok(())
+        }
     }
 }
 
@@ -168,17 +154,11 @@ fn live_of(alloc: Global, plans: &[FunctionPlan]) -> Result<Live, Memory>
 }
 
 /// So it is, where what is written may depend on live instructions; else there is nothing.
-fn live_if_asked(
-    alloc: Global,
-    readings: &Readings,
-    decor: &Decor,
-    plans: &[FunctionPlan],
-) -> Result<Live, Memory>
-    requires { decor.now ≡ readings.now.of.heads }
+fn live_if_asked(alloc: Global, readings: &Readings, plans: &[FunctionPlan]) -> Result<Live, Memory>
     ensures types { IfOk result (λ live. list_any (is_asked readings.now) readings.now.of.globals ≡ true → live.types.items ≡ flat_map types_in plans.now) }
     ensures mentions { IfOk result (λ live. list_any (is_asked readings.now) readings.now.of.globals ≡ true → live.mentions.items ≡ flat_map mentions_in plans.now) }
 {
-    if asks_live(readings, decor) {
+    if asks_live(readings, readings.decor()) {
         let live = live_of(alloc, plans)?;
         Ok(live)
     } else {
@@ -227,18 +207,14 @@ fn written_head(
 fn head_by<'a>(
     alloc: Global,
     readings: &Readings<'a>,
-    decor: &'a Decor<'a>,
-    entry: Id,
     plans: &[FunctionPlan<'a>],
     functions: &[&'a Function],
     live: &Live,
 ) -> Result<Head, Memory>
-    requires decor { decor.now ≡ readings.now.of.heads }
-    requires entry { entry.0 ≡ readings.now.entry }
     ensures { IfOk result (IsHead readings.now (reached_of functions.now live.now) (map claimed_by plans.now)) }
 {
-    let written = Written::of(alloc, readings, decor, functions, live)?;
-    let head = written_head(alloc, &written, entry, plans)?;
+    let written = Written::of(alloc, readings, readings.decor(), functions, live)?;
+    let head = written_head(alloc, &written, readings.entry(), plans)?;
     Ok(head)
 }
 
@@ -246,17 +222,13 @@ fn head_by<'a>(
 fn head_with<'a>(
     alloc: Global,
     readings: &Readings<'a>,
-    decor: &'a Decor<'a>,
-    entry: Id,
     plans: &[FunctionPlan<'a>],
     functions: &[&'a Function],
 ) -> Result<Head, Memory>
-    requires decor { decor.now ≡ readings.now.of.heads }
-    requires entry { entry.0 ≡ readings.now.entry }
     ensures { IfOk result (IsHead readings.now (record { functions = functions_at functions.now; types = flat_map types_in plans.now; mentions = flat_map mentions_in plans.now }) (map claimed_by plans.now)) }
 {
-    let live = live_if_asked(alloc, readings, decor, plans)?;
-    let head = head_by(alloc, readings, decor, entry, plans, functions, &live)?;
+    let live = live_if_asked(alloc, readings, plans)?;
+    let head = head_by(alloc, readings, plans, functions, &live)?;
     Ok(head)
 }
 
@@ -264,16 +236,12 @@ fn head_with<'a>(
 fn head_of<'a>(
     alloc: Global,
     readings: &Readings<'a>,
-    decor: &'a Decor<'a>,
-    entry: Id,
     plans: &[FunctionPlan<'a>],
 ) -> Result<Head, Memory>
-    requires decor { decor.now ≡ readings.now.of.heads }
-    requires entry { entry.0 ≡ readings.now.entry }
     ensures { IfOk result (IsHead readings.now (reached_in plans.now) (map claimed_by plans.now)) }
 {
     let functions = functions_of(alloc, plans)?;
-    let head = head_with(alloc, readings, decor, entry, plans, functions.as_slice())?;
+    let head = head_with(alloc, readings, plans, functions.as_slice())?;
     Ok(head)
 }
 
@@ -281,17 +249,15 @@ fn head_of<'a>(
 fn global_of(
     alloc: Global,
     readings: &Readings,
-    decor: &Decor,
     names: &Names,
     id: Id,
 ) -> Result<Option<Expr>, Memory>
-    requires { decor.now ≡ readings.now.of.heads }
     ensures { IfOk result (λ e. option_map expr_of e ≡ expr_of_global readings.now (id_names names.now) id.0) }
 {
     match readings.module().global(id) {
         None => Ok(None),
         Some(inst) => {
-            let expr = global_expr(alloc, readings, decor, names, inst)?;
+            let expr = global_expr(alloc, readings, readings.decor(), names, inst)?;
             Ok(expr)
         }
     }
@@ -323,33 +289,25 @@ fn end_of(insts: &[Inst]) -> u32 {
 fn globals_among(
     alloc: Global,
     readings: &Readings,
-    decor: &Decor,
     names: &Names,
     insts: &[Inst],
 ) -> Result<Globals, Memory>
-    requires { decor.now ≡ readings.now.of.heads }
     ensures { IfOk result (λ globals. (n : ℕ) → global_in globals n ≡ expr_among readings.now names.now insts.now n) }
 {
     let mut globals = Globals::new(alloc, end_of(insts), insts.len());
     for inst in insts {
         let id = Id(inst.result);
-        let expr = global_of(alloc, readings, decor, names, id)?;
+        let expr = global_of(alloc, readings, names, id)?;
         put_if_any(&mut globals, id, expr)?;
     }
     Ok(globals)
 }
 
 /// The expressions by which constants and built-in variables are read.
-fn globals_of(
-    alloc: Global,
-    readings: &Readings,
-    decor: &Decor,
-    names: &Names,
-) -> Result<Globals, Memory>
-    requires { decor.now ≡ readings.now.of.heads }
+fn globals_of(alloc: Global, readings: &Readings, names: &Names) -> Result<Globals, Memory>
     ensures { IfOk result (AreGlobals readings.now names.now) }
 {
-    let globals = globals_among(alloc, readings, decor, names, readings.module().globals())?;
+    let globals = globals_among(alloc, readings, names, readings.module().globals())?;
     Ok(globals)
 }
 
@@ -386,95 +344,80 @@ fn plan_at<'a, 'b>(
     plans.get(place)
 }
 
-/// Appends the function of a plan, where there is one.
-fn add_function<'a, 'b>(
-    items: &mut Vec<Decl>,
-    alloc: Global,
+/// What the functions of a text are written by.
+#[derive(Clone, Copy)]
+struct Writer<'a, 'b> {
     readings: &'a Readings<'b>,
     names: &'a Names,
     globals: &'a Globals,
-    entry: Id,
-    plan: Option<&'a FunctionPlan<'b>>,
-) -> Result<(), Memory>
-    requires { entry.0 ≡ readings.now.entry }
-    ensures { OnOk result (map decl_of items.new.items ≡ map decl_of items.old.items ++ option_to_list (option_map (decl_with readings.now names.now globals.now) (option_copied plan.entry))) }
-{
-    match plan {
-        None => Ok(()),
-        Some(plan) => {
-            let decl = function_decl(alloc, readings, names, globals, entry, plan)?;
-            items.push(decl)?;
-            Ok(())
+}
+
+impl<'a, 'b> Writer<'a, 'b> {
+    /// Appends the function of a plan, where there is one.
+    fn add_function(
+        &self,
+        alloc: Global,
+        items: &mut Vec<Decl>,
+        plan: Option<&'a FunctionPlan<'b>>,
+    ) -> Result<(), Memory>
+        ensures { OnOk result (map decl_of items.new.items ≡ map decl_of items.old.items ++ option_to_list (option_map (decl_with self.now.readings.now self.now.names.now self.now.globals.now) (option_copied plan.entry))) }
+    {
+        match plan {
+            None => Ok(()),
+            Some(plan) => {
+                let Writer {
+                    readings,
+                    names,
+                    globals,
+                } = *self;
+                let decl = function_decl(alloc, readings, names, globals, readings.entry(), plan)?;
+                items.push(decl)?;
+                Ok(())
+            }
         }
     }
-}
 
-/// Appends the functions with these ids, in this order, where these are the places of their plans.
-fn add_placed<'a, 'b>(
-    items: &mut Vec<Decl>,
-    alloc: Global,
-    readings: &'a Readings<'b>,
-    names: &'a Names,
-    globals: &'a Globals,
-    entry: Id,
-    plans: &'a [FunctionPlan<'b>],
-    places: &Places,
-    order: &[Id],
-) -> Result<(), Memory>
-    requires entry { entry.0 ≡ readings.now.entry }
-    requires places { ArePlaces plans.now places.now }
-    ensures { OnOk result (map decl_of items.new.items ≡ map decl_of items.old.items ++ flat_map (decls_at readings.now names.now globals.now plans.now) order.now) }
-{
-    for id in order {
-        let plan = plan_at(plans, places, *id);
-        add_function(items, alloc, readings, names, globals, entry, plan)?;
+    /// Appends the functions with these ids, in this order, where these are the places of their plans.
+    fn add_functions(
+        &self,
+        alloc: Global,
+        items: &mut Vec<Decl>,
+        plans: &'a [FunctionPlan<'b>],
+        places: &Places,
+        order: &[Id],
+    ) -> Result<(), Memory>
+        requires { ArePlaces plans.now places.now }
+        ensures { OnOk result (map decl_of items.new.items ≡ map decl_of items.old.items ++ flat_map (decls_at self.now.readings.now self.now.names.now self.now.globals.now plans.now) order.now) }
+    {
+        items.reserve(order.len())?;
+        for id in order {
+            self.add_function(alloc, items, plan_at(plans, places, *id))?;
+        }
+        Ok(())
     }
-    Ok(())
-}
-
-/// Appends the functions with these ids, in this order.
-fn add_functions<'a, 'b>(
-    items: &mut Vec<Decl>,
-    alloc: Global,
-    readings: &'a Readings<'b>,
-    names: &'a Names,
-    globals: &'a Globals,
-    entry: Id,
-    plans: &'a [FunctionPlan<'b>],
-    order: &[Id],
-) -> Result<(), Memory>
-    requires { entry.0 ≡ readings.now.entry }
-    ensures { OnOk result (map decl_of items.new.items ≡ map decl_of items.old.items ++ flat_map (decls_at readings.now names.now globals.now plans.now) order.now) }
-{
-    items.reserve(order.len())?;
-    let places = places_in(alloc, plans)?;
-    add_placed(
-        items, alloc, readings, names, globals, entry, plans, &places, order,
-    )?;
-    Ok(())
 }
 
 /// A text with planned functions.
 fn text_by<'a>(
     alloc: Global,
     readings: &Readings<'a>,
-    decor: &'a Decor<'a>,
     entry: &Entry,
     order: &[Id],
     plans: Vec<FunctionPlan<'a>>,
 ) -> Result<Translation<'a>, Memory>
-    requires decor { decor.now ≡ readings.now.of.heads }
-    requires entry { entry.now.function.0 ≡ readings.now.entry }
     ensures { IfOk result (λ text. IsWritten readings.now entry.now.size.items order.now plans.entry.items (tree_of_unit text.unit)) }
 {
-    let function = entry.function;
     let planned = plans.as_slice();
-    let head = head_of(alloc, readings, decor, function, planned)?;
+    let head = head_of(alloc, readings, planned)?;
     let Head { names, mut items } = head;
-    let globals = globals_of(alloc, readings, decor, &names)?;
-    add_functions(
-        &mut items, alloc, &*readings, &names, &globals, function, planned, order,
-    )?;
+    let globals = globals_of(alloc, readings, &names)?;
+    let places = places_in(alloc, planned)?;
+    let writer = Writer {
+        readings,
+        names: &names,
+        globals: &globals,
+    };
+    writer.add_functions(alloc, &mut items, planned, &places, order)?;
     let sizes = readings.sizes(alloc, entry.size.as_slice())?;
     let unit = Unit { sizes, items };
     let parts = Parts { plans, names };
@@ -485,11 +428,8 @@ fn text_by<'a>(
 fn planned_text<'a>(
     alloc: Global,
     readings: &Readings<'a>,
-    decor: &'a Decor<'a>,
     found: Conforming<'a>,
 ) -> Result<Translation<'a>, Memory>
-    requires decor { decor.now ≡ readings.now.of.heads }
-    requires entry { found.entry.function.0 ≡ readings.now.entry }
     requires locals { found.locals.items ≡ readings.now.of.functions }
     requires places { found.places.items ≡ map graph readings.now.of.functions }
     ensures { IfOk result (λ text. IsMade readings.now found.entry.entry.size.items found.entry.order.items (tree_of_unit text.unit)) }
@@ -503,7 +443,7 @@ fn planned_text<'a>(
     } = found;
     let order = order.as_slice();
     let plans = plans_of::<Brand>(alloc, readings.module(), order, locals, places, blank)?;
-    let text = text_by(alloc, readings, decor, &entry, order, plans)?;
+    let text = text_by(alloc, readings, &entry, order, plans)?;
     Ok(text)
 }
 
@@ -524,6 +464,6 @@ pub fn text_of<'a>(
     let entry = found.entry.function;
     let pairs = overrides.pairs.as_slice();
     let readings = Readings::of(alloc, module, decor, entry, pairs)?;
-    let text = planned_text(alloc, &readings, decor, found)?;
+    let text = planned_text(alloc, &readings, found)?;
     Ok(text)
 }
