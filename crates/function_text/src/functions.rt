@@ -11,17 +11,9 @@ use crate::scope::PlannedFunction;
 use control_text::function_text;
 use glsl_ast::{Decl, Param, Stmt, TypeName};
 use name_alloc::Key;
-use spv_module::{Block, Function, Id};
+use spv_module::{Function, Id};
 use spv_words::Memory;
 use std::alloc::Global;
-
-// Of more room than this, what is not used is never touched.
-const FEW: usize = 64;
-
-/// For how many statements of a function with these blocks there is room at first.
-fn room(blocks: &[Block]) -> usize {
-    if blocks.len() > FEW { blocks.len() } else { 0 }
-}
 
 /// The key of a function's name: that of the entry point is `main`.
 fn function_key(entry: Id, function: Id) -> Key
@@ -81,9 +73,8 @@ impl PlannedFunction<'_, '_> {
         requires { function.now ≡ self.now.context.function }
         ensures { IfOk result (λ body. map stmt_of body.items ≡ text_of_body (plan_in self.now.context self.now.plan.now)) }
     {
-        let blocks = function.blocks.as_slice();
-        let mut body = Vec::with_capacity(alloc, room(blocks))?;
-        self.add_top(alloc, blocks, &mut body)?;
+        let mut body = Vec::new(alloc);
+        self.add_top(function.blocks.as_slice(), &mut body)?;
         self.add_flow(alloc, &mut body)?;
         Ok(body)
     }

@@ -48,14 +48,10 @@ impl PlannedFunction<'_, '_> {
     }
 
     /// Appends the declarations of the variables among instructions.
-    fn add_variables(
-        &self,
-        alloc: Global,
-        insts: &[Inst],
-        out: &mut Vec<Stmt>,
-    ) -> Result<(), Memory>
+    fn add_variables(&self, insts: &[Inst], out: &mut Vec<Stmt>) -> Result<(), Memory>
         ensures { OnOk result (map stmt_of out.new.items ≡ map stmt_of out.old.items ++ variables_text (scope_of self.now.context) insts.now) }
     {
+        let alloc = *out.allocator();
         for inst in insts {
             if is_variable(inst) {
                 out.push(self.variable_text(alloc, inst)?)?;
@@ -72,9 +68,10 @@ impl PlannedFunction<'_, '_> {
     }
 
     /// Appends the declarations of the results of instructions that are declared at the top.
-    fn add_hoisted(&self, alloc: Global, insts: &[Inst], out: &mut Vec<Stmt>) -> Result<(), Memory>
+    fn add_hoisted(&self, insts: &[Inst], out: &mut Vec<Stmt>) -> Result<(), Memory>
         ensures { OnOk result (map stmt_of out.new.items ≡ map stmt_of out.old.items ++ hoisted_texts (scope_of self.now.context) insts.now) }
     {
+        let alloc = *out.allocator();
         for inst in insts {
             let id = Id(inst.result);
             if self.is_hoisted(id) {
@@ -103,13 +100,13 @@ impl PlannedFunction<'_, '_> {
     /// Appends the declarations of these captured indexes of a chain.
     fn add_indexes(
         &self,
-        alloc: Global,
         chain: &Inst,
         indexes: &[(u32, Id)],
         out: &mut Vec<Stmt>,
     ) -> Result<(), Memory>
         ensures { OnOk result (map stmt_of out.new.items ≡ map stmt_of out.old.items ++ map (captured_text (scope_of self.now.context) chain.now) (map index_of indexes.now)) }
     {
+        let alloc = *out.allocator();
         for index in indexes {
             out.push(self.index_text(alloc, chain, *index)?)?;
         }
@@ -117,53 +114,41 @@ impl PlannedFunction<'_, '_> {
     }
 
     /// Appends the declarations of the captured indexes of a chain.
-    fn add_captured_of(
-        &self,
-        alloc: Global,
-        chain: &Inst,
-        out: &mut Vec<Stmt>,
-    ) -> Result<(), Memory>
+    fn add_captured_of(&self, chain: &Inst, out: &mut Vec<Stmt>) -> Result<(), Memory>
         ensures { OnOk result (map stmt_of out.new.items ≡ map stmt_of out.old.items ++ captured_texts_of (scope_of self.now.context) chain.now) }
     {
         if !self.is_captured(chain) {
             return Ok(());
         }
-        let indexes = self.captured(alloc, chain)?;
-        self.add_indexes(alloc, chain, indexes.as_slice(), out)?;
+        let indexes = self.captured(*out.allocator(), chain)?;
+        self.add_indexes(chain, indexes.as_slice(), out)?;
         Ok(())
     }
 
     /// Appends the declarations of the captured indexes of the chains among instructions.
-    fn add_captured(&self, alloc: Global, insts: &[Inst], out: &mut Vec<Stmt>) -> Result<(), Memory>
+    fn add_captured(&self, insts: &[Inst], out: &mut Vec<Stmt>) -> Result<(), Memory>
         ensures { OnOk result (map stmt_of out.new.items ≡ map stmt_of out.old.items ++ captured_texts (scope_of self.now.context) insts.now) }
     {
         for inst in insts {
-            self.add_captured_of(alloc, inst, out)?;
+            self.add_captured_of(inst, out)?;
         }
         Ok(())
     }
 
     /// Appends the declarations of one kind among instructions.
-    fn add_kind(
-        &self,
-        alloc: Global,
-        kind: TopKind,
-        insts: &[Inst],
-        out: &mut Vec<Stmt>,
-    ) -> Result<(), Memory>
+    fn add_kind(&self, kind: TopKind, insts: &[Inst], out: &mut Vec<Stmt>) -> Result<(), Memory>
         ensures { OnOk result (map stmt_of out.new.items ≡ map stmt_of out.old.items ++ kind_texts (scope_of self.now.context) kind insts.now) }
     {
         match kind {
-            TopKind::Variable => self.add_variables(alloc, insts, out),
-            TopKind::Hoisted => self.add_hoisted(alloc, insts, out),
-            TopKind::Captured => self.add_captured(alloc, insts, out),
+            TopKind::Variable => self.add_variables(insts, out),
+            TopKind::Hoisted => self.add_hoisted(insts, out),
+            TopKind::Captured => self.add_captured(insts, out),
         }
     }
 
     /// Appends the declarations of one kind in blocks.
     fn add_in_blocks(
         &self,
-        alloc: Global,
         kind: TopKind,
         blocks: &[Block],
         out: &mut Vec<Stmt>,
@@ -171,7 +156,7 @@ impl PlannedFunction<'_, '_> {
         ensures { OnOk result (map stmt_of out.new.items ≡ map stmt_of out.old.items ++ in_blocks (kind_texts (scope_of self.now.context) kind) blocks.now) }
     {
         for block in blocks {
-            self.add_kind(alloc, kind, block.insts.as_slice(), out)?;
+            self.add_kind(kind, block.insts.as_slice(), out)?;
         }
         Ok(())
     }
@@ -179,17 +164,12 @@ impl PlannedFunction<'_, '_> {
     /// Appends what stands at the top of a function with these blocks: its variables, each with its initializer or its zero; the
     /// values that other blocks need, without a value; and the captured indexes of its chains. Each comes in the order of the
     /// function.
-    pub fn add_top(
-        &self,
-        alloc: Global,
-        blocks: &[Block],
-        out: &mut Vec<Stmt>,
-    ) -> Result<(), Memory>
+    pub fn add_top(&self, blocks: &[Block], out: &mut Vec<Stmt>) -> Result<(), Memory>
         ensures { OnOk result (map stmt_of out.new.items ≡ map stmt_of out.old.items ++ top_text (scope_of self.now.context) blocks.now) }
     {
-        self.add_in_blocks(alloc, TopKind::Variable, blocks, out)?;
-        self.add_in_blocks(alloc, TopKind::Hoisted, blocks, out)?;
-        self.add_in_blocks(alloc, TopKind::Captured, blocks, out)?;
+        self.add_in_blocks(TopKind::Variable, blocks, out)?;
+        self.add_in_blocks(TopKind::Hoisted, blocks, out)?;
+        self.add_in_blocks(TopKind::Captured, blocks, out)?;
         Ok(())
     }
 }

@@ -1,5 +1,5 @@
 // What constants and structs are written for: the types of live instructions, and the ids that these mention.
-ghost use Rattle.std.specs.Prelude.{◌≡◌, ◌++◌, true, false, drop, flat_map, OnOk, slice_index_or};
+ghost use Rattle.std.specs.Prelude.{◌≡◌, ◌++◌, true, false, flat_map, OnOk, slice_index_or};
 ghost use Rattle.std.specs.List.{enumerate_from};
 ghost use Rattle.hoist_plan.specs.Kept.{form_in, is_carried_in};
 ghost use Rattle.function_text.specs.Live.{is_composite_type as is_composite_opcode, is_composite as is_composite_in, is_wanted as is_wanted_in, in_block, types_of, mentions_of, liveness_in, types_in, mentions_in};
@@ -7,6 +7,7 @@ ghost use Rattle.function_text.specs.Live.{is_composite_type as is_composite_opc
 use crate::heads::is_hoisted;
 use function_plan::{FunctionPlan, is_captured, is_live};
 use hoist_plan::Naming;
+use spv_index::behind_first;
 use spv_module::{Block, Id, Inst, Module};
 use spv_ops::Op;
 use spv_words::Memory;
@@ -37,13 +38,6 @@ fn is_wanted(module: &Module, naming: &Naming, inst: &Inst) -> bool
 {
     is_captured(naming, inst)
         || is_hoisted(naming.of(Id(inst.result))) && is_composite(module, inst.ty)
-}
-
-/// The indexes of a chain.
-fn indexes(chain: &Inst) -> &[u32]
-    ensures { result.now ≡ drop 1 chain.now.args }
-{
-    chain.args.as_slice().get(1..).unwrap_or(&[])
 }
 
 /// Adds the type of an instruction of a reached block, and what it mentions, where it is live.
@@ -78,7 +72,7 @@ fn add_indexes(mentions: &mut Vec<u32>, plan: &FunctionPlan, inst: &Inst) -> Res
     ensures { OnOk result (mentions.new.items ≡ mentions.old.items ++ mentions_of (liveness_in plan.now) false inst.now) }
 {
     if is_captured(&plan.naming, inst) {
-        mentions.extend_from_slice(indexes(inst))?;
+        mentions.extend_from_slice(behind_first(inst))?;
     }
     Ok(())
 }
