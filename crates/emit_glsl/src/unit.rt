@@ -158,7 +158,7 @@ fn live_if_asked(alloc: Global, readings: &Readings, plans: &[FunctionPlan]) -> 
     ensures types { IfOk result (λ live. list_any (is_asked readings.now) readings.now.of.globals ≡ true → live.types.items ≡ flat_map types_in plans.now) }
     ensures mentions { IfOk result (λ live. list_any (is_asked readings.now) readings.now.of.globals ≡ true → live.mentions.items ≡ flat_map mentions_in plans.now) }
 {
-    if asks_live(readings, readings.decor()) {
+    if asks_live(readings) {
         let live = live_of(alloc, plans)?;
         Ok(live)
     } else {
@@ -188,16 +188,10 @@ struct Head {
 }
 
 /// The head of a text by what is written.
-fn written_head(
-    alloc: Global,
-    written: &Written,
-    entry: Id,
-    plans: &[FunctionPlan],
-) -> Result<Head, Memory>
-    requires { entry.0 ≡ written.now.source.entry }
+fn written_head(alloc: Global, written: &Written, plans: &[FunctionPlan]) -> Result<Head, Memory>
     ensures { IfOk result (IsHead written.now.source written.now.reached (map claimed_by plans.now)) }
 {
-    let claims = claims(alloc, written, entry, plans)?;
+    let claims = claims(alloc, written, plans)?;
     let names = names(alloc, claims.as_slice())?;
     let items = declarations(alloc, written, &names)?;
     Ok(Head { items, names })
@@ -213,8 +207,8 @@ fn head_by<'a>(
 ) -> Result<Head, Memory>
     ensures { IfOk result (IsHead readings.now (reached_of functions.now live.now) (map claimed_by plans.now)) }
 {
-    let written = Written::of(alloc, readings, readings.decor(), functions, live)?;
-    let head = written_head(alloc, &written, readings.entry(), plans)?;
+    let written = Written::of(alloc, readings, functions, live)?;
+    let head = written_head(alloc, &written, plans)?;
     Ok(head)
 }
 
@@ -257,7 +251,7 @@ fn global_of(
     match readings.module().global(id) {
         None => Ok(None),
         Some(inst) => {
-            let expr = global_expr(alloc, readings, readings.decor(), names, inst)?;
+            let expr = global_expr(alloc, readings, names, inst)?;
             Ok(expr)
         }
     }
@@ -370,7 +364,7 @@ impl<'a, 'b> Writer<'a, 'b> {
                     names,
                     globals,
                 } = *self;
-                let decl = function_decl(alloc, readings, names, globals, readings.entry(), plan)?;
+                let decl = function_decl(alloc, readings, names, globals, plan)?;
                 items.push(decl)?;
                 Ok(())
             }

@@ -9,7 +9,6 @@ use expr_forward::Globals;
 use function_plan::FunctionPlan;
 use glsl_ast::Decl;
 use name_alloc::Names;
-use spv_module::Id;
 use spv_words::Memory;
 use std::alloc::Global;
 
@@ -19,13 +18,11 @@ pub fn function_decl<'a, 'b>(
     readings: &'a Readings<'b>,
     names: &'a Names,
     globals: &'a Globals,
-    entry: Id,
     plan: &'a FunctionPlan<'b>,
 ) -> Result<Decl, Memory>
-    requires { entry.0 ≡ readings.now.entry }
     ensures { IfOk result (λ d. decl_of d ≡ decl_with readings.now names.now globals.now plan.now) }
 {
     let function = PlannedFunction::of(alloc, readings, names, globals, plan)?;
-    let decl = function.decl(alloc, entry)?;
+    let decl = function.decl(alloc)?;
     Ok(decl)
 }

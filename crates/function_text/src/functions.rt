@@ -79,15 +79,14 @@ impl PlannedFunction<'_, '_> {
         Ok(body)
     }
 
-    /// The declaration of the function, where `entry` is that of the entry point. There is an error only for want of memory.
-    pub fn decl(&self, alloc: Global, entry: Id) -> Result<Decl, Memory>
-        requires { entry.0 ≡ self.now.context.source.entry }
+    /// The declaration of the function. There is an error only for want of memory.
+    pub fn decl(&self, alloc: Global) -> Result<Decl, Memory>
         ensures { IfOk result (λ d. decl_of d ≡ function_decl (plan_in self.now.context self.now.plan.now)) }
     {
         let function = self.plan().function();
         Ok(Decl::Function {
             result: self.result_type(alloc, function.result)?,
-            name: self.name(alloc, function_key(entry, function.id))?,
+            name: self.name(alloc, function_key(self.entry(), function.id))?,
             params: self.params_text(alloc, function.params.as_slice())?,
             body: self.body_text(alloc, function)?,
         })

@@ -78,6 +78,13 @@ impl<'a, 'b> PlannedFunction<'a, 'b> {
         self.readings.module()
     }
 
+    /// The function of the entry point.
+    pub fn entry(&self) -> Id
+        ensures { result.0 ≡ self.now.context.source.entry }
+    {
+        self.readings.entry()
+    }
+
     /// The type of a value, and 0 of an id that is none.
     pub fn type_of(&self, id: Id) -> u32
         ensures { result ≡ type_in_scope (scope_of self.now.context) id.0 }

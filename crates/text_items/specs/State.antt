@@ -50,8 +50,7 @@ abbrev pub has_type : Source → Reached → ℕ → Bool
 has_type s r id = list_any (type_has_struct s.of.globals id) (written_types s r)
 
 -- the operands in functions, the constants that the text needs, and the structs of what is written
-pub record IsHeld (s : Source) (r : Reached) (heads : List Inst) (ids constants structs : IdSet) : Type 0 where
-  pub decor : heads ≡ s.of.heads
+pub record IsHeld (s : Source) (r : Reached) (ids constants structs : IdSet) : Type 0 where
   pub operands : (id : ℕ) → is_in ids id ≡ is_operand_in r.functions id
   pub needed : (id : ℕ) → is_in constants id ≡ is_needed s r id
   pub types : (id : ℕ) → is_in structs id ≡ has_type s r id

@@ -30,18 +30,16 @@ fn is_plain_struct(decor: &Decor, inst: &Inst) -> bool
 
 /// Whether this is a global that is written only where it is asked for: a constant that is read by its name, or a struct with neither
 /// Block nor BufferBlock.
-fn is_asked(readings: &Readings, decor: &Decor, inst: &Inst) -> bool
-    requires { decor.now ≡ readings.now.of.heads }
+fn is_asked(readings: &Readings, inst: &Inst) -> bool
     ensures { result ≡ is_asked_global readings.now inst.now }
 {
-    is_named_constant(readings, inst) || is_plain_struct(decor, inst)
+    is_named_constant(readings, inst) || is_plain_struct(readings.decor(), inst)
 }
 
 /// Whether what is written of a module may depend on which instructions are live.
-pub fn asks_live(readings: &Readings, decor: &Decor) -> bool
-    requires { decor.now ≡ readings.now.of.heads }
+pub fn asks_live(readings: &Readings) -> bool
     ensures { result ≡ list_any (is_asked_global readings.now) readings.now.of.globals }
 {
     let globals = readings.module().globals();
-    globals.iter().any(|inst| is_asked(readings, decor, inst))
+    globals.iter().any(|inst| is_asked(readings, inst))
 }

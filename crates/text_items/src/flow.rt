@@ -129,14 +129,12 @@ impl ClaimList {
     fn claim_functions<P: FunctionClaims>(
         &mut self,
         written: &Written,
-        entry: Id,
         plans: &[P],
     ) -> Result<(), Memory>
-        requires { entry.0 ≡ written.now.source.entry }
         ensures { OnOk result (self.new ≡ self.old ++ flat_map (claims_of_function written.now.source) (map P.plan plans.now)) }
     {
         for plan in plans {
-            self.claim_function(written, entry, plan)?;
+            self.claim_function(written, plan)?;
         }
         Ok(())
     }
@@ -151,23 +149,20 @@ impl ClaimList {
     }
 }
 
-/// The claims of all names of a text in their order, where this is the entry of the readings, and these are the plans of the
-/// functions that are written, in the order of the module: `main`; the globals that are written; the functions with their
-/// parameters and variables; flags, captured indexes and spares. There is an error only for want of memory, or for a struct with
-/// more members than a `u32` counts.
+/// The claims of all names of a text in their order, where these are the plans of the functions that are written, in the order
+/// of the module: `main`; the globals that are written; the functions with their parameters and variables; flags, captured indexes
+/// and spares. There is an error only for want of memory, or for a struct with more members than a `u32` counts.
 pub fn claims<P: FunctionClaims>(
     alloc: Global,
     written: &Written,
-    entry: Id,
     plans: &[P],
 ) -> Result<Vec<Claim>, Memory>
-    requires { entry.0 ≡ written.now.source.entry }
     ensures { IfOk result (λ claims. claims_of claims.items ≡ all_claims written.now.source written.now.reached (map P.plan plans.now)) }
 {
     let mut claims = ClaimList::with_capacity(alloc, written.inst_count())?;
     claims.add_flag(true, Key::Main)?;
     claims.claim_globals(written)?;
-    claims.claim_functions(written, entry, plans)?;
+    claims.claim_functions(written, plans)?;
     claims.claim_all_flows(plans)?;
     Ok(claims.into_claims())
 }

@@ -58,11 +58,10 @@ pub trait FunctionClaims {
 
 impl ClaimList {
     /// Adds the claim of a function, but for the entry, which is `main`.
-    fn claim_own(&mut self, written: &Written, entry: Id, id: Id) -> Result<(), Memory>
-        requires { entry.0 ≡ written.now.source.entry }
+    fn claim_own(&mut self, written: &Written, id: Id) -> Result<(), Memory>
         ensures { OnOk result (self.new ≡ self.old ++ claim_of_own written.now.source id.0) }
     {
-        if id.0 == entry.0 {
+        if id.0 == written.entry().0 {
             Ok(())
         } else {
             self.claim_id(written, id)
@@ -126,14 +125,12 @@ impl ClaimList {
     fn claim_parts<P: FunctionClaims>(
         &mut self,
         written: &Written,
-        entry: Id,
         plan: &P,
         function: &Function,
     ) -> Result<(), Memory>
-        requires { entry.0 ≡ written.now.source.entry }
         ensures { OnOk result (self.new ≡ self.old ++ claim_all written.now.source (P.plan plan.now) function.now) }
     {
-        self.claim_own(written, entry, function.id)?;
+        self.claim_own(written, function.id)?;
         self.claim_params(written, function.params.as_slice())?;
         self.claim_blocks(written, plan, function.blocks.as_slice())?;
         Ok(())
@@ -143,13 +140,11 @@ impl ClaimList {
     pub fn claim_function<P: FunctionClaims>(
         &mut self,
         written: &Written,
-        entry: Id,
         plan: &P,
     ) -> Result<(), Memory>
-        requires { entry.0 ≡ written.now.source.entry }
         ensures { OnOk result (self.new ≡ self.old ++ claims_of_function written.now.source (P.plan plan.now)) }
     {
-        self.claim_parts(written, entry, plan, plan.function())?;
+        self.claim_parts(written, plan, plan.function())?;
         Ok(())
     }
 }

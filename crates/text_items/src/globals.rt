@@ -7,7 +7,6 @@ ghost use Rattle.text_items.specs.Globals.{built_in_text, is_input as is_input_v
 use constant_text::Readings;
 use glsl_ast::{Expr, Name};
 use name_alloc::Names;
-use spv_decor::Decor;
 use spv_module::{Id, Inst};
 use spv_ops::{BuiltIn, Decoration, Op, StorageClass};
 use spv_words::Memory;
@@ -42,11 +41,9 @@ fn is_input(inst: &Inst) -> bool
 pub fn global_expr(
     alloc: Global,
     readings: &Readings,
-    decor: &Decor,
     names: &Names,
     inst: &Inst,
 ) -> Result<Option<Expr>, Memory>
-    requires { decor.now ≡ readings.now.of.heads }
     ensures { IfOk result (λ e. option_map expr_of e ≡ global_by readings.now (id_names names.now) inst.now) }
 {
     if inst.op.is_constant() {
@@ -55,7 +52,8 @@ pub fn global_expr(
     if !is_input(inst) {
         return Ok(None);
     }
-    let number = decor
+    let number = readings
+        .decor()
         .value(Id(inst.result), Decoration::BuiltIn.number())
         .unwrap_or(0);
     Ok(Some(Expr::Name(Name::from_str(alloc, built_in(number))?)))

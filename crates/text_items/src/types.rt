@@ -1,12 +1,10 @@
 // The types of what is written.
-ghost use Rattle.std.specs.Prelude.{◌≡◌, ◌++◌, ◌||◌, ℕ, IfOk, OnOk, filter, flat_map, map};
-ghost use Rattle.std.specs.List.{list_any};
+ghost use Rattle.std.specs.Prelude.{◌≡◌, ◌++◌, ◌||◌, IfOk, OnOk, filter, flat_map, map};
 ghost use Rattle.id_map.specs.Entries.{is_in};
-ghost use Rattle.text_rules.specs.Printed.{declares as declares_constant, signature_types, type_has_struct};
+ghost use Rattle.text_rules.specs.Printed.{declares as declares_constant, signature_types};
 ghost use Rattle.text_items.specs.State.{functions_at, is_written_by, types_by};
 
 use crate::needed::{declares, is_written};
-use crate::structs::structs_of;
 use constant_text::Readings;
 use id_map::IdSet;
 use spv_module::{Function, Inst};
@@ -53,7 +51,7 @@ fn add_signatures(types: &mut Vec<u32>, functions: &[&Function]) -> Result<(), A
 
 /// The types of what is written, where these are the operands in functions, the text needs these constants, and live instructions
 /// have results of those types.
-fn written_types(
+pub fn written_types(
     alloc: Global,
     readings: &Readings,
     operand_ids: &IdSet,
@@ -69,19 +67,4 @@ fn written_types(
     add_signatures(&mut types, functions)?;
     types.extend_from_slice(live)?;
     Ok(types)
-}
-
-/// The structs of what is written. There is an error for want of memory, or where a type passes a limit.
-pub fn written_structs(
-    alloc: Global,
-    readings: &Readings,
-    operand_ids: &IdSet,
-    needed: &IdSet,
-    functions: &[&Function],
-    live: &[u32],
-) -> Result<IdSet, Memory>
-    ensures { IfOk result (λ structs. (id : ℕ) → is_in structs id ≡ list_any (type_has_struct readings.now.of.globals id) (types_by readings.now (is_in operand_ids.now) (is_in needed.now) (functions_at functions.now) live.now)) }
-{
-    let types = written_types(alloc, readings, operand_ids, needed, functions, live)?;
-    structs_of(alloc, readings.module(), &types)
 }

@@ -6,7 +6,8 @@ ghost use Rattle.text_items.specs.State.{reached_of};
 use crate::Live;
 use crate::needed::{declares, is_written, needed};
 use crate::operands::{count_insts, operand_ids};
-use crate::types::written_structs;
+use crate::structs::structs_of;
+use crate::types::written_types;
 use constant_text::Readings;
 use id_map::IdSet;
 use spv_decor::Decor;
@@ -22,7 +23,6 @@ use std::marker::Model;
 #[derive(Drop)]
 pub struct Written<'a, 'b> {
     readings: &'a Readings<'b>,
-    decor: &'b Decor<'b>,
     functions: &'a [&'b Function],
     live: &'a Live,
     inst_count: usize,
@@ -41,7 +41,7 @@ impl<'a, 'b> Model for Written<'a, 'b> {
 
     ghost view = { λ w. record { source = w.readings.now; reached = reached_of w.functions.now w.live.now } };
 
-    ghost invariant = { λ w. IsHeld w.readings.now (reached_of w.functions.now w.live.now) w.decor.now w.operand_ids w.needed w.structs };
+    ghost invariant = { λ w. IsHeld w.readings.now (reached_of w.functions.now w.live.now) w.operand_ids w.needed w.structs };
 }
 
 impl<'a, 'b> Written<'a, 'b> {
@@ -50,27 +50,26 @@ impl<'a, 'b> Written<'a, 'b> {
     pub fn of(
         alloc: Global,
         readings: &'a Readings<'b>,
-        decor: &'b Decor<'b>,
         functions: &'a [&'b Function],
         live: &'a Live,
     ) -> Result<Written<'a, 'b>, Memory>
-        requires { decor.now ≡ readings.now.of.heads }
         ensures { IfOk result (λ w. w ≡ record { source = readings.now; reached = reached_of functions.now live.now }) }
     {
         let inst_count = count_insts(functions);
         let operand_ids = operand_ids(alloc, readings, functions, inst_count)?;
         let needed = needed(alloc, readings, &operand_ids, live.mentions.as_slice())?;
-        let structs = written_structs(
+        let live_types = live.types.as_slice();
+        let types = written_types(
             alloc,
             readings,
             &operand_ids,
             &needed,
             functions,
-            live.types.as_slice(),
+            live_types,
         )?;
+        let structs = structs_of(alloc, readings.module(), types.as_slice())?;
         Ok(Written {
             readings,
-            decor,
             functions,
             live,
             inst_count,
@@ -89,7 +88,14 @@ impl<'a, 'b> Written<'a, 'b> {
     pub(crate) fn decor(&self) -> &'b Decor<'b>
         ensures { result.now ≡ self.now.source.of.heads }
     {
-        self.decor
+        self.readings.decor()
+    }
+
+    /// The function of the entry point.
+    pub(crate) fn entry(&self) -> Id
+        ensures { result.0 ≡ self.now.source.entry }
+    {
+        self.readings.entry()
     }
 
     pub(crate) fn module(&self) -> &'b Module
@@ -125,7 +131,7 @@ impl<'a, 'b> Written<'a, 'b> {
         ensures { result ≡ is_written_struct self.now.source self.now.reached inst.now }
     {
         inst.op == Op::TypeStruct
-            && !is_block(self.decor, Id(inst.result))
+            && !is_block(self.decor(), Id(inst.result))
             && self.structs.has(inst.result)
     }
 }
