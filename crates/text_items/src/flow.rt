@@ -6,7 +6,7 @@ ghost use Rattle.text_items.specs.Claimed.{claim_flows as claims_of_flows};
 ghost use Rattle.text_items.specs.View.{claims_of};
 
 use crate::Written;
-use crate::functions::FunctionClaims;
+use crate::functions::{Claimant, FunctionClaims};
 use crate::list::ClaimList;
 use name_alloc::{Claim, Key};
 use spv_module::{Block, Function, Id, Inst};
@@ -134,7 +134,8 @@ impl ClaimList {
         ensures { OnOk result (self.new ≡ self.old ++ flat_map (claims_of_function written.now.source) (map P.plan plans.now)) }
     {
         for plan in plans {
-            self.claim_function(written, plan)?;
+            let claimant = Claimant { written, plan };
+            claimant.claim(self)?;
         }
         Ok(())
     }

@@ -56,95 +56,78 @@ pub trait FunctionClaims {
         ensures { result ≡ (plan self.now).spares from to };
 }
 
-impl ClaimList {
-    /// Adds the claim of a function, but for the entry, which is `main`.
-    fn claim_own(&mut self, written: &Written, id: Id) -> Result<(), Memory>
-        ensures { OnOk result (self.new ≡ self.old ++ claim_of_own written.now.source id.0) }
+/// A function that is written, by its plan, and what of its module is written.
+#[derive(Clone, Copy)]
+pub struct Claimant<'w, 'a, 'b, P: FunctionClaims> {
+    pub written: &'w Written<'a, 'b>,
+    pub plan: &'w P,
+}
+
+impl<P: FunctionClaims> Claimant<'_, '_, '_, P> {
+    /// Adds the claim of the function's own name, but for the entry, which is `main`.
+    fn claim_own(&self, id: Id, claims: &mut ClaimList) -> Result<(), Memory>
+        ensures { OnOk result (claims.new ≡ claims.old ++ claim_of_own self.now.written.now.source id.0) }
     {
-        if id.0 == written.entry().0 {
+        if id.0 == self.written.entry().0 {
             Ok(())
         } else {
-            self.claim_id(written, id)
+            claims.claim_id(self.written, id)
         }
     }
 
-    /// Adds the claims of the parameters of a function.
-    fn claim_params(&mut self, written: &Written, params: &[(Id, Id)]) -> Result<(), Memory>
-        ensures { OnOk result (self.new ≡ self.old ++ flat_map (claim_param written.now.source) params.now) }
+    /// Adds the claims of its parameters.
+    fn claim_params(&self, params: &[(Id, Id)], claims: &mut ClaimList) -> Result<(), Memory>
+        ensures { OnOk result (claims.new ≡ claims.old ++ flat_map (claim_param self.now.written.now.source) params.now) }
     {
         for (id, _) in params {
-            self.claim_id(written, *id)?;
+            claims.claim_id(self.written, *id)?;
         }
         Ok(())
     }
 
     /// Adds the claim of a result, where it has a variable.
-    fn claim_named<P: FunctionClaims>(
-        &mut self,
-        written: &Written,
-        plan: &P,
-        inst: &Inst,
-    ) -> Result<(), Memory>
-        ensures { OnOk result (self.new ≡ self.old ++ claim_result written.now.source (P.plan plan.now) inst.now) }
+    fn claim_named(&self, inst: &Inst, claims: &mut ClaimList) -> Result<(), Memory>
+        ensures { OnOk result (claims.new ≡ claims.old ++ claim_result self.now.written.now.source (P.plan self.now.plan.now) inst.now) }
     {
-        if plan.is_named(inst.result) {
-            self.claim_id(written, Id(inst.result))
+        if self.plan.is_named(inst.result) {
+            claims.claim_id(self.written, Id(inst.result))
         } else {
             Ok(())
         }
     }
 
-    fn claim_insts<P: FunctionClaims>(
-        &mut self,
-        written: &Written,
-        plan: &P,
-        insts: &[Inst],
-    ) -> Result<(), Memory>
-        ensures { OnOk result (self.new ≡ self.old ++ flat_map (claim_result written.now.source (P.plan plan.now)) insts.now) }
+    fn claim_insts(&self, insts: &[Inst], claims: &mut ClaimList) -> Result<(), Memory>
+        ensures { OnOk result (claims.new ≡ claims.old ++ flat_map (claim_result self.now.written.now.source (P.plan self.now.plan.now)) insts.now) }
     {
         for inst in insts {
-            self.claim_named(written, plan, inst)?;
+            self.claim_named(inst, claims)?;
         }
         Ok(())
     }
 
-    fn claim_blocks<P: FunctionClaims>(
-        &mut self,
-        written: &Written,
-        plan: &P,
-        blocks: &[Block],
-    ) -> Result<(), Memory>
-        ensures { OnOk result (self.new ≡ self.old ++ flat_map (claim_result written.now.source (P.plan plan.now)) (flat_map (λ b. b.insts) blocks.now)) }
+    fn claim_blocks(&self, blocks: &[Block], claims: &mut ClaimList) -> Result<(), Memory>
+        ensures { OnOk result (claims.new ≡ claims.old ++ flat_map (claim_result self.now.written.now.source (P.plan self.now.plan.now)) (flat_map (λ b. b.insts) blocks.now)) }
     {
         for block in blocks {
-            self.claim_insts(written, plan, block.insts.as_slice())?;
+            self.claim_insts(block.insts.as_slice(), claims)?;
         }
         Ok(())
     }
 
-    fn claim_parts<P: FunctionClaims>(
-        &mut self,
-        written: &Written,
-        plan: &P,
-        function: &Function,
-    ) -> Result<(), Memory>
-        ensures { OnOk result (self.new ≡ self.old ++ claim_all written.now.source (P.plan plan.now) function.now) }
+    fn claim_parts(&self, function: &Function, claims: &mut ClaimList) -> Result<(), Memory>
+        ensures { OnOk result (claims.new ≡ claims.old ++ claim_all self.now.written.now.source (P.plan self.now.plan.now) function.now) }
     {
-        self.claim_own(written, function.id)?;
-        self.claim_params(written, function.params.as_slice())?;
-        self.claim_blocks(written, plan, function.blocks.as_slice())?;
+        self.claim_own(function.id, claims)?;
+        self.claim_params(function.params.as_slice(), claims)?;
+        self.claim_blocks(function.blocks.as_slice(), claims)?;
         Ok(())
     }
 
-    /// Adds the claims of a function: its own, its parameters, and the results that have variables.
-    pub fn claim_function<P: FunctionClaims>(
-        &mut self,
-        written: &Written,
-        plan: &P,
-    ) -> Result<(), Memory>
-        ensures { OnOk result (self.new ≡ self.old ++ claims_of_function written.now.source (P.plan plan.now)) }
+    /// Adds the claims of the function: its own, its parameters, and the results that have variables.
+    pub fn claim(&self, claims: &mut ClaimList) -> Result<(), Memory>
+        ensures { OnOk result (claims.new ≡ claims.old ++ claims_of_function self.now.written.now.source (P.plan self.now.plan.now)) }
     {
-        self.claim_parts(written, plan, plan.function())?;
+        self.claim_parts(self.plan.function(), claims)?;
         Ok(())
     }
 }

@@ -1,0 +1,7 @@
+use Rattle.std.proofs.Common.{◌≡◌, ◌++◌, take}
+use Rattle.std.specs.List.{flat_map}
+use Rattle.text_items.specs.Claimed.{claim_result}
+use Rattle.text_items.proofs.functions.Claimant.claim_insts.Given as goal
+
+abbrev pub invariant-loop-inst : goal.invariant-loop-inst
+invariant-loop-inst g l = l.claims ≡ l.initial.claims ++ flat_map (claim_result l.self.written.now.source (g.P.FunctionClaims.plan l.self.plan.now)) (take l.inst-index l.insts)
