@@ -9,7 +9,7 @@ use Rattle.text_items.specs.declared.live.Live.{Live}
 use Rattle.text_items.specs.Asked.{is_asked}
 use Rattle.text_items.specs.Names.{item_names}
 use Rattle.text_items.proofs.Unasked.{claims_same, declarations_same}
-use Rattle.emit_glsl.specs.declared.unit.Head.{Head}
+use Rattle.emit_glsl.specs.declared.heads.Head.{Head}
 use Rattle.emit_glsl.specs.Reached.{IsHead}
 
 abbrev with_live : List Function → List ℕ → List ℕ → Reached

@@ -25,7 +25,7 @@ use Rattle.text_items.specs.View.{claims_of}
 use Rattle.expr_forward.specs.Globals.{global_in}
 use Rattle.expr_forward.specs.declared.globals.Globals.{Globals}
 use Rattle.function_plan.specs.declared.plan.FunctionPlan.{FunctionPlan as Planned}
-use Rattle.emit_glsl.specs.declared.unit.Head.{Head}
+use Rattle.emit_glsl.specs.declared.heads.Head.{Head}
 use Rattle.function_plan.specs.Claimed.{claimed_by}
 use Rattle.function_plan.specs.Plans.{IsPlanned}
 use Rattle.emit_glsl.specs.Translation.{global_expr}

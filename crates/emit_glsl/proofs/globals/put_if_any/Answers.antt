@@ -1,0 +1,20 @@
+use Rattle.std.proofs.Common.{◌==◌, ◌∙◌, None, Option, ap, sym, if◌then◌else◌}
+use Rattle.std.specs.Prelude.{option_map}
+use Rattle.glsl_ast.specs.View.{expr_of}
+use Rattle.glsl_ast.specs.declared.expressions.Expr.{Expr}
+use Rattle.expr_forward.specs.Globals.{global_in}
+use Rattle.emit_glsl.specs.Reached.{or_before}
+use Rattle.emit_glsl.proofs.Expressed.{nothing_put, something_put}
+use Rattle.emit_glsl.proofs.globals.put_if_any.Goals as goal
+
+pub returns-in-None : goal.returns-in-None
+returns-in-None c = λ n.
+    let old = global_in c.args.globals.now n in
+    nothing_put (c.args.id.0 == n) old ∙ ap (λ (o : Option Expr). or_before old (if c.args.id.0 == n then option_map expr_of o else None)) (sym c.in-None.is)
+
+pub returns-in_ok-put-in-Some : goal.returns-in_ok-put-in-Some
+returns-in_ok-put-in-Some c = λ n.
+    let old = global_in c.args.globals.now n in
+    c.in_ok-put-in-Some.ensures n
+    ∙ (something_put (c.args.id.0 == n) (expr_of c.in-Some.expr) old
+    ∙ ap (λ (o : Option Expr). or_before old (if c.args.id.0 == n then option_map expr_of o else None)) (sym c.in-Some.is))

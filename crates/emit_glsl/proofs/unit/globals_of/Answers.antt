@@ -1,9 +1,0 @@
-use Rattle.std.proofs.Common.{◌≡◌, ◌∙◌, ap}
-use Rattle.spv_module.specs.State.{ModuleState}
-use Rattle.emit_glsl.proofs.Expressed.{among_all}
-use Rattle.emit_glsl.proofs.unit.globals_of.Goals as goal
-
-pub returns : goal.returns
-returns c =
-    let all : c.globals.result.now ≡ c.args.readings.now.of.globals = c.globals.ensures ∙ ap (λ (m : ModuleState). m.globals) c.module.ensures in
-    λ n. c.in_ok-globals.ensures n ∙ among_all c.args.readings.now c.args.names.now c.globals.result.now n all
