@@ -1,5 +1,5 @@
 // The translation.
-ghost use Rattle.std.specs.Prelude.{◌≡◌, ◌≤◌, IfErr, IfOk, OnOk, map};
+ghost use Rattle.std.specs.Prelude.{◌≡◌, ◌≤◌, IfErr, IfOk, OnOk};
 ghost use Rattle.glsl_ast.specs.Height.{unit_height};
 ghost use Rattle.glsl_ast.specs.View.{unit_of as tree_of_unit};
 ghost use Rattle.glsl_grammar.specs.InGrammar.{IsInGrammar};

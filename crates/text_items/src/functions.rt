@@ -1,6 +1,6 @@
 // The claims of the names of functions, their parameters and their variables.
 ghost use Rattle.std.specs.Prelude.{◌≡◌, ◌++◌, [], IfOk, OnOk, false, flat_map};
-ghost use Rattle.text_rules.specs.Claims.{Plan, claim_id as claim_of_id, claim_spares, claim_function as claims_of_function};
+ghost use Rattle.text_rules.specs.Claims.{Plan, claim_spares, claim_function as claims_of_function};
 ghost use Rattle.text_items.specs.Claimed.{claim_own as claim_of_own, claim_param, claim_result, claim_all};
 
 use crate::Written;
