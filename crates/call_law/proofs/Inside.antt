@@ -54,7 +54,7 @@ module _ (s : Setting) (IsLent : ℕ → ℕ → Type 0) (start : List (Frame ×
   wait_in [] w = w
   wait_in (d ∷ ds) w = inl w
 
-  within_length : (ds : List (Frame × ℕ)) → Within IsLent start ds → length start ≤ length ds
+  pub within_length : (ds : List (Frame × ℕ)) → Within IsLent start ds → length start ≤ length ds
   within_length [] w = let same = wait_length start [] w in omega (arith, same)
   within_length (d ∷ ds) (inl w) = let same = wait_length start (d ∷ ds) w in omega (arith, same)
   within_length (d ∷ ds) (inr w) = let le = within_length ds w.1 in omega (arith, le)

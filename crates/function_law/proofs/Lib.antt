@@ -1,2 +1,3 @@
 pub mod EdgePairs
 pub mod Selectors
+pub mod Firsts
