@@ -7,4 +7,4 @@ use Rattle.emit_glsl.proofs.plans.add_next.Goals as goal
 pub returns-in_ok-push-in-Some-clause-plans : goal.returns-in_ok-push-in-Some-clause-plans
 returns-in_ok-push-in-Some-clause-plans g c =
     let passes = sym (ap (λ (f : Function). is_among c.args.ids.now f) c.function.ensures) ∙ (sym c.has.ensures ∙ c.if-has.true) in
-    planned_next c.args.«module».now (is_among c.args.ids.now) c.args.locals c.args.plans.now.items c.push.new.self.items c.in_ok-plan.plan passes c.in_ok-push-in-Some.ensures.items c.in_ok-plan.ensures
+    planned_next c.args.«module».now (is_among c.args.ids.now) c.args.locals c.args.plans.now.items c.push.new.self.items c.in_ok-plan-in-Some.plan passes c.in_ok-push-in-Some.ensures.items c.in_ok-plan-in-Some.ensures
