@@ -1,5 +1,5 @@
 // Specialization constants and the size of workgroups, with overrides and without.
-use crate::names::{is_name, named};
+use super::names::{is_name, named};
 use constant_text::{Reading, Readings, int_literal, name, scalar_type};
 use glsl_ast::{Expr, Extent, Literal, Name, Size, TypeName};
 use name_alloc::{Key, Names};

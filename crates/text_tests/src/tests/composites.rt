@@ -1,5 +1,5 @@
 // Expressions on vectors and composites, with ample memory.
-use crate::names::{is_name, named};
+use super::names::{is_name, named};
 use glsl_ast::{Base, Expr, Extent, Name, TypeName};
 use int_lowering::Arg;
 use name_alloc::{Key, Names};

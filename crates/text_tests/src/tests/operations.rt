@@ -1,5 +1,5 @@
 // Operations as text.
-use crate::printed::const_text;
+use super::printed::const_text;
 use glsl_ast::{Expr, Name};
 use int_lowering::{
     Arg, BasicType, basic_type, literal, lower, lower_operation, operation, type_name,

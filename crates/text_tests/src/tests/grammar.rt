@@ -1,5 +1,6 @@
 // A unit that is in the grammar, and one that is not.
-use glsl_ast::{Base, Decl, Expr, Extent, Field, Name, Size, TypeName, Unit};
+use super::printed::unit;
+use glsl_ast::{Base, Decl, Expr, Extent, Field, Name, TypeName, Unit};
 use spv_words::Memory;
 use std::alloc::Global;
 use std::test::Fail;
@@ -45,30 +46,15 @@ fn array(alloc: Global, of: &str, value: &str) -> Result<Decl, Memory> {
     })
 }
 
-fn unit(alloc: Global, first: Decl, second: Decl) -> Result<Unit, Memory> {
-    let size = Size {
-        axis: 0,
-        by_id: false,
-        number: 64,
-    };
-    Ok(Unit {
-        sizes: vec![in alloc; size]?,
-        items: vec![in alloc; first, second]?,
-    })
-}
-
 fn decides(alloc: Global, unit: &Unit) -> Result<bool, Memory> {
     is_in_grammar(alloc, unit)
 }
 
 /// Whether a unit is in the grammar that has a struct, and then an array of it whose one element has this name.
 fn is_right(alloc: Global, value: &str) -> Result<bool, Memory> {
-    let unit = unit(
-        alloc,
-        pair(alloc, "Pair", "m0")?,
-        array(alloc, "Pair", value)?,
-    )?;
-    decides(alloc, &unit)
+    let pair = pair(alloc, "Pair", "m0")?;
+    let array = array(alloc, "Pair", value)?;
+    decides(alloc, &unit(alloc, vec![in alloc; pair, array]?)?)
 }
 
 #[test]

@@ -16,7 +16,8 @@ fn print_unit<K: Sink>(alloc: Global, unit: &Unit, sink: &mut K) -> Result<(), P
     }
 }
 
-fn unit(alloc: Global, item: Decl) -> Result<Unit, Memory> {
+/// A unit with one size and these items.
+pub fn unit(alloc: Global, items: Vec<Decl>) -> Result<Unit, Memory> {
     let size = Size {
         axis: 2,
         by_id: false,
@@ -24,7 +25,7 @@ fn unit(alloc: Global, item: Decl) -> Result<Unit, Memory> {
     };
     Ok(Unit {
         sizes: vec![in alloc; size]?,
-        items: vec![in alloc; item]?,
+        items,
     })
 }
 
@@ -40,7 +41,7 @@ fn const_unit(alloc: Global, base: Base, value: Expr) -> Result<Unit, Memory> {
         name,
         value,
     };
-    unit(alloc, constant)
+    unit(alloc, vec![in alloc; constant]?)
 }
 
 /// The text of a constant `c` with this value.
@@ -89,7 +90,7 @@ fn long_unit(alloc: Global) -> Result<Unit, Memory> {
         params: Vec::new(alloc),
         body,
     };
-    unit(alloc, main)
+    unit(alloc, vec![in alloc; main]?)
 }
 
 // What comes to a sink of which these calls fail, and how it ends.
