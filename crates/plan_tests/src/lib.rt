@@ -2,10 +2,4 @@
 #![tactic(auto)]
 
 #[cfg(test)]
-mod copies;
-#[cfg(test)]
-mod paths;
-#[cfg(test)]
-mod plans;
-#[cfg(test)]
-mod uses;
+mod tests;

@@ -5,7 +5,7 @@ use Rattle.std.proofs.lemmas.List.{take_all, length-drop}
 use Rattle.std.proofs.lemmas.Bool.{OnTrue_at, OnTrue_from}
 use Rattle.std.proofs.lemmas.List.Kept.{AllPairs-cons}
 use Rattle.phi_copies.specs.Sequence.{Pair, target, no_pair, HaveOwnTargets}
-use Rattle.plan_tests.proofs.copies.+have_own_targets.Goals as goal
+use Rattle.plan_tests.proofs.tests.copies.+have_own_targets.Goals as goal
 
 pub returns-then-is_new : goal.returns-then-is_new
 returns-then-is_new t c = OnTrue_from c.have_own_targets.result (HaveOwnTargets c.args.pairs.now) (λ e.

@@ -48,28 +48,42 @@ fn third<L: Ledger>(uses: &mut Uses, id: Id, steps: &mut Steps<L>) -> Option<Slo
     Some(place)
 }
 
-fn counted<L: Ledger>(alloc: Global, function: &Function, blank: Blank) -> Result<Vec<u32>, Memory>
-    requires name { blank.name ≡ L.name }
-    requires parts { blank.parts ≡ L.parts }
-    requires one { blank.parts ≡ 1 }
-{
-    let mut steps = Steps::<L>::new(blank);
-    let locals = Locals::of(alloc, function)?;
-    let reached = [true; 6];
-    let mut uses = Uses::build(alloc, &locals, &reached, &mut steps)?;
-    let mut found = Vec::new(alloc);
-    found.push(uses.count(Id(30), &mut steps))?;
-    for slot in &walked(alloc, &uses, Id(30), &mut steps)? {
+// Adds what is found of %30, before and after its third slot is taken out.
+fn add_counted<L: Ledger>(
+    found: &mut Vec<u32>,
+    alloc: Global,
+    uses: &mut Uses,
+    steps: &mut Steps<L>,
+) -> Result<(), AllocError> {
+    found.push(uses.count(Id(30), steps))?;
+    for slot in &walked(alloc, uses, Id(30), steps)? {
         found.push(slot.0)?;
     }
-    if third(&mut uses, Id(30), &mut steps).map_or(0, |place| place.block) == 3 {
+    if third(uses, Id(30), steps).map_or(0, |place| place.block) == 3 {
         found.push(3)?;
     }
-    found.push(uses.count(Id(30), &mut steps))?;
-    Ok(found)
+    found.push(uses.count(Id(30), steps))?;
+    Ok(())
 }
 
-fn moved<L: Ledger>(alloc: Global, function: &Function, blank: Blank) -> Result<Vec<u32>, Memory>
+// Adds what is found of an id that takes over the slots of another.
+fn add_moved<L: Ledger>(
+    found: &mut Vec<u32>,
+    alloc: Global,
+    uses: &mut Uses,
+    ids: (Id, Id),
+    steps: &mut Steps<L>,
+) -> Result<(), AllocError> {
+    let (from, to) = ids;
+    uses.retarget(from, to, steps);
+    for slot in &walked(alloc, uses, to, steps)? {
+        found.push(slot.0)?;
+    }
+    found.push(uses.count(from, steps))?;
+    Ok(())
+}
+
+fn found<L: Ledger>(alloc: Global, function: &Function, blank: Blank) -> Result<Vec<u32>, Memory>
     requires name { blank.name ≡ L.name }
     requires parts { blank.parts ≡ L.parts }
     requires one { blank.parts ≡ 1 }
@@ -78,14 +92,10 @@ fn moved<L: Ledger>(alloc: Global, function: &Function, blank: Blank) -> Result<
     let locals = Locals::of(alloc, function)?;
     let mut uses = Uses::build(alloc, &locals, &[true; 6], &mut steps)?;
     let mut found = Vec::new(alloc);
+    add_counted(&mut found, alloc, &mut uses, &mut steps)?;
     // %14 has a list, and %99 has none
-    for (from, to) in [(30, 14), (14, 99)] {
-        uses.retarget(Id(from), Id(to), &mut steps);
-        for slot in &walked(alloc, &uses, Id(to), &mut steps)? {
-            found.push(slot.0)?;
-        }
-        found.push(uses.count(Id(from), &mut steps))?;
-    }
+    add_moved(&mut found, alloc, &mut uses, (Id(30), Id(14)), &mut steps)?;
+    add_moved(&mut found, alloc, &mut uses, (Id(14), Id(99)), &mut steps)?;
     Ok(found)
 }
 
@@ -94,10 +104,10 @@ fn linked_slots(rt: HostRuntime) -> Result<(), Fail> {
     let alloc = rt.alloc();
     let module = function_of(alloc, &COUNTED)?;
     let function = module.functions().first().ok_or("no function")?;
-    let found = counted::<Brand>(alloc, function, Blank::new(1))?;
-    assert_eq!(rt; found.as_slice(), [6, 0, 2, 6, 7, 13, 16, 3, 5].as_slice());
-    let found = moved::<Brand>(alloc, function, Blank::new(1))?;
-    let slots = [0, 1, 2, 6, 7, 9, 13, 16, 0, 0, 1, 2, 6, 7, 9, 13, 16, 0];
-    assert_eq!(rt; found.as_slice(), slots.as_slice());
+    let found = found::<Brand>(alloc, function, Blank::new(1))?;
+    let wanted = [
+        6, 0, 2, 6, 7, 13, 16, 3, 5, 0, 1, 2, 7, 9, 13, 16, 0, 0, 1, 2, 7, 9, 13, 16, 0,
+    ];
+    assert_eq!(rt; found.as_slice(), wanted.as_slice());
     Ok(())
 }
