@@ -34,7 +34,7 @@ pub record AreNone (v : Ways) : Type 0 where
   pub out : v.out ≡ None
 
 module _ (p : Program) (calls : Text → List Argument → State → Result (Option Typed × State)) (k : ℕ) (m : Naming) (s : Setting) (Holds : Conf → Type 0) (keeps : IsKept (machine s) Holds) (f : Function) (body : (b : ℕ) → Option (Body f b))
-    (w : Blocks) (term : ℕ → Term) (falls : ℕ → Option ℕ) (IsFlag : Text → Type 0) (text : Inst → List Stmt) where
+    (w : Blocks) (term : ℕ → Term) (falls : ℕ → Option ℕ) (IsFlag : Text → Type 0) (text : ℕ → Inst → List Stmt) where
   abbrev C : Type 0
   C = Supplied Conf
 

@@ -39,7 +39,7 @@ use Rattle.agree_law.proofs.Terminators.{EndsBy, GivesIt, Goes, edge_ok, jump_ok
 use Rattle.agree_law.proofs.Tables.{picks, switch_runs}
 
 module _ (p : Program) (calls : Text → List Argument → State → Result (Option Typed × State)) (k : ℕ) (m : Naming) (s : Setting) (Holds : Conf → Type 0) (keeps : IsKept (machine s) Holds) (f : Function) (body : (b : ℕ) → Option (Body f b))
-    (w : Blocks) (term : ℕ → Term) (falls : ℕ → Option ℕ) (IsFlag : Text → Type 0) (text : Inst → List Stmt) where
+    (w : Blocks) (term : ℕ → Term) (falls : ℕ → Option ℕ) (IsFlag : Text → Type 0) (text : ℕ → Inst → List Stmt) where
   abbrev C : Type 0
   C = Supplied Conf
 
@@ -65,7 +65,7 @@ module _ (p : Program) (calls : Text → List Argument → State → Result (Opt
     pub leave_flag : (h : ℕ) (x : Text) → w.leave h ≡ Some x → IsFlag x
     pub fell_flag : (t : ℕ) (x : Text) → w.fell t ≡ Some x → IsFlag x
     -- blocks: the text of each instruction does what it does, and no flag is written
-    pub insts : (b : ℕ) (o : Body f b) → body b ≡ Some o → (w.statements b ≡ flat_map text o.insts) × AllFollow p calls k m s Holds f (machine s) text b [] o.insts (o.last ∷ [])
+    pub insts : (b : ℕ) (o : Body f b) → body b ≡ Some o → (w.statements b ≡ flat_map (text b) o.insts) × AllFollow p calls k m s Holds f (machine s) (text b) b [] o.insts (o.last ∷ [])
     pub block_keeps : (b : ℕ) (z : State) (t : List Text) (ns : List (List Text)) → names_of z.frames ≡ t ∷ ns → OnOutcome (Keeps IsFlag z) (runs (w.statements b) z)
     -- edges
     pub copies : (b t : ℕ) (c : C) (z : State) → Arrive m s Holds f body b t c z → Plain (Start m s Holds f body t) c (runs (w.copies b t) z)

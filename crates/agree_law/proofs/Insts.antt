@@ -58,10 +58,12 @@ module _ (p : Program) (calls : Text → List Argument → State → Result (Opt
       (part_then (Supplied Conf) step State (Option Typed) (At m s Holds f b (behind (i ∷ done) is) last) (Never (Supplied Conf) step State (Option Typed)) (Never (Supplied Conf) step State (Option Typed)) (NeverGives (Supplied Conf) step State (Option Typed)) (At m s Holds f b (i ∷ done) (is ++ last)) 0 0 k c (runs (flat_map text is)) (runs (text i) z)
       (all.0 c z at) (λ d y now. insts_follow b is (i ∷ done) last all.1 d y now))
 
+module _ (p : Program) (calls : Text → List Argument → State → Result (Option Typed × State)) (k : ℕ) (m : Naming) (s : Setting) (Holds : Conf → Type 0) (f : Function) (step : Supplied Conf → Move (Supplied Conf)) (text : ℕ → Inst → List Stmt) where
   -- So a block's text leads from its first instruction to its last.
-  pub block_follows : (body : (b : ℕ) → Option (Body f b)) (statements : ℕ → List Stmt) → ((b : ℕ) (o : Body f b) → body b ≡ Some o → (statements b ≡ flat_map text o.insts) × AllFollow b [] o.insts (o.last ∷ []))
-      → (b : ℕ) (c : Supplied Conf) (z : State) → Starts m s Holds f body b c z → Does (Stops m s Holds f body b) c (runs (statements b) z)
+  pub block_follows : (body : (b : ℕ) → Option (Body f b)) (statements : ℕ → List Stmt) → ((b : ℕ) (o : Body f b) → body b ≡ Some o → (statements b ≡ flat_map (text b) o.insts) × AllFollow p calls k m s Holds f step (text b) b [] o.insts (o.last ∷ []))
+      → (b : ℕ) (c : Supplied Conf) (z : State) → Starts m s Holds f body b c z → Does p calls k m s Holds f step (text b) (Stops m s Holds f body b) c (stmts_run p calls k (stmts_in (statements b)) z)
   block_follows body statements written b c z start =
       let w = written b start.body_of start.is in
-      subst (λ (xs : List Stmt). Does (Stops m s Holds f body b) c (runs xs z)) (sym w.0)
-      (mapped (At m s Holds f b (behind [] start.body_of.insts) (start.body_of.last ∷ [])) (Stops m s Holds f body b) c (runs (flat_map text start.body_of.insts) z) (λ d y at. record { body_of = start.body_of; is = start.is; at = at }) (insts_follow b start.body_of.insts [] (start.body_of.last ∷ []) w.1 c z start.at))
+      subst (λ (xs : List Stmt). Does p calls k m s Holds f step (text b) (Stops m s Holds f body b) c (stmts_run p calls k (stmts_in xs) z)) (sym w.0)
+      (mapped p calls k m s Holds f step (text b) (At m s Holds f b (behind [] start.body_of.insts) (start.body_of.last ∷ [])) (Stops m s Holds f body b) c (stmts_run p calls k (stmts_in (flat_map (text b) start.body_of.insts)) z) (λ d y at. record { body_of = start.body_of; is = start.is; at = at })
+      (insts_follow p calls k m s Holds f step (text b) b start.body_of.insts [] (start.body_of.last ∷ []) w.1 c z start.at))

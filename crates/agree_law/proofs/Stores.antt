@@ -61,7 +61,7 @@ pub same_number : (a b : ℕ) → (a == b) ≡ true → a ≡ b
 same_number a b e = elim (eqb_tells a b) [ inl w ↦ w.1 | inr w ↦ (let never : true ≡ false = sym e ∙ w.0 in cc) ]
 
 -- a call under way with another frame in its place
-length_with : (depth : ℕ) (g : Frame) (bs : List (Frame × ℕ)) → length (with_call depth g bs) ≡ length bs
+pub length_with : (depth : ℕ) (g : Frame) (bs : List (Frame × ℕ)) → length (with_call depth g bs) ≡ length bs
 length_with depth g [] = refl
 length_with depth g (b ∷ bs) = by_test (length bs == depth) (length_with depth g bs)
   where
@@ -69,7 +69,7 @@ length_with depth g (b ∷ bs) = by_test (length bs == depth) (length_with depth
     by_test true ih = refl
     by_test false ih = ap suc ih
 
-call_same : (depth : ℕ) (bs : List (Frame × ℕ)) (h g : Frame) → call_at depth bs ≡ Some h → call_at depth (with_call depth g bs) ≡ Some g
+pub call_same : (depth : ℕ) (bs : List (Frame × ℕ)) (h g : Frame) → call_at depth bs ≡ Some h → call_at depth (with_call depth g bs) ≡ Some g
 call_same depth [] h g e = cc
 call_same depth (b ∷ bs) h g e = by_test (length bs == depth) refl e (call_same depth bs h g)
   where
@@ -78,7 +78,7 @@ call_same depth (b ∷ bs) h g e = by_test (length bs == depth) refl e (call_sam
     by_test true is e ih = ap (λ (t : Bool). elim t as (λ t. Option Frame) [ true ↦ Some g | false ↦ call_at depth bs ]) is
     by_test false is e ih = ap (λ l. elim (l == depth) as (λ t. Option Frame) [ true ↦ Some b.0 | false ↦ call_at depth (with_call depth g bs) ]) (length_with depth g bs) ∙ ap (λ (t : Bool). elim t as (λ t. Option Frame) [ true ↦ Some b.0 | false ↦ call_at depth (with_call depth g bs) ]) is ∙ ih e
 
-call_other : (depth height : ℕ) (bs : List (Frame × ℕ)) (g : Frame) → height ≢ depth → call_at height (with_call depth g bs) ≡ call_at height bs
+pub call_other : (depth height : ℕ) (bs : List (Frame × ℕ)) (g : Frame) → height ≢ depth → call_at height (with_call depth g bs) ≡ call_at height bs
 call_other depth height [] g other = refl
 call_other depth height (b ∷ bs) g other = by_test (length bs == depth) refl (call_other depth height bs g other)
   where

@@ -105,9 +105,9 @@ module _ (p : Program) (calls : Text → List Argument → State → Result (Opt
 
   -- OpReturn and OpReturnValue: the text gives nothing, or what the operand has
   abbrev pub GivesIt : ℕ → Option Expr → Inst → Type 0
-  GivesIt b None last = step_kind last.op ≡ return
+  GivesIt b None last = (step_kind last.op ≡ return) × (m.result ≡ None)
   GivesIt b (Some e) last =
-      (step_kind last.op ≡ return_value) × (t : Shape)
+      (step_kind last.op ≡ return_value) × (t : Shape) × (m.result ≡ Some t)
       × ((c : Supplied Conf) (z : State) → Stop b c z → (v : ValueTree) → value_at s c.at.top (arg last 0) ≡ Some v → evaluate p calls e z ≡ got [] (typed t v, z))
 
   abbrev Ended : State → Supplied Conf → Option Typed → State → Type 0
@@ -118,7 +118,7 @@ module _ (p : Program) (calls : Text → List Argument → State → Result (Opt
 
   pub return_ok : (b : ℕ) (e : Option Expr) → EndsBy b (GivesIt b e) → (c : Supplied Conf) (z : State) → Stop b c z → Leaves z c (stmt_run p calls k (give e) z)
   return_ok b None is c z stop =
-      inl (record { to = c; comes = stays (Supplied Conf) (machine s) c; holds = (record { last = stop.body_of.last; rest = stop.at.next; gives = subst (λ (q : StepKind). GivesBy s c.at.top stop.body_of.last q None) (sym (is stop.body_of stop.is)) refl; agree = stop.at.stands.agree.all; holds = stop.at.stands.holds; answers = stop.at.stands.answers }, refl) })
+      inl (record { to = c; comes = stays (Supplied Conf) (machine s) c; holds = (record { last = stop.body_of.last; rest = stop.at.next; gives = (let g = is stop.body_of stop.is in subst (λ (q : StepKind). GivesBy m.result s c.at.top stop.body_of.last q None) (sym g.0) (refl, g.1)); agree = stop.at.stands.agree.all; holds = stop.at.stands.holds; answers = stop.at.stands.answers }, refl) })
   return_ok b (Some e) is c z stop = by_value (value_at s c.at.top (arg i 0)) refl
     where
       i : Inst
@@ -130,5 +130,5 @@ module _ (p : Program) (calls : Text → List Argument → State → Result (Opt
       by_value : (o : Option ValueTree) → value_at s c.at.top (arg i 0) ≡ o → Leaves z c (stmt_run p calls k (give (Some e)) z)
       by_value None has = inr (fails_now (Supplied Conf) (machine s) c _ (kind_is s c i [] return_value stop.at.next g.0 ∙ ap (λ (a : Act Conf). move a c.answers) (return_value_fails s c.at i has)))
       by_value (Some v) has =
-          subst (Leaves z c) (sym (on_known (evaluate p calls e z) (typed g.1 v, z) (λ v. returns [] (Some v.0) v.1) (g.2 c z stop v has)))
-          (inl (record { to = c; comes = stays (Supplied Conf) (machine s) c; holds = (record { last = i; rest = stop.at.next; gives = subst (λ (q : StepKind). GivesBy s c.at.top i q (Some (typed g.1 v))) (sym g.0) has; agree = stop.at.stands.agree.all; holds = stop.at.stands.holds; answers = stop.at.stands.answers }, refl) }))
+          subst (Leaves z c) (sym (on_known (evaluate p calls e z) (typed g.1 v, z) (λ v. returns [] (Some v.0) v.1) (g.3 c z stop v has)))
+          (inl (record { to = c; comes = stays (Supplied Conf) (machine s) c; holds = (record { last = i; rest = stop.at.next; gives = subst (λ (q : StepKind). GivesBy m.result s c.at.top i q (Some (typed g.1 v))) (sym g.0) (g.2, has); agree = stop.at.stands.agree.all; holds = stop.at.stands.holds; answers = stop.at.stands.answers }, refl) }))

@@ -9,7 +9,7 @@ use Rattle.glsl_semantics.specs.Shapes.{Shape}
 use Rattle.glsl_semantics.specs.States.{Variable, State, found, found_in, has_in}
 use Rattle.agree_law.specs.Own.{Own}
 
--- The names of a function's text, by ids: of results that are declared at its top and of value parameters, of results that are declared in their blocks, of Function variables, of pointer parameters, and of Private variables; and of the indexes that are kept of chains, by the chain and the number of the index, with the index that a pointer's path has there. Besides, the names of what stands outside of functions: constants, blocks, workgroup variables, and what is built in.
+-- The names of a function's text, by ids: of results that are declared at its top and of value parameters, of results that are declared in their blocks, of Function variables, of pointer parameters, and of Private variables; and of the indexes that are kept of chains, by the chain and the number of the index, with the index that a pointer's path has there. Besides, the names of what stands outside of functions: constants, blocks, workgroup variables, and what is built in; and the shape of what the function gives, if anything.
 pub record Naming : Type 0 where
   pub name : ℕ → Text
   pub index_name : ℕ → ℕ → Text
@@ -23,6 +23,7 @@ pub record Naming : Type 0 where
   pub is_kept : ℕ → ℕ → Bool
   pub is_outside : Text → Bool
   pub index_in : ℕ → ℕ → List ℕ → ℕ
+  pub result : Option Shape
 
 abbrev pub is_named : Naming → ℕ → Bool
 is_named m n = m.is_outer n || (m.is_local n || (m.is_variable n || (m.is_lent n || m.is_private n)))

@@ -10,7 +10,7 @@ use Rattle.module_semantics.specs.Setting.{Setting}
 use Rattle.module_semantics.specs.State.{Frame, Conf}
 use Rattle.module_semantics.specs.Operands.{arg, value_at}
 use Rattle.module_semantics.specs.Steps.{StepKind, return, return_value, step_kind, phis, behind_phis, phi_value, present_label, gone_to}
-use Rattle.glsl_semantics.specs.Shapes.{Typed, typed}
+use Rattle.glsl_semantics.specs.Shapes.{Shape, Typed, typed}
 use Rattle.glsl_semantics.specs.States.{State}
 use Rattle.agree_law.specs.Agree.{Naming, Agree}
 use Rattle.agree_law.specs.Blocks.{At}
@@ -28,11 +28,11 @@ pub record Body (f : Function) (b : ℕ) : Type 0 where
   pub last : Inst
   pub whole : behind_phis block ≡ insts ++ last ∷ []
 
--- what a return gives: nothing, or the value of its operand
-abbrev pub GivesBy : Setting → Frame → Inst → StepKind → Option Typed → Type 0
-GivesBy s f i return r = r ≡ None
-GivesBy s f i return_value (Some (typed t v)) = value_at s f (arg i 0) ≡ Some v
-GivesBy s f i _ r = ⊥
+-- what a return gives: nothing, or the value of its operand, of the shape of what the function gives
+abbrev pub GivesBy : Option Shape → Setting → Frame → Inst → StepKind → Option Typed → Type 0
+GivesBy t s f i return r = (r ≡ None) × (t ≡ None)
+GivesBy t s f i return_value (Some (typed u v)) = (t ≡ Some u) × (value_at s f (arg i 0) ≡ Some v)
+GivesBy t s f i _ r = ⊥
 
 module _ (m : Naming) (s : Setting) (Holds : Conf → Type 0) (f : Function) (body : (b : ℕ) → Option (Body f b)) where
   -- at the first instruction of a block behind its phis
@@ -62,7 +62,7 @@ module _ (m : Naming) (s : Setting) (Holds : Conf → Type 0) (f : Function) (bo
   pub record Returns (c : Supplied Conf) (r : Option Typed) (z : State) : Type 0 where
     pub last : Inst
     pub rest : c.at.top.rest ≡ last ∷ []
-    pub gives : GivesBy s c.at.top last (step_kind last.op) r
+    pub gives : GivesBy m.result s c.at.top last (step_kind last.op) r
     pub agree : Agree m c.at z
     pub holds : Holds c.at
     pub answers : z.answers ≡ c.answers
