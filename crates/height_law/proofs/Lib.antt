@@ -1,0 +1,9 @@
+pub mod Lists
+pub mod Pointers
+pub mod Values
+pub mod Statements
+pub mod Regions
+pub mod Functions
+pub mod Items
+pub mod Shapes
+pub mod Unit

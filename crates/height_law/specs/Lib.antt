@@ -1,0 +1,3 @@
+pub mod Shallow
+pub mod Nest
+pub mod Written
