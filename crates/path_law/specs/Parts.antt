@@ -1,0 +1,68 @@
+-- When what stands in a text is a part of a variable of its module.
+use Rattle.std.specs.Prelude.{◌≡◌, ◌<◌, ◌+◌, ◌++◌, ℕ, true, List, [], ◌∷◌, Option, Some, None, is_some, option_and_then}
+use Rattle.spv_module.specs.declared.inst.Inst.{Inst}
+use Rattle.spv_module.specs.declared.tree.Length.{Length}
+use Rattle.spv_module.specs.declared.tree.Length.TheVariants.{Fixed, Spec}
+use Rattle.spv_types.specs.Tree as plain
+use Rattle.spv_types.specs.Tree.{Tree, Trees, no_trees, tree, ValueTree}
+use Rattle.op_semantics.specs.Composite.{extracted}
+use Rattle.op_semantics.specs.Fits.{fits}
+use Rattle.module_semantics.specs.Setting.{Setting}
+use Rattle.module_semantics.specs.Memory.{location, array_length}
+use Rattle.module_semantics.specs.State.{Root, Conf}
+use Rattle.module_semantics.specs.Accesses.{seen, kept}
+use Rattle.glsl_ast.specs.Tree.{Text}
+use Rattle.glsl_semantics.specs.Shapes.{Shape, boolean, int, uint, vector, array, runtime, struct, Fields, no_fields, field, typed, tree_of}
+use Rattle.glsl_semantics.specs.Places.{Site, site_along, location_of}
+use Rattle.glsl_semantics.specs.States.{Thing, value, variable, instance, memory}
+use Rattle.fits_law.specs.State.{place_shape}
+
+-- the names of structs and of their members
+pub record StructNames : Type 0 where
+  pub struct_name : ℕ → Text
+  pub member_name : ℕ → ℕ → Text
+
+-- The type of a shape in the text: that of an array has the length that the array has in the run, where a specialization constant gives it.
+abbrev pub length_in : Setting → Length → Option ℕ
+length_in s (Fixed n) = Some n
+length_in s (Spec id) = array_length s id.0
+
+abbrev mutual
+  pub shape_in : Setting → StructNames → Tree → Shape
+  shape_in s y plain.boolean = boolean
+  shape_in s y plain.int = int
+  shape_in s y plain.uint = uint
+  shape_in s y (plain.vector e n) = vector e n
+  shape_in s y (plain.array t l) = array (shape_in s y t) (length_in s l)
+  shape_in s y (plain.runtime t) = runtime (shape_in s y t)
+  shape_in s y (plain.struct id ts) = struct (y.struct_name id) (fields_in s y id 0 ts)
+
+  -- the members of the struct with this id from member k on
+  pub fields_in : Setting → StructNames → ℕ → ℕ → Trees → Fields
+  fields_in s y id k no_trees = no_fields
+  fields_in s y id k (tree t ts) = field (y.member_name id k) (shape_in s y t) (fields_in s y id (k + 1) ts)
+
+-- the index is below the number of parts, where there is one
+abbrev pub IsBelow : Option ℕ → ℕ → Type 0
+IsBelow None i = ⊥
+IsBelow (Some n) i = i < n
+
+abbrev pub IsInside : Setting → Tree → ℕ → Type 0
+IsInside s (plain.vector e n) i = i < n
+IsInside s (plain.array t l) i = IsBelow (length_in s l) i
+IsInside s _ i = Unit {0}
+
+-- The scalars of a part with this shape lie in the text where they lie in the module: also those of an array without a length.
+abbrev pub HasScalars : Setting → StructNames → Inst → List ℕ → Tree → Site → Type 0
+HasScalars s y v path t at = (rest : List ℕ) → is_some (place_shape t rest) ≡ true → location_of (site_along (tree_of (shape_in s y t)) rest at) ≡ location s v (path ++ rest)
+
+-- the value of a part of a variable that no other invocation sees
+abbrev pub part_value : Setting → Conf → Root → List ℕ → Option ValueTree
+part_value s c r path = option_and_then (extracted path) (kept s c r)
+
+-- The thing is the part at these indexes, which has this shape, of the variable into which the root leads: its place in memory, where others see the variable; else its value, or that part of the text's variable with this name, which stands for the part at the first of the indexes.
+abbrev pub IsPart : Setting → StructNames → Conf → Text → List ℕ → Root → List ℕ → Tree → Thing → Type 0
+IsPart s y c x from r path t (value (typed q u)) = (seen s r ≡ None) × (q ≡ shape_in s y t) × (part_value s c r path ≡ Some u) × (fits t u ≡ true)
+IsPart s y c x from r path t (variable w way q o) = (seen s r ≡ None) × (q ≡ shape_in s y t) × (o ≡ part_value s c r path) × (w ≡ x) × (path ≡ from ++ way)
+IsPart s y c x from r path t (instance place kind members) = ⊥
+IsPart s y c x from r path t (memory at q) = (v : Inst) × (seen s r ≡ Some v) × (q ≡ shape_in s y t) × HasScalars s y v path t at
