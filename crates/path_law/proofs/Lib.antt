@@ -4,3 +4,5 @@ pub mod Bytes
 pub mod BlockLayouts
 pub mod Types
 pub mod Walks
+pub mod Starts
+pub mod Pointers

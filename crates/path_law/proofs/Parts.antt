@@ -10,11 +10,12 @@ use Rattle.spv_module.specs.declared.tree.Length.{Length}
 use Rattle.spv_module.specs.declared.tree.Length.TheVariants.{Fixed, Spec}
 use Rattle.spv_types.specs.Tree as plain
 use Rattle.spv_types.specs.Tree.{Tree, Trees, no_trees, tree, ValueTree, word, truth, many, ValueTrees}
+use Rattle.spv_types.specs.Types.{type_tree}
 use Rattle.op_semantics.specs.Component.{listed}
 use Rattle.op_semantics.specs.Composite.{part_at, extracted}
 use Rattle.op_semantics.specs.Fits.{elem_tree, fits}
 use Rattle.module_semantics.specs.Setting.{Setting}
-use Rattle.module_semantics.specs.Memory.{location}
+use Rattle.module_semantics.specs.Memory.{part_type, type_along, variable_type, location}
 use Rattle.module_semantics.specs.State.{Root, Conf}
 use Rattle.module_semantics.specs.Accesses.{seen, kept}
 use Rattle.glsl_ast.specs.Tree.{Text}
@@ -26,6 +27,7 @@ use Rattle.glsl_semantics.specs.States as states
 use Rattle.glsl_semantics.specs.States.{Thing, value, variable, instance, memory, part_at_index, part_of_option, shape_of_thing, named_part, member_of, index_word, element_at, element_of}
 use Rattle.fits_law.specs.Takes.{nth_of}
 use Rattle.fits_law.specs.State.{element_shape, place_shape}
+use Rattle.type_law.proofs.Places.{part_leads}
 use Rattle.fits_law.proofs.Parts.{EachFits, many_of, each_at, MembersFit, members_of}
 use Rattle.path_law.specs.Parts.{StructNames, length_in, shape_in, fields_in, IsBelow, IsInside, HasScalars, part_value, IsPart}
 
@@ -103,6 +105,11 @@ module _ (s : Setting) (y : StructNames) where
   part_same plain.int u i part = cc
   part_same plain.uint u i part = cc
 
+  -- along indexes, and along more
+  pub types_more : (ty : ℕ) (xs ys : List ℕ) → type_along s ty (xs ++ ys) ≡ type_along s (type_along s ty xs) ys
+  types_more ty [] ys = refl
+  types_more ty (x ∷ xs) ys = types_more (part_type s ty x) xs ys
+
   -- ways one behind the other
   join : (xs ys : List ℕ) (i : ℕ) → xs ++ i ∷ ys ≡ (xs ++ i ∷ []) ++ ys
   join [] ys i = refl
@@ -157,7 +164,9 @@ module _ (s : Setting) (y : StructNames) where
         (variable w (way ++ i ∷ []) (shape_in s y u) (part_of_option o i), refl, (is.0, refl, ap (λ o. part_of_option o i) is.2 ∙ sym (next_value c r path i), is.3, join_ways path way i is.4))
     part_is path t u i (instance place kind members) is part inside = absurd is
     part_is path t u i (memory at q) is part inside =
-        (memory (part_site (tree_of q) i at) (shape_in s y u), refl, (is.0, is.1, refl, subst (λ x. HasScalars s y is.0 (path ++ i ∷ []) u (part_site (tree_of x) i at)) (sym is.2) (scalars_inside is.0 path t u at i is.3 part)))
+        (memory (part_site (tree_of q) i at) (shape_in s y u), refl,
+        (is.0, is.1, refl, ap (type_tree s.of.globals) (types_more (variable_type s is.0) path (i ∷ [])) ∙ part_leads s (type_along s (variable_type s is.0) path) i t u is.3 part,
+        subst (λ x. HasScalars s y is.0 (path ++ i ∷ []) u (part_site (tree_of x) i at)) (sym is.2) (scalars_inside is.0 path t u at i is.4 part)))
 
     pub shape_is : (path : List ℕ) (t : Tree) (z : Thing) → P path t z → shape_of_thing z ≡ Some (shape_in s y t)
     shape_is path t (value (typed q k)) is = ap (λ a. Some a) is.1

@@ -15,6 +15,7 @@ use Rattle.spv_types.specs.Tree as plain
 use Rattle.spv_types.specs.Tree.{Tree, Trees}
 use Rattle.spv_types.specs.Types.{type_tree}
 use Rattle.spv_index.specs.Steps.{constant_word, member_type, step_by, step_type, is_struct}
+use Rattle.spv_index.specs.BlockStructs.{is_block}
 use Rattle.op_semantics.specs.Fits.{elem_tree}
 use Rattle.profile_rules.specs.declared.given.Given.{Given}
 use Rattle.traces.specs.Outcomes.{Result, got, with_before, then_get, or_stuck}
@@ -125,7 +126,7 @@ module _ (p : Program) (calls : Text → List Argument → State → Result (Opt
 
       -- each member of the struct stands for that part: so it is with a part of a variable, and with a block
       abbrev pub HasMembers : List ℕ → Tree → Thing → Type 0
-      HasMembers path t a = (n : ℕ) × (ts : Trees) × (t ≡ plain.struct n ts) × ((k : ℕ) (u : Tree) → nth_of ts k ≡ Some u → (b : Thing) × (member_of a (Y.member_name n k) ≡ Some b) × P (path ++ k ∷ []) u b)
+      HasMembers path t a = (n : ℕ) × (ts : Trees) × (t ≡ plain.struct n ts) × (is_block s.of.heads n ≡ true) × ((k : ℕ) (u : Tree) → nth_of ts k ≡ Some u → (b : Thing) × (member_of a (Y.member_name n k) ≡ Some b) × P (path ++ k ∷ []) u b)
 
       abbrev pub IsPlace : List ℕ → Tree → Thing → Type 0
       IsPlace path t a = P path t a ⊎ HasMembers path t a
@@ -136,7 +137,7 @@ module _ (p : Program) (calls : Text → List Argument → State → Result (Opt
       members_of path n ts a (inr is) k u at =
           let number : n ≡ is.0 = same_id n is.0 ts is.1 is.2 in
           let same : ts ≡ is.1 = same_trees n is.0 ts is.1 is.2 in
-          let b = is.3 k u (ap (λ q. nth_of q k) (sym same) ∙ at) in
+          let b = is.4 k u (ap (λ q. nth_of q k) (sym same) ∙ at) in
           (b.0, ap (λ q. member_of a (Y.member_name q k)) number ∙ b.1, b.2)
         where
           same_id : (n m : ℕ) (ts us : Trees) → plain.struct n ts ≡ plain.struct m us → n ≡ m
@@ -151,6 +152,15 @@ module _ (p : Program) (calls : Text → List Argument → State → Result (Opt
         where
           never : true ≡ false → ⊥
           never e = cc
+
+      -- what is no block is a part
+      abbrev pub IsNoBlock : Tree → Type 0
+      IsNoBlock (plain.struct n ts) = is_block s.of.heads n ≡ false
+      IsNoBlock _ = Unit {0}
+
+      pub part_of : (path : List ℕ) (t : Tree) (a : Thing) → IsNoBlock t → IsPlace path t a → P path t a
+      part_of path t a off (inl is) = is
+      part_of path t a off (inr is) = let never : true ≡ false = sym is.3 ∙ subst IsNoBlock is.2 off in cc
 
       -- where one step leads
       pub record Steps (path : List ℕ) (ty i : ℕ) (u : Tree) (q : Step) (a : Thing) : Type 0 where

@@ -1,3 +1,5 @@
 pub mod Parts
 pub mod Laid
 pub mod Walks
+pub mod Starts
+pub mod Pointers
