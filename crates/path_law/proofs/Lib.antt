@@ -6,3 +6,5 @@ pub mod Types
 pub mod Walks
 pub mod Starts
 pub mod Pointers
+pub mod Accesses
+pub mod Stored

@@ -159,7 +159,7 @@ module _ (s : Setting) (y : StructNames) where
     pub part_is : (path : List ℕ) (t u : Tree) (i : ℕ) (z : Thing) → P path t z → element_shape t i ≡ Some u → IsInside s t i → (w : Thing) × (part_at_index z i (shape_in s y u) ≡ Some w) × P (path ++ i ∷ []) u w
     part_is path t u i (value (typed q k)) is part inside =
         let p = part_there t u k i is.3 part inside in
-        (value (typed (shape_in s y u) p.0), ap (option_map (λ a. value (typed (shape_in s y u) a))) p.1, (is.0, refl, next_value c r path i ∙ ap (λ o. part_of_option o i) is.2 ∙ p.1, p.2))
+        (value (typed (shape_in s y u) p.0), ap (option_map (λ a. value (typed (shape_in s y u) a))) p.1, (is.0, refl, next_value c r path i ∙ ap (λ o. part_of_option o i) is.2 ∙ p.1, p.2, is.4))
     part_is path t u i (variable w way q o) is part inside =
         (variable w (way ++ i ∷ []) (shape_in s y u) (part_of_option o i), refl, (is.0, refl, ap (λ o. part_of_option o i) is.2 ∙ sym (next_value c r path i), is.3, join_ways path way i is.4))
     part_is path t u i (instance place kind members) is part inside = absurd is

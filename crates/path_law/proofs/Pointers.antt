@@ -51,7 +51,7 @@ module _ (p : Program) (calls : Text → List Argument → State → Result (Opt
   Gs = s.of.globals
 
   -- where a path begins, and the type of what stands there
-  abbrev first_type : ℕ → ℕ
+  abbrev pub first_type : ℕ → ℕ
   first_type n = unwrap_or (pointee_of Gs f n) 0
 
   -- What a pointer's text stands for: from what its path begins with, by its steps, a part of the variable into which the pointer leads.

@@ -260,7 +260,7 @@ module _ (p : Program) (calls : Text → List Argument → State → Result (Opt
         subst (λ a. Started n t a path) (sym is.root) (subst (Started n t (global n)) (sym is.whole) (record {
           to = value (typed (shape_in s Y t) is.value_is);
           there = ap (named p z) base ∙ outside_is p z is.text o.0 o.1 ∙ is.thing;
-          place = inl (ap (option_and_then seen_if) is.there ∙ ap (if_seen is.inst) (input_class is.inst is.class), refl, ap (option_and_then (extracted [])) has, is.fit);
+          place = inl (ap (option_and_then seen_if) is.there ∙ ap (if_seen is.inst) (input_class is.inst is.class), refl, ap (option_and_then (extracted [])) has, is.fit, (is.inst, is.there, is.class));
         }))
 
     shared_start : (n : ℕ) (t : Tree) (r : Root) (path : List ℕ) → IsShared p m s W.source key globals n t r path → Started n t r path

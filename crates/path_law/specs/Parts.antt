@@ -5,11 +5,14 @@ use Rattle.spv_module.specs.declared.tree.Length.{Length}
 use Rattle.spv_module.specs.declared.tree.Length.TheVariants.{Fixed, Spec}
 use Rattle.spv_types.specs.Tree as plain
 use Rattle.spv_types.specs.Tree.{Tree, Trees, no_trees, tree, ValueTree}
+use Rattle.spv_ops.specs.Enumerants.{class_number}
+use Rattle.spv_ops.specs.declared.StorageClass.TheVariants as storage
+use Rattle.spv_decor.specs.Rows.{word}
 use Rattle.op_semantics.specs.Composite.{extracted}
 use Rattle.op_semantics.specs.Fits.{fits}
-use Rattle.module_semantics.specs.Setting.{Setting}
+use Rattle.module_semantics.specs.Setting.{Setting, global_variable}
 use Rattle.module_semantics.specs.Memory.{location, shape_along, array_length}
-use Rattle.module_semantics.specs.State.{Root, Conf}
+use Rattle.module_semantics.specs.State.{Root, global, Conf}
 use Rattle.module_semantics.specs.Accesses.{seen, kept}
 use Rattle.glsl_ast.specs.Tree.{Text}
 use Rattle.glsl_semantics.specs.Shapes.{Shape, boolean, int, uint, vector, array, runtime, struct, Fields, no_fields, field, typed, tree_of}
@@ -60,9 +63,14 @@ HasScalars s y v path t at = (rest : List ℕ) → is_some (place_shape t rest) 
 abbrev pub part_value : Setting → Conf → Root → List ℕ → Option ValueTree
 part_value s c r path = option_and_then (extracted path) (kept s c r)
 
--- The thing is the part at these indexes, which has this shape, of the variable into which the root leads: its place in memory, where others see the variable, and along whose types the indexes lead to the shape; else its value, or that part of the text's variable with this name, which stands for the part at the first of the indexes.
+-- a built-in variable
+abbrev pub IsInput : Setting → Root → Type 0
+IsInput s (global n) = (v : Inst) × (global_variable s n ≡ Some v) × (word v 0 ≡ class_number storage.Input)
+IsInput s _ = ⊥
+
+-- The thing is the part at these indexes, which has this shape, of the variable into which the root leads: its place in memory, where others see the variable, and along whose types the indexes lead to the shape; else its value, where it is built in, or that part of the text's variable with this name, which stands for the part at the first of the indexes.
 abbrev pub IsPart : Setting → StructNames → Conf → Text → List ℕ → Root → List ℕ → Tree → Thing → Type 0
-IsPart s y c x from r path t (value (typed q u)) = (seen s r ≡ None) × (q ≡ shape_in s y t) × (part_value s c r path ≡ Some u) × (fits t u ≡ true)
+IsPart s y c x from r path t (value (typed q u)) = (seen s r ≡ None) × (q ≡ shape_in s y t) × (part_value s c r path ≡ Some u) × (fits t u ≡ true) × IsInput s r
 IsPart s y c x from r path t (variable w way q o) = (seen s r ≡ None) × (q ≡ shape_in s y t) × (o ≡ part_value s c r path) × (w ≡ x) × (path ≡ from ++ way)
 IsPart s y c x from r path t (instance place kind members) = ⊥
 IsPart s y c x from r path t (memory at q) = (v : Inst) × (seen s r ≡ Some v) × (q ≡ shape_in s y t) × (shape_along s v path ≡ Some t) × HasScalars s y v path t at

@@ -60,6 +60,7 @@ module _ (p : Program) (m : Naming) (s : Setting) (source : Source) (key : Key �
     pub depth : ℕ
     pub of : ℕ
     pub root : r ≡ lent depth of
+    pub whole : path ≡ []
 
   pub record IsPrivate (n : ℕ) (t : Tree) (r : Root) (path : List ℕ) : Type 0 where
     pub variable : IsVariable n t
