@@ -1,10 +1,8 @@
 -- Loads, stores and atomic instructions: the text of their pointer is what they ask of it.
-use Rattle.std.proofs.Common.{◌≡◌, ◌≢◌, ◌++◌, ◌==◌, ◌&&◌, ℕ, Bool, true, false, List, [], ◌∷◌, Option, Some, None, inl, inr, refl, sym, ap, ap₂, ◌∙◌, subst}
-use Rattle.std.specs.Prelude.{◌⊎◌, bytes_eq, option_and_then}
+use Rattle.std.proofs.Common.{◌≡◌, ◌++◌, ◌==◌, ◌&&◌, ℕ, Bool, true, false, List, [], ◌∷◌, Option, Some, None, inl, inr, refl, sym, ap, ◌∙◌, subst}
+use Rattle.std.specs.Prelude.{bytes_eq, option_and_then}
 use Rattle.std.proofs.lemmas.Bool.Decides.{eqb_tells}
 use Rattle.std.proofs.lemmas.Slice.Eq.{bytes_eq-Decides}
-use Rattle.spv_ops.specs.Enumerants.{class_number}
-use Rattle.spv_ops.specs.declared.StorageClass.TheVariants as storage
 use Rattle.spv_ops.specs.declared.AtomicOp.{AtomicOp}
 use Rattle.spv_module.specs.declared.inst.Inst.{Inst}
 use Rattle.spv_module.specs.declared.inst.Function.{Function}
@@ -15,34 +13,30 @@ use Rattle.spv_types.specs.Tree as plain
 use Rattle.spv_types.specs.Tree.{Tree, ValueTree}
 use Rattle.spv_types.specs.Types.{type_tree}
 use Rattle.spv_types.specs.Leaves.{IsSized}
-use Rattle.spv_decor.specs.Rows.{word}
 use Rattle.spv_index.specs.Pointers.{pointee_of}
-use Rattle.op_semantics.specs.Composite.{extracted, inserted}
+use Rattle.op_semantics.specs.Composite.{extracted}
 use Rattle.profile_rules.specs.declared.given.Given.{Given}
 use Rattle.value_words.specs.Words.{value_from}
-use Rattle.traces.specs.Events.{Access, Location, AtomicOperation, updating}
-use Rattle.traces.specs.Runs.{go, Supplied, supplied}
-use Rattle.traces.specs.Outcomes.{Result, got, with_before, then_get, or_stuck}
-use Rattle.module_semantics.specs.Setting.{Setting, global_variable}
-use Rattle.module_semantics.specs.Memory as module_memory
+use Rattle.traces.specs.Events.{Access, Location, updating}
+use Rattle.traces.specs.Runs.{Supplied}
+use Rattle.traces.specs.Outcomes.{Result, got, with_before, then_get}
+use Rattle.module_semantics.specs.Setting.{Setting}
 use Rattle.module_semantics.specs.Memory.{location, shape_along}
-use Rattle.module_semantics.specs.State.{Root, global, own, lent, Held, pointer, Conf, call_at}
-use Rattle.module_semantics.specs.Operands.{pointer_at, value_at, Target, arg}
-use Rattle.module_semantics.specs.Accesses.{seen, kept, keeping}
-use Rattle.module_semantics.specs.Steps.{StepKind, store, step_kind, advanced}
+use Rattle.module_semantics.specs.State.{Root, own, Conf}
+use Rattle.module_semantics.specs.Operands.{pointer_at, Target, arg}
+use Rattle.module_semantics.specs.Accesses.{seen, kept}
 use Rattle.name_alloc.specs.declared.claims.Key.{Key}
 use Rattle.access_paths.specs.Ways.{path}
-use Rattle.glsl_ast.specs.Tree.{Text, Expr, Exprs, no_exprs, expr, assign, LStep, lvalue}
+use Rattle.glsl_ast.specs.Tree.{Text, Expr, Exprs, expr}
 use Rattle.glsl_semantics.specs.Shapes as shapes
 use Rattle.glsl_semantics.specs.Shapes.{Shape, Typed, typed, tree_of, same_elem, same_shape}
 use Rattle.glsl_semantics.specs.Places as place
-use Rattle.glsl_semantics.specs.Places.{Site, location_of, site_along}
-use Rattle.glsl_semantics.specs.States as states
+use Rattle.glsl_semantics.specs.Places.{Site, location_of}
 use Rattle.glsl_semantics.specs.States.{State, Thing, value, variable, instance, memory, fetch, variable_value}
 use Rattle.glsl_semantics.specs.Expressions as expressions
-use Rattle.glsl_semantics.specs.Expressions.{Program, Argument, AtomicFunction, operand_words, call_kind, named, then_fetch, denote, values, place_and_values, evaluate, steps}
+use Rattle.glsl_semantics.specs.Expressions.{Program, Argument, AtomicFunction, operand_words, call_kind, then_fetch, values, evaluate}
 use Rattle.expr_forward.specs.Scope as scope
-use Rattle.expr_forward.specs.Paths.{base_text, steps_text, place_text, place_expr}
+use Rattle.expr_forward.specs.Paths.{base_text, steps_text, place_expr}
 use Rattle.type_law.specs.Shaped.{AreConstants}
 use Rattle.agree_law.specs.Agree.{Naming, AreApart}
 use Rattle.agree_law.specs.Blocks.{Stands}
@@ -51,7 +45,6 @@ use Rattle.agree_law.proofs.Machine.{machine}
 use Rattle.agree_law.proofs.Instructions.{ReadsSeen, Reads, WritesSeen, Updates}
 use Rattle.path_law.specs.Parts.{shape_in, HasScalars, part_value, IsPart}
 use Rattle.path_law.specs.Walks.{writing, struct_names}
-use Rattle.path_law.specs.Starts.{IsOwn, IsParameter, IsPrivate, IsBuiltIn, IsShared, IsBlock, IsStart}
 use Rattle.path_law.proofs.Leaves.{same_value, sized_in, places_are}
 use Rattle.path_law.proofs.Walks.{MembersApart, IsPlace, IsNoBlock, part_of}
 use Rattle.path_law.proofs.Pointers.{first_type, Leads, place_stands, expr_stands}
@@ -93,7 +86,7 @@ shape_itself s key (plain.runtime t) z = absurd z
 shape_itself s key (plain.struct id ts) z = (bytes_eq-Decides ((struct_names key).struct_name id) ((struct_names key).struct_name id)).1 refl
 
 module _ (p : Program) (calls : Text → List Argument → State → Result (Option Typed × State)) (k : ℕ) (m : Naming) (names : AreApart m) (s : Setting) (Holds : Conf → Type 0) (f : Function) (b : ℕ) (keeps : IsKept (machine s) Holds) (done : List Inst) (i : Inst) (rest : List Inst)
-  (overrides : List (ℕ × Given)) (key : Key → Text) (globals : ℕ → Option Expr) (right : AreConstants s) (c : Supplied Conf) (z : State) (apart : MembersApart p calls z s overrides f key globals right) (stands : Stands m s Holds f b done c z) where
+    (overrides : List (ℕ × Given)) (key : Key → Text) (globals : ℕ → Option Expr) (right : AreConstants s) (c : Supplied Conf) (z : State) (apart : MembersApart p calls z s overrides f key globals right) (stands : Stands m s Holds f b done c z) where
   abbrev W : scope.Setting
   W = writing s overrides f key globals
 

@@ -5,7 +5,7 @@ use Rattle.std.specs.Option.{option_map_or}
 use Rattle.std.specs.List.{list_any}
 use Rattle.std.proofs.lemmas.Bool.Decides.{eqb_tells}
 use Rattle.spv_words.specs.declared.rule.Rule.{Rule}
-use Rattle.spv_words.specs.declared.rule.Rule.TheVariants.{L1, L2, L3, L4, L5, L6, L7}
+use Rattle.spv_words.specs.declared.rule.Rule.TheVariants.{L1, L2, L6}
 use Rattle.spv_ops.specs.Enumerants.{decoration_number}
 use Rattle.spv_ops.specs.declared.Op.{Op}
 use Rattle.spv_ops.specs.declared.Op.TheVariants as code
@@ -19,7 +19,7 @@ use Rattle.spv_types.specs.Tree.{Tree, Trees, no_trees, tree}
 use Rattle.spv_types.specs.Types.{kind, both, all_trees, tree_by_kind, tree_before, tree_at, type_tree}
 use Rattle.spv_decor.specs.Rows.{value_of, member_value_of}
 use Rattle.layout_rules.specs.declared.Kind.{Kind}
-use Rattle.layout_rules.specs.declared.Kind.TheVariants.{Std430, Std140}
+use Rattle.layout_rules.specs.declared.Kind.TheVariants.{Std140}
 use Rattle.layout_rules.specs.Sizes.{aligned, alignment_of, size_of, stride_over}
 use Rattle.layout_rules.specs.Parts.{part_id, any_part, any_member}
 use Rattle.layout_rules.specs.Rules.{is_not, is_other, offset_of, lacks_from, lacks_offset, has_other_stride, others_from, has_other_offset, breaks}
@@ -27,7 +27,6 @@ use Rattle.layout_rules.specs.Blocks.{Member, members_from, members_of, breaks_i
 use Rattle.module_semantics.specs.Setting.{Setting}
 use Rattle.module_semantics.specs.Memory.{array_stride, member_offset, part_by, part_type}
 use Rattle.fits_law.specs.Takes.{nth_of}
-use Rattle.fits_law.specs.State.{element_shape}
 use Rattle.type_law.proofs.Places.{part_leads}
 use Rattle.path_law.specs.Laid.{IsLaidOut, AreLaidOut}
 use Rattle.path_law.proofs.Bytes.{kind_of, declared_by}
@@ -128,17 +127,19 @@ module _ (s : Setting) (k : Kind) where
     laid_out (plain.array t l) ty shape a b c =
         let one = either_off (breaks H k L1 ty (plain.array t l)) (any_part (breaks H k L1) Gs (part_id Gs ty 0) t) a in
         let two = either_off (breaks H k L2 ty (plain.array t l)) (any_part (breaks H k L2) Gs (part_id Gs ty 0) t) b in
-        let six = either_off (breaks H k L6 ty (plain.array t l)) (any_part (breaks H k L6) Gs (part_id Gs ty 0) t) c in
-        (stride_is ty t (stride_over k t) (sym (l2_is ty (plain.array t l)) ∙ two.0),
-        λ i. let same = part_same ty i 0 (plain.array t l) shape (λ args. refl) in
-        subst (λ q. IsLaidOut s k q t) (sym same) (laid_out t (part_id Gs ty 0) (ap (type_tree Gs) (sym same) ∙ part_leads s ty i (plain.array t l) t shape refl) one.1 two.1 six.1))
+        let six = either_off (breaks H k L6 ty (plain.array t l)) (any_part (breaks H k L6) Gs (part_id Gs ty 0) t) c in (
+          stride_is ty t (stride_over k t) (sym (l2_is ty (plain.array t l)) ∙ two.0),
+          λ i. let same = part_same ty i 0 (plain.array t l) shape (λ args. refl) in
+              subst (λ q. IsLaidOut s k q t) (sym same) (laid_out t (part_id Gs ty 0) (ap (type_tree Gs) (sym same) ∙ part_leads s ty i (plain.array t l) t shape refl) one.1 two.1 six.1),
+        )
     laid_out (plain.runtime t) ty shape a b c =
         let one = either_off (breaks H k L1 ty (plain.runtime t)) (any_part (breaks H k L1) Gs (part_id Gs ty 0) t) a in
         let two = either_off (breaks H k L2 ty (plain.runtime t)) (any_part (breaks H k L2) Gs (part_id Gs ty 0) t) b in
-        let six = either_off (breaks H k L6 ty (plain.runtime t)) (any_part (breaks H k L6) Gs (part_id Gs ty 0) t) c in
-        (stride_is ty t (stride_over k t) (sym (l2_is ty (plain.runtime t)) ∙ two.0),
-        λ i. let same = part_same ty i 0 (plain.runtime t) shape (λ args. refl) in
-        subst (λ q. IsLaidOut s k q t) (sym same) (laid_out t (part_id Gs ty 0) (ap (type_tree Gs) (sym same) ∙ part_leads s ty i (plain.runtime t) t shape refl) one.1 two.1 six.1))
+        let six = either_off (breaks H k L6 ty (plain.runtime t)) (any_part (breaks H k L6) Gs (part_id Gs ty 0) t) c in (
+          stride_is ty t (stride_over k t) (sym (l2_is ty (plain.runtime t)) ∙ two.0),
+          λ i. let same = part_same ty i 0 (plain.runtime t) shape (λ args. refl) in
+              subst (λ q. IsLaidOut s k q t) (sym same) (laid_out t (part_id Gs ty 0) (ap (type_tree Gs) (sym same) ∙ part_leads s ty i (plain.runtime t) t shape refl) one.1 two.1 six.1),
+        )
     laid_out (plain.struct id ts) ty shape a b c =
         let one = either_off (breaks H k L1 ty (plain.struct id ts)) (any_member (breaks H k L1) Gs ty 0 ts) a in
         let two = either_off (breaks H k L2 ty (plain.struct id ts)) (any_member (breaks H k L2) Gs ty 0 ts) b in
@@ -160,13 +161,14 @@ module _ (s : Setting) (k : Kind) where
         let six = either_off (any_part (breaks H k L6) Gs (part_id Gs ty j) t) (any_member (breaks H k L6) Gs ty (j + 1) ts) c in
         let none : j + 0 ≡ j = omega arith in
         let here = shape 0 t refl in
-        let id : part_type s ty j ≡ part_id Gs ty j = ap (part_type s ty) (sym none) ∙ here.0 ∙ ap (part_id Gs ty) none in
-        (offset_is ty j (aligned end (alignment_of k t)) (placed_is (offset_of H ty j) (aligned end (alignment_of k t)) there.0 same.0),
-        subst (λ q. IsLaidOut s k q t) (sym id) (laid_out t (part_id Gs ty j) (ap (type_tree Gs) (sym id) ∙ ap (λ a. type_tree Gs (part_type s ty a)) (sym none) ∙ here.1) one.0 two.0 six.0),
-        all_laid ts ty (j + 1) (aligned end (alignment_of k t) + size_of k t) there.1 same.1
-        (λ i u at. let next : j + suc i ≡ j + 1 + i = omega arith in let m = shape (suc i) u at in
-        (ap (part_type s ty) (sym next) ∙ m.0 ∙ ap (part_id Gs ty) next, ap (λ a. type_tree Gs (part_type s ty a)) (sym next) ∙ m.1))
-        one.1 two.1 six.1)
+        let id : part_type s ty j ≡ part_id Gs ty j = ap (part_type s ty) (sym none) ∙ here.0 ∙ ap (part_id Gs ty) none in (
+          offset_is ty j (aligned end (alignment_of k t)) (placed_is (offset_of H ty j) (aligned end (alignment_of k t)) there.0 same.0),
+          subst (λ q. IsLaidOut s k q t) (sym id) (laid_out t (part_id Gs ty j) (ap (type_tree Gs) (sym id) ∙ ap (λ a. type_tree Gs (part_type s ty a)) (sym none) ∙ here.1) one.0 two.0 six.0),
+          all_laid ts ty (j + 1) (aligned end (alignment_of k t) + size_of k t) there.1 same.1
+              (λ i u at. let next : j + suc i ≡ j + 1 + i = omega arith in let m = shape (suc i) u at in
+              (ap (part_type s ty) (sym next) ∙ m.0 ∙ ap (part_id Gs ty) next, ap (λ a. type_tree Gs (part_type s ty a)) (sym next) ∙ m.1))
+              one.1 two.1 six.1,
+        )
 
   -- the rules, of the members of a block
   abbrev AllFalse : {A : Type 0} → (A → Bool) → List A → Type 0

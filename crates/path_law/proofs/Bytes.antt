@@ -1,5 +1,5 @@
 -- The bytes at which the parts of a block lie: by the decorations of its types, and by the layout of the text's block.
-use Rattle.std.proofs.Common.{◌≡◌, ◌+◌, ◌*◌, ◌==◌, ◌&&◌, ◌++◌, ℕ, zero, suc, Bool, true, false, List, [], ◌∷◌, Option, Some, None, refl, sym, ap, ap₂, ◌∙◌, subst, arith, if◌then◌else◌}
+use Rattle.std.proofs.Common.{◌≡◌, ◌+◌, ◌*◌, ◌==◌, ◌&&◌, ℕ, zero, suc, Bool, true, false, List, [], ◌∷◌, Option, Some, None, refl, sym, ap, ap₂, ◌∙◌, subst, arith, if◌then◌else◌}
 use Rattle.std.specs.Prelude.{max, nat_le, is_some, option_map, option_and_then, slice_index}
 use Rattle.std.specs.Option.{option_map_or}
 use Rattle.spv_ops.specs.declared.Op.{Op}
@@ -22,12 +22,12 @@ use Rattle.module_semantics.specs.Setting.{Setting}
 use Rattle.module_semantics.specs.Memory as module_memory
 use Rattle.module_semantics.specs.Memory.{array_stride, member_offset, part_type, bytes_by, bytes_along}
 use Rattle.glsl_semantics.specs.Shapes.{tree_of, trees_of, array_of}
-use Rattle.glsl_semantics.specs.Places.{Site, in_buffer, in_push, part_bytes, part_tree, part_site, site_along}
+use Rattle.glsl_semantics.specs.Places.{in_buffer, in_push, part_bytes, part_tree, site_along}
 use Rattle.fits_law.specs.Takes.{nth_of}
 use Rattle.fits_law.specs.State.{element_shape, place_shape}
 use Rattle.fits_law.proofs.Steps.{named}
 use Rattle.type_law.proofs.Places.{part_leads}
-use Rattle.path_law.specs.Parts.{StructNames, length_in, shape_in, fields_in}
+use Rattle.path_law.specs.Parts.{StructNames, shape_in, fields_in}
 use Rattle.path_law.specs.Laid.{IsLaidOut, AreLaidOut, HasLengths, HaveLengths}
 use Rattle.path_law.proofs.Parts.{part_same}
 

@@ -1,13 +1,12 @@
 -- The scalars of a part: where a text has them, and which value their words are.
-use Rattle.std.proofs.Common.{◌≡◌, ◌+◌, ◌*◌, ◌&&◌, ◌++◌, ℕ, Bool, zero, suc, true, false, List, [], ◌∷◌, map, Option, Some, None, refl, sym, ap, ap₂, ◌∙◌, subst, arith}
+use Rattle.std.proofs.Common.{◌≡◌, ◌+◌, ◌*◌, ◌&&◌, ◌++◌, ℕ, Bool, suc, true, false, List, [], ◌∷◌, map, Option, Some, None, refl, sym, ap, ap₂, ◌∙◌, arith}
 use Rattle.std.specs.Prelude.{drop, is_some, option_and_then, flat_map}
 use Rattle.std.specs.List.{range_with_len}
 use Rattle.std.specs.Option.{option_map_or}
 use Rattle.spv_module.specs.declared.inst.Inst.{Inst}
-use Rattle.spv_module.specs.declared.tree.Elem.TheVariants as elem
 use Rattle.spv_module.specs.declared.tree.Length.TheVariants.{Fixed, Spec}
 use Rattle.spv_types.specs.Tree as plain
-use Rattle.spv_types.specs.Tree.{Tree, Trees, no_trees, tree, ValueTree, many, ValueTrees, value, values_in}
+use Rattle.spv_types.specs.Tree.{Tree, Trees, no_trees, tree, ValueTree, many, value, values_in}
 use Rattle.spv_types.specs.Leaves.{leaf_count, leaf_counts, IsSized, AreSized}
 use Rattle.value_words.specs.Words.{value_from, values_from, parts_from, behind, scalar_paths, member_paths}
 use Rattle.traces.specs.Events.{Location}

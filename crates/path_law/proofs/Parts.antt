@@ -1,15 +1,14 @@
 -- The part of a part: a member by its name, a component by a letter, an element by an index.
-use Rattle.std.proofs.Common.{◌≡◌, ◌<◌, ◌≤◌, ◌+◌, ◌^◌, ◌==◌, ◌&&◌, ◌++◌, ℕ, zero, suc, Bool, true, false, List, [], ◌∷◌, length, Option, Some, None, refl, sym, ap, ◌∙◌, subst, arith}
+use Rattle.std.proofs.Common.{◌≡◌, ◌<◌, ◌+◌, ◌^◌, ◌++◌, ℕ, zero, suc, Bool, true, false, List, [], ◌∷◌, length, Option, Some, None, refl, sym, ap, ◌∙◌, subst, arith}
 use Rattle.std.specs.Prelude.{bytes_eq, is_some, nat_lt, option_map, option_and_then, slice_get, if◌then◌else◌}
 use Rattle.std.proofs.lemmas.Bool.Decides.{nat_tests}
 use Rattle.std.proofs.lemmas.Slice.Eq.{bytes_eq-Decides}
 use Rattle.spv_module.specs.declared.inst.Inst.{Inst}
 use Rattle.spv_module.specs.declared.tree.Elem.{Elem}
 use Rattle.spv_module.specs.declared.tree.Elem.TheVariants as elem
-use Rattle.spv_module.specs.declared.tree.Length.{Length}
 use Rattle.spv_module.specs.declared.tree.Length.TheVariants.{Fixed, Spec}
 use Rattle.spv_types.specs.Tree as plain
-use Rattle.spv_types.specs.Tree.{Tree, Trees, no_trees, tree, ValueTree, word, truth, many, ValueTrees}
+use Rattle.spv_types.specs.Tree.{Tree, Trees, no_trees, tree, ValueTree, word, truth, many}
 use Rattle.spv_types.specs.Types.{type_tree}
 use Rattle.op_semantics.specs.Component.{listed}
 use Rattle.op_semantics.specs.Composite.{part_at, extracted}
@@ -17,10 +16,10 @@ use Rattle.op_semantics.specs.Fits.{elem_tree, fits}
 use Rattle.module_semantics.specs.Setting.{Setting}
 use Rattle.module_semantics.specs.Memory.{part_type, type_along, variable_type, location}
 use Rattle.module_semantics.specs.State.{Root, Conf}
-use Rattle.module_semantics.specs.Accesses.{seen, kept}
+use Rattle.module_semantics.specs.Accesses.{kept}
 use Rattle.glsl_ast.specs.Tree.{Text}
 use Rattle.glsl_semantics.specs.Shapes as shapes
-use Rattle.glsl_semantics.specs.Shapes.{Shape, Fields, Typed, typed, tree_of, trees_of, array_of, member_from, scalar}
+use Rattle.glsl_semantics.specs.Shapes.{Shape, Typed, typed, tree_of, trees_of, array_of, member_from, scalar}
 use Rattle.glsl_semantics.specs.Places as places
 use Rattle.glsl_semantics.specs.Places.{Site, part_tree, nth_tree, part_site, site_along, location_of}
 use Rattle.glsl_semantics.specs.States as states
@@ -28,7 +27,7 @@ use Rattle.glsl_semantics.specs.States.{Thing, value, variable, instance, memory
 use Rattle.fits_law.specs.Takes.{nth_of}
 use Rattle.fits_law.specs.State.{element_shape, place_shape}
 use Rattle.type_law.proofs.Places.{part_leads}
-use Rattle.fits_law.proofs.Parts.{EachFits, many_of, each_at, MembersFit, members_of}
+use Rattle.fits_law.proofs.Parts.{many_of, each_at, MembersFit, members_of}
 use Rattle.path_law.specs.Parts.{StructNames, length_in, shape_in, fields_in, IsBelow, IsInside, HasScalars, part_value, IsPart}
 
 bytes_same : (w : Text) → bytes_eq w w ≡ true
@@ -163,10 +162,17 @@ module _ (s : Setting) (y : StructNames) where
     part_is path t u i (variable w way q o) is part inside =
         (variable w (way ++ i ∷ []) (shape_in s y u) (part_of_option o i), refl, (is.0, refl, ap (λ o. part_of_option o i) is.2 ∙ sym (next_value c r path i), is.3, join_ways path way i is.4))
     part_is path t u i (instance place kind members) is part inside = absurd is
-    part_is path t u i (memory at q) is part inside =
-        (memory (part_site (tree_of q) i at) (shape_in s y u), refl,
-        (is.0, is.1, refl, ap (type_tree s.of.globals) (types_more (variable_type s is.0) path (i ∷ [])) ∙ part_leads s (type_along s (variable_type s is.0) path) i t u is.3 part,
-        subst (λ x. HasScalars s y is.0 (path ++ i ∷ []) u (part_site (tree_of x) i at)) (sym is.2) (scalars_inside is.0 path t u at i is.4 part)))
+    part_is path t u i (memory at q) is part inside = (
+      memory (part_site (tree_of q) i at) (shape_in s y u),
+      refl,
+      (
+        is.0,
+        is.1,
+        refl,
+        ap (type_tree s.of.globals) (types_more (variable_type s is.0) path (i ∷ [])) ∙ part_leads s (type_along s (variable_type s is.0) path) i t u is.3 part,
+        subst (λ x. HasScalars s y is.0 (path ++ i ∷ []) u (part_site (tree_of x) i at)) (sym is.2) (scalars_inside is.0 path t u at i is.4 part),
+      ),
+    )
 
     pub shape_is : (path : List ℕ) (t : Tree) (z : Thing) → P path t z → shape_of_thing z ≡ Some (shape_in s y t)
     shape_is path t (value (typed q k)) is = ap (λ a. Some a) is.1
@@ -189,10 +195,13 @@ module _ (s : Setting) (y : StructNames) where
     -- a part by an index
     indexed_shape : (t u : Tree) (i : ℕ) → states.element_shape (Some (shape_in s y t)) i ≡ Some (shape_in s y u) → (path : List ℕ) (z : Thing) → P path t z → element_shape t i ≡ Some u → IsInside s t i → nat_lt i (2 ^ 31) ≡ true → (v : Typed) → index_word v ≡ Some i → (a : Thing) × (element_of z v ≡ Some a) × P (path ++ i ∷ []) u a
     indexed_shape t u i shape path z is part inside low v at =
-        let a = part_is path t u i z is part inside in
-        (a.0, ap (option_and_then (element_at z)) at
-        ∙ (ap (λ (b : Bool). if b then option_and_then (part_at_index z i) (states.element_shape (shape_of_thing z) i) else None) low
-        ∙ (ap (λ o. option_and_then (part_at_index z i) (states.element_shape o i)) (shape_is path t z is) ∙ (ap (option_and_then (part_at_index z i)) shape ∙ a.1))), a.2)
+        let a = part_is path t u i z is part inside in (
+          a.0,
+          ap (option_and_then (element_at z)) at
+              ∙ (ap (λ (b : Bool). if b then option_and_then (part_at_index z i) (states.element_shape (shape_of_thing z) i) else None) low
+              ∙ (ap (λ o. option_and_then (part_at_index z i) (states.element_shape o i)) (shape_is path t z is) ∙ (ap (option_and_then (part_at_index z i)) shape ∙ a.1))),
+          a.2,
+        )
 
     -- which types take an index
     abbrev pub IsIndexed : Tree → Type 0

@@ -1,6 +1,6 @@
 -- The text of a pointer's path stands for the place to which the pointer leads.
-use Rattle.std.proofs.Common.{◌≡◌, ◌<◌, ◌++◌, ℕ, zero, suc, List, [], ◌∷◌, drop, Option, Some, None, inl, inr, refl, sym, ap, ap₂, ◌∙◌, subst, arith}
-use Rattle.std.specs.Prelude.{◌⊎◌, unwrap_or}
+use Rattle.std.proofs.Common.{◌≡◌, ◌<◌, ◌++◌, ℕ, zero, suc, List, [], ◌∷◌, drop, Option, Some, inl, inr, refl, sym, ap, ◌∙◌, subst, arith}
+use Rattle.std.specs.Prelude.{unwrap_or}
 use Rattle.spv_module.specs.declared.inst.Inst.{Inst}
 use Rattle.spv_module.specs.declared.inst.Function.{Function}
 use Rattle.spv_types.specs.Tree.{Tree}
@@ -14,14 +14,14 @@ use Rattle.module_semantics.specs.State.{Root, Conf}
 use Rattle.module_semantics.specs.Operands.{pointer_at}
 use Rattle.name_alloc.specs.declared.claims.Key.{Key}
 use Rattle.access_paths.specs.declared.forms.Step.{Step}
-use Rattle.access_paths.specs.Ways.{Way, base, spot_of, chain_steps, steps_from, start, further, path}
-use Rattle.glsl_ast.specs.Tree.{Text, Expr, name, LStep}
+use Rattle.access_paths.specs.Ways.{Way, base, spot_of, chain_steps, steps_from, path}
+use Rattle.glsl_ast.specs.Tree.{Text, Expr, name}
 use Rattle.glsl_semantics.specs.Shapes.{Typed}
 use Rattle.glsl_semantics.specs.States.{State, Thing}
 use Rattle.glsl_semantics.specs.Expressions.{Program, Argument, named, denote, steps}
 use Rattle.expr_forward.specs.Scope as scope
 use Rattle.expr_forward.specs.Paths as paths
-use Rattle.expr_forward.specs.Paths.{base_text, steps_text, way_text, place_text, place_expr}
+use Rattle.expr_forward.specs.Paths.{base_text, steps_text, place_expr}
 use Rattle.type_law.specs.Shaped.{AreConstants}
 use Rattle.agree_law.specs.Agree.{Naming, Agree}
 use Rattle.path_law.specs.Walks.{writing, struct_names, Walks}
@@ -130,9 +130,9 @@ module _ (p : Program) (calls : Text → List Argument → State → Result (Opt
           type = type_along s q.type q.indexes;
           shape = w.shape;
           walks = subst (λ qs. Walks p calls z (steps_text W (first_type l.begin) qs) l.first w.to) (sym steps_are)
-          (subst (λ ls. Walks p calls z ls l.first w.to) (sym (steps_more p calls z s overrides f key globals right (first_type l.begin) old more))
-          (walks_on p calls z (steps_text W (first_type l.begin) old) (steps_text W (way_type p calls z s overrides f key globals right (first_type l.begin) old) more) l.first l.to w.to l.walks
-          (subst (λ ty. Walks p calls z (steps_text W ty more) l.to w.to) (sym here) w.walks)));
+              (subst (λ ls. Walks p calls z ls l.first w.to) (sym (steps_more p calls z s overrides f key globals right (first_type l.begin) old more))
+              (walks_on p calls z (steps_text W (first_type l.begin) old) (steps_text W (way_type p calls z s overrides f key globals right (first_type l.begin) old) more) l.first l.to w.to l.walks
+              (subst (λ ty. Walks p calls z (steps_text W ty more) l.to w.to) (sym here) w.walks)));
           place = subst (λ l'. IsPlace p calls z s overrides f key globals right apart c (base_text W l.begin) l.from r l' w.shape w.to) (sym q.whole) w.place;
           points_to = q.reaches;
           typed_as = w.typed;

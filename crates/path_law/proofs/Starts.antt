@@ -1,6 +1,6 @@
 -- Where paths begin: the name of a variable stands for it, and that of a block for its members.
 use Rattle.std.proofs.Common.{◌≡◌, ◌<◌, ◌+◌, ◌==◌, ◌++◌, ℕ, zero, suc, Bool, true, false, List, [], ◌∷◌, Option, Some, None, inl, inr, refl, sym, ap, ◌∙◌, subst, arith, if◌then◌else◌}
-use Rattle.std.specs.Prelude.{◌⊎◌, bytes_eq, is_some, find, option_and_then, unwrap_or, slice_index}
+use Rattle.std.specs.Prelude.{◌⊎◌, bytes_eq, is_some, option_and_then, unwrap_or}
 use Rattle.std.specs.Option.{option_map_or}
 use Rattle.std.proofs.lemmas.Slice.Eq.{bytes_eq-Decides}
 use Rattle.spv_ops.specs.Enumerants.{class_number, class_of_number, decoration_number}
@@ -14,39 +14,36 @@ use Rattle.spv_module.specs.declared.inst.Function.{Function}
 use Rattle.spv_types.specs.Tree as plain
 use Rattle.spv_types.specs.Tree.{Tree, Trees, no_trees, tree, ValueTree}
 use Rattle.spv_types.specs.Types.{type_tree}
-use Rattle.spv_decor.specs.Rows.{word, value_of}
+use Rattle.spv_decor.specs.Rows.{word}
 use Rattle.op_semantics.specs.Composite.{extracted}
 use Rattle.layout_rules.specs.declared.Kind.{Kind}
-use Rattle.layout_rules.specs.Blocks.{kind_at}
 use Rattle.profile_rules.specs.declared.given.Given.{Given}
 use Rattle.traces.specs.Events as event
 use Rattle.traces.specs.Outcomes.{Result}
 use Rattle.module_semantics.specs.Setting.{Setting, is_variable, as_variable, global_variable, shared_number}
-use Rattle.module_semantics.specs.Memory.{decorated, member_offset, part_type, bytes_by, bytes_along, variable_type, class_of, location_by, location}
+use Rattle.module_semantics.specs.Memory.{decorated, member_offset, part_type, bytes_by, bytes_along, variable_type, class_of, location_by}
 use Rattle.module_semantics.specs.Memory as module_memory
-use Rattle.module_semantics.specs.State.{Root, global, own, lent, Held, pointer, Frame, Conf, call_at}
-use Rattle.module_semantics.specs.Accesses.{seen, if_seen, seen_if, kept, global_value_by, global_value, input_value}
+use Rattle.module_semantics.specs.State.{Root, global, own, lent, Frame, Conf, call_at}
+use Rattle.module_semantics.specs.Accesses.{seen, if_seen, seen_if, kept, global_value_by, global_value}
 use Rattle.name_alloc.specs.declared.claims.Key.{Key}
 use Rattle.name_alloc.specs.declared.claims.Key.TheVariants.{Id}
-use Rattle.glsl_ast.specs.Tree.{Text, Expr, name}
+use Rattle.glsl_ast.specs.Tree.{Text, Expr}
 use Rattle.glsl_ast.specs.declared.items.BlockPlace.{BlockPlace}
 use Rattle.glsl_ast.specs.declared.items.BlockPlace.TheVariants.{Set, Push}
-use Rattle.glsl_semantics.specs.Shapes.{Shape, Typed, typed, tree_of}
-use Rattle.glsl_semantics.specs.Places.{Site, in_buffer, in_push, in_shared, part_tree, site_along, location_of}
-use Rattle.glsl_semantics.specs.States.{Variable, State, found, found_in, has_in, or_outer, Thing, value, variable, instance, memory, site_at, block_member, member_of}
+use Rattle.glsl_semantics.specs.Shapes.{Typed, typed, tree_of}
+use Rattle.glsl_semantics.specs.Places.{in_buffer, in_push, in_shared, part_tree, site_along, location_of}
+use Rattle.glsl_semantics.specs.States.{Variable, State, found, found_in, has_in, or_outer, Thing, value, variable, instance, memory, site_at, block_member}
 use Rattle.glsl_semantics.specs.Expressions.{Program, Argument, variable_of, named}
-use Rattle.text_rules.specs.Constants.{Source}
-use Rattle.text_rules.specs.Printed.{class}
 use Rattle.text_rules.specs.Declarations.{place_of}
 use Rattle.expr_forward.specs.Scope as scope
 use Rattle.expr_forward.specs.Paths.{name_in, base_text}
 use Rattle.fits_law.specs.Takes.{nth_of}
-use Rattle.fits_law.specs.State.{element_shape, place_shape}
+use Rattle.fits_law.specs.State.{place_shape}
 use Rattle.fits_law.proofs.Steps as fits_steps
 use Rattle.type_law.specs.Shaped.{AreConstants}
 use Rattle.type_law.proofs.Places.{part_leads}
 use Rattle.region_law.proofs.Flags.{in_found}
-use Rattle.agree_law.specs.Agree.{Naming, variable_with, IfPointer, variable_in, root_value, target_value, IsFar, Agree}
+use Rattle.agree_law.specs.Agree.{Naming, variable_with, IfPointer, variable_in, target_value, IsFar, Agree}
 use Rattle.agree_law.proofs.Owned.{own_found}
 use Rattle.agree_law.proofs.Evaluating.{named_is}
 use Rattle.path_law.specs.Parts.{StructNames, shape_in, HasScalars, part_value, IsPart}
@@ -56,7 +53,7 @@ use Rattle.path_law.specs.Starts.{members_in, IsVariable, IsOwn, IsParameter, Is
 use Rattle.path_law.proofs.Bytes.{bytes_in, buffer_along, push_along, bytes_same}
 use Rattle.path_law.proofs.BlockLayouts.{block_laid}
 use Rattle.path_law.proofs.Types.{declared_as}
-use Rattle.path_law.proofs.Walks.{MembersApart, HasMembers, IsPlace}
+use Rattle.path_law.proofs.Walks.{MembersApart, IsPlace}
 
 some_same : {A : Type 0} (a b : A) → Some a ≡ Some b → a ≡ b
 some_same a b e = cc
@@ -269,8 +266,13 @@ module _ (p : Program) (calls : Text → List Argument → State → Result (Opt
         subst (λ a. Started n t a path) (sym is.root) (subst (Started n t (global n)) (sym is.whole) (record {
           to = memory (in_shared (shared_number s n) []) (shape_in s Y t);
           there = ap (named p z) (base_is n is.itself) ∙ outside_is p z (key (Id (id n))) o.0 o.1 ∙ is.thing;
-          place = inl (is.inst, ap (option_and_then seen_if) is.there ∙ ap (if_seen is.inst) (shared_class is.inst is.class), refl, is.typed_as,
-          λ rest leads. ap location_of (shared_along rest (tree_of (shape_in s Y t)) [] (shared_number s n)) ∙ ap (λ a. event.shared (shared_number s a) rest) (sym (variable_named s n is.inst is.there)) ∙ sym (ap (λ q. location_by s is.inst rest (unwrap_or q storage.StorageBuffer)) (shared_class is.inst is.class)));
+          place = inl (
+            is.inst,
+            ap (option_and_then seen_if) is.there ∙ ap (if_seen is.inst) (shared_class is.inst is.class),
+            refl,
+            is.typed_as,
+            λ rest leads. ap location_of (shared_along rest (tree_of (shape_in s Y t)) [] (shared_number s n)) ∙ ap (λ a. event.shared (shared_number s a) rest) (sym (variable_named s n is.inst is.there)) ∙ sym (ap (λ q. location_by s is.inst rest (unwrap_or q storage.StorageBuffer)) (shared_class is.inst is.class)),
+          );
         }))
 
     block_start : (n : ℕ) (t : Tree) (r : Root) (path : List ℕ) → IsBlock p m s W.source key globals n t r path → Started n t r path
@@ -281,13 +283,25 @@ module _ (p : Program) (calls : Text → List Argument → State → Result (Opt
         subst (λ a. Started n t a path) (sym is.root) (subst (Started n t (global n)) (sym is.whole) (record {
           to = instance (place_of W.source is.inst) is.kind (members_in s Y ty 0 is.parts);
           there = ap (named p z) (base_is n is.itself) ∙ outside_is p z (key (Id (id n))) o.0 o.1 ∙ is.thing;
-          place = inr (ty, is.parts, is.shape, is.decorated, λ k u at.
-          let whole : type_tree Gs ty ≡ Some (plain.struct ty is.parts) = is.typed_as ∙ ap (λ a. Some a) is.shape in
-          (memory (site_at (place_of W.source is.inst) is.kind (member_offset s ty k)) (shape_in s Y u),
-          member_in_block s Y (place_of W.source is.inst) is.kind ty (apart ty) is.parts 0 k k u (let none : k ≡ 0 + k = omega arith in none) at,
-          (is.inst, sees, refl, part_leads s ty k (plain.struct ty is.parts) u whole at,
-          member_scalars is.inst ty is.kind k u refl (part_leads s ty k (plain.struct ty is.parts) u whole at) (member_lengths is.parts k u (subst HasLengths is.shape is.lengths) at)
-          (block_laid s is.kind is.inst is.type ty ty is.parts k u is.takes is.type_there whole at) (struct_bytes s ty ty is.parts k whole) is.class)));
+          place = inr (
+            ty,
+            is.parts,
+            is.shape,
+            is.decorated,
+            λ k u at.
+                let whole : type_tree Gs ty ≡ Some (plain.struct ty is.parts) = is.typed_as ∙ ap (λ a. Some a) is.shape in (
+                  memory (site_at (place_of W.source is.inst) is.kind (member_offset s ty k)) (shape_in s Y u),
+                  member_in_block s Y (place_of W.source is.inst) is.kind ty (apart ty) is.parts 0 k k u (let none : k ≡ 0 + k = omega arith in none) at,
+                  (
+                    is.inst,
+                    sees,
+                    refl,
+                    part_leads s ty k (plain.struct ty is.parts) u whole at,
+                    member_scalars is.inst ty is.kind k u refl (part_leads s ty k (plain.struct ty is.parts) u whole at) (member_lengths is.parts k u (subst HasLengths is.shape is.lengths) at)
+                        (block_laid s is.kind is.inst is.type ty ty is.parts k u is.takes is.type_there whole at) (struct_bytes s ty ty is.parts k whole) is.class,
+                  ),
+                ),
+          );
         }))
       where
         seen_by : (v : Inst) → (word v 0 ≡ class_number storage.StorageBuffer) ⊎ ((word v 0 ≡ class_number storage.Uniform) ⊎ (word v 0 ≡ class_number storage.PushConstant)) → seen_if v ≡ Some v

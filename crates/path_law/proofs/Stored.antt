@@ -1,5 +1,5 @@
 -- Stores: what is written sets the part to which the pointer leads, of whichever variable.
-use Rattle.std.proofs.Common.{◌≡◌, ◌≢◌, ◌++◌, ℕ, Bool, true, false, List, [], ◌∷◌, Option, Some, None, inl, inr, refl, sym, ap, ◌∙◌, subst}
+use Rattle.std.proofs.Common.{◌≡◌, ◌≢◌, ◌++◌, ℕ, true, false, List, [], ◌∷◌, Option, Some, None, inl, inr, refl, sym, ap, ◌∙◌, subst}
 use Rattle.std.specs.Prelude.{◌⊎◌, option_and_then}
 use Rattle.std.specs.Option.{option_map_or}
 use Rattle.spv_ops.specs.Enumerants.{class_number, class_of_number}
@@ -15,12 +15,11 @@ use Rattle.traces.specs.Runs.{go, Supplied, supplied}
 use Rattle.traces.specs.Outcomes.{Result, got, or_stuck}
 use Rattle.traces.specs.Simulation.{Follows}
 use Rattle.traces.proofs.Moves.{Never, NeverGives}
-use Rattle.module_semantics.specs.Setting.{Setting, global_variable}
-use Rattle.module_semantics.specs.Memory.{class_of}
-use Rattle.module_semantics.specs.State.{Root, global, own, lent, Held, pointer, Frame, Conf, call_at}
+use Rattle.module_semantics.specs.Setting.{Setting}
+use Rattle.module_semantics.specs.State.{Root, global, lent, pointer, Frame, Conf, call_at}
 use Rattle.module_semantics.specs.Operands.{pointer_at, value_at, Target, arg}
 use Rattle.module_semantics.specs.Accesses.{seen, if_seen, seen_if, kept, global_value_by, global_value, keeping}
-use Rattle.module_semantics.specs.Steps.{StepKind, store, step_kind, advanced}
+use Rattle.module_semantics.specs.Steps.{store, step_kind, advanced}
 use Rattle.name_alloc.specs.declared.claims.Key.{Key}
 use Rattle.name_alloc.specs.declared.claims.Key.TheVariants.{Id}
 use Rattle.access_paths.specs.Ways.{path}
@@ -28,19 +27,19 @@ use Rattle.glsl_ast.specs.Tree.{Text, Expr, assign, LStep, lvalue}
 use Rattle.glsl_semantics.specs.Shapes.{Shape, Typed, typed}
 use Rattle.glsl_semantics.specs.States.{State, Thing, value, variable, instance, memory}
 use Rattle.glsl_semantics.specs.Expressions.{Program, Argument, named, evaluate, steps}
-use Rattle.glsl_semantics.specs.Statements.{Run, stmt_run}
+use Rattle.glsl_semantics.specs.Statements.{stmt_run}
 use Rattle.expr_forward.specs.Scope as scope
 use Rattle.expr_forward.specs.Paths.{name_in, base_text, steps_text}
 use Rattle.type_law.specs.Shaped.{AreConstants}
-use Rattle.agree_law.specs.Agree.{Naming, AreApart, IfPointer, variable_in, root_value, IsFar}
+use Rattle.agree_law.specs.Agree.{Naming, AreApart, IfPointer, variable_in, IsFar}
 use Rattle.agree_law.specs.Blocks.{has_outcome, Stands, At}
 use Rattle.agree_law.specs.Evaluates.{IsKept}
 use Rattle.agree_law.proofs.Machine.{machine}
 use Rattle.agree_law.proofs.Instructions.{Writes}
-use Rattle.agree_law.proofs.Stores.{Storing, IsSet, set_lent, store_own_follows, store_private_follows, store_lent_follows}
-use Rattle.path_law.specs.Parts.{shape_in, IsInput, IsPart}
+use Rattle.agree_law.proofs.Stores.{Storing, set_lent, store_own_follows, store_private_follows, store_lent_follows}
+use Rattle.path_law.specs.Parts.{shape_in, IsInput}
 use Rattle.path_law.specs.Walks.{writing, struct_names}
-use Rattle.path_law.specs.Starts.{IsVariable, IsOwn, IsParameter, IsPrivate, IsBuiltIn, IsShared, IsBlock, IsStart}
+use Rattle.path_law.specs.Starts.{IsVariable, IsOwn, IsParameter, IsPrivate, IsShared, IsBlock, IsStart}
 use Rattle.path_law.proofs.Starts.{variable_named}
 use Rattle.path_law.proofs.Walks.{MembersApart}
 use Rattle.path_law.proofs.Pointers.{first_type, Leads, place_stands}
@@ -62,7 +61,7 @@ same_root None n = refl
 same_root (Some g) n = refl
 
 module _ (p : Program) (calls : Text → List Argument → State → Result (Option Typed × State)) (k : ℕ) (m : Naming) (names : AreApart m) (s : Setting) (Holds : Conf → Type 0) (f : Function) (b : ℕ) (keeps : IsKept (machine s) Holds) (done : List Inst) (i : Inst) (rest : List Inst)
-  (overrides : List (ℕ × Given)) (key : Key → Text) (globals : ℕ → Option Expr) (right : AreConstants s) (c : Supplied Conf) (z : State) (apart : MembersApart p calls z s overrides f key globals right) (stands : Stands m s Holds f b done c z) where
+    (overrides : List (ℕ × Given)) (key : Key → Text) (globals : ℕ → Option Expr) (right : AreConstants s) (c : Supplied Conf) (z : State) (apart : MembersApart p calls z s overrides f key globals right) (stands : Stands m s Holds f b done c z) where
   abbrev W : scope.Setting
   W = writing s overrides f key globals
 
@@ -175,7 +174,7 @@ module _ (p : Program) (calls : Text → List Argument → State → Result (Opt
             (λ (x : IsVariable p m s W.source key globals l.begin l.begins.shape). record {
               old = o;
               place = place_stands p calls z m s overrides f key globals right apart c.at stands.agree.all b n a.0 a.1 l ∙ ap (λ a. got [] (a, z)) there
-              ∙ ap (λ d. got [] (variable d way u o, z)) (part.3 ∙ ap (λ o. option_map_or name_in o (key (Id (id l.begin)))) x.itself ∙ sym x.named) ∙ ap (λ d. got [] (variable (m.name l.begin) way d o, z)) part.1;
+                  ∙ ap (λ d. got [] (variable d way u o, z)) (part.3 ∙ ap (λ o. option_map_or name_in o (key (Id (id l.begin)))) x.itself ∙ sym x.named) ∙ ap (λ d. got [] (variable (m.name l.begin) way d o, z)) part.1;
             }) unseen (g.writable a.0 a.1 is) has had into goes
         by_thing l (instance at kind members) there part = absurd part
         by_thing l (memory at u) there part = absurd (no_some (seen s a.0) part.0 unseen part.1)

@@ -12,21 +12,19 @@ use Rattle.spv_module.specs.declared.inst.Inst.{Inst}
 use Rattle.spv_module.specs.declared.tree.Elem.{Elem}
 use Rattle.spv_module.specs.declared.tree.Length.{Length}
 use Rattle.spv_module.specs.declared.tree.Length.TheVariants.{Fixed, Spec}
-use Rattle.spv_types.specs.declared.kind.TypeKind.{TypeKind}
 use Rattle.spv_types.specs.declared.kind.TypeKind.TheVariants as kinds
 use Rattle.spv_types.specs.Tree as plain
-use Rattle.spv_types.specs.Tree.{Tree, Trees, no_trees, tree, ValueTree, word as word_value}
-use Rattle.spv_types.specs.Types.{kind, elem_of, length_of, length_by, sized_vector, vector_tree, array_tree, both, all_trees, tree_by_kind, tree_before, tree_at, type_tree}
+use Rattle.spv_types.specs.Tree.{Tree, Trees, ValueTree}
+use Rattle.spv_types.specs.Types.{kind, elem_of, length_of, length_by, sized_vector, vector_tree, array_tree, all_trees, tree_by_kind, tree_before, type_tree}
 use Rattle.spv_index.specs.Steps.{constant_word, member_type, step_by, step_type, is_struct}
 use Rattle.op_semantics.specs.Fits.{elem_tree}
 use Rattle.module_semantics.specs.Setting.{Setting}
-use Rattle.module_semantics.specs.Memory.{part_by, part_type, array_length, length_from, parts_by, is_among, is_allowed, are_allowed}
+use Rattle.module_semantics.specs.Memory.{part_by, part_type, array_length, length_from, parts_by, is_among, is_allowed}
 use Rattle.module_semantics.specs.Memory as module_memory
 use Rattle.fits_law.specs.Takes.{nth_of}
 use Rattle.fits_law.specs.State.{element_shape}
 use Rattle.type_law.specs.Shaped.{AreConstants}
 use Rattle.type_law.proofs.Parts.{fixed_word, all_nth}
-use Rattle.type_law.proofs.Places.{part_leads}
 use Rattle.path_law.specs.Parts.{length_in, IsBelow, IsInside}
 use Rattle.path_law.proofs.Bytes.{kind_of, declared_by}
 

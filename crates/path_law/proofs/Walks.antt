@@ -1,12 +1,10 @@
 -- The steps that are written of a chain's indexes lead to the part to which the indexes lead.
-use Rattle.std.proofs.Common.{◌≡◌, ◌<◌, ◌≤◌, ◌==◌, ◌||◌, ◌+◌, ◌++◌, ◌^◌, ℕ, zero, suc, Bool, true, false, List, [], ◌∷◌, length, Option, Some, None, inl, inr, refl, sym, ap, ap₂, ◌∙◌, subst, arith, if◌then◌else◌}
-use Rattle.std.specs.Prelude.{◌⊎◌, ◌&&◌, bytes_eq, is_some, nat_lt, option_map, option_and_then, slice_get, slice_index, unwrap_or}
+use Rattle.std.proofs.Common.{◌≡◌, ◌<◌, ◌≤◌, ◌==◌, ◌||◌, ◌+◌, ◌++◌, ◌^◌, ℕ, Bool, true, false, List, [], ◌∷◌, Option, Some, None, inl, inr, refl, sym, ap, ◌∙◌, subst, arith, if◌then◌else◌}
+use Rattle.std.specs.Prelude.{◌⊎◌, ◌&&◌, bytes_eq, is_some, nat_lt, option_and_then, slice_index}
 use Rattle.std.specs.Option.{option_map_or}
 use Rattle.std.proofs.lemmas.Bool.Decides.{nat_tests}
 use Rattle.spv_ops.specs.Opcode.{is, number}
-use Rattle.spv_ops.specs.declared.Op.{Op}
 use Rattle.spv_ops.specs.declared.Op.TheVariants as code
-use Rattle.spv_module.specs.Held.{global as global_inst}
 use Rattle.spv_module.specs.Lists.{id}
 use Rattle.spv_module.specs.declared.inst.Inst.{Inst}
 use Rattle.spv_module.specs.declared.inst.Function.{Function}
@@ -14,7 +12,7 @@ use Rattle.spv_module.specs.declared.tree.Elem.{Elem}
 use Rattle.spv_types.specs.Tree as plain
 use Rattle.spv_types.specs.Tree.{Tree, Trees}
 use Rattle.spv_types.specs.Types.{type_tree}
-use Rattle.spv_index.specs.Steps.{constant_word, member_type, step_by, step_type, is_struct}
+use Rattle.spv_index.specs.Steps.{constant_word, step_type, is_struct}
 use Rattle.spv_index.specs.BlockStructs.{is_block}
 use Rattle.op_semantics.specs.Fits.{elem_tree}
 use Rattle.profile_rules.specs.declared.given.Given.{Given}
@@ -23,28 +21,28 @@ use Rattle.module_semantics.specs.Setting.{Setting}
 use Rattle.module_semantics.specs.Memory.{part_by, part_type, type_along, is_allowed, are_allowed}
 use Rattle.module_semantics.specs.State.{Root, Conf}
 use Rattle.name_alloc.specs.declared.claims.Key.{Key}
-use Rattle.name_alloc.specs.declared.claims.Key.TheVariants.{Id, Member, Captured}
+use Rattle.name_alloc.specs.declared.claims.Key.TheVariants.{Member, Captured}
 use Rattle.access_paths.specs.declared.forms.Step.{Step}
 use Rattle.access_paths.specs.declared.forms.Step.TheVariants as steps_of
-use Rattle.access_paths.specs.Ways.{Spot, is_constant_index, index_step, member, step, steps_from}
+use Rattle.access_paths.specs.Ways.{Spot, is_constant_index, index_step, step, steps_from}
 use Rattle.glsl_ast.specs.Tree.{Text, Expr, name, LStep}
-use Rattle.glsl_semantics.specs.Shapes.{Shape, Typed, scalar}
-use Rattle.glsl_semantics.specs.States.{State, Thing, member_of, index_word, element_of}
-use Rattle.glsl_semantics.specs.Expressions.{Program, Argument, then_fetch, denote, evaluate, steps}
+use Rattle.glsl_semantics.specs.Shapes.{Typed}
+use Rattle.glsl_semantics.specs.States.{State, Thing, member_of, element_of}
+use Rattle.glsl_semantics.specs.Expressions.{Program, Argument, then_fetch, denote, steps}
 use Rattle.vec_lowering.specs.Component.{axis_name}
 use Rattle.expr_forward.specs.Scope as scope
 use Rattle.expr_forward.specs.Paths as paths
-use Rattle.expr_forward.specs.Paths.{word_at, index_expr, components, vector_size, index_by, captured_text, step_text, part, steps_text, further}
+use Rattle.expr_forward.specs.Paths.{word_at, index_expr, components, vector_size, index_by, step_text, part, steps_text, further}
 use Rattle.fits_law.specs.Takes.{nth_of}
 use Rattle.fits_law.specs.State.{element_shape}
 use Rattle.type_law.specs.Shaped.{AreConstants}
 use Rattle.type_law.proofs.Places.{part_leads}
 use Rattle.lowering_law.proofs.Saying.{on_operand}
 use Rattle.lowering_law.proofs.Components.{axis_part}
-use Rattle.path_law.specs.Parts.{StructNames, shape_in, fields_in, IsInside, IsPart}
+use Rattle.path_law.specs.Parts.{StructNames, shape_in, IsInside, IsPart}
 use Rattle.path_law.specs.Walks.{writing, struct_names, SaysIndex, Walks, IsIndex, AreIndexes, ByConstants}
 use Rattle.path_law.proofs.Parts.{scalar_in, named_is, IsIndexed, indexed_is, member_named}
-use Rattle.path_law.proofs.Types.{IsAllowed, allowed_is, op_of, declared_as, is_struct_shape, struct_by, vector_size_is, struct_number, step_type_is}
+use Rattle.path_law.proofs.Types.{allowed_is, op_of, declared_as, is_struct_shape, struct_by, vector_size_is, struct_number, step_type_is}
 
 some_same : {A : Type 0} (a b : A) → Some a ≡ Some b → a ≡ b
 some_same a b e = cc
@@ -333,7 +331,7 @@ module _ (p : Program) (calls : Text → List Argument → State → Result (Opt
             to = more.to;
             shape = more.shape;
             walks = walks_on (step_text W ty here ∷ []) (steps_text W (paths.step_type W ty here) (steps_from Gs spot (k + 1) (step_type Gs n ty) ns)) a one.to more.to one.walks
-            (subst (λ l. Walks p calls z (steps_text W (paths.step_type W ty here) l) one.to more.to) (sym rest) (subst (λ j. Walks p calls z (steps_text W j (steps_from Gs spot (k + 1) (Some (part_type s ty i)) ns)) one.to more.to) (sym one.type) more.walks));
+                (subst (λ l. Walks p calls z (steps_text W (paths.step_type W ty here) l) one.to more.to) (sym rest) (subst (λ j. Walks p calls z (steps_text W j (steps_from Gs spot (k + 1) (Some (part_type s ty i)) ns)) one.to more.to) (sym one.type) more.walks));
             place = subst (λ l. IsPlace l more.shape more.to) (joined path is i) more.place;
             type = ap (λ l. way_type (paths.step_type W ty here) l) rest ∙ ap (λ j. way_type j (steps_from Gs spot (k + 1) (Some (part_type s ty i)) ns)) one.type ∙ more.type;
             typed = more.typed;

@@ -1,7 +1,6 @@
 -- Where paths begin: what stands in a text for a variable of its module.
 use Rattle.std.specs.Prelude.{◌≡◌, ◌⊎◌, ◌+◌, ℕ, true, List, [], ◌∷◌, Option, Some, None}
 use Rattle.spv_ops.specs.Enumerants.{class_number}
-use Rattle.spv_ops.specs.declared.StorageClass.{StorageClass}
 use Rattle.spv_ops.specs.declared.StorageClass.TheVariants as storage
 use Rattle.spv_module.specs.Held.{global as global_inst}
 use Rattle.spv_module.specs.Lists.{id}
@@ -15,14 +14,14 @@ use Rattle.layout_rules.specs.declared.Kind.{Kind}
 use Rattle.layout_rules.specs.Blocks.{kind_at}
 use Rattle.module_semantics.specs.Setting.{Setting, global_variable, shared_number}
 use Rattle.module_semantics.specs.Memory.{member_offset, variable_type}
-use Rattle.module_semantics.specs.State.{Root, global, own, lent, Held, pointer, Conf}
+use Rattle.module_semantics.specs.State.{Root, global, own, lent, pointer, Conf}
 use Rattle.module_semantics.specs.Accesses.{input_value}
 use Rattle.name_alloc.specs.declared.claims.Key.{Key}
 use Rattle.name_alloc.specs.declared.claims.Key.TheVariants.{Id}
 use Rattle.glsl_ast.specs.Tree.{Text, Expr, name}
 use Rattle.glsl_semantics.specs.Shapes.{Shape, typed}
 use Rattle.glsl_semantics.specs.Places.{in_shared}
-use Rattle.glsl_semantics.specs.States.{Thing, value, instance, memory}
+use Rattle.glsl_semantics.specs.States.{value, instance, memory}
 use Rattle.glsl_semantics.specs.Expressions.{Program}
 use Rattle.text_rules.specs.Declarations.{place_of}
 use Rattle.text_rules.specs.Constants.{Source}

@@ -1,7 +1,6 @@
 -- The steps of a path, as they are written: from what stands before them to a part of it.
 use Rattle.std.specs.Prelude.{◌≡◌, ◌==◌, ◌||◌, ◌+◌, ℕ, true, false, List, [], ◌∷◌, Option, Some, is_some}
 use Rattle.spv_module.specs.Lists.{id}
-use Rattle.spv_module.specs.declared.inst.Inst.{Inst}
 use Rattle.spv_module.specs.declared.inst.Function.{Function}
 use Rattle.spv_index.specs.Steps.{constant_word, is_struct}
 use Rattle.profile_rules.specs.declared.given.Given.{Given}
