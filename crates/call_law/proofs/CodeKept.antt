@@ -75,7 +75,7 @@ module _ (s : Setting) where
   pub code_closed : IsClosed (λ ds f. IsCode s f) s
   code_closed = record {
     passes = λ ds f i rest next c. record { of_module = c.of_module; of_function = code_on f i rest next c };
-    gets = λ ds f i rest v next c. record { of_module = c.of_module; of_function = code_on f i rest next c };
+    gets = λ ds f i rest v next kind c. record { of_module = c.of_module; of_function = code_on f i rest next c };
     leads = λ ds f i rest p indexes ty next kind is have leads allowed c. record { of_module = c.of_module; of_function = code_on f i rest next c };
     declares = λ ds f i rest v next kind has c. record { of_module = c.of_module; of_function = code_on f i rest next c };
     stores = λ ds f n v c. record { of_module = c.of_module; of_function = c.of_function };

@@ -1,5 +1,5 @@
 -- What each instruction keeps of a call, and gives to one that begins, holds of all calls under way at each step.
-use Rattle.std.proofs.Common.{◌≡◌, ◌≤◌, ◌==◌, ℕ, Bool, true, false, List, [], ◌∷◌, ◌++◌, length, drop, Option, Some, None, refl, subst}
+use Rattle.std.proofs.Common.{◌≡◌, ◌≤◌, ◌==◌, ℕ, Bool, true, false, List, [], ◌∷◌, ◌++◌, length, drop, Option, Some, None, refl, ap, subst}
 use Rattle.std.specs.Prelude.{option_and_then, slice_get}
 use Rattle.spv_ops.specs.declared.AtomicOp.{AtomicOp}
 use Rattle.spv_ops.specs.declared.AtomicOp.TheVariants as atomics
@@ -22,7 +22,7 @@ use Rattle.module_semantics.specs.Steps as the
 use Rattle.module_semantics.specs.Steps.{with_some, advanced, set_value, computed, operation_step, lead_if, base, chain_step, length_step, variable_step, read_shape, load_from, load_step, store_to, store_step, atomic_operands, set_found, atomic_step, memory_barriers, memory_barrier_step, control_barrier_step, phis, call_step, return_step, given_to, return_value_step, target_label, phi_value, present_label, edge_step, branch_step, StepKind, step_kind, step_by, act_on, act}
 use Rattle.agree_law.proofs.Stores.{length_with}
 use Rattle.agree_law.proofs.Machine.{machine}
-use Rattle.call_law.specs.Frames.{Waits, AllWait, HoldsOfAll, ActKeeps, IsClosed}
+use Rattle.call_law.specs.Frames.{Waits, AllWait, HoldsOfAll, ActKeeps, makes_pointer, IsClosed}
 
 some_same : {A : Type 0} (a b : A) → Some a ≡ Some b → a ≡ b
 some_same a b e = cc
@@ -42,12 +42,12 @@ module _ (h : ℕ) (J : List (Frame × ℕ) → Frame → Type 0) (s : Setting) 
     passes : Inv c → Inv (advanced c rest)
     passes at = record { top = λ le. closed.passes c.below c.top i rest next (at.top le); below = at.below }
 
-    gets : (v : ValueTree) → Inv c → Inv (set_value c rest i v)
-    gets v at = record { top = λ le. closed.gets c.below c.top i rest v next (at.top le); below = at.below }
+    gets : (v : ValueTree) → makes_pointer (step_kind i.op) ≡ false → Inv c → Inv (set_value c rest i v)
+    gets v kind at = record { top = λ le. closed.gets c.below c.top i rest v next kind (at.top le); below = at.below }
 
-    operation_keeps : Inv c → Keeps (operation_step s c rest i)
+    operation_keeps : makes_pointer (step_kind i.op) ≡ false → Inv c → Keeps (operation_step s c rest i)
     unfolding operation_step
-    operation_keeps at = some_keeps (computed s c.top i) (λ v. goes [] (set_value c rest i v)) (λ v e. gets v at)
+    operation_keeps kind at = some_keeps (computed s c.top i) (λ v. goes [] (set_value c rest i v)) (λ v e. gets v kind at)
 
     led_keeps : (p : Target) (indexes : List ℕ) (ty : ℕ) (t : Bool) → step_kind i.op ≡ the.chain → pointer_at s c.top (base i) ≡ Some p → words_at s c.top (drop 1 i.args) ≡ Some indexes → pointee_of s.of.globals c.top.function (base i) ≡ Some ty → are_allowed s ty indexes ≡ t → Inv c → Keeps (lead_if t c rest i p indexes)
     led_keeps p indexes ty false kind is have leads allowed at = tt
@@ -60,22 +60,22 @@ module _ (h : ℕ) (J : List (Frame × ℕ) → Frame → Type 0) (s : Setting) 
         some_keeps (words_at s c.top (drop 1 i.args)) _ (λ indexes have.
         some_keeps (pointee_of s.of.globals c.top.function (base i)) _ (λ ty leads. led_keeps p indexes ty (are_allowed s ty indexes) kind is have leads refl at)))
 
-    length_keeps : Inv c → Keeps (length_step s c rest i)
+    length_keeps : makes_pointer (step_kind i.op) ≡ false → Inv c → Keeps (length_step s c rest i)
     unfolding length_step
-    length_keeps at = some_keeps (pointer_at s c.top (arg i 0)) _ (λ p e. some_keeps (seen s p.0) _ (λ v is. gets (word (elements s v (arg i 1))) at))
+    length_keeps kind at = some_keeps (pointer_at s c.top (arg i 0)) _ (λ p e. some_keeps (seen s p.0) _ (λ v is. gets (word (elements s v (arg i 1))) kind at))
 
     variable_keeps : step_kind i.op ≡ the.variable → Inv c → Keeps (variable_step s c rest i)
     unfolding variable_step
     variable_keeps kind at = some_keeps (c.top.variables i.result) _ (λ v e. record { top = λ le. closed.declares c.below c.top i rest v next kind e (at.top le); below = at.below })
 
     -- loads
-    loaded_keeps : (p : Target) (o : Option Inst) → Inv c → Keeps (load_from s c rest i p o)
-    loaded_keeps p (Some v) at = some_keeps (shape_along s v p.1) (read_shape s c rest i v p) (λ t e words. gets _ at)
-    loaded_keeps p None at = some_keeps (option_and_then (extracted p.1) (kept s c p.0)) _ (λ v e. gets v at)
+    loaded_keeps : (p : Target) (o : Option Inst) → makes_pointer (step_kind i.op) ≡ false → Inv c → Keeps (load_from s c rest i p o)
+    loaded_keeps p (Some v) kind at = some_keeps (shape_along s v p.1) (read_shape s c rest i v p) (λ t e words. gets _ kind at)
+    loaded_keeps p None kind at = some_keeps (option_and_then (extracted p.1) (kept s c p.0)) _ (λ v e. gets v kind at)
 
-    load_keeps : Inv c → Keeps (load_step s c rest i)
+    load_keeps : makes_pointer (step_kind i.op) ≡ false → Inv c → Keeps (load_step s c rest i)
     unfolding load_step
-    load_keeps at = some_keeps (pointer_at s c.top (arg i 0)) _ (λ p e. loaded_keeps p (seen s p.0) at)
+    load_keeps kind at = some_keeps (pointer_at s c.top (arg i 0)) _ (λ p e. loaded_keeps p (seen s p.0) kind at)
 
   -- stores
   all_with : (depth n : ℕ) (v : ValueTree) (g : Frame) (ds : List (Frame × ℕ)) → AllWait h J ds → call_at depth ds ≡ Some g → AllWait h J (with_call depth (with_variable n v g) ds)
@@ -109,13 +109,13 @@ module _ (h : ℕ) (J : List (Frame × ℕ) → Frame → Type 0) (s : Setting) 
     store_keeps at = some_keeps (pointer_at s c.top (arg i 0)) _ (λ p e. some_keeps (value_at s c.top (arg i 1)) _ (λ v is. stored_keeps p v (seen s p.0) at))
 
     -- atomics and barriers
-    found_keeps : (o : AtomicOp) (words : List ℕ) → Inv c → Inv (set_found c rest i o words)
-    found_keeps atomics.Store words at = passes c rest i next at
-    found_keeps o words at = gets c rest i next _ at
+    found_keeps : (o : AtomicOp) (words : List ℕ) → makes_pointer (step_kind i.op) ≡ false → Inv c → Inv (set_found c rest i o words)
+    found_keeps atomics.Store words kind at = passes c rest i next at
+    found_keeps o words kind at = gets c rest i next _ kind at
 
-    atomic_keeps : (o : AtomicOp) → Inv c → Keeps (atomic_step o s c rest i)
+    atomic_keeps : (o : AtomicOp) → makes_pointer (step_kind i.op) ≡ false → Inv c → Keeps (atomic_step o s c rest i)
     unfolding atomic_step
-    atomic_keeps o at = some_keeps (pointer_at s c.top (arg i 0)) _ (λ p e. some_keeps (seen s p.0) _ (λ v is. some_keeps (atomic_operands o s c.top i) _ (λ operands have words. found_keeps o words at)))
+    atomic_keeps o kind at = some_keeps (pointer_at s c.top (arg i 0)) _ (λ p e. some_keeps (seen s p.0) _ (λ v is. some_keeps (atomic_operands o s c.top i) _ (λ operands have words. found_keeps o words kind at)))
 
     memory_barrier_keeps : Inv c → Keeps (memory_barrier_step s c rest i)
     unfolding memory_barrier_step
@@ -133,7 +133,7 @@ module _ (h : ℕ) (J : List (Frame × ℕ) → Frame → Type 0) (s : Setting) 
         some_keeps (each_one (held s c.top) (drop 1 i.args)) _ (λ hs have.
         record {
           top = λ more. closed.calls c.below c.top i rest g hs next kind is have (at.top le);
-          below = ((λ more. (closed.passes c.below c.top i rest next (at.top le), λ v. closed.gets c.below c.top i rest v next (at.top le))), at.below);
+          below = ((λ more. (closed.passes c.below c.top i rest next (at.top le), λ v. closed.gets c.below c.top i rest v next (ap makes_pointer kind) (at.top le))), at.below);
         }))
 
   return_keeps : (c : Conf) (ds : List (Frame × ℕ)) → AllWait h J ds → Keeps (return_step c ds)
@@ -163,13 +163,13 @@ module _ (h : ℕ) (J : List (Frame × ℕ) → Frame → Type 0) (s : Setting) 
   branch_keeps o c i at = some_keeps (target_label o s c.top i) _ (λ label e. edge_keeps c label at)
 
   steps_keep : (k : StepKind) (c : Conf) (rest : List Inst) (i : Inst) → c.top.rest ≡ i ∷ rest → step_kind i.op ≡ k → h ≤ length c.below → Inv c → Keeps (step_by k s c rest i)
-  steps_keep the.operation c rest i next kind le at = operation_keeps c rest i next at
+  steps_keep the.operation c rest i next kind le at = operation_keeps c rest i next (ap makes_pointer kind) at
   steps_keep the.chain c rest i next kind le at = chain_keeps c rest i next kind at
-  steps_keep the.array_length c rest i next kind le at = length_keeps c rest i next at
+  steps_keep the.array_length c rest i next kind le at = length_keeps c rest i next (ap makes_pointer kind) at
   steps_keep the.variable c rest i next kind le at = variable_keeps c rest i next kind at
-  steps_keep the.load c rest i next kind le at = load_keeps c rest i next at
+  steps_keep the.load c rest i next kind le at = load_keeps c rest i next (ap makes_pointer kind) at
   steps_keep the.store c rest i next kind le at = store_keeps c rest i next at
-  steps_keep (the.atomic o) c rest i next kind le at = atomic_keeps c rest i next o at
+  steps_keep (the.atomic o) c rest i next kind le at = atomic_keeps c rest i next o (ap makes_pointer kind) at
   steps_keep the.memory_barrier c rest i next kind le at = memory_barrier_keeps c rest i next at
   steps_keep the.control_barrier c rest i next kind le at = control_barrier_keeps c rest i next at
   steps_keep the.call c rest i next kind le at = call_keeps c rest i next kind le at

@@ -286,7 +286,7 @@ module _ (s : Setting) (whole : LendsWhole s) where
   pub lending_closed : IsClosed (IsLending s) s
   lending_closed = record {
     passes = λ ds f i rest next at. still_lending ds f (record f { rest = rest }) refl (record { of_module = at.code.of_module; of_function = code_on s f i rest next at.code }) (same_came f) at;
-    gets = λ ds f i rest v next at. still_lending ds f _ refl (record { of_module = at.code.of_module; of_function = code_on s f i rest next at.code }) (put_came f f.ids i.result (value v) (same_came f) (λ r path is. let never : value v ≡ pointer r path = is in cc)) at;
+    gets = λ ds f i rest v next kind at. still_lending ds f _ refl (record { of_module = at.code.of_module; of_function = code_on s f i rest next at.code }) (put_came f f.ids i.result (value v) (same_came f) (λ r path is. let never : value v ≡ pointer r path = is in cc)) at;
     leads = λ ds f i rest p indexes ty next kind is have leads allowed at.
         let how = whole.chains f.function at.code.of_module i (next_of s f i rest next at.code) kind in
         still_lending ds f _ refl (record { of_module = at.code.of_module; of_function = code_on s f i rest next at.code }) (put_came f (without_based f.function i.result f.ids) i.result _ (without_came f i.result) (λ r path is. inr (inl how))) at;

@@ -72,7 +72,7 @@ module _ (s : Setting) (whole : LendsWhole s) (h : ℕ) (g : Function) (given : 
   pub parameters_closed : IsClosed (KeepsParameters s h g given) s
   parameters_closed = record {
     passes = λ ds f i rest next at. kept_so ds f (record f { rest = rest }) (record { of_module = at.code.of_module; of_function = code_on s f i rest next at.code }) refl (λ n on. refl) at;
-    gets = λ ds f i rest v next at. kept_so ds f (record f { rest = rest; ids = put f.ids i.result (value v) }) (record { of_module = at.code.of_module; of_function = code_on s f i rest next at.code }) refl
+    gets = λ ds f i rest v next kind at. kept_so ds f (record f { rest = rest; ids = put f.ids i.result (value v) }) (record { of_module = at.code.of_module; of_function = code_on s f i rest next at.code }) refl
         (λ n on. put_other f.ids i.result n (value v) (other_than f.function n i.result on (result_no f i rest next at.code))) at;
     leads = λ ds f i rest p indexes ty next kind is have leads allowed at. kept_so ds f (record f { rest = rest; ids = put (without_based f.function i.result f.ids) i.result (pointer p.0 _) }) (record { of_module = at.code.of_module; of_function = code_on s f i rest next at.code }) refl
         (λ n on. put_other (without_based f.function i.result f.ids) i.result n _ (other_than f.function n i.result on (result_no f i rest next at.code)) ∙ without_same f i.result n at.code on) at;

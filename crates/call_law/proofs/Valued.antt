@@ -170,7 +170,7 @@ module _ (s : Setting) where
   unfolding entered
   valued_closed = record {
     passes = λ ds f i rest next at. at;
-    gets = λ ds f i rest v next at. put_so (LeadsToSome ds f) f.ids i.result (value v) at tt;
+    gets = λ ds f i rest v next kind at. put_so (LeadsToSome ds f) f.ids i.result (value v) at tt;
     leads = λ ds f i rest p indexes ty next kind is have leads allowed at. put_so (LeadsToSome ds f) (without_based f.function i.result f.ids) i.result (pointer p.0 _) (without_so (LeadsToSome ds f) f i.result at) (target_so (LeadsToSome ds f) s f _ p (held_so (LeadsToSome ds f) s f _ (λ k. tt) at) is);
     declares = λ ds f i rest v next kind has at. put_so (LeadsToSome ds f) f.ids i.result (pointer (own i.result) []) at (v, has);
     stores = λ ds f n v at k. with_some_root (LeadsToSome ds f) (LeadsToSome ds (with_variable n v f)) (stored ds f n v) (f.ids k) (at k);

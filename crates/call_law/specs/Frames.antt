@@ -1,5 +1,5 @@
 -- What holds of each call under way, whatever it does next.
-use Rattle.std.specs.Prelude.{◌≡◌, ◌≤◌, ℕ, true, List, ◌++◌, [], ◌∷◌, length, map, drop, Some, slice_get}
+use Rattle.std.specs.Prelude.{◌≡◌, ◌≤◌, ℕ, Bool, true, false, List, ◌++◌, [], ◌∷◌, length, map, drop, Some, slice_get}
 use Rattle.spv_module.specs.declared.inst.Inst.{Inst}
 use Rattle.spv_module.specs.declared.inst.Block.{Block}
 use Rattle.spv_module.specs.declared.inst.Function.{Function}
@@ -13,7 +13,7 @@ use Rattle.module_semantics.specs.Setting.{Setting}
 use Rattle.module_semantics.specs.Memory.{are_allowed}
 use Rattle.module_semantics.specs.State.{own, Held, value, pointer, Frame, Conf, put, call_at, with_call, with_variable}
 use Rattle.module_semantics.specs.Operands.{held, pointer_at, Target, arg, words_at}
-use Rattle.module_semantics.specs.Steps.{chain, variable, call, step_kind, base, without_based, phis, behind_phis, passed, entered, phi_value, present_label, with_phis}
+use Rattle.module_semantics.specs.Steps.{StepKind, chain, variable, call, step_kind, base, without_based, phis, behind_phis, passed, entered, phi_value, present_label, with_phis}
 
 -- J: of a call, and of those below it; where at least h calls stand below that one
 module _ (h : ℕ) (J : List (Frame × ℕ) → Frame → Type 0) where
@@ -36,12 +36,18 @@ module _ (h : ℕ) (J : List (Frame × ℕ) → Frame → Type 0) where
   ActKeeps stops = Unit {0}
   ActKeeps fails = Unit {0}
 
+-- its result is a pointer
+abbrev pub makes_pointer : StepKind → Bool
+makes_pointer chain = true
+makes_pointer variable = true
+makes_pointer _ = false
+
 -- J: of a call, and of those below it
 module _ (J : List (Frame × ℕ) → Frame → Type 0) where
   -- each change that an instruction makes of a call keeps it, and a call that begins has it: where the instruction is the next one
   pub record IsClosed (s : Setting) : Type 0 where
     pub passes : (ds : List (Frame × ℕ)) (f : Frame) (i : Inst) (rest : List Inst) → f.rest ≡ i ∷ rest → J ds f → J ds (record f { rest = rest })
-    pub gets : (ds : List (Frame × ℕ)) (f : Frame) (i : Inst) (rest : List Inst) (v : ValueTree) → f.rest ≡ i ∷ rest → J ds f → J ds (record f { rest = rest; ids = put f.ids i.result (value v) })
+    pub gets : (ds : List (Frame × ℕ)) (f : Frame) (i : Inst) (rest : List Inst) (v : ValueTree) → f.rest ≡ i ∷ rest → makes_pointer (step_kind i.op) ≡ false → J ds f → J ds (record f { rest = rest; ids = put f.ids i.result (value v) })
     pub leads : (ds : List (Frame × ℕ)) (f : Frame) (i : Inst) (rest : List Inst) (p : Target) (indexes : List ℕ) (ty : ℕ) → f.rest ≡ i ∷ rest → step_kind i.op ≡ chain → pointer_at s f (base i) ≡ Some p → words_at s f (drop 1 i.args) ≡ Some indexes → pointee_of s.of.globals f.function (base i) ≡ Some ty → are_allowed s ty indexes ≡ true
         → J ds f → J ds (record f { rest = rest; ids = put (without_based f.function i.result f.ids) i.result (pointer p.0 (p.1 ++ indexes)) })
     pub declares : (ds : List (Frame × ℕ)) (f : Frame) (i : Inst) (rest : List Inst) (v : ValueTree) → f.rest ≡ i ∷ rest → step_kind i.op ≡ variable → f.variables i.result ≡ Some v → J ds f → J ds (record f { rest = rest; ids = put f.ids i.result (pointer (own i.result) []) })
