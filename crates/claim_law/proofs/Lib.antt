@@ -1,3 +1,5 @@
 pub mod Listed
 pub mod Keys
 pub mod Named
+pub mod Words
+pub mod Apart
