@@ -11,11 +11,16 @@ use Rattle.glsl_ast.specs.Tree.{Text}
 use Rattle.agree_law.specs.Agree.{Naming, is_named, AreApart, IsOther}
 use Rattle.claim_law.specs.Apart.{IsOutside, AreOfKeys, is_flow}
 
+abbrev number_in : Key → ℕ
+number_in (Id n) = n.0
+number_in (Captured q k) = q.0
+number_in _ = 0
+
 same_number : (a b : ℕ) → Id (id a) ≡ Id (id b) → a ≡ b
-same_number a b e = cc
+same_number a b e = ap number_in e
 
 same_chain : (q k r l : ℕ) → Captured (id q) k ≡ Captured (id r) l → q ≡ r
-same_chain q k r l e = cc
+same_chain q k r l e = ap number_in e
 
 same_index : (q k r l : ℕ) → Captured (id q) k ≡ Captured (id r) l → k ≡ l
 same_index q k r l e = cc

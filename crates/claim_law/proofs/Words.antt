@@ -32,7 +32,7 @@ none_of (row ∷ rows) w barred free = by_test (bytes_eq w row.0) refl (is_barre
     either_off true b on off e = cc
     either_off false true on off e = cc
 
-    by_test : (b : Bool) → bytes_eq w row.0 ≡ b → (r : Bool) → is_barred row ≡ r → (r && list_all is_barred rows) ≡ true → (list_all is_barred rows ≡ true → IsFree w → token_in rows w ≡ None) → elim b [ true ↦ Some row.1 | false ↦ token_in rows w ] ≡ None
+    by_test : (b : Bool) → bytes_eq w row.0 ≡ b → (r : Bool) → is_barred row ≡ r → (r && list_all is_barred rows) ≡ true → (list_all is_barred rows ≡ true → IsFree w → token_in rows w ≡ None) → elim b as (λ b. Option Token) [ true ↦ Some row.1 | false ↦ token_in rows w ] ≡ None
     by_test b same false is e later = cc
     by_test false same true is e later = later e free
     by_test true same true is e later =
