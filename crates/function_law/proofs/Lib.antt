@@ -1,3 +1,7 @@
 pub mod EdgePairs
 pub mod Selectors
 pub mod Firsts
+pub mod UnderWay
+pub mod Passing
+pub mod Beginning
+pub mod Returned

@@ -1,1 +1,3 @@
 pub mod Edges
+pub mod UnderWay
+pub mod Passed

@@ -1,0 +1,68 @@
+-- What a call passes to the parameters of a function, in the module and in the text.
+use Rattle.std.specs.Prelude.{◌≡◌, ◌≢◌, ◌⊎◌, ℕ, true, false, List, [], ◌∷◌, Option, Some}
+use Rattle.spv_module.specs.declared.inst.Id.{Id}
+use Rattle.spv_module.specs.declared.inst.Function.{Function}
+use Rattle.spv_types.specs.Tree.{ValueTree}
+use Rattle.profile_rules.specs.MemoryRules.{is_own_memory}
+use Rattle.module_semantics.specs.State.{Root, Held, value, pointer, Conf}
+use Rattle.glsl_ast.specs.Tree.{Text, Param, param}
+use Rattle.glsl_semantics.specs.Shapes.{typed}
+use Rattle.glsl_semantics.specs.States.{variable}
+use Rattle.glsl_semantics.specs.Expressions.{Argument}
+use Rattle.agree_law.specs.Agree.{Naming, target_value}
+use Rattle.call_law.specs.Known.{is_parameter}
+
+-- the names of variables are those of a function's own variables, and those of pointer parameters of its parameters
+pub record NamesMemory (m : Naming) (f : Function) : Type 0 where
+  pub variables : (n : ℕ) → m.is_variable n ≡ true → (is_own_memory f n ≡ true) × (is_parameter f n ≡ false)
+  pub lents : (n : ℕ) → m.is_lent n ≡ true → is_parameter f n ≡ true
+
+-- what stands outside of functions has the same names in both
+pub record ShareNames (m other : Naming) : Type 0 where
+  pub privates : (n : ℕ) → m.is_private n ≡ true → (other.is_private n ≡ true) × (other.name n ≡ m.name n) × (other.shape n ≡ m.shape n)
+  pub outside : (x : Text) → m.is_outside x ≡ true → other.is_outside x ≡ true
+
+-- the ids have these, one by one
+abbrev pub IsArgument : ℕ → Held → List ℕ → List Held → Type 0
+IsArgument n h (k ∷ ns) (g ∷ hs) = ((k ≡ n) × (g ≡ h)) ⊎ IsArgument n h ns hs
+IsArgument n h _ _ = ⊥
+
+-- m: of the caller, in this state; other: of the function that is called
+module _ (m other : Naming) (c : Conf) where
+  -- a parameter stands for a variable of the caller, or for a pointer parameter of it, and has the value to which that leads
+  pub record IsLentAs (p n : ℕ) (r : Root) (path : List ℕ) (w : Text) (a : Argument) : Type 0 where
+    pub name : w ≡ other.name p
+    pub lent : other.is_lent p ≡ true
+    pub shape : other.shape p ≡ m.shape n
+    pub kind : (m.is_variable n ≡ true) ⊎ (m.is_lent n ≡ true)
+    pub old : Option ValueTree
+    pub place : a.0 ≡ variable (m.name n) [] (m.shape n) old
+    pub value : ValueTree
+    pub says : a.1 ≡ typed (other.shape p) value
+    pub has : target_value c r path ≡ Some value
+
+  -- or it has a value
+  pub record IsGivenAs (p : ℕ) (v : ValueTree) (w : Text) (a : Argument) : Type 0 where
+    pub name : w ≡ other.name p
+    pub outer : other.is_outer p ≡ true
+    pub says : a.1 ≡ typed (other.shape p) v
+
+  abbrev pub IsPassed : ℕ → ℕ → Held → Param → Argument → Type 0
+  IsPassed p n (value v) (param false t w) a = IsGivenAs p v w a
+  IsPassed p n (pointer r path) (param true t w) a = IsLentAs p n r path w a
+  IsPassed p n _ _ a = ⊥
+
+  -- the parameters, the ids of the arguments and what these have, and in the text the parameters and what the arguments stand for
+  abbrev pub ArePassed : List (Id × Id) → List ℕ → List Held → List Param → List Argument → Type 0
+  ArePassed [] [] [] [] [] = Unit {0}
+  ArePassed (p ∷ ps) (n ∷ ns) (h ∷ hs) (q ∷ qs) (a ∷ as') = IsPassed p.0.0 n h q a × ArePassed ps ns hs qs as'
+  ArePassed _ _ _ _ _ = ⊥
+
+-- each parameter's id is that of one
+abbrev pub IsNoId : ℕ → List (Id × Id) → Type 0
+IsNoId n [] = Unit {0}
+IsNoId n (p ∷ ps) = (p.0.0 ≢ n) × IsNoId n ps
+
+abbrev pub AreOnceIds : List (Id × Id) → Type 0
+AreOnceIds [] = Unit {0}
+AreOnceIds (p ∷ ps) = IsNoId p.0.0 ps × AreOnceIds ps
