@@ -6,4 +6,5 @@ pub mod Regions
 pub mod Functions
 pub mod Items
 pub mod Shapes
+pub mod Nested
 pub mod Unit

@@ -1,7 +1,8 @@
 -- The text of a module is at most 1,003 high, where its types and functions are shallow.
-use Rattle.std.proofs.Common.{◌≡◌, ◌≤◌, ◌+◌, ℕ, Bool, true, false, List, [], ◌∷◌, ◌++◌, Option, Some, None, find, map, max, refl, sym, ◌∙◌, ap, subst, arith, if◌then◌else◌}
-use Rattle.std.specs.Prelude.{flat_map, option_and_then, option_to_list}
+use Rattle.std.proofs.Common.{◌≡◌, ◌<◌, ◌≤◌, ◌+◌, ℕ, zero, suc, Bool, true, false, List, [], ◌∷◌, ◌++◌, Option, Some, None, filter, find, length, map, max, refl, sym, ◌∙◌, ap, subst, arith, if◌then◌else◌}
+use Rattle.std.specs.Prelude.{Contains, flat_map, option_and_then, option_to_list}
 use Rattle.std.specs.List.{AllZip}
+use Rattle.std.proofs.lemmas.List.Elements.{All-contains}
 use Rattle.spv_ops.specs.declared.Op.{Op}
 use Rattle.spv_module.specs.State.{ModuleState}
 use Rattle.spv_module.specs.Held.{global}
@@ -11,6 +12,10 @@ use Rattle.spv_module.specs.declared.inst.Function.{Function}
 use Rattle.spv_types.specs.Tree.{Tree}
 use Rattle.conformance.specs.Rules.{Options}
 use Rattle.module_check.specs.Judged.{IsFine}
+use Rattle.module_check.specs.Structure.{IsStructured}
+use Rattle.structure_rules.specs.Graph.{graph}
+use Rattle.structure_rules.specs.Structure.{IsTooDeep}
+use Rattle.nest_place.specs.Nests.{IsSound}
 use Rattle.use_chains.specs.Links.{Link}
 use Rattle.vec_lowering.specs.Depth.{depth, deepest_argument, highest_argument}
 use Rattle.vec_lowering.proofs.Heights.{height-lowered_vector}
@@ -24,7 +29,7 @@ use Rattle.expr_forward.specs.Scope.{Scope, Argument}
 use Rattle.expr_forward.specs.Context.{operand}
 use Rattle.function_text.specs.Functions.{FunctionPlan, function_decl, written}
 use Rattle.emit_glsl.specs.Translation.{Naming, id_text, global_expr, scope_of, IsPlanOf}
-use Rattle.emit_glsl.specs.Unit.{has_id, plan_at, in_order, called, source_of, reached_of, item_names_of, unit_text, IsUnitOf}
+use Rattle.emit_glsl.specs.Unit.{has_id, plan_at, in_order, is_called, called, source_of, reached_of, item_names_of, unit_text, IsUnitOf}
 use Rattle.emit_glsl.specs.Text.{most_height}
 use Rattle.height_law.specs.Shallow.{IsShallow, IsShallowFunction, most_nested}
 use Rattle.height_law.specs.Nest.{nest}
@@ -32,6 +37,7 @@ use Rattle.height_law.proofs.Lists.{within, append-le}
 use Rattle.height_law.proofs.Functions.{constant-le, function-le}
 use Rattle.height_law.proofs.Items.{calculated-le, items-le}
 use Rattle.height_law.proofs.Shapes.{shapes-le}
+use Rattle.height_law.proofs.Nested.{nest-le}
 
 -- what is read of a global
 by_test-le : (s : Source) (ids : ℕ → Text) (g : Inst) (a b : Bool) (t : Text) (e : Expr) → (if a then Some (constant_expr s ids g) else (if b then Some (name t) else None)) ≡ Some e → height e ≤ 3
@@ -85,25 +91,54 @@ module _ (s : Source) (found : Naming) (shapes : (ty : ℕ) → depth (shape_at 
   plan-low : (f : Function) (p : FunctionPlan) → IsPlanOf s found f p → IsShallowFunction s.of.globals f → nest p.region ≤ most_nested → decl_height (function_decl p) ≤ 1003
   plan-low f p plan low few = function-le p (subst IsShallow (sym plan.scope_is) (scope-shallow s found f plan.links shapes low)) few
 
-  plans-low : (fs : List Function) (ps : List FunctionPlan) → AllZip (IsPlanOf s found) fs ps → ((f : Function) (p : FunctionPlan) → IsPlanOf s found f p → IsShallowFunction s.of.globals f × (nest p.region ≤ most_nested)) → AllLow ps
-  plans-low [] [] planned each = tt
-  plans-low [] (p ∷ ps) planned each = absurd planned
-  plans-low (f ∷ fs) [] planned each = absurd planned
-  plans-low (f ∷ fs) (p ∷ ps) planned each = let one = each f p planned.0 in (plan-low f p planned.0 one.0 one.1, plans-low fs ps planned.1 each)
-
--- the law: it asks that types are at most 15 deep, and of each function that is planned that its paths are short, and constructs not too deep in one another
-pub unit-low : (m : ModuleState) (o : Options) (unit : TranslationUnit) (u : IsUnitOf m o unit) → ((ty : ℕ) → depth (shape_at (source_of m o u.entry) ty) ≤ 15)
-    → ((f : Function) (p : FunctionPlan) → IsPlanOf (source_of m o u.entry) (name_of u.claimed) f p → IsShallowFunction m.globals f × (nest p.region ≤ most_nested)) → unit_height unit ≤ 1003
-unit-low m o unit u shapes each =
+-- the items and the functions
+unit-of-low : (m : ModuleState) (o : Options) (unit : TranslationUnit) (u : IsUnitOf m o unit) → ((ty : ℕ) → depth (shape_at (source_of m o u.entry) ty) ≤ 15) → AllLow u.plans → unit_height unit ≤ 1003
+unit-of-low m o unit u shapes plans =
     let s : Source = source_of m o u.entry in
     let found : Naming = name_of u.claimed in
-    let plans = plans-low s found shapes (called u.order m.functions) u.plans u.planned each in
     subst (λ x. unit_height x ≤ 1003) (sym u.unit_is)
     (append-le decl_height (declarations s (reached_of s u.plans) (item_names_of s found)) (map function_decl (in_order u.order u.plans)) 1003
     (within _ _ _ (items-le s shapes (item_names_of s found) (calculated-le s shapes found (id_text found)) (reached_of s u.plans)) (omega arith))
     (decls-le (in_order u.order u.plans) (order-low u.order u.plans plans)))
 
--- so the text of a module that is not refused is low enough, where no global has the result 0
-pub text-low : (m : ModuleState) (o : Options) (unit : TranslationUnit) → IsFine m o → global m.globals 0 ≡ None → (u : IsUnitOf m o unit)
-    → ((f : Function) (p : FunctionPlan) → IsPlanOf (source_of m o u.entry) (name_of u.claimed) f p → IsShallowFunction m.globals f × (nest p.region ≤ most_nested)) → unit_height unit ≤ most_height
-text-low m o unit fine none u each = within _ _ _ (unit-low m o unit u (shapes-le m.globals none fine.typed.within) each) (omega arith)
+-- what holds of all functions of a module holds of those that are planned
+abbrev EachIs : (Function → Type 0) → List Function → Type 0
+EachIs P [] = Unit {0}
+EachIs P (f ∷ fs) = P f × EachIs P fs
+
+each-of : (P : Function → Type 0) (fs : List Function) → ((f : Function) → Contains fs f → P f) → EachIs P fs
+each-of P [] each = tt
+each-of P (f ∷ fs) each = (each f (zero, omega arith, refl), each-of P fs (λ g there. each g (suc there.0, (let less : there.0 < length fs = there.1 in omega (arith, less)), there.2)))
+
+each-filter : (P : Function → Type 0) (test : Function → Bool) (fs : List Function) → EachIs P fs → EachIs P (filter test fs)
+each-filter P test [] each = tt
+each-filter P test (f ∷ fs) each = by_test (test f) (each-filter P test fs each.1)
+  where
+    by_test : (b : Bool) → EachIs P (filter test fs) → EachIs P (if b then f ∷ filter test fs else filter test fs)
+    by_test true rest = (each.0, rest)
+    by_test false rest = rest
+
+-- a function whose paths are short, and whose blocks have their places
+pub record IsFit (m : ModuleState) (f : Function) : Type 0 where
+  pub shallow : IsShallowFunction m.globals f
+  pub sound : IsSound (graph f)
+
+module _ (m : ModuleState) (s : Source) (found : Naming) (shapes : (ty : ℕ) → depth (shape_at s ty) ≤ 15) (same : s.of ≡ m) where
+  fit-low : (f : Function) (p : FunctionPlan) → IsPlanOf s found f p → IsFit m f → (IsTooDeep (graph f) → ⊥) → decl_height (function_decl p) ≤ 1003
+  fit-low f p plan fit shallow = plan-low s found shapes f p plan (subst (λ (x : ModuleState). IsShallowFunction x.globals f) (sym same) fit.shallow) (nest-le f p.region fit.sound shallow plan.tree)
+
+  fits-low : (fs : List Function) (ps : List FunctionPlan) → AllZip (IsPlanOf s found) fs ps → EachIs (λ f. IsFit m f × (IsTooDeep (graph f) → ⊥)) fs → AllLow ps
+  fits-low [] [] planned each = tt
+  fits-low [] (p ∷ ps) planned each = absurd planned
+  fits-low (f ∷ fs) [] planned each = absurd planned
+  fits-low (f ∷ fs) (p ∷ ps) planned each = (fit-low f p planned.0 each.0.0 each.0.1, fits-low fs ps planned.1 each.1)
+
+-- So the text of a module that is not refused is low enough, where no global has the result 0, the paths of its functions are short, and their blocks have places.
+pub text-low : (m : ModuleState) (o : Options) (unit : TranslationUnit) → IsFine m o → global m.globals 0 ≡ None → ((f : Function) → Contains m.functions f → IsFit m f) → IsUnitOf m o unit → unit_height unit ≤ most_height
+text-low m o unit fine none fit u =
+    let s : Source = source_of m o u.entry in
+    let found : Naming = name_of u.claimed in
+    let shapes = shapes-le m.globals none fine.typed.within in
+    let each : EachIs (λ f. IsFit m f × (IsTooDeep (graph f) → ⊥)) m.functions = each-of (λ f. IsFit m f × (IsTooDeep (graph f) → ⊥)) m.functions (λ f there. (fit f there, (All-contains IsStructured m.functions f fine.later.structure there).shallow)) in
+    let plans = fits-low m s found shapes refl (called u.order m.functions) u.plans u.planned (each-filter (λ f. IsFit m f × (IsTooDeep (graph f) → ⊥)) (is_called u.order) m.functions each) in
+    within _ _ _ (unit-of-low m o unit u shapes plans) (omega arith)
