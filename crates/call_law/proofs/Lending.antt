@@ -54,7 +54,7 @@ pub no_parameter : (f : Function) (n : ℕ) → is_own_memory f n ≡ false → 
 no_parameter f n off = left_false (is_parameter f n) _ off
 
 -- what is no parameter gets no argument
-none_given : (ps : List (Id × Id)) (hs : List Held) (n : ℕ) → is_some (option_map (λ (p : Id × Id). p.1.0) (find (λ (p : Id × Id). p.0.0 == n) ps)) ≡ false → argument_of ps hs n ≡ None
+pub none_given : (ps : List (Id × Id)) (hs : List Held) (n : ℕ) → is_some (option_map (λ (p : Id × Id). p.1.0) (find (λ (p : Id × Id). p.0.0 == n) ps)) ≡ false → argument_of ps hs n ≡ None
 none_given [] hs n off = refl
 none_given (p ∷ ps) [] n off = refl
 none_given (p ∷ ps) (h ∷ hs) n off = by_test (p.0.0 == n) off (none_given ps hs n)

@@ -8,3 +8,5 @@ pub mod Starts
 pub mod Pointers
 pub mod Accesses
 pub mod Stored
+mod Examples
+pub mod Based

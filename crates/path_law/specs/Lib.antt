@@ -3,3 +3,4 @@ pub mod Laid
 pub mod Walks
 pub mod Starts
 pub mod Pointers
+pub mod Chains

@@ -1,0 +1,167 @@
+-- What is asked of where paths begin, met by computing: of a module that reads an element of a buffer by a built-in variable, and of what is declared for it.
+use Rattle.std.proofs.Common.{◌≡◌, ◌++◌, ℕ, Bool, true, false, List, [], ◌∷◌, Option, Some, None, inl, refl}
+use Rattle.std.specs.Prelude.{codes, bytes_eq, slice_index_or, if◌then◌else◌, ◌==◌, ◌||◌}
+use Rattle.spv_ops.specs.declared.Op.{Op}
+use Rattle.spv_ops.specs.declared.Op.TheVariants as code
+use Rattle.spv_ops.specs.Opcode.{op_of, number}
+use Rattle.spv_ops.specs.Shape.{shape}
+use Rattle.spv_ops.specs.Operands.{is_id}
+use Rattle.spv_ops.specs.OpGroups.{group_of}
+use Rattle.spv_module.specs.Lists.{module_of, id}
+use Rattle.spv_module.specs.Inst.{known}
+use Rattle.spv_module.specs.Kinds.{kind_of_opcode, kind_of_op}
+use Rattle.spv_module.specs.State.{ModuleState}
+use Rattle.spv_module.specs.declared.inst.Inst.{Inst}
+use Rattle.spv_module.specs.declared.inst.Function.{Function}
+use Rattle.spv_decor.specs.Rows.{key_of}
+use Rattle.spv_types.specs.Tree as plain
+use Rattle.spv_types.specs.Tree.{Tree, tree, no_trees, word, many, values_in}
+use Rattle.spv_types.specs.Types.{kind, below}
+use Rattle.spv_module.specs.declared.tree.Elem.TheVariants as elem
+use Rattle.layout_rules.specs.declared.Kind.TheVariants.{Std430}
+use Rattle.layout_rules.specs.Sizes.{aligned}
+use Rattle.layout_rules.specs.Rules.{breaks}
+use Rattle.layout_rules.specs.Blocks.{member_breaks, members_break}
+use Rattle.profile_rules.specs.Constants.{constant_kind}
+use Rattle.traces.specs.Invocations.{Invocation}
+use Rattle.module_semantics.specs.Setting.{Setting, setting}
+use Rattle.module_semantics.specs.State.{global}
+use Rattle.name_alloc.specs.declared.claims.Key.{Key}
+use Rattle.name_alloc.specs.declared.claims.Key.TheVariants.{Main, Id, Block, Member, Again, Leave, Fell, Captured, Spare}
+use Rattle.access_paths.specs.declared.forms.Step.TheVariants as steps
+use Rattle.access_paths.specs.Ways.{path}
+use Rattle.glsl_ast.specs.Tree.{Text, Expr, name, literal, Decl}
+use Rattle.glsl_ast.specs.declared.expressions.Literal.TheVariants.{Uint}
+use Rattle.glsl_semantics.specs.Shapes.{uint}
+use Rattle.glsl_semantics.specs.Items.{declared_by}
+use Rattle.glsl_semantics.specs.Expressions.{Program}
+use Rattle.text_rules.specs.Constants.{Source}
+use Rattle.text_rules.specs.Printed.{Reached}
+use Rattle.text_rules.specs.Declarations.{Names, declarations}
+use Rattle.vec_lowering.specs.Component.{axis_name}
+use Rattle.expr_forward.specs.Paths.{place_expr, literal_word}
+use Rattle.agree_law.specs.Agree.{Naming}
+use Rattle.path_law.specs.Walks.{writing}
+use Rattle.path_law.specs.Starts.{IsBuiltIn, IsBlock}
+
+unfoldable opened : Unit {0}
+unfolding shape op_of number known is_id kind_of_opcode kind_of_op key_of kind below constant_kind group_of aligned breaks member_breaks members_break declared_by literal_word axis_name
+opened = tt
+
+-- %2 the built-in variable, %5 the buffer, a block of the struct %3 with a runtime array of uint; %17 and %19 chains, %18 a load
+abbrev words : List ℕ
+words =
+    0x07230203 ∷ 0x10300 ∷ 0 ∷ 0x16 ∷ 0 ∷ 0x20011 ∷ 1 ∷ 0x3000E ∷ 0 ∷ 1 ∷ 0x6000F ∷ 5 ∷ 1 ∷ 0x6E69616D ∷ 0 ∷ 2 ∷
+    0x60010 ∷ 1 ∷ 0x11 ∷ 0x40 ∷ 1 ∷ 1 ∷ 0x40047 ∷ 2 ∷ 0xB ∷ 0x1C ∷ 0x30047 ∷ 3 ∷ 2 ∷ 0x50048 ∷ 3 ∷ 0 ∷ 0x23 ∷ 0 ∷
+    0x40047 ∷ 4 ∷ 6 ∷ 4 ∷ 0x40047 ∷ 5 ∷ 0x22 ∷ 0 ∷ 0x40047 ∷ 5 ∷ 0x21 ∷ 0 ∷ 0x20013 ∷ 6 ∷ 0x30021 ∷ 7 ∷ 6 ∷
+    0x40015 ∷ 8 ∷ 0x20 ∷ 0 ∷ 0x40017 ∷ 9 ∷ 8 ∷ 3 ∷ 0x40020 ∷ 0xA ∷ 1 ∷ 9 ∷ 0x4003B ∷ 0xA ∷ 2 ∷ 1 ∷ 0x40020 ∷ 0xB ∷ 1 ∷ 8 ∷
+    0x3001D ∷ 4 ∷ 8 ∷ 0x3001E ∷ 3 ∷ 4 ∷ 0x40020 ∷ 0xC ∷ 0xC ∷ 3 ∷ 0x4003B ∷ 0xC ∷ 5 ∷ 0xC ∷ 0x40020 ∷ 0xD ∷ 0xC ∷ 8 ∷
+    0x4002B ∷ 8 ∷ 0xE ∷ 0 ∷ 0x4002B ∷ 8 ∷ 0xF ∷ 1 ∷ 0x50036 ∷ 6 ∷ 1 ∷ 0 ∷ 7 ∷ 0x200F8 ∷ 0x10 ∷ 0x50041 ∷ 0xB ∷ 0x11 ∷ 2 ∷ 0xE ∷
+    0x4003D ∷ 8 ∷ 0x12 ∷ 0x11 ∷ 0x60041 ∷ 0xD ∷ 0x13 ∷ 5 ∷ 0xE ∷ 0x12 ∷ 0x4003D ∷ 8 ∷ 0x14 ∷ 0x13 ∷
+    0x50080 ∷ 8 ∷ 0x15 ∷ 0x14 ∷ 0xF ∷ 0x3003E ∷ 0x13 ∷ 0x15 ∷ 0x100FD ∷ 0x10038 ∷ []
+
+abbrev m : ModuleState
+m = module_of words
+
+abbrev invocation : Invocation
+invocation = record {
+  num_workgroups = (1, 1, 1);
+  workgroup_id = (0, 0, 0);
+  local_invocation_id = (3, 0, 0);
+  global_invocation_id = (3, 0, 0);
+  local_invocation_index = 3;
+  buffer_bytes = λ set binding. 32;
+  specialization = λ n. None;
+}
+
+abbrev s : Setting
+s = setting m 1 [] invocation
+
+-- names by ids, as a letter and a number, and of members
+abbrev key : Key → Text
+key (Id n) = codes "v" ++ n.0 ∷ []
+key (Member n k) = codes "m" ++ k ∷ []
+key _ = []
+
+abbrev globals : ℕ → Option Expr
+globals n = if n == 2 then Some (name (codes "gl_GlobalInvocationID")) else (if n == 14 then Some (literal (Uint 0)) else (if n == 15 then Some (literal (Uint 1)) else None))
+
+abbrev source : Source
+source = record { of = m; entry = 1; overrides = [] }
+
+abbrev names : Names
+names = record { id = λ n. key (Id (id n)); block = λ v g. codes "b"; member = λ g k. key (Member (id g) k); calculated = λ g. literal (Uint 0) }
+
+-- what is declared before the functions
+abbrev items : List Decl
+items = declarations source (record { functions = m.functions; types = 8 ∷ []; mentions = 2 ∷ 5 ∷ 14 ∷ 15 ∷ [] }) names
+
+abbrev p : Program
+p = (declared_by invocation [] items).program
+
+abbrev naming : Naming
+naming = record {
+  name = λ n. key (Id (id n));
+  index_name = λ q k. [];
+  shape = λ n. uint;
+  index_shape = λ q k. uint;
+  is_outer = λ n. false;
+  is_local = λ n. n == 18;
+  is_variable = λ n. false;
+  is_lent = λ n. false;
+  is_private = λ n. false;
+  is_kept = λ q k. false;
+  is_outside = λ x. bytes_eq x (codes "gl_GlobalInvocationID") || bytes_eq x (key (Id (id 5)));
+  index_in = λ q k path. 0;
+  result = None;
+}
+
+abbrev f : Function
+f = slice_index_or m.functions 0 (record { id = id 0; ty = id 0; result = id 0; at = 0; params = []; blocks = [] })
+
+built_in : IsBuiltIn p naming s source key globals 2 (plain.vector elem.Uint 3) (global 2) []
+unfolding opened
+built_in = record {
+  root = refl;
+  whole = refl;
+  inst = record { op = code.Variable; at = 63; ty = 10; result = 2; args = 1 ∷ [] };
+  there = refl;
+  class = refl;
+  text = codes "gl_GlobalInvocationID";
+  written = refl;
+  outside = refl;
+  value_is = many (values_in (word 3 ∷ word 0 ∷ word 0 ∷ []));
+  has = refl;
+  fit = refl;
+  thing = refl;
+}
+
+block : IsBlock p naming s source key globals 5 (plain.struct 3 (tree (plain.runtime plain.uint) no_trees)) (global 5) []
+unfolding opened
+block = record {
+  root = refl;
+  whole = refl;
+  inst = record { op = code.Variable; at = 81; ty = 12; result = 5; args = 12 ∷ [] };
+  there = refl;
+  class = inl refl;
+  itself = refl;
+  outside = refl;
+  type = record { op = code.TypeStruct; at = 74; ty = 0; result = 3; args = 4 ∷ [] };
+  type_there = refl;
+  parts = tree (plain.runtime plain.uint) no_trees;
+  shape = refl;
+  typed_as = refl;
+  lengths = (tt, tt);
+  decorated = refl;
+  kind = Std430;
+  takes = refl;
+  thing = refl;
+}
+
+written : place_expr (writing s [] f key globals) 0 19 ≡ Expr.index (Expr.member (name (key (Id (id 5)))) (key (Member (id 3) 0))) (name (key (Id (id 18))))
+unfolding opened
+written = refl
+
+component : place_expr (writing s [] f key globals) 0 17 ≡ Expr.member (name (codes "gl_GlobalInvocationID")) (codes "x")
+unfolding opened
+component = refl
