@@ -10,3 +10,4 @@ pub mod Accesses
 pub mod Stored
 mod Examples
 pub mod Based
+pub mod Led
