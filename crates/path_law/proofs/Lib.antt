@@ -11,3 +11,5 @@ pub mod Stored
 mod Examples
 pub mod Based
 pub mod Led
+pub mod Ways
+pub mod Reached
