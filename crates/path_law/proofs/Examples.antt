@@ -1,7 +1,6 @@
 -- What is asked of where paths begin, met by computing: of a module that reads an element of a buffer by a built-in variable, and of what is declared for it.
-use Rattle.std.proofs.Common.{◌≡◌, ◌++◌, ℕ, Bool, true, false, List, [], ◌∷◌, Option, Some, None, inl, refl}
+use Rattle.std.proofs.Common.{◌≡◌, ◌++◌, ℕ, false, List, [], ◌∷◌, Option, Some, None, inl, refl}
 use Rattle.std.specs.Prelude.{codes, bytes_eq, slice_index_or, if◌then◌else◌, ◌==◌, ◌||◌}
-use Rattle.spv_ops.specs.declared.Op.{Op}
 use Rattle.spv_ops.specs.declared.Op.TheVariants as code
 use Rattle.spv_ops.specs.Opcode.{op_of, number}
 use Rattle.spv_ops.specs.Shape.{shape}
@@ -11,11 +10,10 @@ use Rattle.spv_module.specs.Lists.{module_of, id}
 use Rattle.spv_module.specs.Inst.{known}
 use Rattle.spv_module.specs.Kinds.{kind_of_opcode, kind_of_op}
 use Rattle.spv_module.specs.State.{ModuleState}
-use Rattle.spv_module.specs.declared.inst.Inst.{Inst}
 use Rattle.spv_module.specs.declared.inst.Function.{Function}
 use Rattle.spv_decor.specs.Rows.{key_of}
 use Rattle.spv_types.specs.Tree as plain
-use Rattle.spv_types.specs.Tree.{Tree, tree, no_trees, word, many, values_in}
+use Rattle.spv_types.specs.Tree.{tree, no_trees, word, many, values_in}
 use Rattle.spv_types.specs.Types.{kind, below}
 use Rattle.spv_module.specs.declared.tree.Elem.TheVariants as elem
 use Rattle.layout_rules.specs.declared.Kind.TheVariants.{Std430}
@@ -27,8 +25,7 @@ use Rattle.traces.specs.Invocations.{Invocation}
 use Rattle.module_semantics.specs.Setting.{Setting, setting}
 use Rattle.module_semantics.specs.State.{global}
 use Rattle.name_alloc.specs.declared.claims.Key.{Key}
-use Rattle.name_alloc.specs.declared.claims.Key.TheVariants.{Main, Id, Block, Member, Again, Leave, Fell, Captured, Spare}
-use Rattle.access_paths.specs.declared.forms.Step.TheVariants as steps
+use Rattle.name_alloc.specs.declared.claims.Key.TheVariants.{Id, Member}
 use Rattle.access_paths.specs.Ways.{path}
 use Rattle.glsl_ast.specs.Tree.{Text, Expr, name, literal, Decl}
 use Rattle.glsl_ast.specs.declared.expressions.Literal.TheVariants.{Uint}
@@ -36,7 +33,6 @@ use Rattle.glsl_semantics.specs.Shapes.{uint}
 use Rattle.glsl_semantics.specs.Items.{declared_by}
 use Rattle.glsl_semantics.specs.Expressions.{Program}
 use Rattle.text_rules.specs.Constants.{Source}
-use Rattle.text_rules.specs.Printed.{Reached}
 use Rattle.text_rules.specs.Declarations.{Names, declarations}
 use Rattle.vec_lowering.specs.Component.{axis_name}
 use Rattle.expr_forward.specs.Paths.{place_expr, literal_word}

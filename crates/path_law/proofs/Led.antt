@@ -11,19 +11,16 @@ use Rattle.spv_ops.specs.declared.Op.{Op}
 use Rattle.spv_ops.specs.declared.Op.TheVariants as code
 use Rattle.spv_module.specs.Held.{global as global_inst}
 use Rattle.spv_module.specs.declared.inst.Inst.{Inst}
-use Rattle.spv_module.specs.declared.inst.Block.{Block}
 use Rattle.spv_module.specs.declared.inst.Function.{Function}
 use Rattle.spv_types.specs.Tree.{ValueTree, word}
 use Rattle.spv_index.specs.Locals.{insts_of}
 use Rattle.spv_index.specs.Pointers.{pointee_of}
-use Rattle.profile_rules.specs.Entry.{function_of}
 use Rattle.profile_rules.specs.MemoryRules.{is_pointer, is_own_memory}
-use Rattle.op_semantics.specs.Component.{each_one}
-use Rattle.module_semantics.specs.Setting.{Setting, is_variable, as_variable, global_variable}
+use Rattle.module_semantics.specs.Setting.{Setting, as_variable}
 use Rattle.module_semantics.specs.Memory.{are_allowed}
 use Rattle.module_semantics.specs.State.{Root, global, own, Held, value, pointer, Frame, put, with_variable}
-use Rattle.module_semantics.specs.Operands.{of_module, held, as_pointer, pointer_at, as_value, as_word, word_at, words_at, Target, arg}
-use Rattle.module_semantics.specs.Steps.{StepKind, operation, chain, variable, call, step_kind, base, is_based_on, without_based, phis, is_phi, with_phis, argument_of, passed, entered}
+use Rattle.module_semantics.specs.Operands.{of_module, as_pointer, pointer_at, as_value, as_word, word_at, words_at, Target, arg}
+use Rattle.module_semantics.specs.Steps.{chain, variable, step_kind, base, is_based_on, without_based, phis, is_phi, with_phis, argument_of, passed, entered}
 use Rattle.access_paths.specs.Ways.{is_constant_index}
 use Rattle.fits_law.proofs.Operations.{before_some}
 use Rattle.agree_law.specs.Agree.{IfPointer}
@@ -322,7 +319,7 @@ module _ (s : Setting) where
         lending = lending.gets ds f i rest v next kind at.lending;
         own = own_put f f.ids i (value v) at.lending.code.of_module (next_of s f i rest next at.lending.code) at.own;
         chains = still f (record f { rest = rest; ids = put f.ids i.result (value v) }) refl
-        (λ q is chained r way has. gets_value f f.ids i.result v q (no_base f.function at.lending.code.of_module i q (next_of s f i rest next at.lending.code) kind is chained) r way has) at.chains;
+            (λ q is chained r way has. gets_value f f.ids i.result v q (no_base f.function at.lending.code.of_module i q (next_of s f i rest next at.lending.code) kind is chained) r way has) at.chains;
       };
       leads = λ ds f i rest p indexes ty next kind is have points allowed at. record {
         lending = lending.leads ds f i rest p indexes ty next kind is have points allowed at.lending;

@@ -1,6 +1,6 @@
 -- Where T6 is not broken, a chain steps into structs by constants, and its type points to what its indexes lead to.
 use Rattle.std.proofs.Common.{◌≡◌, ◌||◌, ℕ, Bool, true, false, List, [], ◌∷◌, length, drop, Option, Some, None, inl, inr, refl, sym, ap, ◌∙◌, if◌then◌else◌}
-use Rattle.std.specs.Prelude.{◌&&◌, not, ◌==◌, nat_lt, is_some, option_and_then, slice_index}
+use Rattle.std.specs.Prelude.{◌&&◌, not, ◌==◌, nat_lt, is_some, option_and_then}
 use Rattle.std.specs.Option.{option_map_or}
 use Rattle.std.specs.List.{list_any}
 use Rattle.std.proofs.lemmas.Bool.Decides.{eqb_tells}
@@ -12,7 +12,7 @@ use Rattle.spv_module.specs.Held.{global}
 use Rattle.spv_module.specs.declared.inst.Inst.{Inst}
 use Rattle.spv_module.specs.declared.inst.Function.{Function}
 use Rattle.spv_types.specs.Tree as plain
-use Rattle.spv_types.specs.Tree.{Tree, ValueTree, word as word_value}
+use Rattle.spv_types.specs.Tree.{Tree, word as word_value}
 use Rattle.spv_types.specs.Types.{type_tree}
 use Rattle.spv_decor.specs.Rows.{word}
 use Rattle.spv_index.specs.Locals.{type_in}
@@ -94,12 +94,13 @@ module _ (s : Setting) (f : Function) (right : AreConstants s) where
   step_row ty id t shape =
       let d = declared_as s ty t shape in
       let r = row s f ty t shape in
-      let there : type_row Gs ty ≡ Some d.0 = by_type d.0 r.0 (sym (ap (option_and_then if_type) d.1) ∙ r.1) (ap (option_and_then if_type) d.1) in
-      (d.0,
-      ap (λ o. option_map_or (λ g. chain_part Gs T g id) o Unknown) there
-      ∙ ap (λ o. if is o code.TypeStruct then member_by Gs T d.0 id else (if is o code.TypeVector || (is o code.TypeArray) || is o code.TypeRuntimeArray then Part (word d.0 0) else Nothing)) d.2
-      ∙ part_op t d.0 id,
-      λ n. ap (λ (o : Option Inst). option_map_or (λ (g : Inst). part_by g.op g.args n) o 0) d.1 ∙ ap (λ o. part_by o d.0.args n) d.2)
+      let there : type_row Gs ty ≡ Some d.0 = by_type d.0 r.0 (sym (ap (option_and_then if_type) d.1) ∙ r.1) (ap (option_and_then if_type) d.1) in (
+        d.0,
+        ap (λ o. option_map_or (λ g. chain_part Gs T g id) o Unknown) there
+            ∙ ap (λ o. if is o code.TypeStruct then member_by Gs T d.0 id else (if is o code.TypeVector || (is o code.TypeArray) || is o code.TypeRuntimeArray then Part (word d.0 0) else Nothing)) d.2
+            ∙ part_op t d.0 id,
+        λ n. ap (λ (o : Option Inst). option_map_or (λ (g : Inst). part_by g.op g.args n) o 0) d.1 ∙ ap (λ o. part_by o d.0.args n) d.2,
+      )
     where
       by_test : (g h : Inst) (b : Bool) → (if b then Some g else None) ≡ Some h → (if b then Some g else None) ≡ Some g
       by_test g h true e = refl
