@@ -1,1 +1,5 @@
+pub mod Lists
 pub mod Onward
+pub mod Taking
+pub mod Giving
+pub mod Threads

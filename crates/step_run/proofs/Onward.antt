@@ -7,12 +7,13 @@ use Rattle.traces.specs.Runs.{Run, Status, made, before}
 use Rattle.traces.specs.Simulation.{IsPrefix}
 use Rattle.dispatch_semantics.specs.Store.{answers_of, AreWords}
 use Rattle.dispatch_semantics.specs.Dispatch.{later}
-use Rattle.group_items.specs.Sides.{Begun, told_of}
-use Rattle.traces.specs.Invocations.{Invocation as Told}
+use Rattle.group_items.specs.Sides.{Begun}
+use Rattle.group_items.specs.declared.event.Event.{Event}
+use Rattle.traces.specs.Invocations.{Invocation}
 use Rattle.run_law.specs.Walks.{Walk}
 use Rattle.step_run.specs.declared.row.Row.{Row}
 use Rattle.step_run.specs.Answers.{answers_in}
-use Rattle.step_run.specs.Kept.{told_events, untold_events, begun_of, IsGoing, IsTold, IsSame}
+use Rattle.step_run.specs.Kept.{told_by, told_events, untold_events, asked_by, begun_of, IsGoing, IsTold, IsSame}
 
 left_none : {A : Type 0} (xs ys : List A) → xs ++ ys ≡ [] → xs ≡ []
 left_none [] ys h = refl
@@ -29,15 +30,22 @@ answers-snoc (x ∷ es) e = ap (λ l. answers_of x ++ l) (answers-snoc es e) ∙
 before_before : (a b : List trace.Event) (r : Run) → before a (before b r) ≡ before (a ++ b) r
 before_before a b r = ap (λ es. made es r.status) (sym (append_assoc a b r.events))
 
-abbrev begun_by : Told → List trace.Event → List (List ℕ) → Begun
-begun_by told es answers = record { told = told; past = record { events = es; answers = answers }; asked = None }
+abbrev begun_by : Invocation → List trace.Event → Option Event → Begun
+begun_by told es asked = record { told = told; past = record { events = es; answers = answers_in es }; asked = asked_by asked }
 
 -- with an event more that is told
+pub later_begun : (old new : Row) (e : trace.Event) → new.inv ≡ old.inv → told_events new ≡ told_events old ++ e ∷ [] → begun_of new ≡ record (begun_of old) { past = later (begun_of old).past e; asked = asked_by new.asked }
+later_begun old new e inv told =
+    ap (λ v. begun_by (told_by v) (told_events new) new.asked) inv
+    ∙ ap (λ es. begun_by (told_by old.inv) es new.asked) told
+    ∙ ap (λ as'. record { told = told_by old.inv; past = record { events = told_events old ++ e ∷ []; answers = as' }; asked = asked_by new.asked }) (answers-snoc (told_events old) e)
+
 pub told_begun : (old new : Row) (e : trace.Event) → IsTold old e new → begun_of new ≡ record (begun_of old) { past = later (begun_of old).past e }
-told_begun old new e t =
-    ap (λ v. begun_by (told_of v) (told_events new) (answers_in (told_events new))) t.inv
-    ∙ ap (λ es. begun_by (told_of old.inv) es (answers_in es)) t.told
-    ∙ ap (λ as'. begun_by (told_of old.inv) (told_events old ++ e ∷ []) as') (answers-snoc (told_events old) e)
+told_begun old new e t = later_begun old new e t.inv t.told ∙ ap (λ a. record (begun_of old) { past = later (begun_of old).past e; asked = asked_by a }) t.asked
+
+-- with nothing more that is told
+pub same_begun : (old new : Row) → new.inv ≡ old.inv → told_events new ≡ told_events old → begun_of new ≡ record (begun_of old) { asked = asked_by new.asked }
+same_begun old new inv told = ap (λ v. begun_by (told_by v) (told_events new) new.asked) inv ∙ ap (λ es. begun_by (told_by old.inv) es new.asked) told
 
 module _ (start : Walk) (steps : ℕ) (r : Row) (here : Walk) (g : IsGoing start steps r here) where
   abbrev es : List trace.Event
@@ -82,16 +90,16 @@ module _ (start : Walk) (steps : ℕ) (r : Row) (here : Walk) (g : IsGoing start
       goes : (more : List (List ℕ)) (n : ℕ) → start (answers_in (told_events new) ++ more) (new.used + n) ≡ before (told_events new ++ untold_events new) (here more n)
       goes more n = ap (λ l. start (l ++ more) (new.used + n)) same_past ∙ ap (λ k. start (past ++ more) (k + n)) t.used ∙ g.1.1 more n ∙ ap (λ l. before l (here more n)) same_events
 
-  pub same_on : (new : Row) → IsSame r new → IsGoing start steps new here
-  same_on new s = (subst (λ n. n ≤ steps) (sym s.used) g.0, (ap answers_in s.untold ∙ g.1.0, goes))
+  pub same_on : (new : Row) → new.used ≡ r.used → told_events new ≡ es → untold_events new ≡ us → IsGoing start steps new here
+  same_on new used told untold = (subst (λ n. n ≤ steps) (sym used) g.0, (ap answers_in untold ∙ g.1.0, goes))
     where
       goes : (more : List (List ℕ)) (n : ℕ) → start (answers_in (told_events new) ++ more) (new.used + n) ≡ before (told_events new ++ untold_events new) (here more n)
       goes more n =
-          ap (λ l. start (answers_in l ++ more) (new.used + n)) s.told
-          ∙ ap (λ k. start (past ++ more) (k + n)) s.used
+          ap (λ l. start (answers_in l ++ more) (new.used + n)) told
+          ∙ ap (λ k. start (past ++ more) (k + n)) used
           ∙ g.1.1 more n
-          ∙ ap (λ l. before (l ++ us) (here more n)) (sym s.told)
-          ∙ ap (λ l. before (told_events new ++ l) (here more n)) (sym s.untold)
+          ∙ ap (λ l. before (l ++ us) (here more n)) (sym told)
+          ∙ ap (λ l. before (told_events new ++ l) (here more n)) (sym untold)
 
   -- all events are told
   module _ (none : us ≡ []) where
@@ -129,6 +137,24 @@ module _ (start : Walk) (steps : ℕ) (r : Row) (here : Walk) (g : IsGoing start
               ∙ ap (λ l. before (l ++ more) (next answers n)) all_told
               ∙ ap (λ l. before (l ++ more) (next answers n)) (sym told)
               ∙ ap (λ l. before (told_events new ++ l) (next answers n)) (sym untold)
+
+      -- the words of what was asked are told with its event
+      pub answered_on : (new : Row) (next : Walk) (words : List ℕ) (e : trace.Event) → told_events new ≡ es ++ e ∷ [] → untold_events new ≡ us → new.used ≡ r.used + 1 → answers_of e ≡ words ∷ [] → ((more : List (List ℕ)) (n : ℕ) → here (words ∷ more) (suc n) ≡ before (e ∷ []) (next more n)) → IsGoing start steps new next
+      answered_on new next words e told untold used took step = (subst (λ n. n ≤ steps) (sym used) (omega (arith, some)), (ap answers_in untold ∙ g.1.0, goes))
+        where
+          goes : (more : List (List ℕ)) (n : ℕ) → start (answers_in (told_events new) ++ more) (new.used + n) ≡ before (told_events new ++ untold_events new) (next more n)
+          goes more n =
+              let next_step : new.used + n ≡ r.used + suc n = omega (arith, used) in
+              ap (λ l. start (answers_in l ++ more) (new.used + n)) told
+              ∙ ap (λ k. start (answers_in (es ++ e ∷ []) ++ more) k) next_step
+              ∙ ap (λ l. start (l ++ more) (r.used + suc n)) (answers-snoc es e ∙ ap (λ l. past ++ l) took)
+              ∙ ap (λ l. start l (r.used + suc n)) (append_assoc past (words ∷ []) more)
+              ∙ g.1.1 (words ∷ more) (suc n)
+              ∙ ap (before (es ++ us)) (step more n)
+              ∙ before_before (es ++ us) (e ∷ []) (next more n)
+              ∙ ap (λ l. before (l ++ e ∷ []) (next more n)) all_told
+              ∙ ap (λ l. before l (next more n)) (sym told ∙ sym (append-nil (told_events new)))
+              ∙ ap (λ l. before (told_events new ++ l) (next more n)) (sym (untold ∙ none))
 
       -- with an answer
       goes_on : (words : List ℕ) (e : trace.Event) → ((n : ℕ) → IsPrefix (e ∷ []) (here (words ∷ []) (suc n)).events) → IsPrefix (es ++ e ∷ []) (start (past ++ words ∷ []) steps).events

@@ -24,23 +24,23 @@ module _ (old new : Walk) where
       (new ≡ old) × (((n : ℕ) → old [] (suc n) ≡ made [] run.waiting)
       × ((words : List ℕ) → AreWords words → IfSome (trace.event_of a words) (λ e. (n : ℕ) → IsPrefix (e ∷ []) (old (words ∷ []) (suc n)).events)))
 
-  -- what is asked for behind the step
+  -- the state behind the step can be told the words that it asks for
   abbrev pub IsStep : Option trace.Access → Step → Type 0
-  IsStep asked Moves = (asked ≡ None) × Goes []
-  IsStep asked (Makes es) = (asked ≡ None) × ((answers_in (map event_of es.items) ≡ []) × Goes (map event_of es.items))
-  IsStep asked (Asks e) = (a : trace.Access) × ((access_of (event_of e) ≡ Some a) × ((asked ≡ Some a) × Waits a))
-  IsStep asked Stops = (asked ≡ None) × IsOver run.ended
-  IsStep asked Fails = (asked ≡ None) × IsOver run.undefined
+  IsStep asks Moves = Goes []
+  IsStep asks (Makes es) = (answers_in (map event_of es.items) ≡ []) × Goes (map event_of es.items)
+  IsStep asks (Asks e) = (a : trace.Access) × ((access_of (event_of e) ≡ Some a) × ((asks ≡ Some a) × Waits a))
+  IsStep asks Stops = IsOver run.ended
+  IsStep asks Fails = IsOver run.undefined
 
   -- with these words it makes this event
   abbrev pub IsResumed : List ℕ → Option trace.Event → Type 0
   IsResumed words e = IfSome e (λ e. (more : List (List ℕ)) (n : ℕ) → old (words ∷ more) (suc n) ≡ before (e ∷ []) (new more n))
 
--- the event of what is asked for, with these words
+-- the event that is made with these words, of what is asked for
 abbrev pub event_asked : Option trace.Access → List ℕ → Option trace.Event
 event_asked asked words = option_and_then (λ (a : trace.Access). trace.event_of a words) asked
 
--- the state at the start, if there is one
-abbrev pub IsStart : {S : Type 0} → Walk → (S → Walk) → (S → Option trace.Access) → Option S → Type 0
-IsStart walk goes asked (Some s) = (goes s ≡ walk) × (asked s ≡ None)
-IsStart walk goes asked None = (answers : List (List ℕ)) (n : ℕ) → walk answers n ≡ made [] run.undefined
+-- the state at the start does what the invocation does; without one the run has no meaning
+abbrev pub IsStart : {S : Type 0} → Walk → (S → Walk) → Option S → Type 0
+IsStart walk goes (Some s) = goes s ≡ walk
+IsStart walk goes None = (answers : List (List ℕ)) (n : ℕ) → walk answers n ≡ made [] run.undefined

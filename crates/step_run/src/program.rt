@@ -34,27 +34,25 @@ pub trait Program {
     /// what is done from a state
     ghost goes: { Self → Self.State → Walk };
 
-    /// what is asked for there
-    ghost asked: { Self → Self.State → Option Access };
+    /// the access whose words a state is ready to take
+    ghost asks: { Self → Self.State → Option Access };
 
     /// The state at the start; none where the run has no meaning from the start.
     fn start(&self, inv: &Invocation) -> Result<Option<Self::State>, Memory>
         requires told { IsWhole inv.now }
         requires special { takes self.now (told_of inv.now).specialization }
-        ensures { IfOk result (λ state. IsStart (walk self.now (told_of inv.now)) (goes self.now) (asked self.now) state) };
+        ensures { IfOk result (λ state. IsStart (walk self.now (told_of inv.now)) (goes self.now) state) };
 
-    /// One step. An error leaves the state as it was.
+    /// One step. A step that asks for words leaves the state where it stands, and makes the room that they need. An error leaves
+    /// it where it stands too.
     fn step(&self, state: &mut Self::State) -> Result<Step, Memory>
-        requires free { asked self.now state.old ≡ None }
-        ensures step { IfOk result (IsStep (goes self.now state.old) (goes self.now state.new) (asked self.now state.new)) }
-        ensures err_goes { OnErr result (goes self.now state.new ≡ goes self.now state.old) }
-        ensures err_asked { OnErr result (asked self.now state.new ≡ None) };
+        ensures step { IfOk result (IsStep (goes self.now state.old) (goes self.now state.new) (asks self.now state.new)) }
+        ensures err { OnErr result (goes self.now state.new ≡ goes self.now state.old) };
 
-    /// Takes the words that were asked for. It takes no memory.
+    /// Takes the words that it asked for. It takes no memory.
     fn resume(&self, state: &mut Self::State, words: &[u32])
-        requires fits { IsSome (event_asked (asked self.now state.old) words.now) }
-        ensures resumed { IsResumed (goes self.now state.old) (goes self.now state.new) words.now (event_asked (asked self.now state.old) words.now) }
-        ensures free { asked self.now state.new ≡ None };
+        requires fits { IsSome (event_asked (asks self.now state.old) words.now) }
+        ensures { IsResumed (goes self.now state.old) (goes self.now state.new) words.now (event_asked (asks self.now state.old) words.now) };
 
     /// no step is made in no step
     ghost stands: { (s : Self) (state : Self.State) (answers : List (List ℕ)) → goes s state answers 0 ≡ made [] running };

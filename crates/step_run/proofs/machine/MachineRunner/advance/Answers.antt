@@ -1,0 +1,41 @@
+use Rattle.std.proofs.Common.{ap, sym, subst, ◌∙◌, List}
+use Rattle.std.specs.Prelude.{IfOk}
+use Rattle.traces.specs.Runs.{Run}
+use Rattle.traces.specs.Invocations.{Invocation}
+use Rattle.group_items.specs.Sides.{Begun, IsNext, behind_pause}
+use Rattle.step_run.specs.KeptAll.{IsKept, begun_at}
+use Rattle.step_run.proofs.Threads.{all_at, all_set, at_begun, set_moved, set_same, if_ok, on_err}
+use Rattle.step_run.proofs.machine.MachineRunner.advance.Goals as goal
+
+pub go_on-requires-clause-free : goal.go_on-requires-clause-free
+go_on-requires-clause-free g c =
+    let ts = c.args.self.now.threads.items in
+    let t = c.index_mut.result.now in
+    sym (ap (λ (b : Begun). b.asked) (at_begun ts c.args.who t t c.requires.begun c.index_mut.ensures.value)) ∙ c.requires.free
+
+pub invariant_of-self : goal.invariant_of-self
+invariant_of-self g c =
+    let m = c.args.self.now in
+    record {
+      small = m.small;
+      kept = all_set (λ t. IsKept (g.P.Program.walk m.program) m.steps (g.P.Program.goes m.program) (g.P.Program.asks m.program) t.row t.state) m.threads.items c.args.who c.go_on.new.thread m.kept c.go_on.ensures.kept;
+    }
+
+pub returns-clause-next : goal.returns-clause-next
+returns-clause-next g c =
+    let m = c.args.self.now in
+    let t = c.index_mut.result.now in
+    subst (λ b. IfOk c.go_on.result (IsNext (λ told answers. g.P.Program.walk m.program told answers m.steps) b)) (sym (at_begun m.threads.items c.args.who t t c.requires.begun c.index_mut.ensures.value)) c.go_on.ensures.next
+
+pub returns-clause-moved : goal.returns-clause-moved
+returns-clause-moved g c =
+    let ts = c.args.self.now.threads.items in
+    let t = c.index_mut.result.now in
+    if_ok c.go_on.result c.go_on.ensures.behind
+    (λ pause is. set_moved ts c.args.who c.go_on.new.thread (behind_pause (begun_at ts c.args.who) pause) c.requires.begun (is ∙ ap (λ b. behind_pause b pause) (sym (at_begun ts c.args.who t t c.requires.begun c.index_mut.ensures.value))))
+
+pub returns-clause-err : goal.returns-clause-err
+returns-clause-err g c =
+    let ts = c.args.self.now.threads.items in
+    let t = c.index_mut.result.now in
+    on_err c.go_on.result c.go_on.ensures.err (λ is. set_same ts c.args.who c.go_on.new.thread c.requires.begun (is ∙ sym (at_begun ts c.args.who t t c.requires.begun c.index_mut.ensures.value)))
