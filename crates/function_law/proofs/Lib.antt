@@ -5,3 +5,6 @@ pub mod UnderWay
 pub mod Passing
 pub mod Beginning
 pub mod Returned
+pub mod TopText
+pub mod Entering
+pub mod OneFunction

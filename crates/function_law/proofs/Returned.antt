@@ -202,9 +202,9 @@ module _ (p : Program) (calls : Text → List Argument → State → Result (Opt
             left.lent left.from left.all;
         are = left.are;
         shapes = λ n v out. calling.shapes n (kind_out m n v left.outs left.lent out);
-        privates = λ n e. let q = calling.share.privates n e in
-            subst (λ x. found y.globals x ≡ Some (variable_with (m.shape n) (d.at.privates n))) q.1 (subst (λ t. found y.globals (other.name n) ≡ Some (variable_with t (d.at.privates n))) q.2 (agree.privates n q.0).0);
-        outside = λ x e. (agree.outside x (calling.share.outside x e)).1;
+        privates = λ n e. let q = calling.share.names n e in
+            subst (λ x. found y.globals x ≡ Some (variable_with (m.shape n) (d.at.privates n))) q.0 (subst (λ t. found y.globals (other.name n) ≡ Some (variable_with t (d.at.privates n))) q.1 (agree.privates n (calling.share.privates n ∙ e)).0);
+        outside = λ x e. (agree.outside x (calling.share.outside x ∙ e)).1;
         answers = answers;
       }
 

@@ -1,3 +1,4 @@
 pub mod Edges
 pub mod UnderWay
 pub mod Passed
+pub mod Tops

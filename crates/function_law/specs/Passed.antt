@@ -6,10 +6,10 @@ use Rattle.spv_types.specs.Tree.{ValueTree}
 use Rattle.profile_rules.specs.MemoryRules.{is_own_memory}
 use Rattle.module_semantics.specs.State.{Root, Held, value, pointer, Conf}
 use Rattle.glsl_ast.specs.Tree.{Text, Param, param}
-use Rattle.glsl_semantics.specs.Shapes.{typed}
-use Rattle.glsl_semantics.specs.States.{variable}
-use Rattle.glsl_semantics.specs.Expressions.{Argument}
-use Rattle.agree_law.specs.Agree.{Naming, target_value}
+use Rattle.glsl_semantics.specs.Shapes.{typed, shape_of, tree_of_value, same_shape}
+use Rattle.glsl_semantics.specs.States.{variable, Frame}
+use Rattle.glsl_semantics.specs.Expressions.{Program, Argument, type_of}
+use Rattle.agree_law.specs.Agree.{Naming, variable_with, target_value}
 use Rattle.call_law.specs.Known.{is_parameter}
 
 -- the names of variables are those of a function's own variables, and those of pointer parameters of its parameters
@@ -17,10 +17,11 @@ pub record NamesMemory (m : Naming) (f : Function) : Type 0 where
   pub variables : (n : ℕ) → m.is_variable n ≡ true → (is_own_memory f n ≡ true) × (is_parameter f n ≡ false)
   pub lents : (n : ℕ) → m.is_lent n ≡ true → is_parameter f n ≡ true
 
--- what stands outside of functions has the same names in both
+-- what stands outside of functions is the same in both, and has the same names
 pub record ShareNames (m other : Naming) : Type 0 where
-  pub privates : (n : ℕ) → m.is_private n ≡ true → (other.is_private n ≡ true) × (other.name n ≡ m.name n) × (other.shape n ≡ m.shape n)
-  pub outside : (x : Text) → m.is_outside x ≡ true → other.is_outside x ≡ true
+  pub privates : (n : ℕ) → other.is_private n ≡ m.is_private n
+  pub names : (n : ℕ) → m.is_private n ≡ true → (other.name n ≡ m.name n) × (other.shape n ≡ m.shape n)
+  pub outside : (x : Text) → other.is_outside x ≡ m.is_outside x
 
 -- the ids have these, one by one
 abbrev pub IsArgument : ℕ → Held → List ℕ → List Held → Type 0
@@ -66,3 +67,14 @@ IsNoId n (p ∷ ps) = (p.0.0 ≢ n) × IsNoId n ps
 abbrev pub AreOnceIds : List (Id × Id) → Type 0
 AreOnceIds [] = Unit {0}
 AreOnceIds (p ∷ ps) = IsNoId p.0.0 ps × AreOnceIds ps
+
+-- the parameters of the text have the types of what they get
+abbrev pub AreTypedParameters : Program → Naming → List (Id × Id) → List Param → Type 0
+AreTypedParameters p m [] [] = Unit {0}
+AreTypedParameters p m (q ∷ ps) (param inout t w ∷ qs) = (type_of p t ≡ Some (m.shape q.0.0)) × (same_shape (m.shape q.0.0) (m.shape q.0.0) ≡ true) × AreTypedParameters p m ps qs
+AreTypedParameters p m _ _ = ⊥
+
+-- the braces in which a call begins
+abbrev pub parameter_frame : List Param → List Argument → Frame
+parameter_frame (param inout t w ∷ qs) (a ∷ as') = (w, variable_with (shape_of a.1) (Some (tree_of_value a.1))) ∷ parameter_frame qs as'
+parameter_frame _ _ = []
