@@ -12,8 +12,8 @@ use Rattle.op_semantics.specs.declared.operation.Operation.TheVariants as op
 use Rattle.op_semantics.specs.Component.{each_one}
 use Rattle.op_semantics.specs.Value.{value_of_operation, operation}
 use Rattle.profile_rules.specs.Constants.{is_flat, gives_parts, inner_operands, inner_literals, value_by_operation, operation_value}
-use Rattle.constant_values.specs.declared.scalars.OneScalar.TheVariants as one
-use Rattle.constant_values.specs.declared.scalars.TwoScalars.TheVariants as two
+use Rattle.value_ops.specs.declared.scalars.OneScalar.TheVariants as one
+use Rattle.value_ops.specs.declared.scalars.TwoScalars.TheVariants as two
 use Rattle.constant_values.specs.declared.inner_ops.InnerOp.{InnerOp}
 use Rattle.constant_values.specs.declared.inner_ops.InnerOp.TheVariants.{One, Two, Select, Shuffle, Extract}
 use Rattle.constant_values.specs.Calculated.{inner_op_of, inner_op_at, inner_value, gives_composite, inner_value_of, calculated_by, calculated}

@@ -31,7 +31,7 @@ use Rattle.spec_constants.specs.Fit.{IsCause as IsFitCause}
 use Rattle.spec_constants.specs.Counted.{IsOver}
 use Rattle.spec_constants.proofs.Counts.{at_is}
 use Rattle.op_semantics.specs.Component.{before, each_one}
-use Rattle.constant_values.specs.Parts.{referred}
+use Rattle.value_ops.specs.References.{referred}
 use Rattle.constant_values.specs.Held.{value_in, put_value, chosen_by}
 use Rattle.constant_values.specs.Refused.{IsCause}
 

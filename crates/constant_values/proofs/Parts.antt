@@ -15,7 +15,8 @@ use Rattle.spv_types.specs.View.{tree_of, trees_of, value_of}
 use Rattle.op_semantics.specs.Component.{composite}
 use Rattle.profile_rules.specs.Constants.{if_fits}
 use Rattle.op_semantics.specs.Fits.{fits, each_fits, fits_parts, count_of, elem_tree}
-use Rattle.constant_values.specs.Parts.{nth_tree, member_fits, part_fits, referred}
+use Rattle.constant_values.specs.Parts.{nth_tree, member_fits, part_fits}
+use Rattle.value_ops.specs.References.{referred}
 use Rattle.constant_values.proofs.Operations.{count_values}
 use Rattle.constant_values.proofs.Values.{and_false}
 

@@ -1,32 +1,13 @@
 -- The values of a list, one by one.
-use Rattle.std.proofs.Common.{◌≡◌, ◌<◌, ◌≤◌, ◌+◌, ◌&&◌, ℕ, zero, suc, Bool, true, false, List, [], ◌∷◌, refl, ap, sym, ◌∙◌, arith, add-one, map, drop, get_or, length}
+use Rattle.std.proofs.Common.{◌≡◌, ◌<◌, ◌≤◌, ◌+◌, ◌&&◌, ℕ, suc, Bool, true, false, List, [], ◌∷◌, refl, ap, sym, ◌∙◌, arith, add-one, drop, get_or, length}
 use Rattle.std.proofs.Math.Seq.{drop-cons}
 use Rattle.std.proofs.Math.ListN.{drop_of_length-le}
 use Rattle.spv_module.specs.declared.tree.Shape.{Shape}
 use Rattle.spv_module.specs.declared.tree.Value.{Value}
-use Rattle.spv_types.specs.Tree.{Tree, ValueTree, truth, word, many, ValueTrees, no_values, value, values_in}
+use Rattle.spv_types.specs.Tree.{Tree, ValueTree, ValueTrees, value}
 use Rattle.spv_types.specs.View.{tree_of, trees_of, value_of}
 use Rattle.op_semantics.specs.Fits.{fits, each_fits, fits_parts, count_of}
-
--- how much of a value is still to be gone through
-abbrev mutual
-  pub value_size : ValueTree → ℕ
-  value_size (truth b) = 1
-  value_size (word w) = 1
-  value_size (many vs) = 1 + values_size vs
-
-  pub values_size : ValueTrees → ℕ
-  values_size no_values = 0
-  values_size (value v vs) = 1 + (value_size v + values_size vs)
-
--- the plain values of a list
-abbrev pub plain : List Value → ValueTrees
-plain vs = values_in (map value_of vs)
-
-pub value_smaller : (l : List Value) (k : ℕ) (d : Value) → k < length l → value_size (value_of (get_or l k d)) < values_size (plain l)
-value_smaller [] k d h = absurd (omega arith)
-value_smaller (x ∷ l) zero d h = omega arith
-value_smaller (x ∷ l) (suc k) d h = omega (arith, value_smaller l k d (omega arith))
+use Rattle.value_ops.proofs.Values.{plain}
 
 pub count_plain : (l : List Value) → count_of (plain l) ≡ length l
 count_plain [] = refl

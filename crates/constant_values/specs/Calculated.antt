@@ -9,11 +9,11 @@ use Rattle.op_semantics.specs.Component.{each_one, by_one, by_two, by_three, cho
 use Rattle.op_semantics.specs.Composite.{extracted, shuffled}
 use Rattle.op_semantics.specs.Value.{of_one, of_two, of_three, operation}
 use Rattle.profile_rules.specs.Constants.{is_flat, inner_operands, inner_literals}
-use Rattle.constant_values.specs.declared.scalars.OneScalar.TheVariants as one
-use Rattle.constant_values.specs.declared.scalars.TwoScalars.TheVariants as two
+use Rattle.value_ops.specs.declared.scalars.OneScalar.TheVariants as one
+use Rattle.value_ops.specs.declared.scalars.TwoScalars.TheVariants as two
 use Rattle.constant_values.specs.declared.inner_ops.InnerOp.{InnerOp}
 use Rattle.constant_values.specs.declared.inner_ops.InnerOp.TheVariants.{One, Two, Select, Shuffle, Extract}
-use Rattle.constant_values.specs.Operating.{one_scalar, two_scalars}
+use Rattle.value_ops.specs.Scalars.{one_scalar, two_scalars}
 
 -- the operations that may stand there, by the number of their operands
 abbrev pub inner_op_of : Operation → Option InnerOp

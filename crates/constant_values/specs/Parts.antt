@@ -1,17 +1,9 @@
 -- Parts of composites.
-use Rattle.std.specs.Prelude.{ℕ, zero, suc, ◌+◌, ◌==◌, ◌&&◌, Bool, false, List, ◌++◌, map, nat_lt, Option, Some, None, option_map, Vec}
-use Rattle.std.specs.declared.alloc.Global.{Global}
+use Rattle.std.specs.Prelude.{ℕ, zero, suc, ◌+◌, ◌==◌, ◌&&◌, Bool, false, nat_lt, Option, Some, None}
 use Rattle.std.specs.Option.{option_map_or}
-use Rattle.std.specs.Borrow.{Bor}
-use Rattle.spv_module.specs.declared.tree.Elem.{Elem}
 use Rattle.spv_module.specs.declared.tree.Length.{Length}
 use Rattle.spv_module.specs.declared.tree.Length.TheVariants.{Fixed, Spec}
-use Rattle.spv_module.specs.declared.tree.Value.{Value}
-use Rattle.spv_types.specs.Tree.{Tree, vector, array, struct, Trees, no_trees, tree, ValueTree, many}
-use Rattle.spv_types.specs.View.{value_of}
-use Rattle.spv_types.specs.Leaves.{zero_elem}
-use Rattle.op_semantics.specs.Component.{listed, composite, each_one}
-use Rattle.op_semantics.specs.Composite.{picked}
+use Rattle.spv_types.specs.Tree.{Tree, vector, array, struct, Trees, no_trees, tree, ValueTree}
 use Rattle.op_semantics.specs.Fits.{fits, elem_tree}
 
 -- member i, where there is one
@@ -34,13 +26,6 @@ part_fits (array t l) i v = array_part_fits t l i v
 part_fits (struct id ts) i v = member_fits ts i v
 part_fits _ i v = false
 
--- what the values are that are referred to
-abbrev pub referred : List (Bor Value) → List ValueTree
-referred rs = map (λ (r : Bor Value). value_of r.now) rs
-
-abbrev pub plain_references : Vec (Bor Value) Global → List ValueTree
-plain_references rs = referred rs.items
-
 -- so many
 abbrev pub is_length : Length → ℕ → Bool
 is_length (Fixed n) k = n == k
@@ -56,8 +41,3 @@ has_count (vector e n) k = n == k
 has_count (array t l) k = is_length l k
 has_count (struct id ts) k = tree_count ts == k
 has_count _ k = false
-
--- the components that these literals pick from two vectors
-abbrev pub shuffled_by : Elem → List ℕ → ValueTree → ValueTree → Option ValueTree
-shuffled_by e picks (many xs) (many ys) = option_map composite (each_one (picked (zero_elem e) (listed xs ++ listed ys)) picks)
-shuffled_by e picks _ _ = None

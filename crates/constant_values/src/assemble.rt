@@ -4,13 +4,14 @@ ghost use Rattle.spv_types.specs.View.{tree_of, trees_of, value_of};
 ghost use Rattle.op_semantics.specs.Component.{composite};
 ghost use Rattle.op_semantics.specs.Fits.{fits as fits_tree, elem_tree};
 ghost use Rattle.profile_rules.specs.Constants.{if_fits};
-ghost use Rattle.constant_values.specs.Parts.{part_fits as part_fits_tree, array_part_fits as array_part_fits_tree, member_fits as member_fits_tree, referred, plain_references};
+ghost use Rattle.constant_values.specs.Parts.{part_fits as part_fits_tree, array_part_fits as array_part_fits_tree, member_fits as member_fits_tree};
+ghost use Rattle.value_ops.specs.References.{referred, plain_references};
 
-use crate::copies::copied;
 use crate::fitting::{fits, fitting, is_elem};
 use spv_module::{Length, Shape, Value};
 use spv_words::Memory;
 use std::alloc::Global;
+use value_ops::copied;
 
 /// Whether a value fits element i of an array.
 fn array_part_fits(part: &Shape, length: Length, i: usize, value: &Value) -> bool

@@ -1,18 +1,20 @@
 // OpSelect, OpVectorShuffle and OpCompositeExtract inside OpSpecConstantOps.
-ghost use Rattle.std.specs.Prelude.{◌≡◌, ◌++◌, IfOk, option_map, option_and_then, map};
+ghost use Rattle.std.specs.Prelude.{◌≡◌, IfOk, option_map, option_and_then, map};
 ghost use Rattle.spv_types.specs.Tree.{many, values_in};
 ghost use Rattle.spv_types.specs.View.{tree_of, value_of};
-ghost use Rattle.spv_types.specs.Leaves.{zero_elem};
-ghost use Rattle.op_semantics.specs.Component.{by_three, each_three, each_one, chosen, composite};
-ghost use Rattle.op_semantics.specs.Composite.{part_at as part_at_index, extracted, picked, shuffled as shuffled_value};
+ghost use Rattle.op_semantics.specs.Component.{by_three, chosen};
+ghost use Rattle.op_semantics.specs.Composite.{extracted, shuffled as shuffled_value};
 ghost use Rattle.profile_rules.specs.Constants.{if_fits};
-ghost use Rattle.constant_values.specs.Parts.{plain_references, is_length as is_length_of, has_count as has_count_of, shuffled_by};
+ghost use Rattle.constant_values.specs.Parts.{is_length as is_length_of, has_count as has_count_of};
+ghost use Rattle.value_ops.specs.Shuffled.{shuffled_by};
 
 use crate::assemble::assembled_of;
 use crate::fitting::kept;
 use spv_module::{Elem, Length, Shape, Value};
+use spv_types::zero_scalar;
 use spv_words::Memory;
 use std::alloc::Global;
+use value_ops::{chosen_parts, part_by, picked_parts};
 
 fn is_length(length: Length, count: usize) -> bool
     ensures { result ≡ is_length_of length count }
@@ -34,42 +36,6 @@ fn has_count(shape: &Shape, count: usize) -> bool
         Shape::Struct(_, members) => members.len() == count,
         Shape::Bool | Shape::Int | Shape::Uint | Shape::Runtime(_) => false,
     }
-}
-
-/// The first or the second value; of what is no truth value there is none.
-#[tactic(auto, using(spv_types::proofs::Views::value_rows))]
-fn chosen_of<'a>(choice: &Value, first: &'a Value, second: &'a Value) -> Option<&'a Value>
-    ensures { option_map (λ v. value_of v.now) result ≡ chosen (value_of choice.now) (value_of first.now) (value_of second.now) }
-{
-    match choice {
-        Value::Bool(choice) => Some(if *choice { first } else { second }),
-        Value::Word(_) | Value::Many(_) => None,
-    }
-}
-
-#[tactic(auto, using(crate::proofs::Choices::short_rules))]
-fn chosen_parts<'a>(
-    alloc: Global,
-    choices: &[Value],
-    firsts: &'a [Value],
-    seconds: &'a [Value],
-) -> Result<Option<Vec<&'a Value>>, Memory>
-    ensures { IfOk result (λ all. option_map plain_references all ≡ each_three chosen (map value_of choices.now) (map value_of firsts.now) (map value_of seconds.now)) }
-{
-    if choices.len() != firsts.len() {
-        return Ok(None);
-    }
-    if firsts.len() != seconds.len() {
-        return Ok(None);
-    }
-    let mut parts = Vec::new(alloc);
-    for (i, choice) in choices.iter().enumerate() {
-        match chosen_of(choice, &firsts[i], &seconds[i]) {
-            None => return Ok(None),
-            Some(part) => parts.push(part)?,
-        }
-    }
-    Ok(Some(parts))
 }
 
 #[tactic(auto, using(spv_types::proofs::Views::value_rows, crate::proofs::Choices::three_rules))]
@@ -114,42 +80,6 @@ pub fn selected(
     }
 }
 
-#[tactic(auto, using(crate::proofs::Choices::index_rules))]
-fn nth_part(parts: &[Value], index: u32) -> Option<&Value>
-    ensures { option_map (λ v. value_of v.now) result ≡ part_at_index (many (values_in (map value_of parts.now))) index }
-{
-    if (index as usize) < parts.len() {
-        Some(&parts[index as usize])
-    } else {
-        None
-    }
-}
-
-#[tactic(auto, using(spv_types::proofs::Views::value_rows))]
-fn part_at(value: &Value, index: u32) -> Option<&Value>
-    ensures { option_map (λ v. value_of v.now) result ≡ part_at_index (value_of value.now) index }
-{
-    match value {
-        Value::Many(parts) => nth_part(parts, index),
-        Value::Bool(_) | Value::Word(_) => None,
-    }
-}
-
-/// The part that these indexes lead to.
-#[tactic(auto, using(crate::proofs::Choices::extracted_rules))]
-fn part_by<'a>(whole: &'a Value, indexes: &[u32]) -> Option<&'a Value>
-    ensures { option_map (λ v. value_of v.now) result ≡ extracted indexes.now (value_of whole.now) }
-{
-    let mut part = whole;
-    for index in indexes {
-        match part_at(part, *index) {
-            None => return None,
-            Some(inner) => part = inner,
-        }
-    }
-    Some(part)
-}
-
 /// OpCompositeExtract, where the value has this shape.
 pub fn extracted_part(
     alloc: Global,
@@ -165,54 +95,7 @@ pub fn extracted_part(
     }
 }
 
-#[tactic(auto, using(spv_types::proofs::Views::value_rows))]
-fn zero_component(elem: Elem) -> Value
-    ensures { value_of result ≡ zero_elem elem }
-{
-    match elem {
-        Elem::Bool => Value::Bool(false),
-        Elem::Int | Elem::Uint => Value::Word(0),
-    }
-}
-
-#[tactic(auto, using(crate::proofs::Choices::picked_rules))]
-fn picked_part<'a>(
-    zero: &'a Value,
-    firsts: &'a [Value],
-    seconds: &'a [Value],
-    pick: u32,
-) -> Option<&'a Value>
-    ensures { option_map (λ v. value_of v.now) result ≡ picked (value_of zero.now) (map value_of firsts.now ++ map value_of seconds.now) pick }
-{
-    if pick == 0xffff_ffff {
-        Some(zero)
-    } else if (pick as usize) < firsts.len() {
-        firsts.get(pick as usize)
-    } else {
-        seconds.get(pick as usize - firsts.len())
-    }
-}
-
-fn picked_parts<'a>(
-    alloc: Global,
-    zero: &'a Value,
-    firsts: &'a [Value],
-    seconds: &'a [Value],
-    picks: &[u32],
-) -> Result<Option<Vec<&'a Value>>, Memory>
-    ensures { IfOk result (λ all. option_map plain_references all ≡ each_one (picked (value_of zero.now) (map value_of firsts.now ++ map value_of seconds.now)) picks.now) }
-{
-    let mut parts = Vec::new(alloc);
-    for pick in picks {
-        match picked_part(zero, firsts, seconds, *pick) {
-            None => return Ok(None),
-            Some(part) => parts.push(part)?,
-        }
-    }
-    Ok(Some(parts))
-}
-
-#[tactic(auto, using(spv_types::proofs::Views::value_rows, crate::proofs::Choices::shuffle_rules))]
+#[tactic(auto, using(spv_types::proofs::Views::value_rows, value_ops::proofs::Picks::shuffle_rules))]
 fn shuffled_components(
     alloc: Global,
     shape: &Shape,
@@ -225,7 +108,7 @@ fn shuffled_components(
 {
     match (first, second) {
         (Value::Many(firsts), Value::Many(seconds)) => {
-            let zero = zero_component(elem);
+            let zero = zero_scalar(elem);
             let parts = picked_parts(alloc, &zero, firsts, seconds, picks)?;
             assembled_of(alloc, shape, parts)
         }
@@ -235,7 +118,7 @@ fn shuffled_components(
 }
 
 /// OpVectorShuffle, where the value has this shape.
-#[tactic(auto, using(spv_types::proofs::Views::shape_rows, crate::proofs::Choices::shuffle_is))]
+#[tactic(auto, using(spv_types::proofs::Views::shape_rows, value_ops::proofs::Picks::shuffle_is))]
 pub fn shuffled(
     alloc: Global,
     shape: &Shape,

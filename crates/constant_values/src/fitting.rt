@@ -5,10 +5,10 @@ ghost use Rattle.spv_types.specs.Tree.{vector, array, many, values_in, truth, wo
 ghost use Rattle.spv_types.specs.View.{tree_of, trees_of, value_of};
 ghost use Rattle.op_semantics.specs.Fits.{fits as fits_tree, each_fits, fits_parts as fits_trees, elem_tree};
 
-use crate::copies::copied;
 use spv_module::{Elem, Length, Shape, Value};
 use spv_words::Memory;
 use std::alloc::Global;
+use value_ops::copied;
 
 /// Whether the value has this shape.
 #[cycle(fitting)]
@@ -76,7 +76,7 @@ fn have_shape(shape: &Shape, values: &[Value]) -> bool
 }
 
 #[cycle(fitting)]
-#[tactic(auto, using(crate::proofs::Values::each_rules, crate::proofs::Values::value_smaller))]
+#[tactic(auto, using(crate::proofs::Values::each_rules, value_ops::proofs::Values::value_smaller))]
 fn are_parts(part: &Shape, length: Length, values: &[Value]) -> bool
     ensures { result ≡ fits_tree (array (tree_of part.now) length) (many (values_in (map value_of values.now))) }
 {
@@ -87,7 +87,7 @@ fn are_parts(part: &Shape, length: Length, values: &[Value]) -> bool
 }
 
 #[cycle(fitting)]
-#[tactic(auto, using(crate::proofs::Values::each_rules, crate::proofs::Values::value_smaller))]
+#[tactic(auto, using(crate::proofs::Values::each_rules, value_ops::proofs::Values::value_smaller))]
 fn all_fit(part: &Shape, values: &[Value]) -> bool
     ensures { result ≡ each_fits (tree_of part.now) (values_in (map value_of values.now)) }
 {
@@ -100,7 +100,7 @@ fn all_fit(part: &Shape, values: &[Value]) -> bool
 }
 
 #[cycle(fitting)]
-#[tactic(auto, using(crate::proofs::Values::member_rules, crate::proofs::Values::value_smaller))]
+#[tactic(auto, using(crate::proofs::Values::member_rules, value_ops::proofs::Values::value_smaller))]
 fn are_members(members: &[Shape], values: &[Value]) -> bool
     ensures { result ≡ fits_trees (trees_of members.now) (values_in (map value_of values.now)) }
 {

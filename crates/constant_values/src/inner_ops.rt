@@ -4,10 +4,10 @@ ghost use Rattle.profile_rules.specs.Constants.{is_flat as is_flat_tree, inner_o
 ghost use Rattle.spv_types.specs.View.{tree_of};
 ghost use Rattle.constant_values.specs.Calculated.{inner_op_of as inner_op_in, inner_op_at as inner_op_of_opcode, gives_composite as may_give_composite};
 
-use crate::scalars::{OneScalar, TwoScalars};
 use op_semantics::{Operation, operation_of};
 use spv_module::Shape;
 use spv_ops::Op;
+use value_ops::{OneScalar, TwoScalars};
 
 /// An operation that may stand inside an OpSpecConstantOp.
 #[derive(Clone, Copy)]

@@ -3,7 +3,6 @@
 
 mod assemble;
 mod choose;
-mod copies;
 mod evaluate;
 mod fitting;
 mod inner_ops;

@@ -5,7 +5,7 @@ ghost use Rattle.spv_ops.specs.Opcode.{op_of};
 ghost use Rattle.spv_types.specs.View.{tree_of, value_of};
 ghost use Rattle.op_semantics.specs.Component.{each_one, composite};
 ghost use Rattle.profile_rules.specs.Constants.{if_fits, is_flat as is_flat_tree, operation_value as operation_value_of};
-ghost use Rattle.constant_values.specs.Parts.{referred, plain_references};
+ghost use Rattle.value_ops.specs.References.{referred, plain_references};
 ghost use Rattle.constant_values.specs.Calculated.{inner_value, inner_value_of, calculated_by as value_by_op, gives_composite as may_give_composite};
 ghost use Rattle.constant_values.specs.Held.{value_in};
 
@@ -14,7 +14,7 @@ use crate::choose::{extracted_part, selected, shuffled};
 use crate::inner_ops::{
     InnerOp, gives_composite, inner_literals, inner_op_at, inner_operands, is_flat,
 };
-use crate::scalars::{of_one_operand, of_two_operands};
+use crate::scalars::{fitting_of_one, fitting_of_two};
 use spv_module::{Shape, Value};
 use spv_ops::{Op, inner_op};
 use spv_words::Memory;
@@ -76,11 +76,11 @@ fn operated(
 {
     match op {
         InnerOp::One(op) => match operands {
-            [a] => of_one_operand(alloc, op, shape, a),
+            [a] => fitting_of_one(alloc, op, shape, a),
             _ => Ok(None),
         },
         InnerOp::Two(op) => match operands {
-            [a, b] => of_two_operands(alloc, op, shape, a, b),
+            [a, b] => fitting_of_two(alloc, op, shape, a, b),
             _ => Ok(None),
         },
         InnerOp::Select => match operands {

@@ -5,7 +5,7 @@ ghost use Rattle.spv_types.specs.Tree.{array, struct as struct_tree, values_in};
 ghost use Rattle.spv_types.specs.View.{tree_of, trees_of, value_of};
 ghost use Rattle.spv_types.specs.Leaves.{zero_of};
 ghost use Rattle.profile_rules.specs.Constants.{if_fits};
-ghost use Rattle.constant_values.specs.Operating.{plain_values};
+ghost use Rattle.value_ops.specs.References.{plain_values};
 ghost use Rattle.constant_values.specs.Zeros.{zero_parts as zero_parts_of, zero_members as zero_members_of};
 
 use spv_module::{Length, Shape, Value};

@@ -4,7 +4,8 @@ use Rattle.spv_types.specs.Tree.{many, values_in}
 use Rattle.spv_types.specs.View.{tree_of, value_of}
 use Rattle.spv_types.proofs.Views.{value-Many}
 use Rattle.profile_rules.specs.Constants.{if_fits}
-use Rattle.constant_values.specs.Parts.{part_fits, referred}
+use Rattle.constant_values.specs.Parts.{part_fits}
+use Rattle.value_ops.specs.References.{referred}
 use Rattle.constant_values.proofs.Parts.{misfit_reference}
 use Rattle.constant_values.proofs.assemble.assembled.Goals as goal
 

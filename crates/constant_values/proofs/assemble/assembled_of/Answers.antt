@@ -4,7 +4,7 @@ use Rattle.spv_types.specs.Tree.{ValueTree}
 use Rattle.spv_types.specs.View.{tree_of, value_of}
 use Rattle.op_semantics.specs.Component.{composite}
 use Rattle.profile_rules.specs.Constants.{if_fits}
-use Rattle.constant_values.specs.Parts.{referred, plain_references}
+use Rattle.value_ops.specs.References.{referred, plain_references}
 use Rattle.constant_values.proofs.assemble.assembled_of.Goals as goal
 
 pub returns-in-Some : goal.returns-in-Some

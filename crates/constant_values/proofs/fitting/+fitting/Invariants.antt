@@ -1,7 +1,7 @@
 use Rattle.std.proofs.Common.{◌≡◌, ◌+◌, ◌*◌, drop, length}
 use Rattle.spv_types.specs.View.{tree_of, trees_of, value_of}
 use Rattle.op_semantics.specs.Fits.{each_fits, fits_parts}
-use Rattle.constant_values.proofs.Values.{value_size, values_size, plain}
+use Rattle.value_ops.proofs.Values.{value_size, values_size, plain}
 use Rattle.constant_values.proofs.fitting.+fitting.Given as goal
 
 abbrev pub decreases-fits : goal.decreases-fits

@@ -2,7 +2,7 @@ use Rattle.std.proofs.Common.{◌≡◌, ◌++◌, List, drop}
 use Rattle.std.specs.Prelude.{option_map}
 use Rattle.spv_types.specs.Tree.{ValueTree}
 use Rattle.op_semantics.specs.Component.{each_one}
-use Rattle.constant_values.specs.Parts.{referred}
+use Rattle.value_ops.specs.References.{referred}
 use Rattle.constant_values.specs.Held.{value_in}
 use Rattle.constant_values.proofs.operate.found.Given as goal
 
