@@ -1,6 +1,6 @@
 -- The text of a block is that of its instructions between its phis and its terminator, which are not written.
 use Rattle.std.proofs.Common.{◌≡◌, ◌+◌, ℕ, suc, Bool, true, false, List, [], ◌∷◌, ◌++◌, append_assoc, arith, cond, drop, find, length, Option, Some, None, refl, sym, ap, ◌∙◌, subst, if◌then◌else◌}
-use Rattle.std.specs.Prelude.{flat_map, option_and_then, option_map, slice_get, slice_index, take_while}
+use Rattle.std.specs.Prelude.{flat_map, option_and_then, option_map, slice_get, take_while}
 use Rattle.std.specs.Option.{option_map_or}
 use Rattle.std.specs.List.{prefix_len}
 use Rattle.std.proofs.lemmas.List.{append-nil}
@@ -14,17 +14,16 @@ use Rattle.spv_module.specs.declared.inst.Inst.{Inst}
 use Rattle.spv_module.specs.declared.inst.Block.{Block}
 use Rattle.spv_module.specs.declared.inst.Function.{Function}
 use Rattle.structure_rules.specs.Graph.{terminator}
-use Rattle.glsl_ast.specs.Tree.{Expr, Stmt}
-use Rattle.expr_forward.specs.declared.kinds.InstKind.{InstKind}
+use Rattle.glsl_ast.specs.Tree.{Stmt}
 use Rattle.expr_forward.specs.declared.kinds.InstKind.TheVariants as kind
 use Rattle.expr_forward.specs.Scope.{Scope}
 use Rattle.expr_forward.specs.Kinds.{kind_of}
 use Rattle.expr_forward.specs.Values.{value}
-use Rattle.expr_forward.specs.Statements.{inst_text, insts_at, block_text}
+use Rattle.expr_forward.specs.Statements.{inst_text, block_text}
 use Rattle.module_semantics.specs.Operands.{arg}
-use Rattle.module_semantics.specs.Steps.{is_phi, phis, behind_phis}
+use Rattle.module_semantics.specs.Steps.{is_phi}
 use Rattle.agree_law.specs.Points.{Body}
-use Rattle.function_text.specs.Functions.{FunctionPlan, written, terminator_at, operand_in, first_operand, condition_text, returned_by, returned, result_text}
+use Rattle.function_text.specs.Functions.{FunctionPlan, written, operand_in, first_operand, condition_text, returned_by, returned, result_text}
 
 -- what is written of an instruction in a block
 abbrev pub text_of : Scope → ℕ → Inst → List Stmt

@@ -1,10 +1,10 @@
 -- The expression of a value that has no variable is that of its operation, over the expressions of its operands.
-use Rattle.std.proofs.Common.{◌≡◌, ◌<◌, ◌≤◌, ℕ, zero, suc, List, [], ◌∷◌, drop, map, Option, Some, None, refl, sym, ap, ◌∙◌, subst, arith, unwrap_or}
+use Rattle.std.proofs.Common.{◌≡◌, ◌<◌, ◌≤◌, ℕ, zero, suc, List, [], ◌∷◌, drop, map, Option, Some, None, refl, ap, ◌∙◌, arith, unwrap_or}
 use Rattle.std.specs.Prelude.{slice_index}
 use Rattle.spv_module.specs.declared.inst.Inst.{Inst}
 use Rattle.hoist_plan.specs.declared.form.Form.{Form}
 use Rattle.hoist_plan.specs.declared.form.Form.TheVariants.{Gone, Forwarded, Local, Hoisted}
-use Rattle.glsl_ast.specs.Tree.{Expr, Exprs, build, exprs_in}
+use Rattle.glsl_ast.specs.Tree.{Expr, build, exprs_in}
 use Rattle.text_rules.specs.Outlines.{basic}
 use Rattle.text_rules.specs.Declarations.{shape_at, type_at}
 use Rattle.expr_forward.specs.declared.kinds.OperationKind.{OperationKind}
@@ -12,7 +12,7 @@ use Rattle.expr_forward.specs.declared.kinds.OperationKind.TheVariants as kind
 use Rattle.expr_forward.specs.Scope.{Scope, Argument, globals, inst_at, type_of}
 use Rattle.expr_forward.specs.Paths.{word_at, further, part_steps}
 use Rattle.expr_forward.specs.Kinds.{operation_kind_of}
-use Rattle.expr_forward.specs.Values.{variable, argument, value_words, literal_words, operation_text, whole_argument, by_kind, expression, forwarded, by_form, value_in, deepest, value}
+use Rattle.expr_forward.specs.Values.{variable, argument, value_words, literal_words, operation_text, by_kind, expression, forwarded, by_form, value_in, value}
 use Rattle.block_law.specs.Ranked.{ids_by_kind, operand_ids, AreBelow, IsForwardedBy, IsRanked}
 
 -- two ways to write values agree on these

@@ -1,5 +1,5 @@
 -- Values that stand in one another's expressions, each lower than that in which it stands.
-use Rattle.std.specs.Prelude.{◌≡◌, ◌<◌, ◌≤◌, ℕ, List, [], ◌∷◌, drop, Option, Some, None, slice_index}
+use Rattle.std.specs.Prelude.{◌≡◌, ◌<◌, ◌≤◌, ℕ, List, [], ◌∷◌, drop, Some, None, slice_index}
 use Rattle.spv_module.specs.declared.inst.Inst.{Inst}
 use Rattle.hoist_plan.specs.declared.form.Form.TheVariants.{Forwarded}
 use Rattle.expr_forward.specs.declared.kinds.OperationKind.{OperationKind}

@@ -1,6 +1,6 @@
 -- A function's text is at most 1,003 high, where at most 129 constructs stand in one another.
-use Rattle.std.proofs.Common.{◌≡◌, ◌≤◌, ◌+◌, ◌*◌, ◌==◌, ◌&&◌, not, ℕ, Bool, true, false, List, [], ◌∷◌, ◌++◌, Option, Some, None, filter, map, max, refl, sym, ◌∙◌, ap, subst, arith, if◌then◌else◌, unwrap_or}
-use Rattle.std.specs.Prelude.{flat_map, option_map, slice_get}
+use Rattle.std.proofs.Common.{◌≡◌, ◌≤◌, ◌+◌, ℕ, Bool, true, false, List, ◌++◌, Option, Some, None, filter, map, refl, subst, arith, if◌then◌else◌, unwrap_or}
+use Rattle.std.specs.Prelude.{option_map, slice_get}
 use Rattle.std.specs.Option.{option_map_or}
 use Rattle.spv_module.specs.Lists.{id}
 use Rattle.spv_module.specs.Held.{global}
@@ -14,17 +14,17 @@ use Rattle.phi_copies.specs.declared.moves.Move.{Move}
 use Rattle.phi_copies.specs.declared.moves.Move.TheVariants.{Set, Save, Restore}
 use Rattle.vec_lowering.specs.Depth.{depth}
 use Rattle.glsl_ast.specs.declared.expressions.Literal.TheVariants.{Uint}
-use Rattle.glsl_ast.specs.Tree.{Text, Expr, literal, name, TypeName, Stmt, stmts_in}
-use Rattle.glsl_ast.specs.Height.{highest, highest_in, height, type_height, param_height, stmt_height, stmts_height, decl_height}
+use Rattle.glsl_ast.specs.Tree.{Text, Expr, literal, name, TypeName, Stmt}
+use Rattle.glsl_ast.specs.Height.{highest, highest_in, height, type_height, param_height, stmt_height, decl_height}
 use Rattle.text_rules.specs.declared.readings.Reading.{Reading}
 use Rattle.text_rules.specs.declared.readings.Reading.TheVariants.{Plain, Named, GroupSize, GroupSizePart}
 use Rattle.text_rules.specs.Constants.{Source, reading, expr_by, constant_expr}
 use Rattle.text_rules.specs.Declarations.{Names, spelling, shape_at, type_at, pointee_at, zero_at, expr_at, initial}
-use Rattle.expr_forward.specs.Scope.{Scope, type_of}
+use Rattle.expr_forward.specs.Scope.{type_of}
 use Rattle.expr_forward.specs.Values.{value}
 use Rattle.expr_forward.specs.Statements.{is_void, captured_of}
 use Rattle.control_text.specs.Statements.{function_text}
-use Rattle.function_text.specs.Functions.{FunctionPlan, written, name_expr, constant_text, source_expr, spare_name, move_text, copies_text, first_operand, returned, result_text, condition_text, blocks_of, is_variable, variable_text, hoisted_text, is_hoisted_in, captured_text, variables_text, hoisted_texts, captured_texts_of, captured_texts, in_blocks, top_text, param_text, result_type_at, result_type, body_text, function_decl}
+use Rattle.function_text.specs.Functions.{FunctionPlan, written, source_expr, move_text, first_operand, returned, result_text, blocks_of, is_variable, variable_text, hoisted_text, is_hoisted_in, captured_text, variables_text, hoisted_texts, captured_texts_of, captured_texts, in_blocks, top_text, param_text, body_text, function_decl}
 use Rattle.height_law.specs.Shallow.{IsShallow}
 use Rattle.height_law.specs.Nest.{nest}
 use Rattle.height_law.specs.Written.{AreLow}

@@ -1,5 +1,5 @@
 -- The items before the functions are at most 44 high.
-use Rattle.std.proofs.Common.{◌≡◌, ◌≤◌, ◌+◌, ℕ, Bool, true, false, List, [], ◌∷◌, Option, Some, None, drop, map, max, arith, if◌then◌else◌}
+use Rattle.std.proofs.Common.{◌≤◌, ℕ, Bool, true, false, List, [], ◌∷◌, Option, Some, None, drop, map, arith, if◌then◌else◌}
 use Rattle.std.specs.Option.{option_map_or}
 use Rattle.spv_ops.specs.declared.Op.{Op}
 use Rattle.spv_module.specs.declared.inst.Inst.{Inst}
@@ -13,7 +13,7 @@ use Rattle.vec_lowering.specs.Depth.{depth, deepest_argument, highest_argument}
 use Rattle.vec_lowering.proofs.Heights.{height-lowered_vector}
 use Rattle.int_lowering.specs.Operand.{basic_type}
 use Rattle.int_lowering.specs.Lowered.{zero}
-use Rattle.glsl_ast.specs.Tree.{Text, Expr, exprs_in, Decl, field}
+use Rattle.glsl_ast.specs.Tree.{Text, exprs_in, Decl, field}
 use Rattle.glsl_ast.specs.Height.{highest, height, field_height, member_height, decl_height}
 use Rattle.text_rules.specs.Constants.{Source}
 use Rattle.text_rules.specs.Printed.{Reached, is_private, is_written_struct, is_declared_constant, is_written_variable}

@@ -7,4 +7,5 @@ pub mod Functions
 pub mod Items
 pub mod Shapes
 pub mod Nested
+pub mod Paths
 pub mod Unit

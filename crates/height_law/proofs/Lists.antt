@@ -1,16 +1,15 @@
 -- Heights of lists, types and zeros.
-use Rattle.std.proofs.Common.{◌≡◌, ◌≤◌, ◌+◌, ℕ, zero, suc, List, [], ◌∷◌, ◌++◌, map, max, replicate, refl, sym, ◌∙◌, ap, arith}
+use Rattle.std.proofs.Common.{◌≤◌, ◌+◌, ℕ, zero, suc, List, [], ◌∷◌, ◌++◌, map, max, arith}
 use Rattle.std.specs.Prelude.{flat_map}
 use Rattle.spv_module.specs.declared.tree.Elem.{Elem}
 use Rattle.spv_module.specs.declared.tree.Elem.TheVariants as elem
-use Rattle.spv_module.specs.declared.tree.Length.{Length}
 use Rattle.spv_module.specs.declared.tree.Length.TheVariants.{Fixed, Spec}
 use Rattle.spv_types.specs.Tree as shape
 use Rattle.spv_types.specs.Tree.{Tree, Trees, no_trees, tree}
 use Rattle.glsl_ast.specs.Tree.{Expr, Exprs, no_exprs, exprs_in, Extent, TypeName, type_name, Base, Stmt, stmts_in}
 use Rattle.glsl_ast.specs.Tree as ast
 use Rattle.glsl_ast.specs.Height.{highest, height, heights, base_height, extent_height, type_height, stmt_height, stmts_height}
-use Rattle.text_rules.specs.Types.{Spelling, vector_base, with_extent, type_text, zero_elem, times, zero_text, zero_texts}
+use Rattle.text_rules.specs.Types.{Spelling, type_text, zero_elem, times, zero_text, zero_texts}
 use Rattle.vec_lowering.specs.Depth.{depth, deepest}
 
 pub within : (m k n : ℕ) → m ≤ k → k ≤ n → m ≤ n

@@ -1,5 +1,5 @@
 -- Expressions of pointers and of parts: as high as their steps are many.
-use Rattle.std.proofs.Common.{◌≡◌, ◌≤◌, ◌+◌, ℕ, suc, Bool, true, false, List, [], ◌∷◌, Option, Some, None, length, max, refl, sym, ◌∙◌, ap, subst, arith, unwrap_or, if◌then◌else◌, nat_lt}
+use Rattle.std.proofs.Common.{◌≡◌, ◌≤◌, ◌+◌, ℕ, suc, Bool, true, false, List, [], ◌∷◌, Option, Some, None, length, refl, ap, arith, unwrap_or, if◌then◌else◌, nat_lt}
 use Rattle.spv_ops.specs.Opcode.{is}
 use Rattle.spv_ops.specs.declared.Op.{Op}
 use Rattle.spv_ops.specs.declared.Op.TheVariants as code
@@ -10,12 +10,12 @@ use Rattle.access_paths.specs.declared.forms.Step.TheVariants as step
 use Rattle.access_paths.specs.Ways.{Way, path}
 use Rattle.profile_rules.specs.MemoryRules.{pointee_of}
 use Rattle.glsl_ast.specs.Tree as text
-use Rattle.glsl_ast.specs.Tree.{Expr, name, literal, LStep, LValue, lvalue}
+use Rattle.glsl_ast.specs.Tree.{Expr, name, literal, LStep}
 use Rattle.glsl_ast.specs.declared.expressions.Literal.TheVariants.{Int}
 use Rattle.glsl_ast.specs.Height.{highest, height, step_height, lvalue_height}
 use Rattle.vec_lowering.specs.Component.{axis_name}
 use Rattle.expr_forward.specs.Scope.{Setting, Scope, globals, globals_in}
-use Rattle.expr_forward.specs.Paths.{index_expr, word_at, vector_size, index_by, step_text, step_type, steps_text, base_text, way_text, place_text, further, part_step_by, part_step, composite_op_in, part_type, part_steps, lvalue_expr, place_expr}
+use Rattle.expr_forward.specs.Paths.{index_expr, word_at, vector_size, index_by, step_text, step_type, steps_text, base_text, place_text, further, part_step_by, composite_op_in, part_type, part_steps, place_expr}
 use Rattle.height_law.specs.Shallow.{IsShallow}
 use Rattle.height_law.proofs.Lists.{within, some-high}
 

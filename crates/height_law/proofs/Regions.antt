@@ -1,5 +1,5 @@
 -- The statements of a tree of regions are two higher for each construct, from those of its blocks and edges.
-use Rattle.std.proofs.Common.{◌≡◌, ◌≤◌, ◌+◌, ◌*◌, ℕ, Bool, true, false, List, [], ◌∷◌, ◌++◌, cond, Option, Some, None, fold, map, max, nat_eq, refl, sym, ◌∙◌, ap, subst, arith, if◌then◌else◌}
+use Rattle.std.proofs.Common.{◌≡◌, ◌≤◌, ◌+◌, ◌*◌, ℕ, Bool, true, false, List, [], ◌∷◌, ◌++◌, cond, Option, Some, None, max, nat_eq, refl, arith, if◌then◌else◌}
 use Rattle.std.specs.Option.{option_map_or, option_to_list}
 use Rattle.std.specs.Map.{update, update_all}
 use Rattle.structure_rules.specs.declared.graph.EdgeKind.{EdgeKind}
@@ -8,11 +8,11 @@ use Rattle.structure_recover.specs.declared.region.Exit.{Exit}
 use Rattle.structure_recover.specs.declared.region.Exit.TheVariants.{Edge, Return, Lost, Closed}
 use Rattle.structure_recover.specs.Tree.{Region, ends, item, Item, plain, choose, loose, loop, loop_on, switch, Groups, none, group}
 use Rattle.glsl_ast.specs.Tree as text
-use Rattle.glsl_ast.specs.Tree.{Text, Expr, Stmt, Stmts, name, not, give, when, either, stmts_in, arms_in}
+use Rattle.glsl_ast.specs.Tree.{Text, Expr, Stmt, name, not, when, stmts_in, arms_in}
 use Rattle.glsl_ast.specs.Height.{highest, highest_in, height, label_height, stmt_height, stmts_height, arms_height}
 use Rattle.glsl_ast.specs.declared.statements.Label.{Label}
 use Rattle.control_text.specs.declared.place.Place.{Place}
-use Rattle.control_text.specs.Statements.{Blocks, set_flag, declare_flag, flags, conditional, unless_fallen, has_break, groups_have_break, plain_block, leave_again, by_target, in_order, turn, inside_loop, inside_switch, leave_loop, edge_text, exit_text, entering, onward, entering_case, behind_switch, labels_text, fell_flags, loop_flags, loop_text, region_text, item_text, groups_text}
+use Rattle.control_text.specs.Statements.{Blocks, set_flag, declare_flag, flags, conditional, unless_fallen, groups_have_break, plain_block, leave_again, by_target, in_order, turn, inside_loop, inside_switch, leave_loop, edge_text, exit_text, entering, onward, entering_case, behind_switch, labels_text, fell_flags, loop_flags, loop_text, region_text, item_text, groups_text}
 use Rattle.height_law.specs.Nest.{nest, item_nest, groups_nest}
 use Rattle.height_law.specs.Written.{AreLow}
 use Rattle.height_law.proofs.Lists.{within, append-le, stmts-le}

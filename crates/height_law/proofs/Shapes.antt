@@ -1,7 +1,6 @@
 -- The shapes of types are as deep as the limit on types allows.
-use Rattle.std.proofs.Common.{◌≡◌, ◌<◌, ◌≤◌, ◌+◌, ◌==◌, ◌&&◌, ℕ, zero, suc, Bool, true, false, List, [], ◌∷◌, length, Option, Some, None, find, map, max, refl, sym, ◌∙◌, ap, subst, inl, inr, arith, if◌then◌else◌, take, nat_le, unwrap_or}
+use Rattle.std.proofs.Common.{◌≡◌, ◌<◌, ◌≤◌, ◌+◌, ◌==◌, ◌&&◌, ℕ, zero, suc, Bool, true, false, List, [], ◌∷◌, length, Option, Some, None, find, refl, sym, ◌∙◌, ap, subst, arith, if◌then◌else◌, take, nat_le, unwrap_or}
 use Rattle.std.specs.Prelude.{Contains, option_map, slice_index}
-use Rattle.std.specs.List.{All}
 use Rattle.std.specs.Option.{option_map_or}
 use Rattle.std.proofs.lemmas.List.Elements.{All-contains}
 use Rattle.spv_module.specs.Held.{global}
@@ -11,7 +10,7 @@ use Rattle.spv_module.specs.declared.tree.Length.{Length}
 use Rattle.spv_types.specs.declared.kind.TypeKind.{TypeKind}
 use Rattle.spv_types.specs.declared.kind.TypeKind.TheVariants as kinds
 use Rattle.spv_types.specs.Tree.{Tree, boolean, int, uint, vector, array, runtime, struct, Trees, no_trees, tree}
-use Rattle.spv_types.specs.Types.{kind, ids_by_kind, below, deepest as deepest_id, depth_step, depth_before, depth_at, depth as depth_of, if_earlier, parts_at, int_tree, elem_of, sized_vector, vector_tree, length_by, array_tree, both, all_trees, tree_by_kind, tree_step, tree_before, tree_at, type_tree}
+use Rattle.spv_types.specs.Types.{kind, ids_by_kind, below, deepest as deepest_id, depth_step, depth_before, depth_at, depth as depth_of, if_earlier, parts_at, elem_of, sized_vector, vector_tree, length_by, array_tree, both, all_trees, tree_by_kind, tree_step, tree_before, tree_at, type_tree}
 use Rattle.spv_types.specs.Limits.{AreWithin}
 use Rattle.spv_types.proofs.Below.{tree_before_is}
 use Rattle.vec_lowering.specs.Depth.{depth, deepest}

@@ -1,5 +1,5 @@
 -- The statements of a block are at most 743 high.
-use Rattle.std.proofs.Common.{◌≡◌, ◌≤◌, ◌+◌, ◌==◌, ℕ, zero, suc, Bool, true, false, List, [], ◌∷◌, ◌++◌, Option, Some, None, drop, map, max, refl, sym, ◌∙◌, ap, subst, inl, inr, arith, is_some, if◌then◌else◌, bit_and}
+use Rattle.std.proofs.Common.{◌≡◌, ◌≤◌, ◌+◌, ◌==◌, ℕ, zero, suc, Bool, true, false, List, [], ◌∷◌, ◌++◌, Option, Some, None, drop, refl, sym, subst, inl, inr, arith, is_some, if◌then◌else◌, bit_and}
 use Rattle.std.specs.Prelude.{flat_map, slice_get, slice_index, codes}
 use Rattle.std.specs.Option.{option_map_or}
 use Rattle.spv_ops.specs.declared.AtomicOp.{AtomicOp}
@@ -10,23 +10,22 @@ use Rattle.spv_module.specs.declared.inst.Block.{Block}
 use Rattle.spv_index.specs.Locals.{insts_of}
 use Rattle.profile_rules.specs.MemoryRules.{pointee_of}
 use Rattle.plan_law.specs.InOrder.{IsAmong}
-use Rattle.name_alloc.specs.declared.claims.Key.TheVariants.{Id, Captured}
+use Rattle.name_alloc.specs.declared.claims.Key.TheVariants.{Id}
 use Rattle.hoist_plan.specs.declared.form.Form.{Form}
 use Rattle.hoist_plan.specs.declared.form.Form.TheVariants.{Gone, Forwarded, Local, Hoisted}
 use Rattle.glsl_ast.specs.Tree as text
-use Rattle.glsl_ast.specs.Tree.{Text, Expr, binary, exprs_in, Stmt, declare, assign, LStep, lvalue}
-use Rattle.glsl_ast.specs.declared.expressions.BinOp.TheVariants.{Sub}
+use Rattle.glsl_ast.specs.Tree.{Text, Expr, exprs_in, Stmt, assign, LStep, lvalue}
 use Rattle.glsl_ast.specs.Height.{highest, height, step_height, stmt_height}
 use Rattle.text_rules.specs.Declarations.{type_at}
 use Rattle.expr_forward.specs.declared.kinds.InstKind.{InstKind}
 use Rattle.expr_forward.specs.declared.kinds.InstKind.TheVariants as kind
 use Rattle.expr_forward.specs.Scope.{Scope, globals}
-use Rattle.expr_forward.specs.Paths.{index_expr, part_steps, place_text, place_expr}
+use Rattle.expr_forward.specs.Paths.{part_steps, place_expr}
 use Rattle.expr_forward.specs.Values.{value, expression}
 use Rattle.expr_forward.specs.Kinds.{kind_of}
-use Rattle.expr_forward.specs.Statements.{set_by, set, call_argument, call_arguments, is_void, callee_text, call_text, word_by, word_at_place, atomic_name, atomic_value, compares, has_result, comparator, atomic_operand, atomic_arguments, atomic_text, bare_call, when_bit, memory_barrier, semantics, memory_barrier_text, control_barrier_text, capture, captured_of, chain_text, insert_text, is_variable_form, insert_where_named, set_value, inst_text, insts_at, block_text}
+use Rattle.expr_forward.specs.Statements.{set_by, set, call_argument, call_arguments, is_void, callee_text, call_text, word_by, atomic_name, compares, has_result, comparator, atomic_operand, atomic_arguments, atomic_text, bare_call, when_bit, memory_barrier, semantics, capture, captured_of, insert_text, is_variable_form, insert_where_named, inst_text, block_text}
 use Rattle.height_law.specs.Shallow.{IsShallow}
-use Rattle.height_law.proofs.Lists.{within, append-le, map-le, exprs-le, some-high, type-le}
+use Rattle.height_law.proofs.Lists.{within, append-le, map-le, exprs-le, type-le}
 use Rattle.height_law.proofs.Pointers.{index-le, parts-le, place-le, target-le}
 use Rattle.height_law.proofs.Values.{value-le, operation-of-le}
 

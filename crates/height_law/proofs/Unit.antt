@@ -1,15 +1,13 @@
 -- The text of a module is at most 1,003 high, where its types and functions are shallow.
-use Rattle.std.proofs.Common.{◌≡◌, ◌<◌, ◌≤◌, ◌+◌, ℕ, zero, suc, Bool, true, false, List, [], ◌∷◌, ◌++◌, Option, Some, None, filter, find, length, map, max, refl, sym, ◌∙◌, ap, subst, arith, if◌then◌else◌}
-use Rattle.std.specs.Prelude.{Contains, flat_map, option_and_then, option_to_list}
+use Rattle.std.proofs.Common.{◌≡◌, ◌<◌, ◌≤◌, ◌+◌, ℕ, zero, suc, Bool, true, false, List, [], ◌∷◌, ◌++◌, Option, Some, None, filter, find, length, map, refl, sym, subst, arith, if◌then◌else◌}
+use Rattle.std.specs.Prelude.{Contains, option_and_then, option_to_list}
 use Rattle.std.specs.List.{AllZip}
 use Rattle.std.proofs.lemmas.List.Elements.{All-contains}
-use Rattle.spv_ops.specs.declared.Op.{Op}
 use Rattle.spv_module.specs.State.{ModuleState}
 use Rattle.spv_module.specs.Held.{global}
 use Rattle.spv_module.specs.declared.inst.Id.{Id}
 use Rattle.spv_module.specs.declared.inst.Inst.{Inst}
 use Rattle.spv_module.specs.declared.inst.Function.{Function}
-use Rattle.spv_types.specs.Tree.{Tree}
 use Rattle.conformance.specs.Rules.{Options}
 use Rattle.module_check.specs.Judged.{IsFine}
 use Rattle.module_check.specs.Structure.{IsStructured}
@@ -17,19 +15,18 @@ use Rattle.structure_rules.specs.Graph.{graph}
 use Rattle.structure_rules.specs.Structure.{IsTooDeep}
 use Rattle.nest_place.specs.Nests.{IsSound}
 use Rattle.use_chains.specs.Links.{Link}
-use Rattle.vec_lowering.specs.Depth.{depth, deepest_argument, highest_argument}
+use Rattle.vec_lowering.specs.Depth.{depth}
 use Rattle.vec_lowering.proofs.Heights.{height-lowered_vector}
 use Rattle.name_alloc.specs.Naming.{name_of}
-use Rattle.glsl_ast.specs.Tree.{Text, Expr, name, Decl, TranslationUnit, translation_unit}
+use Rattle.glsl_ast.specs.Tree.{Text, Expr, name, TranslationUnit}
 use Rattle.glsl_ast.specs.Height.{highest, height, decl_height, unit_height}
 use Rattle.text_rules.specs.Constants.{Source, is_constant, constant_expr}
 use Rattle.text_rules.specs.Declarations.{shape_at, declarations}
 use Rattle.text_items.specs.Globals.{is_input, global_by}
-use Rattle.expr_forward.specs.Scope.{Scope, Argument}
 use Rattle.expr_forward.specs.Context.{operand}
-use Rattle.function_text.specs.Functions.{FunctionPlan, function_decl, written}
+use Rattle.function_text.specs.Functions.{FunctionPlan, function_decl}
 use Rattle.emit_glsl.specs.Translation.{Naming, id_text, global_expr, scope_of, IsPlanOf}
-use Rattle.emit_glsl.specs.Unit.{has_id, plan_at, in_order, is_called, called, source_of, reached_of, item_names_of, unit_text, IsUnitOf}
+use Rattle.emit_glsl.specs.Unit.{has_id, plan_at, in_order, is_called, called, source_of, reached_of, item_names_of, IsUnitOf}
 use Rattle.emit_glsl.specs.Text.{most_height}
 use Rattle.height_law.specs.Shallow.{IsShallow, IsShallowFunction, most_nested}
 use Rattle.height_law.specs.Nest.{nest}

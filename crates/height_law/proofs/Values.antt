@@ -1,33 +1,28 @@
 -- Expressions of values: each result that stands in the expression of another makes it at most 40 higher, and so many stand in one another at most.
-use Rattle.std.proofs.Common.{◌≡◌, ◌≤◌, ◌+◌, ◌*◌, ◌==◌, ℕ, zero, suc, Bool, true, false, List, [], ◌∷◌, Option, Some, None, drop, find, length, map, max, take, refl, sym, ◌∙◌, ap, subst, inl, inr, arith, unwrap_or, if◌then◌else◌}
+use Rattle.std.proofs.Common.{◌≡◌, ◌≤◌, ◌+◌, ◌*◌, ◌==◌, ℕ, zero, suc, Bool, true, false, List, [], ◌∷◌, Option, Some, None, drop, find, length, map, refl, inl, inr, arith, unwrap_or, if◌then◌else◌}
 use Rattle.std.specs.Prelude.{slice_index}
 use Rattle.std.specs.Option.{option_map_or}
 use Rattle.spv_module.specs.Held.{global}
-use Rattle.std.proofs.lemmas.Bool.{cases_Bool}
-use Rattle.spv_ops.specs.declared.Op.{Op}
 use Rattle.spv_module.specs.Lists.{id}
 use Rattle.spv_module.specs.declared.inst.Inst.{Inst}
 use Rattle.spv_types.specs.Tree.{Tree, boolean, int, uint, vector, array, runtime, struct}
 use Rattle.spv_types.specs.Types.{tree_at}
 use Rattle.spv_index.specs.Locals.{insts_of}
-use Rattle.profile_rules.specs.MemoryRules.{pointee_of}
 use Rattle.plan_law.specs.InOrder.{IsAmong}
 use Rattle.hoist_plan.specs.declared.form.Form.{Form}
 use Rattle.hoist_plan.specs.declared.form.Form.TheVariants.{Gone, Forwarded, Local, Hoisted}
-use Rattle.name_alloc.specs.declared.claims.Key.TheVariants.{Id, Member}
-use Rattle.glsl_ast.specs.Tree as text
-use Rattle.glsl_ast.specs.Tree.{Expr, name, build, exprs_in, type_name}
-use Rattle.glsl_ast.specs.Height.{highest, height}
+use Rattle.glsl_ast.specs.Tree.{Expr, exprs_in}
+use Rattle.glsl_ast.specs.Height.{height}
 use Rattle.text_rules.specs.Outlines.{basic_of, basic_at, basic}
-use Rattle.text_rules.specs.Declarations.{spelling, shape_at, type_at, zero_at}
+use Rattle.text_rules.specs.Declarations.{spelling, shape_at, type_at}
 use Rattle.vec_lowering.specs.Depth.{depth, deepest_argument, highest_argument}
 use Rattle.expr_forward.specs.declared.kinds.OperationKind.{OperationKind}
 use Rattle.expr_forward.specs.declared.kinds.OperationKind.TheVariants as kind
-use Rattle.expr_forward.specs.Scope.{Scope, Argument, globals, inst_at, type_of}
+use Rattle.expr_forward.specs.Scope.{Scope, globals, inst_at, type_of}
 use Rattle.expr_forward.specs.Context.{operand}
-use Rattle.expr_forward.specs.Paths.{word_at, further, part_steps, place_expr}
+use Rattle.expr_forward.specs.Paths.{part_steps}
 use Rattle.expr_forward.specs.Kinds.{operation_kind_of}
-use Rattle.expr_forward.specs.Values.{variable, argument, value_words, literal_words, operation_text, length_text, extraction_text, construction_text, whole_argument, logical_copy_text, by_kind, expression, forwarded, by_form, value_in, deepest, value}
+use Rattle.expr_forward.specs.Values.{argument, value_words, literal_words, operation_text, length_text, extraction_text, construction_text, whole_argument, logical_copy_text, by_kind, expression, forwarded, by_form, value_in, deepest, value}
 use Rattle.height_law.specs.Shallow.{IsShallow}
 use Rattle.height_law.proofs.Lists.{within, map-le, exprs-le, build-le, zero-le}
 use Rattle.height_law.proofs.Pointers.{further-le, parts-le, parts-length, place-le}

@@ -1,11 +1,12 @@
 -- What is known of a function, and of where its blocks are written, where its text is low.
-use Rattle.std.specs.Prelude.{◌≡◌, ◌≤◌, ◌+◌, ℕ, List, drop, length, map, Option, Some}
+use Rattle.std.specs.Prelude.{◌≡◌, ◌≤◌, ◌+◌, ℕ, true, List, drop, length, map, Some}
+use Rattle.spv_ops.specs.Groups.{is_chain}
 use Rattle.spv_ops.specs.declared.Op.{Op}
 use Rattle.spv_module.specs.declared.inst.Inst.{Inst}
 use Rattle.spv_module.specs.declared.inst.Function.{Function}
 use Rattle.spv_types.specs.Tree.{Tree}
 use Rattle.spv_index.specs.Locals.{insts_of}
-use Rattle.access_paths.specs.Ways.{path}
+use Rattle.access_paths.specs.Ways.{base, indexes, path}
 use Rattle.plan_law.specs.InOrder.{IsAmong}
 use Rattle.glsl_ast.specs.Tree.{Expr}
 use Rattle.glsl_ast.specs.Height.{height}
@@ -32,3 +33,8 @@ pub record IsShallowFunction (gs : List Inst) (f : Function) : Type 0 where
 -- so many constructs stand in one another at most: nesting is at most 127, and the last two may hold no block
 abbrev pub most_nested : ℕ
 most_nested = 129
+
+-- each chain leads from where there is more room to where there is less, by one for each index
+pub record AreDescending (f : Function) (room : ℕ → ℕ) : Type 0 where
+  pub low : (pointer : ℕ) → room pointer ≤ 16
+  pub falls : (i : Inst) → IsAmong i (insts_of f) → is_chain i.op ≡ true → room i.result + length (indexes i) ≤ room (base i)

@@ -1,0 +1,5 @@
+pub mod Uses
+pub mod Named
+pub mod Asked
+pub mod Statements
+pub mod Blocks
