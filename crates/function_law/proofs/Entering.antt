@@ -140,7 +140,7 @@ module _ (m other : Naming) (apart : AreApart other) (s : Setting) (c : Conf) (r
       has_past w x (variable_with (shape_of a.1) (Some (tree_of_value a.1))) (parameter_frame qs as') (λ same. ne p.0.0 (passed (length c.below) h) this.value this.has (sym this.name ∙ same))
       ∙ has_none ps ns hs qs as' (λ n r path is. wholes n r path (inr is)) are.1 x ne
 
-  parameters_are : (p : Program) (ps : List (Id × Id)) (ns : List ℕ) (hs : List Held) (qs : List Param) (as' : List Argument) → Wholes ns hs → ArePassed m other c ps ns hs qs as' → AreTypedParameters p other ps qs → parameters p qs as' ≡ Some (parameter_frame qs as')
+  pub parameters_are : (p : Program) (ps : List (Id × Id)) (ns : List ℕ) (hs : List Held) (qs : List Param) (as' : List Argument) → Wholes ns hs → ArePassed m other c ps ns hs qs as' → AreTypedParameters p other ps qs → parameters p qs as' ≡ Some (parameter_frame qs as')
   parameters_are p [] [] [] [] [] wholes are types = refl
   parameters_are p [] (n ∷ ns) hs qs as' wholes are types = absurd are
   parameters_are p [] [] (h ∷ hs) qs as' wholes are types = absurd are

@@ -8,3 +8,4 @@ pub mod Returned
 pub mod TopText
 pub mod Entering
 pub mod OneFunction
+pub mod AllFunctions

@@ -145,7 +145,7 @@ module _ (p : Program) (calls : Text → List Argument → State → Result (Opt
     lending : IsLending s c.at.below c.at.top
     lending = calling.stands.holds.known.lending.top (omega arith)
 
-    whole : (n : ℕ) (r : Root) (path : List ℕ) → IsArgument n (pointer r path) Args hs → IsWhole s c.at.below c.at.top n r path
+    pub whole : (n : ℕ) (r : Root) (path : List ℕ) → IsArgument n (pointer r path) Args hs → IsWhole s c.at.below c.at.top n r path
     whole = whole_in s ruled.lends c.at.below c.at.top lending Args hs calling.have (ruled.lends.arguments c.at.top.function lending.code.of_module i (next_of s c.at.top i rest calling.next lending.code) calling.kind).0
 
     module _ (d : Supplied Conf) (y : State) (agree : Agree other d.at y) (inside : Inside d.at) where

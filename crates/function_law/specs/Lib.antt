@@ -2,3 +2,4 @@ pub mod Edges
 pub mod UnderWay
 pub mod Passed
 pub mod Tops
+pub mod Texts
