@@ -122,7 +122,11 @@ fn built_ins(
 }
 
 /// What each invocation is told alike.
-fn told_alike(alloc: Global, case: &Case, special: BTreeMap<u32, u32>) -> Result<Invocation, Memory>
+pub fn told_alike(
+    alloc: Global,
+    case: &Case,
+    special: BTreeMap<u32, u32>,
+) -> Result<Invocation, Memory>
     requires { IsTrue (list_all (λ b. is_short b.2) (map buffer_view case.now.buffers.items)) }
     ensures sizes { IfOk result (λ inv. inv.sizes.items ≡ map size_of (map buffer_view case.now.buffers.items)) }
     ensures special { IfOk result (λ inv. inv.special ≡ special) }
@@ -155,33 +159,26 @@ fn sizes(alloc: Global, buffers: &[(u32, u32, Vec<u32>)]) -> Result<Vec<(u32, u3
     Ok(sizes)
 }
 
-/// Begins the invocation with this number.
+/// Begins one invocation more, whose built-in variables have these values.
 fn begin_one<R: Runner>(
-    alloc: Global,
     side: &mut R,
     inv: &mut Invocation,
-    groups: [u32; 3],
-    size: [u32; 3],
-    group: usize,
-    who: usize,
+    values: Vec<Value>,
 ) -> Result<(), Memory>
-    ghost grid: { Grid }
-    requires grid { IsGridOf grid groups size }
-    requires group { group ≡ product grid.size }
-    requires few { who ≤ 1024 }
-    requires sizes { bytes_in inv.old.sizes.items ≡ grid.buffer_bytes }
+    ghost told: { Told }
+    requires values { map value_of values.items ≡ built_in_values told }
+    requires sizes { bytes_in inv.old.sizes.items ≡ told.buffer_bytes }
     requires apart { keys_repeat inv.old.sizes.items ≡ false }
-    requires special { get nat_cmp inv.old.special ≡ grid.specialization }
-    requires takes { R.takes side.old grid.specialization }
-    requires counted { R.count side.old ≡ who }
-    ensures begun { OnOk result (R.at side.new ≡ with_at (R.at side.old) who (fresh (told_by grid who))) }
-    ensures counted { OnOk result (R.count side.new ≡ who + 1) }
+    requires special { get nat_cmp inv.old.special ≡ told.specialization }
+    requires takes { R.takes side.old told.specialization }
+    ensures begun { OnOk result (R.at side.new ≡ with_at (R.at side.old) (R.count side.old) (fresh told)) }
+    ensures counted { OnOk result (R.count side.new ≡ R.count side.old + 1) }
     ensures sizes { inv.new.sizes ≡ inv.old.sizes }
     ensures special { inv.new.special ≡ inv.old.special }
     ensures runs { R.runs side.new ≡ R.runs side.old }
-    ensures takes { R.takes side.new grid.specialization }
+    ensures takes { R.takes side.new told.specialization }
 {
-    inv.builtins = built_ins(alloc, groups, size, group, who)?;
+    inv.builtins = values;
     side.begin(inv)?;
     Ok(())
 }
@@ -208,7 +205,8 @@ fn begin_all<R: Runner>(
     ensures runs { R.runs side.new ≡ R.runs side.old }
 {
     for who in 0..extent.count {
-        begin_one(alloc, side, inv, groups, size, extent.group, who)?;
+        let values = built_ins(alloc, groups, size, extent.group, who)?;
+        begin_one(side, inv, values)?;
     }
     Ok(())
 }
@@ -219,25 +217,25 @@ fn zeros(alloc: Global, count: usize) -> Result<Vec<usize>, Memory>
     Ok(vec![in alloc; 0; count]?)
 }
 
-/// Begins a dispatch.
+/// Begins a dispatch, each invocation of which is told this, but for its built-in variables.
 pub fn begin<R: Runner>(
     alloc: Global,
     side: &mut R,
+    inv: &mut Invocation,
     case: &Case,
     size: [u32; 3],
-    special: BTreeMap<u32, u32>,
     extent: Extent,
 ) -> Result<Play, Memory>
     requires start { CanStart (parts_of case.now) (triple_of size) extent }
-    requires takes { R.takes side.old (get nat_cmp special) }
+    requires sizes { inv.old.sizes.items ≡ map size_of (map buffer_view case.now.buffers.items) }
+    requires takes { R.takes side.old (get nat_cmp inv.old.special) }
     requires none { R.count side.old ≡ 0 }
-    ensures at { IfOk result (IsAt (setup_of (parts_of case.now) (triple_of size) (get nat_cmp special)) (R.at side.new)) }
+    ensures at { IfOk result (IsAt (setup_of (parts_of case.now) (triple_of size) (get nat_cmp inv.old.special)) (R.at side.new)) }
     ensures none { IfOk result (λ play. play.events.items ≡ []) }
     ensures counted { OnOk result (R.count side.new ≡ extent.count) }
     ensures runs { R.runs side.new ≡ R.runs side.old }
 {
-    let mut inv = told_alike(alloc, case, special)?;
-    begin_all(alloc, side, &mut inv, case.groups, size, extent)?;
+    begin_all(alloc, side, inv, case.groups, size, extent)?;
     Ok(Play {
         group: extent.group,
         passed: zeros(alloc, extent.count)?,

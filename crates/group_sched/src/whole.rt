@@ -12,7 +12,7 @@ ghost use Rattle.dispatch_case.specs.Cases.{parts_of, is_fine};
 ghost use Rattle.group_sched.specs.Start.{setup_of};
 
 use crate::extent::{Extent, extent_of};
-use crate::start::begin;
+use crate::start::{begin, told_alike};
 use dispatch_case::Case;
 use group_items::{End, Event, Runner, Stop, Store, play_schedule};
 use std::alloc::Global;
@@ -73,7 +73,8 @@ fn run<R: Runner>(
     ensures invocations { IsErrOf result Stop.Invocations → ⊥ }
     ensures events { IsErrOf result Stop.Events → IsTooMuch d (R.runs side.old) case.now.first.items }
 {
-    let mut play = begin(alloc, side, case, size, special, extent)?;
+    let mut inv = told_alike(alloc, case, special)?;
+    let mut play = begin(alloc, side, &mut inv, case, size, extent)?;
     let end = play_schedule(alloc, side, &mut play, &case.first, extent.count)?;
     Ok(Outcome {
         events: play.events,

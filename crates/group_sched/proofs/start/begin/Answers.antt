@@ -1,13 +1,13 @@
-use Rattle.std.proofs.Common.{◌∙◌, ℕ, ◌<◌, ◌≤◌, ◌/◌, List, map, refl, sym, ap, subst, length, slice_index}
+use Rattle.std.proofs.Common.{◌∙◌, ℕ, ◌<◌, ◌≤◌, ◌/◌, List, refl, sym, ap, subst, length, slice_index}
 use Rattle.std.proofs.lemmas.List.{length-replicate, get_or-replicate}
 use Rattle.std.proofs.lemmas.Nat.{div_below}
-use Rattle.std.specs.BTreeMap.{BTreeMap, get}
+use Rattle.std.specs.BTreeMap.{get}
 use Rattle.std.specs.Ordering.{nat_cmp}
 use Rattle.dispatch_semantics.specs.Grid.{product, invocation}
 use Rattle.group_items.specs.Sides.{bytes_in, keys_repeat, fresh}
 use Rattle.dispatch_case.specs.Three.{triple_of}
 use Rattle.dispatch_case.specs.Cases.{parts_of}
-use Rattle.group_sched.specs.Start.{setup_of, size_of}
+use Rattle.group_sched.specs.Start.{setup_of}
 use Rattle.group_sched.proofs.Beginning.{begins}
 use Rattle.group_sched.proofs.Fine.{groups_above, groups_small, sizes_apart, product_above, sides_small}
 use Rattle.group_sched.proofs.start.begin.Goals as goal
@@ -32,11 +32,8 @@ begin_all-requires g c κs within =
           (
             refl,
             (
-              ap keys_repeat c.in_ok-inv.ensures.sizes ∙ sizes_apart parts c.requires.start.fine,
-              (
-                refl,
-                (subst (λ (m : BTreeMap ℕ ℕ). g.R.Runner.takes c.args.side.now (get nat_cmp m)) (sym c.in_ok-inv.ensures.special) c.requires.takes, c.requires.none),
-              ),
+              ap keys_repeat c.requires.sizes ∙ sizes_apart parts c.requires.start.fine,
+              (refl, (c.requires.takes, c.requires.none)),
             ),
           ),
         ),
@@ -51,7 +48,7 @@ pub returns-clause-at : goal.returns-clause-at
 returns-clause-at g c =
     let parts = parts_of c.args.case.now in
     let size = triple_of c.args.size in
-    let special = get nat_cmp c.args.special in
+    let special = get nat_cmp c.args.inv.now.special in
     let e = c.requires.start.extent in
     let zeros = c.in_ok-zeros.ensures in
     begins (setup_of parts size special) (g.R.Runner.at c.begin_all.new.side)
@@ -62,8 +59,7 @@ returns-clause-at g c =
     (product_above size c.requires.start.above)
     (λ i less. subst (λ n. i / product size < n) (sym (c.in_ok-memory.ensures.rooms ∙ e.groups)) (div_below i (product size) (product parts.groups) (product_above size c.requires.start.above) less))
     (λ i less. c.in_ok-begin_all.ensures.begun i (subst (λ n. i < n) (sym e.count) less)
-    ∙ ap (λ (zs : List (ℕ × ℕ × ℕ)). fresh (invocation (record { groups = parts.groups; size = size; buffer_bytes = bytes_in zs; specialization = get nat_cmp c.in_ok-inv.inv.special }) i)) c.in_ok-inv.ensures.sizes
-    ∙ ap (λ (m : BTreeMap ℕ ℕ). fresh (invocation (record { groups = parts.groups; size = size; buffer_bytes = bytes_in (map size_of parts.buffers); specialization = get nat_cmp m }) i)) c.in_ok-inv.ensures.special)
+    ∙ ap (λ (zs : List (ℕ × ℕ × ℕ)). fresh (invocation (record { groups = parts.groups; size = size; buffer_bytes = bytes_in zs; specialization = special }) i)) c.requires.sizes)
     (sym c.in_ok-memory.ensures.words)
     c.new.ensures.items
     refl

@@ -3,8 +3,11 @@ use Rattle.dispatch_semantics.specs.Grid.{invocation}
 use Rattle.group_items.specs.Sides.{fresh}
 use Rattle.group_sched.proofs.start.begin_all.Given as goal
 
+abbrev pub ghost-built_ins : goal.ghost-built_ins
+ghost-built_ins g a = g.grid
+
 abbrev pub ghost-begin_one : goal.ghost-begin_one
-ghost-begin_one g a = g.grid
+ghost-begin_one g a = invocation g.grid (g.R.Runner.count a.side.now)
 
 abbrev pub invariant-loop-who : goal.invariant-loop-who
 invariant-loop-who g l = record {
