@@ -1,5 +1,5 @@
 -- What a command puts out.
-use Rattle.std.specs.Prelude.{ℕ, ◌≡◌, ◌+◌, ◌%◌, ◌^◌, ◌&&◌, ◌++◌, Bool, true, false, List, Option, Some, None, IfSome, codes, count_by, length, slice_get, sum}
+use Rattle.std.specs.Prelude.{ℕ, ◌≡◌, ◌+◌, ◌%◌, ◌^◌, ◌&&◌, ◌++◌, Bool, true, false, List, Option, Some, None, IfSome, codes, count_by, length, option_map, slice_get, sum}
 use Rattle.std.specs.Option.{option_map_or}
 use Rattle.std.specs.Fmt.{decimal}
 use Rattle.spv_module.specs.State.{ModuleState}
@@ -46,22 +46,23 @@ summary_line blocks loops text =
 abbrev pub summary : ModuleState → List ℕ → List ℕ
 summary m text = summary_line (count_blocks is_reached m) (count_blocks is_reached_loop m) text
 
--- the text that is laid out of a tree, and reads back as it; where the bytes of the module are told, the tree is that of its text
-pub record IsTextOf (o : Options) (bytes : Option (List ℕ)) (text : List ℕ) : Type 0 where
+-- the text that is laid out of a tree, and reads back as it; where the module is told, the tree is that of its text
+pub record IsTextOf (o : Options) (told : Option ModuleState) (text : List ℕ) : Type 0 where
   pub unit : TranslationUnit
   pub laid_out : text ≡ unit_text unit
   pub reads : glsl_read text ≡ Some unit
-  pub translation : IfSome bytes (λ b. IsTranslationOf (module_in b) o unit)
+  pub translation : IfSome told (λ m. IsTranslationOf m o unit)
 
 -- what an action puts out: the text of the module; the line `ok`; the line of the report; the summary of the text
-abbrev pub IsAnswerBy : Action → Options → Option (List ℕ) → List ℕ → Type 0
-IsAnswerBy Glsl o bytes text = IsTextOf o bytes text
-IsAnswerBy Check o bytes text = text ≡ codes "ok\n"
-IsAnswerBy Report o bytes text = (d : Data) × (text ≡ compact_text d ++ codes "\n") × IfSome bytes (λ b. IsReport (module_in b) o d)
-IsAnswerBy Summary o bytes text = (listing : List ℕ) × IsTextOf o bytes listing × IfSome bytes (λ b. text ≡ summary (module_in b) listing)
+abbrev pub IsAnswerBy : Action → Options → Option ModuleState → List ℕ → Type 0
+IsAnswerBy Glsl o told text = IsTextOf o told text
+IsAnswerBy Check o told text = text ≡ codes "ok\n"
+IsAnswerBy Report o told text = (d : Data) × (text ≡ compact_text d ++ codes "\n") × IfSome told (λ m. IsReport m o d)
+IsAnswerBy Summary o told text = (listing : List ℕ) × IsTextOf o told listing × IfSome told (λ m. text ≡ summary m listing)
 
+-- what a command puts out, where the bytes of the module are told
 abbrev pub IsAnswer : CommandState → Option (List ℕ) → List ℕ → Type 0
-IsAnswer command bytes text = IsAnswerBy command.action command.options bytes text
+IsAnswer command bytes text = IsAnswerBy command.action command.options (option_map module_in bytes) text
 
 -- the bytes of the module on which a command works: those that are generated, or what the source has left
 abbrev pub bytes_by : Option ℕ → Option (List ℕ) → Option (List ℕ)

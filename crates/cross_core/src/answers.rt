@@ -1,5 +1,5 @@
 // The answer of each action, written to the output.
-ghost use Rattle.std.specs.Prelude.{◌≡◌, ◌≤◌, ◌++◌, codes, false, Some, IfOk, length, string_bytes};
+ghost use Rattle.std.specs.Prelude.{◌≡◌, ◌≤◌, ◌++◌, codes, false, Some, IfOk, IfErr, OnOk, OnErr, length, string_bytes};
 ghost use Rattle.serde_json.specs.View.{view};
 ghost use Rattle.serde_json.specs.Written.{compact_text, has_float};
 ghost use Rattle.spv_words.specs.Limit.{limit_number};
@@ -7,20 +7,26 @@ ghost use Rattle.spv_words.specs.declared.rule.Limit.TheVariants.{Bytes};
 ghost use Rattle.glsl_ast.specs.View.{unit_of};
 ghost use Rattle.glsl_grammar.specs.InGrammar.{IsInGrammar};
 ghost use Rattle.glsl_grammar.specs.Layout.{unit_text};
+ghost use Rattle.conformance.specs.Rules.{Conforms, IsRight, IsWithinLimits};
 ghost use Rattle.module_check.specs.Asked.{asked};
+ghost use Rattle.module_check.specs.Judged.{IsFault, IsFine, IsRead};
 ghost use Rattle.cross_core.specs.Answers.{IsAnswer, IsAnswerBy};
 ghost use Rattle.cross_core.specs.Endings.{IsCause, IsEndOfWriting, IsOutput};
 
 use crate::commands::{Action, Command};
 use crate::endings::{Ending, ending_of};
-use crate::modules::{reported, translated};
 use crate::summaries::summarized;
 use cc_outside::{Sink, WriteEnd, write_all};
+use emit_glsl::{Translation, translate};
 use glsl_ast::Unit;
 use glsl_print::{PrintEnd, print};
-use module_check::check_bytes;
+use module_check::{check_module, read_module};
 use profile_check::Options;
+use reflection::report;
 use serde_json::Value;
+use spv_decor::Decor;
+use spv_module::Module;
+use spv_words::Fault;
 use std::alloc::{AllocError, Global};
 use std::mem::forget;
 
@@ -58,73 +64,94 @@ fn line_of(alloc: Global, report: &Value) -> Result<String, AllocError>
     Ok(line)
 }
 
-/// Prints the text of a module.
-fn put_glsl<K: Sink>(alloc: Global, bytes: &[u8], options: &Options, output: &mut K) -> Ending
-    requires { length bytes.now ≤ limit_number Bytes }
-    ensures cause { IsCause (asked options.now) bytes.now result }
-    ensures output { IsOutput K.written K.faults (IsAnswerBy Action.Glsl (asked options.now) (Some bytes.now)) output.old output.new result }
+/// The tree of a text. What it was made by is not given back part by part, since the process ends.
+fn tree_of(text: Translation) -> Unit
+    ensures { result ≡ text.entry.unit }
 {
-    match translated(alloc, bytes, options) {
-        Ok(unit) => {
+    let Translation { unit, parts } = text;
+    forget(parts);
+    unit
+}
+
+/// Writes the answer to an action on a module; where this has a fault, nothing.
+fn written<K: Sink>(
+    alloc: Global,
+    action: Action,
+    module: &Module,
+    decor: &Decor,
+    options: &Options,
+    output: &mut K,
+) -> Result<Ending, Fault>
+    requires heads { decor.now ≡ «module».now.heads }
+    requires read { IsRead «module».now }
+    ensures end { IfOk result IsEndOfWriting }
+    ensures passes { OnOk result (IsFine «module».now (asked options.now)) }
+    ensures output { IfOk result (IsOutput K.written K.faults (IsAnswerBy action (asked options.now) (Some «module».now)) output.old output.new) }
+    ensures refused { IfErr result (IsFault «module».now (asked options.now)) }
+    ensures unwritten { OnErr result (output.new ≡ output.old) }
+{
+    match action {
+        Action::Glsl => {
+            let unit = tree_of(translate(alloc, module, decor, options)?);
             let ending = put_text(&unit, output);
             // its many parts are not given back one by one, since the process ends
             forget(unit);
-            ending
+            Ok(ending)
         }
-        Err(fault) => ending_of(fault),
+        Action::Check => {
+            let _ = check_module(alloc, module, decor, options)?;
+            Ok(put(b"ok\n", output))
+        }
+        Action::Report => {
+            let report = report(alloc, module, decor, options)?;
+            let line = line_of(alloc, &report)?;
+            Ok(put(line.as_bytes(), output))
+        }
+        Action::Summary => {
+            let line = summarized(alloc, module, decor, options)?;
+            Ok(put(line.as_bytes(), output))
+        }
     }
 }
 
-/// Judges a module.
-fn put_ok<K: Sink>(alloc: Global, bytes: &[u8], options: &Options, output: &mut K) -> Ending
+/// Reads a module and writes the answer to a command on it; where it has a fault, nothing. The module is not given back.
+fn answered<K: Sink>(
+    alloc: Global,
+    command: &Command,
+    bytes: &[u8],
+    output: &mut K,
+) -> Result<Ending, Fault>
     requires { length bytes.now ≤ limit_number Bytes }
-    ensures cause { IsCause (asked options.now) bytes.now result }
-    ensures output { IsOutput K.written K.faults (IsAnswerBy Action.Check (asked options.now) (Some bytes.now)) output.old output.new result }
+    ensures end { IfOk result IsEndOfWriting }
+    ensures passes { OnOk result (Conforms bytes.now command.now.options × IsWithinLimits bytes.now command.now.options) }
+    ensures output { IfOk result (IsOutput K.written K.faults (IsAnswer command.now (Some bytes.now)) output.old output.new) }
+    ensures refused { IfErr result (IsRight bytes.now command.now.options) }
+    ensures unwritten { OnErr result (output.new ≡ output.old) }
 {
-    match check_bytes(alloc, bytes, options) {
-        Ok(()) => put(b"ok\n", output),
-        Err(fault) => ending_of(fault),
-    }
-}
-
-/// Writes the report on a module.
-fn put_report<K: Sink>(alloc: Global, bytes: &[u8], options: &Options, output: &mut K) -> Ending
-    requires { length bytes.now ≤ limit_number Bytes }
-    ensures cause { IsCause (asked options.now) bytes.now result }
-    ensures output { IsOutput K.written K.faults (IsAnswerBy Action.Report (asked options.now) (Some bytes.now)) output.old output.new result }
-{
-    match reported(alloc, bytes, options) {
-        Ok(value) => match line_of(alloc, &value) {
-            Ok(line) => put(line.as_bytes(), output),
-            Err(_) => Ending::Memory,
-        },
-        Err(fault) => ending_of(fault),
-    }
-}
-
-/// Writes the summary of a module's text.
-fn put_summary<K: Sink>(alloc: Global, bytes: &[u8], options: &Options, output: &mut K) -> Ending
-    requires { length bytes.now ≤ limit_number Bytes }
-    ensures cause { IsCause (asked options.now) bytes.now result }
-    ensures output { IsOutput K.written K.faults (IsAnswerBy Action.Summary (asked options.now) (Some bytes.now)) output.old output.new result }
-{
-    match summarized(alloc, bytes, options) {
-        Ok(line) => put(line.as_bytes(), output),
-        Err(fault) => ending_of(fault),
-    }
+    let module = read_module(alloc, bytes)?;
+    let decor = Decor::read(alloc, &module)?;
+    let ending = written(
+        alloc,
+        command.action(),
+        &module,
+        &decor,
+        command.options(),
+        output,
+    )?;
+    forget(decor);
+    forget(module);
+    Ok(ending)
 }
 
 /// Carries out a command on the bytes of a module.
+#[tactic(auto, using(crate::proofs::Ends::met_cause, crate::proofs::Ends::fault_cause))]
 pub fn answer<K: Sink>(alloc: Global, command: &Command, bytes: &[u8], output: &mut K) -> Ending
     requires { length bytes.now ≤ limit_number Bytes }
     ensures cause { IsCause command.now.options bytes.now result }
     ensures output { IsOutput K.written K.faults (IsAnswer command.now (Some bytes.now)) output.old output.new result }
 {
-    let options = command.options();
-    match command.action() {
-        Action::Glsl => put_glsl(alloc, bytes, options, output),
-        Action::Check => put_ok(alloc, bytes, options, output),
-        Action::Report => put_report(alloc, bytes, options, output),
-        Action::Summary => put_summary(alloc, bytes, options, output),
+    match answered(alloc, command, bytes, output) {
+        Ok(ending) => ending,
+        Err(fault) => ending_of(fault),
     }
 }

@@ -4,7 +4,6 @@
 mod answers;
 mod commands;
 mod endings;
-mod modules;
 mod notes;
 mod summaries;
 mod top;

@@ -1,20 +1,18 @@
 // The summary of a module's text.
-ghost use Rattle.std.specs.Prelude.{◌≡◌, ◌≤◌, ◌%◌, ◌^◌, List, ℕ, count_by, length, sum, Some, string_bytes, IfOk, IfErr, OnOk};
-ghost use Rattle.spv_words.specs.Limit.{limit_number};
-ghost use Rattle.spv_words.specs.declared.rule.Limit.TheVariants.{Bytes};
-ghost use Rattle.conformance.specs.Rules.{Conforms, IsRight, IsWithinLimits, module_in};
+ghost use Rattle.std.specs.Prelude.{◌≡◌, ◌%◌, ◌^◌, count_by, sum, Some, string_bytes, IfOk, IfErr, OnOk};
 ghost use Rattle.module_check.specs.Asked.{asked};
+ghost use Rattle.module_check.specs.Judged.{IsFault, IsFine, IsRead};
 ghost use Rattle.glsl_grammar.specs.InGrammar.{IsInGrammar};
 ghost use Rattle.glsl_ast.specs.View.{unit_of};
 ghost use Rattle.glsl_grammar.specs.Layout.{unit_text};
-ghost use Rattle.cross_core.specs.Answers.{is_reached as is_reached_node, is_loop as is_loop_merge, is_reached_loop as is_reached_loop_node, count_blocks, summary_line, summary as summary_of, IsTextOf};
+ghost use Rattle.cross_core.specs.Answers.{is_reached as is_reached_node, is_loop as is_loop_merge, is_reached_loop as is_reached_loop_node, count_blocks, summary_line, IsAnswerBy};
 
+use crate::commands::Action;
 use block_graph::control_flow;
 use cc_outside::SteadySink;
 use emit_glsl::translate;
 use glsl_ast::Unit;
 use glsl_print::print;
-use module_check::read_module;
 use profile_check::Options;
 use spv_decor::Decor;
 use spv_index::Locals;
@@ -103,16 +101,20 @@ fn line(alloc: Global, counts: Counts, text: &[u8]) -> Result<String, AllocError
     format!(in alloc; "blocks {blocks} loops {loops} bytes {bytes} sum {sum}\n")
 }
 
-/// The summary of the text of the module that these bytes are.
-pub fn summarized(alloc: Global, bytes: &[u8], options: &Options) -> Result<String, Fault>
-    requires { length bytes.now ≤ limit_number Bytes }
-    ensures passes { OnOk result (Conforms bytes.now (asked options.now) × IsWithinLimits bytes.now (asked options.now)) }
-    ensures summary { IfOk result (λ line. (text : List ℕ) × IsTextOf (asked options.now) (Some bytes.now) text × (string_bytes line ≡ summary_of (module_in bytes.now) text)) }
-    ensures refused { IfErr result (IsRight bytes.now (asked options.now)) }
+/// The summary of the text of a module.
+pub fn summarized(
+    alloc: Global,
+    module: &Module,
+    decor: &Decor,
+    options: &Options,
+) -> Result<String, Fault>
+    requires heads { decor.now ≡ «module».now.heads }
+    requires read { IsRead «module».now }
+    ensures passes { OnOk result (IsFine «module».now (asked options.now)) }
+    ensures summary { IfOk result (λ line. IsAnswerBy Action.Summary (asked options.now) (Some «module».now) (string_bytes line)) }
+    ensures refused { IfErr result (IsFault «module».now (asked options.now)) }
 {
-    let module = read_module(alloc, bytes)?;
-    let decor = Decor::read(alloc, &module)?;
-    let translation = translate(alloc, &module, &decor, options)?;
+    let translation = translate(alloc, module, decor, options)?;
     let text = printed(alloc, &translation.unit)?;
-    Ok(line(alloc, counts_in(alloc, &module)?, text.bytes())?)
+    Ok(line(alloc, counts_in(alloc, module)?, text.bytes())?)
 }
