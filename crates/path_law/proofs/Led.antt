@@ -1,6 +1,6 @@
 -- Chains lead from where their bases lead as long as they lead anywhere: each change that an instruction makes keeps it.
 use Rattle.std.proofs.Common.{◌≡◌, ◌≢◌, ◌⊎◌, ◌==◌, ◌+◌, ◌++◌, ℕ, suc, Bool, true, false, List, [], ◌∷◌, drop, length, map, cond, Option, Some, None, inl, inr, refl, sym, ap, ◌∙◌, subst, arith}
-use Rattle.std.specs.Prelude.{option_map, take, take_while}
+use Rattle.std.specs.Prelude.{is_some, option_map, take, take_while}
 use Rattle.std.specs.Option.{option_map_or}
 use Rattle.std.specs.List.{prefix_len}
 use Rattle.std.proofs.lemmas.Bool.Decides.{eqb_tells}
@@ -29,7 +29,7 @@ use Rattle.call_law.specs.Frames.{makes_pointer, IsClosed}
 use Rattle.call_law.specs.Known.{IsFunctionOf, is_parameter, IsLending, LendsWhole}
 use Rattle.call_law.proofs.CodeKept.{next_of, phi_of, function_found}
 use Rattle.call_law.proofs.Lending.{if_pointer, of_pointer, no_true, none_given, lending_closed}
-use Rattle.path_law.specs.Chains.{ChainsRise, ConstantsAre, IsLed, AreLed, ChainsAreRight}
+use Rattle.path_law.specs.Chains.{ChainsRise, ConstantsAre, IsLed, is_global, AreLed, ChainsAreRight}
 use Rattle.path_law.proofs.Based.{chain_op, one_chain, free_base, own_base}
 
 -- a constant is no variable
@@ -105,7 +105,14 @@ module _ (s : Setting) where
       by_value None is e = cc
       by_value (Some v) is e = is ∙ by_tree v e
 
-  constants_there : (f : Frame) (ns is : List ℕ) → ((n : ℕ) → is_constant_index s.of.globals n ≡ true → f.ids n ≡ None) → words_at s f ns ≡ Some is → ConstantsAre s ns is
+  constant_global : (n : ℕ) → is_constant_index s.of.globals n ≡ true → is_global s.of.globals n ≡ true
+  constant_global n on = by_global (global_inst s.of.globals n) on
+    where
+      by_global : (o : Option Inst) → option_map_or (λ (g : Inst). is_constant g.op) o false ≡ true → is_some o ≡ true
+      by_global None e = cc
+      by_global (Some g) e = refl
+
+  constants_there : (f : Frame) (ns is : List ℕ) → ((n : ℕ) → is_global s.of.globals n ≡ true → f.ids n ≡ None) → words_at s f ns ≡ Some is → ConstantsAre s ns is
   constants_there f [] [] mine e = tt
   constants_there f [] (i ∷ is) mine e = cc
   constants_there f (n ∷ ns) [] mine e = let b = before_some (word_at s f n) (words_at s f ns) [] e in absurd (never b.0 b.1 b.4)
@@ -114,7 +121,7 @@ module _ (s : Setting) where
       never x xs e = cc
   constants_there f (n ∷ ns) (i ∷ is) mine e =
       let b = before_some (word_at s f n) (words_at s f ns) (i ∷ is) e in
-      ((λ on. constant_there f n i on (mine n on) (b.2 ∙ ap (λ a. Some a) (sym (first i b.0 is b.1 b.4)))), constants_there f ns is mine (b.3 ∙ ap (λ a. Some a) (sym (rest i b.0 is b.1 b.4))))
+      ((λ on. constant_there f n i on (mine n (constant_global n on)) (b.2 ∙ ap (λ a. Some a) (sym (first i b.0 is b.1 b.4)))), constants_there f ns is mine (b.3 ∙ ap (λ a. Some a) (sym (rest i b.0 is b.1 b.4))))
     where
       first : (x y : ℕ) (xs ys : List ℕ) → x ∷ xs ≡ y ∷ ys → x ≡ y
       first x y xs ys e = cc
@@ -164,11 +171,11 @@ module _ (s : Setting) where
     no_base : (f : Function) → IsFunctionOf f s.of.functions → (i q : Inst) → IsOf i (insts_of f) → makes_pointer (step_kind i.op) ≡ false → IsOf q (insts_of f) → step_kind q.op ≡ chain → base q ≢ i.result
     no_base f in_module i q is off there kind same = no_true (is_pointer s.of.globals f i.result) (ap (is_pointer s.of.globals f) (sym same) ∙ right.bases f in_module q there kind) (right.values f in_module i is off)
 
-    own_put : (f : Frame) (ids : ℕ → Option Held) (i : Inst) (h : Held) → IsFunctionOf f.function s.of.functions → IsOf i (insts_of f.function) → ((n : ℕ) → is_constant_index s.of.globals n ≡ true → ids n ≡ None) → (n : ℕ) → is_constant_index s.of.globals n ≡ true → put ids i.result h n ≡ None
+    own_put : (f : Frame) (ids : ℕ → Option Held) (i : Inst) (h : Held) → IsFunctionOf f.function s.of.functions → IsOf i (insts_of f.function) → ((n : ℕ) → is_global s.of.globals n ≡ true → ids n ≡ None) → (n : ℕ) → is_global s.of.globals n ≡ true → put ids i.result h n ≡ None
     own_put f ids i h in_module is mine n on =
-        put_off ids i.result h n (λ same. no_true (is_constant_index s.of.globals i.result) (ap (is_constant_index s.of.globals) (sym same) ∙ on) (right.results f.function in_module i is)) ∙ mine n on
+        put_off ids i.result h n (λ same. no_true (is_global s.of.globals i.result) (ap (is_global s.of.globals) (sym same) ∙ on) (right.results f.function in_module i is)) ∙ mine n on
 
-    own_without : (f : Frame) (k : ℕ) → ((n : ℕ) → is_constant_index s.of.globals n ≡ true → f.ids n ≡ None) → (n : ℕ) → is_constant_index s.of.globals n ≡ true → without_based f.function k f.ids n ≡ None
+    own_without : (f : Frame) (k : ℕ) → ((n : ℕ) → is_global s.of.globals n ≡ true → f.ids n ≡ None) → (n : ℕ) → is_global s.of.globals n ≡ true → without_based f.function k f.ids n ≡ None
     own_without f k mine n on = by_test (is_based_on f.function k n)
       where
         by_test : (t : Bool) → elim t as (λ t. Option Held) [ true ↦ None | false ↦ f.ids n ] ≡ None
@@ -230,7 +237,7 @@ module _ (s : Setting) where
         let same : left ≡ second = cc in
         (ap (λ (x : Target). x.0) same, ap (λ (x : Target). x.1) same)
 
-    variable_was : (ds : List (Frame × ℕ)) (f : Frame) (n : ℕ) (r : Root) (from : List ℕ) → AreLed s ds f → is_own_memory f.function n ≡ true → is_parameter f.function n ≡ false → pointer_at s f n ≡ Some (r, from) → (r ≡ own n) × (from ≡ [])
+    pub variable_was : (ds : List (Frame × ℕ)) (f : Frame) (n : ℕ) (r : Root) (from : List ℕ) → AreLed s ds f → is_own_memory f.function n ≡ true → is_parameter f.function n ≡ false → pointer_at s f n ≡ Some (r, from) → (r ≡ own n) × (from ≡ [])
     variable_was ds f n r from at on off is = by_id (f.ids n) refl is
       where
         none_value : (o : Option ValueTree) → as_pointer (option_map value o) ≡ Some (r, from) → ⊥
@@ -277,11 +284,11 @@ module _ (s : Setting) where
         led r way l = by_test (base q == i.result) (eqb_tells (base q) i.result) r way l
 
     -- a call begins with nothing but its parameters
-    called_own : (g : Function) (hs : List Held) → IsFunctionOf g s.of.functions → (n : ℕ) → is_constant_index s.of.globals n ≡ true → argument_of g.params hs n ≡ None
+    called_own : (g : Function) (hs : List Held) → IsFunctionOf g s.of.functions → (n : ℕ) → is_global s.of.globals n ≡ true → argument_of g.params hs n ≡ None
     called_own g hs in_module n on = by_test (is_parameter g n) refl
       where
         by_test : (t : Bool) → is_parameter g n ≡ t → argument_of g.params hs n ≡ None
-        by_test true is = absurd (no_true (is_constant_index s.of.globals n) on (right.parameters g in_module n is))
+        by_test true is = absurd (no_true (is_global s.of.globals n) on (right.parameters g in_module n is))
         by_test false off = none_given g.params hs n off
 
     called_led : (ds : List (Frame × ℕ)) (g : Function) (hs : List Held) → IsFunctionOf g s.of.functions → IsLending s ds (entered s g hs) → AreLed s ds (entered s g hs)
@@ -302,7 +309,7 @@ module _ (s : Setting) where
         let later = phis_kept f is vs in_module (λ j at. all j (inr at)) q there kind r at g.0 in
         (later.0, g.1 ∙ later.1)
 
-    phis_own : (f : Frame) (is : List Inst) (vs : List ValueTree) → IsFunctionOf f.function s.of.functions → ((i : Inst) → IsOf i is → IsOf i (insts_of f.function) × (makes_pointer (step_kind i.op) ≡ false)) → ((n : ℕ) → is_constant_index s.of.globals n ≡ true → f.ids n ≡ None) → (n : ℕ) → is_constant_index s.of.globals n ≡ true → with_phis is vs f.ids n ≡ None
+    phis_own : (f : Frame) (is : List Inst) (vs : List ValueTree) → IsFunctionOf f.function s.of.functions → ((i : Inst) → IsOf i is → IsOf i (insts_of f.function) × (makes_pointer (step_kind i.op) ≡ false)) → ((n : ℕ) → is_global s.of.globals n ≡ true → f.ids n ≡ None) → (n : ℕ) → is_global s.of.globals n ≡ true → with_phis is vs f.ids n ≡ None
     phis_own f [] vs in_module all mine n on = mine n on
     phis_own f (i ∷ is) [] in_module all mine n on = mine n on
     phis_own f (i ∷ is) (v ∷ vs) in_module all mine n on = own_put f (with_phis is vs f.ids) i (value v) in_module (all i (inl refl)).0 (phis_own f is vs in_module (λ j at. all j (inr at)) mine) n on

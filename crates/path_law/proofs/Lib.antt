@@ -13,3 +13,5 @@ pub mod Based
 pub mod Led
 pub mod Ways
 pub mod Reached
+pub mod Writings
+pub mod Asked

@@ -4,3 +4,4 @@ pub mod Walks
 pub mod Starts
 pub mod Pointers
 pub mod Chains
+pub mod Writings
