@@ -1,5 +1,5 @@
 -- Names of keys are apart: those of a function's values and indexes, of its flags and spares, and of what stands outside of it.
-use Rattle.std.proofs.Common.{◌≡◌, ◌≢◌, ℕ, Bool, true, false, Option, Some, None, codes, inl, inr, refl, sym, ap, ◌∙◌, subst}
+use Rattle.std.proofs.Common.{◌≡◌, ℕ, Bool, true, false, Option, Some, None, codes, inl, inr, refl, sym, ap, ◌∙◌}
 use Rattle.std.specs.Prelude.{◌⊎◌}
 use Rattle.spv_module.specs.Lists.{id}
 use Rattle.name_alloc.specs.declared.claims.Key.{Key}

@@ -3,3 +3,4 @@ pub mod Keys
 pub mod Named
 pub mod Words
 pub mod Apart
+pub mod Told

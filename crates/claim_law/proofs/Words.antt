@@ -1,12 +1,11 @@
 -- The name that a claim gets is a name of the grammar.
-use Rattle.std.proofs.Common.{◌≡◌, ◌<◌, ◌&&◌, ◌||◌, ℕ, Bool, true, false, List, [], ◌∷◌, length, codes, Option, Some, None, inl, inr, refl, sym, ap, ◌∙◌, subst, bytes_eq, nat_eq, arith}
+use Rattle.std.proofs.Common.{◌≡◌, ◌&&◌, ◌||◌, ℕ, Bool, true, false, List, [], ◌∷◌, codes, Option, Some, None, inl, inr, refl, sym, ◌∙◌, subst, bytes_eq, arith}
 use Rattle.std.specs.Prelude.{◌⊎◌}
-use Rattle.std.specs.List.{AllByRecursion, list_all, list_any, starts_with}
-use Rattle.std.proofs.lemmas.Bool.{cases_Bool}
+use Rattle.std.specs.List.{AllByRecursion, list_all}
 use Rattle.std.proofs.lemmas.Slice.Eq.{bytes_eq-Decides}
 use Rattle.name_alloc.specs.declared.claims.Key.{Key}
 use Rattle.name_alloc.specs.declared.claims.Key.TheVariants.{Main}
-use Rattle.name_alloc.specs.Reserved.{words, prefixes, is_word as is_reserved, has_prefix}
+use Rattle.name_alloc.specs.Reserved.{is_word as is_reserved, has_prefix}
 use Rattle.name_alloc.specs.Base.{begins_digit}
 use Rattle.name_alloc.specs.Law.{is_word_byte, IsWord, IsFree, IsNameFor, AreNames}
 use Rattle.glsl_ast.specs.Tree.{Text}

@@ -1,2 +1,3 @@
 pub mod Claimed
 pub mod Apart
+pub mod Told
