@@ -25,7 +25,7 @@ use Rattle.plan_law.proofs.Listed.{flat, all_rise, all_apart}
 use Rattle.plan_law.proofs.Owned.{all_avoid, all_none}
 
 -- what is said of all functions, said of one
-said_of : (P : Function → Type 0) (Q : List Function → Type 0) → ((g : Function) (fs : List Function) → Q (g ∷ fs) → P g × Q fs) → (fs : List Function) (f : Function) → Q fs → Contains fs f → P f
+pub said_of : (P : Function → Type 0) (Q : List Function → Type 0) → ((g : Function) (fs : List Function) → Q (g ∷ fs) → P g × Q fs) → (fs : List Function) (f : Function) → Q fs → Contains fs f → P f
 said_of P Q parts [] f all there = let less = there.1 in absurd (omega (arith, less))
 said_of P Q parts (g ∷ fs) f all (zero, less, same) = subst P same (parts g fs all).0
 said_of P Q parts (g ∷ fs) f all (suc k, less, same) = said_of P Q parts fs f (parts g fs all).1 (k, (let low : k < length fs = omega (arith, less) in low), same)
@@ -67,7 +67,7 @@ module _ (m : ModuleState) (f : Function) (i : Inst) (r : Refusal) (own : (b : B
     | inr later ↦ Contains-append_right (broken_by_block m f b) (flat_map (broken_by_block m f) bs) r (in_blocks bs later)
   ]
 
-  in_module : Contains m.functions f → IsAmong i (insts_of f) → Contains (broken m) r
+  pub in_module : Contains m.functions f → IsAmong i (insts_of f) → Contains (broken m) r
   in_module there stands =
       let here : Contains (flat_map (broken_by_block m f) f.blocks) r = in_blocks f.blocks stands in
       let rest : List Refusal = broken_if (breaks_t21_of m.globals f) T21 f.at ++ flat_map (broken_by_block m f) f.blocks in

@@ -1,18 +1,21 @@
 -- The instructions of a function stand in the order of the module's words, and have results as those have them.
-use Rattle.std.proofs.Common.{◌≡◌, ◌<◌, ◌≤◌, ◌+◌, ℕ, zero, suc, List, [], ◌∷◌, ◌++◌, length, map, inr, refl, sym, ap, subst, arith}
+use Rattle.std.proofs.Common.{◌≡◌, ◌<◌, ◌≤◌, ◌+◌, ℕ, zero, suc, List, [], ◌∷◌, ◌++◌, length, map, inr, refl, sym, ap, subst, if◌then◌else◌, arith}
 use Rattle.std.specs.Prelude.{◌/◌, ◌-◌, flat_map, drop, slice_index}
 use Rattle.spv_words.specs.Words.{insts, insts_from, nth_inst}
 use Rattle.spv_words.specs.declared.rule.Rule.TheVariants.{P3}
 use Rattle.spv_words.specs.declared.words.Inst1.{Inst1}
 use Rattle.spv_module.specs.declared.kind.Kind.{Kind}
-use Rattle.spv_module.specs.declared.kind.Kind.TheVariants.{Debug, Function as Opening, End, Label}
+use Rattle.spv_module.specs.declared.kind.Kind.TheVariants.{Debug, Global, Undef, Variable, Function as Opening, End, Label}
+use Rattle.spv_module.specs.declared.kind.Place.{Place}
+use Rattle.spv_module.specs.declared.kind.Place.TheVariants.{Outside}
 use Rattle.spv_module.specs.declared.inst.Inst.{Inst}
 use Rattle.spv_module.specs.declared.inst.Block.{Block}
 use Rattle.spv_module.specs.Inst.{inst_of}
 use Rattle.spv_module.specs.Kinds.{kind_of}
+use Rattle.spv_module.specs.Form.{after}
 use Rattle.spv_module.specs.Broken.{Broken}
 use Rattle.spv_module.specs.Ids.{result_by, result_of, results, IsRepeated}
-use Rattle.spv_module.specs.Lists.{with_inst, block_insts, block, with_block, blocks, function, with_function, functions_from, functions}
+use Rattle.spv_module.specs.Lists.{is_global, globals_from, globals, with_inst, block_insts, block, with_block, blocks, function, with_function, functions_from, functions}
 use Rattle.plan_law.specs.InOrder.{AreRising, HaveNot, AreApart}
 use Rattle.plan_law.specs.Distinct.{IsNone, AreDistinct, AllRise, AllApart}
 
@@ -113,6 +116,23 @@ module _ (ws : List ℕ) where
       by_kind : (k : Kind) (more : AllApart (functions_from ws is)) → AllApart (with_function k (function ws i is) (functions_from ws is))
       by_kind Opening more = ((insts_apart is distinct.1).1, more)
       by_kind k more = more
+
+  -- the globals from a place on
+  rise_global : (p : Place) (is : List Inst1) (n : ℕ) → Rise n is → AreRising n (globals_from ws p is)
+  rise_global p [] n rise = tt
+  rise_global p (i ∷ is) n rise = by_kind p (kind_of ws i) (rise_global (after p (kind_of ws i)) is (i.start + 1) rise.1)
+    where
+      low : n ≤ i.start + 1
+      low = let first = rise.0 in omega (arith, first)
+
+      by_kind : (p : Place) (k : Kind) → AreRising (i.start + 1) (globals_from ws (after p k) is) → AreRising n (if is_global p k then inst_of ws i ∷ globals_from ws (after p k) is else globals_from ws (after p k) is)
+      by_kind p Global rest = (rise.0, rest)
+      by_kind Outside Undef rest = (rise.0, rest)
+      by_kind Outside Variable rest = (rise.0, rest)
+      by_kind p k rest = rising_below n (i.start + 1) low (globals_from ws (after p k) is) rest
+
+  pub globals_rise : AreRising 0 (globals ws)
+  globals_rise = rising_below 0 5 (let low : 0 ≤ 5 = omega arith in low) (globals ws) (rise_global Outside (insts ws) 5 (starts_rise 5 0 (drop 5 ws)))
 
   -- the functions of a module
   pub all_rise : AllRise (functions ws)

@@ -38,12 +38,12 @@ same_rest : (q p : Placed) (ps back : List Placed) → q ∷ ps ≡ p ∷ back �
 same_rest q p ps back e = cc
 
 -- lists of instructions
-among_left : (i : Inst) (xs ys : List Inst) → IsAmong i xs → IsAmong i (xs ++ ys)
+pub among_left : (i : Inst) (xs ys : List Inst) → IsAmong i xs → IsAmong i (xs ++ ys)
 among_left i [] ys stands = absurd stands
 among_left i (x ∷ xs) ys (inl same) = inl same
 among_left i (x ∷ xs) ys (inr stands) = inr (among_left i xs ys stands)
 
-among_right : (i : Inst) (xs ys : List Inst) → IsAmong i ys → IsAmong i (xs ++ ys)
+pub among_right : (i : Inst) (xs ys : List Inst) → IsAmong i ys → IsAmong i (xs ++ ys)
 among_right i [] ys stands = stands
 among_right i (x ∷ xs) ys stands = inr (among_right i xs ys stands)
 
@@ -63,7 +63,7 @@ one_alone i j (h ∷ is) apart (inr i_in) (inl j_here) some same =
     absurd (not_among h.result i is (apart.0 (λ lacks_it. some (sym head ∙ lacks_it))) i_in (sym head))
 one_alone i j (h ∷ is) apart (inr i_in) (inr j_in) some same = one_alone i j is apart.1 i_in j_in some same
 
-found : (j : Inst) (is : List Inst) → AreApart is → IsAmong j is → (j.result ≡ 0 → ⊥) → find (λ (i : Inst). i.result == j.result) is ≡ Some j
+pub found : (j : Inst) (is : List Inst) → AreApart is → IsAmong j is → (j.result ≡ 0 → ⊥) → find (λ (i : Inst). i.result == j.result) is ≡ Some j
 found j [] apart stands some = absurd stands
 found j (h ∷ is) apart (inl here) some =
     let same : h.result ≡ j.result = ap (λ (x : Inst). x.result) here in

@@ -71,7 +71,7 @@ module _ (ws : List ℕ) where
   abbrev body : List Inst1 → List Inst
   body is = block_insts ws is ++ flat (blocks ws is)
 
-  parameter_result : (i : Inst1) → kind_of ws i ≡ Parameter → (inst_of ws i).result ≡ word ws i 2
+  pub parameter_result : (i : Inst1) → kind_of ws i ≡ Parameter → (inst_of ws i).result ≡ word ws i 2
   unfolding kind_of_opcode known
   parameter_result i e = by_test ((i.opcode == number op.ExtInst) && is_import ws (word ws i 3)) e
     where

@@ -183,12 +183,12 @@ module _ (s : Setting) (f : Function) where
       by_opcode g shaped false v false an false ar true aq = struct_leads g t k aq shaped sized
       by_opcode g shaped false v false an false ar false aq = nothing
 
-  nothing_on : (ks : List ℕ) → walk (literal_step Gs) Nothing ks ≡ Nothing
+  pub nothing_on : (ks : List ℕ) → walk (literal_step Gs) Nothing ks ≡ Nothing
   nothing_on [] = refl
   nothing_on (k ∷ ks) = nothing_on ks
 
   -- literals lead to nothing, or along the shapes
-  walk_leads : (ks : List ℕ) (ty : ℕ) (t : Tree) → type_tree Gs ty ≡ Some t → IsSized t → (walk (literal_step Gs) (Part ty) ks ≡ Nothing) ⊎ ((c : ℕ) × (u : Tree) × (walk (literal_step Gs) (Part ty) ks ≡ Part c) × (type_tree Gs c ≡ Some u) × (shape_at t ks ≡ Some u))
+  pub walk_leads : (ks : List ℕ) (ty : ℕ) (t : Tree) → type_tree Gs ty ≡ Some t → IsSized t → (walk (literal_step Gs) (Part ty) ks ≡ Nothing) ⊎ ((c : ℕ) × (u : Tree) × (walk (literal_step Gs) (Part ty) ks ≡ Part c) × (type_tree Gs c ≡ Some u) × (shape_at t ks ≡ Some u))
   walk_leads [] ty t shape sized = inr (ty, t, refl, shape, refl)
   walk_leads (k ∷ ks) ty t shape sized = by_step (step_leads ty k t shape sized) (λ c u is small. walk_leads ks c u is small)
     where

@@ -1,0 +1,9 @@
+pub mod Words
+pub mod Lists
+pub mod Rules
+pub mod Types
+pub mod Sized
+pub mod Used
+pub mod Values
+pub mod Shapes
+pub mod Operations

@@ -1,0 +1,130 @@
+-- What is said of all of a list, said of one.
+use Rattle.std.proofs.Common.{◌≡◌, ◌<◌, ◌≤◌, ◌+◌, ◌==◌, ◌||◌, ◌&&◌, not, ℕ, zero, suc, Bool, true, false, List, [], ◌∷◌, ◌++◌, length, map, Option, Some, None, inl, inr, refl, sym, ap, subst, ◌∙◌, if◌then◌else◌, arith}
+use Rattle.std.specs.Prelude.{◌⊎◌, find, filter, flat_map, nat_lt, option_and_then, is_some, Contains, slice_index, slice_index_or}
+use Rattle.std.specs.Option.{option_map_or}
+use Rattle.std.specs.List.{list_any, enumerate_from}
+use Rattle.std.proofs.lemmas.Bool.Decides.{eqb_tells, nat_tests}
+use Rattle.spv_module.specs.declared.inst.Inst.{Inst}
+use Rattle.spv_module.specs.Held.{global}
+use Rattle.spv_types.specs.Types.{if_earlier, earlier}
+use Rattle.profile_rules.specs.Places.{places}
+use Rattle.plan_law.specs.InOrder.{IsAmong}
+
+pub or_left : (a b : Bool) → (a || b) ≡ false → a ≡ false
+or_left true b e = cc
+or_left false b e = refl
+
+pub or_right : (a b : Bool) → (a || b) ≡ false → b ≡ false
+or_right true b e = cc
+or_right false b e = e
+
+pub and_left : (a b : Bool) → (a && b) ≡ true → a ≡ true
+and_left true b e = refl
+and_left false b e = cc
+
+pub and_right : (a b : Bool) → (a && b) ≡ true → b ≡ true
+and_right true b e = e
+and_right false b e = cc
+
+-- not both, and the one
+pub and_off : (a b : Bool) → (a && b) ≡ false → a ≡ true → b ≡ false
+and_off true b e on = e
+and_off false b e on = cc
+
+pub not_off : (b : Bool) → not b ≡ false → b ≡ true
+not_off true e = refl
+not_off false e = cc
+
+pub not_on : (b : Bool) → not b ≡ true → b ≡ false
+not_on true e = cc
+not_on false e = refl
+
+pub clash : {A : Type 0} → true ≡ false → A
+clash e = cc
+
+pub no_true : (b : Bool) → (b ≡ true → ⊥) → b ≡ false
+no_true true far = absurd (far refl)
+no_true false far = refl
+
+pub same_some : {A : Type 0} (a b : A) → Some a ≡ Some b → a ≡ b
+same_some a b e = cc
+
+-- lists that are empty
+pub none_left : {A : Type 0} (xs ys : List A) → xs ++ ys ≡ [] → xs ≡ []
+none_left [] ys e = refl
+none_left (x ∷ xs) ys e = cc
+
+pub none_right : {A : Type 0} (xs ys : List A) → xs ++ ys ≡ [] → ys ≡ []
+none_right [] ys e = e
+none_right (x ∷ xs) ys e = cc
+
+pub none_by : {A B : Type 0} (f : A → List B) (xs : List A) (x : A) → flat_map f xs ≡ [] → Contains xs x → f x ≡ []
+none_by f [] x e there = let less = there.1 in absurd (omega (arith, less))
+none_by f (y ∷ xs) x e (zero, less, same) = subst (λ z. f z ≡ []) same (none_left (f y) (flat_map f xs) e)
+none_by f (y ∷ xs) x e (suc k, less, same) = none_by f xs x (none_right (f y) (flat_map f xs) e) (k, (let low : k < length xs = omega (arith, less) in low), same)
+
+pub none_among : {B : Type 0} (f : Inst → List B) (xs : List Inst) (x : Inst) → flat_map f xs ≡ [] → IsAmong x xs → f x ≡ []
+none_among f [] x e there = absurd there
+none_among f (y ∷ xs) x e (inl same) = subst (λ z. f z ≡ []) same (none_left (f y) (flat_map f xs) e)
+none_among f (y ∷ xs) x e (inr there) = none_among f xs x (none_right (f y) (flat_map f xs) e) there
+
+-- tests that none passes
+pub any_none : {A : Type 0} (test : A → Bool) (xs : List A) (x : A) (k : ℕ) (d : A) → list_any test xs ≡ false → k < length xs → slice_index_or xs k d ≡ x → test x ≡ false
+any_none test [] x k d e less same = absurd (omega (arith, less))
+any_none test (y ∷ xs) x zero d e less same = subst (λ z. test z ≡ false) same (or_left (test y) (list_any test xs) e)
+any_none test (y ∷ xs) x (suc k) d e less same = any_none test xs x k d (or_right (test y) (list_any test xs) e) (let low : k < length xs = omega (arith, less) in low) same
+
+pub any_at : (test : ℕ × ℕ → Bool) (xs : List ℕ) (n k : ℕ) → list_any test (enumerate_from n xs) ≡ false → k < length xs → test (n + k, slice_index xs k) ≡ false
+any_at test [] n k e less = absurd (omega (arith, less))
+any_at test (x ∷ xs) n zero e less = subst (λ j. test (j, x) ≡ false) (let same : n ≡ n + 0 = omega arith in same) (or_left (test (n, x)) (list_any test (enumerate_from (n + 1) xs)) e)
+any_at test (x ∷ xs) n (suc k) e less =
+    subst (λ j. test (j, slice_index xs k) ≡ false) (let same : n + 1 + k ≡ n + suc k = omega arith in same)
+    (any_at test xs (n + 1) k (or_right (test (n, x)) (list_any test (enumerate_from (n + 1) xs)) e) (let low : k < length xs = omega (arith, less) in low))
+
+-- no instruction of these passes the test, where none of them stands at a place
+contains_head : (at : ℕ) (ats : List ℕ) → Contains (at ∷ ats) at
+contains_head at ats = (0, (let less : 0 < suc (length ats) = omega arith in less), refl)
+
+contains_tail : (y at : ℕ) (ats : List ℕ) → Contains ats at → Contains (y ∷ ats) at
+contains_tail y at ats (k, less, same) = (suc k, (let more : suc k < suc (length ats) = omega (arith, less) in more), same)
+
+in_places : (test : Inst → Bool) (xs : List Inst) (x : Inst) → test x ≡ true → IsAmong x xs → Contains (places test xs) x.at
+in_places test [] x on there = absurd there
+in_places test (y ∷ xs) x on there = by_test (test y) refl there (λ later. in_places test xs x on later)
+  where
+    by_test : (b : Bool) → test y ≡ b → (y ≡ x) ⊎ IsAmong x xs → (IsAmong x xs → Contains (places test xs) x.at) → Contains (map (λ (i : Inst). i.at) (if b then y ∷ filter test xs else filter test xs)) x.at
+    by_test true at (inl same) next = subst (λ (i : Inst). Contains (y.at ∷ places test xs) i.at) same (contains_head y.at (places test xs))
+    by_test true at (inr later) next = contains_tail y.at x.at (places test xs) (next later)
+    by_test false at (inl same) next = clash (sym on ∙ ap test (sym same) ∙ at)
+    by_test false at (inr later) next = next later
+
+pub none_at_fault : (test : Inst → Bool) (xs : List Inst) (x : Inst) → ((at : ℕ) → Contains (places test xs) at → ⊥) → IsAmong x xs → test x ≡ false
+none_at_fault test xs x right there = no_true (test x) (λ on. right x.at (in_places test xs x on there))
+
+-- what is found
+pub found_in : (gs : List Inst) (id : ℕ) (g : Inst) → global gs id ≡ Some g → IsAmong g gs
+found_in [] id g e = cc
+found_in (h ∷ gs) id g e = by_test (h.result == id) e (λ rest. found_in gs id g rest)
+  where
+    by_test : (b : Bool) → (if b then Some h else global gs id) ≡ Some g → (global gs id ≡ Some g → IsAmong g gs) → (h ≡ g) ⊎ IsAmong g gs
+    by_test true e next = inl (same_some h g e)
+    by_test false e next = inr (next e)
+
+pub earlier_some : (gs : List Inst) (n id : ℕ) (h : Inst) → earlier gs n id ≡ Some h → (global gs id ≡ Some h) × (h.at < n)
+earlier_some gs n id h e = by_global (global gs id) refl e
+  where
+    by_test : (g : Inst) (b : Bool) → nat_lt g.at n ≡ b → (if b then Some g else None) ≡ Some h → (g ≡ h) × (g.at < n)
+    by_test g true less e = (same_some g h e, grind (arith, nat_tests, less))
+    by_test g false less e = cc
+
+    by_global : (o : Option Inst) → global gs id ≡ o → if_earlier n o ≡ Some h → (global gs id ≡ Some h) × (h.at < n)
+    by_global None is e = cc
+    by_global (Some g) is e = let w = by_test g (nat_lt g.at n) refl e in (is ∙ ap (λ (x : Inst). Some x) w.0, subst (λ (x : Inst). x.at < n) w.0 w.1)
+
+pub some_by : {A : Type 0} (test : A → Bool) (o : Option A) → option_map_or test o false ≡ true → (a : A) × (o ≡ Some a) × (test a ≡ true)
+some_by test None e = cc
+some_by test (Some a) e = (a, refl, e)
+
+pub some_of : {A : Type 0} (o : Option A) → is_some o ≡ true → (a : A) × (o ≡ Some a)
+some_of None e = cc
+some_of (Some a) e = (a, refl)

@@ -1,0 +1,283 @@
+-- The types of constants and of what functions compute hold no runtime array, and no array whose length is a specialization constant (P17, P18).
+use Rattle.std.proofs.Common.{◌≡◌, ◌<◌, ◌≤◌, ◌+◌, ◌==◌, ◌||◌, ◌&&◌, not, ℕ, zero, suc, Bool, true, false, List, [], ◌∷◌, ◌++◌, length, take, Option, Some, None, inl, inr, refl, sym, ap, subst, ◌∙◌, if◌then◌else◌, arith}
+use Rattle.std.specs.Prelude.{◌⊎◌, flat_map, option_map, slice_index, ◌-◌, nat_le}
+use Rattle.std.specs.Option.{option_map_or}
+use Rattle.std.specs.List.{list_any, filter_map, cons_option}
+use Rattle.std.proofs.lemmas.Bool.Decides.{eqb_tells, nat_tests}
+use Rattle.spv_ops.specs.Opcode.{is, number}
+use Rattle.spv_ops.specs.Groups.{is_specialization}
+use Rattle.spv_ops.specs.Operands.{is_id}
+use Rattle.spv_ops.specs.OpGroups.{takes_of, group_of}
+use Rattle.spv_ops.specs.Shape.{shape, count_of}
+use Rattle.spv_ops.specs.declared.Op.{Op}
+use Rattle.spv_ops.specs.declared.Op.TheVariants as code
+use Rattle.spv_module.specs.State.{ModuleState}
+use Rattle.spv_module.specs.Held.{global}
+use Rattle.spv_module.specs.Inst.{has_type, has_result}
+use Rattle.spv_module.specs.declared.inst.Inst.{Inst}
+use Rattle.spv_types.specs.Tree.{Tree}
+use Rattle.spv_types.specs.Types.{kind, ids_by_kind, tree_before, tree_at, type_tree, earlier}
+use Rattle.spv_types.specs.Leaves.{IsSized}
+use Rattle.spv_types.proofs.Below.{tree_before_is}
+use Rattle.spv_decor.specs.Rows.{word}
+use Rattle.spv_decor.specs.Decorations.{local_insts}
+use Rattle.spv_index.specs.BlockStructs.{is_block, is_storage_block, is_some_block}
+use Rattle.profile_rules.specs.declared.needs.Need.TheVariants.{AnyType, Constant}
+use Rattle.profile_rules.specs.Operands.{need, first_or, is_there}
+use Rattle.profile_rules.specs.Places.{is_among, is_variable, is_defined_elsewhere, body_insts}
+use Rattle.profile_rules.specs.TypeForm.{parts_of, value_type, value_types, signature_types, pointees, block_misuses, is_of_storage, fixed_parts, runtime_misuses, is_misused, with_parts, held, is_held, other_types, is_workgroup, is_above_zero, is_no_int, is_workgroup_length, is_length, is_other_array}
+use Rattle.plan_law.specs.InOrder.{IsAmong, AreRising}
+use Rattle.fits_law.proofs.Steps.{named}
+use Rattle.type_law.specs.Shaped.{EachFound}
+use Rattle.typed_law.specs.Conforms.{IsConforming}
+use Rattle.typed_law.proofs.Lists.{or_left, or_right, and_left, and_right, and_off, not_off, not_on, clash, no_true, same_some, found_in, earlier_some}
+use Rattle.typed_law.proofs.Rules.{operand_there, global_there, used_type}
+use Rattle.typed_law.proofs.Types.{type_before, of_form}
+use Rattle.typed_law.proofs.Sized.{rising_low, sized_by}
+
+-- ids among lists
+or_on_left : (a b : Bool) → a ≡ true → (a || b) ≡ true
+or_on_left true b e = refl
+or_on_left false b e = cc
+
+or_on_right : (a b : Bool) → b ≡ true → (a || b) ≡ true
+or_on_right true b e = refl
+or_on_right false b e = e
+
+or_either : (a b : Bool) → (a || b) ≡ true → (a ≡ true) ⊎ (b ≡ true)
+or_either true b e = inl refl
+or_either false b e = inr e
+
+among_append : (xs ys : List ℕ) (id : ℕ) → is_among (xs ++ ys) id ≡ (is_among xs id || is_among ys id)
+among_append [] ys id = refl
+among_append (x ∷ xs) ys id = by_test (x == id) (among_append xs ys id)
+  where
+    by_test : (b : Bool) → is_among (xs ++ ys) id ≡ (is_among xs id || is_among ys id) → (b || is_among (xs ++ ys) id) ≡ ((b || is_among xs id) || is_among ys id)
+    by_test true e = refl
+    by_test false e = e
+
+pub among_left : (xs ys : List ℕ) (id : ℕ) → is_among xs id ≡ true → is_among (xs ++ ys) id ≡ true
+among_left xs ys id there = among_append xs ys id ∙ or_on_left (is_among xs id) (is_among ys id) there
+
+pub among_right : (xs ys : List ℕ) (id : ℕ) → is_among ys id ≡ true → is_among (xs ++ ys) id ≡ true
+among_right xs ys id there = among_append xs ys id ∙ or_on_right (is_among xs id) (is_among ys id) there
+
+among_either : (xs ys : List ℕ) (id : ℕ) → is_among (xs ++ ys) id ≡ true → (is_among xs id ≡ true) ⊎ (is_among ys id ≡ true)
+among_either xs ys id there = or_either (is_among xs id) (is_among ys id) (sym (among_append xs ys id) ∙ there)
+
+among_flat : (f : Inst → List ℕ) (xs : List Inst) (x : Inst) (id : ℕ) → IsAmong x xs → is_among (f x) id ≡ true → is_among (flat_map f xs) id ≡ true
+among_flat f [] x id there own = absurd there
+among_flat f (y ∷ xs) x id (inl same) own = among_left (f y) (flat_map f xs) id (subst (λ z. is_among (f z) id ≡ true) (sym same) own)
+among_flat f (y ∷ xs) x id (inr there) own = among_right (f y) (flat_map f xs) id (among_flat f xs x id there own)
+
+among_place : (ids : List ℕ) (p : ℕ) → is_among ids p ≡ true → (k : ℕ) × (k < length ids) × (slice_index ids k ≡ p)
+among_place [] p e = cc
+among_place (id ∷ ids) p e = by_test (id == p) (eqb_tells id p) e (λ later. among_place ids p later)
+  where
+    by_test : (b : Bool) → ((b ≡ true) × (id ≡ p)) ⊎ ((b ≡ false) × (id ≡ p → ⊥)) → (b || list_any (λ other. other == p) ids) ≡ true → (is_among ids p ≡ true → (k : ℕ) × (k < length ids) × (slice_index ids k ≡ p)) → (k : ℕ) × (k < length (id ∷ ids)) × (slice_index (id ∷ ids) k ≡ p)
+    by_test b (inl w) there next = (0, (let less : 0 < suc (length ids) = omega arith in less), w.1)
+    by_test true (inr w) there next = cc
+    by_test false (inr w) there next = let k = next there in let less = k.1 in (suc k.0, (let more : suc k.0 < suc (length ids) = omega (arith, less) in more), k.2)
+
+among_first : (args : List ℕ) (p : ℕ) → is_among (take 1 args) p ≡ true → (k : ℕ) × (k ≡ 0) × (k < length args) × (slice_index args k ≡ p)
+among_first [] p e = cc
+among_first (a ∷ args) p e = by_test (a == p) (eqb_tells a p) e
+  where
+    by_test : (b : Bool) → ((b ≡ true) × (a ≡ p)) ⊎ ((b ≡ false) × (a ≡ p → ⊥)) → (b || false) ≡ true → (k : ℕ) × (k ≡ 0) × (k < length (a ∷ args)) × (slice_index (a ∷ args) k ≡ p)
+    by_test b (inl w) there = (0, refl, (let less : 0 < suc (length args) = omega arith in less), w.1)
+    by_test true (inr w) there = cc
+    by_test false (inr w) there = cc
+
+-- a part of a type is an operand, which has to be a type
+abbrev IsPlace : Op → List ℕ → ℕ → Type 0
+IsPlace o args p = (k : ℕ) × (k < length args) × (slice_index args k ≡ p) × (is_id o args k ≡ true) × (need o k ≡ AnyType)
+
+from_zero : (k : ℕ) → nat_le 0 k ≡ true
+from_zero k = grind (arith, nat_tests)
+
+part_place : (o : Op) (args : List ℕ) (p : ℕ) → is_among (option_map_or (λ (ids : List ℕ). ids) (ids_by_kind (kind o) args) []) p ≡ true → IsPlace o args p
+unfolding kind is_id need takes_of group_of
+part_place code.TypeArray args p e = let w = among_first args p e in (w.0, w.2, w.3, from_zero w.0, subst (λ k. first_or k AnyType Constant ≡ AnyType) (sym w.1) refl)
+part_place code.TypeRuntimeArray args p e = let w = among_first args p e in (w.0, w.2, w.3, from_zero w.0, refl)
+part_place code.TypeStruct args p e = let w = among_place args p e in (w.0, w.1, w.2, from_zero w.0, refl)
+part_place o args p e = cc
+
+-- the parts of an array, and of a struct
+array_part : (o : Op) (args : List ℕ) → is o code.TypeArray ≡ true → 0 < length args → is_among (option_map_or (λ (ids : List ℕ). ids) (ids_by_kind (kind o) args) []) (slice_index args 0) ≡ true
+unfolding kind number
+array_part code.TypeArray [] e inside = absurd (omega (arith, inside))
+array_part code.TypeArray (a ∷ args) e inside = or_on_left (a == a) false (grind (arith, nat_tests))
+array_part o args e inside = cc
+
+struct_part : (o : Op) (args : List ℕ) (p : ℕ) → is o code.TypeStruct ≡ true → is_among args p ≡ true → is_among (option_map_or (λ (ids : List ℕ). ids) (ids_by_kind (kind o) args) []) p ≡ true
+unfolding kind number
+struct_part code.TypeStruct args p e there = there
+struct_part o args p e there = cc
+
+array_least : (o : Op) (n : ℕ) → is o code.TypeArray ≡ true → (shape o).least ≤ 1 + count_of (has_type o) + count_of (has_result o) + n → 2 ≤ n
+unfolding number shape
+array_least code.TypeArray n is_it le = omega (arith, le)
+array_least o n e le = cc
+
+module _ (m : ModuleState) (entry : Option (List ℕ)) (right : IsConforming m entry) where
+  abbrev Gs : List Inst
+  Gs = m.globals
+
+  -- parts stand before
+  part_before : (g : Inst) → IsAmong g Gs → (p : ℕ) → is_among (parts_of g) p ≡ true → (h : Inst) × (global Gs p ≡ Some h) × (h.at < g.at)
+  part_before g there p part =
+      let k = part_place g.op g.args p part in
+      let on = operand_there (is_there Gs g.at) g (global_there m entry right g there) k.0 k.1 k.3 in
+      let h = type_before m entry right g.at p (subst (λ x. is_there Gs g.at AnyType x ≡ true) k.2 (subst (λ q. is_there Gs g.at q (slice_index g.args k.0) ≡ true) k.4 on)) in
+      let w = earlier_some Gs g.at p h.0 h.1 in
+      (h.0, w.0, w.1)
+
+  -- these types and all that they hold are closed
+  grow : (t : Inst) (ids : List ℕ) (id : ℕ) → is_among ids id ≡ true → is_among (with_parts t ids) id ≡ true
+  grow t ids id there = by_test (is_among ids t.result)
+    where
+      by_test : (b : Bool) → is_among (if b then parts_of t ++ ids else ids) id ≡ true
+      by_test true = among_right (parts_of t) ids id there
+      by_test false = there
+
+  closed : (list : List Inst) (types : List ℕ) (n : ℕ) → AreRising n list → ((h : Inst) → IsAmong h list → IsAmong h Gs × (global Gs h.result ≡ Some h)) → (g : Inst) → IsAmong g list → is_among (held list types) g.result ≡ true → (p : ℕ) → is_among (parts_of g) p ≡ true → is_among (held list types) p ≡ true
+  closed [] types n rise all g there has p part = absurd there
+  closed (t ∷ ts) types n rise all g (inl same) has p part = by_test (is_among (held ts types) t.result) refl (ap (is_among (with_parts t (held ts types))) (ap (λ (x : Inst). x.result) same) ∙ has)
+    where
+      by_test : (b : Bool) → is_among (held ts types) t.result ≡ b → is_among (if b then parts_of t ++ held ts types else held ts types) t.result ≡ true → is_among (if b then parts_of t ++ held ts types else held ts types) p ≡ true
+      by_test true at has = among_left (parts_of t) (held ts types) p (subst (λ (x : Inst). is_among (parts_of x) p ≡ true) (sym same) part)
+      by_test false at has = clash (sym has ∙ at)
+  closed (t ∷ ts) types n rise all g (inr there) has p part = by_test (is_among (held ts types) t.result) refl has (λ own. grow t (held ts types) p (closed ts types (t.at + 1) rise.1 (λ h h_in. all h (inr h_in)) g there own p part))
+    where
+      by_test : (b : Bool) → is_among (held ts types) t.result ≡ b → is_among (if b then parts_of t ++ held ts types else held ts types) g.result ≡ true → (is_among (held ts types) g.result ≡ true → is_among (with_parts t (held ts types)) p ≡ true) → is_among (with_parts t (held ts types)) p ≡ true
+      by_test true at has next = elim (among_either (parts_of t) (held ts types) g.result has) [
+        | inl early ↦
+            let w = part_before t (all t (inl refl)).0 g.result early in
+            let one : w.0 ≡ g = same_some w.0 g (sym w.1 ∙ (all g (inr there)).1) in
+            let less : g.at < t.at = subst (λ (x : Inst). x.at < t.at) one w.2 in
+            let far = rising_low (t.at + 1) ts g rise.1 there in
+            absurd (omega (arith, less, far))
+        | inr own ↦ next own
+      ]
+      by_test false at has next = next has
+
+  found_all : (gs js : List Inst) → EachFound gs js → (h : Inst) → IsAmong h js → global gs h.result ≡ Some h
+  found_all gs [] each h there = absurd there
+  found_all gs (j ∷ js) each h (inl same) = subst (λ (x : Inst). global gs x.result ≡ Some x) same each.0
+  found_all gs (j ∷ js) each h (inr there) = found_all gs js each.1 h there
+
+  pub global_found : (h : Inst) → IsAmong h Gs → global Gs h.result ≡ Some h
+  global_found h there = found_all Gs Gs right.results.each h there
+
+  -- a type that values use, or hold: it is no block, and no runtime array
+  record IsUsed (g : Inst) : Type 0 where
+    holds : is_held Gs (other_types m) g.result ≡ true
+    no_block : ((is g.op code.TypeStruct) && is_block m.heads g.result) ≡ false
+    no_runtime : is g.op code.TypeRuntimeArray ≡ false
+
+  misused : (g : Inst) → IsAmong g Gs → (is_among (block_misuses m) g.result ≡ true) → (is_among (runtime_misuses m) g.result ≡ true) → (((is g.op code.TypeStruct) && is_block m.heads g.result) ≡ false) × (is g.op code.TypeRuntimeArray ≡ false)
+  misused g there blocks runtimes =
+      let a = (is g.op code.TypeStruct) && is_block m.heads g.result in
+      let w = used_type m entry right g there in
+      (
+        no_true a (λ on. clash (sym (both_on a (is_among (block_misuses m) g.result) on blocks) ∙ or_left (a && is_among (block_misuses m) g.result) ((is g.op code.TypeRuntimeArray) && is_among (runtime_misuses m) g.result) w)),
+        no_true (is g.op code.TypeRuntimeArray) (λ on. clash (sym (both_on (is g.op code.TypeRuntimeArray) (is_among (runtime_misuses m) g.result) on runtimes) ∙ or_right (a && is_among (block_misuses m) g.result) ((is g.op code.TypeRuntimeArray) && is_among (runtime_misuses m) g.result) w)),
+      )
+    where
+      both_on : (a b : Bool) → a ≡ true → b ≡ true → (a && b) ≡ true
+      both_on true b on e = e
+      both_on false b on e = cc
+
+  used_part : (g : Inst) → IsAmong g Gs → IsUsed g → (p : ℕ) (h : Inst) → is_among (parts_of g) p ≡ true → global Gs p ≡ Some h → IsUsed h
+  used_part g there used p h part at =
+      let own : h.result ≡ p = named Gs p h at in
+      let among : is_among (parts_of g) h.result ≡ true = subst (λ x. is_among (parts_of g) x ≡ true) (sym own) part in
+      let fixed : is_among (fixed_parts m g) h.result ≡ true = by_storage (is g.op code.TypeStruct) (is_block m.heads g.result) (not (is_among (pointees m (λ v. not (is_storage_block m.heads m.globals v))) g.result)) used.no_block among in
+      let blocks : is_among (block_misuses m) h.result ≡ true =
+      among_left (flat_map parts_of Gs ++ pointees m (λ v. not (is_some_block m.heads m.globals v)) ++ value_types m) (signature_types m) h.result
+      (among_left (flat_map parts_of Gs ++ pointees m (λ v. not (is_some_block m.heads m.globals v))) (value_types m) h.result
+      (among_left (flat_map parts_of Gs) (pointees m (λ v. not (is_some_block m.heads m.globals v))) h.result (among_flat parts_of Gs g h.result there among))) in
+      let runtimes : is_among (runtime_misuses m) h.result ≡ true =
+      among_left (flat_map (fixed_parts m) Gs ++ pointees m (λ v. true) ++ value_types m) (signature_types m) h.result
+      (among_left (flat_map (fixed_parts m) Gs ++ pointees m (λ v. true)) (value_types m) h.result
+      (among_left (flat_map (fixed_parts m) Gs) (pointees m (λ v. true)) h.result (among_flat (fixed_parts m) Gs g h.result there fixed))) in
+      let w = misused h (found_in Gs p h at) blocks runtimes in
+      record {
+        holds = closed Gs (other_types m) 0 right.rising (λ k k_in. (k_in, global_found k k_in)) g there used.holds h.result among;
+        no_block = w.0;
+        no_runtime = w.1;
+      }
+    where
+      by_storage : (a b c : Bool) → (a && b) ≡ false → is_among (parts_of g) h.result ≡ true → is_among (if a && (b && c) then take (length g.args - 1) g.args else parts_of g) h.result ≡ true
+      by_storage true true c none there = cc
+      by_storage true false c none there = there
+      by_storage false b c none there = there
+
+  -- the length of an array that values use is an OpConstant
+  used_length : (g : Inst) → IsAmong g Gs → IsUsed g → is g.op code.TypeArray ≡ true → (c : Inst) → global Gs (word g 1) ≡ Some c → is c.op code.Constant ≡ true
+  used_length g there used on c at =
+      let length_is : is_length m g.result c ≡ true =
+      not_off (is_length m g.result c) (ap (λ o. option_map_or (λ (x : Inst). not (is_length m g.result x)) o (is_defined_elsewhere m (word g 1))) (sym at) ∙ and_off (is g.op code.TypeArray) (option_map_or (λ (x : Inst). not (is_length m g.result x)) (global Gs (word g 1)) (is_defined_elsewhere m (word g 1))) (of_form m entry right g there).2 on) in
+      by_constant (is c.op code.Constant) length_is
+    where
+      by_constant : (b : Bool) → (if b then is_above_zero Gs c else (is_specialization c.op && is_workgroup_length m c g.result)) ≡ true → b ≡ true
+      by_constant true e = refl
+      by_constant false e = clash (sym used.holds ∙ not_on (is_held Gs (other_types m) g.result) (and_right (not (is_no_int Gs c) && is_held Gs (pointees m is_workgroup) g.result) (not (is_held Gs (other_types m) g.result)) (and_right (is_specialization c.op) (is_workgroup_length m c g.result) e)))
+
+  -- so the shape of a type that values use has values, where those before it have
+  module _ (g : Inst) (there : IsAmong g Gs) (used : IsUsed g) (known : (h : Inst) → IsAmong h Gs → h.at < g.at → IsUsed h → (u : Tree) → tree_at Gs h ≡ Some u → IsSized u) where
+    part_sized : (p : ℕ) (u : Tree) → tree_before Gs g.at p ≡ Some u → is_among (parts_of g) p ≡ true → IsSized u
+    part_sized p u e part = by_earlier (earlier Gs g.at p) refl (sym (tree_before_is Gs g.at p) ∙ e)
+      where
+        by_earlier : (o : Option Inst) → earlier Gs g.at p ≡ o → option_map_or (tree_at Gs) o None ≡ Some u → IsSized u
+        by_earlier None at e = cc
+        by_earlier (Some h) at e = let w = earlier_some Gs g.at p h at in known h (found_in Gs p h w.0) w.1 (used_part g there used p h part w.0) u e
+
+    used_whole : (t : Tree) → tree_at Gs g ≡ Some t → IsSized t
+    used_whole t shape =
+        sized_by Gs (tree_before Gs g.at) g (λ p. is_among (parts_of g) p ≡ true) part_sized g.op t used.no_runtime
+        (λ on. (array_part g.op g.args on (let many = array_least g.op (length g.args) on (right.formed g there).least in omega (arith, many)), used_length g there used on))
+        (λ on p p_in. struct_part g.op g.args p on p_in) shape
+
+  used_by : (n : ℕ) (g : Inst) → IsAmong g Gs → g.at < n → IsUsed g → (t : Tree) → tree_at Gs g ≡ Some t → IsSized t
+  used_by zero g there less used t shape = absurd (omega (arith, less))
+  used_by (suc n) g there less used t shape = used_whole g there used (λ h h_in before. used_by n h h_in (let low : h.at < n = omega (arith, less, before) in low)) t shape
+
+  -- the types of instructions that are no variables
+  body_type : (is : List Inst) (i : Inst) → IsAmong i is → is_variable i ≡ false → is_among (filter_map value_type is) i.ty ≡ true
+  body_type [] i there off = absurd there
+  body_type (j ∷ is) i (inl same) off = subst (λ (x : Inst). is_among (filter_map value_type (x ∷ is)) i.ty ≡ true) (sym same) (by_test (is_variable i) off)
+    where
+      by_test : (b : Bool) → b ≡ false → is_among (cons_option (if b then None else Some i.ty) (filter_map value_type is)) i.ty ≡ true
+      by_test true e = cc
+      by_test false e = or_on_left (i.ty == i.ty) (is_among (filter_map value_type is) i.ty) (grind (arith, nat_tests))
+  body_type (j ∷ is) i (inr there) off = by_option (value_type j) (body_type is i there off)
+    where
+      by_option : (o : Option ℕ) → is_among (filter_map value_type is) i.ty ≡ true → is_among (cons_option o (filter_map value_type is)) i.ty ≡ true
+      by_option None e = e
+      by_option (Some x) e = or_on_right (x == i.ty) (is_among (filter_map value_type is) i.ty) e
+
+  held_own : (list : List Inst) (types : List ℕ) (id : ℕ) → is_among types id ≡ true → is_among (held list types) id ≡ true
+  held_own [] types id there = there
+  held_own (t ∷ ts) types id there = grow t (held ts types) id (held_own ts types id there)
+
+  pub used_sized : (i : Inst) → IsAmong i (body_insts m) → is_variable i ≡ false → (t : Tree) → type_tree Gs i.ty ≡ Some t → IsSized t
+  used_sized i there off t shape = by_global (global Gs i.ty) refl shape
+    where
+      among : is_among (value_types m) i.ty ≡ true
+      among = body_type (body_insts m) i there off
+
+      by_global : (o : Option Inst) → global Gs i.ty ≡ o → option_map_or (tree_at Gs) o None ≡ Some t → IsSized t
+      by_global None at e = cc
+      by_global (Some g) at e =
+          let own : g.result ≡ i.ty = named Gs i.ty g at in
+          let mine : is_among (value_types m) g.result ≡ true = subst (λ x. is_among (value_types m) x ≡ true) (sym own) among in
+          let blocks : is_among (block_misuses m) g.result ≡ true =
+          among_left (flat_map parts_of Gs ++ pointees m (λ v. not (is_some_block m.heads m.globals v)) ++ value_types m) (signature_types m) g.result
+          (among_right (flat_map parts_of Gs ++ pointees m (λ v. not (is_some_block m.heads m.globals v))) (value_types m) g.result mine) in
+          let runtimes : is_among (runtime_misuses m) g.result ≡ true =
+          among_left (flat_map (fixed_parts m) Gs ++ pointees m (λ v. true) ++ value_types m) (signature_types m) g.result
+          (among_right (flat_map (fixed_parts m) Gs ++ pointees m (λ v. true)) (value_types m) g.result mine) in
+          let w = misused g (found_in Gs i.ty g at) blocks runtimes in
+          used_by (suc g.at) g (found_in Gs i.ty g at) (let less : g.at < suc g.at = omega arith in less)
+          (record { holds = held_own Gs (other_types m) g.result (among_right (pointees m (λ v. not (is_workgroup v))) (value_types m) g.result mine); no_block = w.0; no_runtime = w.1 }) t e
