@@ -137,7 +137,7 @@ module _ (s : Setting) (entry : Option (List ℕ)) (right : IsConforming s.of en
 
   -- the type of the result has values
   result_sized : IsSized t
-  result_sized = value_sized s entry right f in_it i.result i.ty (own_type s entry right f in_it i there (shaped_some s entry right i.ty t shaped)) t shaped
+  result_sized = value_sized s entry right f in_it i.result i.ty (own_type s entry right f in_it i there (shaped_some s entry right f in_it i.ty t shaped)) t shaped
 
   -- what the rules say of the instruction, if it has this opcode
   pub record Facts (p : Op) : Type 0 where
@@ -223,6 +223,15 @@ module _ (s : Setting) (entry : Option (List ℕ)) (right : IsConforming s.of en
       take_all (a ∷ []) many = refl
       take_all (a ∷ b ∷ args) many = absurd (omega (arith, many))
 
+  one_typed : (x : ℕ) → IsTypedId x → HaveTypes (x ∷ [])
+  one_typed x w zero less = w
+  one_typed x w (suc k) less = absurd (omega (arith, less))
+
+  two_typed : (x y : ℕ) → IsTypedId x → IsTypedId y → HaveTypes (x ∷ y ∷ [])
+  two_typed x y v w zero less = v
+  two_typed x y v w (suc zero) less = w
+  two_typed x y v w (suc (suc k)) less = absurd (omega (arith, less))
+
   -- T18: fields
   ints_of_all : (ids : List ℕ) → HaveTypes ids → list_any (value_fails is_int Gs V) ids ≡ false → (k : ℕ) → k < length ids → HasItsShape s entry right f in_it (slice_index ids k) × (value_fails is_int Gs V (slice_index ids k) ≡ false)
   ints_of_all [] typed off k less = absurd (omega (arith, less))
@@ -236,7 +245,7 @@ module _ (s : Setting) (entry : Option (List ℕ)) (right : IsConforming s.of en
   field_of (x ∷ y ∷ z ∷ []) many typed off =
       let first = or_left (are_unlike_ints Gs V i.ty (x ∷ [])) (list_any (value_fails is_int Gs V) (y ∷ z ∷ [])) off in
       let rest = or_right (are_unlike_ints Gs V i.ty (x ∷ [])) (list_any (value_fails is_int Gs V) (y ∷ z ∷ [])) off in
-      let w = number_shapes s entry right f in_it i.ty t (x ∷ []) shaped (λ k less. typed k (let more : k < 3 = omega (arith, less) in more)) first in
+      let w = number_shapes s entry right f in_it i.ty t (x ∷ []) shaped (one_typed x (typed 0 (let less : 0 < 3 = omega arith in less))) first in
       let ints = ints_of_all (y ∷ z ∷ []) (λ k less. typed (suc k) (let more : suc k < 3 = omega (arith, less) in more)) rest in
       let b = ints 0 (let less : 0 < 2 = omega arith in less) in
       let c = ints 1 (let less : 1 < 2 = omega arith in less) in
@@ -255,7 +264,7 @@ module _ (s : Setting) (entry : Option (List ℕ)) (right : IsConforming s.of en
   as_insert (x ∷ y ∷ z ∷ q ∷ []) many typed off =
       let first = or_left (are_unlike_ints Gs V i.ty (x ∷ y ∷ [])) (list_any (value_fails is_int Gs V) (z ∷ q ∷ [])) off in
       let rest = or_right (are_unlike_ints Gs V i.ty (x ∷ y ∷ [])) (list_any (value_fails is_int Gs V) (z ∷ q ∷ [])) off in
-      let w = number_shapes s entry right f in_it i.ty t (x ∷ y ∷ []) shaped (λ k less. typed k (let more : k < 4 = omega (arith, less) in more)) first in
+      let w = number_shapes s entry right f in_it i.ty t (x ∷ y ∷ []) shaped (two_typed x y (typed 0 (let less : 0 < 4 = omega arith in less)) (typed 1 (let less : 1 < 4 = omega arith in less))) first in
       let ints = ints_of_all (z ∷ q ∷ []) (λ k less. typed (suc (suc k)) (let more : suc (suc k) < 4 = omega (arith, less) in more)) rest in
       let c = ints 0 (let less : 0 < 2 = omega arith in less) in
       let d = ints 1 (let less : 1 < 2 = omega arith in less) in
@@ -374,7 +383,7 @@ module _ (s : Setting) (entry : Option (List ℕ)) (right : IsConforming s.of en
       let a = shaped_type s entry right f in_it i.ty (word i 1) t shaped w parts.1 in
       let own = same_type s entry right f in_it i.ty (word i 1) (row_of_shape s entry right f in_it i.ty t shaped) w parts.1 in
       let leads : is_value_elsewhere Gs V (word i 0) (walk (literal_step Gs) (Part i.ty) (drop 2 i.args)) ≡ false = ap (λ o. is_value_elsewhere Gs V (word i 0) (walk (literal_step Gs) (option_map_or Part o Unknown) (drop 2 i.args))) (sym own) ∙ parts.2 in
-      let o = elim (walk_leads s f (drop 2 i.args) i.ty t shaped result_sized) [
+      let o : HasItsShape s entry right f in_it (word i 0) = elim (walk_leads s f (drop 2 i.args) i.ty t shaped result_sized) [
         | inl none ↦ clash (ap (is_value_elsewhere Gs V (word i 0)) (sym none) ∙ leads)
         | inr q ↦ (q.1, shaped_type s entry right f in_it q.0 (word i 0) q.1 q.3 object (ap (is_value_elsewhere Gs V (word i 0)) (sym q.2) ∙ leads))
       ] in
