@@ -249,12 +249,12 @@ module _ (s : Setting) (right : ModuleFits s) where
       subst (λ o. HasShape (option_and_then (λ x. target_shape s x id) o) v) (sym (called_at depth c.below g.0 g.1)) (calls_have depth c.below g.0 id v fit.calls g.1 g.2)
   kept_has c (global id) v fit e =
       let g = some_first (global_value s c) (global_variable s id) v e in
-      by_class g.0 g.1 (class_of g.0) g.2
+      by_class g.0 g.1 (class_of g.0) refl g.2
     where
-      by_class : (g : Inst) → global_variable s id ≡ Some g → (o : Option StorageClass) → global_value_by s c g o ≡ Some v → HasShape (global_shape s id) v
-      by_class g is (Some storage.Private) e = fit.privates id v (ap c.privates (sym (variable_named id g is)) ∙ e)
-      by_class g is (Some storage.Input) e = right.inputs id g v is e
-      by_class g is _ e = cc
+      by_class : (g : Inst) → global_variable s id ≡ Some g → (o : Option StorageClass) → class_of g ≡ o → global_value_by s c g o ≡ Some v → HasShape (global_shape s id) v
+      by_class g is (Some storage.Private) class e = fit.privates id v g is class (ap c.privates (sym (variable_named id g is)) ∙ e)
+      by_class g is (Some storage.Input) class e = right.inputs id g v is class e
+      by_class g is _ class e = cc
 
   -- reads
   words_read : (t : Tree) (s_v : Inst) (path words : List ℕ) (e : Event) → shape_along s s_v path ≡ Some t → event_of (reading (locations s s_v path)) words ≡ Some e → length words ≡ leaf_count t
@@ -319,7 +319,7 @@ module _ (s : Setting) (right : ModuleFits s) where
       by_test false later e = (wait.0, later e)
 
   keeping_fits : (c : Conf) (r : Root) (v : ValueTree) → ConfFits s c → HasShape (root_shape s (functions_of c.below) c.top.function r) v → ConfFits s (keeping r v c)
-  keeping_fits c (global id) v fit has = record { top = fit.top; calls = fit.calls; awaited = fit.awaited; privates = λ k w e. put_some c.privates id v k w (λ n x. HasShape (global_shape s n) x) has (λ x there. fit.privates k x there) e }
+  keeping_fits c (global id) v fit has = record { top = fit.top; calls = fit.calls; awaited = fit.awaited; privates = λ k w g is class e. put_some c.privates id v k w (λ n x. HasShape (global_shape s n) x) has (λ x there. fit.privates k x g is class there) e }
   keeping_fits c (own id) v fit has = record { top = (fit.top.0, variables_put c.top.function c.top.variables id v fit.top.1 has); calls = fit.calls; awaited = fit.awaited; privates = fit.privates }
   keeping_fits c (lent depth id) v fit has = by_call (call_at depth c.below) refl
     where

@@ -1,5 +1,6 @@
 -- The state of a module's run fits its types: values have the shapes of their ids, pointers lead to what their types say, variables hold values of their types.
 use Rattle.std.specs.Prelude.{◌≡◌, ◌==◌, ℕ, true, false, List, [], ◌∷◌, length, map, Option, Some, None, option_and_then}
+use Rattle.spv_ops.specs.declared.StorageClass.TheVariants as storage
 use Rattle.spv_module.specs.Held.{global as global_inst}
 use Rattle.spv_module.specs.declared.inst.Function.{Function}
 use Rattle.spv_module.specs.declared.inst.Inst.{Inst}
@@ -11,7 +12,7 @@ use Rattle.op_semantics.specs.Fits.{elem_tree, fits}
 use Rattle.traces.specs.Events.{Event, event_of}
 use Rattle.traces.specs.Runs.{Act, goes, asks, stops, fails}
 use Rattle.module_semantics.specs.Setting.{Setting, global_variable}
-use Rattle.module_semantics.specs.Memory.{shape_along}
+use Rattle.module_semantics.specs.Memory.{class_of, shape_along}
 use Rattle.module_semantics.specs.Accesses.{seen, input_value}
 use Rattle.module_semantics.specs.State.{Root, global, own, lent, Held, value, pointer, Frame, Conf}
 use Rattle.fits_law.specs.Takes.{nth_of}
@@ -93,11 +94,15 @@ abbrev pub Await : Setting → Function → List (Frame × ℕ) → Type 0
 Await s f [] = Unit {0}
 Await s f (b ∷ bs) = IsAwaited s f b × Await s b.0.function bs
 
+-- the Private variables hold values of their types; what stands there for others is never read
+abbrev pub PrivatesFit : Setting → (ℕ → Option ValueTree) → Type 0
+PrivatesFit s privates = (id : ℕ) (v : ValueTree) (g : Inst) → global_variable s id ≡ Some g → class_of g ≡ Some storage.Private → privates id ≡ Some v → HasShape (global_shape s id) v
+
 pub record ConfFits (s : Setting) (c : Conf) : Type 0 where
   pub top : FrameFits s (functions_of c.below) c.top
   pub calls : CallsFit s c.below
   pub awaited : Await s c.top.function c.below
-  pub privates : (id : ℕ) (v : ValueTree) → c.privates id ≡ Some v → HasShape (global_shape s id) v
+  pub privates : PrivatesFit s c.privates
 
 -- what a machine does next leads to states that fit
 abbrev pub ActFits : Setting → Act Conf → Type 0
@@ -106,9 +111,9 @@ ActFits s (asks a f) = (words : List ℕ) (e : Event) → event_of a words ≡ S
 ActFits s stops = Unit {0}
 ActFits s fails = Unit {0}
 
--- constants have the shapes of their types, built-in variables too; variables are pointers to their shapes, as each function sees them; and along the types of a variable that others see one comes to the shape of the part
+-- constants have the shapes of their types, Input variables too; variables are pointers to their shapes, as each function sees them; and along the types of a variable that others see one comes to the shape of the part
 pub record ModuleFits (s : Setting) : Type 0 where
   pub constants : (f : Function) (id : ℕ) (v : ValueTree) → s.constants id ≡ Some v → HasShape (value_shape s f id) v
   pub globals : (f : Function) (id : ℕ) (v : Inst) → global_variable s id ≡ Some v → LeadsTo (global_shape s id) [] (target_shape s f id)
-  pub inputs : (id : ℕ) (v : Inst) (r : ValueTree) → global_variable s id ≡ Some v → input_value s v ≡ Some r → HasShape (global_shape s id) r
+  pub inputs : (id : ℕ) (v : Inst) (r : ValueTree) → global_variable s id ≡ Some v → class_of v ≡ Some storage.Input → input_value s v ≡ Some r → HasShape (global_shape s id) r
   pub along : (id : ℕ) (path : List ℕ) (v : Inst) (t u : Tree) → seen s (global id) ≡ Some v → shape_along s v path ≡ Some t → LeadsTo (global_shape s id) path (Some u) → t ≡ u

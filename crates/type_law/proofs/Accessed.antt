@@ -69,7 +69,7 @@ seconds n ws = map (λ (o : ℕ × ℕ). o.1) (filter (λ (o : ℕ × ℕ). o.0 
 pair_first : (n a b : ℕ) (ws : List ℕ) → (n % 2 == 0) ≡ true → seconds n (a ∷ b ∷ ws) ≡ a ∷ seconds (n + 1 + 1) ws
 pair_first n a b ws e = rw (e, odd_after n e) refl
 
-source_passes : (test : ℕ → Bool) (n from id : ℕ) (ws : List ℕ) → (n % 2 == 0) ≡ true → list_any test (seconds n ws) ≡ false → source_from from ws ≡ Some id → test id ≡ false
+pub source_passes : (test : ℕ → Bool) (n from id : ℕ) (ws : List ℕ) → (n % 2 == 0) ≡ true → list_any test (seconds n ws) ≡ false → source_from from ws ≡ Some id → test id ≡ false
 source_passes test n from id [] e right is = cc
 source_passes test n from id (a ∷ []) e right is = cc
 source_passes test n from id (a ∷ b ∷ ws) e right is =

@@ -161,7 +161,7 @@ module _ (s : Setting) (f : Function) where
       by_global (Some g) there = by_test g there (is g.op code.Constant) refl (ap (option_and_then constant_if) (sym there) ∙ told)
 
   -- each index of a chain has a type
-  abbrev HaveTypes : List ℕ → Type 0
+  abbrev pub HaveTypes : List ℕ → Type 0
   HaveTypes [] = Unit {0}
   HaveTypes (id ∷ ids) = (is_some (T id) ≡ true) × HaveTypes ids
 
@@ -182,22 +182,21 @@ module _ (s : Setting) (f : Function) where
       same_tail : (x y : ℕ) (xs ys : List ℕ) → x ∷ xs ≡ y ∷ ys → xs ≡ ys
       same_tail x y xs ys e = cc
 
-  -- T6: a chain leads to what its type says
-  pub chain_typed : (i : Inst) (t u : Tree) (q : ℕ) → breaks_t6 Gs T i ≡ false → AreConstants s → HaveTypes (drop 1 i.args) → target_shape s f (base i) ≡ Some t → T i.result ≡ Some i.ty → pointee Gs i.ty ≡ Some q → type_tree Gs q ≡ Some u → IsChain s f i
-  chain_typed i t u q right known have from typed to shape c indexes ty is own words there allowed =
+  -- T6: a chain leads to what its type says, where pointers lead to shapes
+  pub chain_typed : (i : Inst) (t : Tree) → breaks_t6 Gs T i ≡ false → AreConstants s → HaveTypes (drop 1 i.args) → target_shape s f (base i) ≡ Some t → T i.result ≡ Some i.ty → (fails is_pointer Gs i.ty ≡ false → (q : ℕ) × (u : Tree) × (pointee Gs i.ty ≡ Some q) × (type_tree Gs q ≡ Some u)) → IsChain s f i
+  chain_typed i t right known have from typed to c indexes ty is own words there allowed =
       let start = some_first (type_tree Gs) (option_and_then (pointee Gs) (T (base i))) t from in
       let off = three_off (value_fails is_pointer Gs T (word i 0)) (list_any (value_fails is_int Gs T) (drop 1 i.args)) (leads_elsewhere Gs i.ty (option_and_then (storage_class Gs) (T (word i 0))) (chain_end Gs T i)) right in
       let reached : leads_elsewhere Gs i.ty (option_and_then (storage_class Gs) (T (word i 0))) (walk (chain_step Gs T) (Part start.0) (drop 1 i.args)) ≡ false
       = ap (λ o. leads_elsewhere Gs i.ty (option_and_then (storage_class Gs) (T (word i 0))) (walk (chain_step Gs T) (option_map_or Part o Unknown) (drop 1 i.args))) (sym start.1) ∙ off.2 in
-      let target : target_shape s f i.result ≡ Some u = ap (λ o. option_and_then (type_tree Gs) (option_and_then (pointee Gs) o)) typed ∙ (ap (option_and_then (type_tree Gs)) to ∙ shape) in
-      leads_from (target_shape s f (base i)) t from (by_walk start.0 (walk (chain_step Gs T) (Part start.0) (drop 1 i.args)) refl reached (chain_leads (drop 1 i.args) indexes start.0 t start.2 (indexes_are c (drop 1 i.args) indexes known own have words)) ∙ sym target)
+      leads_from (target_shape s f (base i)) t from (by_walk start.0 (walk (chain_step Gs T) (Part start.0) (drop 1 i.args)) refl reached (chain_leads (drop 1 i.args) indexes start.0 t start.2 (indexes_are c (drop 1 i.args) indexes known own have words)))
     where
       leads_from : (o : Option Tree) (t : Tree) → o ≡ Some t → place_shape t indexes ≡ target_shape s f i.result → LeadsTo o indexes (target_shape s f i.result)
       leads_from None t e h = cc
       leads_from (Some x) t e h = ap (λ y. place_shape y indexes) (some_same x t e) ∙ h
 
       by_walk : (p : ℕ) (r : Reached) → walk (chain_step Gs T) (Part p) (drop 1 i.args) ≡ r → leads_elsewhere Gs i.ty (option_and_then (storage_class Gs) (T (word i 0))) r ≡ false
-          → (walk (chain_step Gs T) (Part p) (drop 1 i.args) ≡ Nothing) ⊎ ((c : ℕ) × (w : Tree) × (walk (chain_step Gs T) (Part p) (drop 1 i.args) ≡ Part c) × (type_tree Gs c ≡ Some w) × (place_shape t indexes ≡ Some w)) → place_shape t indexes ≡ Some u
+          → (walk (chain_step Gs T) (Part p) (drop 1 i.args) ≡ Nothing) ⊎ ((c : ℕ) × (w : Tree) × (walk (chain_step Gs T) (Part p) (drop 1 i.args) ≡ Part c) × (type_tree Gs c ≡ Some w) × (place_shape t indexes ≡ Some w)) → place_shape t indexes ≡ target_shape s f i.result
       by_walk p r is right (inl none) = absurd (never (ap (leads_elsewhere Gs i.ty (option_and_then (storage_class Gs) (T (word i 0)))) (sym (sym is ∙ none)) ∙ right))
         where
           never : true ≡ false → ⊥
@@ -205,4 +204,6 @@ module _ (s : Setting) (f : Function) where
       by_walk p r is right (inr w) =
           let part : is_other_pointer Gs i.ty (option_and_then (storage_class Gs) (T (word i 0))) w.0 ≡ false = ap (leads_elsewhere Gs i.ty (option_and_then (storage_class Gs) (T (word i 0)))) (sym (sym is ∙ w.2)) ∙ right in
           let off = three_off (fails is_pointer Gs i.ty) (option_map_or (λ c. is_not c (storage_class Gs i.ty)) (option_and_then (storage_class Gs) (T (word i 0))) false) (option_map_or (differ Gs w.0) (pointee Gs i.ty) false) part in
-          w.4 ∙ ap (λ x. Some x) (same_types s f w.0 q w.1 u w.3 shape (ap (λ o. option_map_or (differ Gs w.0) o false) (sym to) ∙ off.2))
+          let q = to off.0 in
+          let target : target_shape s f i.result ≡ Some q.1 = ap (λ o. option_and_then (type_tree Gs) (option_and_then (pointee Gs) o)) typed ∙ (ap (option_and_then (type_tree Gs)) q.2 ∙ q.3) in
+          w.4 ∙ ap (λ x. Some x) (same_types s f w.0 q.0 w.1 q.1 w.3 q.3 (ap (λ o. option_map_or (differ Gs w.0) o false) (sym q.2) ∙ off.2)) ∙ sym target

@@ -6,6 +6,7 @@ use Rattle.std.proofs.lemmas.Bool.Decides.{eqb_tells}
 use Rattle.spv_ops.specs.Opcode.{is, number}
 use Rattle.spv_ops.specs.declared.Op.{Op}
 use Rattle.spv_ops.specs.declared.Op.TheVariants as code
+use Rattle.spv_ops.specs.declared.StorageClass.TheVariants as storage
 use Rattle.spv_module.specs.Held.{global as global_inst}
 use Rattle.spv_module.specs.declared.inst.Inst.{Inst}
 use Rattle.spv_module.specs.declared.inst.Function.{Function}
@@ -20,6 +21,7 @@ use Rattle.profile_rules.specs.TypeRows.{constant_if}
 use Rattle.profile_rules.specs.TypeRules.{is_sound}
 use Rattle.profile_rules.specs.Constants.{constant_kind, value_by_kind, if_fits, shaped_value, value_step, with_value}
 use Rattle.module_semantics.specs.Setting.{Setting, global_variable}
+use Rattle.module_semantics.specs.Memory.{class_of}
 use Rattle.module_semantics.specs.Accesses.{input_value}
 use Rattle.fits_law.specs.State.{value_shape, target_shape, global_shape, HasShape, LeadsTo, ModuleFits}
 use Rattle.type_law.specs.Shaped.{EachFound, HaveResults, AreConstants, HasConstants}
@@ -52,11 +54,11 @@ found_at gs step (g ∷ rest) f id v each e = by_later (found_at gs step rest (w
     by_later (inr w) = inr w
 
 module _ (s : Setting) (chosen : ℕ → Option ℕ) (have : HasConstants s chosen) (results : HaveResults s.of.globals) where
-  abbrev Gs : List Inst
+  abbrev pub Gs : List Inst
   Gs = s.of.globals
 
   -- the instruction of a constant, its shape, and that its value has the shape
-  constant_of : (id : ℕ) (v : ValueTree) → s.constants id ≡ Some v → (g : Inst) × (h : ℕ → Option ValueTree) × (t : Tree) × (global_inst Gs id ≡ Some g) × (type_tree Gs g.ty ≡ Some t) × (fits t v ≡ true) × (value_by_kind h (chosen g.result) t g.args (constant_kind g.op) ≡ Some v)
+  pub constant_of : (id : ℕ) (v : ValueTree) → s.constants id ≡ Some v → (g : Inst) × (h : ℕ → Option ValueTree) × (t : Tree) × (global_inst Gs id ≡ Some g) × (type_tree Gs g.ty ≡ Some t) × (fits t v ≡ true) × (value_by_kind h (chosen g.result) t g.args (constant_kind g.op) ≡ Some v)
   constant_of id v e = by_found (found_at Gs (value_step s.of chosen) Gs (λ id. None) id v results.each (sym (have id) ∙ e))
     where
       by_fits : (t : Tree) (w : ValueTree) (b : Bool) → fits t w ≡ b → (if b then Some w else None) ≡ Some v → (w ≡ v) × (fits t v ≡ true)
@@ -101,7 +103,7 @@ module _ (s : Setting) (chosen : ℕ → Option ℕ) (have : HasConstants s chos
       by_test true (inr w) = cc
       by_test false w = refl
 
-  constants_fit : (f : Function) (id : ℕ) (v : ValueTree) → s.constants id ≡ Some v → HasShape (value_shape s f id) v
+  pub constants_fit : (f : Function) (id : ℕ) (v : ValueTree) → s.constants id ≡ Some v → HasShape (value_shape s f id) v
   constants_fit f id v at =
       let c = constant_of id v at in
       let own : global_type Gs id ≡ Some c.0.ty = ap (option_and_then typed) c.3 ∙ typed_by c.0 c.2 c.4 in
@@ -116,7 +118,7 @@ module _ (s : Setting) (chosen : ℕ → Option ℕ) (have : HasConstants s chos
       subst (λ o. LeadsTo o [] (target_shape s f id)) (sym shape) (sym target)
 
   -- what a module has fits its types, where its variables have shapes and built-in variables values of these
-  pub module_fits : ((id : ℕ) (v : Inst) → global_variable s id ≡ Some v → (t : Tree) × (global_shape s id ≡ Some t)) → ((id : ℕ) (v : Inst) (r : ValueTree) → global_variable s id ≡ Some v → input_value s v ≡ Some r → HasShape (global_shape s id) r) → ModuleFits s
+  pub module_fits : ((id : ℕ) (v : Inst) → global_variable s id ≡ Some v → (t : Tree) × (global_shape s id ≡ Some t)) → ((id : ℕ) (v : Inst) (r : ValueTree) → global_variable s id ≡ Some v → class_of v ≡ Some storage.Input → input_value s v ≡ Some r → HasShape (global_shape s id) r) → ModuleFits s
   module_fits shaped told = record {
     constants = constants_fit;
     globals = λ f id v there. let t = shaped id v there in global_leads f id t.0 t.1;

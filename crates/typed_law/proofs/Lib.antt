@@ -7,3 +7,6 @@ pub mod Used
 pub mod Values
 pub mod Shapes
 pub mod Operations
+pub mod Others
+pub mod Calls
+pub mod Whole

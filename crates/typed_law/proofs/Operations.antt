@@ -58,7 +58,7 @@ use Rattle.typed_law.proofs.Lists.{or_left, or_right, and_left, and_right, and_o
 use Rattle.typed_law.proofs.Values.{T, HasType, HasItsShape, passing, same_type, typed_value, value_sized, own_type, shaped_some, vector_shaped, int_shaped, bool_shaped}
 use Rattle.typed_law.proofs.Shapes.{AreTyped, HaveTheirShapes, number_shapes, compared_shapes, truth_shapes, condition_shape, row_of_shape, shaped_type, made_shapes, whole_shape, copied_shape}
 
-four_off : (a b c d : Bool) → (a || b || c || d) ≡ false → (a ≡ false) × (b ≡ false) × (c ≡ false) × (d ≡ false)
+pub four_off : (a b c d : Bool) → (a || b || c || d) ≡ false → (a ≡ false) × (b ≡ false) × (c ≡ false) × (d ≡ false)
 four_off false false false false h = (refl, refl, refl, refl)
 four_off a b c d h = cc
 
@@ -122,6 +122,15 @@ extended_view n c o e on = by_row (λ x y. (q : Operation) → operation_in exte
   (λ q at. of_unary refl FindUMsb (same_some (op.Unary FindUMsb) q at), tt)))))))))),
 ) on o e
 
+module _ (s : Setting) (entry : Option (List ℕ)) (right : IsConforming s.of entry) (f : Function) (in_it : Contains s.of.functions f) (i : Inst) (there : IsAmong i (insts_of f)) where
+  -- what the rules say of the instruction, if it has this opcode
+  pub record Facts (p : Op) : Type 0 where
+    pub value : is_value_broken s.of (type_in s.of.globals f) i (group_of p) ≡ false
+    pub number : is_number_broken s.of.globals (type_in s.of.globals f) i (group_of p) ≡ false
+    pub least : (shape p).least ≤ 1 + count_of (has_type p) + count_of (has_result p) + length i.args
+    pub most : 1 + count_of (has_type p) + count_of (has_result p) + length i.args ≤ (shape p).most
+    pub has : (k : ℕ) → k < length i.args → is_id p i.args k ≡ true → is_there_in s.of f i.at (need p k) (slice_index i.args k) ≡ true
+
 module _ (s : Setting) (entry : Option (List ℕ)) (right : IsConforming s.of entry) (f : Function) (in_it : Contains s.of.functions f) (i : Inst) (there : IsAmong i (insts_of f)) (t : Tree) (shaped : type_tree s.of.globals i.ty ≡ Some t) where
   abbrev Gs : List Inst
   Gs = s.of.globals
@@ -139,18 +148,10 @@ module _ (s : Setting) (entry : Option (List ℕ)) (right : IsConforming s.of en
   result_sized : IsSized t
   result_sized = value_sized s entry right f in_it i.result i.ty (own_type s entry right f in_it i there (shaped_some s entry right f in_it i.ty t shaped)) t shaped
 
-  -- what the rules say of the instruction, if it has this opcode
-  pub record Facts (p : Op) : Type 0 where
-    pub value : is_value_broken s.of V i (group_of p) ≡ false
-    pub number : is_number_broken Gs V i (group_of p) ≡ false
-    pub least : (shape p).least ≤ 1 + count_of (has_type p) + count_of (has_result p) + length i.args
-    pub most : 1 + count_of (has_type p) + count_of (has_result p) + length i.args ≤ (shape p).most
-    pub has : (k : ℕ) → k < length i.args → is_id p i.args k ≡ true → is_there_in s.of f i.at (need p k) (slice_index i.args k) ≡ true
-
-  typed_at : (p : Op) → Facts p → (k : ℕ) → k < length i.args → is_id p i.args k ≡ true → need p k ≡ Value → IsTypedId (slice_index i.args k)
+  typed_at : (p : Op) → Facts s entry right f in_it i there p → (k : ℕ) → k < length i.args → is_id p i.args k ≡ true → need p k ≡ Value → IsTypedId (slice_index i.args k)
   typed_at p facts k less has needed = typed_value s entry right f in_it i.at (slice_index i.args k) (subst (λ q. is_there_in s.of f i.at q (slice_index i.args k) ≡ true) needed (facts.has k less has))
 
-  all_typed : (p : Op) → Facts p → ((k : ℕ) → is_id p i.args k ≡ true) → ((k : ℕ) → need p k ≡ Value) → HaveTypes i.args
+  all_typed : (p : Op) → Facts s entry right f in_it i there p → ((k : ℕ) → is_id p i.args k ≡ true) → ((k : ℕ) → need p k ≡ Value) → HaveTypes i.args
   all_typed p facts ids needed k less = typed_at p facts k less (ids k) (needed k)
 
   -- the operation takes the shapes of these ids
@@ -413,7 +414,7 @@ module _ (s : Setting) (entry : Option (List ℕ)) (right : IsConforming s.of en
   abbrev pub Given : Op → Operation → Type 0
   Given p o = IsGiven (value_operands p i.args) (literal_operands p i.args) o
 
-  pub given_by : (p : Op) (o : Operation) → Facts p → operation_of p (literal_operands p i.args) ≡ Some o → Given p o
+  pub given_by : (p : Op) (o : Operation) → Facts s entry right f in_it i there p → operation_of p (literal_operands p i.args) ≡ Some o → Given p o
   unfolding group_of takes_of need is_id shape number operation operation_of
   given_by code.SNegate o facts e = subst (Given code.SNegate) (same_some (op.Unary SNegate) o e) (as_unary i.args [] SNegate facts.number (all_typed code.SNegate facts (λ k. from_zero k) (λ k. refl)) (exactly 1 (length i.args) facts.least facts.most))
   given_by code.Not o facts e = subst (Given code.Not) (same_some (op.Unary Not) o e) (as_unary i.args [] Not facts.number (all_typed code.Not facts (λ k. from_zero k) (λ k. refl)) (exactly 1 (length i.args) facts.least facts.most))

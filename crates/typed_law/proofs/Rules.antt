@@ -2,8 +2,9 @@
 use Rattle.std.proofs.Common.{◌≡◌, ◌<◌, ◌+◌, ◌||◌, ◌&&◌, not, ℕ, zero, suc, Bool, true, false, List, [], ◌∷◌, ◌++◌, length, Option, Some, None, inl, inr, refl, sym, ap, subst, ◌∙◌, if◌then◌else◌, arith}
 use Rattle.std.specs.Prelude.{◌⊎◌, flat_map, Contains, slice_index}
 use Rattle.std.specs.List.{list_any, enumerate_from}
+use Rattle.std.proofs.lemmas.List.Elements.{Contains-append_left, Contains-append_right}
 use Rattle.spv_words.specs.declared.rule.Rule.{Rule}
-use Rattle.spv_words.specs.declared.rule.Rule.TheVariants.{T1, T21}
+use Rattle.spv_words.specs.declared.rule.Rule.TheVariants.{T1, T21, A3}
 use Rattle.spv_words.specs.declared.rule.Refusal.{Refusal}
 use Rattle.spv_ops.specs.Operands.{is_id}
 use Rattle.spv_ops.specs.OpGroups.{group_of}
@@ -19,8 +20,10 @@ use Rattle.profile_rules.specs.FlowRules.{breaks_t21_of}
 use Rattle.profile_rules.specs.TypeRules.{broken, broken_if, broken_as, broken_inside, broken_by_global, broken_by_local, broken_by_block, broken_by_function, is_broken_in, is_value_broken, is_number_broken, is_flow_broken, rule_of}
 use Rattle.profile_rules.specs.TypeForm.{is_misformed, is_misused, is_other_pointer, is_other_function}
 use Rattle.profile_rules.specs.Variables.{is_other_input, is_other_initializer, is_misclassed}
-use Rattle.profile_rules.specs.Places.{body_insts}
+use Rattle.profile_rules.specs.Places.{places, body_insts}
 use Rattle.spv_decor.specs.Decorations.{local_insts}
+use Rattle.profile_rules.specs.AtomicRules.{breaks_a3}
+use Rattle.profile_rules.specs.AccessRules.{breaks, broken_in}
 use Rattle.plan_law.specs.InOrder.{IsAmong}
 use Rattle.plan_law.proofs.Listed.{flat}
 use Rattle.type_law.proofs.Vectors.{three_off}
@@ -40,6 +43,11 @@ module _ (there : Need → ℕ → Bool) (i : Inst) (right : lacks there i ≡ f
   operand_there k less has =
       let none = any_at (lacks_operand there i) i.args 0 k (or_right (has_type i.op && not (there (type_need i.op) i.ty)) (list_any (lacks_operand there i) (enumerate_from 0 i.args)) right) less in
       not_off (there (need i.op k) (slice_index i.args k)) (and_off (is_id i.op i.args k) (not (there (need i.op k) (slice_index i.args k))) (subst (λ n. lacks_operand there i (n, slice_index i.args k) ≡ false) (let same : 0 + k ≡ k = omega arith in same) none) has)
+
+contains_flat : {A : Type 0} (g : A → List ℕ) (fs : List A) (f : A) (at : ℕ) → Contains fs f → Contains (g f) at → Contains (flat_map g fs) at
+contains_flat g [] f at there own = let less = there.1 in absurd (omega (arith, less))
+contains_flat g (h ∷ fs) f at (zero, less, same) own = Contains-append_left (g h) (flat_map g fs) at (subst (λ z. Contains (g z) at) (sym same) own)
+contains_flat g (h ∷ fs) f at (suc k, less, same) own = Contains-append_right (g h) (flat_map g fs) at (contains_flat g fs f at (k, (let low : k < length fs = omega (arith, less) in low), same) own)
 
 -- a block that has the instruction
 among_either : (i : Inst) (xs ys : List Inst) → IsAmong i (xs ++ ys) → IsAmong i xs ⊎ IsAmong i ys
@@ -110,3 +118,11 @@ module _ (m : ModuleState) (entry : Option (List ℕ)) (right : IsConforming m e
 
     pub flow_right : (i : Inst) → IsAmong i (insts_of f) → (b : Block) × (is_flow_broken m f b i (group_of i.op) ≡ false)
     flow_right i there = let w = inst_right i there in (w.0, (three_off (is_value_broken m (type_in m.globals f) i (group_of i.op)) (is_number_broken m.globals (type_in m.globals f) i (group_of i.op)) (is_flow_broken m f w.0 i (group_of i.op)) w.1).2)
+
+  -- P13 of a variable in a function
+  pub class_right : (v : Inst) → IsAmong v (local_insts m) → is_misclassed true m.globals v ≡ false
+  class_right v there = none_at_fault (is_misclassed true m.globals) (local_insts m) v (λ at has. right.declared.1.1.1.1.1.1.1.1.0 at (Contains-append_right (places (is_misclassed false m.globals) m.globals) (places (is_misclassed true m.globals) (local_insts m)) at has)) there
+
+  -- A3 of an instruction of a function
+  pub access_right : (f : Function) → Contains m.functions f → (i : Inst) → IsAmong i (insts_of f) → breaks_a3 m.heads m.globals f i ≡ false
+  access_right f in_it i there = none_at_fault (breaks m.heads m.globals f A3) (insts_of f) i (λ at has. right.accessed.1.1.1.1.1.1.1.0 at (contains_flat (broken_in m A3) m.functions f at in_it has)) there

@@ -21,11 +21,12 @@ use Rattle.spv_types.specs.Leaves.{IsSized}
 use Rattle.spv_types.proofs.Below.{tree_before_is}
 use Rattle.spv_decor.specs.Rows.{word}
 use Rattle.spv_decor.specs.Decorations.{local_insts}
+use Rattle.spv_index.specs.Pointers.{pointee}
 use Rattle.spv_index.specs.BlockStructs.{is_block, is_storage_block, is_some_block}
 use Rattle.profile_rules.specs.declared.needs.Need.TheVariants.{AnyType, Constant}
 use Rattle.profile_rules.specs.Operands.{need, first_or, is_there}
 use Rattle.profile_rules.specs.Places.{is_among, is_variable, is_defined_elsewhere, body_insts}
-use Rattle.profile_rules.specs.TypeForm.{parts_of, value_type, value_types, signature_types, pointees, block_misuses, is_of_storage, fixed_parts, runtime_misuses, is_misused, with_parts, held, is_held, other_types, is_workgroup, is_above_zero, is_no_int, is_workgroup_length, is_length, is_other_array}
+use Rattle.profile_rules.specs.TypeForm.{parts_of, value_type, value_types, signature_types, pointee_by, pointees, block_misuses, is_of_storage, fixed_parts, runtime_misuses, is_misused, with_parts, held, is_held, other_types, is_workgroup, is_above_zero, is_no_int, is_workgroup_length, is_length, is_other_array}
 use Rattle.plan_law.specs.InOrder.{IsAmong, AreRising}
 use Rattle.fits_law.proofs.Steps.{named}
 use Rattle.type_law.specs.Shaped.{EachFound}
@@ -281,3 +282,38 @@ module _ (m : ModuleState) (entry : Option (List ℕ)) (right : IsConforming m e
           let w = misused g (found_in Gs i.ty g at) blocks runtimes in
           used_by (suc g.at) g (found_in Gs i.ty g at) (let less : g.at < suc g.at = omega arith in less)
           (record { holds = held_own Gs (other_types m) g.result (among_right (pointees m (λ v. not (is_workgroup v))) (value_types m) g.result mine); no_block = w.0; no_runtime = w.1 }) t e
+
+  -- so has the type that a variable points to which is neither a block nor of class Workgroup
+  pointee_among : (test : Inst → Bool) (is : List Inst) (v : Inst) (q : ℕ) → IsAmong v is → is_variable v ≡ true → test v ≡ true → pointee Gs v.ty ≡ Some q → is_among (filter_map (pointee_by Gs test) is) q ≡ true
+  pointee_among test [] v q there on passed at = absurd there
+  pointee_among test (j ∷ is) v q (inl same) on passed at =
+      subst (λ (x : Inst). is_among (filter_map (pointee_by Gs test) (x ∷ is)) q ≡ true) (sym same)
+      (subst (λ o. is_among (cons_option o (filter_map (pointee_by Gs test) is)) q ≡ true) (sym (ap (λ (b : Bool). if b && test v then pointee Gs v.ty else None) on ∙ (ap (λ (b : Bool). if b then pointee Gs v.ty else None) passed ∙ at))) (or_on_left (q == q) (is_among (filter_map (pointee_by Gs test) is) q) (grind (arith, nat_tests))))
+  pointee_among test (j ∷ is) v q (inr there) on passed at = by_option (pointee_by Gs test j) (pointee_among test is v q there on passed at)
+    where
+      by_option : (o : Option ℕ) → is_among (filter_map (pointee_by Gs test) is) q ≡ true → is_among (cons_option o (filter_map (pointee_by Gs test) is)) q ≡ true
+      by_option None e = e
+      by_option (Some x) e = or_on_right (x == q) (is_among (filter_map (pointee_by Gs test) is) q) e
+
+  pub pointee_sized : (v : Inst) (q : ℕ) → IsAmong v (body_insts m) → is_variable v ≡ true → is_workgroup v ≡ false → is_some_block m.heads Gs v ≡ false → pointee Gs v.ty ≡ Some q → (t : Tree) → type_tree Gs q ≡ Some t → IsSized t
+  pointee_sized v q there on own block_off at t shape = by_global (global Gs q) refl shape
+    where
+      among : (test : Inst → Bool) → test v ≡ true → is_among (pointees m test) q ≡ true
+      among test passed = pointee_among test (body_insts m) v q there on passed at
+
+      by_global : (o : Option Inst) → global Gs q ≡ o → option_map_or (tree_at Gs) o None ≡ Some t → IsSized t
+      by_global None at e = cc
+      by_global (Some g) at e =
+          let here : g.result ≡ q = named Gs q g at in
+          let mine : (test : Inst → Bool) → test v ≡ true → is_among (pointees m test) g.result ≡ true = λ test passed. subst (λ x. is_among (pointees m test) x ≡ true) (sym here) (among test passed) in
+          let blocks : is_among (block_misuses m) g.result ≡ true =
+          among_left (flat_map parts_of Gs ++ pointees m (λ v. not (is_some_block m.heads m.globals v)) ++ value_types m) (signature_types m) g.result
+          (among_left (flat_map parts_of Gs ++ pointees m (λ v. not (is_some_block m.heads m.globals v))) (value_types m) g.result
+          (among_right (flat_map parts_of Gs) (pointees m (λ v. not (is_some_block m.heads m.globals v))) g.result (mine (λ v. not (is_some_block m.heads m.globals v)) (ap not block_off)))) in
+          let runtimes : is_among (runtime_misuses m) g.result ≡ true =
+          among_left (flat_map (fixed_parts m) Gs ++ pointees m (λ v. true) ++ value_types m) (signature_types m) g.result
+          (among_left (flat_map (fixed_parts m) Gs ++ pointees m (λ v. true)) (value_types m) g.result
+          (among_right (flat_map (fixed_parts m) Gs) (pointees m (λ v. true)) g.result (mine (λ v. true) refl))) in
+          let w = misused g (found_in Gs q g at) blocks runtimes in
+          used_by (suc g.at) g (found_in Gs q g at) (let less : g.at < suc g.at = omega arith in less)
+          (record { holds = held_own Gs (other_types m) g.result (among_left (pointees m (λ v. not (is_workgroup v))) (value_types m) g.result (mine (λ v. not (is_workgroup v)) (ap not own))); no_block = w.0; no_runtime = w.1 }) t e

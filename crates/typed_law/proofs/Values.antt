@@ -6,7 +6,7 @@ use Rattle.std.specs.List.{list_any, zip}
 use Rattle.std.proofs.lemmas.Bool.Decides.{eqb_tells, nat_tests}
 use Rattle.spv_ops.specs.Opcode.{is, number}
 use Rattle.spv_ops.specs.Groups.{is_type as is_type_op}
-use Rattle.spv_ops.specs.Shape.{shape}
+use Rattle.spv_ops.specs.Shape.{shape, count_of}
 use Rattle.spv_ops.specs.Operands.{is_id}
 use Rattle.spv_ops.specs.OpGroups.{takes_of, group_of}
 use Rattle.spv_ops.specs.declared.Op.{Op}
@@ -58,16 +58,16 @@ unfolding number
 function_is_type code.TypeFunction e = refl
 function_is_type o e = cc
 
-type_suits : (o : Op) (g : Inst) → suits (type_need o) g ≡ true → is_type g ≡ true
+pub type_suits : (o : Op) (g : Inst) → suits (type_need o) g ≡ true → is_type g ≡ true
 type_suits code.Variable g e = pointer_is_type g.op e
 type_suits o g e = e
 
-variable_type_is : (o : Op) (g : Inst) → is o code.Variable ≡ true → suits (type_need o) g ≡ true → is g.op code.TypePointer ≡ true
+pub variable_type_is : (o : Op) (g : Inst) → is o code.Variable ≡ true → suits (type_need o) g ≡ true → is g.op code.TypePointer ≡ true
 unfolding number
 variable_type_is code.Variable g on e = e
 variable_type_is o g on e = cc
 
-type_outside : (m : ModuleState) (f : Function) (n id : ℕ) (o : Op) → is_in_function m f n (type_need o) id ≡ false
+pub type_outside : (m : ModuleState) (f : Function) (n id : ℕ) (o : Op) → is_in_function m f n (type_need o) id ≡ false
 type_outside m f n id code.Variable = refl
 type_outside m f n id o = refl
 
@@ -122,7 +122,7 @@ type_of i ty e = by_test (i.ty == 0) (eqb_tells i.ty 0) e
     by_test false (inl w) e = cc
     by_test false (inr w) e = (same_some i.ty ty e, w.1)
 
-typed_is : (i : Inst) → (i.ty ≡ 0 → ⊥) → typed i ≡ Some i.ty
+pub typed_is : (i : Inst) → (i.ty ≡ 0 → ⊥) → typed i ≡ Some i.ty
 typed_is i some = by_test (i.ty == 0) (eqb_tells i.ty 0)
   where
     by_test : (b : Bool) → ((b ≡ true) × (i.ty ≡ 0)) ⊎ ((b ≡ false) × (i.ty ≡ 0 → ⊥)) → (if b then None else Some i.ty) ≡ Some i.ty
@@ -130,7 +130,7 @@ typed_is i some = by_test (i.ty == 0) (eqb_tells i.ty 0)
     by_test true (inr w) = cc
     by_test false (inr w) = refl
 
-has_a_type : (i : Inst) → IsFormed i → (i.ty ≡ 0 → ⊥) → has_type i.op ≡ true
+pub has_a_type : (i : Inst) → IsFormed i → (i.ty ≡ 0 → ⊥) → has_type i.op ≡ true
 has_a_type i formed some = by_test (has_type i.op) refl
   where
     by_test : (b : Bool) → has_type i.op ≡ b → b ≡ true
@@ -167,15 +167,20 @@ both_on true b on e = e
 both_on false b on e = cc
 
 -- operands of a function type
-function_id : (o : Op) (args : List ℕ) (k : ℕ) → is o code.TypeFunction ≡ true → is_id o args k ≡ true
+pub function_id : (o : Op) (args : List ℕ) (k : ℕ) → is o code.TypeFunction ≡ true → is_id o args k ≡ true
 unfolding number is_id
 function_id code.TypeFunction args k e = grind (arith, nat_tests)
 function_id o args k e = cc
 
-function_need : (o : Op) (k : ℕ) → is o code.TypeFunction ≡ true → need o k ≡ AnyType
+pub function_need : (o : Op) (k : ℕ) → is o code.TypeFunction ≡ true → need o k ≡ AnyType
 unfolding number need takes_of group_of
 function_need code.TypeFunction k e = refl
 function_need o k e = cc
+
+pub function_least : (o : Op) (n : ℕ) → is o code.TypeFunction ≡ true → (shape o).least ≤ 1 + count_of (has_type o) + count_of (has_result o) + n → 0 < n
+unfolding number shape
+function_least code.TypeFunction n e le = omega (arith, le)
+function_least o n e le = cc
 
 drop_one : (xs : List ℕ) (k : ℕ) → slice_index (drop 1 xs) k ≡ slice_index xs (suc k)
 drop_one [] k = refl
@@ -185,7 +190,7 @@ drop_less : (xs : List ℕ) (k : ℕ) → k < length (drop 1 xs) → suc k < len
 drop_less [] k less = absurd (omega (arith, less))
 drop_less (x ∷ xs) k less = omega (arith, less)
 
-among_functions : (fs : List Function) (f : Function) (i : Inst) → Contains fs f → IsAmong i (insts_of f) → IsAmong i (flat_map (λ (g : Function). flat_map (λ (b : Block). b.insts) g.blocks) fs)
+pub among_functions : (fs : List Function) (f : Function) (i : Inst) → Contains fs f → IsAmong i (insts_of f) → IsAmong i (flat_map (λ (g : Function). flat_map (λ (b : Block). b.insts) g.blocks) fs)
 among_functions [] f i in_it there = let less = in_it.1 in absurd (omega (arith, less))
 among_functions (g ∷ fs) f i (zero, less, same) there = among_left i (insts_of g) (flat_map (λ (h : Function). flat_map (λ (b : Block). b.insts) h.blocks) fs) (subst (λ h. IsAmong i (insts_of h)) (sym same) there)
 among_functions (g ∷ fs) f i (suc k, less, same) there = among_right i (insts_of g) (flat_map (λ (h : Function). flat_map (λ (b : Block). b.insts) h.blocks) fs) (among_functions fs f i (k, (let low : k < length fs = omega (arith, less) in low), same) there)
@@ -211,6 +216,15 @@ module _ (s : Setting) (entry : Option (List ℕ)) (right : IsConforming s.of en
   -- the type of a global, of an instruction of a function and of a parameter
   pub global_row : (h : Inst) → IsAmong h Gs → (h.ty ≡ 0 → ⊥) → (g : Inst) × (global Gs h.ty ≡ Some g) × (suits (type_need h.op) g ≡ true)
   global_row h there some = row_of h.at h.ty h.op (type_there (is_there Gs h.at) h (global_there s.of entry right h there) (has_a_type h (right.formed h there) some))
+
+  -- a global with a type has one that is not 0
+  pub global_typed_some : (h : Inst) → IsAmong h Gs → has_type h.op ≡ true → h.ty ≡ 0 → ⊥
+  global_typed_some h there has zero_is =
+      let g = row_of h.at h.ty h.op (type_there (is_there Gs h.at) h (global_there s.of entry right h there) has) in
+      never (sym right.results.none ∙ (ap (global Gs) (sym zero_is) ∙ g.1))
+    where
+      never : {g : Inst} → None ≡ Some g → ⊥
+      never e = cc
 
   pub shape_of_row : (ty : ℕ) (w : IsRow ty) → is_shapeless w.0.op ≡ false → (t : Tree) × (type_tree Gs ty ≡ Some t)
   shape_of_row ty w shaped = type_shaped s.of entry right ty w.0 w.1 w.2 shaped
