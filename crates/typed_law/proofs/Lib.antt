@@ -10,3 +10,5 @@ pub mod Operations
 pub mod Others
 pub mod Calls
 pub mod Whole
+pub mod Inputs
+pub mod Runs

@@ -120,7 +120,7 @@ place_found (h ∷ fs) id n g e = by_test (h.id.0 == id) e (λ rest. place_found
 pub callee_is : (fs : List Function) (id : ℕ) (g : Function) → function_of fs id ≡ Some g → callee fs id ≡ Some g
 callee_is fs id g e = let w = place_found fs id 0 g e in ap (option_and_then (slice_get fs)) (w.1 ∙ ap (λ x. Some x) (let same : 0 + w.0 ≡ w.0 = omega arith in same)) ∙ w.2
 
-among_block : (bs : List Block) (k : ℕ) (b : Block) (i : Inst) → slice_get bs k ≡ Some b → IsAmong i b.insts → IsAmong i (flat bs)
+pub among_block : (bs : List Block) (k : ℕ) (b : Block) (i : Inst) → slice_get bs k ≡ Some b → IsAmong i b.insts → IsAmong i (flat bs)
 among_block [] k b i at there = cc
 among_block (c ∷ bs) zero b i at there = among_left i c.insts (flat bs) (subst (λ (x : Block). IsAmong i x.insts) (sym (same_some c b at)) there)
 among_block (c ∷ bs) (suc k) b i at there = among_right i c.insts (flat bs) (among_block bs k b i at there)
