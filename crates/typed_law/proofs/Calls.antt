@@ -1,41 +1,38 @@
 -- Calls of a conforming module are typed, and variables begin with values of their types.
-use Rattle.std.proofs.Common.{◌≡◌, ◌<◌, ◌≤◌, ◌+◌, ◌==◌, ◌||◌, ◌&&◌, not, ℕ, zero, suc, Bool, true, false, List, [], ◌∷◌, length, drop, Option, Some, None, inl, inr, refl, sym, ap, subst, ◌∙◌, if◌then◌else◌, arith}
+use Rattle.std.proofs.Common.{◌≡◌, ◌<◌, ◌≤◌, ◌==◌, ◌||◌, ◌&&◌, not, ℕ, suc, Bool, true, false, List, [], ◌∷◌, length, drop, Option, Some, None, inl, inr, refl, sym, ap, subst, ◌∙◌, if◌then◌else◌, arith}
 use Rattle.std.specs.Prelude.{◌⊎◌, find, nat_lt, option_map, option_and_then, unwrap_or, Contains, slice_index}
 use Rattle.std.specs.Option.{option_map_or, option_or}
 use Rattle.std.specs.List.{list_any, zip}
 use Rattle.std.proofs.lemmas.Bool.Decides.{eqb_tells, nat_tests}
 use Rattle.spv_ops.specs.Opcode.{is, number}
 use Rattle.spv_ops.specs.Groups.{is_constant}
-use Rattle.spv_ops.specs.Shape.{shape, count_of}
-use Rattle.spv_ops.specs.Operands.{is_id}
-use Rattle.spv_ops.specs.OpGroups.{takes_of, group_of}
-use Rattle.spv_ops.specs.Enumerants.{class_number, class_of_number, storage_classes}
+use Rattle.spv_ops.specs.Shape.{shape}
+use Rattle.spv_ops.specs.Enumerants.{class_number, storage_classes}
 use Rattle.spv_ops.specs.declared.StorageClass.{StorageClass}
 use Rattle.spv_ops.specs.declared.StorageClass.TheVariants as storage
 use Rattle.spv_ops.specs.declared.Op.{Op}
 use Rattle.spv_ops.specs.declared.Op.TheVariants as code
 use Rattle.spv_module.specs.Held.{global}
-use Rattle.spv_module.specs.Inst.{has_type, has_result}
+use Rattle.spv_module.specs.Inst.{has_type}
 use Rattle.spv_module.specs.declared.inst.Id.{Id}
 use Rattle.spv_module.specs.declared.inst.Inst.{Inst}
 use Rattle.spv_module.specs.declared.inst.Function.{Function}
 use Rattle.spv_types.specs.Tree.{Tree, ValueTree}
-use Rattle.spv_types.specs.Types.{tree_at, type_tree, earlier}
+use Rattle.spv_types.specs.Types.{type_tree, earlier}
 use Rattle.spv_types.specs.Leaves.{zero_of}
 use Rattle.spv_decor.specs.Rows.{word}
 use Rattle.spv_decor.specs.Decorations.{local_insts}
 use Rattle.spv_index.specs.BlockStructs.{is_block_struct, is_some_block}
-use Rattle.spv_index.specs.Locals.{insts_of, inst_in, parameter_in, typed, global_type, local_type, type_in}
-use Rattle.spv_index.specs.Pointers.{pointee, pointee_of}
+use Rattle.spv_index.specs.Locals.{insts_of, inst_in, typed, global_type, local_type, type_in}
+use Rattle.spv_index.specs.Pointers.{pointee}
 use Rattle.op_semantics.specs.Fits.{fits}
 use Rattle.profile_rules.specs.declared.needs.Need.TheVariants.{AnyType}
-use Rattle.profile_rules.specs.Operands.{need, type_need, suits, is_there}
+use Rattle.profile_rules.specs.Operands.{type_need, suits, is_there}
 use Rattle.profile_rules.specs.Places.{is_variable, is_defined_elsewhere, body_insts}
-use Rattle.profile_rules.specs.TypeRows.{is_type, is_pointer, differ, is_other}
-use Rattle.profile_rules.specs.TypeForm.{is_workgroup}
+use Rattle.profile_rules.specs.TypeRows.{differ, is_other}
 use Rattle.profile_rules.specs.ValueRules.{are_other_members}
-use Rattle.profile_rules.specs.FlowRules.{function_type, callee, is_miscalled, breaks_t21}
-use Rattle.profile_rules.specs.Variables.{is_other_class, is_misclassed, is_of_other_type, is_other_value, is_other_initializer}
+use Rattle.profile_rules.specs.FlowRules.{function_type, is_miscalled, breaks_t21}
+use Rattle.profile_rules.specs.Variables.{is_other_class, is_of_other_type, is_other_value}
 use Rattle.profile_rules.specs.Entry.{function_of}
 use Rattle.plan_law.specs.InOrder.{IsAmong}
 use Rattle.plan_law.proofs.Order.{among_left, among_right}
@@ -43,19 +40,19 @@ use Rattle.module_semantics.specs.Setting.{Setting, as_variable, global_variable
 use Rattle.module_semantics.specs.Memory.{variable_type, class_of}
 use Rattle.module_semantics.specs.Operands.{arg}
 use Rattle.module_semantics.specs.Accesses.{initial_by, initial, initial_in, initial_private}
-use Rattle.fits_law.specs.State.{value_shape, target_shape, global_shape, result_shape, HasShape, IsLocal, VariablesFit, PrivatesFit}
+use Rattle.fits_law.specs.State.{value_shape, target_shape, global_shape, HasShape, IsLocal, VariablesFit, PrivatesFit}
 use Rattle.fits_law.specs.Typed.{AreArguments, IsCall}
 use Rattle.fits_law.proofs.Parts.{zero_fits}
 use Rattle.fits_law.proofs.Steps.{named}
 use Rattle.type_law.specs.Shaped.{HasConstants}
 use Rattle.type_law.proofs.Operands.{some_first}
 use Rattle.type_law.proofs.Constants.{constant_of}
-use Rattle.typed_law.specs.Conforms.{IsParameter, IsFormed, IsConforming}
-use Rattle.typed_law.proofs.Lists.{or_left, or_right, and_left, and_right, and_off, not_off, not_on, clash, same_some, found_in, earlier_some, some_by}
+use Rattle.typed_law.specs.Conforms.{IsParameter, IsConforming}
+use Rattle.typed_law.proofs.Lists.{or_left, or_right, and_off, same_some, found_in, earlier_some, some_by}
 use Rattle.typed_law.proofs.Rules.{operand_there, global_there, initializer_right, class_right}
 use Rattle.typed_law.proofs.Types.{pointee_shaped}
 use Rattle.typed_law.proofs.Used.{pointee_sized}
-use Rattle.typed_law.proofs.Values.{same_count, IsRow, inside, global_row, local_row, parameter_row, result_row, declared_by, IsDeclaredBy, HasType, one_type, same_type, own_type, own_local, variable_type_is, among_functions, function_id, function_need, function_least, type_suits, typed_is, global_typed_some}
+use Rattle.typed_law.proofs.Values.{same_count, IsRow, inside, global_row, local_row, parameter_row, result_row, declared_by, HasType, one_type, same_type, own_type, own_local, variable_type_is, among_functions, function_id, function_need, function_least, type_suits, typed_is, global_typed_some}
 use Rattle.typed_law.proofs.Others.{contains_found, callee_is, typed_some}
 
 -- variables of these classes are no blocks
@@ -207,10 +204,14 @@ module _ (s : Setting) (entry : Option (List ℕ)) (right : IsConforming s.of en
         let row = rows 0 (let less : 0 < suc (length tys) = omega arith in less) in
         let same : ty ≡ p.1.0 = one_type s entry right f in_it ty p.1.0 row (parameter_row s entry right g g_in p (sub p (inl refl))) (or_left (differ Gs ty p.1.0) (list_any (λ (r : ℕ × (Id × Id)). differ Gs r.0 r.1.1.0) (zip tys ps)) params) in
         let at : V id ≡ Some ty = same_type s entry right f in_it ty id row (typed_ids 0 (let less : 0 < suc (length ids) = omega arith in less)) (or_left (is_other Gs V ty id) (list_any (λ (r : ℕ × ℕ). is_other Gs V r.0 r.1) (zip tys ids)) args) in
-        let w = argument_is g g_in p (sub p (inl refl)) id (at ∙ ap (λ x. Some x) same) in
-        (w.0, w.1, w.2, arguments_are g g_in ps (λ r there. sub r (inr there)) tys ids (let rest : length ps ≡ length tys = omega (arith, many) in rest) (let rest : length ids ≡ length tys = omega (arith, as_many) in rest)
-        (λ k less. rows (suc k) (let more : suc k < suc (length tys) = omega (arith, less) in more)) (λ k less. typed_ids (suc k) (let more : suc k < suc (length ids) = omega (arith, less) in more))
-        (or_right (differ Gs ty p.1.0) (list_any (λ (r : ℕ × (Id × Id)). differ Gs r.0 r.1.1.0) (zip tys ps)) params) (or_right (is_other Gs V ty id) (list_any (λ (r : ℕ × ℕ). is_other Gs V r.0 r.1) (zip tys ids)) args))
+        let w = argument_is g g_in p (sub p (inl refl)) id (at ∙ ap (λ x. Some x) same) in (
+          w.0,
+          w.1,
+          w.2,
+          arguments_are g g_in ps (λ r there. sub r (inr there)) tys ids (let rest : length ps ≡ length tys = omega (arith, many) in rest) (let rest : length ids ≡ length tys = omega (arith, as_many) in rest)
+              (λ k less. rows (suc k) (let more : suc k < suc (length tys) = omega (arith, less) in more)) (λ k less. typed_ids (suc k) (let more : suc k < suc (length ids) = omega (arith, less) in more))
+              (or_right (differ Gs ty p.1.0) (list_any (λ (r : ℕ × (Id × Id)). differ Gs r.0 r.1.1.0) (zip tys ps)) params) (or_right (is_other Gs V ty id) (list_any (λ (r : ℕ × ℕ). is_other Gs V r.0 r.1) (zip tys ids)) args),
+        )
 
     -- the types that an OpTypeFunction names
     type_named : (gt : Inst) → IsAmong gt Gs → is gt.op code.TypeFunction ≡ true → (k : ℕ) → k < length gt.args → IsRow s entry right (slice_index gt.args k)

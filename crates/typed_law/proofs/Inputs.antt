@@ -1,9 +1,9 @@
 -- The constants and variables of a conforming module fit their types; so do the values of built-in variables.
 use Rattle.std.proofs.Common.{◌≡◌, ◌==◌, ◌||◌, ◌&&◌, not, ℕ, Bool, true, false, List, [], ◌∷◌, Option, Some, None, inl, inr, refl, sym, ap, subst, ◌∙◌, if◌then◌else◌}
-use Rattle.std.specs.Prelude.{◌⊎◌, find, nat_le, option_map, option_and_then, unwrap_or, slice_index}
+use Rattle.std.specs.Prelude.{◌⊎◌, find, option_and_then, unwrap_or}
 use Rattle.std.specs.Option.{option_map_or}
 use Rattle.std.proofs.lemmas.Bool.Decides.{eqb_tells}
-use Rattle.spv_ops.specs.Opcode.{is, number}
+use Rattle.spv_ops.specs.Opcode.{is}
 use Rattle.spv_ops.specs.Enumerants.{class_number, decoration_number, built_in_number, built_in_of_number, built_ins}
 use Rattle.spv_ops.specs.declared.StorageClass.TheVariants as storage
 use Rattle.spv_ops.specs.declared.Decoration.TheVariants as decoration
@@ -11,24 +11,22 @@ use Rattle.spv_ops.specs.declared.BuiltIn.{BuiltIn}
 use Rattle.spv_ops.specs.declared.BuiltIn.TheVariants as built
 use Rattle.spv_ops.specs.declared.Op.TheVariants as code
 use Rattle.spv_module.specs.declared.inst.Inst.{Inst}
-use Rattle.spv_module.specs.declared.tree.Elem.{Elem}
 use Rattle.spv_module.specs.declared.tree.Elem.TheVariants as elem
 use Rattle.spv_types.specs.declared.kind.TypeKind.TheVariants.{Int}
 use Rattle.spv_types.specs.Tree.{Tree, int, uint, vector, ValueTree, word as word_value}
-use Rattle.spv_types.specs.Types.{elem_of, int_tree, tree_step, tree_before, tree_at, type_tree}
+use Rattle.spv_types.specs.Types.{elem_of, tree_step, tree_before, tree_at, type_tree}
 use Rattle.spv_decor.specs.Rows.{word, value_of}
 use Rattle.spv_decor.specs.Decorations.{local_insts}
 use Rattle.spv_index.specs.Pointers.{pointee}
 use Rattle.op_semantics.specs.Fits.{fits}
-use Rattle.profile_rules.specs.Places.{is_among, is_variable, body_insts}
-use Rattle.profile_rules.specs.TypeRows.{is_uint, is_vector, type_row, fails}
-use Rattle.profile_rules.specs.Variables.{pointed_type, is_pointee, inputs, is_other_input_type, is_other_input}
+use Rattle.profile_rules.specs.Places.{is_among, is_variable}
+use Rattle.profile_rules.specs.TypeRows.{is_uint, type_row}
+use Rattle.profile_rules.specs.Variables.{is_pointee, inputs, is_other_input_type}
 use Rattle.profile_rules.specs.Entry.{is_no_uvec3, is_no_uint}
-use Rattle.plan_law.specs.InOrder.{IsAmong}
 use Rattle.plan_law.proofs.Order.{among_left}
 use Rattle.traces.specs.Invocations.{Invocation, Triple}
 use Rattle.module_semantics.specs.Setting.{Setting, global_variable}
-use Rattle.module_semantics.specs.Memory.{decorated, class_of}
+use Rattle.module_semantics.specs.Memory.{class_of}
 use Rattle.module_semantics.specs.Accesses.{three, built_in_value, input_value}
 use Rattle.fits_law.specs.State.{global_shape, HasShape, ModuleFits}
 use Rattle.type_law.specs.Shaped.{HasConstants}
@@ -38,9 +36,8 @@ use Rattle.type_law.proofs.Rows.{int_has}
 use Rattle.type_law.proofs.Constants.{module_fits}
 use Rattle.fits_law.specs.Takes.{Has, numbers}
 use Rattle.typed_law.specs.Conforms.{IsConforming}
-use Rattle.typed_law.proofs.Lists.{or_left, or_right, and_left, and_right, and_off, not_off, clash, same_some, found_in}
+use Rattle.typed_law.proofs.Lists.{or_left, or_right, and_left, and_right, and_off, not_off, same_some, found_in}
 use Rattle.typed_law.proofs.Rules.{input_right}
-use Rattle.typed_law.proofs.Values.{same_count}
 use Rattle.typed_law.proofs.Calls.{class_is, global_variable_is, global_points}
 
 -- the built-in variable with a number

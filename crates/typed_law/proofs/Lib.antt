@@ -12,3 +12,5 @@ pub mod Calls
 pub mod Whole
 pub mod Inputs
 pub mod Runs
+pub mod Conforming
+pub mod Examples

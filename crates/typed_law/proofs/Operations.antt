@@ -1,10 +1,10 @@
 -- Each operation of a conforming module's function takes the shapes of its operands.
 use Rattle.std.proofs.Common.{◌≡◌, ◌<◌, ◌≤◌, ◌+◌, ◌==◌, ◌||◌, ◌&&◌, not, ℕ, zero, suc, Bool, true, false, List, [], ◌∷◌, length, take, drop, Option, Some, None, inl, inr, refl, sym, ap, subst, ◌∙◌, if◌then◌else◌, arith}
-use Rattle.std.specs.Prelude.{◌⊎◌, nat_lt, nat_le, option_map, option_and_then, find, Contains, slice_index}
+use Rattle.std.specs.Prelude.{◌⊎◌, nat_le, option_and_then, Contains, slice_index}
 use Rattle.std.specs.Option.{option_map_or}
 use Rattle.std.specs.List.{list_any}
 use Rattle.std.proofs.lemmas.Bool.Decides.{eqb_tells, nat_tests}
-use Rattle.spv_ops.specs.Opcode.{is, number}
+use Rattle.spv_ops.specs.Opcode.{number}
 use Rattle.spv_ops.specs.Shape.{shape, count_of}
 use Rattle.spv_ops.specs.Operands.{is_id}
 use Rattle.spv_ops.specs.OpGroups.{takes_of, group_of}
@@ -13,8 +13,8 @@ use Rattle.spv_ops.specs.declared.Op.TheVariants as code
 use Rattle.spv_module.specs.Inst.{has_type, has_result}
 use Rattle.spv_module.specs.declared.inst.Inst.{Inst}
 use Rattle.spv_module.specs.declared.inst.Function.{Function}
-use Rattle.spv_types.specs.Tree.{Tree, vector}
-use Rattle.spv_types.specs.Types.{is_shapeless, tree_before, type_tree}
+use Rattle.spv_types.specs.Tree.{Tree}
+use Rattle.spv_types.specs.Types.{type_tree}
 use Rattle.spv_types.specs.Leaves.{IsSized}
 use Rattle.spv_decor.specs.Rows.{word}
 use Rattle.spv_index.specs.Locals.{insts_of, type_in}
@@ -33,10 +33,9 @@ use Rattle.op_semantics.specs.declared.operation.Operation.{Operation}
 use Rattle.op_semantics.specs.declared.operation.Operation.TheVariants as op
 use Rattle.op_semantics.specs.Value.{operation, operation_of, operation_in, extended_opcodes}
 use Rattle.profile_rules.specs.declared.needs.Need.TheVariants.{Import, Value}
-use Rattle.profile_rules.specs.declared.needs.Reached.{Reached}
 use Rattle.profile_rules.specs.declared.needs.Reached.TheVariants.{Part, Nothing, Unknown}
 use Rattle.profile_rules.specs.Operands.{need, first_or, is_there_in}
-use Rattle.profile_rules.specs.TypeRows.{is_bool, is_int, is_vector, is_void, type_row, fails, differ, value_fails, is_other, component, component_if, bools_of}
+use Rattle.profile_rules.specs.TypeRows.{is_bool, is_int, is_vector, is_void, fails, differ, value_fails, is_other, component, component_if, bools_of}
 use Rattle.profile_rules.specs.ValueRules.{breaks_t3_copy, breaks_t8_extract, breaks_t8_insert, breaks_t9, breaks_t10, breaks_t11_extract, breaks_t11_insert, breaks_t12, has_other_components, has_other_sizes, is_other_component, is_elsewhere, is_value_elsewhere, part_of, literal_step, walk, do_match}
 use Rattle.profile_rules.specs.NumberRules.{are_unlike_ints, breaks_t14, breaks_t15, breaks_t16, breaks_t17, breaks_t18, breaks_t20, is_no_bool_vector, is_no_condition, extended_rows, is_extended}
 use Rattle.profile_rules.specs.TypeRules.{is_value_broken, is_number_broken}
@@ -53,10 +52,10 @@ use Rattle.type_law.proofs.Vectors.{five_off, three_off, copy_takes, put_takes, 
 use Rattle.type_law.proofs.Parts.{row, earlier_is, walk_leads, extract_takes, insertion_takes}
 use Rattle.type_law.proofs.Made.{made_takes}
 use Rattle.type_law.proofs.Copies.{logical_takes as copied_takes}
-use Rattle.typed_law.specs.Conforms.{size_of, IsFormed, IsConforming}
-use Rattle.typed_law.proofs.Lists.{or_left, or_right, and_left, and_right, and_off, not_off, not_on, clash, same_some}
-use Rattle.typed_law.proofs.Values.{T, HasType, HasItsShape, passing, same_type, typed_value, value_sized, own_type, shaped_some, vector_shaped, int_shaped, bool_shaped}
-use Rattle.typed_law.proofs.Shapes.{AreTyped, HaveTheirShapes, number_shapes, compared_shapes, truth_shapes, condition_shape, row_of_shape, shaped_type, made_shapes, whole_shape, copied_shape}
+use Rattle.typed_law.specs.Conforms.{IsConforming}
+use Rattle.typed_law.proofs.Lists.{or_left, or_right, not_off, clash, same_some}
+use Rattle.typed_law.proofs.Values.{HasType, HasItsShape, passing, same_type, typed_value, value_sized, own_type, shaped_some, vector_shaped, int_shaped}
+use Rattle.typed_law.proofs.Shapes.{AreTyped, number_shapes, compared_shapes, truth_shapes, condition_shape, row_of_shape, shaped_type, made_shapes, whole_shape, copied_shape}
 
 pub four_off : (a b c d : Bool) → (a || b || c || d) ≡ false → (a ≡ false) × (b ≡ false) × (c ≡ false) × (d ≡ false)
 four_off false false false false h = (refl, refl, refl, refl)
@@ -110,16 +109,34 @@ by_row P (r ∷ rows) n c all e = by_tests (r.0 == n) (r.1 == c) (eqb_tells r.0 
 extended_view : (n c : ℕ) (o : Operation) → operation_in extended_opcodes n ≡ Some o → is_extended n c ≡ true → ExtendedView c o
 extended_view n c o e on = by_row (λ x y. (q : Operation) → operation_in extended_opcodes x ≡ Some q → ExtendedView y q) extended_rows n c (
   λ q at. of_unary refl SAbs (same_some (op.Unary SAbs) q at),
-  (λ q at. of_unary refl SSign (same_some (op.Unary SSign) q at),
-  (λ q at. of_binary refl UMin (same_some (op.Binary UMin) q at),
-  (λ q at. of_binary refl SMin (same_some (op.Binary SMin) q at),
-  (λ q at. of_binary refl UMax (same_some (op.Binary UMax) q at),
-  (λ q at. of_binary refl SMax (same_some (op.Binary SMax) q at),
-  (λ q at. of_clamp refl UClamp (same_some (op.Clamp UClamp) q at),
-  (λ q at. of_clamp refl SClamp (same_some (op.Clamp SClamp) q at),
-  (λ q at. of_unary refl FindILsb (same_some (op.Unary FindILsb) q at),
-  (λ q at. of_unary refl FindSMsb (same_some (op.Unary FindSMsb) q at),
-  (λ q at. of_unary refl FindUMsb (same_some (op.Unary FindUMsb) q at), tt)))))))))),
+  (
+    λ q at. of_unary refl SSign (same_some (op.Unary SSign) q at),
+    (
+      λ q at. of_binary refl UMin (same_some (op.Binary UMin) q at),
+      (
+        λ q at. of_binary refl SMin (same_some (op.Binary SMin) q at),
+        (
+          λ q at. of_binary refl UMax (same_some (op.Binary UMax) q at),
+          (
+            λ q at. of_binary refl SMax (same_some (op.Binary SMax) q at),
+            (
+              λ q at. of_clamp refl UClamp (same_some (op.Clamp UClamp) q at),
+              (
+                λ q at. of_clamp refl SClamp (same_some (op.Clamp SClamp) q at),
+                (
+                  λ q at. of_unary refl FindILsb (same_some (op.Unary FindILsb) q at),
+                  (
+                    λ q at. of_unary refl FindSMsb (same_some (op.Unary FindSMsb) q at),
+                    (λ q at. of_unary refl FindUMsb (same_some (op.Unary FindUMsb) q at), tt),
+                  ),
+                ),
+              ),
+            ),
+          ),
+        ),
+      ),
+    ),
+  ),
 ) on o e
 
 module _ (s : Setting) (entry : Option (List ℕ)) (right : IsConforming s.of entry) (f : Function) (in_it : Contains s.of.functions f) (i : Inst) (there : IsAmong i (insts_of f)) where

@@ -1,64 +1,59 @@
 -- Chains, loads, stores, atomics, lengths, calls, phis and returns of a conforming module's functions are typed.
-use Rattle.std.proofs.Common.{◌≡◌, ◌<◌, ◌≤◌, ◌+◌, ◌==◌, ◌||◌, ◌&&◌, not, ℕ, zero, suc, Bool, true, false, List, [], ◌∷◌, ◌++◌, length, take, drop, Option, Some, None, inl, inr, refl, sym, ap, subst, ◌∙◌, if◌then◌else◌, arith}
-use Rattle.std.specs.Prelude.{◌⊎◌, ◌%◌, find, is_some, nat_lt, nat_le, option_map, option_and_then, slice_get, take_while, Contains, slice_index}
-use Rattle.std.specs.Option.{option_map_or, option_or}
-use Rattle.std.specs.List.{list_any, zip, position_from, prefix_len}
-use Rattle.std.proofs.lemmas.Bool.Decides.{eqb_tells, nat_tests}
+use Rattle.std.proofs.Common.{◌≡◌, ◌<◌, ◌+◌, ◌==◌, ◌||◌, ◌&&◌, not, ℕ, zero, suc, Bool, true, false, List, [], ◌∷◌, length, take, drop, Option, Some, None, inl, inr, refl, sym, ap, subst, ◌∙◌, if◌then◌else◌, arith}
+use Rattle.std.specs.Prelude.{◌%◌, is_some, nat_le, option_map, option_and_then, slice_get, take_while, Contains, slice_index}
+use Rattle.std.specs.Option.{option_map_or}
+use Rattle.std.specs.List.{list_any, position_from, prefix_len}
+use Rattle.std.proofs.lemmas.Bool.Decides.{nat_tests}
 use Rattle.spv_ops.specs.Opcode.{is, number}
 use Rattle.spv_ops.specs.Groups.{is_atomic}
-use Rattle.spv_ops.specs.Shape.{shape, count_of}
+use Rattle.spv_ops.specs.Shape.{shape}
 use Rattle.spv_ops.specs.Operands.{is_id}
 use Rattle.spv_ops.specs.OpGroups.{takes_of, group_of}
 use Rattle.spv_ops.specs.declared.Op.{Op}
 use Rattle.spv_ops.specs.declared.Op.TheVariants as code
-use Rattle.spv_ops.specs.declared.OpGroup.{OpGroup}
 use Rattle.spv_ops.specs.declared.OpGroup.TheVariants as groups
 use Rattle.spv_module.specs.Held.{global}
-use Rattle.spv_module.specs.Inst.{has_type, has_result}
-use Rattle.spv_module.specs.declared.inst.Id.{Id}
+use Rattle.spv_module.specs.Inst.{has_type}
 use Rattle.spv_module.specs.declared.inst.Inst.{Inst}
 use Rattle.spv_module.specs.declared.inst.Block.{Block}
 use Rattle.spv_module.specs.declared.inst.Function.{Function}
-use Rattle.spv_types.specs.Tree.{Tree, ValueTree}
-use Rattle.spv_types.specs.Types.{is_shapeless, tree_at, type_tree, earlier}
-use Rattle.spv_types.specs.Leaves.{IsSized}
+use Rattle.spv_types.specs.Tree.{Tree}
+use Rattle.spv_types.specs.Types.{is_shapeless, type_tree, earlier}
 use Rattle.spv_decor.specs.Rows.{word}
-use Rattle.spv_index.specs.Locals.{insts_of, inst_in, parameter_in, typed, global_type, local_type, type_in, function_in}
+use Rattle.spv_index.specs.Locals.{insts_of, type_in}
 use Rattle.spv_index.specs.Pointers.{pointee, pointer, as_pointer, pointee_of, storage_class}
 use Rattle.spv_index.specs.ValueTypes.{is_no_value_type}
-use Rattle.profile_rules.specs.declared.needs.Need.TheVariants.{AnyType, Callee, Value, PhiValue, Label}
-use Rattle.profile_rules.specs.Operands.{need, type_need, suits, first_or, is_global, is_in_function, is_there, is_there_in}
-use Rattle.profile_rules.specs.TypeRows.{is_type, is_int, is_uint, is_pointer, is_void, type_row, fails, differ, value_fails, is_other}
-use Rattle.profile_rules.specs.ValueRules.{breaks_t4, breaks_t5, breaks_t6, breaks_t7, is_no_array_id, leads_elsewhere, chain_end, are_other_members}
-use Rattle.profile_rules.specs.NumberRules.{points_to_other, is_no_content, has_no_int, breaks_t25_load}
-use Rattle.profile_rules.specs.AtomicRules.{is_other_number, is_of_other_sign, is_other_place, is_shared_class, leads_elsewhere as leads_to_other, breaks_a3}
+use Rattle.profile_rules.specs.declared.needs.Need.TheVariants.{Value, PhiValue, Label}
+use Rattle.profile_rules.specs.Operands.{need, type_need, suits, is_global, is_in_function, is_there_in}
+use Rattle.profile_rules.specs.TypeRows.{is_int, is_uint, is_pointer, is_void, fails, differ, value_fails, is_other}
+use Rattle.profile_rules.specs.ValueRules.{breaks_t4, breaks_t5, breaks_t6, breaks_t7, is_no_array_id, leads_elsewhere, chain_end}
+use Rattle.profile_rules.specs.NumberRules.{points_to_other, is_no_content}
+use Rattle.profile_rules.specs.AtomicRules.{is_other_number, is_of_other_sign, is_other_place, is_shared_class, leads_elsewhere as leads_to_other}
 use Rattle.profile_rules.specs.MemoryRules.{is_through}
 use Rattle.profile_rules.specs.declared.way.Way.TheVariants.{BufferBlock}
-use Rattle.profile_rules.specs.FlowRules.{function_type, callee, is_miscalled, breaks_t21, every_second, is_from_elsewhere, breaks_t22, breaks_t24_value}
-use Rattle.profile_rules.specs.TypeRules.{is_value_broken, is_number_broken, is_flow_broken}
+use Rattle.profile_rules.specs.FlowRules.{callee, every_second, is_from_elsewhere, breaks_t22, breaks_t24_value}
+use Rattle.profile_rules.specs.TypeRules.{is_flow_broken}
 use Rattle.profile_rules.specs.Entry.{function_of}
 use Rattle.plan_law.specs.InOrder.{IsAmong}
 use Rattle.plan_law.proofs.Listed.{flat}
 use Rattle.plan_law.proofs.Order.{among_left, among_right}
 use Rattle.module_semantics.specs.Setting.{Setting}
 use Rattle.module_semantics.specs.Operands.{arg}
-use Rattle.module_semantics.specs.Accesses.{initial_in}
-use Rattle.module_semantics.specs.Steps.{base, is_phi, phis, source_from}
-use Rattle.fits_law.specs.State.{value_shape, target_shape, result_shape, IsLocal, VariablesFit}
-use Rattle.fits_law.specs.Typed.{IsOfWords, AreArguments, IsCall, ArePhis, IsLoad, IsChain}
+use Rattle.module_semantics.specs.Steps.{is_phi, phis, source_from}
+use Rattle.fits_law.specs.State.{value_shape, target_shape, result_shape, IsLocal}
+use Rattle.fits_law.specs.Typed.{IsOfWords, ArePhis, IsLoad, IsChain}
 use Rattle.type_law.specs.Shaped.{AreConstants}
-use Rattle.type_law.proofs.Operands.{some_first}
 use Rattle.type_law.proofs.Vectors.{three_off}
 use Rattle.type_law.proofs.Accessed.{int_words, length_typed, source_passes}
 use Rattle.type_law.proofs.Made.{load_typed}
 use Rattle.type_law.proofs.Chains as chains
 use Rattle.type_law.proofs.Chains.{chain_typed}
-use Rattle.typed_law.specs.Conforms.{IsParameter, IsFormed, IsConforming}
-use Rattle.typed_law.proofs.Lists.{or_left, or_right, and_left, and_right, and_off, not_off, not_on, clash, same_some, found_in, earlier_some, some_by}
-use Rattle.typed_law.proofs.Rules.{type_there, operand_there, global_there, flow_right, access_right}
+use Rattle.typed_law.specs.Conforms.{IsConforming}
+use Rattle.typed_law.proofs.Lists.{or_left, or_right, and_left, and_off, not_off, clash, same_some, earlier_some, some_by}
+use Rattle.typed_law.proofs.Rules.{type_there, operand_there, flow_right, access_right}
 use Rattle.typed_law.proofs.Types.{row_is, pointee_shaped}
-use Rattle.typed_law.proofs.Values.{same_count, IsRow, shape_of_row, value_type_has, inside, local_row, result_row, declared_by, IsDeclaredBy, T, HasType, HasItsShape, type_row_of, one_type, same_type, typed_value, typed_source, own_type, own_local, own_shape, int_shaped, type_suits, type_outside}
-use Rattle.typed_law.proofs.Shapes.{AreTyped, row_of_shape, shaped_type}
+use Rattle.typed_law.proofs.Values.{IsRow, shape_of_row, value_type_has, inside, local_row, result_row, HasType, type_row_of, one_type, same_type, typed_value, typed_source, own_type, own_local, own_shape, int_shaped, type_suits, type_outside}
+use Rattle.typed_law.proofs.Shapes.{row_of_shape, shaped_type}
 use Rattle.typed_law.proofs.Operations.{Facts}
 
 uint_shaped : (g : Inst) → is_uint g ≡ true → is_shapeless g.op ≡ false

@@ -1,11 +1,10 @@
 -- What the rules say of one global and of one instruction of a conforming module.
-use Rattle.std.proofs.Common.{◌≡◌, ◌<◌, ◌+◌, ◌||◌, ◌&&◌, not, ℕ, zero, suc, Bool, true, false, List, [], ◌∷◌, ◌++◌, length, Option, Some, None, inl, inr, refl, sym, ap, subst, ◌∙◌, if◌then◌else◌, arith}
+use Rattle.std.proofs.Common.{◌≡◌, ◌<◌, ◌+◌, ◌||◌, ◌&&◌, not, ℕ, zero, suc, Bool, true, false, List, [], ◌∷◌, ◌++◌, length, Option, inl, inr, refl, sym, subst, arith}
 use Rattle.std.specs.Prelude.{◌⊎◌, flat_map, Contains, slice_index}
 use Rattle.std.specs.List.{list_any, enumerate_from}
 use Rattle.std.proofs.lemmas.List.Elements.{Contains-append_left, Contains-append_right}
 use Rattle.spv_words.specs.declared.rule.Rule.{Rule}
 use Rattle.spv_words.specs.declared.rule.Rule.TheVariants.{T1, T21, A3}
-use Rattle.spv_words.specs.declared.rule.Refusal.{Refusal}
 use Rattle.spv_ops.specs.Operands.{is_id}
 use Rattle.spv_ops.specs.OpGroups.{group_of}
 use Rattle.spv_module.specs.State.{ModuleState}
@@ -15,9 +14,9 @@ use Rattle.spv_module.specs.declared.inst.Block.{Block}
 use Rattle.spv_module.specs.declared.inst.Function.{Function}
 use Rattle.spv_index.specs.Locals.{insts_of, type_in}
 use Rattle.profile_rules.specs.declared.needs.Need.{Need}
-use Rattle.profile_rules.specs.Operands.{need, type_need, is_there, is_there_in, lacks_operand, lacks, breaks_t1, breaks_t1_in, breaks_t1_of}
+use Rattle.profile_rules.specs.Operands.{need, type_need, lacks_operand, lacks, breaks_t1, breaks_t1_in, breaks_t1_of}
 use Rattle.profile_rules.specs.FlowRules.{breaks_t21_of}
-use Rattle.profile_rules.specs.TypeRules.{broken, broken_if, broken_as, broken_inside, broken_by_global, broken_by_local, broken_by_block, broken_by_function, is_broken_in, is_value_broken, is_number_broken, is_flow_broken, rule_of}
+use Rattle.profile_rules.specs.TypeRules.{broken_if, broken_as, broken_inside, broken_by_global, broken_by_local, broken_by_block, broken_by_function, is_broken_in, is_value_broken, is_number_broken, is_flow_broken, rule_of}
 use Rattle.profile_rules.specs.TypeForm.{is_misformed, is_misused, is_other_pointer, is_other_function}
 use Rattle.profile_rules.specs.Variables.{is_other_input, is_other_initializer, is_misclassed}
 use Rattle.profile_rules.specs.Places.{places, body_insts}
@@ -28,7 +27,7 @@ use Rattle.plan_law.specs.InOrder.{IsAmong}
 use Rattle.plan_law.proofs.Listed.{flat}
 use Rattle.type_law.proofs.Vectors.{three_off}
 use Rattle.typed_law.specs.Conforms.{IsConforming}
-use Rattle.typed_law.proofs.Lists.{or_left, or_right, not_off, and_off, clash, none_left, none_right, none_by, none_among, any_at, none_at_fault}
+use Rattle.typed_law.proofs.Lists.{or_left, or_right, not_off, and_off, none_left, none_right, none_by, none_among, any_at, none_at_fault}
 
 refused : (b : Bool) (rule : Rule) (at : ℕ) → broken_if b rule at ≡ [] → b ≡ false
 refused true rule at e = cc

@@ -1,6 +1,6 @@
 -- The run of a conforming module keeps values in the shapes of their types.
-use Rattle.std.proofs.Common.{◌≡◌, ◌==◌, ℕ, zero, suc, Bool, true, false, List, [], ◌∷◌, ◌++◌, length, map, drop, Option, Some, None, inl, inr, refl, sym, ap, subst, ◌∙◌, if◌then◌else◌}
-use Rattle.std.specs.Prelude.{◌⊎◌, option_and_then, slice_get, Contains}
+use Rattle.std.proofs.Common.{◌≡◌, ◌==◌, ℕ, zero, suc, Bool, true, false, List, [], ◌∷◌, ◌++◌, length, map, drop, Option, Some, None, inl, inr, refl, sym, subst}
+use Rattle.std.specs.Prelude.{option_and_then, slice_get, Contains}
 use Rattle.spv_ops.specs.declared.AtomicOp.{AtomicOp}
 use Rattle.spv_ops.specs.declared.AtomicOp.TheVariants as atomics
 use Rattle.spv_ops.specs.declared.Terminator.{Terminator}
@@ -9,13 +9,13 @@ use Rattle.spv_module.specs.declared.inst.Id.{Id}
 use Rattle.spv_module.specs.declared.inst.Inst.{Inst}
 use Rattle.spv_module.specs.declared.inst.Block.{Block}
 use Rattle.spv_module.specs.declared.inst.Function.{Function}
-use Rattle.spv_types.specs.Tree.{Tree, ValueTree, word}
+use Rattle.spv_types.specs.Tree.{ValueTree, word}
 use Rattle.spv_index.specs.Locals.{insts_of, block_in}
 use Rattle.spv_index.specs.Pointers.{pointee_of}
 use Rattle.op_semantics.specs.Component.{each_one}
 use Rattle.op_semantics.specs.Composite.{extracted, inserted}
 use Rattle.profile_rules.specs.Entry.{function_of}
-use Rattle.traces.specs.Events.{Event, event_of, updating, control_barrier}
+use Rattle.traces.specs.Events.{updating, control_barrier}
 use Rattle.traces.specs.Runs.{Act, goes, asks, stops, fails}
 use Rattle.plan_law.specs.InOrder.{IsAmong}
 use Rattle.plan_law.proofs.Listed.{flat}
@@ -23,11 +23,11 @@ use Rattle.module_semantics.specs.Setting.{Setting}
 use Rattle.module_semantics.specs.State.{Root, global, own, lent, Held, pointer, Frame, Conf, call_at, with_call, with_variable}
 use Rattle.module_semantics.specs.Memory.{location, shape_along, elements, are_allowed}
 use Rattle.module_semantics.specs.Operands.{Target, held, value_at, pointer_at, word_at, words_at, arg}
-use Rattle.module_semantics.specs.Accesses.{seen, kept, initial_in, initial_private, keeping, with_lent}
+use Rattle.module_semantics.specs.Accesses.{seen, kept, keeping, with_lent}
 use Rattle.module_semantics.specs.Steps as the
-use Rattle.module_semantics.specs.Steps.{with_some, advanced, set, set_value, computed, operation_step, base, lead_if, chain_step, length_step, variable_step, read_shape, load_from, load_step, store_to, store_step, atomic_operation, atomic_operands, set_found, atomic_step, memory_barriers, memory_barrier_step, control_barrier_step, phis, behind_phis, argument_of, first_insts, entered, called, call_step, return_step, given_to, return_value_step, target_label, phi_value, present_label, gone_to, edge_step, branch_step, StepKind, step_kind, step_by, act_on, act}
+use Rattle.module_semantics.specs.Steps.{with_some, advanced, set, set_value, computed, operation_step, base, lead_if, chain_step, length_step, variable_step, read_shape, load_from, load_step, store_to, store_step, atomic_operation, atomic_operands, set_found, atomic_step, memory_barriers, memory_barrier_step, control_barrier_step, phis, argument_of, first_insts, entered, called, call_step, return_step, given_to, return_value_step, target_label, phi_value, present_label, gone_to, edge_step, branch_step, StepKind, step_kind, step_by, act_on, act}
 use Rattle.module_semantics.specs.Run.{have_values, first_state, start_by, start}
-use Rattle.fits_law.specs.State.{ConfFits, ActFits, IdsFit}
+use Rattle.fits_law.specs.State.{ConfFits, ActFits}
 use Rattle.fits_law.proofs.Steps.{fits_step}
 use Rattle.type_law.specs.Shaped.{HasConstants}
 use Rattle.typed_law.specs.Conforms.{IsConforming}

@@ -1,5 +1,5 @@
 -- Operands have shapes where the rules ask what they are made of.
-use Rattle.std.proofs.Common.{◌≡◌, ◌<◌, ◌≤◌, ◌+◌, ◌==◌, ◌||◌, ◌&&◌, not, ℕ, zero, suc, Bool, true, false, List, [], ◌∷◌, length, take, drop, Option, Some, None, inl, inr, refl, sym, ap, subst, ◌∙◌, if◌then◌else◌, arith}
+use Rattle.std.proofs.Common.{◌≡◌, ◌<◌, ◌==◌, ◌||◌, ◌&&◌, not, ℕ, suc, Bool, true, false, List, [], ◌∷◌, length, Option, Some, None, inl, inr, refl, sym, ap, subst, ◌∙◌, if◌then◌else◌, arith}
 use Rattle.std.specs.Prelude.{◌⊎◌, nat_lt, is_some, option_map, option_and_then, sum_by, Contains, slice_index}
 use Rattle.std.specs.Option.{option_map_or}
 use Rattle.std.specs.List.{list_any, list_all, zip}
@@ -17,11 +17,9 @@ use Rattle.spv_types.specs.Tree.{Tree, array, struct, Trees}
 use Rattle.spv_types.specs.Types.{is_shapeless, length_by, array_tree, all_trees, tree_before, tree_at, type_tree}
 use Rattle.spv_types.specs.Leaves.{IsSized}
 use Rattle.spv_decor.specs.Rows.{word}
-use Rattle.spv_index.specs.Locals.{type_in}
-use Rattle.profile_rules.specs.declared.needs.Reached.{Reached}
 use Rattle.profile_rules.specs.declared.needs.Reached.TheVariants.{Part, Nothing, Unknown}
-use Rattle.profile_rules.specs.TypeRows.{is_type, is_bool, is_int, is_vector, is_void, is_runtime_array, is_pointer, if_type, type_row, fails, differ, value_fails, is_other, one_if, count_in, ints, bools, ints_of, bools_of, is_not, component, component_if, constant_word}
-use Rattle.profile_rules.specs.ValueRules.{are_other_parts, are_other_members, misfit, one_of, nth_member, literal_part, literal_step, walk, given_by, given_of, given, given_or_zero, gives_none, is_other_count, is_misbuilt, breaks_t10, part_of, is_elsewhere, is_value_elsewhere, is_other_component, match_step, match_before, match_at, do_match, do_parts_match, is_same_length, breaks_t12}
+use Rattle.profile_rules.specs.TypeRows.{is_type, is_bool, is_int, is_vector, is_void, is_runtime_array, type_row, fails, differ, is_other, count_in, bools, ints_of, bools_of, is_not, constant_word}
+use Rattle.profile_rules.specs.ValueRules.{are_other_parts, are_other_members, one_of, nth_member, literal_part, literal_step, walk, given_by, given_of, given, given_or_zero, gives_none, is_other_count, is_misbuilt, breaks_t10, match_before, match_at, do_match, do_parts_match, is_same_length}
 use Rattle.profile_rules.specs.NumberRules.{are_unlike_ints, is_no_condition, has_other_size}
 use Rattle.module_semantics.specs.Setting.{Setting}
 use Rattle.fits_law.specs.Takes.{numbers, truths}
@@ -30,11 +28,11 @@ use Rattle.fits_law.specs.Typed.{HaveShapes}
 use Rattle.fits_law.proofs.Steps.{named}
 use Rattle.type_law.proofs.Rows.{int_has, bool_has, by_kind, vector_parts, is_a_type}
 use Rattle.type_law.proofs.Scalars.{is_counted}
-use Rattle.type_law.proofs.Parts.{array_kind, struct_kind, fixed_word, all_nth, row, earlier_is, walk_leads, nothing_on}
+use Rattle.type_law.proofs.Parts.{array_kind, struct_kind, fixed_word, all_nth, row, earlier_is, nothing_on}
 use Rattle.typed_law.specs.Conforms.{IsConforming}
-use Rattle.typed_law.proofs.Lists.{or_left, or_right, and_left, and_right, and_off, not_off, not_on, clash, no_true, same_some, found_in}
+use Rattle.typed_law.proofs.Lists.{or_left, or_right, clash, same_some}
 use Rattle.typed_law.proofs.Types.{row_is}
-use Rattle.typed_law.proofs.Values.{same_count, IsRow, shape_of_row, T, HasType, HasItsShape, type_row_of, one_type, shape_of, passing, same_type, counted, none_counted, value_sized, vector_shaped, shapeless_no_vector, shapeless_no_int, shapeless_no_bool}
+use Rattle.typed_law.proofs.Values.{same_count, IsRow, T, HasType, HasItsShape, type_row_of, one_type, shape_of, same_type, counted, none_counted, vector_shaped, shapeless_no_vector, shapeless_no_int, shapeless_no_bool}
 
 -- opcodes of types without a shape
 shapeless_no_array : (o : Op) → is_shapeless o ≡ true → (is o code.TypeArray ≡ false) × (is o code.TypeRuntimeArray ≡ false) × (is o code.TypeStruct ≡ false)

@@ -1,40 +1,28 @@
 -- The types of values have values: none has a runtime array in it, or an array whose length is a specialization constant.
-use Rattle.std.proofs.Common.{◌≡◌, ◌<◌, ◌≤◌, ◌+◌, ◌==◌, ◌||◌, ◌&&◌, not, ℕ, zero, suc, Bool, true, false, List, [], ◌∷◌, ◌++◌, length, take, Option, Some, None, inl, inr, refl, sym, ap, subst, ◌∙◌, if◌then◌else◌, arith}
-use Rattle.std.specs.Prelude.{◌⊎◌, fold, flat_map, nat_lt, nat_le, option_map, option_and_then, slice_index}
+use Rattle.std.proofs.Common.{◌≡◌, ◌<◌, ◌≤◌, ◌+◌, ◌==◌, ◌||◌, ◌&&◌, not, ℕ, Bool, true, false, List, [], ◌∷◌, Option, Some, None, inl, inr, refl, sym, ap, subst, ◌∙◌, if◌then◌else◌, arith}
+use Rattle.std.specs.Prelude.{◌⊎◌, fold, nat_le, option_map, slice_index}
 use Rattle.std.specs.Option.{option_map_or}
-use Rattle.std.specs.List.{list_any, filter_map}
+use Rattle.std.specs.List.{list_any}
 use Rattle.std.proofs.lemmas.Bool.Decides.{eqb_tells, nat_tests}
 use Rattle.spv_ops.specs.Opcode.{is, number}
-use Rattle.spv_ops.specs.Groups.{is_specialization}
-use Rattle.spv_ops.specs.Operands.{is_id}
-use Rattle.spv_ops.specs.OpGroups.{takes_of, group_of}
 use Rattle.spv_ops.specs.declared.Op.{Op}
 use Rattle.spv_ops.specs.declared.Op.TheVariants as code
 use Rattle.spv_module.specs.State.{ModuleState}
 use Rattle.spv_module.specs.Held.{global}
 use Rattle.spv_module.specs.declared.inst.Inst.{Inst}
 use Rattle.spv_module.specs.declared.tree.Elem.{Elem}
-use Rattle.spv_module.specs.declared.tree.Length.{Length}
-use Rattle.spv_module.specs.declared.tree.Length.TheVariants.{Fixed, Spec}
-use Rattle.spv_types.specs.Tree.{Tree, boolean, int, uint, vector, array, runtime, struct, Trees, no_trees, tree}
-use Rattle.spv_types.specs.Types.{kind, is_shapeless, int_tree, elem_of, sized_vector, vector_tree, length_of, length_by, array_tree, both, all_trees, tree_by_kind, tree_before, tree_at, type_tree, earlier, ids_by_kind}
+use Rattle.spv_module.specs.declared.tree.Length.TheVariants.{Fixed}
+use Rattle.spv_types.specs.Tree.{Tree, boolean, int, uint, vector, array, struct, Trees, no_trees, tree}
+use Rattle.spv_types.specs.Types.{kind, is_shapeless, elem_of, sized_vector, vector_tree, length_of, length_by, array_tree, both, all_trees, tree_by_kind, tree_before, tree_at, earlier}
 use Rattle.spv_types.specs.Leaves.{IsSized, AreSized}
 use Rattle.spv_types.proofs.Below.{tree_before_is}
-use Rattle.spv_decor.specs.Rows.{word}
-use Rattle.spv_decor.specs.Decorations.{local_insts}
 use Rattle.spv_index.specs.BlockStructs.{is_block}
-use Rattle.spv_index.specs.ValueTypes.{is_other_length, other_by, other_step, with_other, others_among, is_no_value_type}
-use Rattle.profile_rules.specs.declared.needs.Need.TheVariants.{AnyType}
-use Rattle.profile_rules.specs.Operands.{need, is_there}
-use Rattle.profile_rules.specs.Places.{is_among, is_variable, is_defined_elsewhere, body_insts}
-use Rattle.profile_rules.specs.TypeForm.{parts_of, value_type, value_types, signature_types, pointees, block_misuses, is_of_storage, fixed_parts, runtime_misuses, is_misused, with_parts, held, is_held, other_types, is_workgroup, is_above_zero, is_no_int, is_workgroup_length, is_length, is_other_array}
+use Rattle.spv_index.specs.ValueTypes.{is_other_length, other_by, other_step, with_other, is_no_value_type}
+use Rattle.profile_rules.specs.Places.{is_among}
 use Rattle.plan_law.specs.InOrder.{IsAmong, AreRising}
 use Rattle.fits_law.proofs.Steps.{named}
-use Rattle.type_law.specs.Shaped.{EachFound}
 use Rattle.typed_law.specs.Conforms.{IsConforming}
-use Rattle.typed_law.proofs.Lists.{or_left, or_right, and_left, and_right, and_off, not_off, not_on, clash, no_true, same_some, found_in, earlier_some}
-use Rattle.typed_law.proofs.Rules.{operand_there, global_there, used_type}
-use Rattle.typed_law.proofs.Types.{type_before, of_form}
+use Rattle.typed_law.proofs.Lists.{or_left, or_right, and_off, not_off, same_some, found_in, earlier_some}
 
 -- what stands behind
 pub rising_low : (n : ℕ) (is : List Inst) (i : Inst) → AreRising n is → IsAmong i is → n ≤ i.at
@@ -155,11 +143,14 @@ module _ (m : ModuleState) (entry : Option (List ℕ)) (right : IsConforming m e
   AreKnown others n = (id : ℕ) (h : Inst) → global Gs id ≡ Some h → h.at < n → others id ≡ false → IsValue h
 
   value_by : (g : Inst) (others : ℕ → Bool) → AreKnown others g.at → other_step m.heads Gs others g ≡ false → IsValue g
-  value_by g others known off = (value_shaped m.heads Gs others g g.op off, λ t shape.
-      sized_by Gs (tree_before Gs g.at) g (λ p. others p ≡ false) part g.op t (value_not_runtime m.heads Gs others g g.op off)
-      (λ on. let parts = value_array m.heads Gs others g g.op off on in (or_left (others (slice_index g.args 0)) (is_other_length Gs (slice_index g.args 1)) parts, λ c at. not_off (is c.op code.Constant) (ap (λ o. option_map_or (λ (x : Inst). not (is x.op code.Constant)) o false) (sym at) ∙ or_right (others (slice_index g.args 0)) (is_other_length Gs (slice_index g.args 1)) parts)))
-      (λ on p there. none_among others g.args p (value_struct m.heads Gs others g g.op off on) there)
-      shape)
+  value_by g others known off = (
+    value_shaped m.heads Gs others g g.op off,
+    λ t shape.
+        sized_by Gs (tree_before Gs g.at) g (λ p. others p ≡ false) part g.op t (value_not_runtime m.heads Gs others g g.op off)
+        (λ on. let parts = value_array m.heads Gs others g g.op off on in (or_left (others (slice_index g.args 0)) (is_other_length Gs (slice_index g.args 1)) parts, λ c at. not_off (is c.op code.Constant) (ap (λ o. option_map_or (λ (x : Inst). not (is x.op code.Constant)) o false) (sym at) ∙ or_right (others (slice_index g.args 0)) (is_other_length Gs (slice_index g.args 1)) parts)))
+        (λ on p there. none_among others g.args p (value_struct m.heads Gs others g g.op off on) there)
+        shape,
+  )
     where
       part : (p : ℕ) (u : Tree) → tree_before Gs g.at p ≡ Some u → others p ≡ false → IsSized u
       part p u e fine = by_earlier (earlier Gs g.at p) refl (sym (tree_before_is Gs g.at p) ∙ e)

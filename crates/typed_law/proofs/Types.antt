@@ -1,11 +1,11 @@
 -- In a conforming module each type has a shape, but void, pointers and functions.
 use Rattle.std.proofs.Common.{◌≡◌, ◌<◌, ◌≤◌, ◌+◌, ◌==◌, ◌||◌, ◌&&◌, not, ℕ, zero, suc, Bool, true, false, List, [], ◌∷◌, length, take, Option, Some, None, inl, inr, refl, sym, ap, subst, ◌∙◌, if◌then◌else◌, arith}
-use Rattle.std.specs.Prelude.{◌⊎◌, nat_lt, nat_le, option_map, option_and_then, slice_index}
+use Rattle.std.specs.Prelude.{◌⊎◌, nat_le, option_map, option_and_then, slice_index}
 use Rattle.std.specs.Option.{option_map_or}
 use Rattle.std.specs.List.{list_any}
 use Rattle.std.proofs.lemmas.Bool.Decides.{nat_tests}
 use Rattle.spv_ops.specs.Opcode.{is, number}
-use Rattle.spv_ops.specs.Groups.{is_type as is_type_op, is_constant, is_specialization}
+use Rattle.spv_ops.specs.Groups.{is_type as is_type_op, is_specialization}
 use Rattle.spv_ops.specs.Operands.{is_id}
 use Rattle.spv_ops.specs.OpGroups.{takes_of, group_of}
 use Rattle.spv_ops.specs.Shape.{shape, count_of}
@@ -19,24 +19,23 @@ use Rattle.spv_module.specs.declared.tree.Elem.{Elem}
 use Rattle.spv_module.specs.declared.tree.Elem.TheVariants as elem
 use Rattle.spv_module.specs.declared.tree.Length.{Length}
 use Rattle.spv_types.specs.declared.kind.TypeKind.{TypeKind}
-use Rattle.spv_types.specs.declared.kind.TypeKind.TheVariants.{Bool as BoolKind, Int, Vector, Array, Runtime, Struct, Other}
+use Rattle.spv_types.specs.declared.kind.TypeKind.TheVariants.{Bool as BoolKind, Int, Vector, Array, Runtime, Struct}
 use Rattle.spv_types.specs.Tree.{Tree, boolean, int, uint, vector, array, runtime, struct, Trees, no_trees, tree}
-use Rattle.spv_types.specs.Types.{kind, is_shapeless, int_tree, elem_of, sized_vector, vector_tree, length_of, length_by, array_tree, both, all_trees, tree_by_kind, tree_step, tree_before, tree_at, type_tree, earlier, part_ids, ids_by_kind}
+use Rattle.spv_types.specs.Types.{kind, is_shapeless, int_tree, elem_of, sized_vector, vector_tree, length_of, length_by, array_tree, both, all_trees, tree_by_kind, tree_before, tree_at, type_tree, earlier, ids_by_kind}
 use Rattle.spv_types.proofs.Below.{tree_before_is}
 use Rattle.spv_decor.specs.Rows.{word}
-use Rattle.spv_index.specs.Pointers.{pointee, pointer, as_pointer}
-use Rattle.profile_rules.specs.declared.needs.Need.{Need}
+use Rattle.spv_index.specs.Pointers.{pointee, as_pointer}
 use Rattle.profile_rules.specs.declared.needs.Need.TheVariants.{AnyType, Constant}
-use Rattle.profile_rules.specs.Operands.{need, suits, is_global, is_there}
-use Rattle.profile_rules.specs.TypeRows.{is_type, is_bool, is_int, is_pointer, if_type, type_row}
-use Rattle.profile_rules.specs.TypeForm.{parts_of, is_other_int, is_no_scalar, is_other_vector, is_length, is_other_array, is_empty_struct, is_no_data, is_misformed, is_other_pointer as is_other_pointer_type, is_other_function, is_above_zero, is_workgroup_length}
+use Rattle.profile_rules.specs.Operands.{need, suits, is_there}
+use Rattle.profile_rules.specs.TypeRows.{is_type, is_pointer, if_type, type_row}
+use Rattle.profile_rules.specs.TypeForm.{parts_of, is_other_int, is_no_scalar, is_other_vector, is_length, is_other_array, is_empty_struct, is_no_data, is_other_pointer as is_other_pointer_type, is_other_function, is_above_zero, is_workgroup_length}
 use Rattle.profile_rules.specs.Places.{is_defined_elsewhere}
 use Rattle.fits_law.specs.Takes.{Has, numbers, truths}
 use Rattle.plan_law.specs.InOrder.{IsAmong}
 use Rattle.type_law.proofs.Rows.{int_has, bool_has}
 use Rattle.type_law.proofs.Vectors.{five_off}
-use Rattle.typed_law.specs.Conforms.{size_of, IsFormed, IsConforming}
-use Rattle.typed_law.proofs.Lists.{or_left, or_right, and_left, and_off, not_off, not_on, clash, same_some, any_none, found_in, earlier_some, some_by}
+use Rattle.typed_law.specs.Conforms.{size_of, IsConforming}
+use Rattle.typed_law.proofs.Lists.{or_left, or_right, and_left, and_off, not_off, any_none, found_in, earlier_some, some_by}
 use Rattle.typed_law.proofs.Rules.{operand_there, global_there, formed_type, pointed_type}
 
 -- the opcodes of types that have shapes, and what T1 asks of their operands
@@ -219,7 +218,7 @@ module _ (m : ModuleState) (entry : Option (List ℕ)) (right : IsConforming m e
         let h = type_before g.at (word g 0) (subst (λ q. is_there Gs g.at q (word g 0) ≡ true) needed (operand 0 (let inside : 0 < length g.args = omega (arith, many) in inside) (ids g.args))) in
         let w = earlier_some Gs g.at (word g 0) h.0 h.1 in
         let on_h : ((is h.0.op code.TypeBool) || (is h.0.op code.TypeInt)) ≡ true =
-            not_off ((is h.0.op code.TypeBool) || (is h.0.op code.TypeInt)) (ap (λ o. option_map_or (λ (t : Inst). not ((is t.op code.TypeBool) || (is t.op code.TypeInt))) o (is_defined_elsewhere m (word g 0))) (sym w.0) ∙ scalar) in
+        not_off ((is h.0.op code.TypeBool) || (is h.0.op code.TypeInt)) (ap (λ o. option_map_or (λ (t : Inst). not ((is t.op code.TypeBool) || (is t.op code.TypeInt))) o (is_defined_elsewhere m (word g 0))) (sym w.0) ∙ scalar) in
         let u = part_of (word g 0) h.0 h.1 h.2 (scalar_shaped h.0.op on_h) in
         let e = by_scalar h.0 u.0 (is h.0.op code.TypeBool) refl on_h u.2 in
         let t = vector_shape u.0 e.0 (word g 1) e.1 size in
@@ -237,7 +236,7 @@ module _ (m : ModuleState) (entry : Option (List ℕ)) (right : IsConforming m e
         let c = some_by (suits Constant) (earlier Gs g.at (word g 1)) (subst (λ q. is_there Gs g.at q (word g 1) ≡ true) constant (operand 1 behind (ids g.args 1))) in
         let w = earlier_some Gs g.at (word g 1) c.0 c.1 in
         let length_is : is_length m g.result c.0 ≡ true =
-            not_off (is_length m g.result c.0) (ap (λ o. option_map_or (λ (x : Inst). not (is_length m g.result x)) o (is_defined_elsewhere m (word g 1))) (sym w.0) ∙ and_off (is g.op code.TypeArray) (option_map_or (λ (x : Inst). not (is_length m g.result x)) (global Gs (word g 1)) (is_defined_elsewhere m (word g 1))) (of_form g there).2 on) in
+        not_off (is_length m g.result c.0) (ap (λ o. option_map_or (λ (x : Inst). not (is_length m g.result x)) o (is_defined_elsewhere m (word g 1))) (sym w.0) ∙ and_off (is g.op code.TypeArray) (option_map_or (λ (x : Inst). not (is_length m g.result x)) (global Gs (word g 1)) (is_defined_elsewhere m (word g 1))) (of_form g there).2 on) in
         let l = constant_length c.0.op (word g 1) (slice_index c.0.args 0) (by_constant c.0 (is c.0.op code.Constant) refl length_is) in
         (array u.0 l.0, ap (λ o. array_tree o (length_by (word g 1) (global Gs (word g 1)))) u.1 ∙ ap (λ o. array_tree (Some u.0) (length_by (word g 1) o)) w.0 ∙ ap (array_tree (Some u.0)) l.1)
       where

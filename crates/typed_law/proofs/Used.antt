@@ -1,6 +1,6 @@
 -- The types of constants and of what functions compute hold no runtime array, and no array whose length is a specialization constant (P17, P18).
 use Rattle.std.proofs.Common.{◌≡◌, ◌<◌, ◌≤◌, ◌+◌, ◌==◌, ◌||◌, ◌&&◌, not, ℕ, zero, suc, Bool, true, false, List, [], ◌∷◌, ◌++◌, length, take, Option, Some, None, inl, inr, refl, sym, ap, subst, ◌∙◌, if◌then◌else◌, arith}
-use Rattle.std.specs.Prelude.{◌⊎◌, flat_map, option_map, slice_index, ◌-◌, nat_le}
+use Rattle.std.specs.Prelude.{◌⊎◌, flat_map, slice_index, ◌-◌, nat_le}
 use Rattle.std.specs.Option.{option_map_or}
 use Rattle.std.specs.List.{list_any, filter_map, cons_option}
 use Rattle.std.proofs.lemmas.Bool.Decides.{eqb_tells, nat_tests}
@@ -20,18 +20,17 @@ use Rattle.spv_types.specs.Types.{kind, ids_by_kind, tree_before, tree_at, type_
 use Rattle.spv_types.specs.Leaves.{IsSized}
 use Rattle.spv_types.proofs.Below.{tree_before_is}
 use Rattle.spv_decor.specs.Rows.{word}
-use Rattle.spv_decor.specs.Decorations.{local_insts}
 use Rattle.spv_index.specs.Pointers.{pointee}
 use Rattle.spv_index.specs.BlockStructs.{is_block, is_storage_block, is_some_block}
 use Rattle.profile_rules.specs.declared.needs.Need.TheVariants.{AnyType, Constant}
 use Rattle.profile_rules.specs.Operands.{need, first_or, is_there}
 use Rattle.profile_rules.specs.Places.{is_among, is_variable, is_defined_elsewhere, body_insts}
-use Rattle.profile_rules.specs.TypeForm.{parts_of, value_type, value_types, signature_types, pointee_by, pointees, block_misuses, is_of_storage, fixed_parts, runtime_misuses, is_misused, with_parts, held, is_held, other_types, is_workgroup, is_above_zero, is_no_int, is_workgroup_length, is_length, is_other_array}
+use Rattle.profile_rules.specs.TypeForm.{parts_of, value_type, value_types, signature_types, pointee_by, pointees, block_misuses, fixed_parts, runtime_misuses, with_parts, held, is_held, other_types, is_workgroup, is_above_zero, is_no_int, is_workgroup_length, is_length}
 use Rattle.plan_law.specs.InOrder.{IsAmong, AreRising}
 use Rattle.fits_law.proofs.Steps.{named}
 use Rattle.type_law.specs.Shaped.{EachFound}
 use Rattle.typed_law.specs.Conforms.{IsConforming}
-use Rattle.typed_law.proofs.Lists.{or_left, or_right, and_left, and_right, and_off, not_off, not_on, clash, no_true, same_some, found_in, earlier_some}
+use Rattle.typed_law.proofs.Lists.{or_left, or_right, and_right, and_off, not_off, not_on, clash, no_true, same_some, found_in, earlier_some}
 use Rattle.typed_law.proofs.Rules.{operand_there, global_there, used_type}
 use Rattle.typed_law.proofs.Types.{type_before, of_form}
 use Rattle.typed_law.proofs.Sized.{rising_low, sized_by}
@@ -179,8 +178,7 @@ module _ (m : ModuleState) (entry : Option (List ℕ)) (right : IsConforming m e
   misused : (g : Inst) → IsAmong g Gs → (is_among (block_misuses m) g.result ≡ true) → (is_among (runtime_misuses m) g.result ≡ true) → (((is g.op code.TypeStruct) && is_block m.heads g.result) ≡ false) × (is g.op code.TypeRuntimeArray ≡ false)
   misused g there blocks runtimes =
       let a = (is g.op code.TypeStruct) && is_block m.heads g.result in
-      let w = used_type m entry right g there in
-      (
+      let w = used_type m entry right g there in (
         no_true a (λ on. clash (sym (both_on a (is_among (block_misuses m) g.result) on blocks) ∙ or_left (a && is_among (block_misuses m) g.result) ((is g.op code.TypeRuntimeArray) && is_among (runtime_misuses m) g.result) w)),
         no_true (is g.op code.TypeRuntimeArray) (λ on. clash (sym (both_on (is g.op code.TypeRuntimeArray) (is_among (runtime_misuses m) g.result) on runtimes) ∙ or_right (a && is_among (block_misuses m) g.result) ((is g.op code.TypeRuntimeArray) && is_among (runtime_misuses m) g.result) w)),
       )

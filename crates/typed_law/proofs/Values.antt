@@ -1,5 +1,5 @@
 -- What operands and results of a conforming module's instructions have: types, and shapes where the rules ask for values.
-use Rattle.std.proofs.Common.{◌≡◌, ◌<◌, ◌≤◌, ◌+◌, ◌==◌, ◌||◌, ◌&&◌, not, ℕ, zero, suc, Bool, true, false, List, [], ◌∷◌, ◌++◌, length, drop, Option, Some, None, inl, inr, refl, sym, ap, subst, ◌∙◌, if◌then◌else◌, arith}
+use Rattle.std.proofs.Common.{◌≡◌, ◌<◌, ◌≤◌, ◌+◌, ◌==◌, ◌||◌, ◌&&◌, not, ℕ, zero, suc, Bool, true, false, List, [], ◌∷◌, length, drop, Option, Some, None, inl, inr, refl, sym, ap, subst, ◌∙◌, if◌then◌else◌, arith}
 use Rattle.std.specs.Prelude.{◌⊎◌, find, flat_map, nat_lt, is_some, option_map, option_and_then, Contains, slice_index}
 use Rattle.std.specs.Option.{option_map_or, option_or}
 use Rattle.std.specs.List.{list_any, zip}
@@ -25,25 +25,23 @@ use Rattle.spv_types.specs.Leaves.{IsSized}
 use Rattle.spv_decor.specs.Rows.{word}
 use Rattle.spv_decor.specs.Decorations.{local_insts}
 use Rattle.spv_index.specs.Locals.{insts_of, inst_in, parameter_in, typed, global_type, local_type, type_in}
-use Rattle.spv_index.specs.Pointers.{pointee, pointee_of}
 use Rattle.spv_index.specs.ValueTypes.{is_no_value_type}
-use Rattle.profile_rules.specs.declared.needs.Need.{Need}
-use Rattle.profile_rules.specs.declared.needs.Need.TheVariants.{AnyType, PointerType, FunctionType, Value, PhiValue}
-use Rattle.profile_rules.specs.Operands.{need, type_need, suits, is_global, is_local, is_local_before, is_in_function, is_there, is_there_in, lacks_type, breaks_t1_of}
+use Rattle.profile_rules.specs.declared.needs.Need.TheVariants.{AnyType, FunctionType, Value, PhiValue}
+use Rattle.profile_rules.specs.Operands.{need, type_need, suits, is_global, is_local, is_local_before, is_in_function, is_there, is_there_in, lacks_type}
 use Rattle.profile_rules.specs.Places.{is_variable, body_insts}
-use Rattle.profile_rules.specs.TypeRows.{is_type, is_vector, is_pointer, type_row, fails, differ, value_fails, is_other, one_if, count_in, is_not}
+use Rattle.profile_rules.specs.TypeRows.{is_type, type_row, fails, differ, value_fails, is_other, one_if, count_in, is_not}
 use Rattle.profile_rules.specs.TypeForm.{is_no_variable, is_other_parameter, is_other_result, is_other_function, is_other_pointer}
-use Rattle.profile_rules.specs.FlowRules.{function_type_if, function_type, is_misdeclared, breaks_t21_of}
-use Rattle.plan_law.specs.InOrder.{IsAmong, AreInOrder}
+use Rattle.profile_rules.specs.FlowRules.{function_type_if, function_type, is_misdeclared}
+use Rattle.plan_law.specs.InOrder.{IsAmong}
 use Rattle.plan_law.proofs.Order.{found, among_left, among_right}
 use Rattle.module_semantics.specs.Setting.{Setting}
-use Rattle.fits_law.specs.State.{value_shape, target_shape, IsLocal}
+use Rattle.fits_law.specs.State.{value_shape, IsLocal}
 use Rattle.type_law.proofs.Operands.{some_first}
 use Rattle.type_law.proofs.Vectors.{three_off}
 use Rattle.typed_law.specs.Conforms.{IsFormed, IsParameter, IsConforming, IsConformingIn}
-use Rattle.typed_law.proofs.Lists.{or_left, or_right, and_left, and_right, and_off, not_off, not_on, clash, no_true, same_some, any_none, found_in, earlier_some, some_by, some_of}
+use Rattle.typed_law.proofs.Lists.{or_left, or_right, and_left, and_off, not_off, clash, same_some, any_none, found_in, earlier_some, some_by}
 use Rattle.typed_law.proofs.Rules.{type_there, operand_there, global_there, pointed_type, types_there, declared_right}
-use Rattle.typed_law.proofs.Types.{type_shaped, pointee_shaped, row_is}
+use Rattle.typed_law.proofs.Types.{type_shaped, row_is}
 use Rattle.typed_law.proofs.Sized.{value_type_is}
 use Rattle.typed_law.proofs.Used.{used_sized}
 

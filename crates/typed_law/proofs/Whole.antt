@@ -1,27 +1,21 @@
 -- Each instruction of a conforming module's functions is typed, and so each step keeps values in the shapes of their types.
-use Rattle.std.proofs.Common.{◌≡◌, ◌<◌, ◌≤◌, ◌+◌, ◌==◌, ◌||◌, not, ℕ, zero, suc, Bool, true, false, List, [], ◌∷◌, length, take, drop, Option, Some, None, inl, inr, refl, sym, ap, subst, ◌∙◌, if◌then◌else◌, arith}
-use Rattle.std.specs.Prelude.{◌⊎◌, nat_le, find, option_map, option_and_then, Contains, slice_index}
-use Rattle.std.specs.Option.{option_map_or}
-use Rattle.std.proofs.lemmas.Bool.Decides.{eqb_tells, nat_tests}
-use Rattle.spv_ops.specs.Opcode.{is, number}
+use Rattle.std.proofs.Common.{◌≡◌, ◌<◌, ◌≤◌, ◌+◌, ◌==◌, ℕ, Bool, true, false, List, length, take, drop, Option, refl, sym, ap, subst, ◌∙◌, if◌then◌else◌, arith}
+use Rattle.std.specs.Prelude.{nat_le, Contains}
+use Rattle.std.proofs.lemmas.Bool.Decides.{nat_tests}
+use Rattle.spv_ops.specs.Opcode.{number}
 use Rattle.spv_ops.specs.Groups.{is_atomic}
-use Rattle.spv_ops.specs.Shape.{shape, count_of}
+use Rattle.spv_ops.specs.Shape.{shape}
 use Rattle.spv_ops.specs.Operands.{is_id}
 use Rattle.spv_ops.specs.OpGroups.{takes_of, group_of}
 use Rattle.spv_ops.specs.declared.Op.{Op}
 use Rattle.spv_ops.specs.declared.Op.TheVariants as code
-use Rattle.spv_ops.specs.declared.OpGroup.{OpGroup}
 use Rattle.spv_ops.specs.declared.OpGroup.TheVariants as groups
 use Rattle.spv_ops.specs.declared.Terminator.TheVariants as exit
 use Rattle.spv_module.specs.Inst.{has_type}
 use Rattle.spv_module.specs.declared.inst.Inst.{Inst}
 use Rattle.spv_module.specs.declared.inst.Function.{Function}
-use Rattle.spv_types.specs.Tree.{Tree}
-use Rattle.spv_types.specs.Types.{type_tree}
 use Rattle.spv_decor.specs.Rows.{word}
 use Rattle.spv_index.specs.Locals.{insts_of, type_in}
-use Rattle.op_semantics.specs.declared.operation.Operation.{Operation}
-use Rattle.op_semantics.specs.Value.{operation_of}
 use Rattle.profile_rules.specs.declared.needs.Need.TheVariants.{Callee, Value}
 use Rattle.profile_rules.specs.Operands.{need, first_or, is_there_in}
 use Rattle.profile_rules.specs.NumberRules.{points_to_other, is_no_content, has_no_int, breaks_t25_load}
@@ -29,16 +23,12 @@ use Rattle.profile_rules.specs.FlowRules.{breaks_t21, breaks_t24_value}
 use Rattle.profile_rules.specs.TypeRules.{is_flow_broken}
 use Rattle.plan_law.specs.InOrder.{IsAmong}
 use Rattle.module_semantics.specs.Setting.{Setting}
-use Rattle.module_semantics.specs.Operands.{literal_operands}
-use Rattle.module_semantics.specs.Steps.{step_kind, operation as operation_kind, act}
-use Rattle.module_semantics.specs.State.{Conf}
-use Rattle.fits_law.specs.State.{ConfFits, ActFits, ModuleFits}
-use Rattle.fits_law.specs.Typed.{IsOperation, IsTyped}
-use Rattle.fits_law.proofs.Steps.{fits_step}
+use Rattle.module_semantics.specs.Steps.{step_kind, operation as operation_kind}
+use Rattle.fits_law.specs.Typed.{IsTyped}
 use Rattle.type_law.specs.Shaped.{AreConstants, HasConstants}
 use Rattle.type_law.proofs.Constants.{constants_are}
-use Rattle.typed_law.specs.Conforms.{IsFormed, IsConforming}
-use Rattle.typed_law.proofs.Lists.{or_left, or_right}
+use Rattle.typed_law.specs.Conforms.{IsConforming}
+use Rattle.typed_law.proofs.Lists.{or_left}
 use Rattle.typed_law.proofs.Rules.{operand_there, value_right, number_right, flow_right}
 use Rattle.typed_law.proofs.Values.{inside, own_local, own_shape}
 use Rattle.typed_law.proofs.Operations.{four_off, Facts, given_by}
@@ -84,9 +74,12 @@ module _ (s : Setting) (entry : Option (List ℕ)) (right : IsConforming s.of en
   end_right is_it = let b = flow_right s.of entry right f in_it i there in ap (is_flow_broken s.of f b.0 i) (sym is_it) ∙ b.1
 
   operation_typed : IsTyped s f i operation_kind
-  operation_typed = (own_local s entry right f in_it i there, λ o t at shape.
-      let g = given_by s entry right f in_it i there t shape i.op o facts_of at in
-      (own_shape s entry right f in_it i there t shape, record { shapes = g.0; have = g.1; takes = g.2 }))
+  operation_typed = (
+    own_local s entry right f in_it i there,
+    λ o t at shape.
+        let g = given_by s entry right f in_it i there t shape i.op o facts_of at in
+        (own_shape s entry right f in_it i there t shape, record { shapes = g.0; have = g.1; takes = g.2 }),
+  )
 
   -- by the opcode
   typed_by : (p : Op) → i.op ≡ p → Facts s entry right f in_it i there p → IsTyped s f i (step_kind p)

@@ -1,10 +1,9 @@
 -- A module of words that break no rule is conforming: its instructions are formed, and have results apart.
-use Rattle.std.proofs.Common.{◌≡◌, ◌<◌, ◌≤◌, ◌+◌, ◌==◌, ◌&&◌, ◌||◌, not, ℕ, zero, suc, Bool, true, false, List, [], ◌∷◌, ◌++◌, length, map, take, drop, min, Option, Some, None, inl, inr, refl, sym, ap, subst, ◌∙◌, if◌then◌else◌, length-take, length-drop, arith}
+use Rattle.std.proofs.Common.{◌≡◌, ◌<◌, ◌≤◌, ◌+◌, ◌==◌, ◌&&◌, ◌||◌, not, ℕ, suc, Bool, true, false, List, [], ◌∷◌, ◌++◌, length, map, take, drop, min, Option, Some, None, inl, inr, refl, sym, ap, subst, ◌∙◌, if◌then◌else◌, length-take, length-drop, arith}
 use Rattle.std.specs.Prelude.{◌⊎◌, ◌-◌, find, nat_le, nat_lt, unwrap_or, option_map, Contains, slice_index, slice_index_or}
 use Rattle.std.specs.Option.{option_map_or}
 use Rattle.std.proofs.lemmas.Bool.Decides.{eqb_tells, nat_tests}
-use Rattle.spv_words.specs.Words.{insts, insts_from, nth_inst, slice, is_at_fault, first_fault}
-use Rattle.spv_words.specs.Breaks.{NoRuleBroken}
+use Rattle.spv_words.specs.Words.{insts, nth_inst, slice, is_at_fault}
 use Rattle.spv_words.specs.declared.rule.Rule.TheVariants.{T1}
 use Rattle.spv_words.specs.declared.rule.Refusal.{Refusal}
 use Rattle.spv_words.specs.declared.words.Inst1.{Inst1}
@@ -13,9 +12,9 @@ use Rattle.spv_ops.specs.Shape.{shape, count_of, has_room}
 use Rattle.spv_ops.specs.declared.opcode.Op.{Op}
 use Rattle.spv_ops.specs.declared.opcode.Op.TheVariants as op
 use Rattle.spv_module.specs.declared.kind.Kind.{Kind}
-use Rattle.spv_module.specs.declared.kind.Kind.TheVariants.{Debug, Head, Global, Undef, Variable, Function as Opening_of, Parameter, End, Label, Other}
+use Rattle.spv_module.specs.declared.kind.Kind.TheVariants.{Debug, Global, Undef, Variable, Function as Opening_of, Parameter, End, Label, Other}
 use Rattle.spv_module.specs.declared.kind.Place.{Place}
-use Rattle.spv_module.specs.declared.kind.Place.TheVariants.{Outside, Opening}
+use Rattle.spv_module.specs.declared.kind.Place.TheVariants.{Outside}
 use Rattle.spv_module.specs.declared.inst.Id.{Id}
 use Rattle.spv_module.specs.declared.inst.Inst.{Inst}
 use Rattle.spv_module.specs.declared.inst.Function.{Function}
@@ -25,12 +24,11 @@ use Rattle.spv_module.specs.Counts.{lacks_inner, is_unknown, is_misfit, is_misfi
 use Rattle.spv_module.specs.Form.{after}
 use Rattle.spv_module.specs.State.{ModuleState}
 use Rattle.spv_module.specs.Held.{global}
-use Rattle.spv_module.specs.Broken.{Broken, form_rules}
-use Rattle.spv_module.specs.Ids.{is_out, result_by, result_of, results, has_result_out, HasIdOut}
+use Rattle.spv_module.specs.Ids.{is_out, result_by, result_of, results, HasIdOut}
 use Rattle.spv_module.specs.Lists.{id as id_of, is_global, globals_from, globals, with_inst, block_insts, block, with_block, blocks, with_param, params, function, with_function, functions_from, functions, module_of}
-use Rattle.spv_index.specs.Locals.{insts_of, parameter_in}
+use Rattle.spv_index.specs.Locals.{insts_of}
 use Rattle.profile_rules.specs.TypeRules.{broken, Broken as BrokenTypes}
-use Rattle.plan_law.specs.InOrder.{IsAmong, AreRising}
+use Rattle.plan_law.specs.InOrder.{IsAmong}
 use Rattle.plan_law.specs.Distinct.{IsNone, AreDistinct}
 use Rattle.plan_law.proofs.Listed.{flat, globals_rise, distinct}
 use Rattle.plan_law.proofs.Owned.{parameter_result}
@@ -184,8 +182,11 @@ module _ (ws : List ℕ) where
     no_zero has zero_is =
         let at : nat_lt (1 + count_of (has_type O)) x.len ≡ true = behind (has_type O) (has_result O) x.len has roomy in
         let out : is_out (slice_index ws 3) (inst_of ws x).result ≡ true = ap (is_out (slice_index ws 3)) zero_is in
-        listed (is_there, inl (or_right_on (has_type O && (nat_lt 1 x.len && is_out (slice_index ws 3) (inst_of ws x).ty)) (has_result O && (nat_lt (1 + count_of (has_type O)) x.len && is_out (slice_index ws 3) (inst_of ws x).result))
-        (both_on (has_result O) (nat_lt (1 + count_of (has_type O)) x.len && is_out (slice_index ws 3) (inst_of ws x).result) has (both_on (nat_lt (1 + count_of (has_type O)) x.len) (is_out (slice_index ws 3) (inst_of ws x).result) at out))))
+        listed (
+          is_there,
+          inl (or_right_on (has_type O && (nat_lt 1 x.len && is_out (slice_index ws 3) (inst_of ws x).ty)) (has_result O && (nat_lt (1 + count_of (has_type O)) x.len && is_out (slice_index ws 3) (inst_of ws x).result))
+              (both_on (has_result O) (nat_lt (1 + count_of (has_type O)) x.len && is_out (slice_index ws 3) (inst_of ws x).result) has (both_on (nat_lt (1 + count_of (has_type O)) x.len) (is_out (slice_index ws 3) (inst_of ws x).result) at out))),
+        )
       where
         behind : (t r : Bool) (len : ℕ) → r ≡ true → 1 + count_of t + count_of r ≤ len → nat_lt (1 + count_of t) len ≡ true
         behind true true len e le = grind (arith, nat_tests, le)
@@ -340,12 +341,12 @@ module _ (ws : List ℕ) (entry : Option (List ℕ)) (right : BreakNone ws entry
   of_all : (x : Inst1) → IsOne x (insts ws) → (kind_of ws x ≡ Debug → ⊥) → IsFormed (inst_of ws x)
   of_all x one is_there =
       formed ws x (none_found (is_at_fault (length ws)) (insts ws) x right.uncut one)
-      (by_place (λ y. is_unknown ws y ≡ false) nowhere (insts ws) (λ k less. not_true (is_unknown ws (nth_inst ws k)) (λ on. right.form.1.0 (nth_inst ws k).start (k, less, refl, on))) x one)
-      (by_place (λ y. is_misfit ws y ≡ false) nowhere (insts ws) (λ k less. not_true (is_misfit ws (nth_inst ws k)) (λ on. right.form.1.1.0 (nth_inst ws k).start (k, less, refl, on))) x one)
-      (by_place (λ y. HasIdOut ws y → ⊥) nowhere (insts ws) (λ k less out. right.form.1.1.1.0 (nth_inst ws k).start (k, less, refl, inl out)) x one) is_there
+      (by_place (λ y. is_unknown ws y ≡ false) nowhere (insts ws) (λ k less. not_true (is_unknown ws (nth_inst ws k)) (λ on. right.form.0 (nth_inst ws k).start (k, less, refl, on))) x one)
+      (by_place (λ y. is_misfit ws y ≡ false) nowhere (insts ws) (λ k less. not_true (is_misfit ws (nth_inst ws k)) (λ on. right.form.1.0 (nth_inst ws k).start (k, less, refl, on))) x one)
+      (by_place (λ y. HasIdOut ws y → ⊥) nowhere (insts ws) (λ k less out. right.form.1.1.0 (nth_inst ws k).start (k, less, refl, inl out)) x one) is_there
 
   apart : AreDistinct (results ws)
-  apart = distinct ws right.form.1.1.1.0
+  apart = distinct ws right.form.1.1.0
 
   result_is : (x : Inst1) → (kind_of ws x ≡ Debug → ⊥) → result_of ws x ≡ (inst_of ws x).result
   result_is x far = result_by_other (kind_of ws x) (inst_of ws x) far
@@ -419,7 +420,7 @@ module _ (ws : List ℕ) (entry : Option (List ℕ)) (right : BreakNone ws entry
   conforming_in f there =
       let made = made_of f there in
       record {
-        order = are_in_order ws right.form.1.1.1.0 right.form.1.1.1.1.0 (λ at has. none_in (module_of ws) right.typed at has) f there;
+        order = are_in_order ws right.form.1.1.0 right.form.1.1.1.0 (λ at has. none_in (module_of ws) right.typed at has) f there;
         formed = λ i stands. let w = made.insts i stands in subst IsFormed w.2 (of_all w.0 w.1 w.3);
         outside = λ p stands. parameter_outside p (made.params p stands);
         found = λ p stands. ap (λ (o : Option (Id × Id)). option_map (λ (q : Id × Id). q.1.0) o) (found_param f.params p stands (λ q q_in same. parameter_alone p q (made.params p stands) (made.params q q_in) same));

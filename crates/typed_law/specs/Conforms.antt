@@ -2,12 +2,13 @@
 use Rattle.std.specs.Prelude.{◌≡◌, ◌≤◌, ◌+◌, ◌⊎◌, ℕ, true, false, List, [], ◌∷◌, length, Contains, Option, Some, None}
 use Rattle.spv_words.specs.Words.{first_fault}
 use Rattle.spv_words.specs.Breaks.{NoRuleBroken}
+use Rattle.spv_words.specs.declared.rule.Rule.TheVariants.{P1, P2, P3, P4}
 use Rattle.spv_ops.specs.Shape.{shape, count_of}
 use Rattle.spv_module.specs.Inst.{has_type, has_result}
 use Rattle.spv_module.specs.State.{ModuleState}
 use Rattle.spv_module.specs.Held.{global}
 use Rattle.spv_module.specs.Lists.{module_of}
-use Rattle.spv_module.specs.Broken.{Broken as BrokenForm, form_rules}
+use Rattle.spv_module.specs.Broken.{Broken as BrokenForm}
 use Rattle.spv_module.specs.declared.inst.Id.{Id}
 use Rattle.spv_module.specs.declared.inst.Inst.{Inst}
 use Rattle.spv_module.specs.declared.inst.Function.{Function}
@@ -18,10 +19,10 @@ use Rattle.profile_rules.specs.AccessRules.{Broken as BrokenAccess, access_rules
 use Rattle.plan_law.specs.InOrder.{IsAmong, AreRising, AreInOrder}
 use Rattle.type_law.specs.Shaped.{HaveResults}
 
--- the words break none of the rules on form, on declarations, on types and on accesses, where an entry point of this name is asked for, if any; and none of their instructions is empty or cut short
+-- the words break none of the rules on the form of a module (P1 to P4), on declarations, on types and on accesses, where an entry point of this name is asked for, if any; and none of their instructions is empty or cut short
 pub record BreakNone (ws : List ℕ) (entry : Option (List ℕ)) : Type 0 where
   pub uncut : first_fault ws ≡ None
-  pub form : NoRuleBroken (BrokenForm ws) form_rules
+  pub form : NoRuleBroken (BrokenForm ws) (P1 ∷ P2 ∷ P3 ∷ P4 ∷ [])
   pub declared : NoRuleBroken (BrokenData (module_of ws) entry) data_rules
   pub typed : broken (module_of ws) ≡ []
   pub accessed : NoRuleBroken (BrokenAccess (module_of ws)) access_rules
