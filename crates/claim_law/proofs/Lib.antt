@@ -4,3 +4,4 @@ pub mod Named
 pub mod Words
 pub mod Apart
 pub mod Told
+pub mod Flags

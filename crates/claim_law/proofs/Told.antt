@@ -107,12 +107,12 @@ module _ (found : Key → Option Text) (names : AreNames found) where
   told_stmt s has = stmt-spelled (told found) value_name member_name given_name s has
 
 -- a key that has a name is told
-pub named_given : (found : Key → Option Text) (key : Key) → HasName found key → IsGiven found (text_of found key)
-named_given found key named = by_name (found key) refl named
+pub named_is : (found : Key → Option Text) (key : Key) → HasName found key → found key ≡ Some (text_of found key)
+named_is found key named = by_name (found key) refl named
   where
-    by_name : (o : Option Text) → found key ≡ o → is_some o ≡ true → IsGiven found (unwrap_or o [])
+    by_name : (o : Option Text) → found key ≡ o → is_some o ≡ true → found key ≡ Some (unwrap_or o [])
     by_name None is named = cc
-    by_name (Some w) is named = (key, is)
+    by_name (Some w) is named = is
 
 pub named_told : (found : Key → Option Text) (key : Key) → HasName found key → (told found).value (text_of found key)
-named_told found key named = inl (named_given found key named)
+named_told found key named = inl (key, named_is found key named)

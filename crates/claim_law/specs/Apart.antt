@@ -28,3 +28,7 @@ is_flow (Leave label) = true
 is_flow (Fell label) = true
 is_flow (Spare from to number) = true
 is_flow _ = false
+
+-- the name of a flag or of a spare
+abbrev pub IsFlow : (Key → Option Text) → Text → Type 0
+IsFlow found x = (key : Key) × (is_flow key ≡ true) × (found key ≡ Some x)
