@@ -15,3 +15,4 @@ pub mod Ways
 pub mod Reached
 pub mod Writings
 pub mod Asked
+pub mod Order
