@@ -150,7 +150,7 @@ module _ (s : Setting) (y : StructNames) (k : Kind) where
         ap₂ (λ a b. end_from k (aligned from a + b) (trees_of (fields_in s y id (j + 1) ts))) (align_same t h.0) (size_same t h.0)
         ∙ end_same id (j + 1) (aligned from (alignment_of k t) + size_of k t) ts h.1
 
-  stride_same : (t : Tree) → HasLengths t → stride_over k (S t) ≡ stride_over k t
+  pub stride_same : (t : Tree) → HasLengths t → stride_over k (S t) ≡ stride_over k t
   stride_same t h = ap₂ (λ a b. aligned a (whole_alignment k b)) (size_same t h) (align_same t h)
 
   -- the offset of a member by the layout, and by the decorations
@@ -163,7 +163,7 @@ module _ (s : Setting) (y : StructNames) (k : Kind) where
       ∙ ap (member_offset s ty) (let next : j + 1 + i ≡ j + suc i = omega arith in next)
 
   -- the parts are laid out too, and have lengths
-  member_laid : (ty j from : ℕ) (ts : Trees) (i : ℕ) (u : Tree) → AreLaidOut s k ty j from ts → nth_of ts i ≡ Some u → IsLaidOut s k (part_type s ty (j + i)) u
+  pub member_laid : (ty j from : ℕ) (ts : Trees) (i : ℕ) (u : Tree) → AreLaidOut s k ty j from ts → nth_of ts i ≡ Some u → IsLaidOut s k (part_type s ty (j + i)) u
   member_laid ty j from no_trees i u l at = cc
   member_laid ty j from (tree t ts) zero u l at = subst (λ a. IsLaidOut s k (part_type s ty a) u) (let none : j ≡ j + 0 = omega arith in none) (subst (IsLaidOut s k (part_type s ty j)) (some_same t u at) l.1)
   member_laid ty j from (tree t ts) (suc i) u l at = subst (λ a. IsLaidOut s k (part_type s ty a) u) (let next : j + 1 + i ≡ j + suc i = omega arith in next) (member_laid ty (j + 1) _ ts i u l.2 at)

@@ -16,3 +16,4 @@ pub mod Reached
 pub mod Writings
 pub mod Asked
 pub mod Order
+pub mod Lengths

@@ -1,5 +1,5 @@
 -- Where P3 and T1 are not broken, the chains of a function stand behind what makes their bases, each with a result of its own.
-use Rattle.std.proofs.Common.{◌≡◌, ◌≢◌, ◌⊎◌, ◌<◌, ◌≤◌, ◌+◌, ◌==◌, ◌&&◌, ◌||◌, not, ℕ, zero, suc, Bool, true, false, List, [], ◌∷◌, Option, Some, None, inl, inr, refl, sym, ap, ◌∙◌, subst, arith, if◌then◌else◌}
+use Rattle.std.proofs.Common.{◌≡◌, ◌≢◌, ◌⊎◌, ◌<◌, ◌≤◌, ◌+◌, ◌==◌, ◌&&◌, ◌||◌, not, ℕ, zero, Bool, true, false, List, [], ◌∷◌, Some, inl, inr, refl, sym, ap, ◌∙◌, subst, arith, if◌then◌else◌}
 use Rattle.std.specs.Prelude.{find, is_some, nat_lt, slice_index}
 use Rattle.std.specs.Option.{option_map_or}
 use Rattle.std.specs.List.{enumerate_from, list_any}
@@ -10,16 +10,14 @@ use Rattle.spv_ops.specs.Operands.{is_id}
 use Rattle.spv_ops.specs.declared.Op.{Op}
 use Rattle.spv_ops.specs.declared.Op.TheVariants as code
 use Rattle.spv_module.specs.State.{ModuleState}
-use Rattle.spv_module.specs.Held.{global}
 use Rattle.spv_module.specs.declared.inst.Inst.{Inst}
 use Rattle.spv_module.specs.declared.inst.Function.{Function}
 use Rattle.spv_types.specs.Types.{if_earlier}
-use Rattle.spv_index.specs.Locals.{insts_of, inst_in, parameter_in, typed}
-use Rattle.profile_rules.specs.declared.needs.Need.{Need}
+use Rattle.spv_index.specs.Locals.{insts_of, parameter_in, typed}
 use Rattle.profile_rules.specs.declared.needs.Need.TheVariants.{Value}
-use Rattle.profile_rules.specs.Operands.{need, suits, is_global, is_in_function, is_local_before, is_there_in, lacks_operand, lacks, breaks_t1_in}
+use Rattle.profile_rules.specs.Operands.{need, suits, is_local_before, is_there_in, lacks_operand, breaks_t1_in}
 use Rattle.module_semantics.specs.Steps.{base}
-use Rattle.plan_law.specs.InOrder.{IsAmong, AreRising, HaveNot, AreApart, IsOwn, AreInOrder}
+use Rattle.plan_law.specs.InOrder.{IsAmong, AreRising, AreApart, IsOwn, AreInOrder}
 use Rattle.plan_law.proofs.Order.{not_among}
 use Rattle.path_law.specs.Chains.{NoneMakes, ChainsRise}
 
@@ -105,9 +103,10 @@ module _ (m : ModuleState) (f : Function) (order : AreInOrder m f) (some : (i : 
 
   rise_on : (n : ℕ) (is : List Inst) → AreRising n is → AreApart is → ((j : Inst) → IsAmong j is → IsAmong j (insts_of f)) → ChainsRise is
   rise_on n [] rising apart all = tt
-  rise_on n (i ∷ is) rising apart all =
-      (λ on. (none_behind (base i) (i ∷ is) (λ j at too same. behind j at too same on), none_behind i.result is (λ j at too same. not_among i.result j is (apart.0 (some i (all i (inl refl)) on)) at same)),
-      rise_on (i.at + 1) is rising.1 apart.1 (λ j at. all j (inr at)))
+  rise_on n (i ∷ is) rising apart all = (
+    λ on. (none_behind (base i) (i ∷ is) (λ j at too same. behind j at too same on), none_behind i.result is (λ j at too same. not_among i.result j is (apart.0 (some i (all i (inl refl)) on)) at same)),
+    rise_on (i.at + 1) is rising.1 apart.1 (λ j at. all j (inr at)),
+  )
     where
       no_less : (a b : ℕ) → a < b → b ≤ a → ⊥
       no_less a b less le = omega (arith, less, le)

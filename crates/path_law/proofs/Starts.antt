@@ -102,7 +102,7 @@ none_there z x off = by_found (found_in z.frames x) refl
     by_found (Some v) is = let never : true ≡ false = sym (in_found z.frames x v is) ∙ off in cc
 
 -- what stands outside of functions
-outside_is : (p : Program) (z : State) (x : Text) → has_in z.frames x ≡ false → found z.globals x ≡ None → named p z x ≡ p.things x
+pub outside_is : (p : Program) (z : State) (x : Text) → has_in z.frames x ≡ false → found z.globals x ≡ None → named p z x ≡ p.things x
 outside_is p z x off none =
     ap (λ (o : Option Variable). elim (or_outer o (found z.globals x)) as (λ q. Option Thing) [ Some y ↦ Some (variable_of x y) | None ↦ p.things x ]) (none_there z x off)
     ∙ ap (λ (o : Option Variable). elim o as (λ q. Option Thing) [ Some y ↦ Some (variable_of x y) | None ↦ p.things x ]) none
@@ -117,7 +117,7 @@ global_is p z x u off there =
 bytes_same_text : (w : Text) → bytes_eq w w ≡ true
 bytes_same_text w = (bytes_eq-Decides w w).1 refl
 
-member_in_block : (s : Setting) (y : StructNames) (at : BlockPlace) (kind : Kind) (n : ℕ) → ((j k : ℕ) → j < k → bytes_eq (y.member_name n j) (y.member_name n k) ≡ false) → (ts : Trees) (k i j : ℕ) (u : Tree) → j ≡ k + i → nth_of ts i ≡ Some u
+pub member_in_block : (s : Setting) (y : StructNames) (at : BlockPlace) (kind : Kind) (n : ℕ) → ((j k : ℕ) → j < k → bytes_eq (y.member_name n j) (y.member_name n k) ≡ false) → (ts : Trees) (k i j : ℕ) (u : Tree) → j ≡ k + i → nth_of ts i ≡ Some u
     → block_member at kind (members_in s y n k ts) (y.member_name n j) ≡ Some (memory (site_at at kind (member_offset s n j)) (shape_in s y u))
 member_in_block s y at kind n apart no_trees k i j u same part = cc
 member_in_block s y at kind n apart (tree t ts) k zero j u same part =
@@ -144,7 +144,7 @@ shared_along : (rest : List ℕ) (t : Tree) (way : List ℕ) (k : ℕ) → site_
 shared_along [] t way k = ap (in_shared k) (none_more way)
 shared_along (i ∷ rest) t way k = shared_along rest (part_tree t i) (way ++ i ∷ []) k ∙ ap (in_shared k) (joined way rest i)
 
-member_lengths : (ts : Trees) (i : ℕ) (u : Tree) → HaveLengths ts → nth_of ts i ≡ Some u → HasLengths u
+pub member_lengths : (ts : Trees) (i : ℕ) (u : Tree) → HaveLengths ts → nth_of ts i ≡ Some u → HasLengths u
 member_lengths no_trees i u h at = cc
 member_lengths (tree t ts) zero u h at = subst HasLengths (some_same t u at) h.0
 member_lengths (tree t ts) (suc i) u h at = member_lengths ts i u h.1 at
