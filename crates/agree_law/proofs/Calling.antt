@@ -27,7 +27,7 @@ module _ (C : Type 0) (step : C → Move C) where
   fails_then {A} {B} c (waits e) f b = b
   fails_then {A} {B} c (stuck e) f b = b
 
-  come_events : (t : Option Shape) (o : Run) → events_of (as_outcome (come_back t o)) ≡ events_of o
+  pub come_events : (t : Option Shape) (o : Run) → events_of (as_outcome (come_back t o)) ≡ events_of o
   come_events t (normal e y) = by_test (is_result t None) e None y
     where
       by_test : (b : Bool) (e : List Event) (r : Option Typed) (y : State) → events_of (as_outcome (with_result b e r y)) ≡ e

@@ -9,3 +9,5 @@ pub mod TopText
 pub mod Entering
 pub mod OneFunction
 pub mod AllFunctions
+pub mod FirstRun
+pub mod Preserving

@@ -3,3 +3,4 @@ pub mod UnderWay
 pub mod Passed
 pub mod Tops
 pub mod Texts
+pub mod First
