@@ -5,3 +5,4 @@ pub mod Words
 pub mod Apart
 pub mod Told
 pub mod Flags
+pub mod Constants

@@ -61,7 +61,7 @@ named_by p i number block at among named =
     zero_first n = omega arith
 
 module _ (m : ModuleState) (o : Options) (unit : TranslationUnit) (u : IsUnitOf m o unit) where
-  abbrev Plans : List Plan
+  abbrev pub Plans : List Plan
   Plans = map (claims_by (source_of m o u.entry)) u.plans
 
   -- a key that the claims of the module's text have
