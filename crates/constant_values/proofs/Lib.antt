@@ -1,7 +1,5 @@
 pub mod Values
-pub mod Operations
 pub mod Parts
-pub mod Choices
 pub mod Calculation
 pub mod ZeroParts
 pub mod Evaluation

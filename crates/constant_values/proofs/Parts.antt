@@ -17,8 +17,11 @@ use Rattle.profile_rules.specs.Constants.{if_fits}
 use Rattle.op_semantics.specs.Fits.{fits, each_fits, fits_parts, count_of, elem_tree}
 use Rattle.constant_values.specs.Parts.{nth_tree, member_fits, part_fits}
 use Rattle.value_ops.specs.References.{referred}
-use Rattle.constant_values.proofs.Operations.{count_values}
 use Rattle.constant_values.proofs.Values.{and_false}
+
+count_values : (vs : List ValueTree) → count_of (values_in vs) ≡ length vs
+count_values [] = refl
+count_values (v ∷ vs) = omega (arith, count_values vs)
 
 nth_trees : (l : List Shape) (i : ℕ) → nth_tree (trees_of l) i ≡ option_map tree_of (slice_get l i)
 nth_trees [] i = refl

@@ -1,4 +1,3 @@
-pub mod Operating
 pub mod Parts
 pub mod Calculated
 pub mod Zeros

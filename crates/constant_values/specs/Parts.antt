@@ -1,5 +1,5 @@
 -- Parts of composites.
-use Rattle.std.specs.Prelude.{ℕ, zero, suc, ◌+◌, ◌==◌, ◌&&◌, Bool, false, nat_lt, Option, Some, None}
+use Rattle.std.specs.Prelude.{ℕ, zero, suc, ◌&&◌, Bool, false, nat_lt, Option, Some, None}
 use Rattle.std.specs.Option.{option_map_or}
 use Rattle.spv_module.specs.declared.tree.Length.{Length}
 use Rattle.spv_module.specs.declared.tree.Length.TheVariants.{Fixed, Spec}
@@ -25,19 +25,3 @@ part_fits (vector e n) i v = nat_lt i n && fits (elem_tree e) v
 part_fits (array t l) i v = array_part_fits t l i v
 part_fits (struct id ts) i v = member_fits ts i v
 part_fits _ i v = false
-
--- so many
-abbrev pub is_length : Length → ℕ → Bool
-is_length (Fixed n) k = n == k
-is_length (Spec id) k = false
-
-abbrev pub tree_count : Trees → ℕ
-tree_count no_trees = 0
-tree_count (tree t ts) = 1 + tree_count ts
-
--- the values of a shape have so many parts
-abbrev pub has_count : Tree → ℕ → Bool
-has_count (vector e n) k = n == k
-has_count (array t l) k = is_length l k
-has_count (struct id ts) k = tree_count ts == k
-has_count _ k = false

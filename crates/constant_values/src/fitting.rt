@@ -1,14 +1,11 @@
 // Whether a value has a shape.
-ghost use Rattle.std.specs.Prelude.{◌≡◌, map, true, IfOk, option_map, option_and_then};
+ghost use Rattle.std.specs.Prelude.{◌≡◌, map, true, option_map, option_and_then};
 ghost use Rattle.profile_rules.specs.Constants.{if_fits};
 ghost use Rattle.spv_types.specs.Tree.{vector, array, many, values_in, truth, word};
 ghost use Rattle.spv_types.specs.View.{tree_of, trees_of, value_of};
 ghost use Rattle.op_semantics.specs.Fits.{fits as fits_tree, each_fits, fits_parts as fits_trees, elem_tree};
 
 use spv_module::{Elem, Length, Shape, Value};
-use spv_words::Memory;
-use std::alloc::Global;
-use value_ops::copied;
 
 /// Whether the value has this shape.
 #[cycle(fitting)]
@@ -124,16 +121,5 @@ pub fn fitting(shape: &Shape, value: Option<Value>) -> Option<Value>
         Some(value)
     } else {
         None
-    }
-}
-
-/// A copy of a value that has this shape; of another there is none, and nothing is copied.
-pub fn kept(alloc: Global, shape: &Shape, value: &Value) -> Result<Option<Value>, Memory>
-    ensures { IfOk result (λ v. option_map value_of v ≡ if_fits (tree_of shape.now) (value_of value.now)) }
-{
-    if fits(shape, value) {
-        Ok(Some(copied(alloc, value)?))
-    } else {
-        Ok(None)
     }
 }

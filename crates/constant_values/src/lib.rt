@@ -2,12 +2,10 @@
 #![tactic(auto)]
 
 mod assemble;
-mod choose;
 mod evaluate;
 mod fitting;
 mod inner_ops;
 mod operate;
-mod scalars;
 mod zeros;
 
 pub use evaluate::{Constants, Special, resolve};
