@@ -1,6 +1,6 @@
 -- What is asked of where paths begin, met by computing: of a module that reads an element of a buffer by a built-in variable, and of what is declared for it.
-use Rattle.std.proofs.Common.{◌≡◌, ◌++◌, ℕ, false, List, [], ◌∷◌, Option, Some, None, inl, refl}
-use Rattle.std.specs.Prelude.{codes, bytes_eq, slice_index_or, if◌then◌else◌, ◌==◌, ◌||◌}
+use Rattle.std.proofs.Common.{Bool, true, false, sym, ap, ◌∙◌, subst, inr, ◌≡◌, ◌++◌, ℕ, false, List, [], ◌∷◌, Option, Some, None, inl, refl}
+use Rattle.std.specs.Prelude.{not, ◌&&◌, codes, bytes_eq, slice_index_or, if◌then◌else◌, ◌==◌, ◌||◌}
 use Rattle.spv_ops.specs.declared.Op.TheVariants as code
 use Rattle.spv_ops.specs.Opcode.{op_of, number}
 use Rattle.spv_ops.specs.Shape.{shape}
@@ -8,13 +8,14 @@ use Rattle.spv_ops.specs.Operands.{is_id}
 use Rattle.spv_ops.specs.OpGroups.{group_of}
 use Rattle.spv_module.specs.Lists.{module_of, id}
 use Rattle.spv_module.specs.Inst.{known}
+use Rattle.spv_module.specs.declared.inst.Inst.{Inst}
 use Rattle.spv_module.specs.Kinds.{kind_of_opcode, kind_of_op}
 use Rattle.spv_module.specs.State.{ModuleState}
 use Rattle.spv_module.specs.declared.inst.Function.{Function}
 use Rattle.spv_decor.specs.Rows.{key_of}
 use Rattle.spv_types.specs.Tree as plain
 use Rattle.spv_types.specs.Tree.{tree, no_trees, word, many, values_in}
-use Rattle.spv_types.specs.Types.{kind, below}
+use Rattle.spv_types.specs.Types.{kind, below, type_tree}
 use Rattle.spv_module.specs.declared.tree.Elem.TheVariants as elem
 use Rattle.layout_rules.specs.declared.Kind.TheVariants.{Std430}
 use Rattle.layout_rules.specs.Sizes.{aligned}
@@ -29,19 +30,31 @@ use Rattle.name_alloc.specs.declared.claims.Key.TheVariants.{Id, Member}
 use Rattle.access_paths.specs.Ways.{path}
 use Rattle.glsl_ast.specs.Tree.{Text, Expr, name, literal, Decl}
 use Rattle.glsl_ast.specs.declared.expressions.Literal.TheVariants.{Uint}
-use Rattle.glsl_semantics.specs.Shapes.{uint}
+use Rattle.glsl_semantics.specs.Shapes.{uint, Typed, typed}
+use Rattle.glsl_semantics.specs.States.{State}
+use Rattle.traces.specs.Outcomes.{Result}
+use Rattle.type_law.specs.Shaped.{AreConstants}
+use Rattle.spv_index.specs.Locals.{insts_of}
+use Rattle.module_semantics.specs.Steps.{step_kind, base}
+use Rattle.spv_module.specs.declared.inst.Block.{Block as BlockOf}
+use Rattle.std.proofs.lemmas.Bool.Decides.{eqb_tells}
 use Rattle.glsl_semantics.specs.Items.{declared_by}
-use Rattle.glsl_semantics.specs.Expressions.{Program}
+use Rattle.glsl_semantics.specs.Expressions.{Program, Argument}
 use Rattle.text_rules.specs.Constants.{Source}
 use Rattle.text_rules.specs.Declarations.{Names, declarations}
 use Rattle.vec_lowering.specs.Component.{axis_name}
 use Rattle.expr_forward.specs.Paths.{place_expr, literal_word}
 use Rattle.agree_law.specs.Agree.{Naming}
-use Rattle.path_law.specs.Walks.{writing}
+use Rattle.path_law.specs.Walks.{writing, SaysIndex}
+use Rattle.std.specs.List.{list_any}
+use Rattle.spv_ops.specs.Groups.{is_chain}
+use Rattle.path_law.specs.Chains.{NoneMakes, ChainsRise}
+use Rattle.path_law.specs.Writings.{IsWrittenStart, IsWrittenChain}
+use Rattle.path_law.proofs.Reached.{IsRightChain}
 use Rattle.path_law.specs.Starts.{IsBuiltIn, IsBlock}
 
 unfoldable opened : Unit {0}
-unfolding shape op_of number known is_id kind_of_opcode kind_of_op key_of kind below constant_kind group_of aligned breaks member_breaks members_break declared_by literal_word axis_name
+unfolding shape op_of number known is_id kind_of_opcode kind_of_op key_of kind below constant_kind group_of aligned breaks member_breaks members_break declared_by literal_word axis_name step_kind
 opened = tt
 
 -- %2 the built-in variable, %5 the buffer, a block of the struct %3 with a runtime array of uint; %17 and %19 chains, %18 a load
@@ -161,3 +174,120 @@ written = refl
 component : place_expr (writing s [] f key globals) 0 17 ≡ Expr.member (name (codes "gl_GlobalInvocationID")) (codes "x")
 unfolding opened
 component = refl
+
+-- %18 the load, %19 the chain of an element by it: in its own block, behind both
+abbrev component_chain : Inst
+component_chain = record { op = code.AccessChain; at = 104; ty = 11; result = 17; args = 2 ∷ 14 ∷ [] }
+
+abbrev loaded : Inst
+loaded = record { op = code.Load; at = 109; ty = 8; result = 18; args = 17 ∷ [] }
+
+abbrev element_chain : Inst
+element_chain = record { op = code.AccessChain; at = 113; ty = 13; result = 19; args = 5 ∷ 14 ∷ 18 ∷ [] }
+
+abbrev first_block : BlockOf
+first_block = slice_index_or f.blocks 0 (record { label = id 0; at = 0; insts = [] })
+
+-- order, by a test
+none_by : (n : ℕ) (is : List Inst) → list_any (λ (i : Inst). is_chain i.op && (i.result == n)) is ≡ false → NoneMakes n is
+none_by n [] e = tt
+none_by n (i ∷ is) e = ((λ on same. flipped (sym (both (is_chain i.op) (i.result == n) on (itself i.result n same)) ∙ first (is_chain i.op && (i.result == n)) _ e)), none_by n is (second (is_chain i.op && (i.result == n)) _ e))
+  where
+    flipped : true ≡ false → ⊥
+    flipped e = cc
+
+    both : (a b : Bool) → a ≡ true → b ≡ true → (a && b) ≡ true
+    both true b on e = e
+    both false b on e = cc
+
+    itself : (a b : ℕ) → a ≡ b → (a == b) ≡ true
+    itself a b same = elim (eqb_tells a b) [ inl w ↦ w.0 | inr w ↦ absurd (w.1 same) ]
+
+    first : (a b : Bool) → (a || b) ≡ false → a ≡ false
+    first true b e = cc
+    first false b e = refl
+
+    second : (a b : Bool) → (a || b) ≡ false → b ≡ false
+    second true b e = cc
+    second false b e = e
+
+abbrev makes : ℕ → List Inst → Bool
+makes n is = list_any (λ (i : Inst). is_chain i.op && (i.result == n)) is
+
+abbrev all_rise : List Inst → Bool
+all_rise [] = true
+all_rise (i ∷ is) = not (is_chain i.op && (makes (base i) (i ∷ is) || makes i.result is)) && all_rise is
+
+rise_by : (is : List Inst) → all_rise is ≡ true → ChainsRise is
+rise_by [] e = tt
+rise_by (i ∷ is) e =
+    let parts = both_on (not (is_chain i.op && (makes (base i) (i ∷ is) || makes i.result is))) (all_rise is) e in
+    ((λ on. let off = either (makes (base i) (i ∷ is)) (makes i.result is) (none (is_chain i.op) _ on parts.0) in (none_by (base i) (i ∷ is) off.0, none_by i.result is off.1)), rise_by is parts.1)
+  where
+    both_on : (a b : Bool) → (a && b) ≡ true → (a ≡ true) × (b ≡ true)
+    both_on true b e = (refl, e)
+    both_on false b e = cc
+
+    none : (a b : Bool) → a ≡ true → not (a && b) ≡ true → b ≡ false
+    none true true on e = cc
+    none true false on e = refl
+    none false b on e = cc
+
+    either : (a b : Bool) → (a || b) ≡ false → (a ≡ false) × (b ≡ false)
+    either true b e = cc
+    either false b e = (refl, e)
+
+same_word : (i j : ℕ) → Some (word i) ≡ Some (word j) → i ≡ j
+same_word i j e = cc
+
+module _ (calls : Text → List Argument → State → Result (Option Typed × State)) (z : State) where
+  starts_there : IsWrittenStart p calls z naming s [] f key globals 0 (element_chain ∷ loaded ∷ component_chain ∷ []) 5
+  unfolding opened
+  starts_there = record {
+    none = none_by 5 (insts_of f) refl;
+    type = 3;
+    shape = plain.struct 3 (tree (plain.runtime plain.uint) no_trees);
+    points_to = refl;
+    typed_as = refl;
+    kind = inr (inr (refl, inr (inr (inr block))));
+  }
+
+  constant_says : (j : ℕ) → s.constants 14 ≡ Some (word j) → SaysIndex p calls z (literal (Uint 0)) j
+  unfolding opened
+  constant_says j e = subst (SaysIndex p calls z (literal (Uint 0))) (same_word 0 j e) (typed uint (word 0), refl, refl)
+
+  chain_there : IsWrittenChain p calls z naming s [] f key globals 0 (element_chain ∷ loaded ∷ component_chain ∷ []) element_chain
+  unfolding opened
+  chain_there = record {
+    of_function = inr (inr (inl refl));
+    kind = refl;
+    stands = 0;
+    block = first_block;
+    in_block = refl;
+    inst = inr (inr (inl refl));
+    made = λ on. inl refl;
+    own = refl;
+    base_shape = λ ty is. (plain.struct 3 (tree (plain.runtime plain.uint) no_trees), ap (type_tree s.of.globals) (sym (same_type 3 ty is)));
+    indexes =
+        (record { constant = λ j on e. constant_says j e; literal = λ l j told e. same_count 0 l told ∙ same_word 0 j e; here = λ off on. absurd (flipped off); elsewhere = λ off on. absurd (flipped off) }, (record { constant = λ j on e. absurd (flipped (sym on)); literal = λ l j told e. absurd (no_some l told); here = λ off on. record { itself = refl; own = refl; there = inr (refl, refl); number = tt }; elsewhere = λ off on. absurd (flipped on) }, tt));
+  }
+    where
+      flipped : true ≡ false → ⊥
+      flipped e = cc
+
+      same_type : (a b : ℕ) → Some a ≡ Some b → a ≡ b
+      same_type a b e = cc
+
+      same_count : (a b : ℕ) → Some a ≡ Some b → b ≡ a
+      same_count a b e = cc
+
+      no_some : (l : ℕ) → None ≡ Some l → ⊥
+      no_some l e = cc
+
+  right_there : (right : AreConstants s) → IsRightChain s f right element_chain
+  unfolding opened
+  right_there right = record { t6 = refl; typed = (refl, (refl, tt)); result = refl; to = 8; points_to = refl; shape = plain.uint; typed_as = refl }
+
+rises : ChainsRise (insts_of f)
+unfolding opened
+rises = rise_by (insts_of f) refl
