@@ -88,6 +88,7 @@ module _ (p : Program) (calls : Text → List Argument → State → Result (Opt
     pub at : from.top.block ≡ b
     pub there : slice_get f.blocks t ≡ Some block
     pub sources : each_one (phi_value s from.top (present_label from.top)) (phis block) ≡ Some values
+    pub holds : Holds from
 
   -- What is asked of the moves that are written of an edge: that they make copies at once, of what the phis with variables take, and each reads something.
   pub record IsEdge (b t : ℕ) (o : Body f b) (statements : List Stmt) : Type 0 where
@@ -152,7 +153,7 @@ module _ (p : Program) (calls : Text → List Argument → State → Result (Opt
       done = have_result (behind [] a.stops.body_of.insts)
 
       taken : IsTaken b t from a.block a.values
-      taken = record { function = a.stops.at.stands.function; at = a.stops.at.stands.block; there = a.there; sources = a.sources }
+      taken = record { function = a.stops.at.stands.function; at = a.stops.at.stands.block; there = a.there; sources = a.sources; holds = a.stops.at.stands.holds }
 
       r : Moved p calls k m apart done e.names e.spares e.types e.constants e.constants_say from (first_values from) e.moves z
       r = moves_run p calls k m apart done e.names e.spares e.types e.constants e.constants_say from e.moves from (first_values from) z e.typed_moves e.reads (e.all_read from a.block a.values taken)

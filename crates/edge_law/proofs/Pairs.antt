@@ -19,7 +19,7 @@ module _ (m : Naming) (constants before : ℕ → V) where
     | inr later ↦ inr later
   ]
 
-  abbrev Told : List Inst → List ValueTree → List Pair → (ℕ → Option Held) → ℕ → Type 0
+  abbrev pub Told : List Inst → List ValueTree → List Pair → (ℕ → Option Held) → ℕ → Type 0
   Told is vs ps ids n =
       ((q : Pair) × Contains ps q × (target q ≡ n) × (value_by V constants before q.1 ≡ as_value (with_phis is vs ids n)))
       ⊎ (((q : Pair) → Contains ps q → target q ≡ n → ⊥) × (with_phis is vs ids n ≡ ids n))

@@ -21,6 +21,30 @@ use Rattle.agree_law.specs.Blocks.{IsOf}
 use Rattle.edge_law.specs.Copies.{V, IsPaired, ArePairs}
 use Rattle.function_law.specs.Edges.{IsGiven, AreConstants}
 
+-- the live phis of a block are among its first instructions
+pub live_pairs : (gs : List Inst) (form : ℕ → Form) (f : Function) (b : ℕ) (is : List Inst) → flat_map (given_by gs f b) (filter (is_live_phi form) is) ≡ flat_map (given_by gs f b) (filter (is_live_phi form) (filter is_phi is))
+live_pairs gs form f b [] = refl
+live_pairs gs form f b (i ∷ is) = by_phi (is_phi i) refl (not (is_gone (form i.result))) refl (live_pairs gs form f b is)
+  where
+    Pairs : List Inst → List Pair
+    Pairs is = flat_map (given_by gs f b) (filter (is_live_phi form) is)
+
+    With : Bool → Inst → List Inst → List Pair
+    With t i is = flat_map (given_by gs f b) (if t then i ∷ filter (is_live_phi form) is else filter (is_live_phi form) is)
+
+    here : (t u : Bool) → is_phi i ≡ t → not (is_gone (form i.result)) ≡ u → is_live_phi form i ≡ (t && u)
+    here t u e g = ap (λ q. q && not (is_gone (form i.result))) e ∙ ap (λ q. t && q) g
+
+    by_phi : (t : Bool) → is_phi i ≡ t → (u : Bool) → not (is_gone (form i.result)) ≡ u → Pairs is ≡ Pairs (filter is_phi is) → Pairs (i ∷ is) ≡ Pairs (filter is_phi (i ∷ is))
+    by_phi false e u g later = ap (λ q. With q i is) (here false u e g) ∙ (later ∙ sym (ap (λ t. Pairs (if t then i ∷ filter is_phi is else filter is_phi is)) e))
+    by_phi true e u g later =
+        ap (λ q. With q i is) (here true u e g) ∙ (kept u
+        ∙ (sym (ap (λ q. With q i (filter is_phi is)) (here true u e g)) ∙ sym (ap (λ t. Pairs (if t then i ∷ filter is_phi is else filter is_phi is)) e)))
+      where
+        kept : (u : Bool) → With u i is ≡ With u i (filter is_phi is)
+        kept true = ap (λ l. given_by gs f b i ++ l) later
+        kept false = later
+
 module _ (m : Naming) (s : Setting) (gs : List Inst) (form : ℕ → Form) (f : Function) (b label : ℕ) (c : Conf) (constants : ℕ → V) (are : AreConstants gs s c.top constants) where
   -- the source of a pair has what the id has, where that is a value
   source_has : (n : ℕ) (u : ValueTree) → value_at s c.top n ≡ Some u → value_by V constants (value_of c) (source_of gs n) ≡ Some u
@@ -79,25 +103,7 @@ module _ (m : Naming) (s : Setting) (gs : List Inst) (form : ℕ → Form) (f : 
           let takes : value_at s c.top g.source.0 ≡ Some v = ap (λ (o : Option ℕ). elim o as (λ o. Option ValueTree) [ None ↦ None | Some n ↦ value_at s c.top n ]) (sym g.from) ∙ has in
           inr (subst (IsPaired m constants (value_of c) i v (ArePairs m constants (value_of c) is ws)) (sym text) (refl, source_has g.source.0 v takes, later))
 
-  -- the live phis of a block are among its first instructions
-  live_first : (is : List Inst) → Pairs is ≡ Pairs (filter is_phi is)
-  live_first [] = refl
-  live_first (i ∷ is) = by_phi (is_phi i) refl (not (is_gone (form i.result))) refl (live_first is)
-    where
-      here : (t u : Bool) → is_phi i ≡ t → not (is_gone (form i.result)) ≡ u → is_live_phi form i ≡ (t && u)
-      here t u e g = ap (λ q. q && not (is_gone (form i.result))) e ∙ ap (λ q. t && q) g
-
-      by_phi : (t : Bool) → is_phi i ≡ t → (u : Bool) → not (is_gone (form i.result)) ≡ u → Pairs is ≡ Pairs (filter is_phi is) → Pairs (i ∷ is) ≡ Pairs (filter is_phi (i ∷ is))
-      by_phi false e u g later = ap (λ q. With q i is) (here false u e g) ∙ (later ∙ sym (ap (λ t. Pairs (if t then i ∷ filter is_phi is else filter is_phi is)) e))
-      by_phi true e u g later =
-          ap (λ q. With q i is) (here true u e g) ∙ (kept u
-          ∙ (sym (ap (λ q. With q i (filter is_phi is)) (here true u e g)) ∙ sym (ap (λ t. Pairs (if t then i ∷ filter is_phi is else filter is_phi is)) e)))
-        where
-          kept : (u : Bool) → With u i is ≡ With u i (filter is_phi is)
-          kept true = ap (λ l. given_by gs f b i ++ l) later
-          kept false = later
-
   -- The pairs of the edge from a block are those of the phis of the block to which it leads.
   pub pairs_are : (block : Block) (vs : List ValueTree) → phis block ≡ filter is_phi block.insts → ((i : Inst) → IsOf i (phis block) → IsGiven m form f b label i) → each_one (phi_value s c.top label) (phis block) ≡ Some vs
       → ArePairs m constants (value_of c) (phis block) vs (pairs_into gs form f b block)
-  pairs_are block vs first all e = subst (ArePairs m constants (value_of c) (phis block) vs) (sym (live_first block.insts ∙ ap Pairs (sym first))) (pairs_are_in (phis block) vs all e)
+  pairs_are block vs first all e = subst (ArePairs m constants (value_of c) (phis block) vs) (sym (live_pairs gs form f b block.insts ∙ ap Pairs (sym first))) (pairs_are_in (phis block) vs all e)

@@ -11,3 +11,5 @@ pub mod OneFunction
 pub mod AllFunctions
 pub mod FirstRun
 pub mod Preserving
+pub mod PhiSources
+pub mod WholeEdges
