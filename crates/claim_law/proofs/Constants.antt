@@ -1,6 +1,6 @@
 -- In the text of a module each named constant has a name that a live instruction of a reached block mentions.
-use Rattle.std.proofs.Common.{◌≡◌, ◌+◌, ◌==◌, ◌&&◌, ◌||◌, ℕ, Bool, true, false, List, [], ◌∷◌, ◌++◌, Option, Some, find, inl, inr, refl, sym, ap, ◌∙◌, subst, arith, if◌then◌else◌}
-use Rattle.std.specs.Prelude.{flat_map, is_some, slice_get, slice_index_or}
+use Rattle.std.proofs.Common.{◌≡◌, ◌+◌, ◌==◌, ◌&&◌, ◌||◌, ℕ, Bool, true, false, List, [], ◌∷◌, ◌++◌, Some, find, inl, inr, refl, sym, ap, ◌∙◌, subst, arith, if◌then◌else◌}
+use Rattle.std.specs.Prelude.{flat_map, is_some, slice_index_or}
 use Rattle.std.specs.List.{enumerate_from, list_any}
 use Rattle.std.proofs.lemmas.Bool.Decides.{eqb_tells}
 use Rattle.spv_ops.specs.Opcode.{is, number}
@@ -11,20 +11,19 @@ use Rattle.spv_module.specs.State.{ModuleState}
 use Rattle.spv_module.specs.Held.{global}
 use Rattle.spv_module.specs.Lists.{id}
 use Rattle.spv_module.specs.declared.inst.Inst.{Inst}
-use Rattle.spv_module.specs.declared.inst.Block.{Block}
 use Rattle.use_chains.specs.Slots.{mentions}
 use Rattle.conformance.specs.Rules.{Options}
 use Rattle.name_alloc.specs.declared.claims.Key.TheVariants.{Id}
 use Rattle.name_alloc.specs.Naming.{name_of}
 use Rattle.glsl_ast.specs.Tree.{TranslationUnit}
 use Rattle.text_rules.specs.Constants.{Source, is_constant, reading, free_spec_id}
-use Rattle.text_rules.specs.Printed.{Reached, is_named, has_operand, needs_constant, declares, needed_with, needed_from, is_needed, is_declared_constant}
+use Rattle.text_rules.specs.Printed.{Reached, is_named, has_operand, needs_constant, declares, needed_from, is_needed, is_declared_constant}
 use Rattle.function_plan.specs.Planned.{is_live}
 use Rattle.function_text.specs.Functions.{FunctionPlan, written}
-use Rattle.function_text.specs.Live.{Liveness, mentions_of, in_block, in_function}
+use Rattle.function_text.specs.Live.{mentions_of, in_block}
 use Rattle.emit_glsl.specs.Unit.{claims_by, liveness_of, live_of, reached_of, source_of, IsUnitOf}
 use Rattle.claim_law.specs.Claimed.{IsIn, HasName, IsOf}
-use Rattle.claim_law.proofs.Listed.{numbered, at_place}
+use Rattle.claim_law.proofs.Listed.{numbered}
 use Rattle.claim_law.proofs.Keys.{constant_claimed}
 use Rattle.claim_law.proofs.Named.{Plans, has_name_of}
 
@@ -51,7 +50,7 @@ any_flat test f (y ∷ xs) x (inl same) on = any_left test (f y) (flat_map f xs)
 any_flat test f (y ∷ xs) x (inr among) on = any_right test (f y) (flat_map f xs) (any_flat test f xs x among on)
 
 -- what is found
-found_in : (gs : List Inst) (n : ℕ) (g : Inst) → find (λ (i : Inst). i.result == n) gs ≡ Some g → IsIn g gs × (g.result ≡ n)
+pub found_in : (gs : List Inst) (n : ℕ) (g : Inst) → find (λ (i : Inst). i.result == n) gs ≡ Some g → IsIn g gs × (g.result ≡ n)
 found_in [] n g is = cc
 found_in (i ∷ gs) n g is = by_test (i.result == n) refl is (found_in gs n g)
   where
@@ -67,7 +66,7 @@ unfolding number
 no_struct code.TypeStruct on = cc
 no_struct o on = refl
 
-both_on : (a b : Bool) → a ≡ true → b ≡ true → (a && b) ≡ true
+pub both_on : (a b : Bool) → a ≡ true → b ≡ true → (a && b) ≡ true
 both_on true b p q = q
 both_on false b p q = cc
 

@@ -107,8 +107,8 @@ module _ (m : ModuleState) (o : Options) (unit : TranslationUnit) (u : IsUnitOf 
   fell_is_flow = flag_is p.fell Fell (needs_fell (graph planned.0) (phi_blocks p.scope.form planned.0)) planned.1.fell_is (λ b block at on. fell_named m o unit u p b block among at on) (λ l. refl)
 
 -- such a name is told, and is none of the function's other names
-pub flow_told : (found : Key → Option Text) (x : Text) → IsFlow found x → (told found).value x
-flow_told found x is = inl (is.0, is.2)
+pub flow_told : (named : Key → Option Text) (x : Text) → IsFlow named x → (told named).value x
+flow_told named x is = inl (is.0, is.2)
 
-pub flows_other : (found : Key → Option Text) → AreNames found → (n : Names) → AreOfKeys found n → (x : Text) → IsFlow found x → IsOther n x
-flows_other found names n keys x is = flow_is_other found names n keys is.0 x is.1 is.2
+pub flows_other : (named : Key → Option Text) → AreNames named → (n : Names) → AreOfKeys named n → (x : Text) → IsFlow named x → IsOther n x
+flows_other named names n keys x is = flow_is_other named names n keys is.0 x is.1 is.2

@@ -6,3 +6,4 @@ pub mod Apart
 pub mod Told
 pub mod Flags
 pub mod Constants
+pub mod Variables

@@ -1,5 +1,5 @@
 -- The statements of a tree of regions are made of the names of its blocks, edges and flags.
-use Rattle.std.proofs.Common.{◌≡◌, ◌≤◌, ◌+◌, ℕ, Bool, true, false, List, [], ◌∷◌, ◌++◌, cond, Option, Some, None, is_some, length, nat_eq, inl, inr, refl, ◌∙◌, ap, arith, if◌then◌else◌}
+use Rattle.std.proofs.Common.{◌≡◌, ◌≤◌, ℕ, Bool, true, false, List, [], ◌∷◌, ◌++◌, cond, Option, Some, None, is_some, length, nat_eq, inl, inr, refl, ◌∙◌, ap, arith, if◌then◌else◌}
 use Rattle.std.specs.Option.{option_map_or, option_to_list}
 use Rattle.std.specs.Map.{update, update_all}
 use Rattle.std.proofs.lemmas.Bool.Decides.{eqb_tells}

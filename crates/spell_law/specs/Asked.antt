@@ -16,7 +16,7 @@ use Rattle.expr_forward.specs.Scope.{Scope, globals, type_of}
 use Rattle.expr_forward.specs.Context.{operand}
 use Rattle.expr_forward.specs.Kinds.{operation_kind_of}
 use Rattle.expr_forward.specs.Paths.{word_at, part_steps}
-use Rattle.expr_forward.specs.Values.{argument, value_words, literal_words, length_text, whole_argument, value}
+use Rattle.expr_forward.specs.Values.{argument, value_words, literal_words, length_text, whole_argument}
 use Rattle.block_law.specs.Ranked.{IsForwardedBy}
 use Rattle.spell_law.specs.Uses.{Words, UsesType, UsesExpr, UseSteps}
 use Rattle.spell_law.specs.Named.{FitsIfSome, AsksIfAny}
