@@ -1,18 +1,17 @@
 -- The words that are given to an invocation.
-use Rattle.std.proofs.Common.{◌≡◌, ℕ, ◌+◌, ◌<◌, ◌^◌, List, [], refl, sym, ap, ◌∙◌, subst, arith}
+use Rattle.std.proofs.Common.{◌≡◌, ℕ, ◌+◌, ◌<◌, ◌^◌, List, sym, ap, ◌∙◌, subst, arith}
 use Rattle.std.specs.Prelude.{Option, Some, None, IsSome, IfSome, option_and_then}
 use Rattle.traces.specs.Events as trace
 use Rattle.traces.specs.Invocations as told
 use Rattle.dispatch_semantics.specs.Dispatch.{later}
-use Rattle.group_items.specs.Events.{event_of, access_of, filled}
+use Rattle.group_items.specs.Events.{event_of, filled}
 use Rattle.group_items.specs.declared.event.Event.{Event}
-use Rattle.group_items.specs.Sides.{Begun, behind_event}
+use Rattle.group_items.specs.Sides.{behind_event}
 use Rattle.run_law.specs.Walks.{Walk}
 use Rattle.step_run.specs.declared.row.Row.{Row}
 use Rattle.step_run.specs.Steps.{IsResumed, event_asked}
-use Rattle.step_run.specs.declared.told.Told.{Told}
 use Rattle.step_run.specs.Kept.{told_by, asked_by, begun_of, IsGoing}
-use Rattle.step_run.specs.Asking.{CanTake, Asked, HasPlace, IsAnswered}
+use Rattle.step_run.specs.Asking.{CanTake, HasPlace, IsAnswered}
 use Rattle.step_run.specs.KeptAll.{IsKept}
 use Rattle.step_run.proofs.Onward.{answered_on, later_begun}
 use Rattle.step_run.proofs.Taking.{made_with, took_with}

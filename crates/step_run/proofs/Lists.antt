@@ -1,5 +1,5 @@
 -- Values of three parts.
-use Rattle.std.proofs.Common.{◌≡◌, ℕ, List, [], ◌∷◌, refl, ap, map}
+use Rattle.std.proofs.Common.{◌≡◌, List, [], ◌∷◌, refl, ap, map}
 use Rattle.std.specs.Prelude.{Some, slice_get}
 use Rattle.spv_module.specs.declared.tree.Value.{Value}
 use Rattle.spv_types.specs.Tree.{ValueTree, many, values_in}

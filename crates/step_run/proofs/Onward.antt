@@ -13,7 +13,7 @@ use Rattle.traces.specs.Invocations.{Invocation}
 use Rattle.run_law.specs.Walks.{Walk}
 use Rattle.step_run.specs.declared.row.Row.{Row}
 use Rattle.step_run.specs.Answers.{answers_in}
-use Rattle.step_run.specs.Kept.{told_by, told_events, untold_events, asked_by, begun_of, IsGoing, IsTold, IsSame}
+use Rattle.step_run.specs.Kept.{told_by, told_events, untold_events, asked_by, begun_of, IsGoing, IsTold}
 
 left_none : {A : Type 0} (xs ys : List A) → xs ++ ys ≡ [] → xs ≡ []
 left_none [] ys h = refl

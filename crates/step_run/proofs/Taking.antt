@@ -1,5 +1,5 @@
 -- What is asked of an invocation, and the words that it takes.
-use Rattle.std.proofs.Common.{◌≡◌, ℕ, ◌==◌, Bool, true, false, List, [], ◌∷◌, length, refl, ap}
+use Rattle.std.proofs.Common.{◌≡◌, ℕ, ◌==◌, Bool, true, false, List, [], ◌∷◌, length, refl}
 use Rattle.std.specs.Prelude.{Option, Some, None, IsSome, IfSome, option_and_then, if◌then◌else◌}
 use Rattle.traces.specs.Events as trace
 use Rattle.dispatch_semantics.specs.Store.{answers_of}

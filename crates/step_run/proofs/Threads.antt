@@ -1,7 +1,7 @@
 -- All invocations of a runner.
 use Rattle.std.proofs.Common.{◌≡◌, ◌≢◌, ℕ, zero, suc, ◌<◌, ◌==◌, Bool, true, false, List, [], ◌∷◌, ◌++◌, length, get_or, slice_set, refl, sym, ap, ◌∙◌, subst, arith}
 use Rattle.std.proofs.lemmas.Bool.Decides.{nat_tests}
-use Rattle.std.specs.Prelude.{Option, Some, None, IfSome, Result, Ok, Err, IfOk, OnErr, slice_get, if◌then◌else◌}
+use Rattle.std.specs.Prelude.{IfSome, Result, Ok, Err, IfOk, OnErr, slice_get, if◌then◌else◌}
 use Rattle.group_items.specs.Sides.{Begun, with_at}
 use Rattle.step_run.specs.declared.row.Thread.{Thread}
 use Rattle.step_run.specs.Kept.{begun_of}

@@ -1,5 +1,5 @@
 -- What a runner keeps of all its invocations. It has one proof at most.
-use Rattle.std.specs.Prelude.{◌≡◌, ℕ, zero, suc, ◌+◌, ◌<◌, List, [], ◌∷◌, ◌++◌, Option, Some, None, IfSome, length, slice_get, vec_len, vec_capacity}
+use Rattle.std.specs.Prelude.{◌≡◌, ℕ, zero, suc, ◌+◌, List, [], ◌∷◌, ◌++◌, Option, Some, None, IfSome, length, slice_get}
 use Rattle.std.specs.Coded.{Coded-set, coded_list, coded_ℕ, coded_option, ×_prop, Π_prop, Unit-prop, le_prop}
 use Rattle.traces.specs.Events as trace
 use Rattle.traces.specs.Invocations as told

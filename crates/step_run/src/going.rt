@@ -3,7 +3,7 @@ ghost use Rattle.std.specs.Prelude.{◌≡◌, ◌<◌, ◌+◌, ◌^◌, ℕ, [
 ghost use Rattle.group_items.specs.Sides.{IsNext, behind_pause};
 ghost use Rattle.group_items.specs.Events.{access_of, event_of};
 ghost use Rattle.step_run.specs.Kept.{Course, IsGoing, IsSame, untold_events, begun_of, behind_step, runs_of};
-ghost use Rattle.step_run.specs.Asking.{HasAsked, Asked};
+ghost use Rattle.step_run.specs.Asking.{HasAsked, Asked, HasStepped, HasPaused, IsIdle};
 
 use crate::copies::with_room;
 use crate::program::{Program, Step};
@@ -40,11 +40,9 @@ fn take_step<P: Program>(
     requires small { course.steps < 2 ^ 64 }
     ensures next { IfOk result (λ pause. IfSome pause (IsNext (runs_of course.start course.steps) (begun_of row.old))) }
     ensures behind { IfOk result (λ pause. begun_of row.new ≡ behind_step (begun_of row.old) pause) }
-    ensures used { IfOk result (λ pause. MatchOption pause (row.new.used ≡ row.old.used + 1) (λ p. row.new.used ≡ row.old.used)) }
+    ensures moved { IfOk result (λ pause. MatchOption pause (HasStepped row.old row.new) (λ p. HasPaused course.steps row.old row.new (P.asks program.now state.new))) }
     ensures going { IsGoing course.start course.steps row.new (P.goes program.now state.new) }
-    ensures asked { IfOk result (λ pause. MatchOption pause (row.new.asked ≡ None) (λ p. Asked course.steps row.new (P.asks program.now state.new))) }
-    ensures err { OnErr result (begun_of row.new ≡ begun_of row.old) }
-    ensures err_free { OnErr result (row.new.asked ≡ None) }
+    ensures err { OnErr result (IsIdle row.old row.new) }
 {
     match program.step(state)? {
         Step::Moves => {
@@ -79,11 +77,9 @@ fn one_more<P: Program>(
     requires within { course.steps ≡ steps }
     ensures next { IfOk result (λ pause. IfSome pause (IsNext (runs_of course.start course.steps) (begun_of row.old))) }
     ensures behind { IfOk result (λ pause. begun_of row.new ≡ behind_step (begun_of row.old) pause) }
-    ensures used { IfOk result (λ pause. MatchOption pause (row.new.used ≡ row.old.used + 1) (λ p. row.new.used ≡ row.old.used)) }
+    ensures moved { IfOk result (λ pause. MatchOption pause (HasStepped row.old row.new) (λ p. HasPaused course.steps row.old row.new (P.asks program.now state.new))) }
     ensures going { IsGoing course.start course.steps row.new (P.goes program.now state.new) }
-    ensures asked { IfOk result (λ pause. MatchOption pause (row.new.asked ≡ None) (λ p. Asked course.steps row.new (P.asks program.now state.new))) }
-    ensures err { OnErr result (begun_of row.new ≡ begun_of row.old) }
-    ensures err_free { OnErr result (row.new.asked ≡ None) }
+    ensures err { OnErr result (IsIdle row.old row.new) }
 {
     match tell(alloc, row)? {
         Some(event) => Ok(Some(Pause::Made(event))),

@@ -1,7 +1,5 @@
 // What invocations are told.
 ghost use Rattle.std.specs.Prelude.{◌≡◌, IfOk, map, slice_get, Some};
-ghost use Rattle.std.specs.BTreeMap.{get};
-ghost use Rattle.std.specs.Ordering.{nat_cmp};
 ghost use Rattle.spv_types.specs.View.{value_of};
 ghost use Rattle.group_items.specs.Sides.{told_of, word_in, triple_in};
 ghost use Rattle.step_run.specs.Kept.{told_by};

@@ -1,4 +1,4 @@
-use Rattle.std.proofs.Common.{◌∙◌, ap, sym, subst, []}
+use Rattle.std.proofs.Common.{◌∙◌, sym, subst, []}
 use Rattle.group_items.specs.Events.{event_of}
 use Rattle.step_run.specs.Kept.{untold_events, IsTelling}
 use Rattle.step_run.proofs.Onward.{made_next, took_none, told_on, cut_here, told_begun}

@@ -1,10 +1,8 @@
-use Rattle.std.proofs.Common.{ap, sym, subst, ◌∙◌, List}
+use Rattle.std.proofs.Common.{ap, sym, subst, ◌∙◌}
 use Rattle.std.specs.Prelude.{IfOk}
-use Rattle.traces.specs.Runs.{Run}
-use Rattle.traces.specs.Invocations.{Invocation}
 use Rattle.group_items.specs.Sides.{Begun, IsNext, behind_pause}
 use Rattle.step_run.specs.KeptAll.{IsKept, begun_at}
-use Rattle.step_run.proofs.Threads.{all_at, all_set, at_begun, set_moved, set_same, if_ok, on_err}
+use Rattle.step_run.proofs.Threads.{all_set, at_begun, set_moved, set_same, if_ok, on_err}
 use Rattle.step_run.proofs.machine.MachineRunner.advance.Goals as goal
 
 pub go_on-requires-clause-free : goal.go_on-requires-clause-free
