@@ -14,3 +14,5 @@ pub mod Inputs
 pub mod Runs
 pub mod Conforming
 pub mod Examples
+pub mod LowWords
+pub mod LowValues

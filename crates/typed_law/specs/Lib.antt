@@ -1,2 +1,3 @@
 pub mod Conforms
 pub mod Runs
+pub mod Words
