@@ -16,3 +16,6 @@ pub mod Conforming
 pub mod Examples
 pub mod LowWords
 pub mod LowValues
+pub mod LowConstants
+pub mod LowSteps
+pub mod OfWords

@@ -1,11 +1,11 @@
 -- What operations make of values of words is of words.
-use Rattle.std.proofs.Common.{◌≡◌, ◌<◌, ◌+◌, ◌^◌, ◌==◌, ◌&&◌, ℕ, zero, suc, Bool, true, false, not, List, [], ◌∷◌, ◌++◌, length, map, take, drop, replicate, Option, Some, None, refl, sym, ap, subst, ◌∙◌, if◌then◌else◌, arith}
+use Rattle.std.proofs.Common.{◌≡◌, ◌<◌, ◌+◌, ◌^◌, ◌==◌, ℕ, zero, suc, Bool, true, false, not, List, [], ◌∷◌, ◌++◌, length, map, take, drop, replicate, Option, Some, None, refl, sym, subst, if◌then◌else◌, arith}
 use Rattle.std.specs.Prelude.{flat_map, nat_lt, option_map, option_and_then, slice_get, slice_set, slice_index}
 use Rattle.spv_module.specs.declared.tree.Elem.{Elem}
 use Rattle.spv_module.specs.declared.tree.Elem.TheVariants as elem
 use Rattle.spv_module.specs.declared.tree.Length.TheVariants.{Fixed, Spec}
 use Rattle.spv_types.specs.Tree.{Tree, boolean, int, uint, vector, array, runtime, struct, Trees, no_trees, tree, ValueTree, truth, word, many, ValueTrees, no_values, value, values_in}
-use Rattle.spv_types.specs.Leaves.{leaf_count, zero_elem, times, zero_of, zeros_of}
+use Rattle.spv_types.specs.Leaves.{leaf_count, zero_elem, zero_of, zeros_of}
 use Rattle.op_semantics.specs.declared.operation.Unary.{Unary}
 use Rattle.op_semantics.specs.declared.operation.Binary.{Binary}
 use Rattle.op_semantics.specs.declared.operation.Comparison.{Comparison}
@@ -15,7 +15,7 @@ use Rattle.op_semantics.specs.declared.operation.Operation.{Operation}
 use Rattle.op_semantics.specs.declared.operation.Operation.TheVariants as op
 use Rattle.op_semantics.specs.Fits.{IsOfWords, AreOfWords}
 use Rattle.op_semantics.specs.Word.{unary_word, binary_word, clamp_word, bit_field_signed, bit_field_unsigned, bit_field_insert}
-use Rattle.op_semantics.specs.Component.{listed, composite, before, each_one, each_two, each_three, by_one, by_two, by_three, unary_scalar, binary_scalar, comparison_scalar, logical_scalar, not_scalar, clamp_scalar, chosen, field_scalar, insert_scalar, bit_field, inserted_field}
+use Rattle.op_semantics.specs.Component.{listed, composite, each_one, each_two, each_three, by_one, by_two, by_three, unary_scalar, binary_scalar, comparison_scalar, logical_scalar, not_scalar, clamp_scalar, chosen, field_scalar, insert_scalar, bit_field, inserted_field}
 use Rattle.op_semantics.specs.Composite.{as_truth, over_truths, part_at, with_part, extracted, inserted, extracted_at, inserted_at, picked, shuffled, components, constructed}
 use Rattle.op_semantics.specs.Value.{of_one, of_two, of_three, of_four, value_of_operation}
 use Rattle.value_words.specs.Words.{elem_from, parts_from, value_from, values_from}
@@ -44,6 +44,9 @@ listed_low (value v vs) h = (h.0, listed_low vs h.1)
 values_low : (vs : List ValueTree) → AllOfWords vs → AreOfWords (values_in vs)
 values_low [] h = tt
 values_low (v ∷ vs) h = (h.0, values_low vs h.1)
+
+pub composite_low : (vs : List ValueTree) → AllOfWords vs → IsOfWords (composite vs)
+composite_low vs h = values_low vs h
 
 append_low : (vs ws : List ValueTree) → AllOfWords vs → AllOfWords ws → AllOfWords (vs ++ ws)
 append_low [] ws h k = k
@@ -297,11 +300,11 @@ mutual
   zeros_low (tree t ts) = (zero_low t, zeros_low ts)
 
 -- what is read from words
-first_low : (ws : List ℕ) → AreAllWords ws → slice_index ws 0 < 2 ^ 32
+pub first_low : (ws : List ℕ) → AreAllWords ws → slice_index ws 0 < 2 ^ 32
 first_low [] h = omega arith
 first_low (w ∷ ws) h = h.0
 
-drop_low : (n : ℕ) (ws : List ℕ) → AreAllWords ws → AreAllWords (drop n ws)
+pub drop_low : (n : ℕ) (ws : List ℕ) → AreAllWords ws → AreAllWords (drop n ws)
 drop_low zero ws h = h
 drop_low (suc n) [] h = tt
 drop_low (suc n) (w ∷ ws) h = drop_low n ws h.1

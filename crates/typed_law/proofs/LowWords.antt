@@ -1,7 +1,7 @@
 -- What operations make of words are words: numbers below 2 ^ 32.
-use Rattle.std.proofs.Common.{◌≡◌, ◌<◌, ◌≤◌, ◌+◌, ◌-◌, ◌*◌, ◌/◌, ◌%◌, ◌^◌, ◌==◌, ◌||◌, ◌&&◌, ℕ, zero, suc, Bool, true, false, Option, Some, None, min, max, inl, inr, refl, sym, ap, subst, ◌∙◌, if◌then◌else◌, pow-add, pow_mono, pow_pos, shr_lt, mul-le-mul_right, suc-mul, mod-lt, mod-eq_of_lt, arith}
+use Rattle.std.proofs.Common.{◌≡◌, ◌<◌, ◌≤◌, ◌+◌, ◌-◌, ◌*◌, ◌/◌, ◌%◌, ◌^◌, ◌==◌, ◌||◌, ◌&&◌, ℕ, zero, suc, Bool, true, false, Option, Some, None, min, max, inl, inr, refl, sym, subst, ◌∙◌, if◌then◌else◌, pow-add, pow_mono, pow_pos, shr_lt, mul-le-mul_right, suc-mul, mod-lt, arith}
 use Rattle.std.proofs.Math.Nat.{div-le_self, mod-le}
-use Rattle.std.specs.Prelude.{◌⊎◌, ◌+ℤ◌, ℤ, pos, negsuc, neg_ℤ, unsigned_abs, int_lt, int_div, int_rem, nat_lt, nat_le, option_map, bit_and, bit_or, bit_xor}
+use Rattle.std.specs.Prelude.{◌⊎◌, ◌+ℤ◌, ℤ, pos, negsuc, neg_ℤ, unsigned_abs, int_lt, int_div, int_rem, nat_lt, nat_le, bit_and, bit_or, bit_xor}
 use Rattle.std.specs.Int.{w32, reverse_bits_onto, trailing_zeros, leading_zeros, bit_not, int_shr, int_min, int_max, int_signum, is_negative}
 use Rattle.std.specs.Int.Bits.{and_lt}
 use Rattle.std.specs.Int.Count.{ones_in}
@@ -14,7 +14,7 @@ use Rattle.op_semantics.specs.declared.operation.Binary.{Binary}
 use Rattle.op_semantics.specs.declared.operation.Binary.TheVariants.{IAdd, ISub, IMul, UDiv, SDiv, UMod, SRem, SMod, ShiftRightLogical, ShiftRightArithmetic, ShiftLeftLogical, BitwiseOr, BitwiseXor, BitwiseAnd, UMin, SMin, UMax, SMax}
 use Rattle.op_semantics.specs.declared.operation.Clamp.{Clamp}
 use Rattle.op_semantics.specs.declared.operation.Clamp.TheVariants.{UClamp, SClamp}
-use Rattle.op_semantics.specs.Word.{signed, word_of, all_ones, with_sign_of, int_modulo, lowest_one, highest_one, highest_unlike_sign, unary_word, divided, is_undefined, divided_signed, shift_size, binary_word, clamp_word, within_word, field, sign_extended, bit_field_unsigned, bit_field_signed, bit_field_insert, truths_equal}
+use Rattle.op_semantics.specs.Word.{signed, word_of, all_ones, int_modulo, lowest_one, highest_one, highest_unlike_sign, unary_word, divided, divided_signed, shift_size, binary_word, clamp_word, within_word, field, sign_extended, bit_field_unsigned, bit_field_signed, bit_field_insert, truths_equal}
 
 abbrev pub IsWord : ℕ → Type 0
 IsWord w = w < 2 ^ 32

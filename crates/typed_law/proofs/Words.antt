@@ -37,7 +37,7 @@ use Rattle.type_law.specs.Shaped.{EachFound, HaveResults}
 use Rattle.typed_law.specs.Conforms.{BreakNone, size_of, IsFormed, IsParameter, IsConformingIn, IsConforming}
 
 -- it is one of the words' instructions
-abbrev IsOne : Inst1 → List Inst1 → Type 0
+abbrev pub IsOne : Inst1 → List Inst1 → Type 0
 IsOne x [] = ⊥
 IsOne x (i ∷ is) = (i ≡ x) ⊎ IsOne x is
 
@@ -70,7 +70,7 @@ room op.Nop = refl
 room o = refl
 
 -- kinds of globals; these and parameters have results
-abbrev is_global_kind : Kind → Bool
+abbrev pub is_global_kind : Kind → Bool
 is_global_kind Global = true
 is_global_kind Undef = true
 is_global_kind Variable = true
@@ -210,10 +210,10 @@ module _ (ws : List ℕ) where
   more_made : (x : Inst1) (is : List Inst1) (i : Inst) → IsMade is i → IsMade (x ∷ is) i
   more_made x is i w = (w.0, inr w.1, w.2, w.3)
 
-  abbrev IsGlobalMade : List Inst1 → Inst → Type 0
+  abbrev pub IsGlobalMade : List Inst1 → Inst → Type 0
   IsGlobalMade is g = (x : Inst1) × IsOne x is × (inst_of ws x ≡ g) × (is_global_kind (kind_of ws x) ≡ true)
 
-  global_made : (p : Place) (is : List Inst1) (g : Inst) → IsAmong g (globals_from ws p is) → IsGlobalMade is g
+  pub global_made : (p : Place) (is : List Inst1) (g : Inst) → IsAmong g (globals_from ws p is) → IsGlobalMade is g
   global_made p [] g stands = absurd stands
   global_made p (i ∷ is) g stands = by_kind p (kind_of ws i) refl (global_made (after p (kind_of ws i)) is g) stands
     where

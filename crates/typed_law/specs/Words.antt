@@ -2,6 +2,8 @@
 use Rattle.std.specs.Prelude.{◌≡◌, ◌<◌, ◌^◌, ℕ, List, [], ◌∷◌, Option, Some}
 use Rattle.spv_types.specs.Tree.{ValueTree}
 use Rattle.op_semantics.specs.Fits.{IsOfWords}
+use Rattle.profile_rules.specs.declared.given.Given.{Given}
+use Rattle.profile_rules.specs.Constants.{word_given}
 use Rattle.traces.specs.Invocations.{IsInvocation}
 use Rattle.traces.specs.Runs.{Act, goes, asks, stops, fails}
 use Rattle.module_semantics.specs.Setting.{Setting}
@@ -45,3 +47,8 @@ LeadsToWords (goes e c) = IsStateOfWords c
 LeadsToWords (asks a f) = (words : List ℕ) → AreAllWords words → IsStateOfWords (f words)
 LeadsToWords stops = Unit {0}
 LeadsToWords fails = Unit {0}
+
+-- the words that constants are overridden by
+abbrev pub AreGivenWords : List (ℕ × Given) → Type 0
+AreGivenWords [] = Unit {0}
+AreGivenWords (p ∷ ps) = (word_given p.1 < 2 ^ 32) × AreGivenWords ps
