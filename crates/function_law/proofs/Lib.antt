@@ -13,3 +13,5 @@ pub mod FirstRun
 pub mod Preserving
 pub mod PhiSources
 pub mod WholeEdges
+pub mod Said
+pub mod CallsSaid

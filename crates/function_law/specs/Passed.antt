@@ -5,10 +5,11 @@ use Rattle.spv_module.specs.declared.inst.Function.{Function}
 use Rattle.spv_types.specs.Tree.{ValueTree}
 use Rattle.profile_rules.specs.MemoryRules.{is_own_memory}
 use Rattle.module_semantics.specs.State.{Root, Held, value, pointer, Conf}
-use Rattle.glsl_ast.specs.Tree.{Text, Param, param}
-use Rattle.glsl_semantics.specs.Shapes.{typed, shape_of, tree_of_value, same_shape}
-use Rattle.glsl_semantics.specs.States.{variable, Frame}
-use Rattle.glsl_semantics.specs.Expressions.{Program, Argument, type_of}
+use Rattle.traces.specs.Outcomes.{Result, got}
+use Rattle.glsl_ast.specs.Tree.{Text, Expr, name, Param, param}
+use Rattle.glsl_semantics.specs.Shapes.{Typed, typed, shape_of, tree_of_value, same_shape}
+use Rattle.glsl_semantics.specs.States.{variable, Frame, State}
+use Rattle.glsl_semantics.specs.Expressions.{Program, Argument, type_of, evaluate}
 use Rattle.agree_law.specs.Agree.{Naming, variable_with, target_value}
 use Rattle.call_law.specs.Known.{is_parameter}
 
@@ -78,3 +79,27 @@ AreTypedParameters p m _ _ = ⊥
 abbrev pub parameter_frame : List Param → List Argument → Frame
 parameter_frame (param inout t w ∷ qs) (a ∷ as') = (w, variable_with (shape_of a.1) (Some (tree_of_value a.1))) ∷ parameter_frame qs as'
 parameter_frame _ _ = []
+
+-- What is asked of the expression of an argument: it says the value that the argument has; or it is the name of the variable, or of the pointer parameter, to which the argument leads.
+module _ (p : Program) (calls : Text → List Argument → State → Result (Option Typed × State)) (m other : Naming) (z : State) where
+  pub record IsNameOf (q n : ℕ) (w : Text) (e : Expr) : Type 0 where
+    pub parameter : w ≡ other.name q
+    pub lent : other.is_lent q ≡ true
+    pub shape : other.shape q ≡ m.shape n
+    pub kind : (m.is_variable n ≡ true) ⊎ (m.is_lent n ≡ true)
+    pub is : e ≡ name (m.name n)
+
+  pub record SaysValue (q : ℕ) (v : ValueTree) (w : Text) (e : Expr) : Type 0 where
+    pub parameter : w ≡ other.name q
+    pub outer : other.is_outer q ≡ true
+    pub says : evaluate p calls e z ≡ got [] (typed (other.shape q) v, z)
+
+  abbrev pub ArgumentSays : ℕ → ℕ → Held → Param → Expr → Type 0
+  ArgumentSays q n (value v) (param false t w) e = SaysValue q v w e
+  ArgumentSays q n (pointer r path) (param true t w) e = IsNameOf q n w e
+  ArgumentSays q n _ _ e = ⊥
+
+  abbrev pub ArgumentsSay : List (Id × Id) → List ℕ → List Held → List Param → List Expr → Type 0
+  ArgumentsSay [] [] [] [] [] = Unit {0}
+  ArgumentsSay (q ∷ ps) (n ∷ ns) (h ∷ hs) (x ∷ qs) (e ∷ es) = ArgumentSays q.0.0 n h x e × ArgumentsSay ps ns hs qs es
+  ArgumentsSay _ _ _ _ _ = ⊥
