@@ -1,8 +1,9 @@
 -- A module of words, overridden by words, told words and answered by words, has values of words alone.
-use Rattle.std.proofs.Common.{◌≡◌, ◌<◌, ◌^◌, ◌==◌, ℕ, zero, suc, Bool, true, false, List, [], ◌∷◌, take, drop, Option, Some, None, subst, if◌then◌else◌}
+use Rattle.std.proofs.Common.{◌≡◌, ◌<◌, ◌+◌, ◌*◌, ◌^◌, ◌==◌, arith, ℕ, zero, suc, Bool, true, false, List, [], ◌∷◌, take, drop, Option, Some, None, subst, if◌then◌else◌}
 use Rattle.std.specs.Prelude.{find, option_map, option_and_then, slice_index, IfSome}
 use Rattle.std.specs.Option.{option_or}
-use Rattle.spv_words.specs.Words.{insts, slice}
+use Rattle.spv_words.specs.Words.{magic, words_by, words, insts, slice}
+use Rattle.byteorder.specs.Endian.{little_number, big_number}
 use Rattle.spv_words.specs.declared.words.Inst1.{Inst1}
 use Rattle.spv_module.specs.declared.inst.Inst.{Inst}
 use Rattle.spv_module.specs.declared.kind.Place.TheVariants.{Outside}
@@ -16,7 +17,7 @@ use Rattle.module_semantics.specs.Setting.{Setting, setting}
 use Rattle.module_semantics.specs.State.{Conf}
 use Rattle.module_semantics.specs.Steps.{act}
 use Rattle.module_semantics.specs.Run.{start}
-use Rattle.typed_law.specs.Words.{AreAllWords, AreGivenWords, IsSettingOfWords, IsStateOfWords, LeadsToWords}
+use Rattle.typed_law.specs.Words.{AreBytes, AreAllWords, AreGivenWords, IsSettingOfWords, IsStateOfWords, LeadsToWords}
 use Rattle.typed_law.proofs.Words.{global_made}
 use Rattle.typed_law.proofs.LowValues.{first_low, drop_low}
 use Rattle.typed_law.proofs.LowConstants.{constants_low}
@@ -26,6 +27,27 @@ take_low : (n : ℕ) (ws : List ℕ) → AreAllWords ws → AreAllWords (take n 
 take_low zero ws h = tt
 take_low (suc n) [] h = tt
 take_low (suc n) (w ∷ ws) h = (h.0, take_low n ws h.1)
+
+-- the words of bytes are words
+word_of_four : (a b c d : ℕ) → a < 256 → b < 256 → c < 256 → d < 256 → (little_number 4 (a ∷ b ∷ c ∷ d ∷ []) < 2 ^ 32) × (big_number 4 (a ∷ b ∷ c ∷ d ∷ []) < 2 ^ 32)
+word_of_four a b c d ha hb hc hd = (
+  let low : a + 256 * (b + 256 * (c + 256 * (d + 256 * 0))) < 2 ^ 32 = omega (arith, ha, hb, hc, hd) in low,
+  (let low : a * 16777216 + (b * 65536 + (c * 256 + (d * 1 + 0))) < 2 ^ 32 = omega (arith, ha, hb, hc, hd) in low),
+)
+
+words_by_low : (number : ℕ → List ℕ → ℕ) → ((a b c d : ℕ) → a < 256 → b < 256 → c < 256 → d < 256 → number 4 (a ∷ b ∷ c ∷ d ∷ []) < 2 ^ 32) → (bytes : List ℕ) → AreBytes bytes → AreAllWords (words_by number bytes)
+words_by_low number low [] h = tt
+words_by_low number low (a ∷ []) h = tt
+words_by_low number low (a ∷ b ∷ []) h = tt
+words_by_low number low (a ∷ b ∷ c ∷ []) h = tt
+words_by_low number low (a ∷ b ∷ c ∷ d ∷ bytes) h = (low a b c d h.0 h.1.0 h.1.1.0 h.1.1.1.0, words_by_low number low bytes h.1.1.1.1)
+
+pub words_of_bytes : (bytes : List ℕ) → AreBytes bytes → AreAllWords (words bytes)
+words_of_bytes bytes h = by_order (little_number 4 bytes == magic)
+  where
+    by_order : (b : Bool) → AreAllWords (if b then words_by little_number bytes else words_by big_number bytes)
+    by_order true = words_by_low little_number (λ a b c d ha hb hc hd. (word_of_four a b c d ha hb hc hd).0) bytes h
+    by_order false = words_by_low big_number (λ a b c d ha hb hc hd. (word_of_four a b c d ha hb hc hd).1) bytes h
 
 -- what constants take in place of their defaults
 given_low : (pairs : List (ℕ × Given)) (id : ℕ) → AreGivenWords pairs → IfSome (option_map word_given (given_to pairs id)) (λ (w : ℕ). w < 2 ^ 32)

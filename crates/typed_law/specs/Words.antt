@@ -17,6 +17,10 @@ abbrev pub AreAllWords : List ℕ → Type 0
 AreAllWords [] = Unit {0}
 AreAllWords (w ∷ ws) = (w < 2 ^ 32) × AreAllWords ws
 
+abbrev pub AreBytes : List ℕ → Type 0
+AreBytes [] = Unit {0}
+AreBytes (b ∷ bs) = (b < 256) × AreBytes bs
+
 abbrev pub HoldWords : (ℕ → Option ValueTree) → Type 0
 HoldWords f = (id : ℕ) (v : ValueTree) → f id ≡ Some v → IsOfWords v
 
