@@ -1,0 +1,13 @@
+-- What is known of a module that meets the profile within the limits, from this entry.
+use Rattle.std.specs.Prelude.{ℕ, Contains}
+use Rattle.spv_module.specs.State.{ModuleState}
+use Rattle.spv_types.specs.Limits.{AreWithin}
+use Rattle.profile_rules.specs.Calls.{HaveOwnIds, AreCalleesFunctions, IsAcyclic, IsWithinCalls, ids_of}
+
+pub record CanRun (m : ModuleState) (entry : ℕ) : Type 0 where
+  pub own_ids : HaveOwnIds m.functions
+  pub callees : AreCalleesFunctions m.functions
+  pub entry_is : Contains (ids_of m.functions) entry
+  pub acyclic : IsAcyclic m.functions
+  pub within : IsWithinCalls m.functions entry
+  pub types : AreWithin m.globals

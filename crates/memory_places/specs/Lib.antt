@@ -1,0 +1,9 @@
+pub mod Kernel
+pub mod Capped
+pub mod Bases
+pub mod Types
+pub mod Leaves
+pub mod Mentions
+pub mod Starts
+pub mod Conditions
+pub mod Held
