@@ -19,7 +19,7 @@ use Rattle.traces.specs.Events.{Location}
 use Rattle.group_items.specs.declared.event.LeafPlace.{LeafPlace}
 use Rattle.group_items.specs.Events.{location_of, locations_of}
 use Rattle.module_semantics.specs.Setting.{Setting}
-use Rattle.module_semantics.specs.Memory.{array_stride, bytes_along, class_of, elements, location, location_by, locations, member_offset, part_bytes, part_type, shape_along, type_along, variable_type}
+use Rattle.module_semantics.specs.Memory.{array_stride, bytes_along, class_of, decorated, elements, location, location_by, locations, member_offset, part_bytes, part_type, shape_along, type_along, variable_type}
 use Rattle.memory_places.specs.declared.bases.Base.{Base}
 use Rattle.memory_places.specs.declared.leaves.Part.{Part}
 use Rattle.memory_places.specs.Capped.{capped, most_bytes}
@@ -116,3 +116,10 @@ elements_are m sizes v member heads ty bytes offset part stride n hs t b o p s e
     ∙ (ap (λ x. (x - offset) / stride) (b ∙ ap (λ (h : List Inst). bytes_in sizes (unwrap_or (value_of h v.result (decoration_number decoration.DescriptorSet)) 0) (unwrap_or (value_of h v.result (decoration_number decoration.Binding)) 0)) hs)
     ∙ (ap (λ x. (bytes_in sizes (unwrap_or (value_of m.heads v.result (decoration_number decoration.DescriptorSet)) 0) (unwrap_or (value_of m.heads v.result (decoration_number decoration.Binding)) 0) - x) / stride) (o ∙ ap (λ y. member_offset (bare m) y member) t)
     ∙ ap (λ x. (bytes_in sizes (unwrap_or (value_of m.heads v.result (decoration_number decoration.DescriptorSet)) 0) (unwrap_or (value_of m.heads v.result (decoration_number decoration.Binding)) 0) - member_offset (bare m) (variable_type (bare m) v) member) / x) (s ∙ ap (array_stride (bare m)) (p ∙ ap (λ y. part_type (bare m) y member) t))))
+
+pub elements_told : (k : Kernel) (told : Invocation) (sizes : List (ℕ × ℕ × ℕ)) (v : Inst) (member : ℕ) → told.buffer_bytes ≡ bytes_in sizes → elements (sized k.of sizes) v member ≡ elements (setting_for k told) v member
+elements_told k told sizes v member e =
+    ap (λ (bytes : ℕ → ℕ → ℕ).
+    (bytes (decorated (bare k.of) (decoration_number decoration.DescriptorSet) v.result) (decorated (bare k.of) (decoration_number decoration.Binding) v.result)
+    - member_offset (bare k.of) (variable_type (bare k.of) v) member)
+    / array_stride (bare k.of) (part_type (bare k.of) (variable_type (bare k.of) v) member)) (sym e)

@@ -4,7 +4,8 @@ ghost use Rattle.std.specs.Option.{option_copied};
 ghost use Rattle.spv_types.specs.Types.{type_tree};
 ghost use Rattle.spv_types.specs.View.{tree_of, value_of};
 ghost use Rattle.group_items.specs.Events.{location_of, locations_of};
-ghost use Rattle.group_items.specs.Sides.{told_of, IsWhole};
+ghost use Rattle.group_items.specs.Sides.{bytes_in, told_of, IsWhole};
+ghost use Rattle.traces.specs.Invocations.{Invocation};
 ghost use Rattle.module_semantics.specs.Accesses as accesses;
 ghost use Rattle.module_semantics.specs.Memory as memory;
 ghost use Rattle.module_semantics.specs.Run as runs;
@@ -13,7 +14,7 @@ ghost use Rattle.module_semantics.specs.State as state;
 ghost use Rattle.memory_places.specs.Bases.{base_of, built_in_of};
 ghost use Rattle.memory_places.specs.Capped.{capped};
 ghost use Rattle.memory_places.specs.Conditions.{CanRun};
-ghost use Rattle.memory_places.specs.Kernel.{bare_from, kernel, plain, setting_for, sized, ForEach};
+ghost use Rattle.memory_places.specs.Kernel.{bare_from, kernel, plain, setting_for, ForEach};
 ghost use Rattle.memory_places.specs.Leaves.{places_with};
 ghost use Rattle.memory_places.specs.Starts.{start_of};
 
@@ -28,7 +29,7 @@ use crate::variables::{
     global_variable, initial_in, initial_private, seen, shape_along, value_of_built_in,
 };
 use constant_values::Constants;
-use group_items::{Invocation, LeafPlace};
+use group_items::{Invocation as Told, LeafPlace};
 use spv_decor::Decor;
 use spv_index::{Locals, Places};
 use spv_module::{Id, Inst, Module, Shape, Value};
@@ -208,7 +209,7 @@ impl<'a> MemoryMap<'a> {
     /// How many elements the runtime array has that is a member of a buffer's block, where buffers have these sizes: as many whole strides as
     /// there are bytes behind its offset (SPIR-V 1.6, OpArrayLength).
     pub fn elements(&self, sizes: &[(u32, u32, u32)], variable: &Inst, member: u32) -> u32
-        ensures { result ≡ memory.elements (sized self.now.of sizes.now) variable.now member }
+        ensures { (told : Invocation) → told.buffer_bytes ≡ bytes_in sizes.now → result ≡ memory.elements (setting_for self.now told) variable.now member }
     {
         elements(self.source, self.decor, sizes, variable, member)
     }
@@ -242,7 +243,7 @@ impl<'a> MemoryMap<'a> {
     }
 
     /// The value of a built-in variable, and `None` of another.
-    pub fn input_value<'b>(&self, inv: &'b Invocation, variable: &Inst) -> Option<&'b Value>
+    pub fn input_value<'b>(&self, inv: &'b Told, variable: &Inst) -> Option<&'b Value>
         requires { IsWhole inv.now }
         ensures { option_map (λ v. value_of v.now) result ≡ accesses.input_value (setting_for self.now (told_of inv.now)) variable.now }
     {
@@ -251,7 +252,7 @@ impl<'a> MemoryMap<'a> {
 
     /// Whether each Private variable that a reached function mentions has a value at the start.
     pub fn have_values(&self) -> bool
-        ensures { result ≡ runs.have_values (plain self.now) }
+        ensures { ForEach self.now (λ s. result ≡ runs.have_values s) }
     {
         self.fine
     }
