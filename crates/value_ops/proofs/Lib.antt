@@ -6,3 +6,4 @@ pub mod Paths
 pub mod Quantified
 pub mod Streams
 pub mod Powers
+pub mod Numbers

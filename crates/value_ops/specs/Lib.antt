@@ -1,4 +1,5 @@
 pub mod Fields
+pub mod Quantity
 pub mod References
 pub mod Scalars
 pub mod Shuffled

@@ -2,11 +2,12 @@
 ghost use Rattle.std.specs.Prelude.{◌≡◌, IfOk, option_map, map};
 ghost use Rattle.spv_types.specs.View.{value_of};
 ghost use Rattle.spv_types.specs.Tree.{word, truth};
-ghost use Rattle.op_semantics.specs.Component.{each_one, each_two, each_three, by_one, by_two, by_three, composite, clamp_scalar as clamp_scalar_of};
+ghost use Rattle.op_semantics.specs.Component.{each_one, each_two, each_three, by_one, by_two, by_three, composite, clamp_scalar as clamp_scalar_of, chosen};
 ghost use Rattle.value_ops.specs.References.{plain_values};
-ghost use Rattle.value_ops.specs.Scalars.{one_scalar as one_scalar_of, two_scalars as two_scalars_of};
+ghost use Rattle.value_ops.specs.Scalars.{one_scalar as one_scalar_of, two_scalars as two_scalars_of, three_values as three_values_of};
 
 use crate::bits::{Sign, bit_field, bit_field_insert, clamp_word};
+use crate::copies::copied;
 use op_semantics::{
     Binary, Clamp, Comparison, Logical, Unary, binary_word, compare_words, logical_truth,
     unary_word,
@@ -30,6 +31,13 @@ pub enum TwoScalars {
     Comparison(Comparison),
     Logical(Logical),
     InsertField(u32, u32),
+}
+
+/// An operation on three values: a word between two bounds, or a choice between two values.
+#[derive(Clone, Copy)]
+pub enum ThreeValues {
+    Clamp(Clamp),
+    Choose,
 }
 
 #[tactic(auto, using(spv_types::proofs::Views::value_rows))]
@@ -113,6 +121,38 @@ fn clamped_scalar(op: Clamp, a: &Value, low: &Value, high: &Value) -> Option<Val
     }
 }
 
+/// The first or the second value; of what is no truth value there is none.
+#[tactic(auto, using(spv_types::proofs::Views::value_rows))]
+fn chosen_value(
+    alloc: Global,
+    choice: &Value,
+    first: &Value,
+    second: &Value,
+) -> Result<Option<Value>, Memory>
+    ensures { IfOk result (λ v. option_map value_of v ≡ chosen (value_of choice.now) (value_of first.now) (value_of second.now)) }
+{
+    match choice {
+        Value::Bool(true) => Ok(Some(copied(alloc, first)?)),
+        Value::Bool(false) => Ok(Some(copied(alloc, second)?)),
+        Value::Word(_) | Value::Many(_) => Ok(None),
+    }
+}
+
+fn three_values(
+    alloc: Global,
+    op: ThreeValues,
+    a: &Value,
+    b: &Value,
+    c: &Value,
+) -> Result<Option<Value>, Memory>
+    ensures { IfOk result (λ v. option_map value_of v ≡ three_values_of op (value_of a.now) (value_of b.now) (value_of c.now)) }
+{
+    match op {
+        ThreeValues::Clamp(op) => Ok(clamped_scalar(op, a, b, c)),
+        ThreeValues::Choose => chosen_value(alloc, a, b, c),
+    }
+}
+
 fn each_of_one(alloc: Global, op: OneScalar, values: &[Value]) -> Result<Option<Vec<Value>>, Memory>
     ensures { IfOk result (λ all. option_map plain_values all ≡ each_one (one_scalar_of op) (map value_of values.now)) }
 {
@@ -149,24 +189,24 @@ fn each_of_two(
 }
 
 #[tactic(auto, using(crate::proofs::Lists::short_rules))]
-fn each_clamped(
+fn each_of_three(
     alloc: Global,
-    op: Clamp,
-    values: &[Value],
-    lows: &[Value],
-    highs: &[Value],
+    op: ThreeValues,
+    firsts: &[Value],
+    seconds: &[Value],
+    thirds: &[Value],
 ) -> Result<Option<Vec<Value>>, Memory>
-    ensures { IfOk result (λ all. option_map plain_values all ≡ each_three (clamp_scalar_of op) (map value_of values.now) (map value_of lows.now) (map value_of highs.now)) }
+    ensures { IfOk result (λ all. option_map plain_values all ≡ each_three (three_values_of op) (map value_of firsts.now) (map value_of seconds.now) (map value_of thirds.now)) }
 {
-    if values.len() != lows.len() {
+    if firsts.len() != seconds.len() {
         return Ok(None);
     }
-    if lows.len() != highs.len() {
+    if seconds.len() != thirds.len() {
         return Ok(None);
     }
     let mut results = Vec::new(alloc);
-    for (i, value) in values.iter().enumerate() {
-        match clamped_scalar(op, value, &lows[i], &highs[i]) {
+    for (i, first) in firsts.iter().enumerate() {
+        match three_values(alloc, op, first, &seconds[i], &thirds[i])? {
             None => return Ok(None),
             Some(result) => results.push(result)?,
         }
@@ -210,21 +250,21 @@ pub fn of_two_operands(
     }
 }
 
-/// A value between two bounds: a scalar, or each component.
+/// An operation on three operands: as they are, or on each three parts.
 #[tactic(auto, using(spv_types::proofs::Views::value_rows, crate::proofs::Lists::three_sized))]
-pub fn clamped(
+pub fn of_three_operands(
     alloc: Global,
-    op: Clamp,
+    op: ThreeValues,
     a: &Value,
-    low: &Value,
-    high: &Value,
+    b: &Value,
+    c: &Value,
 ) -> Result<Option<Value>, Memory>
-    ensures { IfOk result (λ v. option_map value_of v ≡ by_three (clamp_scalar_of op) (value_of a.now) (value_of low.now) (value_of high.now)) }
+    ensures { IfOk result (λ v. option_map value_of v ≡ by_three (three_values_of op) (value_of a.now) (value_of b.now) (value_of c.now)) }
 {
-    match (a, low, high) {
-        (Value::Many(values), Value::Many(lows), Value::Many(highs)) => {
-            Ok(vector_of(each_clamped(alloc, op, values, lows, highs)?))
+    match (a, b, c) {
+        (Value::Many(firsts), Value::Many(seconds), Value::Many(thirds)) => {
+            Ok(vector_of(each_of_three(alloc, op, firsts, seconds, thirds)?))
         }
-        _ => Ok(clamped_scalar(op, a, low, high)),
+        _ => three_values(alloc, op, a, b, c),
     }
 }

@@ -1,92 +1,16 @@
-// OpSelect and OpVectorShuffle.
+// OpVectorShuffle.
 ghost use Rattle.std.specs.Prelude.{◌≡◌, ◌++◌, IfOk, option_map, map};
-ghost use Rattle.spv_types.specs.Tree.{many, values_in};
 ghost use Rattle.spv_types.specs.View.{tree_of, value_of};
-ghost use Rattle.op_semantics.specs.Component.{by_three, each_three, each_one, chosen};
+ghost use Rattle.op_semantics.specs.Component.{each_one};
 ghost use Rattle.op_semantics.specs.Composite.{picked, shuffled as shuffled_value};
 ghost use Rattle.value_ops.specs.References.{plain_references};
 ghost use Rattle.value_ops.specs.Shuffled.{shuffled_by};
 
-use crate::copies::{composite_of, copied};
+use crate::copies::composite_of;
 use spv_module::{Elem, Shape, Value};
 use spv_types::zero_scalar;
 use spv_words::Memory;
 use std::alloc::Global;
-
-/// The first or the second value; of what is no truth value there is none.
-#[tactic(auto, using(spv_types::proofs::Views::value_rows))]
-fn chosen_of<'a>(choice: &Value, first: &'a Value, second: &'a Value) -> Option<&'a Value>
-    ensures { option_map (λ v. value_of v.now) result ≡ chosen (value_of choice.now) (value_of first.now) (value_of second.now) }
-{
-    match choice {
-        Value::Bool(choice) => Some(if *choice { first } else { second }),
-        Value::Word(_) | Value::Many(_) => None,
-    }
-}
-
-/// What each choice chooses of two parts, where there are as many of all and each choice is a truth
-/// value.
-#[tactic(auto, using(crate::proofs::Lists::short_rules))]
-pub fn chosen_parts<'a>(
-    alloc: Global,
-    choices: &[Value],
-    firsts: &'a [Value],
-    seconds: &'a [Value],
-) -> Result<Option<Vec<&'a Value>>, Memory>
-    ensures { IfOk result (λ all. option_map plain_references all ≡ each_three chosen (map value_of choices.now) (map value_of firsts.now) (map value_of seconds.now)) }
-{
-    if choices.len() != firsts.len() {
-        return Ok(None);
-    }
-    if firsts.len() != seconds.len() {
-        return Ok(None);
-    }
-    let mut parts = Vec::new(alloc);
-    for (i, choice) in choices.iter().enumerate() {
-        match chosen_of(choice, &firsts[i], &seconds[i]) {
-            None => return Ok(None),
-            Some(part) => parts.push(part)?,
-        }
-    }
-    Ok(Some(parts))
-}
-
-#[tactic(auto, using(spv_types::proofs::Views::value_rows, crate::proofs::Lists::three_sized))]
-fn selected_parts(
-    alloc: Global,
-    choices: &[Value],
-    first: &Value,
-    second: &Value,
-) -> Result<Option<Value>, Memory>
-    ensures { IfOk result (λ v. option_map value_of v ≡ by_three chosen (many (values_in (map value_of choices.now))) (value_of first.now) (value_of second.now)) }
-{
-    match (first, second) {
-        (Value::Many(firsts), Value::Many(seconds)) => {
-            let parts = chosen_parts(alloc, choices, firsts, seconds)?;
-            composite_of(alloc, parts)
-        }
-        (Value::Many(_), Value::Bool(_) | Value::Word(_)) => Ok(None),
-        (Value::Bool(_) | Value::Word(_), _) => Ok(None),
-    }
-}
-
-/// OpSelect.
-#[tactic(auto, using(spv_types::proofs::Views::value_rows))]
-pub fn selected(
-    alloc: Global,
-    choice: &Value,
-    first: &Value,
-    second: &Value,
-) -> Result<Option<Value>, Memory>
-    ensures { IfOk result (λ v. option_map value_of v ≡ by_three chosen (value_of choice.now) (value_of first.now) (value_of second.now)) }
-{
-    match choice {
-        Value::Bool(true) => Ok(Some(copied(alloc, first)?)),
-        Value::Bool(false) => Ok(Some(copied(alloc, second)?)),
-        Value::Word(_) => Ok(None),
-        Value::Many(choices) => selected_parts(alloc, choices, first, second),
-    }
-}
 
 #[tactic(auto, using(crate::proofs::Picks::picked_rules))]
 fn picked_part<'a>(
@@ -107,7 +31,7 @@ fn picked_part<'a>(
 }
 
 /// The components that literals pick from two lists one behind the other, where all are there.
-pub fn picked_parts<'a>(
+fn picked_parts<'a>(
     alloc: Global,
     zero: &'a Value,
     firsts: &'a [Value],
