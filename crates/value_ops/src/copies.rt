@@ -4,6 +4,7 @@ ghost use Rattle.spv_types.specs.View.{value_of};
 ghost use Rattle.op_semantics.specs.Component.{composite};
 ghost use Rattle.value_ops.specs.References.{referred, plain_references};
 
+use crate::outcome::Computed;
 use spv_module::Value;
 use spv_words::Memory;
 use std::alloc::Global;
@@ -46,7 +47,7 @@ pub fn copied_from(alloc: Global, parts: &[&Value]) -> Result<Vec<Value>, Memory
 
 /// The composite of copies of these parts, where there are parts.
 #[tactic(auto, using(spv_types::proofs::Views::value_rows))]
-pub fn composite_of(alloc: Global, parts: Option<Vec<&Value>>) -> Result<Option<Value>, Memory>
+pub fn composite_of(alloc: Global, parts: Option<Vec<&Value>>) -> Computed
     ensures { IfOk result (λ v. option_map value_of v ≡ option_map composite (option_map plain_references parts.entry)) }
 {
     match parts {

@@ -6,6 +6,7 @@ mod bits;
 mod compose;
 mod copies;
 mod operate;
+mod outcome;
 mod parts;
 mod scalars;
 mod shuffle;

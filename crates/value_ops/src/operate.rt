@@ -9,6 +9,7 @@ ghost use Rattle.value_ops.specs.References.{referred};
 use crate::bits::Sign;
 use crate::compose::constructed;
 use crate::copies::copied;
+use crate::outcome::Computed;
 use crate::parts::{extracted_at, extracted_part, inserted, inserted_at};
 use crate::scalars::{
     OneScalar, ThreeValues, TwoScalars, of_one_operand, of_three_operands, of_two_operands,
@@ -24,13 +25,7 @@ use std::alloc::Global;
 
 /// The field of so many bits from the offset on, of each component.
 #[tactic(auto, using(spv_types::proofs::Views::value_rows))]
-fn field(
-    alloc: Global,
-    sign: Sign,
-    base: &Value,
-    offset: &Value,
-    count: &Value,
-) -> Result<Option<Value>, Memory>
+fn field(alloc: Global, sign: Sign, base: &Value, offset: &Value, count: &Value) -> Computed
     ensures { IfOk result (λ v. option_map value_of v ≡ bit_field_value (bit_field_by sign) (value_of base.now) (value_of offset.now) (value_of count.now)) }
 {
     match (offset, count) {
@@ -49,7 +44,7 @@ fn inserted_field(
     insert: &Value,
     offset: &Value,
     count: &Value,
-) -> Result<Option<Value>, Memory>
+) -> Computed
     ensures { IfOk result (λ v. option_map value_of v ≡ inserted_field_value (value_of base.now) (value_of insert.now) (value_of offset.now) (value_of count.now)) }
 {
     match (offset, count) {
@@ -72,7 +67,7 @@ fn value_of_operation(
     shape: &Shape,
     literals: &[u32],
     operands: &[&Value],
-) -> Result<Option<Value>, Memory>
+) -> Computed
     ensures { IfOk result (λ v. option_map value_of v ≡ value_by_operation operation (tree_of shape.now) literals.now (referred operands.now)) }
 {
     match (operation, operands) {

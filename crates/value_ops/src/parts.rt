@@ -5,6 +5,7 @@ ghost use Rattle.spv_types.specs.View.{value_of};
 ghost use Rattle.op_semantics.specs.Composite.{part_at as part_at_index, extracted, inserted as inserted_value, extracted_at as extracted_at_value, inserted_at as inserted_at_value};
 
 use crate::copies::copied;
+use crate::outcome::Computed;
 use spv_module::Value;
 use spv_words::Memory;
 use std::alloc::Global;
@@ -77,12 +78,7 @@ fn put_below(parts: &mut Vec<Value>, index: u32, rest: &[u32], part: Value) -> b
 }
 
 /// A copy of a value with another part where these indexes lead.
-pub fn inserted(
-    alloc: Global,
-    whole: &Value,
-    indexes: &[u32],
-    part: &Value,
-) -> Result<Option<Value>, Memory>
+pub fn inserted(alloc: Global, whole: &Value, indexes: &[u32], part: &Value) -> Computed
     ensures { IfOk result (λ v. option_map value_of v ≡ inserted_value (value_of part.now) indexes.now (value_of whole.now)) }
 {
     let mut copy = copied(alloc, whole)?;
@@ -94,11 +90,7 @@ pub fn inserted(
 }
 
 /// A copy of the part that these indexes lead to.
-pub fn extracted_part(
-    alloc: Global,
-    indexes: &[u32],
-    whole: &Value,
-) -> Result<Option<Value>, Memory>
+pub fn extracted_part(alloc: Global, indexes: &[u32], whole: &Value) -> Computed
     ensures { IfOk result (λ v. option_map value_of v ≡ extracted indexes.now (value_of whole.now)) }
 {
     match part_by(whole, indexes) {
@@ -109,7 +101,7 @@ pub fn extracted_part(
 
 /// OpVectorExtractDynamic.
 #[tactic(auto, using(spv_types::proofs::Views::value_rows, crate::proofs::Paths::single_rules))]
-pub fn extracted_at(alloc: Global, whole: &Value, index: &Value) -> Result<Option<Value>, Memory>
+pub fn extracted_at(alloc: Global, whole: &Value, index: &Value) -> Computed
     ensures { IfOk result (λ v. option_map value_of v ≡ extracted_at_value (value_of whole.now) (value_of index.now)) }
 {
     match index {
@@ -120,12 +112,7 @@ pub fn extracted_at(alloc: Global, whole: &Value, index: &Value) -> Result<Optio
 
 /// OpVectorInsertDynamic.
 #[tactic(auto, using(spv_types::proofs::Views::value_rows, crate::proofs::Paths::single_rules))]
-pub fn inserted_at(
-    alloc: Global,
-    whole: &Value,
-    part: &Value,
-    index: &Value,
-) -> Result<Option<Value>, Memory>
+pub fn inserted_at(alloc: Global, whole: &Value, part: &Value, index: &Value) -> Computed
     ensures { IfOk result (λ v. option_map value_of v ≡ inserted_at_value (value_of whole.now) (value_of part.now) (value_of index.now)) }
 {
     match index {

@@ -8,6 +8,7 @@ ghost use Rattle.value_ops.specs.Scalars.{one_scalar as one_scalar_of, two_scala
 
 use crate::bits::{Sign, bit_field, bit_field_insert, clamp_word};
 use crate::copies::copied;
+use crate::outcome::Computed;
 use op_semantics::{
     Binary, Clamp, Comparison, Logical, Unary, binary_word, compare_words, logical_truth,
     unary_word,
@@ -123,12 +124,7 @@ fn clamped_scalar(op: Clamp, a: &Value, low: &Value, high: &Value) -> Option<Val
 
 /// The first or the second value; of what is no truth value there is none.
 #[tactic(auto, using(spv_types::proofs::Views::value_rows))]
-fn chosen_value(
-    alloc: Global,
-    choice: &Value,
-    first: &Value,
-    second: &Value,
-) -> Result<Option<Value>, Memory>
+fn chosen_value(alloc: Global, choice: &Value, first: &Value, second: &Value) -> Computed
     ensures { IfOk result (λ v. option_map value_of v ≡ chosen (value_of choice.now) (value_of first.now) (value_of second.now)) }
 {
     match choice {
@@ -138,13 +134,7 @@ fn chosen_value(
     }
 }
 
-fn three_values(
-    alloc: Global,
-    op: ThreeValues,
-    a: &Value,
-    b: &Value,
-    c: &Value,
-) -> Result<Option<Value>, Memory>
+fn three_values(alloc: Global, op: ThreeValues, a: &Value, b: &Value, c: &Value) -> Computed
     ensures { IfOk result (λ v. option_map value_of v ≡ three_values_of op (value_of a.now) (value_of b.now) (value_of c.now)) }
 {
     match op {
@@ -223,7 +213,7 @@ fn vector_of(components: Option<Vec<Value>>) -> Option<Value>
 
 /// An operation on one operand: on a scalar, or on each component.
 #[tactic(auto, using(spv_types::proofs::Views::value_rows, crate::proofs::Lists::one_sized))]
-pub fn of_one_operand(alloc: Global, op: OneScalar, a: &Value) -> Result<Option<Value>, Memory>
+pub fn of_one_operand(alloc: Global, op: OneScalar, a: &Value) -> Computed
     ensures { IfOk result (λ v. option_map value_of v ≡ by_one (one_scalar_of op) (value_of a.now)) }
 {
     match a {
@@ -234,12 +224,7 @@ pub fn of_one_operand(alloc: Global, op: OneScalar, a: &Value) -> Result<Option<
 
 /// An operation on two operands: on scalars, or on each two components.
 #[tactic(auto, using(spv_types::proofs::Views::value_rows, crate::proofs::Lists::two_sized))]
-pub fn of_two_operands(
-    alloc: Global,
-    op: TwoScalars,
-    a: &Value,
-    b: &Value,
-) -> Result<Option<Value>, Memory>
+pub fn of_two_operands(alloc: Global, op: TwoScalars, a: &Value, b: &Value) -> Computed
     ensures { IfOk result (λ v. option_map value_of v ≡ by_two (two_scalars_of op) (value_of a.now) (value_of b.now)) }
 {
     match (a, b) {
@@ -258,7 +243,7 @@ pub fn of_three_operands(
     a: &Value,
     b: &Value,
     c: &Value,
-) -> Result<Option<Value>, Memory>
+) -> Computed
     ensures { IfOk result (λ v. option_map value_of v ≡ by_three (three_values_of op) (value_of a.now) (value_of b.now) (value_of c.now)) }
 {
     match (a, b, c) {

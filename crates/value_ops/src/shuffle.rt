@@ -7,6 +7,7 @@ ghost use Rattle.value_ops.specs.References.{plain_references};
 ghost use Rattle.value_ops.specs.Shuffled.{shuffled_by};
 
 use crate::copies::composite_of;
+use crate::outcome::Computed;
 use spv_module::{Elem, Shape, Value};
 use spv_types::zero_scalar;
 use spv_words::Memory;
@@ -57,7 +58,7 @@ fn shuffled_components(
     picks: &[u32],
     first: &Value,
     second: &Value,
-) -> Result<Option<Value>, Memory>
+) -> Computed
     ensures { IfOk result (λ v. option_map value_of v ≡ shuffled_by elem picks.now (value_of first.now) (value_of second.now)) }
 {
     match (first, second) {
@@ -79,7 +80,7 @@ pub fn shuffled(
     picks: &[u32],
     first: &Value,
     second: &Value,
-) -> Result<Option<Value>, Memory>
+) -> Computed
     ensures { IfOk result (λ v. option_map value_of v ≡ shuffled_value (tree_of shape.now) picks.now (value_of first.now) (value_of second.now)) }
 {
     match shape {
