@@ -15,3 +15,4 @@ pub mod PhiSources
 pub mod WholeEdges
 pub mod Said
 pub mod CallsSaid
+pub mod CaseGroups

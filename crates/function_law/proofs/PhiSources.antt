@@ -42,7 +42,7 @@ while_phi (i ∷ is) (inl first) j of = elim (subst (IsOf j) (ap (λ t. if t the
 ]
 
 -- the block at a place has the label by which it was found
-label_found : (bs : List Block) (k c id : ℕ) → position_from (λ (b : Block). b.label.0 == id) k bs ≡ Some c → (n : ℕ) × (b : Block) × (c ≡ k + n) × (slice_get bs n ≡ Some b) × (b.label.0 ≡ id)
+pub label_found : (bs : List Block) (k c id : ℕ) → position_from (λ (b : Block). b.label.0 == id) k bs ≡ Some c → (n : ℕ) × (b : Block) × (c ≡ k + n) × (slice_get bs n ≡ Some b) × (b.label.0 ≡ id)
 label_found [] k c id e = cc
 label_found (x ∷ bs) k c id e = by_test (x.label.0 == id) (eqb_tells x.label.0 id) e (label_found bs (k + 1) c id)
   where
