@@ -1,3 +1,4 @@
 pub mod Plain
 pub mod Indexes
 pub mod BuiltIns
+pub mod Declared
