@@ -21,17 +21,16 @@ use Rattle.spv_types.specs.Types.{kind, below, elem_of, length_of, length_by, si
 use Rattle.module_semantics.specs.Setting.{Setting}
 use Rattle.name_alloc.specs.declared.claims.Key.{Key}
 use Rattle.name_alloc.specs.declared.claims.Key.TheVariants.{Id}
-use Rattle.glsl_ast.specs.Tree as tree
-use Rattle.glsl_ast.specs.Tree.{Text, Base, Extent, TypeName, type_name, open_end, number as count}
-use Rattle.glsl_semantics.specs.Shapes.{Shape, array, struct}
+use Rattle.glsl_ast.specs.Tree.{Text, Extent, TypeName, type_name, open_end, number as count}
+use Rattle.glsl_semantics.specs.Shapes.{Shape, struct}
 use Rattle.glsl_semantics.specs.Expressions.{Program, with_extent, with_extents, base_shape, type_of}
 use Rattle.text_rules.specs.Types as types
 use Rattle.text_rules.specs.Types.{Spelling, vector_base, type_text}
 use Rattle.text_rules.specs.Outlines as outlines
-use Rattle.text_rules.specs.Outlines.{basic_of, basic_at, length_at, outline_by, outline_step, outline_before, outline}
+use Rattle.text_rules.specs.Outlines.{basic_of, length_at, outline_by, outline_step, outline_before, outline}
 use Rattle.text_rules.specs.Constants.{Source}
 use Rattle.text_rules.specs.Declarations.{length_extent, spelling}
-use Rattle.path_law.specs.Parts.{length_in, shape_in, fields_in}
+use Rattle.path_law.specs.Parts.{shape_in}
 use Rattle.path_law.specs.Walks.{struct_names}
 use Rattle.global_law.specs.Names.{IsDeclared}
 

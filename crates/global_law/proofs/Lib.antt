@@ -2,3 +2,4 @@ pub mod Plain
 pub mod Indexes
 pub mod BuiltIns
 pub mod Declared
+pub mod Blocks

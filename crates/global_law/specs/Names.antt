@@ -1,10 +1,9 @@
 -- The names by which the items of a text are written, and when a type stands in what they have declared.
-use Rattle.std.specs.Prelude.{◌≡◌, ℕ, Some}
+use Rattle.std.specs.Prelude.{◌≡◌, Some}
 use Rattle.spv_module.specs.Lists.{id}
 use Rattle.spv_module.specs.declared.inst.Inst.{Inst}
 use Rattle.spv_module.specs.declared.tree.Length.TheVariants.{Fixed, Spec}
 use Rattle.spv_types.specs.Tree.{Tree, array, runtime, struct}
-use Rattle.profile_rules.specs.declared.given.Given.{Given}
 use Rattle.module_semantics.specs.Setting.{Setting}
 use Rattle.module_semantics.specs.Memory.{array_length}
 use Rattle.name_alloc.specs.declared.claims.Key.{Key}
