@@ -1,15 +1,17 @@
--- A module in which each invocation writes the sum of what those up to it have, through workgroup memory, with a loop, a barrier, a call and a copy of a struct; and its text. Both run for invocation 2.
-use Rattle.std.proofs.Common.{◌≡◌, ℕ, List, [], ◌∷◌, refl}
-use Rattle.std.specs.Prelude.{codes}
+-- A module in which each invocation writes the sum of what those up to it have, through workgroup memory, with a loop, a barrier, a call and a copy of a struct; and its text. Both run for each of its four invocations.
+use Rattle.std.proofs.Common.{◌≡◌, ℕ, ◌+◌, ◌*◌, List, [], ◌∷◌, ◌++◌, map, take, refl}
+use Rattle.std.specs.Prelude.{codes, Option, slice_index, sum_by}
 use Rattle.spv_ops.specs.declared.Op.TheVariants as op
 use Rattle.spv_module.specs.State.{ModuleState}
 use Rattle.spv_module.specs.declared.inst.Inst.{Inst}
 use Rattle.spv_module.specs.declared.inst.Function.{Function}
 use Rattle.traces.specs.Events.{Event, read, write, shared_barrier, control_barrier, buffer, shared}
 use Rattle.traces.specs.Runs.{made as run_made, ended}
-use Rattle.traces.specs.Preservation.{text_made, has_ended, was_cut}
+use Rattle.traces.specs.Preservation.{TextRun, text_made, has_ended, was_cut}
+use Rattle.glsl_ast.specs.Tree.{TranslationUnit}
+use Rattle.glsl_grammar.specs.Reading.{glsl_read}
 use Rattle.module_semantics.specs.Run.{module_run}
-use Rattle.meaning_examples.specs.Runs.{run_of_text}
+use Rattle.meaning_examples.specs.Runs.{run_of_tree, run_of_text}
 use Rattle.meaning_examples.proofs.Samples.{module_opened, text_opened, made, placed, id, block, invocation}
 
 -- %2 LocalInvocationIndex, %3 the struct `Item`, %4 a runtime array of it, %9 its block, %5 the buffer, %19 the shared array, %21 the struct without a layout
@@ -66,30 +68,48 @@ sums = record { bound = 79; heads = heads; globals = globals; functions = main �
 abbrev text : List ℕ
 text = codes "#version 460\nlayout(local_size_x = 4, local_size_y = 1, local_size_z = 1) in;\nstruct Item {\n    uint key;\n    uint sum;\n};\nlayout(set = 0, binding = 0, std430) buffer Data {\n    layout(offset = 0) Item[] items;\n} n_input;\nshared uint[4] temp;\nstruct Item_2 {\n    uint key;\n    uint sum;\n};\nvoid add_u1_u1(inout uint n_float, uint i_3) {\n    uint v35 = n_float;\n    n_float = (v35 + i_3);\n    return;\n}\nvoid main() {\n    uint i = 0u;\n    Item_2 x = Item_2(0u, 0u);\n    uint sum = 0u;\n    uint i_2 = 0u;\n    uint param = 0u;\n    uint v50 = gl_LocalInvocationIndex;\n    i = v50;\n    uint v51 = i;\n    Item v53 = n_input.items[v51];\n    x = Item_2(v53.key, v53.sum);\n    uint v55 = i;\n    uint v57 = x.key;\n    temp[v55] = v57;\n    memoryBarrierShared();\n    barrier();\n    sum = 0u;\n    i_2 = 0u;\n    bool again = false;\n    for (;;) {\n        if (again) {\n            uint v74 = i_2;\n            i_2 = (v74 + 1u);\n        }\n        again = true;\n        uint v65 = i_2;\n        uint v66 = i;\n        if ((v65 <= v66)) {\n            uint v68 = sum;\n            param = v68;\n            uint v69 = i_2;\n            uint v71 = temp[v69];\n            add_u1_u1(param, v71);\n            uint v73 = param;\n            sum = v73;\n            continue;\n        } else {\n            break;\n        }\n    }\n    uint v76 = i;\n    uint v77 = sum;\n    n_input.items[v76].sum = v77;\n    return;\n}\n"
 
--- the item of invocation 2, and what the invocations 0 to 2 have put into workgroup memory
-abbrev answers : List (List ℕ)
-answers = (1 ∷ 0 ∷ []) ∷ (5 ∷ []) ∷ (7 ∷ []) ∷ (1 ∷ []) ∷ []
+-- what the items have before, one for each invocation
+abbrev keys : List ℕ
+keys = 5 ∷ 7 ∷ 1 ∷ 3 ∷ []
 
-abbrev element : ℕ → ℕ → Event
-element k w = read (shared 0 (k ∷ []) ∷ []) (w ∷ [])
+abbrev key : ℕ → ℕ
+key k = slice_index keys k
 
-abbrev up_to_loop : List Event
-up_to_loop = read (buffer 0 0 16 ∷ buffer 0 0 20 ∷ []) (1 ∷ 0 ∷ []) ∷ write (shared 0 (2 ∷ []) ∷ []) (1 ∷ []) ∷ shared_barrier ∷ control_barrier ∷ []
+-- those of the invocations up to this one
+abbrev keys_to : ℕ → List ℕ
+keys_to k = take (k + 1) keys
 
-abbrev events : List Event
-events =
-    read (buffer 0 0 16 ∷ buffer 0 0 20 ∷ []) (1 ∷ 0 ∷ []) ∷ write (shared 0 (2 ∷ []) ∷ []) (1 ∷ []) ∷ shared_barrier ∷ control_barrier ∷
-    element 0 5 ∷ element 1 7 ∷ element 2 1 ∷ write (buffer 0 0 20 ∷ []) (13 ∷ []) ∷ []
+-- what an invocation reads: its item, and what those up to it have put into workgroup memory
+abbrev answers : ℕ → List (List ℕ)
+answers k = (key k ∷ 0 ∷ []) ∷ map (λ w. w ∷ []) (keys_to k)
 
-of_module : module_run sums 1 [] (invocation 2) answers 120 ≡ run_made events ended
+abbrev elements : ℕ → List ℕ → List Event
+elements k [] = []
+elements k (w ∷ ws) = read (shared 0 (k ∷ []) ∷ []) (w ∷ []) ∷ elements (k + 1) ws
+
+abbrev up_to_loop : ℕ → List Event
+up_to_loop k =
+    read (buffer 0 0 (8 * k) ∷ buffer 0 0 (8 * k + 4) ∷ []) (key k ∷ 0 ∷ []) ∷ write (shared 0 (k ∷ []) ∷ []) (key k ∷ []) ∷ shared_barrier ∷ control_barrier ∷ []
+
+abbrev events : ℕ → List Event
+events k = up_to_loop k ++ elements 0 (keys_to k) ++ write (buffer 0 0 (8 * k + 4) ∷ []) (sum_by (λ w. w) (keys_to k) ∷ []) ∷ []
+
+abbrev invocations : List ℕ
+invocations = 0 ∷ 1 ∷ 2 ∷ 3 ∷ []
+
+of_module : map (λ k. module_run sums 1 [] (invocation k) (answers k) 160) invocations ≡ map (λ k. run_made (events k) ended) invocations
 unfolding module_opened
 of_module = refl
 
-of_text : run_of_text text (invocation 2) answers 4 ≡ text_made events has_ended
+-- the text is read once
+abbrev text_runs : Option TranslationUnit → List TextRun
+text_runs unit = map (λ k. run_of_tree unit (invocation k) (answers k) 5) invocations
+
+of_text : text_runs (glsl_read text) ≡ map (λ k. text_made (events k) has_ended) invocations
 unfolding text_opened
 of_text = refl
 
 -- with no turn of the loop
-cut_off : run_of_text text (invocation 2) answers 0 ≡ text_made up_to_loop was_cut
+cut_off : run_of_text text (invocation 2) (answers 2) 0 ≡ text_made (up_to_loop 2) was_cut
 unfolding text_opened
 cut_off = refl
