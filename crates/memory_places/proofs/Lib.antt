@@ -1,8 +1,9 @@
-mod Along
+pub mod Along
 mod Signed
 mod Gaining
-mod Positions
+pub mod Positions
 mod Numbers
 mod Mentioned
 mod Reached
 mod Fine
+pub mod Narrow

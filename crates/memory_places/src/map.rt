@@ -14,7 +14,7 @@ ghost use Rattle.module_semantics.specs.State as state;
 ghost use Rattle.memory_places.specs.Bases.{base_of, built_in_of};
 ghost use Rattle.memory_places.specs.Capped.{capped};
 ghost use Rattle.memory_places.specs.Conditions.{CanRun};
-ghost use Rattle.memory_places.specs.Kernel.{bare_from, kernel, plain, setting_for, ForEach};
+ghost use Rattle.memory_places.specs.Kernel.{bare_from, kernel, setting_for, ForEach};
 ghost use Rattle.memory_places.specs.Leaves.{places_with};
 ghost use Rattle.memory_places.specs.Starts.{start_of};
 
