@@ -16,3 +16,4 @@ pub mod WholeEdges
 pub mod Said
 pub mod CallsSaid
 pub mod CaseGroups
+pub mod TreeWays
