@@ -1,6 +1,6 @@
 -- Chains lead where the rules on types lead.
 use Rattle.std.proofs.Common.{◌≡◌, ◌||◌, ℕ, Bool, true, false, List, [], ◌∷◌, length, drop, Option, Some, None, inl, inr, refl, sym, ap, ◌∙◌, subst, if◌then◌else◌}
-use Rattle.std.specs.Prelude.{◌⊎◌, nat_lt, option_map, option_and_then, is_some}
+use Rattle.std.specs.Prelude.{◌⊎◌, nat_lt, option_map, option_and_then, is_some, unwrap_or}
 use Rattle.std.specs.Option.{option_map_or}
 use Rattle.spv_ops.specs.Opcode.{is, number}
 use Rattle.spv_ops.specs.declared.Op.{Op}
@@ -207,3 +207,28 @@ module _ (s : Setting) (f : Function) where
           let q = to off.0 in
           let target : target_shape s f i.result ≡ Some q.1 = ap (λ o. option_and_then (type_tree Gs) (option_and_then (pointee Gs) o)) typed ∙ (ap (option_and_then (type_tree Gs)) q.2 ∙ q.3) in
           w.4 ∙ ap (λ x. Some x) (same_types s f w.0 q.0 w.1 q.1 w.3 q.3 (ap (λ o. option_map_or (differ Gs w.0) o false) (sym q.2) ∙ off.2)) ∙ sym target
+
+  -- T6: and its result type is a pointer
+  some_indexes : (ids : List ℕ) → HaveTypes ids → (ns : List ℕ) × AreIndexes ids ns
+  some_indexes [] have = ([], tt)
+  some_indexes (id ∷ ids) have =
+      let rest = some_indexes ids have.1 in
+      (unwrap_or (constant_word Gs id) 0 ∷ rest.0, ((have.0, λ w e. ap (λ o. unwrap_or o 0) e), rest.1))
+
+  pub chain_pointer : (i : Inst) (t : Tree) → breaks_t6 Gs T i ≡ false → HaveTypes (drop 1 i.args) → target_shape s f (base i) ≡ Some t → fails is_pointer Gs i.ty ≡ false
+  chain_pointer i t right have from =
+      let start = some_first (type_tree Gs) (option_and_then (pointee Gs) (T (base i))) t from in
+      let off = three_off (value_fails is_pointer Gs T (word i 0)) (list_any (value_fails is_int Gs T) (drop 1 i.args)) (leads_elsewhere Gs i.ty (option_and_then (storage_class Gs) (T (word i 0))) (chain_end Gs T i)) right in
+      let reached : leads_elsewhere Gs i.ty (option_and_then (storage_class Gs) (T (word i 0))) (walk (chain_step Gs T) (Part start.0) (drop 1 i.args)) ≡ false
+      = ap (λ o. leads_elsewhere Gs i.ty (option_and_then (storage_class Gs) (T (word i 0))) (walk (chain_step Gs T) (option_map_or Part o Unknown) (drop 1 i.args))) (sym start.1) ∙ off.2 in
+      let indexes = some_indexes (drop 1 i.args) have in
+      by_walk (walk (chain_step Gs T) (Part start.0) (drop 1 i.args)) reached (elim (chain_leads (drop 1 i.args) indexes.0 start.0 t start.2 indexes.1) [ inl none ↦ inl none | inr w ↦ inr (w.0, w.2) ])
+    where
+      by_walk : (r : Reached) → leads_elsewhere Gs i.ty (option_and_then (storage_class Gs) (T (word i 0))) r ≡ false → (r ≡ Nothing) ⊎ ((c : ℕ) × (r ≡ Part c)) → fails is_pointer Gs i.ty ≡ false
+      by_walk r right (inl none) = absurd (never (ap (leads_elsewhere Gs i.ty (option_and_then (storage_class Gs) (T (word i 0)))) (sym none) ∙ right))
+        where
+          never : true ≡ false → ⊥
+          never e = cc
+      by_walk r right (inr w) =
+          let part : is_other_pointer Gs i.ty (option_and_then (storage_class Gs) (T (word i 0))) w.0 ≡ false = ap (leads_elsewhere Gs i.ty (option_and_then (storage_class Gs) (T (word i 0)))) (sym w.1) ∙ right in
+          (three_off (fails is_pointer Gs i.ty) (option_map_or (λ c. is_not c (storage_class Gs i.ty)) (option_and_then (storage_class Gs) (T (word i 0))) false) (option_map_or (differ Gs w.0) (pointee Gs i.ty) false) part).0

@@ -40,7 +40,7 @@ use Rattle.module_semantics.specs.Setting.{Setting, as_variable, global_variable
 use Rattle.module_semantics.specs.Memory.{variable_type, class_of}
 use Rattle.module_semantics.specs.Operands.{arg}
 use Rattle.module_semantics.specs.Accesses.{initial_by, initial, initial_in, initial_private}
-use Rattle.fits_law.specs.State.{value_shape, target_shape, global_shape, HasShape, IsLocal, VariablesFit, PrivatesFit}
+use Rattle.fits_law.specs.State.{target_shape, global_shape, HasShape, IsLocal, VariablesFit, PrivatesFit}
 use Rattle.fits_law.specs.Typed.{AreArguments, IsCall}
 use Rattle.fits_law.proofs.Parts.{zero_fits}
 use Rattle.fits_law.proofs.Steps.{named}
@@ -52,7 +52,7 @@ use Rattle.typed_law.proofs.Lists.{or_left, or_right, and_off, same_some, found_
 use Rattle.typed_law.proofs.Rules.{operand_there, global_there, initializer_right, class_right}
 use Rattle.typed_law.proofs.Types.{pointee_shaped}
 use Rattle.typed_law.proofs.Used.{pointee_sized}
-use Rattle.typed_law.proofs.Values.{same_count, IsRow, inside, global_row, local_row, parameter_row, result_row, declared_by, HasType, one_type, same_type, own_type, own_local, variable_type_is, among_functions, function_id, function_need, function_least, type_suits, typed_is, global_typed_some}
+use Rattle.typed_law.proofs.Values.{same_count, IsRow, inside, global_row, local_row, parameter_row, result_row, declared_by, IsDeclaredBy, HasType, one_type, same_type, own_type, own_local, variable_type_is, among_functions, function_id, function_need, function_least, type_suits, typed_is, global_typed_some}
 use Rattle.typed_law.proofs.Others.{contains_found, callee_is, typed_some}
 
 -- variables of these classes are no blocks
@@ -77,6 +77,18 @@ class_found n (d ∷ cs) c e = by_test (class_number d == n) (eqb_tells (class_n
 
 pub class_is : (v : Inst) (c : StorageClass) → class_of v ≡ Some c → word v 0 ≡ class_number c
 class_is v c e = class_found (word v 0) storage_classes c e
+
+-- each argument has the type of the parameter, which is no global
+abbrev pub AreOfTypes : Setting → Function → Function → List (Id × Id) → List ℕ → Type 0
+AreOfTypes s f g [] ids = Unit {0}
+AreOfTypes s f g (p ∷ ps) [] = Unit {0}
+AreOfTypes s f g (p ∷ ps) (id ∷ ids) = (type_in s.of.globals g p.0.0 ≡ type_in s.of.globals f id) × IsLocal s p.0.0 × AreOfTypes s f g ps ids
+
+as_arguments : (s : Setting) (f g : Function) (ps : List (Id × Id)) (ids : List ℕ) → AreOfTypes s f g ps ids → AreArguments s f g ps ids
+as_arguments s f g [] ids are = tt
+as_arguments s f g (p ∷ ps) [] are = tt
+as_arguments s f g (p ∷ ps) (id ∷ ids) are =
+    (ap (option_and_then (type_tree s.of.globals)) are.0, ap (λ o. option_and_then (type_tree s.of.globals) (option_and_then (pointee s.of.globals) o)) are.0, are.1, as_arguments s f g ps ids are.2)
 
 module _ (s : Setting) (entry : Option (List ℕ)) (right : IsConforming s.of entry) (chosen : ℕ → Option ℕ) (have : HasConstants s chosen) where
   abbrev Gs : List Inst
@@ -187,16 +199,15 @@ module _ (s : Setting) (entry : Option (List ℕ)) (right : IsConforming s.of en
     IsTypedId id = HasType s entry right f in_it id
 
     -- an argument is what the parameter is
-    argument_is : (g : Function) → Contains s.of.functions g → (p : Id × Id) → IsParameter p g.params → (id : ℕ) → V id ≡ Some p.1.0 → (value_shape s g p.0.0 ≡ value_shape s f id) × (target_shape s g p.0.0 ≡ target_shape s f id) × IsLocal s p.0.0
+    argument_is : (g : Function) → Contains s.of.functions g → (p : Id × Id) → IsParameter p g.params → (id : ℕ) → V id ≡ Some p.1.0 → (type_in Gs g p.0.0 ≡ V id) × IsLocal s p.0.0
     argument_is g g_in p there id at =
         let outside = (inside s entry right g g_in).outside p there in
         let found = (inside s entry right g g_in).found p there in
-        let same : type_in Gs g p.0.0 ≡ V id = ap (λ o. option_or (option_and_then typed o) (local_type g p.0.0)) outside ∙ (ap (λ o. option_or o (option_and_then typed (inst_in g p.0.0))) found ∙ sym at) in
-        (ap (option_and_then (type_tree Gs)) same, ap (λ o. option_and_then (type_tree Gs) (option_and_then (pointee Gs) o)) same, outside)
+        (ap (λ o. option_or (option_and_then typed o) (local_type g p.0.0)) outside ∙ (ap (λ o. option_or o (option_and_then typed (inst_in g p.0.0))) found ∙ sym at), outside)
 
     arguments_are : (g : Function) → Contains s.of.functions g → (ps : List (Id × Id)) → ((p : Id × Id) → IsParameter p ps → IsParameter p g.params) → (tys ids : List ℕ) → length ps ≡ length tys → length ids ≡ length tys
         → ((k : ℕ) → k < length tys → IsRow s entry right (slice_index tys k)) → ((k : ℕ) → k < length ids → IsTypedId (slice_index ids k))
-        → list_any (λ (p : ℕ × (Id × Id)). differ Gs p.0 p.1.1.0) (zip tys ps) ≡ false → list_any (λ (p : ℕ × ℕ). is_other Gs V p.0 p.1) (zip tys ids) ≡ false → AreArguments s f g ps ids
+        → list_any (λ (p : ℕ × (Id × Id)). differ Gs p.0 p.1.1.0) (zip tys ps) ≡ false → list_any (λ (p : ℕ × ℕ). is_other Gs V p.0 p.1) (zip tys ids) ≡ false → AreOfTypes s f g ps ids
     arguments_are g g_in [] sub tys ids many as_many rows typed_ids params args = tt
     arguments_are g g_in (p ∷ ps) sub [] ids many as_many rows typed_ids params args = absurd (omega (arith, many))
     arguments_are g g_in (p ∷ ps) sub (ty ∷ tys) [] many as_many rows typed_ids params args = absurd (omega (arith, as_many))
@@ -207,7 +218,6 @@ module _ (s : Setting) (entry : Option (List ℕ)) (right : IsConforming s.of en
         let w = argument_is g g_in p (sub p (inl refl)) id (at ∙ ap (λ x. Some x) same) in (
           w.0,
           w.1,
-          w.2,
           arguments_are g g_in ps (λ r there. sub r (inr there)) tys ids (let rest : length ps ≡ length tys = omega (arith, many) in rest) (let rest : length ids ≡ length tys = omega (arith, as_many) in rest)
               (λ k less. rows (suc k) (let more : suc k < suc (length tys) = omega (arith, less) in more)) (λ k less. typed_ids (suc k) (let more : suc k < suc (length ids) = omega (arith, less) in more))
               (or_right (differ Gs ty p.1.0) (list_any (λ (r : ℕ × (Id × Id)). differ Gs r.0 r.1.1.0) (zip tys ps)) params) (or_right (is_other Gs V ty id) (list_any (λ (r : ℕ × ℕ). is_other Gs V r.0 r.1) (zip tys ids)) args),
@@ -224,24 +234,38 @@ module _ (s : Setting) (entry : Option (List ℕ)) (right : IsConforming s.of en
     dropped P [] each k less = absurd (omega (arith, less))
     dropped P (a ∷ args) each k less = each (suc k) (let low : 1 ≤ suc k = omega arith in low) (let more : suc k < suc (length args) = omega (arith, less) in more)
 
-    -- T21
-    pub as_call : (i : Inst) → IsAmong i (insts_of f) → has_type i.op ≡ true → breaks_t21 s.of.functions Gs V i ≡ false → ((k : ℕ) → 1 ≤ k → k < length i.args → IsTypedId (slice_index i.args k)) → (g : Function) → function_of s.of.functions (arg i 0) ≡ Some g → IsCall s f g i
-    as_call i there has off typed_ids g at =
-        let g_in = contains_found s.of.functions (arg i 0) g at in
-        let d = declared_by s entry right g g_in in
-        let told : is_miscalled Gs V i d.0 ≡ false =
-        ap (λ o. option_map_or (is_miscalled Gs V i) o false) (sym d.1.is_it) ∙ (ap (λ o. option_map_or (is_miscalled Gs V i) (option_and_then (function_type Gs) o) false) (sym (callee_is s.of.functions (arg i 0) g at)) ∙ off) in
-        let members = or_right (differ Gs (word d.0 0) i.ty) (are_other_members Gs V (drop 1 d.0.args) (drop 1 i.args)) told in
-        let some = typed_some s entry right f in_it i there has in
-        let row = local_row s entry right f in_it i there some in
-        let first = type_named d.0 d.1.there d.1.on 0 (function_least d.0.op (length d.0.args) d.1.on (right.formed d.0 d.1.there).least) in
-        let of_call : word d.0 0 ≡ i.ty = one_type s entry right f in_it (word d.0 0) i.ty first (row.0, row.1, type_suits i.op row.0 row.2) (or_left (differ Gs (word d.0 0) i.ty) (are_other_members Gs V (drop 1 d.0.args) (drop 1 i.args)) told) in
-        let of_callee : word d.0 0 ≡ g.result.0 = one_type s entry right f in_it (word d.0 0) g.result.0 first (result_row s entry right g g_in) d.1.result in
-        record {
-          arguments = arguments_are g g_in g.params (λ p p_in. p_in) (drop 1 d.0.args) (drop 1 i.args) d.1.many (same_count (length (drop 1 i.args)) (length (drop 1 d.0.args)) (or_left (not (length (drop 1 i.args) == length (drop 1 d.0.args))) (list_any (λ (p : ℕ × ℕ). is_other Gs V p.0 p.1) (zip (drop 1 d.0.args) (drop 1 i.args))) members))
-              (dropped (IsRow s entry right) d.0.args (λ k low less. type_named d.0 d.1.there d.1.on k less)) (dropped IsTypedId i.args typed_ids) d.1.each
-              (or_right (not (length (drop 1 i.args) == length (drop 1 d.0.args))) (list_any (λ (p : ℕ × ℕ). is_other Gs V p.0 p.1) (zip (drop 1 d.0.args) (drop 1 i.args))) members);
-          result = ap (option_and_then (type_tree Gs)) (own_type s entry right f in_it i there some) ∙ ap (type_tree Gs) (sym of_call ∙ of_callee);
-          variables = initial_in_fits g g_in;
-          local = own_local s entry right f in_it i there;
-        }
+    -- T21: arguments have the types of parameters, and the result that of the callee
+    module _ (i : Inst) (there : IsAmong i (insts_of f)) (has : has_type i.op ≡ true) (off : breaks_t21 s.of.functions Gs V i ≡ false) (typed_ids : (k : ℕ) → 1 ≤ k → k < length i.args → IsTypedId (slice_index i.args k)) (g : Function) (at : function_of s.of.functions (arg i 0) ≡ Some g) where
+      g_in : Contains s.of.functions g
+      g_in = contains_found s.of.functions (arg i 0) g at
+
+      declared : (d : Inst) × IsDeclaredBy s entry right g g_in d
+      declared = declared_by s entry right g g_in
+
+      told : is_miscalled Gs V i declared.0 ≡ false
+      told =
+          ap (λ o. option_map_or (is_miscalled Gs V i) o false) (sym declared.1.is_it) ∙ (ap (λ o. option_map_or (is_miscalled Gs V i) (option_and_then (function_type Gs) o) false) (sym (callee_is s.of.functions (arg i 0) g at)) ∙ off)
+
+      pub arguments_typed : AreOfTypes s f g g.params (drop 1 i.args)
+      arguments_typed =
+          let d = declared in
+          let members = or_right (differ Gs (word d.0 0) i.ty) (are_other_members Gs V (drop 1 d.0.args) (drop 1 i.args)) told in
+          let few = not (length (drop 1 i.args) == length (drop 1 d.0.args)) in
+          let others = list_any (λ (p : ℕ × ℕ). is_other Gs V p.0 p.1) (zip (drop 1 d.0.args) (drop 1 i.args)) in
+          arguments_are g g_in g.params (λ p p_in. p_in) (drop 1 d.0.args) (drop 1 i.args) d.1.many (same_count (length (drop 1 i.args)) (length (drop 1 d.0.args)) (or_left few others members))
+          (dropped (IsRow s entry right) d.0.args (λ k low less. type_named d.0 d.1.there d.1.on k less)) (dropped IsTypedId i.args typed_ids) d.1.each (or_right few others members)
+
+      pub as_call : IsCall s f g i
+      as_call =
+          let d = declared in
+          let some = typed_some s entry right f in_it i there has in
+          let row = local_row s entry right f in_it i there some in
+          let first = type_named d.0 d.1.there d.1.on 0 (function_least d.0.op (length d.0.args) d.1.on (right.formed d.0 d.1.there).least) in
+          let of_call : word d.0 0 ≡ i.ty = one_type s entry right f in_it (word d.0 0) i.ty first (row.0, row.1, type_suits i.op row.0 row.2) (or_left (differ Gs (word d.0 0) i.ty) (are_other_members Gs V (drop 1 d.0.args) (drop 1 i.args)) told) in
+          let of_callee : word d.0 0 ≡ g.result.0 = one_type s entry right f in_it (word d.0 0) g.result.0 first (result_row s entry right g g_in) d.1.result in
+          record {
+            arguments = as_arguments s f g g.params (drop 1 i.args) arguments_typed;
+            result = ap (option_and_then (type_tree Gs)) (own_type s entry right f in_it i there some) ∙ ap (type_tree Gs) (sym of_call ∙ of_callee);
+            variables = initial_in_fits g g_in;
+            local = own_local s entry right f in_it i there;
+          }

@@ -213,7 +213,7 @@ module _ (s : Setting) (entry : Option (List ℕ)) (right : IsConforming s.of en
         (int_words s f i.ty i.result shape_q.1 (subst (λ x. fails is_int Gs x ≡ false) same fails_not) tree_ty (own_shape s entry right f in_it i there shape_q.1 tree_ty), own_local s entry right f in_it i there)
 
     -- T6
-    chain_types : (ids : List ℕ) → ((k : ℕ) → k < length ids → IsTypedId (slice_index ids k)) → chains.HaveTypes s f ids
+    pub chain_types : (ids : List ℕ) → ((k : ℕ) → k < length ids → IsTypedId (slice_index ids k)) → chains.HaveTypes s f ids
     chain_types [] each = tt
     chain_types (id ∷ ids) each =
         let first = each 0 (let less : 0 < suc (length ids) = omega arith in less) in

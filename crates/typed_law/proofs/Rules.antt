@@ -4,7 +4,7 @@ use Rattle.std.specs.Prelude.{◌⊎◌, flat_map, Contains, slice_index}
 use Rattle.std.specs.List.{list_any, enumerate_from}
 use Rattle.std.proofs.lemmas.List.Elements.{Contains-append_left, Contains-append_right}
 use Rattle.spv_words.specs.declared.rule.Rule.{Rule}
-use Rattle.spv_words.specs.declared.rule.Rule.TheVariants.{T1, T21, A3}
+use Rattle.spv_words.specs.declared.rule.Rule.TheVariants.{T1, T21, M4, A3}
 use Rattle.spv_ops.specs.Operands.{is_id}
 use Rattle.spv_ops.specs.OpGroups.{group_of}
 use Rattle.spv_module.specs.State.{ModuleState}
@@ -21,6 +21,7 @@ use Rattle.profile_rules.specs.TypeForm.{is_misformed, is_misused, is_other_poin
 use Rattle.profile_rules.specs.Variables.{is_other_input, is_other_initializer, is_misclassed}
 use Rattle.profile_rules.specs.Places.{places, body_insts}
 use Rattle.spv_decor.specs.Decorations.{local_insts}
+use Rattle.profile_rules.specs.MemoryRules.{breaks_m4}
 use Rattle.profile_rules.specs.AtomicRules.{breaks_a3}
 use Rattle.profile_rules.specs.AccessRules.{breaks, broken_in}
 use Rattle.plan_law.specs.InOrder.{IsAmong}
@@ -121,6 +122,10 @@ module _ (m : ModuleState) (entry : Option (List ℕ)) (right : IsConforming m e
   -- P13 of a variable in a function
   pub class_right : (v : Inst) → IsAmong v (local_insts m) → is_misclassed true m.globals v ≡ false
   class_right v there = none_at_fault (is_misclassed true m.globals) (local_insts m) v (λ at has. right.declared.1.1.1.1.1.1.1.1.0 at (Contains-append_right (places (is_misclassed false m.globals) m.globals) (places (is_misclassed true m.globals) (local_insts m)) at has)) there
+
+  -- M4 of a call
+  pub call_right : (f : Function) → Contains m.functions f → (i : Inst) → IsAmong i (insts_of f) → breaks_m4 m.globals f i ≡ false
+  call_right f in_it i there = none_at_fault (breaks m.heads m.globals f M4) (insts_of f) i (λ at has. right.accessed.1.1.1.0 at (contains_flat (broken_in m M4) m.functions f at in_it has)) there
 
   -- A3 of an instruction of a function
   pub access_right : (f : Function) → Contains m.functions f → (i : Inst) → IsAmong i (insts_of f) → breaks_a3 m.heads m.globals f i ≡ false

@@ -69,7 +69,7 @@ pub type_outside : (m : ModuleState) (f : Function) (n id : ℕ) (o : Op) → is
 type_outside m f n id code.Variable = refl
 type_outside m f n id o = refl
 
-typed_result : (o : Op) → has_type o ≡ true → has_result o ≡ true
+pub typed_result : (o : Op) → has_type o ≡ true → has_result o ≡ true
 unfolding shape
 typed_result code.Undef e = refl
 typed_result o e = cc

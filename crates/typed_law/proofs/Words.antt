@@ -422,6 +422,7 @@ module _ (ws : List ℕ) (entry : Option (List ℕ)) (right : BreakNone ws entry
       record {
         order = are_in_order ws right.form.1.1.0 right.form.1.1.1.0 (λ at has. none_in (module_of ws) right.typed at has) f there;
         formed = λ i stands. let w = made.insts i stands in subst IsFormed w.2 (of_all w.0 w.1 w.3);
+        some = λ p stands zero_is. let w = made.params p stands in parameter_some p w (parameter_is p w ∙ zero_is);
         outside = λ p stands. parameter_outside p (made.params p stands);
         found = λ p stands. ap (λ (o : Option (Id × Id)). option_map (λ (q : Id × Id). q.1.0) o) (found_param f.params p stands (λ q q_in same. parameter_alone p q (made.params p stands) (made.params q q_in) same));
       }

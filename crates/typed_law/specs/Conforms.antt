@@ -42,10 +42,11 @@ abbrev pub IsParameter : Id × Id → List (Id × Id) → Type 0
 IsParameter p [] = ⊥
 IsParameter p (q ∷ qs) = (q ≡ p) ⊎ IsParameter p qs
 
--- the instructions of a function are formed and in order, and its parameters have ids of their own
+-- the instructions of a function are formed and in order, and its parameters have ids of their own, none of which is 0
 pub record IsConformingIn (m : ModuleState) (f : Function) : Type 0 where
   pub order : AreInOrder m f
   pub formed : (i : Inst) → IsAmong i (insts_of f) → IsFormed i
+  pub some : (p : Id × Id) → IsParameter p f.params → p.0.0 ≡ 0 → ⊥
   pub outside : (p : Id × Id) → IsParameter p f.params → global m.globals p.0.0 ≡ None
   pub found : (p : Id × Id) → IsParameter p f.params → parameter_in f p.0.0 ≡ Some p.1.0
 
