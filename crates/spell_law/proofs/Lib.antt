@@ -5,3 +5,4 @@ pub mod Values
 pub mod Statements
 pub mod Sentences
 pub mod Regions
+pub mod Units

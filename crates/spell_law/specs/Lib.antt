@@ -3,3 +3,4 @@ pub mod Named
 pub mod Asked
 pub mod Statements
 pub mod Blocks
+pub mod Units
