@@ -81,7 +81,7 @@ module _ (s : Setting) (f : Function) (overrides : List (ℕ × Given)) (key : K
   AreDeclared p no_trees = Unit {0}
   AreDeclared p (tree t ts) = IsDeclared p s source key t × AreDeclared p ts
 
-  type_declared : (p : Program) (ty : ℕ) (t : Tree) → type_tree Gs ty ≡ Some t → IsDeclared p s source key t → type_of p (type_at source N ty) ≡ Some (shape_in s (struct_names key) t)
+  pub type_declared : (p : Program) (ty : ℕ) (t : Tree) → type_tree Gs ty ≡ Some t → IsDeclared p s source key t → type_of p (type_at source N ty) ≡ Some (shape_in s (struct_names key) t)
   type_declared p ty t shape is = ap (type_of p) (outline_same (spelling source N.id) Gs ty t shape) ∙ named_type p s source key t is
 
   -- the members of a block

@@ -3,3 +3,4 @@ pub mod Indexes
 pub mod BuiltIns
 pub mod Declared
 pub mod Blocks
+pub mod Shared
