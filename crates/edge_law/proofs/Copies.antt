@@ -89,6 +89,7 @@ module _ (p : Program) (calls : Text → List Argument → State → Result (Opt
     pub there : slice_get f.blocks t ≡ Some block
     pub sources : each_one (phi_value s from.top (present_label from.top)) (phis block) ≡ Some values
     pub holds : Holds from
+    pub arrives : Holds (gone_to from t block values)
 
   -- What is asked of the moves that are written of an edge: that they make copies at once, of what the phis with variables take, and each reads something.
   pub record IsEdge (b t : ℕ) (o : Body f b) (statements : List Stmt) : Type 0 where
@@ -114,8 +115,8 @@ module _ (p : Program) (calls : Text → List Argument → State → Result (Opt
   abbrev Plain : (Supplied Conf → State → Type 0) → Supplied Conf → Run → Type 0
   Plain P c o = Follows (Supplied Conf) (machine s) State (Option Typed) P (Never (Supplied Conf) (machine s) State (Option Typed)) (Never (Supplied Conf) (machine s) State (Option Typed)) (NeverGives (Supplied Conf) (machine s) State (Option Typed)) 0 k c o
 
-  -- The copies of an edge lead to the start of its block.
-  pub copies_follow : (copies : ℕ → ℕ → List Stmt) → ((b t : ℕ) (o : Body f b) → body b ≡ Some o → IsEdge b t o (copies b t)) → (b t : ℕ) (c : Supplied Conf) (z : State) → Arrives m s Holds f body b t c z → Plain (Starts m s Holds f body t) c (stmts_run p calls k (stmts_in (copies b t)) z)
+  -- The copies of an edge lead to the start of its block: of one that is taken, so that its block is there and all its phis have values.
+  pub copies_follow : (copies : ℕ → ℕ → List Stmt) → ((b t : ℕ) (o : Body f b) → body b ≡ Some o → (from : Conf) (block : Block) (values : List ValueTree) → IsTaken b t from block values → IsEdge b t o (copies b t)) → (b t : ℕ) (c : Supplied Conf) (z : State) → Arrives m s Holds f body b t c z → Plain (Starts m s Holds f body t) c (stmts_run p calls k (stmts_in (copies b t)) z)
   copies_follow copies edges b t c z a =
       subst (λ (c : Supplied Conf). Plain (Starts m s Holds f body t) c (stmts_run p calls k (stmts_in (copies b t)) z)) (sym a.at)
       (subst (λ (xs : List Stmt). Plain (Starts m s Holds f body t) there (stmts_run p calls k (stmts_in xs) z)) (sym e.written)
@@ -146,14 +147,14 @@ module _ (p : Program) (calls : Text → List Argument → State → Result (Opt
       there : Supplied Conf
       there = supplied (gone_to from t a.block a.values) a.from.answers
 
+      taken : IsTaken b t from a.block a.values
+      taken = record { function = a.stops.at.stands.function; at = a.stops.at.stands.block; there = a.there; sources = a.sources; holds = a.stops.at.stands.holds; arrives = subst (λ (c : Supplied Conf). Holds c.at) a.at a.holds }
+
       e : IsEdge b t a.stops.body_of (copies b t)
-      e = edges b t a.stops.body_of a.stops.is
+      e = edges b t a.stops.body_of a.stops.is from a.block a.values taken
 
       done : ℕ → Bool
       done = have_result (behind [] a.stops.body_of.insts)
-
-      taken : IsTaken b t from a.block a.values
-      taken = record { function = a.stops.at.stands.function; at = a.stops.at.stands.block; there = a.there; sources = a.sources; holds = a.stops.at.stands.holds }
 
       r : Moved p calls k m apart done e.names e.spares e.types e.constants e.constants_say from (first_values from) e.moves z
       r = moves_run p calls k m apart done e.names e.spares e.types e.constants e.constants_say from e.moves from (first_values from) z e.typed_moves e.reads (e.all_read from a.block a.values taken)
