@@ -121,7 +121,7 @@ label_in x label (literal ∷ l ∷ more) e = by_test (literal == x) e (label_in
     by_test true e later = inl (let same : label ≡ l = cc in same)
     by_test false e later = inr (later e)
 
-placed_below : (bs : List Block) (n : ℕ) (b : Block) → slice_get bs n ≡ Some b → n < length bs
+pub placed_below : (bs : List Block) (n : ℕ) (b : Block) → slice_get bs n ≡ Some b → n < length bs
 placed_below [] n b e = cc
 placed_below (c ∷ bs) zero b e = omega arith
 placed_below (c ∷ bs) (suc n) b e = let le = placed_below bs n b e in omega (arith, le)

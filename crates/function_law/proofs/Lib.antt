@@ -17,3 +17,4 @@ pub mod Said
 pub mod CallsSaid
 pub mod CaseGroups
 pub mod TreeWays
+pub mod Nodes
