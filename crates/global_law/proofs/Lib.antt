@@ -4,3 +4,4 @@ pub mod BuiltIns
 pub mod Declared
 pub mod Blocks
 pub mod Shared
+pub mod Told

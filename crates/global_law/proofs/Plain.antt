@@ -162,7 +162,7 @@ module _ (s : Setting) (overrides : List (ℕ × Given)) (have : HasConstants s 
           by_case kinds.Other is made = cc
 
   -- a literal is a value of its type
-  literal_says : (y : StructNames) (t : Tree) (v : ValueTree) → is_scalar t ≡ true → fits t v ≡ true → literal_value (scalar_literal t v) ≡ typed (shape_in s y t) v
+  pub literal_says : (y : StructNames) (t : Tree) (v : ValueTree) → is_scalar t ≡ true → fits t v ≡ true → literal_value (scalar_literal t v) ≡ typed (shape_in s y t) v
   literal_says y plain.int (word w) on fit = by_sign (nat_lt w (2 ^ 31))
     where
       by_sign : (b : Bool) → literal_value (if b then Int w else Hex w) ≡ typed (shape_in s y plain.int) (word w)
