@@ -34,7 +34,7 @@ use Rattle.path_law.proofs.Bytes.{kind_of, declared_by}
 some_same : {A : Type 0} (a b : A) → Some a ≡ Some b → a ≡ b
 some_same a b e = cc
 
-either_off : (a b : Bool) → (a || b) ≡ false → (a ≡ false) × (b ≡ false)
+pub either_off : (a b : Bool) → (a || b) ≡ false → (a ≡ false) × (b ≡ false)
 either_off true b e = cc
 either_off false b e = (refl, e)
 
@@ -66,7 +66,7 @@ module _ (s : Setting) (k : Kind) where
   H = s.of.heads
 
   -- an Offset by the rules is the decoration's
-  offset_is : (id j n : ℕ) → offset_of H id j ≡ Some n → member_offset s id j ≡ n
+  pub offset_is : (id j n : ℕ) → offset_of H id j ≡ Some n → member_offset s id j ≡ n
   offset_is id j n e = by_low (nat_lt j 4294967296) e
     where
       by_low : (b : Bool) → (if b then member_value_of H id j (decoration_number decoration.Offset) else None) ≡ Some n → member_offset s id j ≡ n
@@ -171,11 +171,11 @@ module _ (s : Setting) (k : Kind) where
         )
 
   -- the rules, of the members of a block
-  abbrev AllFalse : {A : Type 0} → (A → Bool) → List A → Type 0
+  abbrev pub AllFalse : {A : Type 0} → (A → Bool) → List A → Type 0
   AllFalse p [] = Unit {0}
   AllFalse p (x ∷ xs) = (p x ≡ false) × AllFalse p xs
 
-  none_found : {A : Type 0} (p : A → Bool) (xs : List A) → find p xs ≡ None → AllFalse p xs
+  pub none_found : {A : Type 0} (p : A → Bool) (xs : List A) → find p xs ≡ None → AllFalse p xs
   none_found p [] e = tt
   none_found p (x ∷ xs) e = by_test (p x) refl e (λ e. none_found p xs e)
     where
@@ -183,7 +183,7 @@ module _ (s : Setting) (k : Kind) where
       by_test true is e later = cc
       by_test false is e later = (is, later e)
 
-  any_none : {A : Type 0} (p : A → Bool) (xs : List A) → list_any p xs ≡ false → AllFalse p xs
+  pub any_none : {A : Type 0} (p : A → Bool) (xs : List A) → list_any p xs ≡ false → AllFalse p xs
   any_none p [] e = tt
   any_none p (x ∷ xs) e = let parts = either_off (p x) (list_any p xs) e in (parts.0, any_none p xs parts.1)
 
@@ -192,7 +192,7 @@ module _ (s : Setting) (k : Kind) where
   none_of (Some a) e = cc
 
   -- the layout that the members take fits
-  taken_fits : (first : Kind) (ms : List Member) → kind_of_members H Gs first ms ≡ Some k → first_broken H Gs k ms ≡ None
+  pub taken_fits : (first : Kind) (ms : List Member) → kind_of_members H Gs first ms ≡ Some k → first_broken H Gs k ms ≡ None
   taken_fits first ms e = by_first (is_none (first_broken H Gs first ms)) refl e
     where
       by_second : (b : Bool) → is_none (first_broken H Gs Std140 ms) ≡ b → (if b then Some Std140 else None) ≡ Some k → first_broken H Gs k ms ≡ None
