@@ -18,3 +18,4 @@ pub mod CallsSaid
 pub mod CaseGroups
 pub mod TreeWays
 pub mod Nodes
+pub mod PlannedText
