@@ -5,3 +5,4 @@ pub mod Declared
 pub mod Blocks
 pub mod Shared
 pub mod Told
+pub mod Privates

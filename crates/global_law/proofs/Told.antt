@@ -143,7 +143,7 @@ module _ (s : Setting) (y : StructNames) where
   spec_scalar t v h o args kinds.Other is fit e = absurd is
 
   -- a scalar of its own type
-  if_own : (t : Tree) (v : ValueTree) → is_scalar t ≡ true → if_of (shape_in s y t) (typed (shape_in s y t) v) ≡ Some (typed (shape_in s y t) v)
+  pub if_own : (t : Tree) (v : ValueTree) → is_scalar t ≡ true → if_of (shape_in s y t) (typed (shape_in s y t) v) ≡ Some (typed (shape_in s y t) v)
   if_own plain.boolean v on = refl
   if_own plain.int v on = refl
   if_own plain.uint v on = refl
