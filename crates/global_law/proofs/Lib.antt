@@ -6,3 +6,4 @@ pub mod Blocks
 pub mod Shared
 pub mod Told
 pub mod Privates
+pub mod Extents
