@@ -1,14 +1,16 @@
 // Calls.
-ghost use Rattle.std.specs.Prelude.{◌≡◌, ◌+◌, ◌<◌, ◌^◌, ◌∷◌, IfOk, OnOk, OnErr, List};
+ghost use Rattle.std.specs.Prelude.{◌≡◌, ◌+◌, ◌<◌, ◌^◌, ℕ, IfOk, OnOk, OnErr, List, map};
 ghost use Rattle.spv_module.specs.declared.inst.Function.{Function};
-ghost use Rattle.module_semantics.specs.Steps.{passed as passed_of};
-ghost use Rattle.run_state.specs.Ids.{held_of, found_of};
-ghost use Rattle.run_state.specs.Confs.{conf_of, frame_of};
+ghost use Rattle.module_semantics.specs.Steps.{argument_of, passed as passed_of};
+ghost use Rattle.run_state.specs.Ids.{held_of, found_of, ids_of};
+ghost use Rattle.run_state.specs.Confs.{conf_of};
 ghost use Rattle.run_calls.specs.Entered.{with_call_on};
 
-use run_state::{Conf, Found, Frame, Held, Root};
+use run_state::{Conf, Found, Frame, Held, Ids, Root, put};
+use spv_module::Id;
 use spv_words::Memory;
 use std::alloc::Global;
+use std::collections::BTreeMap;
 use std::mem::replace;
 use value_ops::copied;
 
@@ -33,6 +35,21 @@ pub fn passed(alloc: Global, argument: Found<'_>, depth: usize) -> Result<Held, 
         }
         Found::Pointer(root, path) => Ok(Held::Pointer(root, path_again(alloc, path)?)),
     }
+}
+
+/// What the parameters of a call have, from its arguments in order. Of parameters with one id the first counts.
+pub fn arguments(alloc: Global, params: &[(Id, Id)], arguments: Vec<Held>) -> Result<Ids, Memory>
+    ensures { IfOk result (λ ids. (q : ℕ) → ids_of ids q ≡ argument_of params.now (map held_of arguments.items) q) }
+{
+    let mut ids = BTreeMap::new(alloc);
+    let mut left = arguments;
+    while let Some(argument) = left.pop() {
+        match params.get(left.len()) {
+            None => {}
+            Some(param) => put(&mut ids, param.0.0, argument)?,
+        }
+    }
+    Ok(ids)
 }
 
 /// A call begins: the present one waits behind its instruction, whose result has this id. An error leaves all as it was.

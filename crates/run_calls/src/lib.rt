@@ -3,4 +3,4 @@
 
 mod calls;
 
-pub use calls::{enter, passed};
+pub use calls::{arguments, enter, passed};
