@@ -1,6 +1,6 @@
 -- What is said of all of a list, said of one.
-use Rattle.std.proofs.Common.{◌≡◌, ◌<◌, ◌+◌, ◌==◌, ◌||◌, ◌&&◌, not, ℕ, zero, suc, Bool, true, false, List, [], ◌∷◌, ◌++◌, length, map, Option, Some, None, inl, inr, refl, sym, ap, subst, ◌∙◌, if◌then◌else◌, arith}
-use Rattle.std.specs.Prelude.{◌⊎◌, filter, flat_map, nat_lt, is_some, Contains, slice_index, slice_index_or}
+use Rattle.std.proofs.Common.{◌≡◌, ◌<◌, ◌+◌, ◌==◌, ◌||◌, ◌&&◌, not, ℕ, zero, suc, Bool, true, false, List, [], ◌∷◌, ◌++◌, length, map, Option, Some, None, inl, inr, refl, sym, ap, subst, ◌∙◌, if◌then◌else◌, arith, ◌≤◌}
+use Rattle.std.specs.Prelude.{◌⊎◌, filter, flat_map, nat_lt, is_some, Contains, slice_index, slice_index_or, option_and_then, nat_le}
 use Rattle.std.specs.Option.{option_map_or}
 use Rattle.std.specs.List.{list_any, enumerate_from}
 use Rattle.std.proofs.lemmas.Bool.Decides.{nat_tests}
@@ -128,3 +128,18 @@ some_by test (Some a) e = (a, refl, e)
 pub some_of : {A : Type 0} (o : Option A) → is_some o ≡ true → (a : A) × (o ≡ Some a)
 some_of None e = cc
 some_of (Some a) e = (a, refl)
+
+pub some_part : {A B : Type 0} (f : A → Option B) (o : Option A) (b : B) → option_and_then f o ≡ Some b → (a : A) × (o ≡ Some a) × (f a ≡ Some b)
+some_part f None b e = cc
+some_part f (Some a) b e = (a, refl, e)
+
+pub both_on : (a b : Bool) → a ≡ true → b ≡ true → (a && b) ≡ true
+both_on true b on e = e
+both_on false b on e = cc
+
+-- numbers
+pub from_zero : (k : ℕ) → nat_le 0 k ≡ true
+from_zero k = grind (arith, nat_tests)
+
+pub at_least : (n l : ℕ) → 3 + n ≤ 3 + l → n ≤ l
+at_least n l least = omega (arith, least)

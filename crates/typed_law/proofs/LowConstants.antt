@@ -21,13 +21,7 @@ use Rattle.plan_law.specs.InOrder.{IsAmong}
 use Rattle.fits_law.proofs.Operations.{before_some}
 use Rattle.typed_law.specs.Words.{AllOfWords, HoldWords}
 use Rattle.typed_law.proofs.LowValues.{composite_low, op_low, zero_low}
-
-same_some : {A : Type 0} (a b : A) → Some a ≡ Some b → a ≡ b
-same_some a b e = cc
-
-some_part : {A B : Type 0} (f : A → Option B) (o : Option A) (b : B) → option_and_then f o ≡ Some b → (a : A) × (o ≡ Some a) × (f a ≡ Some b)
-some_part f None b e = cc
-some_part f (Some a) b e = (a, refl, e)
+use Rattle.typed_law.proofs.Lists.{same_some, some_part}
 
 each_held : (f : ℕ → Option ValueTree) (ids : List ℕ) (vs : List ValueTree) → HoldWords f → each_one f ids ≡ Some vs → AllOfWords vs
 each_held f [] vs h e = subst AllOfWords (same_some [] vs e) tt

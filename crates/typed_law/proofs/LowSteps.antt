@@ -40,13 +40,7 @@ use Rattle.module_semantics.specs.Run.{have_values, first_state, start_by, start
 use Rattle.fits_law.proofs.Operations.{before_some}
 use Rattle.typed_law.specs.Words.{AllOfWords, AreAllWords, HoldWords, IsSettingOfWords, IdsHoldWords, IsFrameOfWords, AreCallsOfWords, IsStateOfWords, LeadsToWords}
 use Rattle.typed_law.proofs.LowValues.{extracted_low, inserted_low, zero_low, read_low, op_low, first_low}
-
-same_some : {A : Type 0} (a b : A) → Some a ≡ Some b → a ≡ b
-same_some a b e = cc
-
-some_part : {A B : Type 0} (f : A → Option B) (o : Option A) (b : B) → option_and_then f o ≡ Some b → (a : A) × (o ≡ Some a) × (f a ≡ Some b)
-some_part f None b e = cc
-some_part f (Some a) b e = (a, refl, e)
+use Rattle.typed_law.proofs.Lists.{same_some, some_part}
 
 -- maps with one more entry
 put_value : (f : ℕ → Option Held) (n : ℕ) (h : Held) → IdsHoldWords f → ((v : ValueTree) → h ≡ value v → IsOfWords v) → IdsHoldWords (put f n h)

@@ -22,9 +22,7 @@ use Rattle.value_words.specs.Words.{elem_from, parts_from, value_from, values_fr
 use Rattle.fits_law.proofs.Operations.{before_some}
 use Rattle.typed_law.specs.Words.{AllOfWords, AreAllWords}
 use Rattle.typed_law.proofs.LowWords.{unary_low, binary_low, clamp_low, unsigned_field_low, signed_field_low, insert_low}
-
-same_some : {A : Type 0} (a b : A) → Some a ≡ Some b → a ≡ b
-same_some a b e = cc
+use Rattle.typed_law.proofs.Lists.{same_some, some_part}
 
 -- what f gives of values of words is of words
 abbrev Keeps : (ValueTree → Option ValueTree) → Type 0
@@ -213,10 +211,6 @@ with_part_low (many vs) part r i h k e = by_less (nat_lt i (length (listed vs)))
     by_less false e = cc
 with_part_low (truth b) part r i h k e = cc
 with_part_low (word b) part r i h k e = cc
-
-some_part : {A B : Type 0} (f : A → Option B) (o : Option A) (b : B) → option_and_then f o ≡ Some b → (a : A) × (o ≡ Some a) × (f a ≡ Some b)
-some_part f None b e = cc
-some_part f (Some a) b e = (a, refl, e)
 
 pub extracted_low : (js : List ℕ) → Keeps (extracted js)
 extracted_low [] v r h e = subst IsOfWords (same_some v r e) h

@@ -15,12 +15,10 @@ use Rattle.op_semantics.specs.declared.operation.Binary.TheVariants.{IAdd, ISub,
 use Rattle.op_semantics.specs.declared.operation.Clamp.{Clamp}
 use Rattle.op_semantics.specs.declared.operation.Clamp.TheVariants.{UClamp, SClamp}
 use Rattle.op_semantics.specs.Word.{signed, word_of, all_ones, int_modulo, lowest_one, highest_one, highest_unlike_sign, unary_word, divided, divided_signed, shift_size, binary_word, clamp_word, within_word, field, sign_extended, bit_field_unsigned, bit_field_signed, bit_field_insert, truths_equal}
+use Rattle.typed_law.proofs.Lists.{same_some}
 
 abbrev pub IsWord : ℕ → Type 0
 IsWord w = w < 2 ^ 32
-
-same_some : {A : Type 0} (a b : A) → Some a ≡ Some b → a ≡ b
-same_some a b e = cc
 
 -- numbers with a sign
 word_low : (z : ℤ) → unsigned_abs z < 2 ^ 32 → word_of z < 2 ^ 32

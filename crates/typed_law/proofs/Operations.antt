@@ -53,7 +53,7 @@ use Rattle.type_law.proofs.Parts.{row, earlier_is, walk_leads, extract_takes, in
 use Rattle.type_law.proofs.Made.{made_takes}
 use Rattle.type_law.proofs.Copies.{logical_takes as copied_takes}
 use Rattle.typed_law.specs.Conforms.{IsConforming}
-use Rattle.typed_law.proofs.Lists.{or_left, or_right, not_off, clash, same_some}
+use Rattle.typed_law.proofs.Lists.{or_left, or_right, not_off, clash, same_some, from_zero, at_least}
 use Rattle.typed_law.proofs.Values.{HasType, HasItsShape, passing, same_type, typed_value, value_sized, own_type, shaped_some, vector_shaped, int_shaped}
 use Rattle.typed_law.proofs.Shapes.{AreTyped, number_shapes, compared_shapes, truth_shapes, condition_shape, row_of_shape, shaped_type, made_shapes, whole_shape, copied_shape}
 
@@ -61,14 +61,8 @@ pub four_off : (a b c d : Bool) → (a || b || c || d) ≡ false → (a ≡ fals
 four_off false false false false h = (refl, refl, refl, refl)
 four_off a b c d h = cc
 
-from_zero : (k : ℕ) → nat_le 0 k ≡ true
-from_zero k = grind (arith, nat_tests)
-
 exactly : (n l : ℕ) → 3 + n ≤ 3 + l → 3 + l ≤ 3 + n → l ≡ n
 exactly n l least most = omega (arith, least, most)
-
-at_least : (n l : ℕ) → 3 + n ≤ 3 + l → n ≤ l
-at_least n l least = omega (arith, least)
 
 second_of : (args : List ℕ) → 2 ≤ length args → take 1 (drop 1 args) ≡ slice_index args 1 ∷ []
 second_of [] many = absurd (omega (arith, many))

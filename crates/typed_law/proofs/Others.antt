@@ -1,6 +1,6 @@
 -- Chains, loads, stores, atomics, lengths, calls, phis and returns of a conforming module's functions are typed.
 use Rattle.std.proofs.Common.{◌≡◌, ◌<◌, ◌+◌, ◌==◌, ◌||◌, ◌&&◌, not, ℕ, zero, suc, Bool, true, false, List, [], ◌∷◌, length, take, drop, Option, Some, None, inl, inr, refl, sym, ap, subst, ◌∙◌, if◌then◌else◌, arith}
-use Rattle.std.specs.Prelude.{◌%◌, is_some, nat_le, option_map, option_and_then, slice_get, take_while, Contains, slice_index}
+use Rattle.std.specs.Prelude.{◌%◌, is_some, option_map, option_and_then, slice_get, take_while, Contains, slice_index}
 use Rattle.std.specs.Option.{option_map_or}
 use Rattle.std.specs.List.{list_any, position_from, prefix_len}
 use Rattle.std.proofs.lemmas.Bool.Decides.{nat_tests}
@@ -49,7 +49,7 @@ use Rattle.type_law.proofs.Made.{load_typed}
 use Rattle.type_law.proofs.Chains as chains
 use Rattle.type_law.proofs.Chains.{chain_typed}
 use Rattle.typed_law.specs.Conforms.{IsConforming}
-use Rattle.typed_law.proofs.Lists.{or_left, or_right, and_left, and_off, not_off, clash, same_some, earlier_some, some_by}
+use Rattle.typed_law.proofs.Lists.{or_left, or_right, and_left, and_off, not_off, clash, same_some, earlier_some, some_by, from_zero}
 use Rattle.typed_law.proofs.Rules.{type_there, operand_there, flow_right, access_right}
 use Rattle.typed_law.proofs.Types.{row_is, pointee_shaped}
 use Rattle.typed_law.proofs.Values.{IsRow, shape_of_row, value_type_has, inside, local_row, result_row, HasType, type_row_of, one_type, same_type, typed_value, typed_source, own_type, own_local, own_shape, int_shaped, type_suits, type_outside}
@@ -68,9 +68,6 @@ phi_typed_op : (o : Op) → is o code.Phi ≡ true → has_type o ≡ true
 unfolding number shape
 phi_typed_op code.Phi e = refl
 phi_typed_op o e = cc
-
-from_zero : (k : ℕ) → nat_le 0 k ≡ true
-from_zero k = grind (arith, nat_tests)
 
 phi_source : (o : Op) (args : List ℕ) (k : ℕ) → is o code.Phi ≡ true → (k % 2 == 0) ≡ true → (is_id o args k ≡ true) × (need o k ≡ PhiValue)
 unfolding number is_id need takes_of group_of

@@ -35,7 +35,7 @@ use Rattle.plan_law.specs.InOrder.{IsAmong}
 use Rattle.type_law.proofs.Rows.{int_has, bool_has}
 use Rattle.type_law.proofs.Vectors.{five_off}
 use Rattle.typed_law.specs.Conforms.{size_of, IsConforming}
-use Rattle.typed_law.proofs.Lists.{or_left, or_right, and_left, and_off, not_off, any_none, found_in, earlier_some, some_by}
+use Rattle.typed_law.proofs.Lists.{or_left, or_right, and_left, and_off, not_off, any_none, found_in, earlier_some, some_by, from_zero}
 use Rattle.typed_law.proofs.Rules.{operand_there, global_there, formed_type, pointed_type}
 
 -- the opcodes of types that have shapes, and what T1 asks of their operands
@@ -46,9 +46,6 @@ data ShapedOp (o : Op) : Type 0 where
   of_array : kind o ≡ Array → is o code.TypeArray ≡ true → ((args : List ℕ) (k : ℕ) → is_id o args k ≡ true) → need o 0 ≡ AnyType → need o 1 ≡ Constant → ShapedOp o
   of_runtime : kind o ≡ Runtime → ((args : List ℕ) (k : ℕ) → is_id o args k ≡ true) → need o 0 ≡ AnyType → ShapedOp o
   of_struct : kind o ≡ Struct → ((args : List ℕ) (k : ℕ) → is_id o args k ≡ true) → ((k : ℕ) → need o k ≡ AnyType) → ShapedOp o
-
-from_zero : (k : ℕ) → nat_le 0 k ≡ true
-from_zero k = grind (arith, nat_tests)
 
 shaped_op : (o : Op) → is_type_op o ≡ true → is_shapeless o ≡ false → ShapedOp o
 unfolding kind number is_id need takes_of group_of shape

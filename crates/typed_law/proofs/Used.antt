@@ -1,6 +1,6 @@
 -- The types of constants and of what functions compute hold no runtime array, and no array whose length is a specialization constant (P17, P18).
 use Rattle.std.proofs.Common.{◌≡◌, ◌<◌, ◌≤◌, ◌+◌, ◌==◌, ◌||◌, ◌&&◌, not, ℕ, zero, suc, Bool, true, false, List, [], ◌∷◌, ◌++◌, length, take, Option, Some, None, inl, inr, refl, sym, ap, subst, ◌∙◌, if◌then◌else◌, arith}
-use Rattle.std.specs.Prelude.{◌⊎◌, flat_map, slice_index, ◌-◌, nat_le}
+use Rattle.std.specs.Prelude.{◌⊎◌, flat_map, slice_index, ◌-◌}
 use Rattle.std.specs.Option.{option_map_or}
 use Rattle.std.specs.List.{list_any, filter_map, cons_option}
 use Rattle.std.proofs.lemmas.Bool.Decides.{eqb_tells, nat_tests}
@@ -30,7 +30,7 @@ use Rattle.plan_law.specs.InOrder.{IsAmong, AreRising}
 use Rattle.fits_law.proofs.Steps.{named}
 use Rattle.type_law.specs.Shaped.{EachFound}
 use Rattle.typed_law.specs.Conforms.{IsConforming}
-use Rattle.typed_law.proofs.Lists.{or_left, or_right, and_right, and_off, not_off, not_on, clash, no_true, same_some, found_in, earlier_some}
+use Rattle.typed_law.proofs.Lists.{or_left, or_right, and_right, and_off, not_off, not_on, clash, no_true, same_some, found_in, earlier_some, from_zero}
 use Rattle.typed_law.proofs.Rules.{operand_there, global_there, used_type}
 use Rattle.typed_law.proofs.Types.{type_before, of_form}
 use Rattle.typed_law.proofs.Sized.{rising_low, sized_by}
@@ -91,9 +91,6 @@ among_first (a ∷ args) p e = by_test (a == p) (eqb_tells a p) e
 -- a part of a type is an operand, which has to be a type
 abbrev IsPlace : Op → List ℕ → ℕ → Type 0
 IsPlace o args p = (k : ℕ) × (k < length args) × (slice_index args k ≡ p) × (is_id o args k ≡ true) × (need o k ≡ AnyType)
-
-from_zero : (k : ℕ) → nat_le 0 k ≡ true
-from_zero k = grind (arith, nat_tests)
 
 part_place : (o : Op) (args : List ℕ) (p : ℕ) → is_among (option_map_or (λ (ids : List ℕ). ids) (ids_by_kind (kind o) args) []) p ≡ true → IsPlace o args p
 unfolding kind is_id need takes_of group_of

@@ -39,7 +39,7 @@ use Rattle.fits_law.specs.State.{value_shape, IsLocal}
 use Rattle.type_law.proofs.Operands.{some_first}
 use Rattle.type_law.proofs.Vectors.{three_off}
 use Rattle.typed_law.specs.Conforms.{IsFormed, IsParameter, IsConforming, IsConformingIn}
-use Rattle.typed_law.proofs.Lists.{or_left, or_right, and_left, and_off, not_off, clash, same_some, any_none, found_in, earlier_some, some_by}
+use Rattle.typed_law.proofs.Lists.{or_left, or_right, and_left, and_off, not_off, clash, same_some, any_none, found_in, earlier_some, some_by, both_on}
 use Rattle.typed_law.proofs.Rules.{type_there, operand_there, global_there, pointed_type, types_there, declared_right}
 use Rattle.typed_law.proofs.Types.{type_shaped, row_is}
 use Rattle.typed_law.proofs.Sized.{value_type_is}
@@ -159,10 +159,6 @@ zip_none test (ty ∷ tys) (q ∷ ps) p many e (inr there) =
     let k = zip_none test tys ps p (let same : length ps ≡ length tys = omega (arith, many) in same) (or_right (test ty q.1.0) (list_any (λ (r : ℕ × (Id × Id)). test r.0 r.1.1.0) (zip tys ps)) e) there in
     let less = k.1 in
     (suc k.0, (let more : suc k.0 < suc (length tys) = omega (arith, less) in more), k.2)
-
-both_on : (a b : Bool) → a ≡ true → b ≡ true → (a && b) ≡ true
-both_on true b on e = e
-both_on false b on e = cc
 
 -- operands of a function type
 pub function_id : (o : Op) (args : List ℕ) (k : ℕ) → is o code.TypeFunction ≡ true → is_id o args k ≡ true

@@ -1,6 +1,6 @@
 -- Each instruction of a conforming module's functions is typed, and so each step keeps values in the shapes of their types.
 use Rattle.std.proofs.Common.{◌≡◌, ◌<◌, ◌≤◌, ◌+◌, ◌==◌, ℕ, Bool, true, false, List, length, take, drop, Option, refl, sym, ap, subst, ◌∙◌, if◌then◌else◌, arith}
-use Rattle.std.specs.Prelude.{nat_le, Contains}
+use Rattle.std.specs.Prelude.{Contains}
 use Rattle.std.proofs.lemmas.Bool.Decides.{nat_tests}
 use Rattle.spv_ops.specs.Opcode.{number}
 use Rattle.spv_ops.specs.Groups.{is_atomic}
@@ -28,18 +28,12 @@ use Rattle.fits_law.specs.Typed.{IsTyped}
 use Rattle.type_law.specs.Shaped.{AreConstants, HasConstants}
 use Rattle.type_law.proofs.Constants.{constants_are}
 use Rattle.typed_law.specs.Conforms.{IsConforming}
-use Rattle.typed_law.proofs.Lists.{or_left}
+use Rattle.typed_law.proofs.Lists.{or_left, from_zero, at_least}
 use Rattle.typed_law.proofs.Rules.{operand_there, value_right, number_right, flow_right}
 use Rattle.typed_law.proofs.Values.{inside, own_local, own_shape}
 use Rattle.typed_law.proofs.Operations.{four_off, Facts, given_by}
 use Rattle.typed_law.proofs.Others.{typed_operand, as_load, as_store, as_length, as_atomic, as_chain, as_return, as_branch}
 use Rattle.typed_law.proofs.Calls.{as_call}
-
-from_zero : (k : ℕ) → nat_le 0 k ≡ true
-from_zero k = grind (arith, nat_tests)
-
-at_least : (n l : ℕ) → 3 + n ≤ 3 + l → n ≤ l
-at_least n l least = omega (arith, least)
 
 at_least_alone : (n l : ℕ) → 1 + n ≤ 1 + l → n ≤ l
 at_least_alone n l least = omega (arith, least)

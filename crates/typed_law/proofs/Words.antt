@@ -1,5 +1,5 @@
 -- A module of words that break no rule is conforming: its instructions are formed, and have results apart.
-use Rattle.std.proofs.Common.{◌≡◌, ◌<◌, ◌≤◌, ◌+◌, ◌==◌, ◌&&◌, ◌||◌, not, ℕ, suc, Bool, true, false, List, [], ◌∷◌, ◌++◌, length, map, take, drop, min, Option, Some, None, inl, inr, refl, sym, ap, subst, ◌∙◌, if◌then◌else◌, length-take, length-drop, arith}
+use Rattle.std.proofs.Common.{◌≡◌, ◌<◌, ◌≤◌, ◌+◌, ◌==◌, ◌&&◌, ◌||◌, ℕ, suc, Bool, true, false, List, [], ◌∷◌, ◌++◌, length, map, take, drop, min, Option, Some, None, inl, inr, refl, sym, ap, subst, ◌∙◌, if◌then◌else◌, length-take, length-drop, arith}
 use Rattle.std.specs.Prelude.{◌⊎◌, ◌-◌, find, nat_le, nat_lt, unwrap_or, option_map, Contains, slice_index, slice_index_or}
 use Rattle.std.specs.Option.{option_map_or}
 use Rattle.std.proofs.lemmas.Bool.Decides.{eqb_tells, nat_tests}
@@ -35,6 +35,7 @@ use Rattle.plan_law.proofs.Owned.{parameter_result}
 use Rattle.plan_law.proofs.Conforming.{said_of, are_in_order}
 use Rattle.type_law.specs.Shaped.{EachFound, HaveResults}
 use Rattle.typed_law.specs.Conforms.{BreakNone, size_of, IsFormed, IsParameter, IsConformingIn, IsConforming}
+use Rattle.typed_law.proofs.Lists.{both_on, not_off, no_true}
 
 -- it is one of the words' instructions
 abbrev pub IsOne : Inst1 → List Inst1 → Type 0
@@ -54,10 +55,6 @@ none_found test (i ∷ is) x e one = by_test (test i) refl one e (λ rest later.
     by_test true at one e next = cc
     by_test false at (inl same) e next = subst (λ y. test y ≡ false) same at
     by_test false at (inr one) e next = next e one
-
-not_true : (b : Bool) → (b ≡ true → ⊥) → b ≡ false
-not_true true far = absurd (far refl)
-not_true false far = refl
 
 -- opcodes
 known_is : (n : ℕ) (o : Op) → op_of n ≡ Some o → known n ≡ o
@@ -117,10 +114,6 @@ within_words a b c n e same =
     both_right true b e = e
     both_right false b e = cc
 
-not_off : (b : Bool) → not b ≡ false → b ≡ true
-not_off true e = refl
-not_off false e = cc
-
 both_left : (a b : Bool) → (a && b) ≡ true → a ≡ true
 both_left true b e = refl
 both_left false b e = cc
@@ -128,10 +121,6 @@ both_left false b e = cc
 or_right_on : (a b : Bool) → b ≡ true → (a || b) ≡ true
 or_right_on true b e = refl
 or_right_on false b e = e
-
-both_on : (a b : Bool) → a ≡ true → b ≡ true → (a && b) ≡ true
-both_on true b on e = e
-both_on false b on e = cc
 
 room_below : (t r : Bool) (least len : ℕ) → nat_le (1 + count_of t + count_of r) least ≡ true → least ≤ len → 1 + count_of t + count_of r ≤ len
 room_below t r least len e le = let n = 1 + count_of t + count_of r in grind (arith, nat_tests, e, le)
@@ -341,8 +330,8 @@ module _ (ws : List ℕ) (entry : Option (List ℕ)) (right : BreakNone ws entry
   of_all : (x : Inst1) → IsOne x (insts ws) → (kind_of ws x ≡ Debug → ⊥) → IsFormed (inst_of ws x)
   of_all x one is_there =
       formed ws x (none_found (is_at_fault (length ws)) (insts ws) x right.uncut one)
-      (by_place (λ y. is_unknown ws y ≡ false) nowhere (insts ws) (λ k less. not_true (is_unknown ws (nth_inst ws k)) (λ on. right.form.0 (nth_inst ws k).start (k, less, refl, on))) x one)
-      (by_place (λ y. is_misfit ws y ≡ false) nowhere (insts ws) (λ k less. not_true (is_misfit ws (nth_inst ws k)) (λ on. right.form.1.0 (nth_inst ws k).start (k, less, refl, on))) x one)
+      (by_place (λ y. is_unknown ws y ≡ false) nowhere (insts ws) (λ k less. no_true (is_unknown ws (nth_inst ws k)) (λ on. right.form.0 (nth_inst ws k).start (k, less, refl, on))) x one)
+      (by_place (λ y. is_misfit ws y ≡ false) nowhere (insts ws) (λ k less. no_true (is_misfit ws (nth_inst ws k)) (λ on. right.form.1.0 (nth_inst ws k).start (k, less, refl, on))) x one)
       (by_place (λ y. HasIdOut ws y → ⊥) nowhere (insts ws) (λ k less out. right.form.1.1.0 (nth_inst ws k).start (k, less, refl, inl out)) x one) is_there
 
   apart : AreDistinct (results ws)
