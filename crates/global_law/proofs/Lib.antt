@@ -7,3 +7,4 @@ pub mod Shared
 pub mod Told
 pub mod Privates
 pub mod Extents
+pub mod Structs

@@ -1,0 +1,105 @@
+-- What the items of a text declare of structs stays: so the name of a struct stands for its members.
+use Rattle.std.proofs.Common.{◌≡◌, ◌+◌, ◌++◌, ℕ, true, false, List, [], ◌∷◌, map, Option, Some, None, refl, sym, ap, ap₂, ◌∙◌, subst}
+use Rattle.std.specs.Prelude.{bytes_eq, flat_map}
+use Rattle.std.specs.List.{enumerate_from}
+use Rattle.std.proofs.lemmas.Slice.Eq.{bytes_eq-Decides}
+use Rattle.spv_module.specs.Lists.{id}
+use Rattle.spv_module.specs.declared.inst.Inst.{Inst}
+use Rattle.spv_module.specs.declared.inst.Function.{Function}
+use Rattle.spv_types.specs.Tree.{Tree, Trees, no_trees, tree}
+use Rattle.spv_types.specs.Types.{both, all_trees, tree_before}
+use Rattle.profile_rules.specs.declared.given.Given.{Given}
+use Rattle.module_semantics.specs.Setting.{Setting}
+use Rattle.name_alloc.specs.declared.claims.Key.{Key}
+use Rattle.name_alloc.specs.declared.claims.Key.TheVariants.{Id}
+use Rattle.glsl_ast.specs.Tree as items
+use Rattle.glsl_ast.specs.Tree.{Text, Expr, Field, Decl}
+use Rattle.glsl_semantics.specs.Shapes.{Typed, Fields}
+use Rattle.glsl_semantics.specs.Expressions.{Program}
+use Rattle.glsl_semantics.specs.Items.{Declared, with_field, fields_of, with_global, with_item, with_items}
+use Rattle.text_rules.specs.Constants.{Source}
+use Rattle.text_rules.specs.Printed.{Reached}
+use Rattle.text_rules.specs.Declarations.{Names, type_at, struct_decl, declaration, declarations}
+use Rattle.type_law.proofs.Parts.{earlier_is}
+use Rattle.path_law.specs.Parts.{StructNames, fields_in}
+use Rattle.path_law.specs.Walks.{struct_names}
+use Rattle.global_law.specs.Sources.{source_of}
+use Rattle.global_law.specs.Names.{names_of}
+use Rattle.global_law.proofs.Blocks.{AreDeclared, declared_between, items_more, type_declared}
+
+some_same : {A : Type 0} (a b : A) → Some a ≡ Some b → a ≡ b
+some_same a b e = cc
+
+-- the item declares no struct of this name
+abbrev pub IsOtherStruct : Text → Decl → Type 0
+IsOtherStruct x (Decl.struct w fs) = bytes_eq x w ≡ false
+IsOtherStruct x _ = Unit {0}
+
+abbrev pub AreOtherStructs : Text → List Decl → Type 0
+AreOtherStructs x [] = Unit {0}
+AreOtherStructs x (i ∷ is) = IsOtherStruct x i × AreOtherStructs x is
+
+-- items leave the structs of other names
+struct_keeps : (d : Declared) (x : Text) (i : Decl) → IsOtherStruct x i → (with_item d i).program.structs x ≡ d.program.structs x
+struct_keeps d x (Decl.struct w fs) off = ap (λ b. elim b as (λ b. Option Fields) [ true ↦ fields_of d.program fs | false ↦ d.program.structs x ]) off
+struct_keeps d x (items.constant spec t w e) off = refl
+struct_keeps d x (items.shared t w) off = refl
+struct_keeps d x (items.global t w e) off = by_value _
+  where
+    by_value : (o : Option Typed) → (with_global w o d).program.structs x ≡ d.program.structs x
+    by_value None = refl
+    by_value (Some v) = refl
+struct_keeps d x (items.block place r quals buffer w members w') off = refl
+struct_keeps d x (Decl.function result w params body) off = refl
+
+pub structs_keep : (is : List Decl) (d : Declared) (x : Text) → AreOtherStructs x is → (with_items d is).program.structs x ≡ d.program.structs x
+structs_keep [] d x off = refl
+structs_keep (i ∷ is) d x off = structs_keep is (with_item d i) x off.1 ∙ struct_keeps d x i off.0
+
+module _ (s : Setting) (f : Function) (overrides : List (ℕ × Given)) (key : Key → Text) (calculated : Inst → Expr) where
+  abbrev source : Source
+  source = source_of s overrides
+
+  abbrev N : Names
+  N = names_of key calculated
+
+  abbrev Gs : List Inst
+  Gs = s.of.globals
+
+  abbrev Y : StructNames
+  Y = struct_names key
+
+  abbrev member_field : Inst → ℕ × ℕ → Field
+  member_field g m = items.field (type_at source N m.1) (N.member g.result m.0)
+
+  -- the members of a struct
+  fields_declared : (p : Program) (g : Inst) (k : ℕ) (ids : List ℕ) (ts : Trees) → all_trees (tree_before Gs g.at) ids ≡ Some ts → AreDeclared s f overrides key calculated p ts → fields_of p (map (member_field g) (enumerate_from k ids)) ≡ Some (fields_in s Y g.result k ts)
+  fields_declared p g k [] ts all are = subst (λ us. fields_of p [] ≡ Some (fields_in s Y g.result k us)) (some_same no_trees ts all) refl
+  fields_declared p g k (n ∷ ns) ts all are = by_parts (tree_before Gs g.at n) refl (all_trees (tree_before Gs g.at) ns) refl all are (λ us more there. fields_declared p g (k + 1) ns us more there)
+    where
+      by_parts : (o : Option Tree) → tree_before Gs g.at n ≡ o → (q : Option Trees) → all_trees (tree_before Gs g.at) ns ≡ q → both o q ≡ Some ts → AreDeclared s f overrides key calculated p ts
+          → ((us : Trees) → all_trees (tree_before Gs g.at) ns ≡ Some us → AreDeclared s f overrides key calculated p us → fields_of p (map (member_field g) (enumerate_from (k + 1) ns)) ≡ Some (fields_in s Y g.result (k + 1) us))
+          → fields_of p (map (member_field g) (enumerate_from k (n ∷ ns))) ≡ Some (fields_in s Y g.result k ts)
+      by_parts None is q more e are later = cc
+      by_parts (Some t) is None more e are later = cc
+      by_parts (Some t) is (Some us) more e are later =
+          let whole : tree t us ≡ ts = some_same (tree t us) ts e in
+          let there : AreDeclared s f overrides key calculated p (tree t us) = subst (AreDeclared s f overrides key calculated p) (sym whole) are in
+          subst (λ q. fields_of p (map (member_field g) (enumerate_from k (n ∷ ns))) ≡ Some (fields_in s Y g.result k q)) whole
+          (ap₂ (λ o fs. with_field (N.member g.result k) o fs) (type_declared s f overrides key calculated p n t (earlier_is s f g.at n t is) there.0) (later us more there.1))
+
+  -- So the name of a struct stands for its members, behind all items.
+  pub struct_there : (r : Reached) (first : Declared) (before after : List Inst) (g : Inst) (ts : Trees) → Gs ≡ before ++ g ∷ after → declaration source r N g ≡ struct_decl source N g ∷ [] → all_trees (tree_before Gs g.at) g.args ≡ Some ts
+      → AreDeclared s f overrides key calculated (with_items first (flat_map (declaration source r N) before)).program ts → AreOtherStructs (key (Id (id g.result))) (flat_map (declaration source r N) after)
+      → (with_items first (declarations source r N)).program.structs (key (Id (id g.result))) ≡ Some (fields_in s Y g.result 0 ts)
+  struct_there r first before after g ts whole written all are others =
+      let front = flat_map (declaration source r N) before in
+      let item = struct_decl source N g in
+      let d = with_items first front in
+      let x = key (Id (id g.result)) in
+      let itself : bytes_eq x x ≡ true = (bytes_eq-Decides x x).1 refl in
+      ap (λ l. (with_items first l).program.structs x) (declared_between source r N before after g item whole written)
+      ∙ ap (λ (e : Declared). e.program.structs x) (items_more front (item ∷ flat_map (declaration source r N) after) first)
+      ∙ structs_keep (flat_map (declaration source r N) after) (with_item d item) x others
+      ∙ ap (λ b. elim b as (λ b. Option Fields) [ true ↦ fields_of d.program (map (member_field g) (enumerate_from 0 g.args)) | false ↦ d.program.structs x ]) itself
+      ∙ fields_declared d.program g 0 g.args ts all are
