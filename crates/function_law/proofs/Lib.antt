@@ -19,3 +19,4 @@ pub mod CaseGroups
 pub mod TreeWays
 pub mod Nodes
 pub mod PlannedText
+pub mod Taken
