@@ -7,3 +7,4 @@ mod Mentioned
 mod Reached
 mod Fine
 pub mod Narrow
+mod Wanting

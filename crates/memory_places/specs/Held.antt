@@ -1,6 +1,7 @@
 -- What `MemoryMap` keeps true of its fields.
 use Rattle.std.specs.Prelude.{ℕ, ◌≡◌, Bool, List, Option}
 use Rattle.spv_module.specs.declared.inst.Inst.{Inst}
+use Rattle.spv_types.specs.Limits.{AreWithin}
 use Rattle.module_semantics.specs.Run.{have_values}
 use Rattle.memory_places.specs.Kernel.{Kernel, plain}
 use Rattle.memory_places.specs.Mentions.{AreNumbers}
@@ -9,3 +10,4 @@ pub record IsHeld (k : Kernel) (heads : List Inst) (place : ℕ → Option ℕ) 
   pub heads_are : heads ≡ k.of.heads
   pub numbers : AreNumbers k.of k.entry place
   pub fine_is : fine ≡ have_values (plain k)
+  pub types : AreWithin k.of.globals

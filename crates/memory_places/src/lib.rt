@@ -3,6 +3,7 @@
 #![tactic(auto)]
 
 mod bases;
+mod faults;
 mod leaves;
 mod located;
 mod map;

@@ -7,6 +7,7 @@ ghost use Rattle.module_semantics.specs.Setting.{has_operand};
 ghost use Rattle.memory_places.specs.Conditions.{CanRun};
 ghost use Rattle.memory_places.specs.Mentions.{AreMentioned, mention, with_ids, is_among_ids};
 
+use crate::faults::want_of_memory;
 use call_order::order;
 use id_map::IdSet;
 use spv_index::count_of;
@@ -70,13 +71,14 @@ fn add_functions(ids: &mut IdSet, called: &IdSet, functions: &[Function]) -> Res
 }
 
 /// The functions that calls reach from the entry, each once.
+#[tactic(auto, using(crate::proofs::Wanting::call_fault))]
 fn called_order(alloc: Global, module: &Module, entry: Id) -> Result<Vec<Id>, Memory>
     requires { CanRun «module».now entry.0 }
     ensures { IfOk result (λ ids. IsCallOrder «module».now.functions entry.0 (numbers ids.items)) }
 {
     match order(alloc, module, entry) {
         Ok(ids) => Ok(ids),
-        Err(_) => Err(Memory),
+        Err(fault) => Err(want_of_memory(fault)),
     }
 }
 

@@ -4,6 +4,7 @@ ghost use Rattle.std.specs.List.{list_all};
 ghost use Rattle.std.specs.Option.{option_copied};
 ghost use Rattle.id_map.specs.Entries.{is_in};
 ghost use Rattle.spv_types.specs.Leaves.{zero_of};
+ghost use Rattle.spv_types.specs.Limits.{AreWithin};
 ghost use Rattle.spv_types.specs.Types.{type_tree};
 ghost use Rattle.spv_types.specs.View.{tree_of, value_of};
 ghost use Rattle.module_semantics.specs.Memory.{class_of as class_in};
@@ -14,6 +15,7 @@ ghost use Rattle.memory_places.specs.Kernel.{bare_with, kernel, plain};
 ghost use Rattle.memory_places.specs.Mentions.{AreMentioned, is_asked_by, is_fine_by};
 ghost use Rattle.memory_places.specs.Starts.{start_of};
 
+use crate::faults::want_of_memory;
 use crate::shared::is_in_class;
 use crate::types::variable_type;
 use constant_values::Constants;
@@ -52,12 +54,14 @@ pub fn as_variable(inst: &Inst) -> Option<&Inst>
 }
 
 /// The shape of a type of a module whose types are within the limits.
+#[tactic(auto, using(crate::proofs::Wanting::type_fault))]
 pub fn shape_of(alloc: Global, module: &Module, ty: u32) -> Result<Option<Shape>, Memory>
+    requires { AreWithin «module».now.globals }
     ensures { IfOk result (λ s. option_map tree_of s ≡ type_tree «module».now.globals ty) }
 {
     match shape(alloc, module, Id(ty)) {
         Ok(shape) => Ok(shape),
-        Err(_) => Err(Memory),
+        Err(fault) => Err(want_of_memory(fault)),
     }
 }
 
@@ -86,6 +90,7 @@ pub fn initial<'a>(
     values: &'a Constants,
     variable: &Inst,
 ) -> Result<Start<'a>, Memory>
+    requires { AreWithin «module».now.globals }
     ensures { IfOk result (λ start. (start_of start ≡ initial_value (bare_with «module».now values.now) variable.now)) }
 {
     match variable.args.as_slice() {
@@ -110,6 +115,7 @@ fn has_value(
     values: &Constants,
     inst: &Inst,
 ) -> Result<bool, Memory>
+    requires { AreWithin «module».now.globals }
     ensures { IfOk result (λ has. has ≡ is_some (initial_value (bare_with «module».now values.now) inst.now)) }
 {
     let start = initial(alloc, module, values, inst)?;
@@ -132,6 +138,7 @@ fn is_fine(
     mentioned: &IdSet,
     inst: &Inst,
 ) -> Result<bool, Memory>
+    requires { AreWithin «module».now.globals }
     ensures { IfOk result (λ fine. fine ≡ is_fine_by (bare_with «module».now values.now) (is_in mentioned.now) inst.now) }
 {
     if is_asked(mentioned, inst) {
@@ -148,6 +155,7 @@ fn each_fine(
     values: &Constants,
     mentioned: &IdSet,
 ) -> Result<bool, Memory>
+    requires { AreWithin «module».now.globals }
     ensures { IfOk result (λ fine. fine ≡ list_all (is_fine_by (bare_with «module».now values.now) (is_in mentioned.now)) «module».now.globals) }
 {
     for inst in module.globals() {
@@ -166,7 +174,8 @@ pub fn are_fine(
     mentioned: &IdSet,
     entry: u32,
 ) -> Result<bool, Memory>
-    requires { AreMentioned «module».now entry (is_in mentioned.now) }
+    requires mentioned { AreMentioned «module».now entry (is_in mentioned.now) }
+    requires types { AreWithin «module».now.globals }
     ensures { IfOk result (λ fine. fine ≡ have_values (plain (kernel «module».now entry values.now))) }
 {
     Ok(each_fine(alloc, module, values, mentioned)?)

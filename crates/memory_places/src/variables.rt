@@ -1,6 +1,7 @@
 // The variables of a module.
 ghost use Rattle.std.specs.Prelude.{◌≡◌, IfOk, option_map, option_and_then};
 ghost use Rattle.std.specs.Option.{option_copied};
+ghost use Rattle.spv_types.specs.Limits.{AreWithin};
 ghost use Rattle.spv_types.specs.View.{tree_of, value_of};
 ghost use Rattle.group_items.specs.Sides.{told_of, IsWhole};
 ghost use Rattle.module_semantics.specs.Accesses as accesses;
@@ -70,6 +71,7 @@ pub fn shape_along(
     variable: &Inst,
     path: &[u32],
 ) -> Result<Option<Shape>, Memory>
+    requires { AreWithin «module».now.globals }
     ensures { IfOk result (λ shape. option_map tree_of shape ≡ shape_to (bare «module».now) variable.now path.now) }
 {
     let ty = type_along(module, variable_type(module, variable), path);
@@ -83,6 +85,7 @@ fn initial_if<'a>(
     values: &'a Constants,
     variable: Option<&Inst>,
 ) -> Result<Start<'a>, Memory>
+    requires { AreWithin «module».now.globals }
     ensures { IfOk result (λ start. start_of start ≡ option_and_then (accesses.initial (bare_with «module».now values.now)) (option_copied variable.entry)) }
 {
     match variable {
@@ -99,6 +102,7 @@ pub fn initial_in<'a>(
     locals: &Locals,
     id: u32,
 ) -> Result<Start<'a>, Memory>
+    requires { AreWithin «module».now.globals }
     ensures { IfOk result (λ start. start_of start ≡ accesses.initial_in (bare_with «module».now values.now) locals.now id) }
 {
     match locals.inst(id) {
@@ -114,6 +118,7 @@ pub fn initial_private<'a>(
     values: &'a Constants,
     id: u32,
 ) -> Result<Start<'a>, Memory>
+    requires { AreWithin «module».now.globals }
     ensures { IfOk result (λ start. start_of start ≡ accesses.initial_private (bare_with «module».now values.now) id) }
 {
     initial_if(alloc, module, values, global_variable(module, id))
