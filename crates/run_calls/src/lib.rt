@@ -2,5 +2,7 @@
 #![tactic(auto)]
 
 mod calls;
+mod returns;
 
 pub use calls::{arguments, enter, passed};
+pub use returns::give;
