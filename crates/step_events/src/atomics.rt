@@ -49,21 +49,15 @@ pub enum AtomicOperands {
 pub fn atomic_operands(op: AtomicOp, inst: &Inst) -> AtomicOperands
     ensures { (s : Setting) (f : Frame) → asked result (word_at s f) ≡ atomic_operands_of op s f inst.now }
 {
+    let word = AtomicOperands::Word(inst.operand(3));
     match op {
         AtomicOp::Load => AtomicOperands::Known(0),
         AtomicOp::IIncrement => AtomicOperands::Known(1),
         AtomicOp::IDecrement => AtomicOperands::Known(u32::MAX),
         AtomicOp::ISub => AtomicOperands::Negated(inst.operand(3)),
         AtomicOp::CompareExchange => AtomicOperands::Compared(inst.operand(5), inst.operand(4)),
-        AtomicOp::Store
-        | AtomicOp::Exchange
-        | AtomicOp::IAdd
-        | AtomicOp::SMin
-        | AtomicOp::UMin
-        | AtomicOp::SMax
-        | AtomicOp::UMax
-        | AtomicOp::And
-        | AtomicOp::Or
-        | AtomicOp::Xor => AtomicOperands::Word(inst.operand(3)),
+        AtomicOp::Store | AtomicOp::Exchange | AtomicOp::IAdd => word,
+        AtomicOp::SMin | AtomicOp::UMin | AtomicOp::SMax | AtomicOp::UMax => word,
+        AtomicOp::And | AtomicOp::Or | AtomicOp::Xor => word,
     }
 }
