@@ -8,4 +8,6 @@ pub mod Items
 pub mod Shapes
 pub mod Nested
 pub mod Paths
+pub mod Chains
+pub mod Extracted
 pub mod Unit

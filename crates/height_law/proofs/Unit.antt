@@ -35,6 +35,10 @@ use Rattle.height_law.proofs.Functions.{constant-le, function-le}
 use Rattle.height_law.proofs.Items.{calculated-le, items-le}
 use Rattle.height_law.proofs.Shapes.{shapes-le}
 use Rattle.height_law.proofs.Nested.{nest-le}
+use Rattle.module_semantics.specs.Setting.{Setting}
+use Rattle.typed_law.specs.Conforms.{IsConforming}
+use Rattle.height_law.proofs.Chains.{paths-short}
+use Rattle.height_law.proofs.Extracted.{extracted-few}
 
 -- what is read of a global
 by_test-le : (s : Source) (ids : ℕ → Text) (g : Inst) (a b : Bool) (t : Text) (e : Expr) → (if a then Some (constant_expr s ids g) else (if b then Some (name t) else None)) ≡ Some e → height e ≤ 3
@@ -139,3 +143,13 @@ text-low m o unit fine none fit u =
     let each : EachIs (λ f. IsFit m f × (IsTooDeep (graph f) → ⊥)) m.functions = each-of (λ f. IsFit m f × (IsTooDeep (graph f) → ⊥)) m.functions (λ f there. (fit f there, (All-contains IsStructured m.functions f fine.later.structure there).shallow)) in
     let plans = fits-low m s found shapes refl (called u.order m.functions) u.plans u.planned (each-filter (λ f. IsFit m f × (IsTooDeep (graph f) → ⊥)) (is_called u.order) m.functions each) in
     within _ _ _ (unit-of-low m o unit u shapes plans) (omega arith)
+
+-- Of a module that breaks no rule that is left to ask but that its blocks have places.
+pub conforming-low : (s : Setting) (o : Options) (entry : Option (List ℕ)) (unit : TranslationUnit) → IsFine s.of o → IsConforming s.of entry → ((f : Function) → Contains s.of.functions f → IsSound (graph f)) → IsUnitOf s.of o unit → unit_height unit ≤ most_height
+conforming-low s o entry unit fine right sound u =
+    text-low s.of o unit fine right.results.none
+    (λ f there. record {
+      shallow = record { paths = paths-short s entry right fine.typed.within f there; extracted = extracted-few s entry right fine.typed.within f there };
+      sound = sound f there;
+    })
+    u
