@@ -9,9 +9,9 @@ use Rattle.spv_module.specs.declared.inst.Inst.{Inst}
 use Rattle.spv_module.specs.declared.tree.Value.{Value}
 use Rattle.module_semantics.specs.Accesses.{initial}
 use Rattle.module_semantics.specs.Run.{have_values, has_value_if, is_fine_private}
-use Rattle.module_semantics.specs.Setting.{is_in_class, is_mentioned}
+use Rattle.module_semantics.specs.Setting.{Setting, is_in_class, is_mentioned}
 use Rattle.memory_places.specs.Kernel.{bare_from, bare_with, kernel, plain}
-use Rattle.memory_places.specs.Mentions.{AreMentioned, is_fine_by}
+use Rattle.memory_places.specs.Mentions.{AreMentioned, is_asked_by, is_fine_by}
 
 asked : (m : ModuleState) (entry : ℕ) (values : List (ℕ × Value)) (g : Inst) (a b : Bool)
     → (if a && b then is_some (initial (bare_with m values) g) else true) ≡ (elim a [ true ↦ has_value_if (plain (kernel m entry values)) g b | false ↦ true ])
@@ -30,16 +30,25 @@ fine_are m entry values mentioned h =
     let fine : is_fine_by (bare_with m values) (is_mentioned (bare_from m entry)) ≡ is_fine_private (plain (kernel m entry values)) = λ i g. one m entry values g i in
     ap (λ (test : ℕ → Bool). list_all (is_fine_by (bare_with m values) test) m.globals) same ∙ ap (λ (p : Inst → Bool). list_all p m.globals) fine
 
--- a test of all, one after another
-pub all_next : (p : Inst → Bool) (gs : List Inst) (k : ℕ) (d : Inst) (fine all : Bool) → k < length gs → list_all p (drop k gs) ≡ all → fine ≡ p (get_or gs k d) → fine ≡ true → list_all p (drop (k + 1) gs) ≡ all
-all_next p gs k d fine all inside so is here =
-    ap (λ (b : Bool). b && list_all p (drop (k + 1) gs)) (sym here ∙ is) ∙ (ap (list_all p) (sym (drop_more gs k d inside)) ∙ so)
+-- what is not asked is fine, and what is asked if it has a value
+pub unasked_fine : (s : Setting) (mentioned : ℕ → Bool) (g : Inst) → is_asked_by mentioned g ≡ false → is_fine_by s mentioned g ≡ true
+unfolding is_fine_by
+unasked_fine s mentioned g a = ap (λ (b : Bool). if b then is_some (initial s g) else true) a
 
-pub all_stop : (p : Inst → Bool) (gs : List Inst) (k : ℕ) (d : Inst) (fine all : Bool) → k < length gs → list_all p (drop k gs) ≡ all → fine ≡ p (get_or gs k d) → fine ≡ false → false ≡ all
-all_stop p gs k d fine all inside so is not_so =
-    ap (λ (b : Bool). b && list_all p (drop (k + 1) gs)) (sym not_so ∙ is) ∙ (ap (list_all p) (sym (drop_more gs k d inside)) ∙ so)
+pub asked_fine : (s : Setting) (mentioned : ℕ → Bool) (g : Inst) (has : Bool) → is_asked_by mentioned g ≡ true → has ≡ is_some (initial s g) → is_fine_by s mentioned g ≡ has
+unfolding is_fine_by
+asked_fine s mentioned g has a h = ap (λ (b : Bool). if b then is_some (initial s g) else true) a ∙ sym h
+
+-- a test of all, one after another
+pub all_next : (p : Inst → Bool) (gs : List Inst) (k : ℕ) (d : Inst) (all : Bool) → k < length gs → list_all p (drop k gs) ≡ all → p (get_or gs k d) ≡ true → list_all p (drop (k + 1) gs) ≡ all
+all_next p gs k d all inside so here =
+    ap (λ (b : Bool). b && list_all p (drop (k + 1) gs)) (sym here) ∙ (ap (list_all p) (sym (drop_more gs k d inside)) ∙ so)
+
+pub all_stop : (p : Inst → Bool) (gs : List Inst) (k : ℕ) (d : Inst) (all : Bool) → k < length gs → list_all p (drop k gs) ≡ all → p (get_or gs k d) ≡ false → false ≡ all
+all_stop p gs k d all inside so here =
+    ap (λ (b : Bool). b && list_all p (drop (k + 1) gs)) (sym here) ∙ (ap (list_all p) (sym (drop_more gs k d inside)) ∙ so)
 
 pub all_end : (p : Inst → Bool) (gs : List Inst) (k : ℕ) (all : Bool) → length gs ≤ k → list_all p (drop k gs) ≡ all → true ≡ all
 all_end p gs k all past so = ap (list_all p) (sym (drop_of_length-le gs past)) ∙ so
 
-pub ruleset fine_rules = (all_next, all_stop, all_end)
+pub ruleset fine_rules = (unasked_fine, asked_fine, all_next, all_stop, all_end)

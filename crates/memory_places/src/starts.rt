@@ -1,12 +1,4 @@
 // What variables begin with.
-ghost use Rattle.std.specs.Prelude.{◌≡◌, IfOk, option_map, is_some};
-ghost use Rattle.std.specs.List.{list_all};
-ghost use Rattle.std.specs.Option.{option_copied};
-ghost use Rattle.id_map.specs.Entries.{is_in};
-ghost use Rattle.spv_types.specs.Leaves.{zero_of};
-ghost use Rattle.spv_types.specs.Limits.{AreWithin};
-ghost use Rattle.spv_types.specs.Types.{type_tree};
-ghost use Rattle.spv_types.specs.View.{tree_of, value_of};
 ghost use Rattle.module_semantics.specs.Memory.{class_of as class_in};
 ghost use Rattle.module_semantics.specs.Setting.{as_variable as as_variable_of};
 ghost use Rattle.module_semantics.specs.Accesses.{initial as initial_value};
@@ -14,6 +6,14 @@ ghost use Rattle.module_semantics.specs.Run.{have_values};
 ghost use Rattle.memory_places.specs.Kernel.{bare_with, kernel, plain};
 ghost use Rattle.memory_places.specs.Mentions.{AreMentioned, is_asked_by, is_fine_by};
 ghost use Rattle.memory_places.specs.Starts.{start_of};
+ghost use Rattle.id_map.specs.Entries.{is_in};
+ghost use Rattle.spv_types.specs.Leaves.{zero_of};
+ghost use Rattle.spv_types.specs.Limits.{AreWithin};
+ghost use Rattle.spv_types.specs.Types.{type_tree};
+ghost use Rattle.spv_types.specs.View.{tree_of, value_of};
+ghost use Rattle.std.specs.Prelude.{◌≡◌, IfOk, option_map, is_some};
+ghost use Rattle.std.specs.List.{list_all};
+ghost use Rattle.std.specs.Option.{option_copied};
 
 use crate::faults::want_of_memory;
 use crate::shared::is_in_class;
@@ -129,25 +129,6 @@ fn is_asked(mentioned: &IdSet, inst: &Inst) -> bool
     is_in_class(StorageClass::Private, inst) && mentioned.has(inst.result)
 }
 
-/// Whether a variable, if it is Private and mentioned, has a value at the start.
-#[tactic(auto, unfolding(crate::specs::Mentions::is_fine_by))]
-fn is_fine(
-    alloc: Global,
-    module: &Module,
-    values: &Constants,
-    mentioned: &IdSet,
-    inst: &Inst,
-) -> Result<bool, Memory>
-    requires { AreWithin «module».now.globals }
-    ensures { IfOk result (λ fine. fine ≡ is_fine_by (bare_with «module».now values.now) (is_in mentioned.now) inst.now) }
-{
-    if is_asked(mentioned, inst) {
-        Ok(has_value(alloc, module, values, inst)?)
-    } else {
-        Ok(true)
-    }
-}
-
 #[tactic(auto, using(crate::proofs::Fine::fine_rules))]
 fn each_fine(
     alloc: Global,
@@ -159,7 +140,7 @@ fn each_fine(
     ensures { IfOk result (λ fine. fine ≡ list_all (is_fine_by (bare_with «module».now values.now) (is_in mentioned.now)) «module».now.globals) }
 {
     for inst in module.globals() {
-        if !is_fine(alloc, module, values, mentioned, inst)? {
+        if is_asked(mentioned, inst) && !has_value(alloc, module, values, inst)? {
             return Ok(false);
         }
     }
