@@ -5,6 +5,7 @@ pub mod Declared
 pub mod Blocks
 pub mod Shared
 pub mod Told
+pub mod Zeros
 pub mod Privates
 pub mod Extents
 pub mod Structs

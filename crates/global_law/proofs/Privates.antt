@@ -12,21 +12,21 @@ use Rattle.spv_types.specs.Tree.{Tree, ValueTree}
 use Rattle.spv_types.specs.Types.{type_tree}
 use Rattle.spv_types.specs.Leaves.{zero_of}
 use Rattle.profile_rules.specs.declared.given.Given.{Given}
-use Rattle.traces.specs.Outcomes.{got}
+use Rattle.traces.specs.Outcomes.{got, or_stuck}
 use Rattle.module_semantics.specs.Setting.{Setting, global_variable}
 use Rattle.module_semantics.specs.Memory.{variable_type}
 use Rattle.module_semantics.specs.Accesses.{initial_by, initial_private, initial as begins}
 use Rattle.name_alloc.specs.declared.claims.Key.{Key}
 use Rattle.name_alloc.specs.declared.claims.Key.TheVariants.{Id}
 use Rattle.glsl_ast.specs.Tree as tree
-use Rattle.glsl_ast.specs.Tree.{Text, Expr, literal, Decl}
+use Rattle.glsl_ast.specs.Tree.{Text, Expr, literal, name, Decl}
 use Rattle.glsl_ast.specs.declared.expressions.Literal.TheVariants.{Uint}
 use Rattle.glsl_semantics.specs.Shapes.{Typed, typed, shape_of, tree_of_value}
-use Rattle.glsl_semantics.specs.States.{Frame, State, Variable, found}
-use Rattle.glsl_semantics.specs.Expressions.{Program, type_of}
-use Rattle.glsl_semantics.specs.Items.{Declared, no_calls, known_if, known_value, global_value, with_global, with_item, with_items}
-use Rattle.text_rules.specs.declared.readings.Reading.TheVariants.{Plain}
-use Rattle.text_rules.specs.Constants.{Source, is_scalar, reading, constant_expr}
+use Rattle.glsl_semantics.specs.States.{Frame, State, Variable, value, found}
+use Rattle.glsl_semantics.specs.Expressions.{Program, type_of, then_fetch}
+use Rattle.glsl_semantics.specs.Items.{Declared, if_of, no_calls, known_if, known_value, global_value, with_global, with_item, with_items}
+use Rattle.text_rules.specs.declared.readings.Reading.TheVariants.{Plain, Named}
+use Rattle.text_rules.specs.Constants.{Source, is_scalar, reading, expr_by, constant_expr}
 use Rattle.text_rules.specs.Types.{zero_text}
 use Rattle.text_rules.specs.Printed.{Reached}
 use Rattle.text_rules.specs.Declarations.{Names, spelling, type_at, pointee_at, zero_at, expr_at, initial, declaration, declarations}
@@ -38,6 +38,8 @@ use Rattle.global_law.specs.Sources.{source_of, chosen}
 use Rattle.global_law.specs.Names.{names_of, IsDeclared}
 use Rattle.global_law.proofs.Plain.{plain_has, plain_says}
 use Rattle.global_law.proofs.Told.{if_own}
+use Rattle.global_law.proofs.Zeros.{HasZero, same_itself, zero_says}
+use Rattle.path_law.proofs.Starts.{outside_is}
 use Rattle.global_law.proofs.Blocks.{declared_between, items_more, type_declared}
 
 some_same : {A : Type 0} (a b : A) → Some a ≡ Some b → a ≡ b
@@ -111,21 +113,30 @@ module _ (s : Setting) (overrides : List (ℕ × Given)) (key : Key → Text) (c
       let written : initial source N v ≡ constant_expr source N.id g = ap (λ o. option_map_or (expr_at source N) o (zero_at source N (pointee_at source v.ty))) second ∙ ap (λ o. option_map_or (constant_expr source N.id) o (literal (Uint 0))) there in
       ap (known_value p globals (shape_in s Y t)) written ∙ ap (known_if (shape_in s Y t)) says.2 ∙ ap (λ u. known_if (shape_in s Y t) (got [] (typed (shape_in s Y u) a, z))) same ∙ if_own s Y t a on
 
-  -- a scalar without an initializer begins with its zero
-  zero_scalar : (p : Program) (globals : Frame) (t : Tree) → is_scalar t ≡ true → known_value p globals (shape_in s Y t) (zero_text (spelling source N.id) t) ≡ Some (typed (shape_in s Y t) (zero_of t))
-  zero_scalar p globals plain.boolean on = refl
-  zero_scalar p globals plain.int on = refl
-  zero_scalar p globals plain.uint on = refl
-  zero_scalar p globals (plain.vector e n) on = cc
-  zero_scalar p globals (plain.array t l) on = cc
-  zero_scalar p globals (plain.runtime t) on = cc
-  zero_scalar p globals (plain.struct n ts) on = cc
+  -- a value of its own type
+  own_value : (p : Program) (t : Tree) (a : ValueTree) → HasZero p s source key t → if_of (shape_in s Y t) (typed (shape_in s Y t) a) ≡ Some (typed (shape_in s Y t) a)
+  own_value p t a has = ap (λ b. elim b as (λ b. Option Typed) [ true ↦ Some (typed (shape_in s Y t) a) | false ↦ None ]) (same_itself p s source key t has)
 
-  pub zero_begins : (p : Program) (globals : Frame) (v : Inst) (t : Tree) → slice_get v.args 1 ≡ None → type_tree s.of.globals (pointee_at source v.ty) ≡ Some t → is_scalar t ≡ true → known_value p globals (shape_in s Y t) (initial source N v) ≡ Some (typed (shape_in s Y t) (zero_of t))
-  zero_begins p globals v t none shape on =
+  -- the initializer, where it is a constant that is read by its name
+  pub named_begins : (p : Program) (globals : Frame) (v g : Inst) (n : ℕ) (t : Tree) (a : ValueTree) → slice_get v.args 1 ≡ Some n → global_inst s.of.globals n ≡ Some g → reading source g ≡ Named → HasZero p s source key t → found globals (key (Id (id g.result))) ≡ None
+      → p.things (key (Id (id g.result))) ≡ Some (value (typed (shape_in s Y t) a)) → known_value p globals (shape_in s Y t) (initial source N v) ≡ Some (typed (shape_in s Y t) a)
+  named_begins p globals v g n t a second there reads has none thing =
+      let z : State = record { frames = []; globals = globals; answers = [] } in
+      let x = key (Id (id g.result)) in
+      let written : initial source N v ≡ name x
+      = ap (λ o. option_map_or (expr_at source N) o (zero_at source N (pointee_at source v.ty))) second ∙ ap (λ o. option_map_or (constant_expr source N.id) o (literal (Uint 0))) there ∙ ap (expr_by source N.id g) reads in
+      ap (known_value p globals (shape_in s Y t)) written
+      ∙ ap (λ o. known_if (shape_in s Y t) (then_fetch (or_stuck o (λ y. got [] (y, z))) (λ v q. got [] (v, q)))) (outside_is p z x refl none ∙ thing)
+      ∙ own_value p t a has
+
+  -- without an initializer it begins with its zero
+  pub zero_begins : (p : Program) (globals : Frame) (v : Inst) (t : Tree) → slice_get v.args 1 ≡ None → type_tree s.of.globals (pointee_at source v.ty) ≡ Some t → HasZero p s source key t → known_value p globals (shape_in s Y t) (initial source N v) ≡ Some (typed (shape_in s Y t) (zero_of t))
+  zero_begins p globals v t none shape has =
+      let z : State = record { frames = []; globals = globals; answers = [] } in
       ap (λ o. known_value p globals (shape_in s Y t) (option_map_or (expr_at source N) o (zero_at source N (pointee_at source v.ty)))) none
       ∙ ap (λ o. known_value p globals (shape_in s Y t) (zero_text (spelling source N.id) (unwrap_or o plain.uint))) shape
-      ∙ zero_scalar p globals t on
+      ∙ ap (λ g. known_if (shape_in s Y t) (then_fetch g (λ v q. got [] (v, q)))) (zero_says p s source key no_calls z t has)
+      ∙ own_value p t (zero_of t) has
 
   -- With these values the variable begins in the module.
   pub given_first : (m n : ℕ) (v : Inst) → global_variable s m ≡ Some v → slice_get v.args 1 ≡ Some n → initial_private s m ≡ s.constants n
