@@ -65,7 +65,7 @@ no_pointer r path v e = cc
 
 module _ (s : Setting) (right : IsSettingOfWords s) where
   -- what ids have
-  value_low : (c : Frame) (id : ℕ) (v : ValueTree) → IsFrameOfWords c → value_at s c id ≡ Some v → IsOfWords v
+  pub value_low : (c : Frame) (id : ℕ) (v : ValueTree) → IsFrameOfWords c → value_at s c id ≡ Some v → IsOfWords v
   value_low c id v frame e = by_own (c.ids id) refl e
     where
       by_constant : (o : Option ValueTree) → s.constants id ≡ o → as_value (option_map value o) ≡ Some v → IsOfWords v
