@@ -129,25 +129,8 @@ fn is_asked(mentioned: &IdSet, inst: &Inst) -> bool
     is_in_class(StorageClass::Private, inst) && mentioned.has(inst.result)
 }
 
-#[tactic(auto, using(crate::proofs::Fine::fine_rules))]
-fn each_fine(
-    alloc: Global,
-    module: &Module,
-    values: &Constants,
-    mentioned: &IdSet,
-) -> Result<bool, Memory>
-    requires { AreWithin «module».now.globals }
-    ensures { IfOk result (λ fine. fine ≡ list_all (is_fine_by (bare_with «module».now values.now) (is_in mentioned.now)) «module».now.globals) }
-{
-    for inst in module.globals() {
-        if is_asked(mentioned, inst) && !has_value(alloc, module, values, inst)? {
-            return Ok(false);
-        }
-    }
-    Ok(true)
-}
-
 /// Whether each Private variable that is mentioned has a value at the start.
+#[tactic(auto, using(crate::proofs::Fine::fine_rules))]
 pub fn are_fine(
     alloc: Global,
     module: &Module,
@@ -159,5 +142,10 @@ pub fn are_fine(
     requires types { AreWithin «module».now.globals }
     ensures { IfOk result (λ fine. fine ≡ have_values (plain (kernel «module».now entry values.now))) }
 {
-    Ok(each_fine(alloc, module, values, mentioned)?)
+    for inst in module.globals() {
+        if is_asked(mentioned, inst) && !has_value(alloc, module, values, inst)? {
+            return Ok(false);
+        }
+    }
+    Ok(true)
 }
