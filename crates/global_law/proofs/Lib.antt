@@ -9,3 +9,4 @@ pub mod Zeros
 pub mod Privates
 pub mod Extents
 pub mod Structs
+pub mod Nulls

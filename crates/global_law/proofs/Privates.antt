@@ -114,7 +114,7 @@ module _ (s : Setting) (overrides : List (ℕ × Given)) (key : Key → Text) (c
       ap (known_value p globals (shape_in s Y t)) written ∙ ap (known_if (shape_in s Y t)) says.2 ∙ ap (λ u. known_if (shape_in s Y t) (got [] (typed (shape_in s Y u) a, z))) same ∙ if_own s Y t a on
 
   -- a value of its own type
-  own_value : (p : Program) (t : Tree) (a : ValueTree) → HasZero p s source key t → if_of (shape_in s Y t) (typed (shape_in s Y t) a) ≡ Some (typed (shape_in s Y t) a)
+  pub own_value : (p : Program) (t : Tree) (a : ValueTree) → HasZero p s source key t → if_of (shape_in s Y t) (typed (shape_in s Y t) a) ≡ Some (typed (shape_in s Y t) a)
   own_value p t a has = ap (λ b. elim b as (λ b. Option Typed) [ true ↦ Some (typed (shape_in s Y t) a) | false ↦ None ]) (same_itself p s source key t has)
 
   -- the initializer, where it is a constant that is read by its name

@@ -70,7 +70,7 @@ module _ (p : Program) (s : Setting) (source : Source) (key : Key → Text) wher
     HaveZeros no_trees = Unit {0}
     HaveZeros (tree t ts) = HasZero t × HaveZeros ts
 
-  is_declared : (t : Tree) → HasZero t → IsDeclared p s source key t
+  pub is_declared : (t : Tree) → HasZero t → IsDeclared p s source key t
   is_declared plain.boolean z = tt
   is_declared plain.int z = tt
   is_declared plain.uint z = tt
