@@ -10,3 +10,4 @@ pub mod Privates
 pub mod Extents
 pub mod Structs
 pub mod Nulls
+pub mod Sizes
