@@ -1,5 +1,5 @@
 -- What operands have, one after another.
-use Rattle.std.proofs.Common.{◌≡◌, ◌<◌, ◌+◌, ℕ, List, [], ◌∷◌, ◌++◌, refl, ap, sym, ◌∙◌, subst, append_assoc, add-one, length, drop}
+use Rattle.std.proofs.Common.{◌≡◌, ◌<◌, ◌+◌, ℕ, List, [], ◌∷◌, ◌++◌, refl, ap, sym, ◌∙◌, subst, append_assoc, add-one, length, drop, arith}
 use Rattle.std.specs.Prelude.{Option, Some, None, Result, IfOk, option_map, option_and_then, slice_index}
 use Rattle.std.proofs.Math.Seq.{drop-cons}
 use Rattle.spv_module.specs.declared.tree.Value.{Value}
@@ -57,3 +57,21 @@ module _ {B : Type 0} (f : ℕ → Option B) (ids : List ℕ) (i : ℕ) (inside 
       pushed : (vs : List B) (v : B) (rest : Option (List B)) → option_map (λ (l : List B). (vs ++ v ∷ []) ++ l) rest ≡ option_map (λ (l : List B). vs ++ l) (before (Some v) rest)
       pushed vs v None = refl
       pushed vs v (Some l) = ap Some (append_assoc vs (v ∷ []) l)
+
+-- lists of one and of two
+pub one_list : (xs : List ℕ) → length xs ≡ 1 → slice_index xs 0 ∷ [] ≡ xs
+one_list [] h = absurd (omega (arith, h))
+one_list (x ∷ []) h = refl
+one_list (x ∷ y ∷ xs) h = absurd (omega (arith, h))
+
+pub two_list : (xs : List ℕ) → length xs ≡ 2 → slice_index xs 0 ∷ slice_index xs 1 ∷ [] ≡ xs
+two_list [] h = absurd (omega (arith, h))
+two_list (x ∷ []) h = absurd (omega (arith, h))
+two_list (x ∷ y ∷ []) h = refl
+two_list (x ∷ y ∷ z ∷ xs) h = absurd (omega (arith, h))
+
+-- with what was found of two
+pub two_values : {E : Type 0} (r : Result (Option Value) E) (f : List ValueTree → Option ValueTree) (x x' y y' : Option ValueTree) → x ≡ x' → y ≡ y' → IfOk r (λ v. option_map value_of v ≡ option_and_then f (before x (before y (Some [])))) → IfOk r (λ v. option_map value_of v ≡ option_and_then f (before x' (before y' (Some []))))
+two_values r f x x' y y' h k e =
+    subst (λ o. IfOk r (λ v. option_map value_of v ≡ option_and_then f (before x' (before o (Some []))))) k
+    (subst (λ o. IfOk r (λ v. option_map value_of v ≡ option_and_then f (before o (before y (Some []))))) h e)

@@ -1,7 +1,10 @@
 -- What operands have, from what the ids of the present call have.
-use Rattle.std.specs.Prelude.{ℕ, Bool, List, Option, Some, None, option_and_then}
+use Rattle.std.specs.Prelude.{ℕ, Bool, List, Option, Some, None, option_map, option_and_then}
+use Rattle.std.specs.Borrow.{Bor}
 use Rattle.spv_module.specs.declared.inst.Inst.{Inst}
+use Rattle.spv_module.specs.declared.tree.Value.{Value}
 use Rattle.spv_types.specs.Tree.{Tree, ValueTree}
+use Rattle.spv_types.specs.View.{value_of}
 use Rattle.spv_types.specs.Types.{type_tree}
 use Rattle.op_semantics.specs.Component.{each_one}
 use Rattle.op_semantics.specs.Value.{op_value}
@@ -11,6 +14,10 @@ use Rattle.memory_places.specs.Kernel.{Kernel, plain}
 
 abbrev pub Ids : Type 0
 Ids = ℕ → Option Held
+
+-- a value where it stands, if there is one
+abbrev pub found : Option (Bor Value) → Option ValueTree
+found v = option_map (λ (r : Bor Value). value_of r.now) v
 
 module _ (k : Kernel) (ids : Ids) where
   abbrev pub held_by : ℕ → Option Held
