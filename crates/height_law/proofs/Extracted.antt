@@ -1,7 +1,6 @@
 -- In a conforming module the literals by which parts are named are few.
-use Rattle.std.proofs.Common.{◌≡◌, ◌<◌, ◌≤◌, ◌+◌, ◌||◌, ℕ, zero, suc, Bool, true, false, List, [], ◌∷◌, drop, length, nat_le, nat_lt, Option, Some, None, inl, inr, refl, sym, ap, ◌∙◌, subst, arith, if◌then◌else◌, unwrap_or}
-use Rattle.std.specs.Prelude.{◌⊎◌, Contains, option_and_then, slice_index}
-use Rattle.std.specs.Option.{option_map_or}
+use Rattle.std.proofs.Common.{◌≡◌, ◌<◌, ◌≤◌, ◌+◌, ℕ, suc, Bool, true, false, List, [], ◌∷◌, drop, length, nat_le, nat_lt, Option, Some, None, inl, inr, refl, sym, ap, ◌∙◌, subst, arith, if◌then◌else◌, unwrap_or}
+use Rattle.std.specs.Prelude.{◌⊎◌, Contains, option_and_then}
 use Rattle.std.proofs.lemmas.Bool.Decides.{nat_tests}
 use Rattle.spv_ops.specs.Operands.{is_id}
 use Rattle.spv_ops.specs.OpGroups.{group_of, takes_of}
@@ -20,8 +19,7 @@ use Rattle.spv_types.specs.Limits.{AreWithin}
 use Rattle.spv_decor.specs.Rows.{word}
 use Rattle.spv_index.specs.Locals.{insts_of, type_in}
 use Rattle.profile_rules.specs.declared.needs.Need.TheVariants.{Value}
-use Rattle.profile_rules.specs.declared.needs.Reached.{Reached}
-use Rattle.profile_rules.specs.declared.needs.Reached.TheVariants.{Part, Nothing, Unknown}
+use Rattle.profile_rules.specs.declared.needs.Reached.TheVariants.{Part, Nothing}
 use Rattle.profile_rules.specs.Operands.{need, is_there_in}
 use Rattle.profile_rules.specs.ValueRules.{walk, literal_step, part_of, is_elsewhere, breaks_t11_extract}
 use Rattle.profile_rules.specs.TypeRules.{is_value_broken}
@@ -36,7 +34,7 @@ use Rattle.typed_law.proofs.Rules.{operand_there, value_right}
 use Rattle.typed_law.proofs.Values.{HasType, inside, typed_value, value_sized}
 use Rattle.typed_law.proofs.Shapes.{whole_shape}
 use Rattle.typed_law.proofs.Lists.{or_left, or_right}
-use Rattle.vec_lowering.specs.Depth.{depth, deepest}
+use Rattle.vec_lowering.specs.Depth.{depth}
 use Rattle.expr_forward.specs.Kinds.{kind_of, operation_kind_of}
 use Rattle.expr_forward.specs.declared.kinds.OperationKind.TheVariants.{CompositeExtract}
 use Rattle.height_law.proofs.Shapes.{shapes-le}

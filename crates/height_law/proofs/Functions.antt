@@ -1,5 +1,5 @@
 -- A function's text is at most 1,003 high, where at most 129 constructs stand in one another.
-use Rattle.std.proofs.Common.{◌≡◌, ◌≤◌, ◌+◌, ℕ, Bool, true, false, List, ◌++◌, Option, Some, None, filter, map, refl, subst, arith, if◌then◌else◌, unwrap_or}
+use Rattle.std.proofs.Common.{◌≡◌, ◌≤◌, ℕ, Bool, true, false, List, ◌++◌, Option, Some, None, filter, map, refl, subst, arith, if◌then◌else◌, unwrap_or}
 use Rattle.std.specs.Prelude.{option_map, slice_get}
 use Rattle.std.specs.Option.{option_map_or}
 use Rattle.spv_module.specs.Lists.{id}

@@ -10,4 +10,5 @@ pub mod Nested
 pub mod Paths
 pub mod Chains
 pub mod Extracted
+pub mod Closed
 pub mod Unit

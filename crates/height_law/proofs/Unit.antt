@@ -1,5 +1,5 @@
 -- The text of a module is at most 1,003 high, where its types and functions are shallow.
-use Rattle.std.proofs.Common.{◌≡◌, ◌<◌, ◌≤◌, ◌+◌, ℕ, zero, suc, Bool, true, false, List, [], ◌∷◌, ◌++◌, Option, Some, None, filter, find, length, map, refl, sym, subst, arith, if◌then◌else◌}
+use Rattle.std.proofs.Common.{◌≡◌, ◌<◌, ◌≤◌, ℕ, zero, suc, Bool, true, false, List, [], ◌∷◌, ◌++◌, Option, Some, None, filter, find, length, map, refl, sym, subst, arith, if◌then◌else◌}
 use Rattle.std.specs.Prelude.{Contains, option_and_then, option_to_list}
 use Rattle.std.specs.List.{AllZip}
 use Rattle.std.proofs.lemmas.List.Elements.{All-contains}
@@ -37,6 +37,7 @@ use Rattle.height_law.proofs.Shapes.{shapes-le}
 use Rattle.height_law.proofs.Nested.{nest-le}
 use Rattle.module_semantics.specs.Setting.{Setting}
 use Rattle.typed_law.specs.Conforms.{IsConforming}
+use Rattle.height_law.proofs.Closed.{sound-of}
 use Rattle.height_law.proofs.Chains.{paths-short}
 use Rattle.height_law.proofs.Extracted.{extracted-few}
 
@@ -144,12 +145,12 @@ text-low m o unit fine none fit u =
     let plans = fits-low m s found shapes refl (called u.order m.functions) u.plans u.planned (each-filter (λ f. IsFit m f × (IsTooDeep (graph f) → ⊥)) (is_called u.order) m.functions each) in
     within _ _ _ (unit-of-low m o unit u shapes plans) (omega arith)
 
--- Of a module that breaks no rule that is left to ask but that its blocks have places.
-pub conforming-low : (s : Setting) (o : Options) (entry : Option (List ℕ)) (unit : TranslationUnit) → IsFine s.of o → IsConforming s.of entry → ((f : Function) → Contains s.of.functions f → IsSound (graph f)) → IsUnitOf s.of o unit → unit_height unit ≤ most_height
-conforming-low s o entry unit fine right sound u =
+-- The text of a conforming module that is not refused is low enough.
+pub conforming-low : (s : Setting) (o : Options) (entry : Option (List ℕ)) (unit : TranslationUnit) → IsFine s.of o → IsConforming s.of entry → IsUnitOf s.of o unit → unit_height unit ≤ most_height
+conforming-low s o entry unit fine right u =
     text-low s.of o unit fine right.results.none
     (λ f there. record {
       shallow = record { paths = paths-short s entry right fine.typed.within f there; extracted = extracted-few s entry right fine.typed.within f there };
-      sound = sound f there;
+      sound = sound-of f (All-contains IsStructured s.of.functions f fine.later.structure there).unbroken;
     })
     u
