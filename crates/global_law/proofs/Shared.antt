@@ -1,6 +1,6 @@
 -- A variable of a workgroup has in a text the number that it has in the module.
 use Rattle.std.proofs.Common.{◌≡◌, ◌≢◌, ◌⊎◌, inl, inr, ◌+◌, ◌++◌, ◌==◌, ◌&&◌, ℕ, Bool, true, false, List, [], ◌∷◌, filter, Option, Some, None, refl, sym, ap, ap₂, ◌∙◌, arith, if◌then◌else◌}
-use Rattle.std.specs.Prelude.{◌||◌, not, is_some, option_and_then, slice_index, bytes_eq, flat_map, option_map}
+use Rattle.std.specs.Prelude.{unwrap_or, ◌||◌, not, is_some, option_and_then, slice_index, bytes_eq, flat_map, option_map}
 use Rattle.std.specs.Option.{option_map_or}
 use Rattle.std.specs.List.{list_any, enumerate_from, position_from}
 use Rattle.std.proofs.lemmas.Bool.Decides.{eqb_tells}
@@ -23,7 +23,7 @@ use Rattle.layout_rules.specs.Blocks.{block_of, is_block_class, as_struct}
 use Rattle.spv_index.specs.Pointers.{pointee}
 use Rattle.spv_index.specs.BlockStructs.{is_block}
 use Rattle.spv_module.specs.Held.{global}
-use Rattle.module_semantics.specs.Setting.{Setting, reached_functions, is_mentioned, is_in_class, shared_number}
+use Rattle.module_semantics.specs.Setting.{Setting, global_variable, reached_functions, is_mentioned, is_in_class, shared_number}
 use Rattle.module_semantics.specs.Setting as settings
 use Rattle.name_alloc.specs.declared.claims.Key.{Key}
 use Rattle.name_alloc.specs.declared.claims.Key.TheVariants.{Id}
@@ -40,6 +40,9 @@ use Rattle.text_rules.specs.Printed.{Reached, is_named, is_needed, type_has_stru
 use Rattle.text_rules.specs.Declarations.{Names, struct_decl, constant_decl, variable_decl, type_at, pointee_at, initial, declaration, declarations}
 use Rattle.path_law.specs.Parts.{shape_in}
 use Rattle.path_law.specs.Walks.{struct_names}
+use Rattle.path_law.specs.Starts.{IsShared}
+use Rattle.agree_law.specs.Agree.{Naming}
+use Rattle.module_semantics.specs.State.{global as root}
 use Rattle.global_law.specs.Sources.{source_of}
 use Rattle.global_law.specs.Names.{names_of, IsDeclared}
 use Rattle.global_law.proofs.BuiltIns.{AreOtherNames}
@@ -269,3 +272,20 @@ module _ (s : Setting) (overrides : List (ℕ × Given)) (key : Key → Text) (c
       ∙ item_there front (flat_map (declaration source r N) after) item first (key (Id (id v.result))) (memory (in_shared (shared_number s v.result) []) (shape_in s (struct_names key) t))
       (ap (λ b. elim b as (λ b. Option Thing) [ true ↦ option_map (memory (in_shared (with_items first front).shared_variables [])) (type_of (with_items first front).program (type_at source N (pointee_at source v.ty))) | false ↦ (with_items first front).program.things (key (Id (id v.result))) ]) same
       ∙ ap₂ (λ n o. option_map (memory (in_shared n [])) o) count_there (type_declared s f overrides key calculated (with_items first front).program (pointee_at source v.ty) t shape is)) others
+
+  -- So it begins paths.
+  pub shared_begins : (f : Function) (first : Declared) (m : Naming) (named_as : Source) (globals : ℕ → Option Expr) (before after : List Inst) (v : Inst) (ty : ℕ) (t : Tree) → first.shared_variables ≡ 0 → s.of.globals ≡ before ++ v ∷ after → global_variable s v.result ≡ Some v → is_in_class storage.Workgroup v ≡ true → is_mentioned s v.result ≡ true
+      → HaveBlocks s before → AllOff (λ (g : Inst). g.result == v.result) before → pointee s.of.globals v.ty ≡ Some ty → type_tree s.of.globals ty ≡ Some t → IsDeclared (with_items first (flat_map (declaration source r N) before)).program s source key t → AreOtherNames (key (Id (id v.result))) (flat_map (declaration source r N) after)
+      → globals v.result ≡ None → m.is_outside (key (Id (id v.result))) ≡ true → IsShared (with_items first (declarations source r N)).program m s named_as key globals v.result t (root v.result) []
+  shared_begins f first m named_as globals before after v ty t start whole there class mentioned have off points shape declared others itself outside =
+      record {
+        root = refl;
+        whole = refl;
+        inst = v;
+        there = there;
+        class = same_number (printed.class v) 4 (both_true (is v.op code.Variable) (printed.class v == 4) class).1;
+        itself = itself;
+        outside = outside;
+        typed_as = ap (λ o. type_tree s.of.globals (unwrap_or o 0)) points ∙ shape;
+        thing = shared_there f first before after v t start whole class mentioned have off (ap (λ o. type_tree s.of.globals (unwrap_or o v.ty)) points ∙ shape) declared others;
+      }
