@@ -1,5 +1,5 @@
 -- What the items of a text declare stays: so the block of a variable stands for its members, by the layout that it takes.
-use Rattle.std.proofs.Common.{◌≡◌, ◌+◌, ◌++◌, ℕ, true, false, List, [], ◌∷◌, map, Option, Some, None, refl, sym, ap, ap₂, ◌∙◌, subst}
+use Rattle.std.proofs.Common.{◌≡◌, ◌⊎◌, ◌+◌, ◌++◌, ℕ, true, false, List, [], ◌∷◌, map, Option, Some, None, refl, sym, ap, ap₂, ◌∙◌, subst}
 use Rattle.std.specs.Prelude.{bytes_eq, flat_map, unwrap_or}
 use Rattle.std.specs.List.{enumerate_from}
 use Rattle.std.proofs.lemmas.List.Concat.{flat_map-cons}
@@ -8,7 +8,7 @@ use Rattle.spv_ops.specs.Opcode.{is}
 use Rattle.spv_module.specs.Lists.{id}
 use Rattle.spv_module.specs.declared.inst.Inst.{Inst}
 use Rattle.spv_module.specs.declared.inst.Function.{Function}
-use Rattle.spv_types.specs.Tree.{Tree, Trees, no_trees, tree}
+use Rattle.spv_types.specs.Tree.{struct, Tree, Trees, no_trees, tree}
 use Rattle.spv_types.specs.Types.{both, all_trees, tree_before, type_tree}
 use Rattle.spv_ops.specs.Enumerants.{decoration_number}
 use Rattle.spv_ops.specs.declared.Decoration.TheVariants as decoration
@@ -17,7 +17,7 @@ use Rattle.profile_rules.specs.declared.given.Given.{Given}
 use Rattle.layout_rules.specs.declared.Kind.{Kind}
 use Rattle.layout_rules.specs.declared.Kind.TheVariants.{Std430, Std140}
 use Rattle.layout_rules.specs.Blocks.{kind_at}
-use Rattle.module_semantics.specs.Setting.{Setting}
+use Rattle.module_semantics.specs.Setting.{Setting, global_variable}
 use Rattle.name_alloc.specs.declared.claims.Key.{Key}
 use Rattle.name_alloc.specs.declared.claims.Key.TheVariants.{Id}
 use Rattle.glsl_ast.specs.Tree.{Text, Expr, Decl}
@@ -30,7 +30,18 @@ use Rattle.text_rules.specs.Declarations.{Names, spelling, type_at, member_decl,
 use Rattle.type_law.proofs.Parts.{earlier_is}
 use Rattle.path_law.specs.Parts.{shape_in}
 use Rattle.path_law.specs.Walks.{struct_names}
-use Rattle.path_law.specs.Starts.{members_in}
+use Rattle.path_law.specs.Starts.{members_in, IsBlock}
+use Rattle.path_law.specs.Laid.{HasLengths}
+use Rattle.agree_law.specs.Agree.{Naming}
+use Rattle.module_semantics.specs.State.{global as root}
+use Rattle.module_semantics.specs.Memory.{variable_type}
+use Rattle.spv_module.specs.Held.{global}
+use Rattle.spv_index.specs.Pointers.{pointee}
+use Rattle.spv_index.specs.BlockStructs.{is_block}
+use Rattle.spv_decor.specs.Rows.{word}
+use Rattle.spv_ops.specs.Enumerants.{class_number}
+use Rattle.spv_ops.specs.declared.StorageClass.TheVariants as storage
+use Rattle.fits_law.proofs.Steps.{named}
 use Rattle.global_law.specs.Sources.{source_of}
 use Rattle.global_law.specs.Names.{names_of, IsDeclared}
 use Rattle.global_law.proofs.BuiltIns.{AreOtherNames, items_keep}
@@ -121,3 +132,30 @@ module _ (s : Setting) (f : Function) (overrides : List (ℕ × Given)) (key : K
       ap (λ l. (with_items first l).program.things (key (Id (id v.result)))) (declared_between source r N before after v (block_decl source N v g) whole is)
       ∙ item_there (flat_map (declaration source r N) before) (flat_map (declaration source r N) after) (block_decl source N v g) first (key (Id (id v.result))) (instance (place_of source v) k (members_in s (struct_names key) g.result 0 ts))
       (block_item (with_items first (flat_map (declaration source r N) before)) v g k ts takes all are) others
+
+  -- So it begins paths.
+  pub block_begins : (r : Reached) (first : Declared) (m : Naming) (globals : ℕ → Option Expr) (before after : List Inst) (v g : Inst) (ty : ℕ) (k : Kind) (ts : Trees) → Gs ≡ before ++ v ∷ after → declaration source r N v ≡ block_decl source N v g ∷ [] → kind_at s.of.heads Gs v g ≡ Some k → all_trees (tree_before Gs g.at) g.args ≡ Some ts
+      → AreDeclared (with_items first (flat_map (declaration source r N) before)).program ts → AreOtherNames (key (Id (id v.result))) (flat_map (declaration source r N) after) → global_variable s v.result ≡ Some v
+      → (word v 0 ≡ class_number storage.StorageBuffer) ⊎ ((word v 0 ≡ class_number storage.Uniform) ⊎ (word v 0 ≡ class_number storage.PushConstant)) → pointee Gs v.ty ≡ Some ty → global Gs ty ≡ Some g → type_tree Gs ty ≡ Some (struct ty ts) → HasLengths (struct ty ts) → is_block s.of.heads ty ≡ true
+      → globals v.result ≡ None → m.is_outside (key (Id (id v.result))) ≡ true → IsBlock (with_items first (declarations source r N)).program m s source key globals v.result (struct ty ts) (root v.result) []
+  block_begins r first m globals before after v g ty k ts whole written takes all declared others there class points type_there shape lengths decorated itself outside =
+      let at : variable_type s v ≡ ty = ap (λ o. unwrap_or o 0) points in
+      record {
+        root = refl;
+        whole = refl;
+        inst = v;
+        there = there;
+        class = class;
+        itself = itself;
+        outside = outside;
+        type = g;
+        type_there = ap (global Gs) at ∙ type_there;
+        parts = ts;
+        shape = ap (λ n. struct n ts) (sym at);
+        typed_as = ap (type_tree Gs) at ∙ shape;
+        lengths = lengths;
+        decorated = ap (is_block s.of.heads) at ∙ decorated;
+        kind = k;
+        takes = takes;
+        thing = block_there r first before after v g k ts whole written takes all declared others ∙ ap (λ n. Some (instance (place_of source v) k (members_in s (struct_names key) n 0 ts))) (named Gs ty g type_there ∙ sym at);
+      }
