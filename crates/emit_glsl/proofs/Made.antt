@@ -1,5 +1,5 @@
 -- What the code makes of planned functions is the unit of the definitions.
-use Rattle.std.proofs.Common.{◌≡◌, ℕ, Bool, true, false, List, [], ◌∷◌, ◌++◌, Option, Some, None, cond, map, refl, sym, ◌∙◌, ap}
+use Rattle.std.proofs.Common.{◌≡◌, ℕ, Bool, true, false, List, [], ◌∷◌, ◌++◌, Option, Some, None, cond, map, refl, sym, ◌∙◌, ap, subst}
 use Rattle.std.specs.Prelude.{find, flat_map, option_map, option_to_list}
 use Rattle.std.specs.List.{AllZip}
 use Rattle.std.proofs.lemmas.List.{map-append}
@@ -16,6 +16,7 @@ use Rattle.module_check.specs.Judged.{IsEntry}
 use Rattle.hoist_plan.specs.Kept.{form_in, is_carried_in}
 use Rattle.hoist_plan.specs.Plan as plan
 use Rattle.name_alloc.specs.declared.claims.Names.{Names as Given}
+use Rattle.name_alloc.specs.Law.{AreNames}
 use Rattle.name_alloc.specs.Naming.{name_of}
 use Rattle.name_alloc.specs.Lookup.{name_in}
 use Rattle.vec_lowering.specs.Named.{naming_of}
@@ -165,6 +166,7 @@ made_unit m o entry size order unit is_entry calls size_is made =
       plans = map plain made.plans;
       claimed = w.named.claimed;
       claims_are = w.named.claims_are ∙ (ap (λ (r : Reached). claims s r (map claimed_by made.plans)) reached ∙ ap (claims s (reached_of s (map plain made.plans))) (claims_are_same s w.names w.globals found fs made.plans made.planned));
+      lawful = subst AreNames names_are w.named.lawful;
       planned = plans_are s w.names w.globals found fs made.plans made.planned names_are w.globals_are;
       unit_is =
           w.unit_is

@@ -25,6 +25,7 @@ unasked s fs some types mentions plans h none is = record {
   named = record {
     claimed = is.named.claimed;
     claims_are = is.named.claims_are ∙ claims_same s fs some.types.items some.mentions.items types mentions plans none;
+    lawful = is.named.lawful;
     names_are = is.named.names_are;
   };
   items_are = is.items_are ∙ declarations_same s fs some.types.items some.mentions.items types mentions (item_names s h.names) none;

@@ -10,6 +10,7 @@ use Rattle.spv_module.specs.declared.inst.Function.{Function}
 use Rattle.name_alloc.specs.declared.claims.Claim.{Claim}
 use Rattle.name_alloc.specs.declared.claims.Key.{Key}
 use Rattle.name_alloc.specs.declared.claims.Names.{Names as Given}
+use Rattle.name_alloc.specs.Law.{AreNames}
 use Rattle.name_alloc.specs.Naming.{name_of}
 use Rattle.name_alloc.specs.Lookup.{name_in}
 use Rattle.profile_rules.specs.declared.size.SizePart.{SizePart}
@@ -44,11 +45,12 @@ reached_in ps = record { functions = map function_in ps; types = flat_map types_
 abbrev pub is_among : IdSet → Function → Bool
 is_among ids f = is_in ids f.id.0
 
--- names that are given by what is claimed
+-- names that are given by what is claimed: each is one that its key may have, and keys of one space have names of their own
 pub record AreNamesOf (s : Source) (r : Reached) (plans : List Plan) (names : Given) : Type 0 where
   pub claimed : List Claim
   pub claims_are : claims_of claimed ≡ claims s r plans
   pub names_are : (key : Key) → name_in names key ≡ name_of claimed key
+  pub lawful : AreNames (name_in names)
 
 -- the names of a text, and its items before the functions
 pub record IsHead (s : Source) (r : Reached) (plans : List Plan) (h : Head) : Type 0 where

@@ -9,6 +9,7 @@ use Rattle.profile_rules.specs.Calls.{IsCallOrder, numbers}
 use Rattle.conformance.specs.Rules.{Options}
 use Rattle.module_check.specs.Judged.{IsEntry}
 use Rattle.name_alloc.specs.declared.claims.Claim.{Claim}
+use Rattle.name_alloc.specs.Law.{AreNames}
 use Rattle.name_alloc.specs.Naming.{name_of}
 use Rattle.glsl_ast.specs.Tree.{TranslationUnit, translation_unit}
 use Rattle.text_rules.specs.Constants.{Source, sizes}
@@ -74,7 +75,7 @@ in_order order plans = flat_map (plan_at plans) order
 abbrev pub source_of : ModuleState → Options → ℕ → Source
 source_of m o entry = record { of = m; entry = entry; overrides = o.overrides }
 
--- the tree of a module's text: of the functions that calls reach from the entry, callees first, each by its plan; names are given by the claims of what is written
+-- the tree of a module's text: of the functions that calls reach from the entry, callees first, each by its plan; names are given by the claims of what is written, each its own in its space
 pub record IsUnitOf (m : ModuleState) (o : Options) (unit : TranslationUnit) : Type 0 where
   pub entry : ℕ
   pub is_entry : IsEntry m o entry
@@ -83,5 +84,6 @@ pub record IsUnitOf (m : ModuleState) (o : Options) (unit : TranslationUnit) : T
   pub plans : List FunctionPlan
   pub claimed : List Claim
   pub claims_are : claims_of claimed ≡ claims (source_of m o entry) (reached_of (source_of m o entry) plans) (map (claims_by (source_of m o entry)) plans)
+  pub lawful : AreNames (name_of claimed)
   pub planned : AllZip (IsPlanOf (source_of m o entry) (name_of claimed)) (called order m.functions) plans
   pub unit_is : unit ≡ unit_text (source_of m o entry) (reached_of (source_of m o entry) plans) (item_names_of (source_of m o entry) (name_of claimed)) (in_order order plans)
