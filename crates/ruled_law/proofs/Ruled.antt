@@ -16,6 +16,7 @@ use Rattle.spv_ops.specs.declared.Op.TheVariants as code
 use Rattle.spv_module.specs.Held.{global}
 use Rattle.spv_module.specs.Inst.{has_type, has_result}
 use Rattle.spv_module.specs.Lists.{module_of}
+use Rattle.spv_module.specs.State.{ModuleState}
 use Rattle.spv_module.specs.declared.inst.Id.{Id}
 use Rattle.spv_module.specs.declared.inst.Inst.{Inst}
 use Rattle.spv_module.specs.declared.inst.Function.{Function}
@@ -33,6 +34,9 @@ use Rattle.profile_rules.specs.FlowRules.{breaks_t21}
 use Rattle.profile_rules.specs.TypeRules.{is_value_broken, is_flow_broken}
 use Rattle.profile_rules.specs.Entry.{function_of}
 use Rattle.profile_rules.specs.Constants.{chosen_word}
+use Rattle.conformance.specs.Rules.{Options}
+use Rattle.module_check.specs.Judged.{IsFine}
+use Rattle.module_check.specs.ReadFrom.{IsReadFrom}
 use Rattle.traces.specs.Events.{Event}
 use Rattle.traces.specs.Invocations.{Invocation}
 use Rattle.traces.specs.Runs.{go, step_of, Supplied}
@@ -59,6 +63,7 @@ use Rattle.typed_law.proofs.Others.{typed_some, target_of, chain_types}
 use Rattle.typed_law.proofs.Calls.{AreOfTypes, arguments_typed, global_variable_is, global_points}
 use Rattle.typed_law.proofs.Whole.{is_typed}
 use Rattle.typed_law.proofs.Inputs.{conforming_fits}
+use Rattle.accepted_law.proofs.Accepted.{accepted_conforming}
 use Rattle.typed_law.proofs.Words.{conforms}
 
 -- the same lists by other words
@@ -268,3 +273,14 @@ module _ (ws : List ℕ) (entry : Option (List ℕ)) (right : BreakNone ws entry
 
   pub conforming_ruled : (More : Conf → Type 0) → ((c d : Supplied Conf) (e : List Event) → step_of (act S) c ≡ go e d → More c.at → More d.at) → IsRuled S More
   conforming_ruled More kept = is_ruled S entry (conforms ws entry right) (chosen_word S.of.heads overrides inv.specialization) (λ id. refl) More kept
+
+-- so is a module that was read from bytes and that the judges do not refuse
+module _ (bytes : List ℕ) (m : ModuleState) (o : Options) (read : IsReadFrom bytes m) (fine : IsFine m o) (function : ℕ) (overrides : List (ℕ × Given)) (inv : Invocation) where
+  abbrev A : Setting
+  A = setting m function overrides inv
+
+  pub accepted_lends : LendsWhole A
+  accepted_lends = lends_whole A o.entry (accepted_conforming bytes m o read fine) (chosen_word A.of.heads overrides inv.specialization) (λ id. refl)
+
+  pub accepted_ruled : (More : Conf → Type 0) → ((c d : Supplied Conf) (e : List Event) → step_of (act A) c ≡ go e d → More c.at → More d.at) → IsRuled A More
+  accepted_ruled More kept = is_ruled A o.entry (accepted_conforming bytes m o read fine) (chosen_word A.of.heads overrides inv.specialization) (λ id. refl) More kept
