@@ -19,11 +19,11 @@ of_left j [] ys is = absurd is
 of_left j (x ∷ xs) ys (inl same) = inl same
 of_left j (x ∷ xs) ys (inr is) = inr (of_left j xs ys is)
 
-of_right : (j : Inst) (xs ys : List Inst) → IsOf j ys → IsOf j (xs ++ ys)
+pub of_right : (j : Inst) (xs ys : List Inst) → IsOf j ys → IsOf j (xs ++ ys)
 of_right j [] ys is = is
 of_right j (x ∷ xs) ys is = inr (of_right j xs ys is)
 
-of_drop : (n : ℕ) (j : Inst) (xs : List Inst) → IsOf j (drop n xs) → IsOf j xs
+pub of_drop : (n : ℕ) (j : Inst) (xs : List Inst) → IsOf j (drop n xs) → IsOf j xs
 of_drop zero j xs is = is
 of_drop (suc n) j [] is = is
 of_drop (suc n) j (x ∷ xs) is = inr (of_drop n j xs is)
@@ -81,5 +81,5 @@ module _ (s : Setting) where
     stores = λ ds f n v c. record { of_module = c.of_module; of_function = c.of_function };
     lends = λ ds f depth n v g is c. c;
     calls = λ ds f i rest g hs next kind is have c. code_called (arg i 0) g _ is;
-    goes_to = λ ds f label t b values to is have c. record { of_module = c.of_module; of_function = block_of f.function.blocks t b is };
+    goes_to = λ ds f i rest o label t b values next kind leads to is have c. record { of_module = c.of_module; of_function = block_of f.function.blocks t b is };
   }

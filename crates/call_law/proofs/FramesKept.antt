@@ -150,17 +150,17 @@ module _ (h : ℕ) (J : List (Frame × ℕ) → Frame → Type 0) (s : Setting) 
   return_value_keeps c i at = some_keeps (value_at s c.top (arg i 0)) _ (λ v e. given_keeps c v c.below at.below)
 
   -- edges
-  edge_keeps : (c : Conf) (label : ℕ) → Inv c → Keeps (edge_step s c label)
+  edge_keeps : (o : Terminator) (c : Conf) (rest : List Inst) (i : Inst) (label : ℕ) → c.top.rest ≡ i ∷ rest → step_kind i.op ≡ the.branch o → target_label o s c.top i ≡ Some label → Inv c → Keeps (edge_step s c label)
   unfolding edge_step
-  edge_keeps c label at =
+  edge_keeps o c rest i label next kind leads at =
       some_keeps (block_in c.top.function label) _ (λ t to.
       some_keeps (slice_get c.top.function.blocks t) _ (λ b is.
       some_keeps (each_one (phi_value s c.top (present_label c.top)) (phis b)) _ (λ values have.
-      record { top = λ le. closed.goes_to c.below c.top label t b values to is have (at.top le); below = at.below })))
+      record { top = λ le. closed.goes_to c.below c.top i rest o label t b values next kind leads to is have (at.top le); below = at.below })))
 
-  branch_keeps : (o : Terminator) (c : Conf) (i : Inst) → Inv c → Keeps (branch_step o s c i)
+  branch_keeps : (o : Terminator) (c : Conf) (rest : List Inst) (i : Inst) → c.top.rest ≡ i ∷ rest → step_kind i.op ≡ the.branch o → Inv c → Keeps (branch_step o s c i)
   unfolding branch_step
-  branch_keeps o c i at = some_keeps (target_label o s c.top i) _ (λ label e. edge_keeps c label at)
+  branch_keeps o c rest i next kind at = some_keeps (target_label o s c.top i) _ (λ label leads. edge_keeps o c rest i label next kind leads at)
 
   steps_keep : (k : StepKind) (c : Conf) (rest : List Inst) (i : Inst) → c.top.rest ≡ i ∷ rest → step_kind i.op ≡ k → h ≤ length c.below → Inv c → Keeps (step_by k s c rest i)
   steps_keep the.operation c rest i next kind le at = operation_keeps c rest i next (ap makes_pointer kind) at
@@ -174,7 +174,7 @@ module _ (h : ℕ) (J : List (Frame × ℕ) → Frame → Type 0) (s : Setting) 
   steps_keep the.control_barrier c rest i next kind le at = control_barrier_keeps c rest i next at
   steps_keep the.call c rest i next kind le at = call_keeps c rest i next kind le at
   steps_keep the.merge c rest i next kind le at = passes c rest i next at
-  steps_keep (the.branch o) c rest i next kind le at = branch_keeps o c i at
+  steps_keep (the.branch o) c rest i next kind le at = branch_keeps o c rest i next kind at
   steps_keep the.return c rest i next kind le at = return_keeps c c.below at.below
   steps_keep the.return_value c rest i next kind le at = return_value_keeps c i at
   steps_keep the.unreachable c rest i next kind le at = tt

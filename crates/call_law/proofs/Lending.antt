@@ -17,9 +17,24 @@ use Rattle.module_semantics.specs.Steps.{call, step_kind, without_based, is_base
 use Rattle.fits_law.proofs.Operations.{before_some}
 use Rattle.agree_law.specs.Agree.{IfPointer}
 use Rattle.agree_law.proofs.Stores.{length_with}
-use Rattle.call_law.specs.Known.{IsCode, is_parameter, IsOfBelow, from_call, IsLending, IsWhole, ArePointersSo, LendsWhole}
+use Rattle.call_law.specs.Known.{IsFunctionOf, IsCode, is_parameter, IsOfBelow, from_call, IsLending, IsWhole, ArePointersSo, LendsWhole}
 use Rattle.call_law.specs.Frames.{IsClosed}
-use Rattle.call_law.proofs.CodeKept.{next_of, code_on, code_called, block_of}
+use Rattle.call_law.proofs.CodeKept.{first_of, next_of, code_on, code_called, block_of}
+
+-- nothing is passed to the call with which a run begins
+none_passed : (P : Root → List ℕ → Type 0) (ps : List (Id × Id)) (n : ℕ) → IfPointer (argument_of ps [] n) P
+none_passed P [] n = tt
+none_passed P (p ∷ ps) n = tt
+
+pub first_lending : (s : Setting) (g : Function) → IsFunctionOf g s.of.functions → IsLending s [] (entered s g [])
+unfolding entered
+first_lending s g is = record {
+  code = record { of_module = is; of_function = first_of g.blocks };
+  typed = λ n. none_passed _ g.params n;
+  parameters = λ n on. none_passed _ g.params n;
+  apart = λ n k on too differ. none_passed _ g.params n;
+  variables = λ n on off. none_passed _ g.params n;
+}
 
 -- what is asked of a pointer, where one is there
 pub if_pointer : (P : Root → List ℕ → Type 0) (o : Option Held) → ((r : Root) (path : List ℕ) → o ≡ Some (pointer r path) → P r path) → IfPointer o P
@@ -303,7 +318,7 @@ module _ (s : Setting) (whole : LendsWhole s) where
       variables = at.variables;
     };
     calls = λ ds f i rest g hs next kind is have at. called_lending ds f i rest g hs next kind is have at;
-    goes_to = λ ds f label t b values to is have at. still_lending ds f _ refl (record { of_module = at.code.of_module; of_function = block_of f.function.blocks t b is }) (phis_came f _ values) at;
+    goes_to = λ ds f i rest o label t b values next kind leads to is have at. still_lending ds f _ refl (record { of_module = at.code.of_module; of_function = block_of f.function.blocks t b is }) (phis_came f _ values) at;
   }
     where
       below_with : (ds : List (Frame × ℕ)) (depth : ℕ) (g : Frame) (r : Root) → IsOfBelow ds r → IsOfBelow (with_call depth g ds) r

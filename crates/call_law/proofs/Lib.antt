@@ -6,3 +6,4 @@ pub mod Valued
 pub mod Lending
 pub mod Parameters
 pub mod Again
+pub mod Reached

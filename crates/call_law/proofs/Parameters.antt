@@ -89,5 +89,5 @@ module _ (s : Setting) (whole : LendsWhole s) (h : ℕ) (g : Function) (given : 
       above = (let le = at.above in let more : h ≤ suc (length ds) = omega (arith, le) in more);
       same = λ height. let le = at.above in absurd (omega (arith, le, height));
     };
-    goes_to = λ ds f label t b values to is have at. kept_so ds f _ (record { of_module = at.code.of_module; of_function = block_of f.function.blocks t b is }) refl (phis_same f.function at.code.of_module _ values f.ids (phi_of f.function.blocks t b is)) at;
+    goes_to = λ ds f i rest o label t b values next kind leads to is have at. kept_so ds f _ (record { of_module = at.code.of_module; of_function = block_of f.function.blocks t b is }) refl (phis_same f.function at.code.of_module _ values f.ids (phi_of f.function.blocks t b is)) at;
   }

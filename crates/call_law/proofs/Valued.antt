@@ -178,5 +178,5 @@ module _ (s : Setting) where
     calls = λ ds f i rest g hs next kind is have at.
         arguments_so (LeadsToSome ((record f { rest = rest }, i.result) ∷ ds) (entered s g (map (passed (length ds)) hs))) g.params (map (passed (length ds)) hs)
         (all_passed ds f (record f { rest = rest }) i.result (λ k. refl) (entered s g (map (passed (length ds)) hs)) hs (all_held_so (LeadsToSome ds f) f (λ k. tt) at (drop 1 i.args) hs have));
-    goes_to = λ ds f label t b values to is have at. phis_so (LeadsToSome ds f) _ values f.ids at;
+    goes_to = λ ds f i rest o label t b values next kind leads to is have at. phis_so (LeadsToSome ds f) _ values f.ids at;
   }

@@ -1,5 +1,6 @@
 -- What holds of each call under way, whatever it does next.
 use Rattle.std.specs.Prelude.{◌≡◌, ◌≤◌, ℕ, Bool, true, false, List, ◌++◌, [], ◌∷◌, length, map, drop, Some, slice_get}
+use Rattle.spv_ops.specs.declared.Terminator.{Terminator}
 use Rattle.spv_module.specs.declared.inst.Inst.{Inst}
 use Rattle.spv_module.specs.declared.inst.Block.{Block}
 use Rattle.spv_module.specs.declared.inst.Function.{Function}
@@ -13,7 +14,7 @@ use Rattle.module_semantics.specs.Setting.{Setting}
 use Rattle.module_semantics.specs.Memory.{are_allowed}
 use Rattle.module_semantics.specs.State.{own, Held, value, pointer, Frame, Conf, put, call_at, with_call, with_variable}
 use Rattle.module_semantics.specs.Operands.{held, pointer_at, Target, arg, words_at}
-use Rattle.module_semantics.specs.Steps.{StepKind, chain, variable, call, step_kind, base, without_based, phis, behind_phis, passed, entered, phi_value, present_label, with_phis}
+use Rattle.module_semantics.specs.Steps.{StepKind, chain, variable, call, branch, step_kind, base, without_based, phis, behind_phis, passed, entered, target_label, phi_value, present_label, with_phis}
 
 -- J: of a call, and of those below it; where at least h calls stand below that one
 module _ (h : ℕ) (J : List (Frame × ℕ) → Frame → Type 0) where
@@ -56,5 +57,5 @@ module _ (J : List (Frame × ℕ) → Frame → Type 0) where
     pub lends : (ds : List (Frame × ℕ)) (f : Frame) (depth n : ℕ) (v : ValueTree) (g : Frame) → call_at depth ds ≡ Some g → J ds f → J (with_call depth (with_variable n v g) ds) f
     pub calls : (ds : List (Frame × ℕ)) (f : Frame) (i : Inst) (rest : List Inst) (g : Function) (hs : List Held) → f.rest ≡ i ∷ rest → step_kind i.op ≡ call → function_of s.of.functions (arg i 0) ≡ Some g → each_one (held s f) (drop 1 i.args) ≡ Some hs
         → J ds f → J ((record f { rest = rest }, i.result) ∷ ds) (entered s g (map (passed (length ds)) hs))
-    pub goes_to : (ds : List (Frame × ℕ)) (f : Frame) (label t : ℕ) (b : Block) (values : List ValueTree) → block_in f.function label ≡ Some t → slice_get f.function.blocks t ≡ Some b → each_one (phi_value s f (present_label f)) (phis b) ≡ Some values
+    pub goes_to : (ds : List (Frame × ℕ)) (f : Frame) (i : Inst) (rest : List Inst) (o : Terminator) (label t : ℕ) (b : Block) (values : List ValueTree) → f.rest ≡ i ∷ rest → step_kind i.op ≡ branch o → target_label o s f i ≡ Some label → block_in f.function label ≡ Some t → slice_get f.function.blocks t ≡ Some b → each_one (phi_value s f (present_label f)) (phis b) ≡ Some values
         → J ds f → J ds (record f { block = t; rest = behind_phis b; ids = with_phis (phis b) values f.ids })

@@ -1,3 +1,4 @@
 pub mod Waits
 pub mod Frames
 pub mod Known
+pub mod Reached

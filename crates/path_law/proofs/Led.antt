@@ -291,7 +291,7 @@ module _ (s : Setting) where
         by_test true is = absurd (no_true (is_global s.of.globals n) on (right.parameters g in_module n is))
         by_test false off = none_given g.params hs n off
 
-    called_led : (ds : List (Frame × ℕ)) (g : Function) (hs : List Held) → IsFunctionOf g s.of.functions → IsLending s ds (entered s g hs) → AreLed s ds (entered s g hs)
+    pub called_led : (ds : List (Frame × ℕ)) (g : Function) (hs : List Held) → IsFunctionOf g s.of.functions → IsLending s ds (entered s g hs) → AreLed s ds (entered s g hs)
     unfolding entered
     called_led ds g hs in_module lending = record {
       lending = lending;
@@ -346,11 +346,11 @@ module _ (s : Setting) where
       lends = λ ds f depth n v g is at. record { lending = lending.lends ds f depth n v g is at.lending; own = at.own; chains = at.chains };
       calls = λ ds f i rest g hs next kind is have at.
           called_led ((record f { rest = rest }, i.result) ∷ ds) g (map (passed (length ds)) hs) (function_found s.of.functions (arg i 0) g is) (lending.calls ds f i rest g hs next kind is have at.lending);
-      goes_to = λ ds f label t b values to is have at.
+      goes_to = λ ds f i rest o label t b values next kind leads to is have at.
           let all : (i : Inst) → IsOf i (phis b) → IsOf i (insts_of f.function) × (makes_pointer (step_kind i.op) ≡ false)
           = λ i at. (phi_of f.function.blocks t b is i at, phi_kind i.op (in_while b.insts i at)) in
           record {
-            lending = lending.goes_to ds f label t b values to is have at.lending;
+            lending = lending.goes_to ds f i rest o label t b values next kind leads to is have at.lending;
             own = phis_own f (phis b) values at.lending.code.of_module all at.own;
             chains = still f _ refl (λ q there kind r way has. phis_kept f (phis b) values at.lending.code.of_module all q there kind r way has) at.chains;
           };
