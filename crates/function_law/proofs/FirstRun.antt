@@ -26,8 +26,7 @@ use Rattle.agree_law.specs.Points.{GivesBy, Returns}
 use Rattle.agree_law.proofs.Calling.{fails_then, come_events}
 use Rattle.agree_law.proofs.Machine.{machine, kind_is}
 use Rattle.call_law.specs.Known.{is_parameter, IsLending}
-use Rattle.call_law.proofs.CodeKept.{first_of}
-use Rattle.call_law.proofs.Lending.{no_true}
+use Rattle.call_law.proofs.Lending.{no_true, first_lending}
 use Rattle.function_law.specs.UnderWay.{IsKnown, IsUnderWay, IsRuled}
 use Rattle.function_law.specs.Tops.{IsEntered}
 use Rattle.function_law.specs.Texts.{FunctionText}
@@ -73,14 +72,7 @@ module _ (p : Program) (k : ℕ) (s : Setting) (More : Conf → Type 0) (ruled :
   none_asked P n = subst (λ o. IfPointer o P) (sym (ids_none n)) tt
 
   code : IsLending s [] (first_state s g).top
-  unfolding entered
-  code = record {
-    code = record { of_module = first.of_module; of_function = first_of g.blocks };
-    typed = λ n. none_asked _ n;
-    parameters = λ n on. none_asked _ n;
-    apart = λ n j on too other. none_asked _ n;
-    variables = λ n on off. none_asked _ n;
-  }
+  code = first_lending s g first.of_module
 
   known : IsKnown s More (first_state s g)
   known = record {
