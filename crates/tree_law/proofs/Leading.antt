@@ -149,7 +149,7 @@ module _ (f : Function) (g : List Node) (sound : IsSound g) (w : Blocks) (term :
       by_exit terminator.Branch exit p a =
           let j = written.jumps b here exit in
           let c : Carries g b j.0 n = subst (λ o. CarriesTo g b o n) j.1 a in
-          subst (λ q. PlainLeads w term falls Cases q b r X) (sym j.2) (written.target_is b 0 j.0 j.1, edge_is f g b j.0 r n fo c, rest j.0 (starts_carried g b j.0 n c))
+          subst (λ q. PlainLeads w term falls Cases q b r X) (sym j.2) (written.target_is b 0 j.0 here j.1, edge_is f g b j.0 r n fo c, rest j.0 (starts_carried g b j.0 n c))
       by_exit terminator.Leave exit p a = by_left exit a
       by_exit terminator.Conditional exit p a = cc
       by_exit terminator.Switch exit p a = cc
@@ -214,8 +214,8 @@ module _ (f : Function) (g : List Node) (sound : IsSound g) (w : Blocks) (term :
             b.0,
             b.1,
             b.4,
-            written.target_is h 0 b.0 b.2,
-            written.target_is h 1 b.1 b.3,
+            written.target_is h 0 b.0 pl.0 b.2,
+            written.target_is h 1 b.1 pl.0 b.3,
             edge_is f g h b.0 x fi.2.0 fi.2.2 cx,
             edge_is f g h b.1 y fi.3.0 fi.3.2 cy,
             (
@@ -238,8 +238,8 @@ module _ (f : Function) (g : List Node) (sound : IsSound g) (w : Blocks) (term :
             b.0,
             b.1,
             b.4,
-            written.target_is h 0 b.0 b.2,
-            written.target_is h 1 b.1 b.3,
+            written.target_is h 0 b.0 pl.0 b.2,
+            written.target_is h 1 b.1 pl.0 b.3,
             edge_is f g h b.0 x fi.2.0 fi.2.2 cx,
             edge_is f g h b.1 y fi.3.0 fi.3.2 cy,
             region_leads x fi.2.0 ps v breaks b.0 fi.2.2 (inside_placed f g sound h 0 fi.2.0 ps pl.0 off round fi.2.1) (starts_carried g h b.0 fi.2.0 cx) se (λ e. br (or_left (has_break x) (has_break y) e)),

@@ -24,7 +24,7 @@ pub record FlagsApart (w : Blocks) : Type 0 where
   pub leave_fell : (a b : ℕ) (x : Text) → w.leave a ≡ Some x → w.fell b ≡ Some x → ⊥
 
 pub record IsWritten (f : Function) (g : List Node) (w : Blocks) (term : ℕ → Term) (Cases : ℕ → Groups → Type 0) : Type 0 where
-  pub target_is : (b k t : ℕ) → target g b k ≡ Some t → w.target b k ≡ t
+  pub target_is : (b k t : ℕ) → (nth g b).reached ≡ true → target g b k ≡ Some t → w.target b k ≡ t
   pub jumps : (b : ℕ) → (nth g b).reached ≡ true → (nth g b).exit ≡ terminator.Branch → (t : ℕ) × (target g b 0 ≡ Some t) × (term b ≡ jump t)
   pub branches : (b : ℕ) → (nth g b).reached ≡ true → (nth g b).exit ≡ terminator.Conditional → (t u : ℕ) × (target g b 0 ≡ Some t) × (target g b 1 ≡ Some u) × (term b ≡ branch t u)
   pub tables : (b : ℕ) → (nth g b).reached ≡ true → is_switch (nth g b).exit ≡ true → term b ≡ table
