@@ -61,7 +61,7 @@ found_in (i ∷ gs) n g is = by_test (i.result == n) refl is (found_in gs n g)
     by_test true on is later = let same : i ≡ g = cc in (inl same, ap (λ (j : Inst). j.result) (sym same) ∙ equal on)
     by_test false off is later = let w = later is in (inr w.0, w.1)
 
-no_struct : (o : Op) → is_constant_op o ≡ true → is o code.TypeStruct ≡ false
+pub no_struct : (o : Op) → is_constant_op o ≡ true → is o code.TypeStruct ≡ false
 unfolding number
 no_struct code.TypeStruct on = cc
 no_struct o on = refl

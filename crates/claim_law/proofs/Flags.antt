@@ -53,13 +53,13 @@ passes_inside test f b on =
     let size = graph_sized f in
     omega (arith, less, size)
 
-at_inside : (blocks : List Block) (b : ℕ) → b < length blocks → (block : Block) × (slice_get blocks b ≡ Some block)
+pub at_inside : (blocks : List Block) (b : ℕ) → b < length blocks → (block : Block) × (slice_get blocks b ≡ Some block)
 at_inside [] b less = absurd (omega (arith, less))
 at_inside (x ∷ blocks) zero less = (x, refl)
 at_inside (x ∷ blocks) (suc b) less = at_inside blocks b (let low : b < length blocks = omega (arith, less) in low)
 
 -- each plan is that of a function
-planned_as : (R : Function → FunctionPlan → Type 0) (fs : List Function) (ps : List FunctionPlan) (p : FunctionPlan) → AllZip R fs ps → IsIn p ps → (f : Function) × R f p
+pub planned_as : (R : Function → FunctionPlan → Type 0) (fs : List Function) (ps : List FunctionPlan) (p : FunctionPlan) → AllZip R fs ps → IsIn p ps → (f : Function) × R f p
 planned_as R [] [] p all among = absurd among
 planned_as R [] (q ∷ ps) p all among = absurd all
 planned_as R (f ∷ fs) [] p all among = absurd all

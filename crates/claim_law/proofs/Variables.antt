@@ -26,12 +26,12 @@ use Rattle.claim_law.proofs.Keys.{variable_claimed, block_claimed}
 use Rattle.claim_law.proofs.Named.{Plans, has_name_of}
 use Rattle.claim_law.proofs.Constants.{found_in, both_on}
 
-variable_no_struct : (o : Op) → is o code.Variable ≡ true → is o code.TypeStruct ≡ false
+pub variable_no_struct : (o : Op) → is o code.Variable ≡ true → is o code.TypeStruct ≡ false
 unfolding number
 variable_no_struct code.Variable on = refl
 variable_no_struct o on = cc
 
-variable_no_constant : (o : Op) → is o code.Variable ≡ true → is_constant_op o ≡ false
+pub variable_no_constant : (o : Op) → is o code.Variable ≡ true → is_constant_op o ≡ false
 unfolding number
 variable_no_constant code.Variable on = refl
 variable_no_constant o on = cc
@@ -65,7 +65,7 @@ module _ (m : ModuleState) (o : Options) (unit : TranslationUnit) (u : IsUnitOf 
   is_one : (g : Inst) → is_of_class g ≡ true → is_variable g ≡ true
   is_one g class = class_on (is_variable g) _ _ _ class
 
-  undeclared : (g : Inst) → is_variable g ≡ true → is_declared_constant (source_of m o u.entry) r g ≡ false
+  pub undeclared : (g : Inst) → is_variable g ≡ true → is_declared_constant (source_of m o u.entry) r g ≡ false
   undeclared g on = first_off (is_constant g) _ (variable_no_constant g.op on)
 
   pub variable_named : (p : FunctionPlan) (i g : Inst) (n : ℕ) → IsIn p u.plans → IsIn i (insts_of (written p)) → has_operand i n ≡ true → global m.globals n ≡ Some g → is_of_class g ≡ true → HasName (name_of u.claimed) (Id (id n))

@@ -94,7 +94,7 @@ module _ (ns : List Node) where
         | inr many ↦ (let most = marks_le (reach ns (length ns)) in let size = length-reach ns (length ns) in absurd (omega (arith, many, most, size)))
       ]
 
-closed_reached : (ns : List Node) → IsClosed ns (reached ns)
+pub closed_reached : (ns : List Node) → IsClosed ns (reached ns)
 unfolding reached
 closed_reached ns = closed ns
 

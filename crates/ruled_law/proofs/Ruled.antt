@@ -67,18 +67,18 @@ use Rattle.accepted_law.proofs.Accepted.{accepted_conforming}
 use Rattle.typed_law.proofs.Words.{conforms}
 
 -- the same lists by other words
-contains_of : (fs : List Function) (f : Function) → IsFunctionOf f fs → Contains fs f
+pub contains_of : (fs : List Function) (f : Function) → IsFunctionOf f fs → Contains fs f
 contains_of [] f there = absurd there
 contains_of (g ∷ fs) f (inl same) = (0, (let less : 0 < suc (length fs) = omega arith in less), same)
 contains_of (g ∷ fs) f (inr there) = let w = contains_of fs f there in let less = w.1 in (suc w.0, (let more : suc w.0 < suc (length fs) = omega (arith, less) in more), w.2)
 
-among_of : (js : List Inst) (i : Inst) → IsOf i js → IsAmong i js
+pub among_of : (js : List Inst) (i : Inst) → IsOf i js → IsAmong i js
 among_of [] i there = there
 among_of (j ∷ js) i (inl same) = inl same
 among_of (j ∷ js) i (inr there) = inr (among_of js i there)
 
 -- opcodes by what they do
-variable_has : (o : Op) → is o code.Variable ≡ true → has_type o ≡ true
+pub variable_has : (o : Op) → is o code.Variable ≡ true → has_type o ≡ true
 unfolding number shape
 variable_has code.Variable e = refl
 variable_has o e = cc
@@ -112,7 +112,7 @@ behind_callee : (k : ℕ) → 1 ≤ k → first_or k Callee Value ≡ Value
 behind_callee k low = let off : (k == 0) ≡ false = grind (arith, nat_tests, low) in ap (λ (b : Bool). if b then Callee else Value) off
 
 -- what is found is one of them
-parameter_of : (ps : List (Id × Id)) (n : ℕ) → is_some (option_map (λ (p : Id × Id). p.1.0) (find (λ (p : Id × Id). p.0.0 == n) ps)) ≡ true → (p : Id × Id) × IsParameter p ps × (p.0.0 ≡ n)
+pub parameter_of : (ps : List (Id × Id)) (n : ℕ) → is_some (option_map (λ (p : Id × Id). p.1.0) (find (λ (p : Id × Id). p.0.0 == n) ps)) ≡ true → (p : Id × Id) × IsParameter p ps × (p.0.0 ≡ n)
 parameter_of [] n e = cc
 parameter_of (q ∷ ps) n e = by_test (q.0.0 == n) (eqb_tells q.0.0 n) e (λ rest. parameter_of ps n rest)
   where

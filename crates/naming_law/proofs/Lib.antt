@@ -1,0 +1,14 @@
+pub mod Formed
+pub mod Blocks
+pub mod Reach
+pub mod Traced
+pub mod Alone
+pub mod Keys
+pub mod Parameters
+pub mod Fine
+pub mod Unit
+pub mod Insts
+pub mod Ends
+pub mod Written
+pub mod Tree
+pub mod Whole

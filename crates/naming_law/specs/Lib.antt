@@ -1,0 +1,6 @@
+pub mod Formed
+pub mod Traced
+pub mod Alone
+pub mod Names
+pub mod Types
+pub mod Ends
