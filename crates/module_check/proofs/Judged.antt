@@ -33,7 +33,7 @@ use Rattle.conformance.proofs.Callees.{callees_known}
 use Rattle.conformance.proofs.OwnIds.{own_ids}
 use Rattle.conformance.proofs.TypeLimits.{none_passes}
 use Rattle.module_check.specs.Structure.{IsStructured, IsUnstructured}
-use Rattle.module_check.specs.Judged.{IsRead, IsFineLater, IsLaterFault, by_rest, by_structure, by_calls, IsTyped, IsEntry, IsFine, IsFault, by_declarations, by_types, by_later}
+use Rattle.module_check.specs.Judged.{IsFineLater, IsLaterFault, by_rest, by_structure, by_calls, IsTyped, IsEntry, IsFine, IsFault, by_declarations, by_types, by_later}
 
 -- the rules on overrides, as they are judged
 on_overrides : (m : ModuleState) (pairs : List (ℕ × Given)) (rule : Rule) (at : ℕ) → BrokenFit m pairs rule at → BrokenOverrides m pairs rule at
@@ -66,13 +66,13 @@ module _ (bytes ws : List ℕ) (o : Options) (is : ws ≡ words bytes) (fine : A
     decorations_fault fault h = decorations_right bytes o fault formed (subst (λ (n : ModuleState). IsRightOfDecorations n fault) same h)
 
     -- each function has an id of its own, and each that is called is one of them
-    pub is_read : IsRead m
-    is_read = record {
-      own_ids = subst (λ (n : ModuleState). HaveOwnIds n.functions) (sym made) (own_ids ws form.1.1.0 form.1.1.1.0);
-      callees = λ unbroken.
-          subst (λ (n : ModuleState). AreCalleesFunctions n.functions) (sym same)
-          (callees_known bytes fine formed.1.1.1.0 (subst (λ (n : ModuleState). broken n ≡ []) same unbroken));
-    }
+    pub have_own_ids : HaveOwnIds m.functions
+    have_own_ids = subst (λ (n : ModuleState). HaveOwnIds n.functions) (sym made) (own_ids ws form.1.1.0 form.1.1.1.0)
+
+    pub callees_there : broken m ≡ [] → AreCalleesFunctions m.functions
+    callees_there unbroken =
+        subst (λ (n : ModuleState). AreCalleesFunctions n.functions) (sym same)
+        (callees_known bytes fine formed.1.1.1.0 (subst (λ (n : ModuleState). broken n ≡ []) same unbroken))
 
     module _ (decorations : NoRuleBroken (BrokenDecorations m) (P11 ∷ P12 ∷ [])) where
       decorated : NoRuleBroken (BrokenDecorations (module_in bytes)) (P11 ∷ P12 ∷ [])

@@ -1,5 +1,5 @@
 -- What is known of a module that was read from bytes, said of the bytes.
-use Rattle.std.proofs.Common.{◌≤◌, ℕ, List, [], ◌∷◌, None, length, refl}
+use Rattle.std.proofs.Common.{◌≡◌, ◌≤◌, ℕ, List, [], ◌∷◌, None, length, refl}
 use Rattle.spv_words.specs.declared.rule.Rule.TheVariants.{P11, P12}
 use Rattle.spv_words.specs.declared.rule.Fault.{Fault}
 use Rattle.spv_words.specs.declared.rule.Limit.TheVariants.{Bytes}
@@ -8,15 +8,24 @@ use Rattle.spv_words.specs.Words.{words}
 use Rattle.spv_words.specs.Breaks.{NoRuleBroken}
 use Rattle.spv_module.specs.State.{ModuleState}
 use Rattle.spv_decor.specs.Broken.{Broken as BrokenDecorations, IsRight as IsRightOfDecorations}
+use Rattle.profile_rules.specs.TypeRules.{broken}
+use Rattle.profile_rules.specs.Calls.{AreCalleesFunctions, HaveOwnIds}
 use Rattle.conformance.specs.Rules.{Options, Conforms, IsRight, IsWithinLimits}
 use Rattle.module_check.specs.Judged.{IsRead, IsFine, IsFault}
 use Rattle.module_check.specs.ReadFrom.{IsReadFrom}
-use Rattle.module_check.proofs.Judged.{decorations_fault, is_read, module_fault, module_fine, module_within}
+use Rattle.module_check.proofs.Judged.{decorations_fault, have_own_ids, callees_there, module_fault, module_fine, module_within}
+
+-- functions of a module that was read have ids of their own, and each that is called is one of them where no rule on types is broken
+pub own_functions : (m : ModuleState) → IsRead m → HaveOwnIds m.functions
+own_functions m read = have_own_ids read.bytes (words read.bytes) (record { entry = None; overrides = [] }) refl read.is.fine m read.is.made read.is.form
+
+pub called_functions : (m : ModuleState) → IsRead m → broken m ≡ [] → AreCalleesFunctions m.functions
+called_functions m read = callees_there read.bytes (words read.bytes) (record { entry = None; overrides = [] }) refl read.is.fine m read.is.made read.is.form
 
 module _ (bytes : List ℕ) (m : ModuleState) (read : IsReadFrom bytes m) where
   -- what the judges ask of a module
   pub read_is : IsRead m
-  read_is = is_read bytes (words bytes) (record { entry = None; overrides = [] }) refl read.fine m read.made read.form
+  read_is = record { bytes = bytes; is = read }
 
   module _ (o : Options) where
     -- its decorations are refused

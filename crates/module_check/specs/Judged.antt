@@ -15,16 +15,17 @@ use Rattle.profile_rules.specs.TypeRules.{broken, AreWithin, Broken as BrokenTyp
 use Rattle.profile_rules.specs.AccessRules.{Broken as BrokenAccess, access_rules}
 use Rattle.profile_rules.specs.Constants.{breaks_x3, breaks_x4}
 use Rattle.profile_rules.specs.Leaves.{leaves_of_module}
-use Rattle.profile_rules.specs.Calls.{HaveOwnIds, AreCalleesFunctions, IsAcyclic, IsWithinCalls, IsRight as IsRightOfCalls}
+use Rattle.profile_rules.specs.Calls.{IsAcyclic, IsWithinCalls, IsRight as IsRightOfCalls}
 use Rattle.layout_rules.specs.Blocks.{Broken as BrokenLayout}
 use Rattle.profile_check.specs.Data.{IsRestRight}
 use Rattle.conformance.specs.Rules.{Options}
+use Rattle.module_check.specs.ReadFrom.{IsReadFrom}
 use Rattle.module_check.specs.Structure.{AreStructured, IsUnstructured}
 
--- the module was read from words that break no rule on their form: functions have ids of their own, and each that is called is one of them where no rule on types is broken
+-- the module was read from bytes that break no rule on words and on the form of a module
 pub record IsRead (m : ModuleState) : Type 0 where
-  pub own_ids : HaveOwnIds m.functions
-  pub callees : broken m ≡ [] → AreCalleesFunctions m.functions
+  pub bytes : List ℕ
+  pub is : IsReadFrom bytes m
 
 -- no rule behind those on types is broken, and no limit behind those on types is exceeded, where the function of the entry point has this id
 pub record IsFineLater (m : ModuleState) (pairs : List (ℕ × Given)) (entry : ℕ) : Type 0 where

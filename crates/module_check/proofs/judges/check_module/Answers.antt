@@ -9,6 +9,7 @@ use Rattle.conformance.specs.Rules.{Options}
 use Rattle.module_check.specs.Asked.{asked}
 use Rattle.module_check.specs.Judged.{IsFineLater, IsLaterFault, IsFine, IsFault, IsEntry, by_types, by_later}
 use Rattle.module_check.proofs.Causes.{declared_by, chosen_by, entry_is_function, typed_by, on_ok, if_ok, if_ok_both, if_err}
+use Rattle.module_check.proofs.OfBytes.{own_functions, called_functions}
 use Rattle.module_check.proofs.judges.check_module.Goals as goal
 
 pub returns-in_err-check_types-clause-refused : goal.returns-in_err-check_types-clause-refused
@@ -19,8 +20,11 @@ returns-in_err-check_types-clause-refused c =
     let P : Result Conforming Fault → Type 0 = λ r. IfErr r (IsFault m o) in
     subst P (sym is) (by_types (declared_by m o _ c.entry_name.ensures c.in_ok-entry.ensures.passes) c.in_err-check_types.ensures.refused)
 
+pub check_later-requires-clause-own_ids : goal.check_later-requires-clause-own_ids
+check_later-requires-clause-own_ids c = own_functions c.args.module.now c.requires.read
+
 pub check_later-requires-clause-callees : goal.check_later-requires-clause-callees
-check_later-requires-clause-callees c = c.requires.read.callees c.in_ok-check_types.ensures.unbroken
+check_later-requires-clause-callees c = called_functions c.args.module.now c.requires.read c.in_ok-check_types.ensures.unbroken
 
 pub check_later-requires-clause-entry : goal.check_later-requires-clause-entry
 check_later-requires-clause-entry c =
