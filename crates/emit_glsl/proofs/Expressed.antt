@@ -12,7 +12,7 @@ use Rattle.constant_text.specs.Named.{id_names}
 use Rattle.text_items.specs.Globals.{global_by}
 use Rattle.text_rules.specs.Constants.{Source}
 use Rattle.emit_glsl.specs.Reached.{or_before, has_result, expr_among}
-use Rattle.emit_glsl.specs.Translation.{global_expr}
+use Rattle.unit_rules.specs.Translation.{global_expr}
 
 -- nothing is put where there is nothing
 pub nothing_put : (b : Bool) (o : Option Expr) → o ≡ or_before o (if b then None else None)

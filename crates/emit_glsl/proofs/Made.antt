@@ -36,8 +36,8 @@ use Rattle.function_plan.specs.Plans.{IsPlanned}
 use Rattle.function_text.specs.Live.{Liveness, types_of, mentions_of, in_function, liveness_in, types_in, mentions_in}
 use Rattle.emit_glsl.specs.Reached.{function_in, reached_in, planned_at, decls_at, AreGlobals, IsWritten, IsMade}
 use Rattle.function_text.specs.State.{plan_with}
-use Rattle.emit_glsl.specs.Translation.{Naming, id_text, global_expr, scope_by, scope_of, IsPlanOf}
-use Rattle.emit_glsl.specs.Unit.{item_names_of, claims_by, liveness_of, live_of, reached_of, called, has_id as has_id_of, plan_at, in_order, source_of, IsUnitOf}
+use Rattle.unit_rules.specs.Translation.{Naming, id_text, global_expr, scope_by, scope_of, IsPlanOf}
+use Rattle.unit_rules.specs.Unit.{item_names_of, claims_by, liveness_of, live_of, reached_of, called, has_id as has_id_of, plan_at, in_order, source_of, IsUnitOf}
 
 -- lists side by side
 zip_each : {A B C : Type 0} (R : A → B → Type 0) (Q : A → C → Type 0) (g : B → C) → ((a : A) (b : B) → R a b → Q a (g b)) → (xs : List A) (ys : List B) → AllZip R xs ys → AllZip Q xs (map g ys)

@@ -1,4 +1,4 @@
+pub use Rattle.unit_rules.specs.Translation
+pub use Rattle.unit_rules.specs.Unit
+pub use Rattle.unit_rules.specs.Text
 pub mod Reached
-pub mod Unit
-pub mod Text
-pub mod Translation

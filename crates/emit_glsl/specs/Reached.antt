@@ -29,8 +29,8 @@ use Rattle.function_plan.specs.declared.plan.FunctionPlan.{FunctionPlan as Plann
 use Rattle.emit_glsl.specs.declared.heads.Head.{Head}
 use Rattle.function_plan.specs.Claimed.{claimed_by}
 use Rattle.function_plan.specs.Plans.{IsPlanned}
-use Rattle.emit_glsl.specs.Translation.{global_expr}
-use Rattle.emit_glsl.specs.Unit.{called}
+use Rattle.unit_rules.specs.Translation.{global_expr}
+use Rattle.unit_rules.specs.Unit.{called}
 use Rattle.function_text.specs.State.{decl_with}
 use Rattle.function_text.specs.Live.{mentions_in, types_in}
 use Rattle.spv_module.specs.State.{ModuleState}

@@ -4,7 +4,7 @@ ghost use Rattle.glsl_ast.specs.View.{expr_of};
 ghost use Rattle.constant_text.specs.Named.{id_names};
 ghost use Rattle.expr_forward.specs.Globals.{global_in};
 ghost use Rattle.emit_glsl.specs.Reached.{AreGlobals, or_before, expr_among};
-ghost use Rattle.emit_glsl.specs.Translation.{global_expr as expr_of_global};
+ghost use Rattle.unit_rules.specs.Translation.{global_expr as expr_of_global};
 
 use constant_text::Readings;
 use expr_forward::Globals;

@@ -7,7 +7,7 @@ ghost use Rattle.structure_rules.specs.Graph.{graph};
 ghost use Rattle.text_items.specs.State.{functions_at};
 ghost use Rattle.function_plan.specs.Plans.{IsPlanned};
 ghost use Rattle.emit_glsl.specs.Reached.{IsPlannedNext, function_in, id_in, is_among, ArePlaces, planned_at};
-ghost use Rattle.emit_glsl.specs.Unit.{called as called_in};
+ghost use Rattle.unit_rules.specs.Unit.{called as called_in};
 
 use function_plan::FunctionPlan;
 use id_map::IdSet;

@@ -5,7 +5,7 @@ ghost use Rattle.glsl_ast.specs.View.{unit_of as tree_of_unit};
 ghost use Rattle.glsl_grammar.specs.InGrammar.{IsInGrammar};
 ghost use Rattle.module_check.specs.Asked.{asked};
 ghost use Rattle.module_check.specs.Judged.{IsRead, IsFine, IsFault};
-ghost use Rattle.emit_glsl.specs.Text.{most_height, IsTranslationOf};
+ghost use Rattle.unit_rules.specs.Text.{most_height, IsTranslationOf};
 
 use crate::unit::{Translation, text_of};
 use glsl_ast::Unit;

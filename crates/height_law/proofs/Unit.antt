@@ -25,9 +25,9 @@ use Rattle.text_rules.specs.Declarations.{shape_at, declarations}
 use Rattle.text_items.specs.Globals.{is_input, global_by}
 use Rattle.expr_forward.specs.Context.{operand}
 use Rattle.function_text.specs.Functions.{FunctionPlan, function_decl}
-use Rattle.emit_glsl.specs.Translation.{Naming, id_text, global_expr, scope_of, IsPlanOf}
-use Rattle.emit_glsl.specs.Unit.{has_id, plan_at, in_order, is_called, called, source_of, reached_of, item_names_of, IsUnitOf}
-use Rattle.emit_glsl.specs.Text.{most_height}
+use Rattle.unit_rules.specs.Translation.{Naming, id_text, global_expr, scope_of, IsPlanOf}
+use Rattle.unit_rules.specs.Unit.{has_id, plan_at, in_order, is_called, called, source_of, reached_of, item_names_of, IsUnitOf}
+use Rattle.unit_rules.specs.Text.{most_height}
 use Rattle.height_law.specs.Shallow.{IsShallow, IsShallowFunction, most_nested}
 use Rattle.height_law.specs.Nest.{nest}
 use Rattle.height_law.proofs.Lists.{within, append-le}

@@ -6,7 +6,7 @@ use Rattle.spv_module.specs.declared.inst.Function.{Function}
 use Rattle.glsl_ast.specs.View.{unit_of}
 use Rattle.function_plan.specs.Plans.{IsPlanned}
 use Rattle.emit_glsl.specs.Reached.{IsWritten}
-use Rattle.emit_glsl.specs.Unit.{called}
+use Rattle.unit_rules.specs.Unit.{called}
 use Rattle.emit_glsl.proofs.unit.planned_text.Goals as goal
 
 pub returns : goal.returns

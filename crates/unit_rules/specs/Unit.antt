@@ -23,7 +23,7 @@ use Rattle.function_text.specs.Functions.{FunctionPlan, function_decl, written}
 use Rattle.function_plan.specs.Targets.{targets_in}
 use Rattle.function_plan.specs.Planned.{captured_numbers, is_named_in, is_reached_node, spares_in}
 use Rattle.function_text.specs.Live.{Liveness, types_of, mentions_of, in_function}
-use Rattle.emit_glsl.specs.Translation.{Naming, id_text, names_of, IsPlanOf}
+use Rattle.unit_rules.specs.Translation.{Naming, id_text, names_of, IsPlanOf}
 
 -- the size of workgroups, the items in the order of the module, and the functions
 abbrev pub unit_text : Source → Reached → Names → List FunctionPlan → TranslationUnit

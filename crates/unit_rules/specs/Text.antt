@@ -5,7 +5,7 @@ use Rattle.conformance.specs.Rules.{Options}
 use Rattle.glsl_ast.specs.Tree.{TranslationUnit}
 use Rattle.glsl_ast.specs.Height.{unit_height}
 use Rattle.glsl_grammar.specs.InGrammar.{IsInGrammar}
-use Rattle.emit_glsl.specs.Unit.{IsUnitOf}
+use Rattle.unit_rules.specs.Unit.{IsUnitOf}
 
 -- no tree is higher
 abbrev pub most_height : ℕ
