@@ -1,11 +1,10 @@
 // The translation.
-ghost use Rattle.std.specs.Prelude.{◌≡◌, ◌≤◌, IfErr, IfOk, OnOk};
-ghost use Rattle.glsl_ast.specs.Height.{unit_height};
+ghost use Rattle.std.specs.Prelude.{◌≡◌, IfErr, IfOk, OnOk};
 ghost use Rattle.glsl_ast.specs.View.{unit_of as tree_of_unit};
 ghost use Rattle.glsl_grammar.specs.InGrammar.{IsInGrammar};
 ghost use Rattle.module_check.specs.Asked.{asked};
 ghost use Rattle.module_check.specs.Judged.{IsRead, IsFine, IsFault};
-ghost use Rattle.unit_rules.specs.Text.{most_height, IsTranslationOf};
+ghost use Rattle.unit_rules.specs.Text.{IsTranslationOf};
 
 use crate::unit::{Translation, text_of};
 use glsl_ast::Unit;
@@ -16,17 +15,12 @@ use spv_module::Module;
 use spv_words::{Fault, Memory};
 use std::alloc::Global;
 use text_check::is_in_grammar;
-use text_height::is_within;
 
-/// No tree is higher.
-const MOST_HEIGHT: u32 = 2000;
-
-/// Says want of memory of a tree that is not in the grammar, or too high.
+/// Says want of memory of a tree that is not in the grammar.
 fn check_unit(alloc: Global, unit: &Unit) -> Result<(), Memory>
     ensures grammar { OnOk result (IsInGrammar (tree_of_unit unit.now)) }
-    ensures low { OnOk result (unit_height (tree_of_unit unit.now) ≤ most_height) }
 {
-    if is_in_grammar(alloc, unit)? && is_within(unit, MOST_HEIGHT) {
+    if is_in_grammar(alloc, unit)? {
         Ok(())
     } else {
         Err(Memory)

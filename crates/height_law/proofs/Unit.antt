@@ -9,7 +9,7 @@ use Rattle.spv_module.specs.declared.inst.Id.{Id}
 use Rattle.spv_module.specs.declared.inst.Inst.{Inst}
 use Rattle.spv_module.specs.declared.inst.Function.{Function}
 use Rattle.conformance.specs.Rules.{Options}
-use Rattle.module_check.specs.Judged.{IsFine}
+use Rattle.module_check.specs.Judged.{IsRead, IsFine}
 use Rattle.module_check.specs.Structure.{IsStructured}
 use Rattle.structure_rules.specs.Graph.{graph}
 use Rattle.structure_rules.specs.Structure.{IsTooDeep}
@@ -35,8 +35,10 @@ use Rattle.height_law.proofs.Functions.{constant-le, function-le}
 use Rattle.height_law.proofs.Items.{calculated-le, items-le}
 use Rattle.height_law.proofs.Shapes.{shapes-le}
 use Rattle.height_law.proofs.Nested.{nest-le}
-use Rattle.module_semantics.specs.Setting.{Setting}
+use Rattle.traces.specs.Invocations.{Invocation}
+use Rattle.module_semantics.specs.Setting.{Setting, setting}
 use Rattle.typed_law.specs.Conforms.{IsConforming}
+use Rattle.accepted_law.proofs.Accepted.{accepted_conforming}
 use Rattle.height_law.proofs.Closed.{sound-of}
 use Rattle.height_law.proofs.Chains.{paths-short}
 use Rattle.height_law.proofs.Extracted.{extracted-few}
@@ -154,3 +156,18 @@ conforming-low s o entry unit fine right u =
       sound = sound-of f (All-contains IsStructured s.of.functions f fine.later.structure there).unbroken;
     })
     u
+
+-- So is that of each module that was read and is not refused; how high it is hangs on no invocation.
+abbrev any-invocation : Invocation
+any-invocation = record {
+  num_workgroups = (0, 0, 0);
+  workgroup_id = (0, 0, 0);
+  local_invocation_id = (0, 0, 0);
+  global_invocation_id = (0, 0, 0);
+  local_invocation_index = 0;
+  buffer_bytes = λ set binding. 0;
+  specialization = λ id. None;
+}
+
+pub accepted-low : (m : ModuleState) (o : Options) (unit : TranslationUnit) → IsRead m → IsFine m o → IsUnitOf m o unit → unit_height unit ≤ most_height
+accepted-low m o unit read fine u = conforming-low (setting m 0 [] any-invocation) o o.entry unit fine (accepted_conforming read.bytes m o read.is fine) u
