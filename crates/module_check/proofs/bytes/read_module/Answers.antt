@@ -16,6 +16,7 @@ returns-in_err-module-clause-refused c =
 
 pub returns-clause-read : goal.returns-clause-read
 returns-clause-read c = record {
+  short = c.requires;
   fine = c.in_ok-words.ensures.passes.0;
   bound = c.in_ok-words.ensures.passes.1;
   made = c.in_ok-module.ensures.module ∙ ap module_of c.in_ok-words.ensures.words;
