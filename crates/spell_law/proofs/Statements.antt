@@ -1,6 +1,6 @@
 -- The statements of a block are made of the names that its instructions ask for.
-use Rattle.std.proofs.Common.{◌==◌, ℕ, Bool, true, false, List, [], ◌∷◌, ◌++◌, codes, drop, map, is_some, bit_and, if◌then◌else◌}
-use Rattle.std.specs.Prelude.{flat_map, slice_index}
+use Rattle.std.proofs.Common.{◌≡◌, ◌==◌, ℕ, Bool, true, false, List, [], ◌∷◌, ◌++◌, codes, drop, map, is_some, bit_and, inl, inr, sym, subst, if◌then◌else◌}
+use Rattle.std.specs.Prelude.{◌⊎◌, flat_map, slice_index}
 use Rattle.spv_ops.specs.declared.AtomicOp.{AtomicOp}
 use Rattle.spv_ops.specs.declared.AtomicOp.TheVariants as atomic
 use Rattle.spv_module.specs.Lists.{id}
@@ -21,9 +21,9 @@ use Rattle.expr_forward.specs.Kinds.{kind_of}
 use Rattle.expr_forward.specs.Paths.{part_steps, place_text, lvalue_expr, place_expr}
 use Rattle.expr_forward.specs.Values.{value, expression}
 use Rattle.expr_forward.specs.Statements.{set_by, set, call_argument, call_arguments, is_void, callee_text, atomic_name, has_result, comparator, atomic_operand, atomic_arguments, bare_call, when_bit, memory_barrier, semantics, capture, captured_of, insert_text, is_variable_form, insert_where_named, inst_text}
-use Rattle.block_law.specs.Ranked.{operand_ids, AreBelow, IsRanked}
+use Rattle.block_law.specs.Ranked.{operand_ids, AreBelow}
 use Rattle.spell_law.specs.Uses.{Words, UsesExpr, UseEach, UseSteps, UsesLValue}
-use Rattle.spell_law.specs.Asked.{IsAsked}
+use Rattle.spell_law.specs.Asked.{IsAsked, AreRanked}
 use Rattle.spell_law.specs.Statements.{EachStmt, AsksSet, AsksArgument, AskArguments, AskKept, AsksOperand, MeetsInst}
 use Rattle.spell_law.proofs.Scalars.{each-uses}
 use Rattle.spell_law.proofs.Values.{further-uses, value-uses, operation-uses}
@@ -52,7 +52,7 @@ module _ (W : Words) where
         (if-stmts (bit_and n 0x40 == 0) [] (bare_call (codes "memoryBarrierBuffer")) tt ((barriers.0.0, tt), tt))
         (if-stmts (bit_and n 0x100 == 0) [] (bare_call (codes "memoryBarrierShared")) tt ((barriers.0.1, tt), tt))
 
-    module _ (built : (f : BuiltIn) → W.value (built_in_name f)) (axes : (k : ℕ) → W.member (axis_name k)) (names : Naming) (w : Scope) (IsUsable : ℕ → Type 0) (block : ℕ) (asked : IsAsked W names w IsUsable block) (rank : ℕ → ℕ) (ranked : IsRanked w rank) where
+    module _ (built : (f : BuiltIn) → W.value (built_in_name f)) (axes : (k : ℕ) → W.member (axis_name k)) (names : Naming) (w : Scope) (IsUsable : ℕ → Type 0) (block : ℕ) (asked : IsAsked W names w IsUsable block) (rank : ℕ → ℕ) (ranked : AreRanked w IsUsable rank) where
       says : (n : ℕ) → IsUsable n → UsesExpr W (value w block n)
       says n usable = value-uses W built axes names w IsUsable block asked rank ranked n usable
 
@@ -121,11 +121,18 @@ module _ (W : Words) where
       inst-uses i (kind.Value o) below meets = set-uses i (expression w (value w block) block i) (w.form i.result) meets.0 (operation-uses W built axes names w IsUsable block asked rank ranked i below meets.1)
       inst-uses i kind.Silent below meets = tt
 
-      -- and of a list of instructions
+      -- and of a list of instructions, of some of which nothing is written
+      abbrev pub MeetsOne : Inst → Type 0
+      MeetsOne i = (inst_text w block i (kind_of i.op) ≡ []) ⊎ (AreBelow rank 17 (operand_ids i) × MeetsInst W names w IsUsable block i (kind_of i.op))
+
       abbrev pub MeetEach : List Inst → Type 0
       MeetEach [] = Unit {0}
-      MeetEach (i ∷ is) = AreBelow rank 17 (operand_ids i) × MeetsInst W names w IsUsable block i (kind_of i.op) × MeetEach is
+      MeetEach (i ∷ is) = MeetsOne i × MeetEach is
+
+      one-uses : (i : Inst) → MeetsOne i → EachStmt W (inst_text w block i (kind_of i.op))
+      one-uses i (inl silent) = subst (EachStmt W) (sym silent) tt
+      one-uses i (inr meets) = inst-uses i (kind_of i.op) meets.0 meets.1
 
       pub insts-use : (is : List Inst) → MeetEach is → EachStmt W (flat_map (λ (i : Inst). inst_text w block i (kind_of i.op)) is)
       insts-use [] meet = tt
-      insts-use (i ∷ is) meet = both-stmts (inst_text w block i (kind_of i.op)) (flat_map (λ (j : Inst). inst_text w block j (kind_of j.op)) is) (inst-uses i (kind_of i.op) meet.0 meet.1) (insts-use is meet.2)
+      insts-use (i ∷ is) meet = both-stmts (inst_text w block i (kind_of i.op)) (flat_map (λ (j : Inst). inst_text w block j (kind_of j.op)) is) (one-uses i meet.0) (insts-use is meet.1)

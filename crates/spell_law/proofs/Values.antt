@@ -31,10 +31,10 @@ use Rattle.expr_forward.specs.Context.{operand}
 use Rattle.expr_forward.specs.Kinds.{operation_kind_of}
 use Rattle.expr_forward.specs.Paths.{further, part_steps}
 use Rattle.expr_forward.specs.Values.{argument, value_words, literal_words, whole_argument, by_kind, expression, forwarded, by_form, value_in, value}
-use Rattle.block_law.specs.Ranked.{ids_by_kind, operand_ids, AreBelow, IsForwardedBy, IsRanked}
+use Rattle.block_law.specs.Ranked.{ids_by_kind, operand_ids, AreBelow, IsForwardedBy}
 use Rattle.spell_law.specs.Uses.{Words, UsesExpr, UseEach, UseSteps}
 use Rattle.spell_law.specs.Named.{FitsShape, AreArguments}
-use Rattle.spell_law.specs.Asked.{AreUsable, MeetsKind, Meets, IsAsked}
+use Rattle.spell_law.specs.Asked.{AreUsable, MeetsKind, Meets, IsAsked, AreRanked}
 use Rattle.spell_law.proofs.Scalars.{each-uses}
 use Rattle.spell_law.proofs.Composites.{lowered-uses}
 
@@ -121,7 +121,7 @@ module _ (W : Words) where
   further-uses e (LStep.index i ∷ ss) has steps = further-uses (Expr.index e i) ss (has, steps.0) steps.1
 
 module _ (W : Words) (built : (f : BuiltIn) → W.value (built_in_name f)) (axes : (k : ℕ) → W.member (axis_name k)) where
-  module _ (names : Naming) (w : Scope) (IsUsable : ℕ → Type 0) (block : ℕ) (asked : IsAsked W names w IsUsable block) (rank : ℕ → ℕ) (ranked : IsRanked w rank) where
+  module _ (names : Naming) (w : Scope) (IsUsable : ℕ → Type 0) (block : ℕ) (asked : IsAsked W names w IsUsable block) (rank : ℕ → ℕ) (ranked : AreRanked w IsUsable rank) where
     low-uses : (o : Op) (number : ℕ) (t : Tree) (xs : List Argument) (literals : List ℕ) → UsesExpr W (lowered_vector names o number t literals (map operand xs)) → UsesExpr W (w.lowered o number t xs literals)
     low-uses o number t xs literals has = subst (λ (f : Op → ℕ → Tree → List Argument → List ℕ → Expr). UsesExpr W (f o number t xs literals)) (sym asked.lowered_is) has
 
@@ -168,7 +168,7 @@ module _ (W : Words) (built : (f : BuiltIn) → W.value (built_in_name f)) (axes
         by_inst i by meets each =
             subst (λ (x : Form). UsesExpr W (by_form w (value_in w block d) block n x)) (sym by.form)
             (subst (λ (o : Option Inst). UsesExpr W (forwarded w (value_in w block d) block n o)) (sym by.there)
-            (expression-uses (value_in w block d) (rank n) (λ m lower own. each m (omega (arith, less, lower)) own) i (ranked.falls n i by) meets))
+            (expression-uses (value_in w block d) (rank n) (λ m lower own. each m (omega (arith, less, lower)) own) i (ranked.falls n i usable by) meets))
 
         by_name : W.value (w.setting.key (Id (id n))) → (x : Form) → (x ≡ Forwarded → ⊥) → UsesExpr W (by_form w (value_in w block d) block n x)
         by_name named Forwarded other = absurd (other refl)
@@ -181,7 +181,7 @@ module _ (W : Words) (built : (f : BuiltIn) → W.value (built_in_name f)) (axes
         by_way (inr by) each = by_inst by.0 by.1 by.2 each
 
         by_global : (o : Option Expr) → w.setting.global n ≡ o → ((m : ℕ) → rank m < d → IsUsable m → UsesExpr W (value_in w block d m)) → UsesExpr W (unwrap_or o (by_form w (value_in w block d) block n (w.form n)))
-        by_global (Some e) is each = asked.read n e is
+        by_global (Some e) is each = asked.read n e usable is
         by_global None is each = by_way (asked.ways n usable is) each
 
     -- the law: a usable value, as it is written

@@ -1,5 +1,5 @@
 -- Which names the expressions of a function's values ask for.
-use Rattle.std.specs.Prelude.{◌≡◌, ◌⊎◌, ℕ, List, [], ◌∷◌, drop, map, Some, None, slice_index}
+use Rattle.std.specs.Prelude.{◌≡◌, ◌≤◌, ◌⊎◌, ℕ, List, [], ◌∷◌, drop, map, Some, None, slice_index}
 use Rattle.spv_module.specs.Lists.{id}
 use Rattle.spv_module.specs.declared.inst.Inst.{Inst}
 use Rattle.hoist_plan.specs.declared.form.Form.TheVariants.{Forwarded}
@@ -17,7 +17,7 @@ use Rattle.expr_forward.specs.Context.{operand}
 use Rattle.expr_forward.specs.Kinds.{operation_kind_of}
 use Rattle.expr_forward.specs.Paths.{word_at, part_steps}
 use Rattle.expr_forward.specs.Values.{argument, value_words, literal_words, length_text, whole_argument}
-use Rattle.block_law.specs.Ranked.{IsForwardedBy}
+use Rattle.block_law.specs.Ranked.{operand_ids, AreBelow, IsForwardedBy}
 use Rattle.spell_law.specs.Uses.{Words, UsesType, UsesExpr, UseSteps}
 use Rattle.spell_law.specs.Named.{FitsIfSome, AsksIfAny}
 
@@ -45,9 +45,14 @@ module _ (W : Words) (names : Naming) (w : Scope) (IsUsable : ℕ → Type 0) wh
   abbrev pub Meets : ℕ → Inst → Type 0
   Meets block i = MeetsKind block i (operation_kind_of i.op)
 
-  -- what is read of a global; literals; and each other usable value has a name, or is written as an operation
+  -- what is read of a usable global; literals; and each other usable value has a name, or is written as an operation
   pub record IsAsked (block : ℕ) : Type 0 where
-    pub read : (n : ℕ) (e : Expr) → w.setting.global n ≡ Some e → UsesExpr W e
+    pub read : (n : ℕ) (e : Expr) → IsUsable n → w.setting.global n ≡ Some e → UsesExpr W e
     pub words : (n : ℕ) → FitsIfSome (word_at w.setting n)
     pub ways : (n : ℕ) → IsUsable n → w.setting.global n ≡ None → (W.value (w.setting.key (Id (id n))) × (w.form n ≡ Forwarded → ⊥)) ⊎ ((i : Inst) × IsForwardedBy w n i × Meets block i)
     pub lowered_is : w.lowered ≡ (λ op ext t args literals. lowered_vector names op ext t literals (map operand args))
+
+-- what stands in the expression of a usable value has a lower rank, and no value has a rank above 16
+pub record AreRanked (w : Scope) (IsUsable : ℕ → Type 0) (rank : ℕ → ℕ) : Type 0 where
+  pub falls : (n : ℕ) (i : Inst) → IsUsable n → IsForwardedBy w n i → AreBelow rank (rank n) (operand_ids i)
+  pub low : (n : ℕ) → rank n ≤ 16

@@ -1,0 +1,68 @@
+-- What a live instruction of a reached block mentions is linked there, and what makes it is live.
+use Rattle.std.proofs.Common.{◌≡◌, ◌==◌, ℕ, Bool, false, List, [], map, Some, flat_map, refl, sym, ap, ◌∙◌, subst, if◌then◌else◌}
+use Rattle.std.specs.Prelude.{slice_get, slice_index_or, option_and_then}
+use Rattle.std.specs.List.{enumerate_from}
+use Rattle.spv_module.specs.declared.inst.Inst.{Inst}
+use Rattle.spv_module.specs.declared.inst.Block.{Block}
+use Rattle.spv_module.specs.declared.inst.Function.{Function}
+use Rattle.spv_index.specs.Locals.{insts_of}
+use Rattle.use_chains.specs.declared.mention.Mention.{Mention}
+use Rattle.use_chains.specs.declared.slot.SlotPlace.{SlotPlace}
+use Rattle.use_chains.specs.Slots.{is_slot, mention, operands, slots_of_inst, slots_of_block, slots, inst_at, IsLive}
+use Rattle.use_chains.specs.Links.{Link, chain, link_of, AreLiveLinks}
+use Rattle.hoist_plan.specs.Plan.{user, mentions_of}
+use Rattle.typed_law.proofs.Lists.{some_part}
+use Rattle.claim_law.specs.Claimed.{IsIn}
+use Rattle.claim_law.proofs.Listed.{in_flat, in_mapped, at_place}
+use Rattle.unit_law.specs.Mentioned.{IsMentioned}
+use Rattle.unit_law.proofs.Lists.{same_test, at_some, contained, numbered_first, in_filter}
+
+-- where an instruction stands in its block
+pub placed_in : (f : Function) (c : ℕ) (block : Block) (i : Inst) → slice_get f.blocks c ≡ Some block → IsIn i block.insts → (k : ℕ) × (inst_at f c k ≡ Some i)
+placed_in f c block i there among =
+    let w = at_some block.insts i among in
+    (w.0, ap (option_and_then (λ (b : Block). slice_get b.insts w.0)) there ∙ w.1)
+
+module _ (f : Function) (reached : List Bool) (block : ℕ) (i : Inst) (n : ℕ) (w : IsMentioned f reached block i n) where
+  abbrev pub at : SlotPlace
+  at = record { block = block; inst = w.place; arg = w.arg }
+
+  abbrev slot : Mention
+  slot = mention block w.place i (w.arg, n)
+
+  found_block : (b : Block) × (slice_get f.blocks block ≡ Some b) × (slice_get b.insts w.place ≡ Some i)
+  found_block = some_part (λ (b : Block). slice_get b.insts w.place) (slice_get f.blocks block) i w.there
+
+  -- the instruction is one of the function's
+  pub user_in : IsIn i (insts_of f)
+  user_in = in_flat (λ (b : Block). b.insts) f.blocks found_block.0 i (at_place f.blocks block found_block.0 found_block.1) (at_place found_block.0.insts w.place i found_block.2)
+
+  pub user_is : user f at ≡ Some i
+  user_is = w.there
+
+  listed : IsIn slot (slots f reached)
+  listed =
+      in_flat (slots_of_block f reached) (enumerate_from 0 f.blocks) (block, found_block.0) slot (numbered_first f.blocks block found_block.0 found_block.1)
+      (subst (λ (b : Bool). IsIn slot (if b then flat_map (slots_of_inst f reached block) (enumerate_from 0 found_block.0.insts) else [])) (sym w.here)
+      (in_flat (slots_of_inst f reached block) (enumerate_from 0 found_block.0.insts) (w.place, i) slot (numbered_first found_block.0.insts w.place i found_block.2)
+      (in_mapped (mention block w.place i) (operands f reached i) (w.arg, n)
+      (in_filter (λ (operand : ℕ × ℕ). is_slot f reached i operand.0) (enumerate_from 0 i.args) (w.arg, n) (numbered_first i.args w.arg n w.word) w.slot))))
+
+  module _ (links : List Link) (live : AreLiveLinks f reached links) where
+    number : (k : ℕ) × (slice_get (slots f reached) k ≡ Some slot)
+    number = at_some (slots f reached) slot listed
+
+    linked : IsIn (link_of (number.0, slot)) links
+    linked =
+        subst (IsIn (link_of (number.0, slot))) (sym live.1.links_are)
+        (in_filter (λ (l : Link). slice_index_or live.0 l.slot false) (map link_of (enumerate_from 0 (slots f reached))) (link_of (number.0, slot))
+        (in_mapped link_of (enumerate_from 0 (slots f reached)) (number.0, slot) (numbered_first (slots f reached) number.0 slot number.1))
+        (live.1.whole number.0 slot number.1 w.live))
+
+    -- it is one of the places where the id is mentioned
+    pub mention_stands : IsIn at (mentions_of links n)
+    mention_stands = in_mapped (λ (l : Link). l.place) (chain links n) (link_of (number.0, slot)) (in_filter (λ (l : Link). l.id == n) links (link_of (number.0, slot)) linked (same_test n n refl))
+
+  -- what makes the id is live
+  pub maker_live : (c k : ℕ) (j : Inst) → inst_at f c k ≡ Some j → j.result ≡ n → IsLive f reached c k
+  maker_live c k j there same set closed = closed.mentioned slot c k j (contained (slots f reached) slot listed) (w.live set closed) there same

@@ -1,0 +1,4 @@
+pub mod Mentioned
+pub mod Switches
+pub mod Words
+pub mod Types
