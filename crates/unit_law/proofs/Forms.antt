@@ -134,3 +134,21 @@ module _ (gs : List Inst) (f : Function) where
     mentioned_form =
         subst (λ (l : Bool). Stands (if l then (if is_named gs f k p then (if is_hoisted f p then Hoisted else Local) else Forwarded) else Gone) p.block (mention_block f at i)) (sym live_result)
         (by_named (is_named gs f k p) refl)
+
+    -- where the mention asks for a variable, it has one
+    pub wanted_form : wants_by gs f p.block at i ≡ true → form_with gs f k p ≡ Forwarded → ⊥
+    wanted_form wants form = by_named_off (is_live p) (is_named gs f k p) (is_hoisted f p) refl form
+      where
+        off : is_named gs f k p ≡ false → ⊥
+        off named =
+            let live = and_off (is_value gs p.ty) (is_live p && (is_named_by_use gs f p || (own_height k p == 17))) named value in
+            let used = and_off (is_live p) (is_named_by_use gs f p || (own_height k p == 17)) live live_result in
+            let by_use = or_left (is_named_by_use gs f p) (own_height k p == 17) used in
+            let wanted = or_right (nat_le 2 (length p.mentions)) (list_any (wants_variable gs f p.block) p.mentions) (or_right (is_always_named p.op) (nat_le 2 (length p.mentions) || list_any (wants_variable gs f p.block) p.mentions) by_use) in
+            clash (sym wants ∙ wants_off wanted)
+
+        by_named_off : (l n h : Bool) → is_named gs f k p ≡ n → (if l then (if n then (if h then Hoisted else Local) else Forwarded) else Gone) ≡ Forwarded → ⊥
+        by_named_off true false h named form = off named
+        by_named_off true true true named form = cc
+        by_named_off true true false named form = cc
+        by_named_off false n h named form = cc

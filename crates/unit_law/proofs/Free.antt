@@ -100,31 +100,29 @@ module _ (m : ModuleState) (entry : Option (List ℕ)) (right : IsConforming m e
     part_free : (p : ℕ) (v : Tree) → is_among (parts_of g) p ≡ true → tree_before m.globals g.at p ≡ Some v → AreFree v
     part_free p v part is = known p v (part_misused g p among part) is
 
+    same_trees : (a b : Trees) → Some a ≡ Some b → a ≡ b
+    same_trees a b e = cc
+
+    second_on : (a b : Bool) → b ≡ true → (a || b) ≡ true
+    second_on true b on = refl
+    second_on false b on = on
+
+    either_free : (n : ℕ) (v : Tree) (vs : Trees) → AreFree v → AreAllFree vs → (a b : Bool) → has_struct n v ≡ a → have_struct n vs ≡ b → (a || b) ≡ true → IsFree n
+    either_free n v vs one rest true b on more e = one n on
+    either_free n v vs one rest false true on more e = rest n more
+    either_free n v vs one rest false false on more e = never e
+
     all_free : (ids : List ℕ) (ts : Trees) → ((p : ℕ) → is_among ids p ≡ true → is_among (parts_of g) p ≡ true) → all_trees (tree_before m.globals g.at) ids ≡ Some ts → AreAllFree ts
     all_free [] ts sub is = subst AreAllFree (same_trees no_trees ts is) (λ n has. never has)
+    all_free (id ∷ ids) ts sub is = by_both (tree_before m.globals g.at id) refl (all_trees (tree_before m.globals g.at) ids) refl is (all_free ids)
       where
-        same_trees : (a b : Trees) → Some a ≡ Some b → a ≡ b
-        same_trees a b e = cc
-    all_free (id ∷ ids) ts sub is = by_both (tree_before m.globals g.at id) refl (all_trees (tree_before m.globals g.at) ids) refl is
-      where
-        same_trees : (a b : Trees) → Some a ≡ Some b → a ≡ b
-        same_trees a b e = cc
-
-        either : (n : ℕ) (v : Tree) (vs : Trees) → AreFree v → AreAllFree vs → (a b : Bool) → has_struct n v ≡ a → have_struct n vs ≡ b → (a || b) ≡ true → IsFree n
-        either n v vs one rest true b on more e = one n on
-        either n v vs one rest false true on more e = rest n more
-        either n v vs one rest false false on more e = never e
-
-        by_both : (o : Option Tree) → tree_before m.globals g.at id ≡ o → (q : Option Trees) → all_trees (tree_before m.globals g.at) ids ≡ q → both o q ≡ Some ts → AreAllFree ts
-        by_both None part q rest is = cc
-        by_both (Some v) part None rest is = cc
-        by_both (Some v) part (Some vs) rest is =
+        by_both : (o : Option Tree) → tree_before m.globals g.at id ≡ o → (q : Option Trees) → all_trees (tree_before m.globals g.at) ids ≡ q → both o q ≡ Some ts
+            → ((us : Trees) → ((p : ℕ) → is_among ids p ≡ true → is_among (parts_of g) p ≡ true) → all_trees (tree_before m.globals g.at) ids ≡ Some us → AreAllFree us) → AreAllFree ts
+        by_both None part q rest is later = cc
+        by_both (Some v) part None rest is later = cc
+        by_both (Some v) part (Some vs) rest is later =
             subst AreAllFree (same_trees (tree v vs) ts is)
-            (λ n has. either n v vs (part_free id v (sub id (first_among id ids)) part) (all_free ids vs (λ p there. sub p (second_on (id == p) (is_among ids p) there)) rest) (has_struct n v) (have_struct n vs) refl refl has)
-          where
-            second_on : (a b : Bool) → b ≡ true → (a || b) ≡ true
-            second_on true b on = refl
-            second_on false b on = on
+            (λ n has. either_free n v vs (part_free id v (sub id (first_among id ids)) part) (later vs (λ p there. sub p (second_on (id == p) (is_among ids p) there)) rest) (has_struct n v) (have_struct n vs) refl refl has)
 
     least_is : (shape g.op).least ≤ 1 + count_of (has_type g.op) + count_of (has_result g.op) + length g.args
     least_is = (right.formed g (as_among m.globals g among)).least

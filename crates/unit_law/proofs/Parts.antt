@@ -253,15 +253,16 @@ module _ (s : Setting) (entry : Option (List ℕ)) (right : IsConforming s.of en
     -- along literals, from a type whose structs are written
     pub steps_use : (ks : List ℕ) (ty : ℕ) (t v : Tree) → type_tree Gs ty ≡ Some t → HasNames s.of o unit u t → FitWords ks → shape_at t ks ≡ Some v → UseSteps W (part_steps Here ty ks)
     steps_use [] ty t v shaped has fit is = tt
-    steps_use (k ∷ ks) ty t v shaped has fit is = by_global (global Gs ty) refl shaped
+    steps_use (k ∷ ks) ty t v shaped has fit is = by_global (global Gs ty) refl shaped (steps_use ks)
       where
-        by_part : (g : Inst) → global Gs ty ≡ Some g → tree_at Gs g ≡ Some t → (q : Option Tree) → part_shape t k ≡ q → option_and_then (λ x. shape_at x ks) q ≡ Some v → UseSteps W (part_steps Here ty (k ∷ ks))
-        by_part g at whole None part is = cc
-        by_part g at whole (Some x) part is =
+        by_part : (g : Inst) → global Gs ty ≡ Some g → tree_at Gs g ≡ Some t → (q : Option Tree) → part_shape t k ≡ q → option_and_then (λ x. shape_at x ks) q ≡ Some v
+            → ((c : ℕ) (x y : Tree) → type_tree Gs c ≡ Some x → HasNames s.of o unit u x → FitWords ks → shape_at x ks ≡ Some y → UseSteps W (part_steps Here c ks)) → UseSteps W (part_steps Here ty (k ∷ ks))
+        by_part g at whole None part is later = cc
+        by_part g at whole (Some x) part is later =
             let w = part_by g (kind g.op) t k x refl whole part in
             step_uses ty k g t (part_steps Here (part_type Here ty k) ks) at has fit.0 w.member
-            (steps_use ks (part_type Here ty k) x v (ap (λ (h : Option Inst). type_tree Gs (option_map_or (part_type_by k) h 0)) at ∙ w.shaped) (λ n there. has n (part_has t k x n part there)) fit.1 is)
+            (later (part_type Here ty k) x v (ap (λ (h : Option Inst). type_tree Gs (option_map_or (part_type_by k) h 0)) at ∙ w.shaped) (λ n there. has n (part_has t k x n part there)) fit.1 is)
 
-        by_global : (h : Option Inst) → global Gs ty ≡ h → option_map_or (tree_at Gs) h None ≡ Some t → UseSteps W (part_steps Here ty (k ∷ ks))
-        by_global None at whole = cc
-        by_global (Some g) at whole = by_part g at whole (part_shape t k) refl is
+        by_global : (h : Option Inst) → global Gs ty ≡ h → option_map_or (tree_at Gs) h None ≡ Some t → ((c : ℕ) (x y : Tree) → type_tree Gs c ≡ Some x → HasNames s.of o unit u x → FitWords ks → shape_at x ks ≡ Some y → UseSteps W (part_steps Here c ks)) → UseSteps W (part_steps Here ty (k ∷ ks))
+        by_global None at whole later = cc
+        by_global (Some g) at whole later = by_part g at whole (part_shape t k) refl is later

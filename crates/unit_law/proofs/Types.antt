@@ -67,20 +67,17 @@ module _ (gs : List Inst) where
     runtime_of None t part is = cc
     runtime_of (Some v) t part is = subst (IsOfTypes gs) (same_some (runtime v) t is) (parts (slice_index g.args 0) v part)
 
+    same_trees : (a b : Trees) → Some a ≡ Some b → a ≡ b
+    same_trees a b e = cc
+
     all_of : (ids : List ℕ) (ts : Trees) → all_trees (tree_before gs g.at) ids ≡ Some ts → AreOfTypes gs ts
     all_of [] ts is = subst (AreOfTypes gs) (same_trees no_trees ts is) tt
+    all_of (id ∷ ids) ts is = by_both (tree_before gs g.at id) refl (all_trees (tree_before gs g.at) ids) refl is (all_of ids)
       where
-        same_trees : (a b : Trees) → Some a ≡ Some b → a ≡ b
-        same_trees a b e = cc
-    all_of (id ∷ ids) ts is = by_both (tree_before gs g.at id) refl (all_trees (tree_before gs g.at) ids) refl is
-      where
-        same_trees : (a b : Trees) → Some a ≡ Some b → a ≡ b
-        same_trees a b e = cc
-
-        by_both : (o : Option Tree) → tree_before gs g.at id ≡ o → (q : Option Trees) → all_trees (tree_before gs g.at) ids ≡ q → both o q ≡ Some ts → AreOfTypes gs ts
-        by_both None part q rest is = cc
-        by_both (Some v) part None rest is = cc
-        by_both (Some v) part (Some vs) rest is = subst (AreOfTypes gs) (same_trees (tree v vs) ts is) (parts id v part, all_of ids vs rest)
+        by_both : (o : Option Tree) → tree_before gs g.at id ≡ o → (q : Option Trees) → all_trees (tree_before gs g.at) ids ≡ q → both o q ≡ Some ts → ((us : Trees) → all_trees (tree_before gs g.at) ids ≡ Some us → AreOfTypes gs us) → AreOfTypes gs ts
+        by_both None part q rest is later = cc
+        by_both (Some v) part None rest is later = cc
+        by_both (Some v) part (Some vs) rest is later = subst (AreOfTypes gs) (same_trees (tree v vs) ts is) (parts id v part, later vs rest)
 
     struct_of : (q : Option Trees) (t : Tree) → all_trees (tree_before gs g.at) g.args ≡ q → is g.op code.TypeStruct ≡ true → option_map (struct g.result) q ≡ Some t → IsOfTypes gs t
     struct_of None t all on is = cc

@@ -22,13 +22,13 @@ use Rattle.module_semantics.specs.Setting.{Setting}
 use Rattle.use_chains.specs.Slots.{inst_at, IsLive}
 use Rattle.hoist_plan.specs.declared.form.Form.{Form}
 use Rattle.hoist_plan.specs.declared.form.Form.TheVariants.{Forwarded, Local, Hoisted}
-use Rattle.hoist_plan.specs.Plan.{Placed, mention_block, mentions_of, results, is_value, form_with}
+use Rattle.hoist_plan.specs.Plan.{Placed, mention_block, mentions_of, results, is_value, wants_by, form_with}
 use Rattle.name_alloc.specs.declared.claims.Key.TheVariants.{Id}
 use Rattle.name_alloc.specs.Naming.{name_of}
 use Rattle.glsl_ast.specs.Tree.{Expr, TranslationUnit}
 use Rattle.text_rules.specs.Constants.{Source, is_constant, constant_expr}
 use Rattle.text_items.specs.Globals.{global_by}
-use Rattle.expr_forward.specs.Scope.{Scope}
+use Rattle.expr_forward.specs.Scope.{Scope, type_of}
 use Rattle.function_plan.specs.Planned.{is_reached_node, has_name_by}
 use Rattle.function_text.specs.Functions.{FunctionPlan, written}
 use Rattle.emit_glsl.specs.Translation.{Naming, id_text, scope_of, IsPlanOf}
@@ -46,7 +46,7 @@ use Rattle.claim_law.proofs.Named.{result_named, parameter_named}
 use Rattle.unit_law.specs.Mentioned.{IsMentioned, Stands, IsValueIn}
 use Rattle.unit_law.proofs.Lists.{same_test, test_same, contained, of_filter, found_by, as_among, in_block}
 use Rattle.unit_law.proofs.Links.{at, placed_in, user_is, mention_stands, maker_live}
-use Rattle.unit_law.proofs.Forms.{placed, is_placed, made_by, formed_result, form_at, mentioned_form}
+use Rattle.unit_law.proofs.Forms.{placed, is_placed, made_by, formed_result, form_at, mentioned_form, wanted_form}
 use Rattle.unit_law.proofs.Shaped.{pointer_none, shaped_value}
 
 -- each plan is that of a function
@@ -139,7 +139,14 @@ module _ (s : Setting) (entry : Option (List ℕ)) (right : IsConforming s.of en
   abbrev Way : ℕ → ℕ → Inst → Type 0
   Way block n j = (HasName Found (Id (id n)) × (V.form n ≡ Forwarded → ⊥)) ⊎ ((V.form n ≡ Forwarded) × IsLiveIn block j)
 
-  module _ (block n : ℕ) (i j : Inst) (m : IsMentioned F R block i n) (no_phi : is i.op code.Phi ≡ false) (made : inst_in F n ≡ Some j) (some_type : j.ty ≡ 0 → ⊥) (value : is_value s.of.globals j.ty ≡ true) where
+  -- a mention counts in a reached block: in its own, and that of a phi in the block that its pair names
+  abbrev pub CountsIn : (block : ℕ) (i : Inst) (n : ℕ) → IsMentioned F R block i n → ℕ → Type 0
+  CountsIn block i n m b = (mention_block F (at F R block i n m) i ≡ b) × (slice_index_or R b false ≡ true)
+
+  pub counts_here : (block : ℕ) (i : Inst) (n : ℕ) (m : IsMentioned F R block i n) → is i.op code.Phi ≡ false → CountsIn block i n m block
+  counts_here block i n m no_phi = (ap (λ (b : Bool). if b then unwrap_or (block_in F (slice_index i.args (m.arg + 1))) block else block) no_phi, m.here)
+
+  module _ (block n : ℕ) (i j : Inst) (m : IsMentioned F R block i n) (b : ℕ) (counts : CountsIn block i n m b) (made : inst_in F n ≡ Some j) (some_type : j.ty ≡ 0 → ⊥) (value : is_value s.of.globals j.ty ≡ true) where
     pub result : IsIn j (insts_of F) × (j.result ≡ n)
     result = found_in (insts_of F) n j made
 
@@ -157,13 +164,10 @@ module _ (s : Setting) (entry : Option (List ℕ)) (right : IsConforming s.of en
     told : (k : ℕ → Option ℕ) × (V.form j.result ≡ form_with s.of.globals F k P)
     told = form_at s.of.globals F plan_is.links placed_order P (is_placed plan_is.links F home.0 home.1 j home.2 home.3 some)
 
-    mention_here : mention_block F (at F R block i n m) i ≡ block
-    mention_here = ap (λ (b : Bool). if b then unwrap_or (block_in F (slice_index i.args (m.arg + 1))) block else block) no_phi
-
-    pub stands : Stands (V.form n) home.0 block
+    pub stands : Stands (V.form n) home.0 b
     stands =
-        subst (λ (x : Form). Stands x home.0 block) (sym told.1 ∙ ap V.form result.1)
-        (subst (λ (b : ℕ). Stands (form_with s.of.globals F told.0 P) home.0 b) mention_here
+        subst (λ (x : Form). Stands x home.0 b) (sym told.1 ∙ ap V.form result.1)
+        (subst (λ (c : ℕ). Stands (form_with s.of.globals F told.0 P) home.0 c) counts.0
         (mentioned_form s.of.globals F P told.0 (at F R block i n m) i
         (subst (λ (k : ℕ). IsIn (at F R block i n m) (mentions_of plan_is.links k)) (sym result.1) (mention_stands F R block i n m plan_is.links plan_is.live))
         (user_is F R block i n m) value))
@@ -176,49 +180,58 @@ module _ (s : Setting) (entry : Option (List ℕ)) (right : IsConforming s.of en
         (record { number = home.0; block = home.1; there = subst (λ (f : Function). slice_get f.blocks home.0 ≡ Some home.1) (sym written_is) home.2; among = home.3 })
         (ap (λ (y : Form). has_name_by y (nth p.graph home.0).reached (is j.op code.Variable)) (ap (λ (w : Scope). w.form j.result) plan_is.scope_is ∙ (ap V.form result.1 ∙ form)) ∙ named))
 
-    pub reached_here : home.0 ≡ block → (nth p.graph home.0).reached ≡ true
+    pub reached_here : home.0 ≡ b → (nth p.graph home.0).reached ≡ true
     reached_here same =
-        ap (λ (g : List Node). (nth g home.0).reached) plan_is.graph_is ∙ (ap (λ (c : ℕ). (nth (graph F) c).reached) same ∙ (sym (reached_nth (graph F) block) ∙ m.here))
+        ap (λ (g : List Node). (nth g home.0).reached) plan_is.graph_is ∙ (ap (λ (c : ℕ). (nth (graph F) c).reached) same ∙ (sym (reached_nth (graph F) b) ∙ counts.1))
 
-    live_here : home.0 ≡ block → IsLiveIn block j
+    live_here : home.0 ≡ b → IsLiveIn b j
     live_here same =
         let k = placed_in F home.0 home.1 j home.2 home.3 in
         (k.0, subst (λ (c : ℕ). inst_at F c k.0 ≡ Some j) same k.1, subst (λ (c : ℕ). IsLive F R c k.0) same (maker_live F R block i n m home.0 k.0 j k.1 result.1))
 
-    by_own : (V.form n ≡ Local) ⊎ (V.form n ≡ Forwarded) → home.0 ≡ block → Way block n j
+    by_own : (V.form n ≡ Local) ⊎ (V.form n ≡ Forwarded) → home.0 ≡ b → Way b n j
     by_own (inl local) same = inl (named_by Local local (first_on (nth p.graph home.0).reached (is j.op code.Variable) (reached_here same)), λ forwarded. no_local (sym local ∙ forwarded))
     by_own (inr forwarded) same = inr (forwarded, live_here same)
 
-    by_stands : Stands (V.form n) home.0 block → Way block n j
+    by_stands : Stands (V.form n) home.0 b → Way b n j
     by_stands (inl top) = inl (named_by Hoisted top refl, λ forwarded. no_hoisted (sym top ∙ forwarded))
     by_stands (inr own) = by_own own.0 own.1
 
-    result_way : Way block n j
+    pub result_way : Way b n j
     result_way = by_stands stands
 
-  -- the law
-  abbrev pub IsOwnResult : ℕ → ℕ → Tree → Inst → Type 0
-  IsOwnResult block n t j = (inst_in F n ≡ Some j) × (V.form n ≡ Forwarded) × IsLiveIn block j × (type_tree s.of.globals j.ty ≡ Some t)
+    -- where the mention asks for a variable, it has a name
+    pub result_wanted : wants_by s.of.globals F home.0 (at F R block i n m) i ≡ true → HasName Found (Id (id n))
+    result_wanted wants = by_way stands
+      where
+        never : V.form n ≡ Forwarded → ⊥
+        never form =
+            wanted_form s.of.globals F P told.0 (at F R block i n m) i
+            (subst (λ (k : ℕ). IsIn (at F R block i n m) (mentions_of plan_is.links k)) (sym result.1) (mention_stands F R block i n m plan_is.links plan_is.live)) (user_is F R block i n m) value wants (sym told.1 ∙ (ap V.form result.1 ∙ form))
+
+        by_way : Stands (V.form n) home.0 b → HasName Found (Id (id n))
+        by_way (inl top) = named_by Hoisted top refl
+        by_way (inr own) = by_form own.0 own.1
+          where
+            by_form : (V.form n ≡ Local) ⊎ (V.form n ≡ Forwarded) → home.0 ≡ b → HasName Found (Id (id n))
+            by_form (inl local) same = named_by Local local (first_on (nth p.graph home.0).reached (is j.op code.Variable) (reached_here same))
+            by_form (inr forwarded) same = absurd (never forwarded)
 
   abbrev Gs : List Inst
   Gs = s.of.globals
 
-  module _ (block n : ℕ) (v : IsValueIn V R block n) (local : V.setting.global n ≡ None) where
-    abbrev Goal : Type 0
-    Goal = (HasName Found (Id (id n)) × (V.form n ≡ Forwarded → ⊥)) ⊎ ((j : Inst) × IsOwnResult block n v.shape j)
+  -- what makes a value that is no global: a parameter, which has a name, or an instruction
+  module _ (n : ℕ) (t : Tree) (whole : type_tree s.of.globals (type_of V n) ≡ Some t) (local : V.setting.global n ≡ None) where
+    abbrev pub IsMadeSo : Type 0
+    IsMadeSo = (HasName Found (Id (id n)) × (V.form n ≡ Forwarded → ⊥)) ⊎ ((j : Inst) × ((inst_in F n ≡ Some j) × (j.ty ≡ 0 → ⊥) × (type_tree s.of.globals j.ty ≡ Some t)))
 
-    by_inst : (ty : ℕ) → type_tree Gs ty ≡ Some v.shape → option_and_then typed (inst_in F n) ≡ Some ty → Goal
+    by_inst : (ty : ℕ) → type_tree Gs ty ≡ Some t → option_and_then typed (inst_in F n) ≡ Some ty → IsMadeSo
     by_inst ty shaped is =
         let j = some_part typed (inst_in F n) ty is in
         let own = own_type_of j.0 ty j.2 in
-        let whole : type_tree Gs j.0.ty ≡ Some v.shape = ap (type_tree Gs) own.0 ∙ shaped in
-        by_way j.0 j.1 whole (result_way block n v.user j.0 v.mentioned v.no_phi j.1 own.1 (shaped_value Gs j.0.ty v.shape whole))
-      where
-        by_way : (j : Inst) → inst_in F n ≡ Some j → type_tree Gs j.ty ≡ Some v.shape → Way block n j → Goal
-        by_way j made whole (inl named) = inl named
-        by_way j made whole (inr own) = inr (j, (made, own.0, own.1, whole))
+        inr (j.0, (j.1, own.1, ap (type_tree Gs) own.0 ∙ shaped))
 
-    by_parameter : (q : IdOf × IdOf) → IsIn q F.params → q.0.0 ≡ n → (y : ℕ) → parameter_in F n ≡ Some y → Goal
+    by_parameter : (q : IdOf × IdOf) → IsIn q F.params → q.0.0 ≡ n → (y : ℕ) → parameter_in F n ≡ Some y → IsMadeSo
     by_parameter q there same y made = inl (
       subst (λ (k : ℕ). HasName Found (Id (id k))) same (parameter_named s.of o unit u p q among (subst (λ (f : Function). IsIn q f.params) (sym written_is) there)),
       λ forwarded. never (formed_result Gs F plan_is.links n forwarded),
@@ -232,21 +245,21 @@ module _ (s : Setting) (entry : Option (List ℕ)) (right : IsConforming s.of en
             let result_is : by.inst.result ≡ n = ap (λ (x : Placed). x.result) by.is ∙ w.2 in
             no_some y (sym own ∙ (ap (parameter_in F) result_is ∙ made))
 
-    by_local : (x : Option ℕ) → parameter_in F n ≡ x → (ty : ℕ) → type_tree Gs ty ≡ Some v.shape → option_or x (option_and_then typed (inst_in F n)) ≡ Some ty → Goal
+    by_local : (x : Option ℕ) → parameter_in F n ≡ x → (ty : ℕ) → type_tree Gs ty ≡ Some t → option_or x (option_and_then typed (inst_in F n)) ≡ Some ty → IsMadeSo
     by_local None made ty shaped is = by_inst ty shaped is
     by_local (Some y) made ty shaped is =
         let q = mapped_some (λ (r : IdOf × IdOf). r.1.0) (find (λ (r : IdOf × IdOf). r.0.0 == n) F.params) y made in
         let w = found_by (λ (r : IdOf × IdOf). r.0.0 == n) F.params q.0 q.1 in
         by_parameter q.0 w.0 (test_same q.0.0.0 n w.1) y made
 
-    by_kind : (g : Inst) → IsIn g Gs → global Gs n ≡ Some g → (g.ty ≡ 0 → ⊥) → type_tree Gs g.ty ≡ Some v.shape → (is_constant_op g.op ≡ true) ⊎ (is g.op code.Variable ≡ true) → Goal
+    by_kind : (g : Inst) → IsIn g Gs → global Gs n ≡ Some g → (g.ty ≡ 0 → ⊥) → type_tree Gs g.ty ≡ Some t → (is_constant_op g.op ≡ true) ⊎ (is g.op code.Variable ≡ true) → IsMadeSo
     by_kind g there at some shaped (inl constant) =
         absurd (not_read (is_constant g) (constant_expr S (id_text Found) g) _ constant (ap (option_and_then (global_by S (id_text Found))) (sym at) ∙ local))
     by_kind g there at some shaped (inr variable) =
         let row = global_row s entry right g (as_among Gs g there) some in
-        absurd (pointer_none Gs row.0 v.shape (variable_type_is g.op row.0 variable row.2) (ap (λ x. option_map_or (tree_at Gs) x None) (sym row.1) ∙ shaped))
+        absurd (pointer_none Gs row.0 t (variable_type_is g.op row.0 variable row.2) (ap (λ x. option_map_or (tree_at Gs) x None) (sym row.1) ∙ shaped))
 
-    by_global : (x : Option ℕ) → global_type Gs n ≡ x → (ty : ℕ) → type_tree Gs ty ≡ Some v.shape → option_or x (local_type F n) ≡ Some ty → Goal
+    by_global : (x : Option ℕ) → global_type Gs n ≡ x → (ty : ℕ) → type_tree Gs ty ≡ Some t → option_or x (local_type F n) ≡ Some ty → IsMadeSo
     by_global None at ty shaped is = by_local (parameter_in F n) refl ty shaped is
     by_global (Some y) at ty shaped is =
         let g = some_part typed (global Gs n) y at in
@@ -254,9 +267,37 @@ module _ (s : Setting) (entry : Option (List ℕ)) (right : IsConforming s.of en
         let there = found_in Gs n g.0 g.1 in
         by_kind g.0 there.0 g.1 own.1 (ap (type_tree Gs) (own.0 ∙ same_some y ty is) ∙ shaped) (kinds g.0 there.0 own.1)
 
-    by_type : (x : Option ℕ) → type_in Gs F n ≡ x → type_tree Gs (unwrap_or x 0) ≡ Some v.shape → Goal
-    by_type None is shaped = absurd (no_some v.shape (sym (ap (λ x. option_map_or (tree_at Gs) x None) right.results.none) ∙ shaped))
+    by_type : (x : Option ℕ) → type_in Gs F n ≡ x → type_tree Gs (unwrap_or x 0) ≡ Some t → IsMadeSo
+    by_type None is shaped = absurd (no_some t (sym (ap (λ x. option_map_or (tree_at Gs) x None) right.results.none) ∙ shaped))
     by_type (Some ty) is shaped = by_global (global_type Gs n) refl ty shaped is
 
+    pub maker : IsMadeSo
+    maker = by_type (type_in Gs F n) refl whole
+
+  -- the law
+  abbrev pub IsOwnResult : ℕ → ℕ → Tree → Inst → Type 0
+  IsOwnResult block n t j = (inst_in F n ≡ Some j) × (V.form n ≡ Forwarded) × IsLiveIn block j × (type_tree s.of.globals j.ty ≡ Some t)
+
+  module _ (block n : ℕ) (v : IsValueIn V R block n) (local : V.setting.global n ≡ None) where
+    abbrev Goal : Type 0
+    Goal = (HasName Found (Id (id n)) × (V.form n ≡ Forwarded → ⊥)) ⊎ ((j : Inst) × IsOwnResult block n v.shape j)
+
+    by_result : (j : Inst) → inst_in F n ≡ Some j → type_tree Gs j.ty ≡ Some v.shape → Way block n j → Goal
+    by_result j made shaped (inl named) = inl named
+    by_result j made shaped (inr own) = inr (j, (made, own.0, own.1, shaped))
+
+    by_maker : IsMadeSo n v.shape v.shaped local → Goal
+    by_maker (inl named) = inl named
+    by_maker (inr w) = by_result w.0 w.1.0 w.1.2 (result_way block n v.user w.0 v.mentioned block (counts_here block v.user n v.mentioned v.no_phi) w.1.0 w.1.1 (shaped_value Gs w.0.ty v.shape w.1.2))
+
     pub ways : Goal
-    ways = by_type (type_in Gs F n) refl v.shaped
+    ways = by_maker (maker n v.shape v.shaped local)
+
+  -- where the mention asks for a variable, as that of a phi and of an index does, the value has a name
+  module _ (block n : ℕ) (i : Inst) (m : IsMentioned F R block i n) (b : ℕ) (counts : CountsIn block i n m b) (wants : (c : ℕ) → wants_by s.of.globals F c (at F R block i n m) i ≡ true) (t : Tree) (whole : type_tree s.of.globals (type_of V n) ≡ Some t) (local : V.setting.global n ≡ None) where
+    by_wanted : IsMadeSo n t whole local → HasName Found (Id (id n))
+    by_wanted (inl named) = named.0
+    by_wanted (inr w) = result_wanted block n i w.0 m b counts w.1.0 w.1.1 (shaped_value Gs w.0.ty t w.1.2) (wants (home block n i w.0 m b counts w.1.0 w.1.1 (shaped_value Gs w.0.ty t w.1.2)).0)
+
+    pub wanted_named : HasName Found (Id (id n))
+    wanted_named = by_wanted (maker n t whole local)
