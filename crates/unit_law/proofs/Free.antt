@@ -1,5 +1,5 @@
 -- A struct that is part of another type, or of which a value is, is no block's (P17).
-use Rattle.std.proofs.Common.{◌≡◌, ◌<◌, ◌≤◌, ◌+◌, ◌&&◌, ◌||◌, ◌==◌, not, ℕ, zero, suc, Bool, true, false, List, [], ◌∷◌, ◌++◌, length, Option, Some, None, option_map, inl, inr, refl, sym, ap, ◌∙◌, subst, arith, if◌then◌else◌}
+use Rattle.std.proofs.Common.{◌≡◌, ◌<◌, ◌≤◌, ◌+◌, ◌&&◌, ◌||◌, ◌==◌, not, ℕ, zero, suc, Bool, true, false, List, [], ◌∷◌, ◌++◌, length, nat_le, Option, Some, None, option_map, inl, inr, refl, sym, ap, ◌∙◌, subst, arith, if◌then◌else◌}
 use Rattle.std.specs.Prelude.{◌⊎◌, flat_map, slice_index}
 use Rattle.std.specs.Option.{option_map_or}
 use Rattle.spv_ops.specs.Opcode.{is, number}
@@ -161,7 +161,7 @@ module _ (m : ModuleState) (entry : Option (List ℕ)) (right : IsConforming m e
 
         by_elem : (o : Option Elem) → option_map_or (sized_vector n) o None ≡ Some t → AreFree t
         by_elem None is = cc
-        by_elem (Some e) is = by_size e _ _ is
+        by_elem (Some e) is = by_size e (nat_le 2 n) (nat_le n 4) is
 
     kind_free : is_among (block_misuses m) g.result ≡ true → (k : TypeKind) (t : Tree) → kind g.op ≡ k → tree_by_kind m.globals (tree_before m.globals g.at) g k ≡ Some t → AreFree t
     kind_free own kinds.Bool t on is = subst AreFree (same_some boolean t is) (λ n has. never has)

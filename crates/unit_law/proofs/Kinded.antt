@@ -1,5 +1,5 @@
 -- What stands outside of functions and has a type is a constant or a variable.
-use Rattle.std.proofs.Common.{◌≡◌, ◌==◌, ◌&&◌, ◌||◌, ℕ, Bool, true, false, List, Option, Some, None, unwrap_or, inl, inr, refl, sym, ap, ◌∙◌, subst, if◌then◌else◌}
+use Rattle.std.proofs.Common.{◌≡◌, ◌==◌, ◌&&◌, ◌||◌, ℕ, Bool, true, false, List, Option, Some, None, unwrap_or, inl, inr, refl, sym, subst, if◌then◌else◌}
 use Rattle.std.specs.Prelude.{◌⊎◌}
 use Rattle.std.specs.Option.{option_map_or}
 use Rattle.spv_words.specs.Words.{insts}
@@ -9,17 +9,15 @@ use Rattle.spv_ops.specs.Opcode.{is, number, op_of}
 use Rattle.spv_ops.specs.Shape.{shape}
 use Rattle.spv_ops.specs.declared.Op.{Op}
 use Rattle.spv_ops.specs.declared.Op.TheVariants as code
-use Rattle.spv_module.specs.Inst.{word, has_type, known, inst_of}
-use Rattle.spv_module.specs.Kinds.{is_import, kind_of_op, kind_of_opcode, kind_of}
+use Rattle.spv_module.specs.Inst.{word, has_type, known}
+use Rattle.spv_module.specs.Kinds.{is_import, kind_of_op, kind_of_opcode}
 use Rattle.spv_module.specs.Lists.{globals}
 use Rattle.spv_module.specs.declared.inst.Inst.{Inst}
-use Rattle.spv_module.specs.declared.kind.Kind.{Kind}
 use Rattle.spv_module.specs.declared.kind.Kind.TheVariants.{Debug, Other}
 use Rattle.spv_module.specs.declared.kind.Place.TheVariants.{Outside}
 use Rattle.typed_law.specs.Conforms.{BreakNone}
 use Rattle.typed_law.proofs.Values.{has_a_type}
 use Rattle.typed_law.proofs.Words.{is_global_kind, global_made, conforms}
-use Rattle.claim_law.specs.Claimed.{IsIn}
 use Rattle.unit_law.proofs.Lists.{as_among}
 use Rattle.unit_law.proofs.Ways.{HaveKinds}
 

@@ -24,8 +24,8 @@ placed_in f c block i there among =
     (w.0, ap (option_and_then (λ (b : Block). slice_get b.insts w.0)) there ∙ w.1)
 
 module _ (f : Function) (reached : List Bool) (block : ℕ) (i : Inst) (n : ℕ) (w : IsMentioned f reached block i n) where
-  abbrev pub at : SlotPlace
-  at = record { block = block; inst = w.place; arg = w.arg }
+  abbrev pub mention_at : SlotPlace
+  mention_at = record { block = block; inst = w.place; arg = w.arg }
 
   abbrev slot : Mention
   slot = mention block w.place i (w.arg, n)
@@ -37,7 +37,7 @@ module _ (f : Function) (reached : List Bool) (block : ℕ) (i : Inst) (n : ℕ)
   pub user_in : IsIn i (insts_of f)
   user_in = in_flat (λ (b : Block). b.insts) f.blocks found_block.0 i (at_place f.blocks block found_block.0 found_block.1) (at_place found_block.0.insts w.place i found_block.2)
 
-  pub user_is : user f at ≡ Some i
+  pub user_is : user f mention_at ≡ Some i
   user_is = w.there
 
   listed : IsIn slot (slots f reached)
@@ -60,7 +60,7 @@ module _ (f : Function) (reached : List Bool) (block : ℕ) (i : Inst) (n : ℕ)
         (live.1.whole number.0 slot number.1 w.live))
 
     -- it is one of the places where the id is mentioned
-    pub mention_stands : IsIn at (mentions_of links n)
+    pub mention_stands : IsIn mention_at (mentions_of links n)
     mention_stands = in_mapped (λ (l : Link). l.place) (chain links n) (link_of (number.0, slot)) (in_filter (λ (l : Link). l.id == n) links (link_of (number.0, slot)) linked (same_test n n refl))
 
   -- what makes the id is live

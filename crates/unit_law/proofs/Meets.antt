@@ -1,5 +1,5 @@
 -- What a live operation on scalars and vectors asks for: its operands are usable, and it asks of types only how many components they have.
-use Rattle.std.proofs.Common.{◌≡◌, ◌&&◌, ◌==◌, ℕ, Bool, true, false, List, [], ◌∷◌, drop, map, Option, Some, None, cond, find, option_map, inl, inr, refl, sym, ap, ◌∙◌, subst}
+use Rattle.std.proofs.Common.{◌≡◌, ◌&&◌, ◌==◌, ℕ, Bool, true, false, List, [], ◌∷◌, drop, Option, Some, None, cond, find, option_map, inl, inr, refl, sym, ap, ◌∙◌, subst}
 use Rattle.std.specs.Prelude.{slice_index, slice_index_or}
 use Rattle.std.specs.Option.{option_map_or}
 use Rattle.std.specs.List.{list_all}
@@ -19,16 +19,15 @@ use Rattle.op_semantics.specs.Value.{operation, operation_of, operation_in, exte
 use Rattle.conformance.specs.Rules.{Options}
 use Rattle.module_semantics.specs.Setting.{Setting}
 use Rattle.use_chains.specs.Slots.{inst_at, IsLive}
-use Rattle.glsl_ast.specs.Tree.{Expr, TranslationUnit}
+use Rattle.glsl_ast.specs.Tree.{TranslationUnit}
 use Rattle.vec_lowering.specs.Named.{Naming}
 use Rattle.vec_lowering.specs.Composite.{Argument}
 use Rattle.text_rules.specs.Outlines.{basic_of, basic_at, basic}
 use Rattle.expr_forward.specs.declared.kinds.OperationKind.{OperationKind}
 use Rattle.expr_forward.specs.declared.kinds.OperationKind.TheVariants as kind
-use Rattle.expr_forward.specs.Context.{operand}
 use Rattle.expr_forward.specs.Kinds.{kind_of, operation_kind_of}
 use Rattle.expr_forward.specs.Scope.{Scope, globals}
-use Rattle.expr_forward.specs.Values.{argument, value_words, literal_words}
+use Rattle.expr_forward.specs.Values.{value_words}
 use Rattle.function_text.specs.Functions.{FunctionPlan}
 use Rattle.emit_glsl.specs.Unit.{IsUnitOf}
 use Rattle.block_law.specs.Ranked.{ids_by_kind, operand_ids}
@@ -37,12 +36,11 @@ use Rattle.spell_law.specs.Named.{FitsShape, IsNamedType, Asks, AsksIfAny}
 use Rattle.spell_law.specs.Asked.{AreUsable, AsksOf, MeetsKind}
 use Rattle.spell_law.proofs.Values.{basic-fits}
 use Rattle.typed_law.specs.Conforms.{IsConforming}
-use Rattle.typed_law.proofs.Lists.{same_some, clash}
+use Rattle.typed_law.proofs.Lists.{same_some}
 use Rattle.claim_law.specs.Claimed.{IsIn}
 use Rattle.unit_law.specs.Mentioned.{IsValueIn}
-use Rattle.unit_law.proofs.Lists.{test_same}
 use Rattle.unit_law.proofs.Ways.{HaveKinds, Found, F, R, V}
-use Rattle.unit_law.proofs.Usable.{IsUsable, operand_usable}
+use Rattle.unit_law.proofs.Usable.{operand_usable}
 
 -- operations that ask of no type by its name
 abbrev asks_none : Operation → Bool

@@ -1,5 +1,5 @@
 -- The steps to a part of a value, by literals, are made of names of members that are claimed.
-use Rattle.std.proofs.Common.{◌≡◌, ◌&&◌, ◌||◌, ◌==◌, ℕ, zero, suc, Bool, true, false, List, [], ◌∷◌, Option, Some, None, option_map, nat_lt, nat_le, inl, inr, refl, sym, ap, ◌∙◌, subst, if◌then◌else◌}
+use Rattle.std.proofs.Common.{◌≡◌, ◌&&◌, ◌||◌, ◌==◌, ℕ, zero, suc, Bool, true, false, List, [], ◌∷◌, Option, Some, None, option_map, nat_lt, nat_le, inl, refl, sym, ap, ◌∙◌, subst, if◌then◌else◌}
 use Rattle.std.specs.Prelude.{slice_get, slice_index, option_and_then}
 use Rattle.std.specs.Option.{option_map_or}
 use Rattle.spv_ops.specs.Opcode.{is, number}
@@ -20,7 +20,7 @@ use Rattle.spv_types.specs.Types.{kind, elem_of, sized_vector, vector_tree, leng
 use Rattle.op_semantics.specs.Fits.{elem_tree}
 use Rattle.conformance.specs.Rules.{Options}
 use Rattle.module_semantics.specs.Setting.{Setting}
-use Rattle.name_alloc.specs.declared.claims.Key.TheVariants.{Id, Member}
+use Rattle.name_alloc.specs.declared.claims.Key.TheVariants.{Member}
 use Rattle.name_alloc.specs.Naming.{name_of}
 use Rattle.glsl_ast.specs.Tree as text
 use Rattle.glsl_ast.specs.Tree.{Expr, TranslationUnit, LStep, literal}
@@ -29,7 +29,7 @@ use Rattle.glsl_grammar.specs.Spelled.{FitsWord}
 use Rattle.vec_lowering.specs.Component.{axis_name}
 use Rattle.text_rules.specs.Printed.{has_struct, have_struct}
 use Rattle.expr_forward.specs.Scope.{Setting as Place}
-use Rattle.expr_forward.specs.Paths.{part_step_by, composite_op_in, part_step, part_type_by, part_type_in, part_type, part_steps}
+use Rattle.expr_forward.specs.Paths.{part_step_by, part_step, part_type_by, part_type, part_steps}
 use Rattle.emit_glsl.specs.Translation.{Naming, text_of}
 use Rattle.emit_glsl.specs.Unit.{source_of, IsUnitOf}
 use Rattle.spell_law.specs.Uses.{Words, UseSteps}
@@ -39,7 +39,7 @@ use Rattle.type_law.proofs.Parts.{earlier_is}
 use Rattle.typed_law.specs.Conforms.{IsConforming}
 use Rattle.typed_law.proofs.Lists.{same_some}
 use Rattle.typed_law.proofs.Used.{global_found}
-use Rattle.claim_law.specs.Claimed.{IsIn, HasName}
+use Rattle.claim_law.specs.Claimed.{HasName}
 use Rattle.claim_law.proofs.Constants.{found_in}
 use Rattle.claim_law.proofs.Told.{named_is, axes_told}
 use Rattle.unit_law.specs.Words.{words_of}
@@ -175,7 +175,7 @@ module _ (s : Setting) (entry : Option (List ℕ)) (right : IsConforming s.of en
 
       by_elem : (u : Tree) → tree_before Gs g.at (slice_index g.args 0) ≡ Some u → (o : Option Elem) → elem_of u ≡ o → option_map_or (sized_vector (slice_index g.args 1)) o None ≡ Some t → IsPartOf g t k v
       by_elem u at None is_elem is = cc
-      by_elem u at (Some e) is_elem is = by_size u at e is_elem (slice_index g.args 1) _ _ is
+      by_elem u at (Some e) is_elem is = by_size u at e is_elem (slice_index g.args 1) (nat_le 2 (slice_index g.args 1)) (nat_le (slice_index g.args 1) 4) is
 
       by_part : (o : Option Tree) → tree_before Gs g.at (slice_index g.args 0) ≡ o → vector_tree o (slice_index g.args 1) ≡ Some t → IsPartOf g t k v
       by_part None at is = cc

@@ -26,7 +26,7 @@ use Rattle.claim_law.proofs.Listed.{in_flat, at_place}
 use Rattle.claim_law.proofs.Constants.{found_in}
 use Rattle.unit_law.specs.Mentioned.{IsMentioned}
 use Rattle.unit_law.proofs.Lists.{same_test, test_same, split_at, found_by, found_some, two_split, as_among}
-use Rattle.unit_law.proofs.Links.{at, user_is, mention_stands}
+use Rattle.unit_law.proofs.Links.{mention_at, user_is, mention_stands}
 use Rattle.unit_law.proofs.Forms.{IsMadeBy, made_by, formed_result, form_at}
 
 phi_named : (o : Op) → is o code.Phi ≡ true → is_named_other o ≡ true
@@ -199,16 +199,16 @@ module _ (m : ModuleState) (f : Function) (order : AreInOrder m f) (reached : Li
 
       -- the operand's own result
       module _ (P : Placed) (among : IsIn P Ps) (result : P.result ≡ id) (p_value : is_value m.globals P.ty ≡ true) (p_form : form S P.result ≡ Forwarded) where
-        p_mentions : IsIn (at f reached block i id w) P.mentions
+        p_mentions : IsIn (mention_at f reached block i id w) P.mentions
         p_mentions =
             let by = made_by links f P among in
             let mentions_are : P.mentions ≡ mentions_of links id = sym (ap (λ (x : Placed). x.mentions) by.is) ∙ ap (mentions_of links) (ap (λ (x : Placed). x.result) by.is ∙ result) in
-            subst (IsIn (at f reached block i id w)) (sym mentions_are) (mention_stands f reached block i id w links live)
+            subst (IsIn (mention_at f reached block i id w)) (sym mentions_are) (mention_stands f reached block i id w links live)
 
         lower : own_height H P < own_height H Q
         lower = elim (two_split P Q Ps among q_in.0) [
-          | inl b ↦ forms_fall S ordered b.0 b.1 b.2 P Q b.3 (counted_phi P among p_value p_form) q_phi q_undef p_value q_value p_form q_form (operand_in f Q.result P.mentions (at f reached block i id w) i p_mentions (user_is f reached block i id w) user_result)
-          | inr b ↦ absurd (operand_clash f Q.result P.mentions (at f reached block i id w) i (none_mentioned f Q.result (Q ∷ b.1) P (ordered.before b.0 b.1 Q b.2 q_phi) b.3) p_mentions (user_is f reached block i id w) user_result)
+          | inl b ↦ forms_fall S ordered b.0 b.1 b.2 P Q b.3 (counted_phi P among p_value p_form) q_phi q_undef p_value q_value p_form q_form (operand_in f Q.result P.mentions (mention_at f reached block i id w) i p_mentions (user_is f reached block i id w) user_result)
+          | inr b ↦ absurd (operand_clash f Q.result P.mentions (mention_at f reached block i id w) i (none_mentioned f Q.result (Q ∷ b.1) P (ordered.before b.0 b.1 Q b.2 q_phi) b.3) p_mentions (user_is f reached block i id w) user_result)
         ]
 
       by_count : (P : Placed) → IsIn P Ps → P.result ≡ id → (b : Bool) → counts P ≡ b → (if b then own_height H P else 0) < rank n

@@ -1,5 +1,5 @@
 -- A reached block that ends in OpSwitch leads to the blocks of its labels.
-use Rattle.std.proofs.Common.{◌≡◌, ◌<◌, ◌≤◌, ◌+◌, ℕ, zero, suc, Bool, true, false, List, [], ◌∷◌, length, map, Option, Some, None, refl, sym, ap, ◌∙◌, subst, arith}
+use Rattle.std.proofs.Common.{◌≡◌, ◌<◌, ◌≤◌, ◌+◌, ℕ, zero, suc, true, List, [], ◌∷◌, length, map, Option, Some, None, refl, sym, ap, ◌∙◌, subst, arith}
 use Rattle.std.specs.Prelude.{slice_get, option_and_then}
 use Rattle.spv_ops.specs.OpGroups.{group_of}
 use Rattle.spv_ops.specs.Shape.{shape, count_of}
@@ -13,7 +13,7 @@ use Rattle.spv_index.specs.Locals.{insts_of}
 use Rattle.structure_rules.specs.declared.graph.Exit.{Exit}
 use Rattle.structure_rules.specs.declared.graph.Exit.TheVariants.{Switch}
 use Rattle.structure_rules.specs.declared.graph.Node.{Node}
-use Rattle.structure_rules.specs.Graph.{index_of, seconds, terminator, exit_of, exit_by, labels_by, target_labels, graph, nth, is_switch}
+use Rattle.structure_rules.specs.Graph.{index_of, terminator, exit_of, exit_by, labels_by, target_labels, graph, nth, is_switch}
 use Rattle.spv_ops.specs.Groups.{is_terminator}
 use Rattle.nest_place.proofs.Outward.{reached_inside}
 use Rattle.block_graph.proofs.Within.{graph_sized}

@@ -124,7 +124,7 @@ module _ (W : Words) (gs : List Inst) (s : Source) (ids : ℕ → Text) (lengths
   Spelled = spelling s ids
 
   extent_uses : (e : Extent) (t : TypeName) → UsesExtent W e → UsesType W t → UsesType W (with_extent e t)
-  extent_uses e (type_name b es) has rest = (rest.0, has, rest.1)
+  extent_uses e (type_name b es) has rest = (rest.0, (has, rest.1))
 
   base_uses : (e : Elem) (n : ℕ) → IsVectorSize n → UsesBase W (vector_base e n)
   base_uses elem.Bool n size = size

@@ -3,7 +3,6 @@ use Rattle.std.proofs.Common.{◌≡◌, ℕ, Bool, true, false, List, [], ◌�
 use Rattle.std.specs.Prelude.{◌⊎◌, slice_index_or}
 use Rattle.spv_ops.specs.Opcode.{is, number}
 use Rattle.spv_ops.specs.OpGroups.{group_of}
-use Rattle.spv_ops.specs.Shape.{shape}
 use Rattle.spv_ops.specs.declared.Op.{Op}
 use Rattle.spv_ops.specs.declared.Op.TheVariants as code
 use Rattle.spv_module.specs.Lists.{id}
@@ -73,8 +72,7 @@ module _ (s : Setting) (entry : Option (List ℕ)) (right : IsConforming s.of en
     pub operands_fall : (n : ℕ) → inst_in Fn n ≡ Some i → Where.form n ≡ Forwarded → (ids : List ℕ) → ((id : ℕ) → IsIn id ids → IsIn id (operand_ids i)) → AreBelow Ranks (Ranks n) ids
     operands_fall n made form [] sub = tt
     operands_fall n made form (id ∷ ids) sub =
-        let operand = sub id (inl refl) in
-        (
+        let operand = sub id (inl refl) in (
           rank_falls s.of Fn (ordered s entry right kinds o unit u p among) Marks (plan_is s entry right kinds o unit u p among).links (plan_is s entry right kinds o unit u p among).live n i made form (shaped_value s.of.globals i.ty t shaped)
               (no_undef_by i.op (values_kind (operation_kind_of i.op) i id operand)) block id (mentioned_here id operand),
           operands_fall n made form ids (λ k k_in. sub k (inr k_in)),

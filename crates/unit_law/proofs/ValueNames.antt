@@ -1,23 +1,17 @@
 -- The structs in the types of live results and of values of a block are written.
-use Rattle.std.proofs.Common.{◌≡◌, ◌||◌, ◌==◌, not, ℕ, Bool, true, false, List, [], ◌∷◌, ◌++◌, map, flat_map, filter_map, Option, Some, None, Contains, option_map, unwrap_or, inl, inr, refl, sym, ap, ◌∙◌, subst, if◌then◌else◌}
-use Rattle.std.specs.Prelude.{◌⊎◌, slice_get, slice_index, slice_index_or, option_and_then}
+use Rattle.std.proofs.Common.{◌≡◌, ◌||◌, ◌==◌, not, ℕ, Bool, true, false, List, [], ◌∷◌, ◌++◌, flat_map, filter_map, Option, Some, None, option_map, inl, inr, refl, sym, ap, ◌∙◌, subst, if◌then◌else◌}
+use Rattle.std.specs.Prelude.{slice_index, option_and_then}
 use Rattle.std.specs.List.{cons_option}
 use Rattle.std.specs.Option.{option_map_or}
-use Rattle.spv_ops.specs.Opcode.{is, number}
-use Rattle.spv_ops.specs.declared.Op.{Op}
+use Rattle.spv_ops.specs.Opcode.{is}
 use Rattle.spv_ops.specs.declared.Op.TheVariants as code
-use Rattle.spv_module.specs.State.{ModuleState}
 use Rattle.spv_module.specs.Held.{global}
-use Rattle.spv_module.specs.declared.inst.Id.{Id as IdOf}
 use Rattle.spv_module.specs.declared.inst.Inst.{Inst}
-use Rattle.spv_module.specs.declared.inst.Block.{Block}
 use Rattle.spv_module.specs.declared.inst.Function.{Function}
 use Rattle.spv_types.specs.Tree.{Tree}
-use Rattle.spv_types.specs.Types.{kind, tree_by_kind, tree_before, tree_at, type_tree}
-use Rattle.spv_types.specs.declared.kind.TypeKind.{TypeKind}
-use Rattle.spv_types.specs.declared.kind.TypeKind.TheVariants as kinds
-use Rattle.spv_index.specs.Locals.{insts_of, inst_in}
-use Rattle.spv_index.specs.Pointers.{as_pointer, pointee}
+use Rattle.spv_types.specs.Types.{tree_at, type_tree}
+use Rattle.spv_index.specs.Locals.{insts_of}
+use Rattle.spv_index.specs.Pointers.{as_pointer}
 use Rattle.spv_index.specs.BlockStructs.{is_some_block}
 use Rattle.conformance.specs.Rules.{Options}
 use Rattle.profile_rules.specs.Places.{is_among, is_variable, body_insts}
@@ -36,7 +30,7 @@ use Rattle.claim_law.specs.Claimed.{IsIn}
 use Rattle.unit_law.proofs.Lists.{same_test, as_among, as_in}
 use Rattle.unit_law.proofs.Shaped.{pointer_none}
 use Rattle.unit_law.proofs.Ways.{HaveKinds, F, in_module}
-use Rattle.unit_law.proofs.Free.{AreFree, misused_free}
+use Rattle.unit_law.proofs.Free.{misused_free}
 use Rattle.unit_law.proofs.Structs.{Written, HasNames, written_names}
 
 -- a type with a shape is no pointer

@@ -45,7 +45,7 @@ use Rattle.claim_law.proofs.Constants.{found_in}
 use Rattle.claim_law.proofs.Named.{result_named, parameter_named}
 use Rattle.unit_law.specs.Mentioned.{IsMentioned, Stands, IsValueIn}
 use Rattle.unit_law.proofs.Lists.{same_test, test_same, contained, of_filter, found_by, as_among, in_block}
-use Rattle.unit_law.proofs.Links.{at, placed_in, user_is, mention_stands, maker_live}
+use Rattle.unit_law.proofs.Links.{mention_at, placed_in, user_is, mention_stands, maker_live}
 use Rattle.unit_law.proofs.Forms.{placed, is_placed, made_by, formed_result, form_at, mentioned_form, wanted_form}
 use Rattle.unit_law.proofs.Shaped.{pointer_none, shaped_value}
 
@@ -104,7 +104,7 @@ module _ (s : Setting) (entry : Option (List ℕ)) (right : IsConforming s.of en
   abbrev pub Found : Naming
   Found = name_of u.claimed
 
-  planned : (f : Function) × IsIn f (called u.order s.of.functions) × IsPlanOf S Found f p
+  pub planned : (f : Function) × IsIn f (called u.order s.of.functions) × IsPlanOf S Found f p
   planned = planned_as (IsPlanOf S Found) (called u.order s.of.functions) u.plans p u.planned among
 
   abbrev pub F : Function
@@ -141,7 +141,7 @@ module _ (s : Setting) (entry : Option (List ℕ)) (right : IsConforming s.of en
 
   -- a mention counts in a reached block: in its own, and that of a phi in the block that its pair names
   abbrev pub CountsIn : (block : ℕ) (i : Inst) (n : ℕ) → IsMentioned F R block i n → ℕ → Type 0
-  CountsIn block i n m b = (mention_block F (at F R block i n m) i ≡ b) × (slice_index_or R b false ≡ true)
+  CountsIn block i n m b = (mention_block F (mention_at F R block i n m) i ≡ b) × (slice_index_or R b false ≡ true)
 
   pub counts_here : (block : ℕ) (i : Inst) (n : ℕ) (m : IsMentioned F R block i n) → is i.op code.Phi ≡ false → CountsIn block i n m block
   counts_here block i n m no_phi = (ap (λ (b : Bool). if b then unwrap_or (block_in F (slice_index i.args (m.arg + 1))) block else block) no_phi, m.here)
@@ -168,8 +168,8 @@ module _ (s : Setting) (entry : Option (List ℕ)) (right : IsConforming s.of en
     stands =
         subst (λ (x : Form). Stands x home.0 b) (sym told.1 ∙ ap V.form result.1)
         (subst (λ (c : ℕ). Stands (form_with s.of.globals F told.0 P) home.0 c) counts.0
-        (mentioned_form s.of.globals F P told.0 (at F R block i n m) i
-        (subst (λ (k : ℕ). IsIn (at F R block i n m) (mentions_of plan_is.links k)) (sym result.1) (mention_stands F R block i n m plan_is.links plan_is.live))
+        (mentioned_form s.of.globals F P told.0 (mention_at F R block i n m) i
+        (subst (λ (k : ℕ). IsIn (mention_at F R block i n m) (mentions_of plan_is.links k)) (sym result.1) (mention_stands F R block i n m plan_is.links plan_is.live))
         (user_is F R block i n m) value))
 
     -- where it has a variable it has a name
@@ -201,13 +201,13 @@ module _ (s : Setting) (entry : Option (List ℕ)) (right : IsConforming s.of en
     result_way = by_stands stands
 
     -- where the mention asks for a variable, it has a name
-    pub result_wanted : wants_by s.of.globals F home.0 (at F R block i n m) i ≡ true → HasName Found (Id (id n))
+    pub result_wanted : wants_by s.of.globals F home.0 (mention_at F R block i n m) i ≡ true → HasName Found (Id (id n))
     result_wanted wants = by_way stands
       where
         never : V.form n ≡ Forwarded → ⊥
         never form =
-            wanted_form s.of.globals F P told.0 (at F R block i n m) i
-            (subst (λ (k : ℕ). IsIn (at F R block i n m) (mentions_of plan_is.links k)) (sym result.1) (mention_stands F R block i n m plan_is.links plan_is.live)) (user_is F R block i n m) value wants (sym told.1 ∙ (ap V.form result.1 ∙ form))
+            wanted_form s.of.globals F P told.0 (mention_at F R block i n m) i
+            (subst (λ (k : ℕ). IsIn (mention_at F R block i n m) (mentions_of plan_is.links k)) (sym result.1) (mention_stands F R block i n m plan_is.links plan_is.live)) (user_is F R block i n m) value wants (sym told.1 ∙ (ap V.form result.1 ∙ form))
 
         by_way : Stands (V.form n) home.0 b → HasName Found (Id (id n))
         by_way (inl top) = named_by Hoisted top refl
@@ -294,7 +294,7 @@ module _ (s : Setting) (entry : Option (List ℕ)) (right : IsConforming s.of en
     ways = by_maker (maker n v.shape v.shaped local)
 
   -- where the mention asks for a variable, as that of a phi and of an index does, the value has a name
-  module _ (block n : ℕ) (i : Inst) (m : IsMentioned F R block i n) (b : ℕ) (counts : CountsIn block i n m b) (wants : (c : ℕ) → wants_by s.of.globals F c (at F R block i n m) i ≡ true) (t : Tree) (whole : type_tree s.of.globals (type_of V n) ≡ Some t) (local : V.setting.global n ≡ None) where
+  module _ (block n : ℕ) (i : Inst) (m : IsMentioned F R block i n) (b : ℕ) (counts : CountsIn block i n m b) (wants : (c : ℕ) → wants_by s.of.globals F c (mention_at F R block i n m) i ≡ true) (t : Tree) (whole : type_tree s.of.globals (type_of V n) ≡ Some t) (local : V.setting.global n ≡ None) where
     by_wanted : IsMadeSo n t whole local → HasName Found (Id (id n))
     by_wanted (inl named) = named.0
     by_wanted (inr w) = result_wanted block n i w.0 m b counts w.1.0 w.1.1 (shaped_value Gs w.0.ty t w.1.2) (wants (home block n i w.0 m b counts w.1.0 w.1.1 (shaped_value Gs w.0.ty t w.1.2)).0)

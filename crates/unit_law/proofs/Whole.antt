@@ -1,5 +1,5 @@
 -- In the tree of a function stand reached blocks, and each switch has groups with labels.
-use Rattle.std.proofs.Common.{◌≡◌, ◌<◌, ◌≤◌, ◌+◌, ◌==◌, ◌&&◌, ◌||◌, not, ℕ, zero, suc, Bool, true, false, List, [], ◌∷◌, ◌++◌, length, map, filter, drop, Option, Some, None, inl, inr, refl, sym, ap, ◌∙◌, subst, arith, if◌then◌else◌}
+use Rattle.std.proofs.Common.{◌≡◌, ◌<◌, ◌≤◌, ◌==◌, ◌&&◌, ◌||◌, not, ℕ, zero, suc, Bool, true, false, List, [], ◌∷◌, ◌++◌, length, map, filter, drop, Option, Some, None, inl, inr, refl, sym, ap, ◌∙◌, subst, arith, if◌then◌else◌}
 use Rattle.std.specs.Prelude.{slice_get, slice_index}
 use Rattle.std.specs.Option.{option_map_or}
 use Rattle.std.specs.List.{list_any, concat, range_with_len, zip}
@@ -239,8 +239,7 @@ module _ (f : Function) (sound : IsSound (graph f)) (switches : (h : ℕ) → (n
     groups-whole : (h : ℕ) → Here h → is_switch (nth g h).exit ≡ true → (gs : Groups) → ((t : ℕ) → IsTarget t gs → leads_to t (nth g h) ≡ true) → FollowsGroups f g gs h → AreWhole w Here Asks gs
     groups-whole h here on none leads fo = tt
     groups-whole h here on (group t labels default x gs) leads fo =
-        let lead = leads t (inl refl) in
-        (
+        let lead = leads t (inl refl) in (
           (subst (λ (ls : List ℕ). HasLabel ls default) (sym fo.0) (subst (HasLabel (labels_to (cases f g h) t)) (sym fo.1) (labelled h here on t lead)), subst FitWords (sym fo.0) (fit h here on t)),
           region-whole x fo.2.0 fo.2.2 (carried_next h t fo.2.0 here (sound.reached h t here lead) fo.2.1),
           groups-whole h here on gs (λ u there. leads u (inr there)) fo.3,
