@@ -33,7 +33,7 @@ use Rattle.vec_lowering.specs.Component.{by_component, on_basic}
 use Rattle.vec_lowering.specs.Composite.{Argument, operand, constructed, extracted, copied}
 use Rattle.vec_lowering.specs.Lowered.{written, written_if_any, lowered_vector, on_arguments}
 use Rattle.traces.specs.Outcomes.{Result}
-use Rattle.glsl_semantics.specs.Shapes.{boolean, vector, Typed, typed}
+use Rattle.glsl_semantics.specs.Shapes.{vector, Typed, typed}
 use Rattle.glsl_semantics.specs.States.{State}
 use Rattle.glsl_semantics.specs.Expressions.{Program, Argument as Given}
 use Rattle.lowering_law.specs.Says.{Says, AllSay}

@@ -20,12 +20,12 @@ use Rattle.vec_lowering.specs.Named.{Naming, id_name, member_name, array_of, sha
 use Rattle.vec_lowering.specs.Component.{axis_name, each_below}
 use Rattle.vec_lowering.specs.Composite.{Argument as Operand, constructed, nth_or, element, axis, member_of, extracted, has_struct, copied, copied_parts}
 use Rattle.traces.specs.Outcomes.{Result}
-use Rattle.glsl_semantics.specs.Shapes.{Shape, boolean, int, uint, vector, array, runtime, struct, Typed, typed, tree_of_value, same_elem, same_shape, member_from, scalar}
+use Rattle.glsl_semantics.specs.Shapes.{Shape, int, vector, array, struct, Typed, typed, tree_of_value, same_elem, same_shape, member_from, scalar}
 use Rattle.glsl_semantics.specs.Functions.{are_of, is_of, whole_of, built}
 use Rattle.glsl_semantics.specs.States.{State}
 use Rattle.glsl_semantics.specs.Expressions.{Program, Argument, with_extents, base_shape, type_of}
 use Rattle.lowering_law.specs.Says.{Says, AllSay}
-use Rattle.lowering_law.specs.Written.{text_shape, text_fields, AreMembersApart, IsWritten, AreWritten, typed_as, members_as, IsLogical, AreLogical}
+use Rattle.lowering_law.specs.Written.{text_shape, text_fields, IsWritten, AreWritten, typed_as, members_as, IsLogical, AreLogical}
 use Rattle.lowering_law.proofs.Saying.{all_end, says_build, says_literal}
 use Rattle.lowering_law.proofs.Parts.{says_member, says_element}
 use Rattle.lowering_law.proofs.Components.{at_below, axis_part, type_is, take_end, map_end, take_whole}
@@ -75,18 +75,19 @@ module _ (p : Program) (names : Naming) where
   written_is (plain.runtime t) w = absurd w
   written_is (plain.struct id ts) w = ap (λ o. option_map (with_extents p []) (option_map (struct (id_name names id)) o)) w.0
 
-  -- a member by its name
-  member_found : (id : ℕ) → AreMembersApart names id → (ts : Trees) (k i n : ℕ) (t : Tree) → n ≡ k + i → nth_of ts i ≡ Some t → member_from k (text_fields names id k ts) (member_name names id n) ≡ Some (n, text_shape names t)
-  member_found id apart no_trees k i n t same at = cc
-  member_found id apart (tree u ts) k zero n t same at =
-      let here : n ≡ k = omega (arith, same) in
-      let shape : u ≡ t = cc in
-      subst (λ m. member_from k (text_fields names id k (tree u ts)) (member_name names id m) ≡ Some (m, text_shape names t)) (sym here)
-      (ap (λ b. elim b [ true ↦ Some (k, text_shape names u) | false ↦ member_from (k + 1) (text_fields names id (k + 1) ts) (member_name names id k) ]) (bytes_same (member_name names id k)) ∙ ap (λ x. Some (k, text_shape names x)) shape)
-  member_found id apart (tree u ts) k (suc i) n t same at =
-      let less : k < n = omega (arith, same) in
-      let next : n ≡ k + 1 + i = omega (arith, same) in
-      ap (λ b. elim b [ true ↦ Some (k, text_shape names u) | false ↦ member_from (k + 1) (text_fields names id (k + 1) ts) (member_name names id n) ]) (apart k n less) ∙ member_found id apart ts (k + 1) i n t next at
+  -- a member by its name, which none before it has
+  module _ (id n : ℕ) (apart : (j : ℕ) → j < n → bytes_eq (member_name names id j) (member_name names id n) ≡ false) where
+    member_found : (ts : Trees) (k i : ℕ) (t : Tree) → n ≡ k + i → nth_of ts i ≡ Some t → member_from k (text_fields names id k ts) (member_name names id n) ≡ Some (n, text_shape names t)
+    member_found no_trees k i t same at = cc
+    member_found (tree u ts) k zero t same at =
+        let here : n ≡ k = omega (arith, same) in
+        let shape : u ≡ t = cc in
+        subst (λ m. member_from k (text_fields names id k (tree u ts)) (member_name names id m) ≡ Some (m, text_shape names t)) (sym here)
+        (ap (λ b. elim b [ true ↦ Some (k, text_shape names u) | false ↦ member_from (k + 1) (text_fields names id (k + 1) ts) (member_name names id k) ]) (bytes_same (member_name names id k)) ∙ ap (λ x. Some (k, text_shape names x)) shape)
+    member_found (tree u ts) k (suc i) t same at =
+        let less : k < n = omega (arith, same) in
+        let next : n ≡ k + 1 + i = omega (arith, same) in
+        ap (λ b. elim b [ true ↦ Some (k, text_shape names u) | false ↦ member_from (k + 1) (text_fields names id (k + 1) ts) (member_name names id n) ]) (apart k less) ∙ member_found ts (k + 1) i t next at
 
   written_at : (ts : Trees) (i : ℕ) (t : Tree) → AreWritten p names ts → nth_of ts i ≡ Some t → IsWritten p names t
   written_at no_trees i t w at = cc
@@ -173,7 +174,7 @@ module _ (p : Program) (names : Naming) where
 
     member_says : (id : ℕ) (ts : Trees) (e : Expr) (i : ℕ) (t : Tree) (v c : ValueTree) → IsWritten p names (plain.struct id ts) → nth_of ts i ≡ Some t → S e (typed_as names (plain.struct id ts) v) → part_at v i ≡ Some c → S (member_of names e id i) (typed_as names t c)
     member_says id ts e i t v c w is say at =
-        says_member p calls s e (member_name names id i) (struct (id_name names id) (text_fields names id 0 ts)) (text_shape names t) i v c say (member_found id w.1 ts 0 i i t (let same : i ≡ 0 + i = omega arith in same) is) at
+        says_member p calls s e (member_name names id i) (struct (id_name names id) (text_fields names id 0 ts)) (text_shape names t) i v c say (member_found id i (λ j less. w.1 j i t less is) ts 0 i t (let same : i ≡ 0 + i = omega arith in same) is) at
 
     some_first : {A B : Type 0} (f : A → Option B) (o : Option A) (b : B) → option_and_then f o ≡ Some b → (a : A) × (o ≡ Some a) × (f a ≡ Some b)
     some_first f None b e = cc

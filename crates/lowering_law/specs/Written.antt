@@ -3,6 +3,7 @@ use Rattle.std.specs.Prelude.{◌≡◌, ◌+◌, ◌<◌, ◌≤◌, ◌^◌, �
 use Rattle.spv_module.specs.declared.tree.Length.TheVariants.{Fixed, Spec}
 use Rattle.spv_types.specs.Tree as plain
 use Rattle.spv_types.specs.Tree.{Tree, Trees, no_trees, tree, ValueTree}
+use Rattle.fits_law.specs.Takes.{nth_of}
 use Rattle.vec_lowering.specs.Named.{Naming, id_name, member_name}
 use Rattle.glsl_semantics.specs.Shapes.{Shape, boolean, int, uint, vector, array, runtime, struct, Fields, no_fields, field, Typed, typed}
 use Rattle.glsl_semantics.specs.Expressions.{Program}
@@ -23,9 +24,9 @@ abbrev mutual
   text_fields names id k no_trees = no_fields
   text_fields names id k (tree t ts) = field (member_name names id k) (text_shape names t) (text_fields names id (k + 1) ts)
 
--- no two members of the struct have one name
-abbrev pub AreMembersApart : Naming → ℕ → Type 0
-AreMembersApart names id = (j k : ℕ) → j < k → bytes_eq (member_name names id j) (member_name names id k) ≡ false
+-- no two members of the struct, which are of these types, have one name
+abbrev pub AreMembersApart : Naming → ℕ → Trees → Type 0
+AreMembersApart names id ts = (j k : ℕ) (t : Tree) → j < k → nth_of ts k ≡ Some t → bytes_eq (member_name names id j) (member_name names id k) ≡ false
 
 -- The type of a value stands in the text: each struct is declared by its name with its members, which have names apart; a vector has two to four components; and an int leads to each element of an array.
 abbrev mutual
@@ -34,7 +35,7 @@ abbrev mutual
   IsWritten p names (plain.array t (Fixed n)) = (n ≤ 2 ^ 31) × IsWritten p names t
   IsWritten p names (plain.array t (Spec id)) = ⊥
   IsWritten p names (plain.runtime t) = ⊥
-  IsWritten p names (plain.struct id ts) = (p.structs (id_name names id) ≡ Some (text_fields names id 0 ts)) × AreMembersApart names id × AreWritten p names ts
+  IsWritten p names (plain.struct id ts) = (p.structs (id_name names id) ≡ Some (text_fields names id 0 ts)) × AreMembersApart names id ts × AreWritten p names ts
   IsWritten p names _ = Unit {0}
 
   pub AreWritten : Program → Naming → Trees → Type 0
