@@ -21,7 +21,7 @@ use Rattle.glsl_semantics.specs.Shapes.{typed}
 use Rattle.glsl_semantics.specs.States.{State, Thing, value}
 use Rattle.traces.specs.Outcomes.{got}
 use Rattle.glsl_semantics.specs.Expressions.{type_of, then_fetch}
-use Rattle.glsl_semantics.specs.Items.{Declared, no_calls, known_if, known_value, constant_value, with_items}
+use Rattle.glsl_semantics.specs.Items.{Declared, no_calls, known_if, known_value, constant_value, with_item, with_items}
 use Rattle.text_rules.specs.Constants.{Source, free_spec_id}
 use Rattle.text_rules.specs.Types.{zero_text}
 use Rattle.text_rules.specs.Printed.{Reached}
@@ -59,6 +59,28 @@ module _ (s : Setting) (overrides : List (ℕ × Given)) (key : Key → Text) (c
       let zero : constant_kind c.0.op ≡ kinds.Zero = ap (λ (x : Inst). constant_kind x.op) same ∙ kind in
       ap zero_of (sym typed_as) ∙ some_same (zero_of c.2) a (ap (value_by_kind c.1 (chosen s overrides c.0.result) c.2 c.0.args) (sym zero) ∙ c.6)
 
+  -- the item of a constant whose expression says its value, and which is told no word
+  pub given_item : (f : Function) (d : Declared) (g : Inst) (t : Tree) (a : ValueTree) → free_spec_id source g.result ≡ None → type_tree s.of.globals g.ty ≡ Some t → HasZero d.program s source key t → known_value d.program d.globals (shape_in s Y t) (value_by source N g (constant_kind g.op)) ≡ Some (typed (shape_in s Y t) a)
+      → (with_item d (constant_decl source N g)).program.things (key (Id (id g.result))) ≡ Some (value (typed (shape_in s Y t) a))
+  given_item f d g t a bound shape zero known =
+      let x = key (Id (id g.result)) in
+      let itself : bytes_eq x x ≡ true = (bytes_eq-Decides x x).1 refl in
+      let typed_as : type_of d.program (type_at source N g.ty) ≡ Some (shape_in s Y t) = type_declared s f overrides key calculated d.program g.ty t shape (is_declared d.program s source key t zero) in
+      let given : constant_value d.program d.globals (free_spec_id source g.result) (type_of d.program (type_at source N g.ty)) (value_by source N g (constant_kind g.op)) ≡ Some (typed (shape_in s Y t) a)
+      = ap₂ (λ i o. constant_value d.program d.globals i o (value_by source N g (constant_kind g.op))) bound typed_as ∙ known in
+      ap (λ b. elim b as (λ b. Option Thing) [ true ↦ option_map value (constant_value d.program d.globals (free_spec_id source g.result) (type_of d.program (type_at source N g.ty)) (value_by source N g (constant_kind g.op))) | false ↦ d.program.things x ]) itself ∙ ap (option_map value) given
+
+  -- the item of a null constant
+  pub null_item : HasConstants s (chosen s overrides) → HaveResults s.of.globals → (f : Function) (d : Declared) (n : ℕ) (g : Inst) (t : Tree) (a : ValueTree) → global s.of.globals n ≡ Some g → constant_kind g.op ≡ kinds.Zero → free_spec_id source g.result ≡ None → type_tree s.of.globals g.ty ≡ Some t → s.constants n ≡ Some a
+      → HasZero d.program s source key t → (with_item d (constant_decl source N g)).program.things (key (Id (id g.result))) ≡ Some (value (typed (shape_in s Y t) a))
+  null_item have results f d n g t a there kind bound shape has zero =
+      let z : State = record { frames = []; globals = d.globals; answers = [] } in
+      given_item f d g t a bound shape zero
+      (ap (λ k. known_value d.program d.globals (shape_in s Y t) (value_by source N g k)) kind
+      ∙ ap (λ o. known_value d.program d.globals (shape_in s Y t) (zero_text (spelling source N.id) (unwrap_or o plain.uint))) shape
+      ∙ ap (λ g. known_if (shape_in s Y t) (then_fetch g (λ v q. got [] (v, q)))) (zero_says d.program s source key no_calls z t zero)
+      ∙ own_value s overrides key calculated d.program t (zero_of t) zero ∙ ap (λ v. Some (typed (shape_in s Y t) v)) (null_value have results n g t a there kind shape has))
+
   -- So its name stands for it, behind all items.
   pub null_there : HasConstants s (chosen s overrides) → HaveResults s.of.globals → (f : Function) (r : Reached) (first : Declared) (before after : List Inst) (n : ℕ) (g : Inst) (t : Tree) (a : ValueTree) → s.of.globals ≡ before ++ g ∷ after → declaration source r N g ≡ constant_decl source N g ∷ [] → global s.of.globals n ≡ Some g
       → constant_kind g.op ≡ kinds.Zero → free_spec_id source g.result ≡ None → type_tree s.of.globals g.ty ≡ Some t → s.constants n ≡ Some a → HasZero (with_items first (flat_map (declaration source r N) before)).program s source key t → AreOtherNames (key (Id (id g.result))) (flat_map (declaration source r N) after)
@@ -67,16 +89,5 @@ module _ (s : Setting) (overrides : List (ℕ × Given)) (key : Key → Text) (c
       let front = flat_map (declaration source r N) before in
       let d = with_items first front in
       let x = key (Id (id g.result)) in
-      let z : State = record { frames = []; globals = d.globals; answers = [] } in
-      let itself : bytes_eq x x ≡ true = (bytes_eq-Decides x x).1 refl in
-      let typed_as : type_of d.program (type_at source N g.ty) ≡ Some (shape_in s Y t) = type_declared s f overrides key calculated d.program g.ty t shape (is_declared d.program s source key t zero) in
-      let known : known_value d.program d.globals (shape_in s Y t) (value_by source N g (constant_kind g.op)) ≡ Some (typed (shape_in s Y t) (zero_of t))
-      = ap (λ k. known_value d.program d.globals (shape_in s Y t) (value_by source N g k)) kind
-      ∙ ap (λ o. known_value d.program d.globals (shape_in s Y t) (zero_text (spelling source N.id) (unwrap_or o plain.uint))) shape
-      ∙ ap (λ g. known_if (shape_in s Y t) (then_fetch g (λ v q. got [] (v, q)))) (zero_says d.program s source key no_calls z t zero)
-      ∙ own_value s overrides key calculated d.program t (zero_of t) zero in
-      let given : constant_value d.program d.globals (free_spec_id source g.result) (type_of d.program (type_at source N g.ty)) (value_by source N g (constant_kind g.op)) ≡ Some (typed (shape_in s Y t) a)
-      = ap₂ (λ i o. constant_value d.program d.globals i o (value_by source N g (constant_kind g.op))) bound typed_as ∙ known ∙ ap (λ v. Some (typed (shape_in s Y t) v)) (null_value have results n g t a there kind shape has) in
       ap (λ l. (with_items first l).program.things x) (declared_between source r N before after g (constant_decl source N g) whole written)
-      ∙ item_there front (flat_map (declaration source r N) after) (constant_decl source N g) first x (value (typed (shape_in s Y t) a))
-      (ap (λ b. elim b as (λ b. Option Thing) [ true ↦ option_map value (constant_value d.program d.globals (free_spec_id source g.result) (type_of d.program (type_at source N g.ty)) (value_by source N g (constant_kind g.op))) | false ↦ d.program.things x ]) itself ∙ ap (option_map value) given) others
+      ∙ item_there front (flat_map (declaration source r N) after) (constant_decl source N g) first x (value (typed (shape_in s Y t) a)) (null_item have results f d n g t a there kind bound shape has zero) others

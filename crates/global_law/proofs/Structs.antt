@@ -88,6 +88,14 @@ module _ (s : Setting) (f : Function) (overrides : List (ℕ × Given)) (key : K
           subst (λ q. fields_of p (map (member_field g) (enumerate_from k (n ∷ ns))) ≡ Some (fields_in s Y g.result k q)) whole
           (ap₂ (λ o fs. with_field (N.member g.result k) o fs) (type_declared s f overrides key calculated p n t (earlier_is s f g.at n t is) there.0) (later us more there.1))
 
+  -- the item of a struct
+  pub struct_item : (d : Declared) (g : Inst) (ts : Trees) → all_trees (tree_before Gs g.at) g.args ≡ Some ts → AreDeclared s f overrides key calculated d.program ts → (with_item d (struct_decl source N g)).program.structs (key (Id (id g.result))) ≡ Some (fields_in s Y g.result 0 ts)
+  struct_item d g ts all are =
+      let x = key (Id (id g.result)) in
+      let itself : bytes_eq x x ≡ true = (bytes_eq-Decides x x).1 refl in
+      ap (λ b. elim b as (λ b. Option Fields) [ true ↦ fields_of d.program (map (member_field g) (enumerate_from 0 g.args)) | false ↦ d.program.structs x ]) itself
+      ∙ fields_declared d.program g 0 g.args ts all are
+
   -- So the name of a struct stands for its members, behind all items.
   pub struct_there : (r : Reached) (first : Declared) (before after : List Inst) (g : Inst) (ts : Trees) → Gs ≡ before ++ g ∷ after → declaration source r N g ≡ struct_decl source N g ∷ [] → all_trees (tree_before Gs g.at) g.args ≡ Some ts
       → AreDeclared s f overrides key calculated (with_items first (flat_map (declaration source r N) before)).program ts → AreOtherStructs (key (Id (id g.result))) (flat_map (declaration source r N) after)
@@ -97,9 +105,7 @@ module _ (s : Setting) (f : Function) (overrides : List (ℕ × Given)) (key : K
       let item = struct_decl source N g in
       let d = with_items first front in
       let x = key (Id (id g.result)) in
-      let itself : bytes_eq x x ≡ true = (bytes_eq-Decides x x).1 refl in
       ap (λ l. (with_items first l).program.structs x) (declared_between source r N before after g item whole written)
       ∙ ap (λ (e : Declared). e.program.structs x) (items_more front (item ∷ flat_map (declaration source r N) after) first)
       ∙ structs_keep (flat_map (declaration source r N) after) (with_item d item) x others
-      ∙ ap (λ b. elim b as (λ b. Option Fields) [ true ↦ fields_of d.program (map (member_field g) (enumerate_from 0 g.args)) | false ↦ d.program.structs x ]) itself
-      ∙ fields_declared d.program g 0 g.args ts all are
+      ∙ struct_item d g ts all are
