@@ -2,7 +2,7 @@
 #![tactic(auto)]
 
 use cc_outside::{StdSink, StdSource};
-use cross_core::{Ending, say};
+use command_line::{Ending, say};
 use std::alloc::{AllocError, Global};
 use std::process::ExitCode;
 use std::{env, io};

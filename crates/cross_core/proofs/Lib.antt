@@ -1,4 +1,1 @@
-pub mod Ends
 pub mod Outputs
-pub mod Pieces
-pub mod Writes

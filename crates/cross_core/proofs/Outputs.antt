@@ -14,13 +14,15 @@ use Rattle.serde_json.specs.Data.{Data}
 use Rattle.serde_json.specs.Written.{compact_text, has_float}
 use Rattle.reflection.specs.Report.{IsReport}
 use Rattle.reflection.proofs.Floats.{no_float}
-use Rattle.cross_core.specs.State.{CommandState}
-use Rattle.cross_core.specs.declared.commands.Action.{Action}
-use Rattle.cross_core.specs.declared.commands.Action.TheVariants.{Glsl, Check, Report, Summary}
-use Rattle.cross_core.specs.declared.endings.Ending.{Ending}
-use Rattle.cross_core.specs.declared.endings.Ending.TheVariants.{Done, Usage, Refused, Limit, ReadFault, WriteFault, Memory}
-use Rattle.cross_core.specs.Answers.{IsAnswer, IsAnswerBy, IsTextOf, summary, bytes_by, bytes_of}
-use Rattle.cross_core.specs.Endings.{ending_of, IsOutput}
+use Rattle.command_line.specs.State.{CommandState}
+use Rattle.command_line.specs.declared.commands.Action.{Action}
+use Rattle.command_line.specs.declared.commands.Action.TheVariants.{Glsl, Check, Report, Summary}
+use Rattle.command_line.specs.declared.endings.Ending.{Ending}
+use Rattle.command_line.specs.declared.endings.Ending.TheVariants.{Done, Usage, Refused, Limit, ReadFault, WriteFault, Memory}
+use Rattle.command_line.specs.Asked.{bytes_by, bytes_of}
+use Rattle.command_line.specs.Summary.{summary}
+use Rattle.cross_core.specs.Answers.{IsAnswer, IsAnswerBy, IsTextOf}
+use Rattle.command_line.specs.Endings.{ending_of, IsOutput}
 
 module _ {K : Type 0} (written : K → Option (List ℕ)) (faults : K → ℕ) where
   -- an answer in other words

@@ -11,12 +11,11 @@ ghost use Rattle.conformance.specs.Rules.{Conforms, IsRight, IsWithinLimits};
 ghost use Rattle.module_check.specs.Asked.{asked};
 ghost use Rattle.module_check.specs.Judged.{IsFault, IsFine, IsRead};
 ghost use Rattle.cross_core.specs.Answers.{IsAnswer, IsAnswerBy};
-ghost use Rattle.cross_core.specs.Endings.{IsCause, IsEndOfWriting, IsOutput};
+ghost use Rattle.command_line.specs.Endings.{IsCause, IsEndOfWriting, IsOutput};
 
-use crate::commands::{Action, Command};
-use crate::endings::{Ending, ending_of};
 use crate::summaries::summarized;
-use cc_outside::{Sink, WriteEnd, write_all};
+use cc_outside::Sink;
+use command_line::{Action, Command, Ending, ending_of, put};
 use emit_glsl::{Translation, translate};
 use glsl_ast::Unit;
 use glsl_print::{PrintEnd, print};
@@ -29,18 +28,6 @@ use spv_module::Module;
 use spv_words::Fault;
 use std::alloc::{AllocError, Global};
 use std::mem::forget;
-
-/// Writes an answer.
-fn put<K: Sink>(answer: &[u8], output: &mut K) -> Ending
-    ensures end { IsEndOfWriting result }
-    ensures output { IsOutput K.written K.faults (λ text. text ≡ answer.now) output.old output.new result }
-{
-    match write_all(output, answer) {
-        Ok(()) => Ending::Done,
-        Err(WriteEnd::Fault) => Ending::WriteFault,
-        Err(WriteEnd::Memory) => Ending::Memory,
-    }
-}
 
 /// Prints a text.
 fn put_text<K: Sink>(unit: &Unit, output: &mut K) -> Ending
@@ -144,7 +131,7 @@ fn answered<K: Sink>(
 }
 
 /// Carries out a command on the bytes of a module.
-#[tactic(auto, using(crate::proofs::Ends::met_cause, crate::proofs::Ends::fault_cause))]
+#[tactic(auto, using(command_line::proofs::Ends::met_cause, command_line::proofs::Ends::fault_cause))]
 pub fn answer<K: Sink>(alloc: Global, command: &Command, bytes: &[u8], output: &mut K) -> Ending
     requires { length bytes.now ≤ limit_number Bytes }
     ensures cause { IsCause command.now.options bytes.now result }

@@ -2,12 +2,7 @@
 #![tactic(auto)]
 
 mod answers;
-mod commands;
-mod endings;
-mod notes;
 mod summaries;
 mod top;
 
-pub use endings::Ending;
-pub use notes::say;
 pub use top::cross;

@@ -3,17 +3,16 @@ ghost use Rattle.std.specs.Prelude.{◌≡◌, ◌≤◌, map, None, Some, IfSom
 ghost use Rattle.cc_outside.specs.Causes.{Rose};
 ghost use Rattle.spv_words.specs.Words.{octets_of};
 ghost use Rattle.module_gen.specs.Generated.{generated};
-ghost use Rattle.cross_core.specs.Commands.{command_of as command_named};
-ghost use Rattle.cross_core.specs.Answers.{IsAnswer, bytes_of};
-ghost use Rattle.cross_core.specs.Endings.{IsCause, HasCause, ReadFails, IsRead, IsReadBy, IsOutput};
-ghost use Rattle.cross_core.specs.Carried.{Carried, IsComplete, IsTurnedAway};
-ghost use Rattle.cross_core.specs.Wrote.{Said};
+ghost use Rattle.command_line.specs.Commands.{command_of as command_named};
+ghost use Rattle.command_line.specs.Asked.{bytes_of};
+ghost use Rattle.cross_core.specs.Answers.{IsAnswer};
+ghost use Rattle.command_line.specs.Endings.{IsCause, HasCause, ReadFails, IsRead, IsReadBy, IsOutput};
+ghost use Rattle.command_line.specs.Carried.{Carried, IsComplete, IsTurnedAway};
+ghost use Rattle.command_line.specs.Wrote.{Said};
 
 use crate::answers::answer;
-use crate::commands::{Command, command_of};
-use crate::endings::Ending;
-use crate::notes::say;
 use cc_outside::{ReadEnd, Sink, Source, read_all};
+use command_line::{Command, Ending, command_of, say};
 use module_gen::generate;
 use spec_constants::Unparsed;
 use spv_words::Limit;

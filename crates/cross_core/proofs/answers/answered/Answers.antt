@@ -3,7 +3,7 @@ use Rattle.spv_words.specs.declared.rule.Fault.{Fault}
 use Rattle.conformance.specs.Rules.{Options, IsRight}
 use Rattle.module_check.specs.Judged.{IsFine, IsFault}
 use Rattle.module_check.proofs.OfBytes.{read_is, faulty, fine}
-use Rattle.cross_core.specs.declared.endings.Ending.{Ending}
+use Rattle.command_line.specs.declared.endings.Ending.{Ending}
 use Rattle.cross_core.proofs.answers.answered.Goals as goal
 
 pub returns-in_err-module-clause-refused : goal.returns-in_err-module-clause-refused

@@ -7,7 +7,7 @@ use Rattle.glsl_grammar.specs.Layout.{unit_text}
 use Rattle.conformance.specs.Rules.{Options}
 use Rattle.module_check.specs.Asked.{asked}
 use Rattle.emit_glsl.specs.Text.{IsTranslationOf}
-use Rattle.cross_core.specs.declared.commands.Action.TheVariants.{Glsl, Report}
+use Rattle.command_line.specs.declared.commands.Action.TheVariants.{Glsl, Report}
 use Rattle.cross_core.proofs.Outputs.{output_by, glsl_answer, report_answer}
 use Rattle.cross_core.proofs.answers.written.Goals as goal
 

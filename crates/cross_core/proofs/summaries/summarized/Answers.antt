@@ -1,10 +1,9 @@
-use Rattle.std.proofs.Common.{ap, ◌∙◌}
+use Rattle.std.proofs.Common.{◌∙◌}
 use Rattle.spv_module.specs.State.{ModuleState}
 use Rattle.conformance.specs.Rules.{Options}
 use Rattle.glsl_ast.specs.Tree.{Text}
 use Rattle.glsl_ast.specs.View.{unit_of}
 use Rattle.module_check.specs.Asked.{asked}
-use Rattle.cross_core.specs.Answers.{is_reached, count_blocks, summary_line}
 use Rattle.cross_core.proofs.Outputs.{glsl_answer}
 use Rattle.cross_core.proofs.summaries.summarized.Goals as goal
 
@@ -14,8 +13,4 @@ returns-clause-summary c =
     let text : Text = c.bytes.result.now in
     let o : Options = asked c.args.options.now in
     let unit = unit_of c.in_ok-translation.translation.unit in
-    let counts = c.in_ok-counts_in.field-0 in (
-      text,
-      glsl_answer o m unit text c.in_ok-translation.ensures.translation (c.bytes.ensures ∙ c.in_ok-text.ensures),
-      c.in_ok-line.ensures ∙ ap (λ n. summary_line n counts.loops text) c.in_ok-counts_in.ensures.blocks ∙ ap (λ n. summary_line (count_blocks is_reached m) n text) c.in_ok-counts_in.ensures.loops,
-    )
+    (text, glsl_answer o m unit text c.in_ok-translation.ensures.translation (c.bytes.ensures ∙ c.in_ok-text.ensures), c.in_ok-summary_of.ensures)

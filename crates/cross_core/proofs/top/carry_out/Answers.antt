@@ -1,6 +1,7 @@
 use Rattle.std.proofs.Common.{sym, ◌∙◌}
-use Rattle.cross_core.proofs.Ends.{no_usage, complete, write_rose}
-use Rattle.cross_core.specs.Answers.{IsAnswer, bytes_of}
+use Rattle.command_line.proofs.Ends.{no_usage, complete, write_rose}
+use Rattle.command_line.specs.Asked.{bytes_of}
+use Rattle.cross_core.specs.Answers.{IsAnswer}
 use Rattle.cross_core.proofs.top.carry_out.Goals as goal
 
 pub returns-clause-no_usage : goal.returns-clause-no_usage

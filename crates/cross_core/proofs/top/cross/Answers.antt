@@ -1,13 +1,14 @@
 use Rattle.std.proofs.Common.{◌≡◌, ℕ, List, map, refl, inl, inr}
 use Rattle.cc_outside.specs.Causes.{Rose}
-use Rattle.cross_core.specs.State.{CommandState}
-use Rattle.cross_core.specs.declared.endings.Ending.TheVariants.{Memory}
-use Rattle.cross_core.specs.Commands.{command_of}
-use Rattle.cross_core.specs.Answers.{IsAnswer, bytes_of}
-use Rattle.cross_core.specs.Endings.{IsOutput, ReadFails}
-use Rattle.cross_core.specs.Carried.{Carried, IsComplete}
-use Rattle.cross_core.specs.Wrote.{Said}
-use Rattle.cross_core.proofs.Ends.{of_any, read_none}
+use Rattle.command_line.specs.State.{CommandState}
+use Rattle.command_line.specs.declared.endings.Ending.TheVariants.{Memory}
+use Rattle.command_line.specs.Commands.{command_of}
+use Rattle.command_line.specs.Asked.{bytes_of}
+use Rattle.cross_core.specs.Answers.{IsAnswer}
+use Rattle.command_line.specs.Endings.{IsOutput, ReadFails}
+use Rattle.command_line.specs.Carried.{Carried, IsComplete}
+use Rattle.command_line.specs.Wrote.{Said}
+use Rattle.command_line.proofs.Ends.{of_any, read_none}
 use Rattle.cross_core.proofs.top.cross.Goals as goal
 
 pub returns-in-Err-Memory-clause-carried : goal.returns-in-Err-Memory-clause-carried

@@ -1,7 +1,7 @@
 use Rattle.std.proofs.Common.{refl, sym, ◌∙◌}
 use Rattle.spv_words.specs.Words.{octets_of}
 use Rattle.module_gen.specs.Generated.{generated}
-use Rattle.cross_core.proofs.Ends.{cause_on_input, cause_on_generated, read_on_input, read_on_generated}
+use Rattle.command_line.proofs.Ends.{cause_on_input, cause_on_generated, read_on_input, read_on_generated}
 use Rattle.cross_core.proofs.Outputs.{output_on_input, output_on_generated}
 use Rattle.cross_core.proofs.top.run.Goals as goal
 

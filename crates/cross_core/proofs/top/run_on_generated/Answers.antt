@@ -1,5 +1,5 @@
 use Rattle.std.proofs.Common.{ℕ, List, subst, ◌∙◌}
-use Rattle.cross_core.specs.Endings.{IsCause}
+use Rattle.command_line.specs.Endings.{IsCause}
 use Rattle.cross_core.proofs.top.run_on_generated.Goals as goal
 
 pub returns-else-len-number-clause-cause : goal.returns-else-len-number-clause-cause

@@ -1,7 +1,7 @@
 use Rattle.std.proofs.Common.{inr, refl}
 use Rattle.cross_core.specs.Answers.{IsAnswer}
 use Rattle.std.specs.Prelude.{Some}
-use Rattle.cross_core.proofs.Ends.{has_cause, read_to_end}
+use Rattle.command_line.proofs.Ends.{has_cause, read_to_end}
 use Rattle.cross_core.proofs.Outputs.{output_of, answer_on_left}
 use Rattle.cross_core.proofs.top.run_on_input.Goals as goal
 

@@ -3,9 +3,9 @@ ghost use Rattle.std.specs.Prelude.{◌≡◌, ◌∷◌, []};
 ghost use Rattle.std.specs.Fmt.{decimal};
 ghost use Rattle.spv_words.specs.Rule.{letter_of, number_of};
 ghost use Rattle.spv_words.specs.Limit.{limit_name, limit_number};
-ghost use Rattle.cross_core.specs.Wrote.{Wrote, Goes, Said};
-ghost use Rattle.cross_core.specs.Lines.{refusal_line, limit_line, plain_line, line_of};
-ghost use Rattle.cross_core.specs.declared.endings.Ending.TheVariants.{Done};
+ghost use Rattle.command_line.specs.Wrote.{Wrote, Goes, Said};
+ghost use Rattle.command_line.specs.Lines.{refusal_line, limit_line, plain_line, line_of};
+ghost use Rattle.command_line.specs.declared.endings.Ending.TheVariants.{Done};
 
 use crate::endings::Ending;
 use cc_outside::{Sink, WriteEnd, write_all};

@@ -5,8 +5,8 @@ use Rattle.spv_words.specs.declared.rule.Rule.{Rule}
 use Rattle.spv_words.specs.declared.rule.Limit.{Limit}
 use Rattle.spv_words.specs.Limit.{limit_name, limit_number}
 use Rattle.spv_words.specs.Rule.{letter_of, number_of}
-use Rattle.cross_core.specs.declared.endings.Ending.{Ending}
-use Rattle.cross_core.specs.declared.endings.Ending.TheVariants.{Done, Usage, Refused, Limit as Exceeded, ReadFault, WriteFault, Memory}
+use Rattle.command_line.specs.declared.endings.Ending.{Ending}
+use Rattle.command_line.specs.declared.endings.Ending.TheVariants.{Done, Usage, Refused, Limit as Exceeded, ReadFault, WriteFault, Memory}
 
 abbrev pub refusal_line : Rule → ℕ → List ℕ
 refusal_line rule at = codes "refused " ++ (letter_of rule ∷ []) ++ decimal (number_of rule) ++ codes " at " ++ decimal at ++ codes "\n"

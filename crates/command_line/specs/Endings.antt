@@ -7,8 +7,8 @@ use Rattle.spv_words.specs.declared.rule.Limit.TheVariants.{Bytes}
 use Rattle.spv_words.specs.declared.rule.Fault.{Fault}
 use Rattle.spv_words.specs.declared.rule.Fault.TheVariants.{Refused as RefusedFault, Limit as LimitFault, Memory as NoMemory}
 use Rattle.conformance.specs.Rules.{Options, Breaks, Conforms, Exceeds, IsWithinLimits}
-use Rattle.cross_core.specs.declared.endings.Ending.{Ending}
-use Rattle.cross_core.specs.declared.endings.Ending.TheVariants.{Done, Usage, Refused, Limit, ReadFault, WriteFault, Memory}
+use Rattle.command_line.specs.declared.endings.Ending.{Ending}
+use Rattle.command_line.specs.declared.endings.Ending.TheVariants.{Done, Usage, Refused, Limit, ReadFault, WriteFault, Memory}
 
 -- the exit status
 abbrev pub status_of : Ending → ℕ

@@ -1,6 +1,6 @@
 // How a command ends.
 ghost use Rattle.std.specs.Prelude.{◌≡◌};
-ghost use Rattle.cross_core.specs.Endings.{ending_of as ending_of_fault, status_of};
+ghost use Rattle.command_line.specs.Endings.{ending_of as ending_of_fault, status_of};
 
 use spv_words::{Fault, Limit, Refusal};
 

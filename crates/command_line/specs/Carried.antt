@@ -4,12 +4,12 @@ use Rattle.spv_words.specs.declared.rule.Rule.{Rule}
 use Rattle.spv_words.specs.declared.rule.Limit.{Limit}
 use Rattle.spv_words.specs.declared.rule.Limit.TheVariants.{Bytes}
 use Rattle.conformance.specs.Rules.{Options, Breaks, Conforms, Exceeds, IsWithinLimits}
-use Rattle.cross_core.specs.State.{CommandState}
-use Rattle.cross_core.specs.declared.endings.Ending.{Ending}
-use Rattle.cross_core.specs.declared.endings.Ending.TheVariants.{Done, Usage, Memory}
-use Rattle.cross_core.specs.Answers.{bytes_of}
-use Rattle.cross_core.specs.Endings.{status_of, HasCause, ReadFails, IsReadBy}
-use Rattle.cross_core.specs.Lines.{line_of}
+use Rattle.command_line.specs.State.{CommandState}
+use Rattle.command_line.specs.declared.endings.Ending.{Ending}
+use Rattle.command_line.specs.declared.endings.Ending.TheVariants.{Done, Usage, Memory}
+use Rattle.command_line.specs.Asked.{bytes_of}
+use Rattle.command_line.specs.Endings.{status_of, HasCause, ReadFails, IsReadBy}
+use Rattle.command_line.specs.Lines.{line_of}
 
 -- A command ended with this status: `left` and `rest` are what the source had left before and after, `before` and `after`
 -- its counts of faults, `unread` that it is as it was, `output` tells what each ending leaves in the output, `said` which

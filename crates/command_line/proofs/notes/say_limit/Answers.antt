@@ -1,6 +1,6 @@
 use Rattle.std.proofs.Common.{refl}
-use Rattle.cross_core.proofs.Writes.{goes_then}
-use Rattle.cross_core.proofs.notes.say_limit.Goals as goal
+use Rattle.command_line.proofs.Writes.{goes_then}
+use Rattle.command_line.proofs.notes.say_limit.Goals as goal
 
 pub returns : goal.returns
 returns g c =

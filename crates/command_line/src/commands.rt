@@ -3,8 +3,8 @@ ghost use Rattle.std.specs.Prelude.{◌≡◌, ◌≤◌, ◌&&◌, nat_le, slic
 ghost use Rattle.profile_rules.specs.Overrides.{at_most, above_zero};
 ghost use Rattle.spec_constants.specs.declared.overrides.Unparsed.TheVariants.{Memory as OutOfMemory};
 ghost use Rattle.module_check.specs.Asked.{asked};
-ghost use Rattle.cross_core.specs.Commands.{command_of as command_named, action_of as action_named, options_of as options_in, named_options, with_entry, with_options, generating, pieces_of, is_name as is_entry_name};
-ghost use Rattle.cross_core.specs.Unread.{IsUnread};
+ghost use Rattle.command_line.specs.Commands.{command_of as command_named, action_of as action_named, options_of as options_in, named_options, with_entry, with_options, generating, pieces_of, is_name as is_entry_name};
+ghost use Rattle.command_line.specs.Unread.{IsUnread};
 
 use profile_check::Options;
 use spec_constants::{Overrides, Unparsed};
@@ -34,7 +34,7 @@ impl Model for Command {
     ghost use Rattle.std.specs.Prelude.{◌≤◌};
     ghost use Rattle.std.specs.Option.{ForSome};
     ghost use Rattle.module_check.specs.Asked.{asked};
-    ghost use Rattle.cross_core.specs.State.{CommandState};
+    ghost use Rattle.command_line.specs.State.{CommandState};
 
     ghost Value = { CommandState };
 

@@ -1,7 +1,7 @@
 use Rattle.std.proofs.Common.{◌≡◌, ◌&&◌, true, sym, ◌∙◌}
 use Rattle.std.specs.Prelude.{nat_le, slice_index}
-use Rattle.cross_core.proofs.Pieces.{parsed, unparsed}
-use Rattle.cross_core.proofs.commands.pieces_in.Goals as goal
+use Rattle.command_line.proofs.Pieces.{parsed, unparsed}
+use Rattle.command_line.proofs.commands.pieces_in.Goals as goal
 
 pub returns-in-Ok-clause-pieces : goal.returns-in-Ok-clause-pieces
 returns-in-Ok-clause-pieces c =

@@ -6,7 +6,7 @@ use Rattle.std.specs.Str.Parse.{AllDigits, IsNumeral, ParsesUnsigned, digits_val
 use Rattle.std.proofs.lemmas.Bool.{ltb-true, lt-ltb}
 use Rattle.std.proofs.lemmas.Bool.Decides.{nat_tests}
 use Rattle.profile_rules.specs.Overrides.{number_from, number_up_to, decimal_up_to, at_most, above_zero}
-use Rattle.cross_core.specs.Commands.{pieces_of}
+use Rattle.command_line.specs.Commands.{pieces_of}
 
 -- digits are read as the number that they write
 read_digits : (n : ℕ) (cs : List ℕ) → AllDigits 10 cs → number_from 10 n cs ≡ Some (digits_value_after 10 n cs)

@@ -4,9 +4,9 @@ use Rattle.std.specs.Str.{bytes_eq}
 use Rattle.profile_rules.specs.declared.given.Given.{Given}
 use Rattle.profile_rules.specs.Overrides.{overrides_of, decimal_up_to, above_zero}
 use Rattle.conformance.specs.Rules.{Options}
-use Rattle.cross_core.specs.declared.commands.Action.{Action}
-use Rattle.cross_core.specs.declared.commands.Action.TheVariants.{Glsl, Check, Report, Summary}
-use Rattle.cross_core.specs.State.{CommandState}
+use Rattle.command_line.specs.declared.commands.Action.{Action}
+use Rattle.command_line.specs.declared.commands.Action.TheVariants.{Glsl, Check, Report, Summary}
+use Rattle.command_line.specs.State.{CommandState}
 
 -- the action on the input that a word names
 abbrev pub action_of : List ℕ → Option Action

@@ -9,12 +9,12 @@ use Rattle.std.specs.Io.KnownBytes.{IsAtEnd}
 use Rattle.cc_outside.specs.Causes.{Rose}
 use Rattle.conformance.specs.Rules.{Options, Conforms, Exceeds, IsRight, IsWithinLimits}
 use Rattle.conformance.proofs.Considered.{is_broken}
-use Rattle.cross_core.specs.State.{CommandState}
-use Rattle.cross_core.specs.declared.endings.Ending.{Ending}
-use Rattle.cross_core.specs.declared.endings.Ending.TheVariants.{Done, Usage, Refused, Limit, ReadFault, WriteFault, Memory}
-use Rattle.cross_core.specs.Answers.{bytes_by, bytes_of}
-use Rattle.cross_core.specs.Endings.{ending_of, status_of, IsCause, IsEndOfWriting, HasCause, ReadFails, IsRead, IsReadBy, IsOutput}
-use Rattle.cross_core.specs.Carried.{IsComplete, BreaksSome}
+use Rattle.command_line.specs.State.{CommandState}
+use Rattle.command_line.specs.declared.endings.Ending.{Ending}
+use Rattle.command_line.specs.declared.endings.Ending.TheVariants.{Done, Usage, Refused, Limit, ReadFault, WriteFault, Memory}
+use Rattle.command_line.specs.Asked.{bytes_by, bytes_of}
+use Rattle.command_line.specs.Endings.{ending_of, status_of, IsCause, IsEndOfWriting, HasCause, ReadFails, IsRead, IsReadBy, IsOutput}
+use Rattle.command_line.specs.Carried.{IsComplete, BreaksSome}
 
 pub fault_cause : (o : Options) (bytes : List ℕ) (fault : Fault) → length bytes ≤ limit_number limit.Bytes → IsRight bytes o fault → IsCause o bytes (ending_of fault)
 fault_cause o bytes (RefusedFault r) fits h = (fits, h)

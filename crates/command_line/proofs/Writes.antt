@@ -7,7 +7,7 @@ use Rattle.std.proofs.Math.Seq.{take-append-add}
 use Rattle.cc_outside.specs.Causes.{AppendsPrefix}
 use Rattle.cc_outside.specs.declared.all.WriteEnd.{WriteEnd}
 use Rattle.cc_outside.specs.declared.all.WriteEnd.TheVariants.{Fault, Memory}
-use Rattle.cross_core.specs.Wrote.{Wrote, Goes, Said}
+use Rattle.command_line.specs.Wrote.{Wrote, Goes, Said}
 
 -- the front of a front
 front_of : (a b : Option (List ℕ)) (xs zs : List ℕ) → AppendsPrefix a b xs → AppendsPrefix a b (xs ++ zs)

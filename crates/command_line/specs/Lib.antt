@@ -1,0 +1,9 @@
+pub mod State
+pub mod Commands
+pub mod Summary
+pub mod Lines
+pub mod Wrote
+pub mod Endings
+pub mod Asked
+pub mod Carried
+pub mod Unread
