@@ -26,10 +26,7 @@ fn global_of(
 {
     match readings.module().global(id) {
         None => Ok(None),
-        Some(inst) => {
-            let expr = global_expr(alloc, readings, names, inst)?;
-            Ok(expr)
-        }
+        Some(inst) => global_expr(alloc, readings, names, inst),
     }
 }
 
@@ -39,10 +36,7 @@ fn put_if_any(globals: &mut Globals, id: Id, expr: Option<Expr>) -> Result<(), M
 {
     match expr {
         None => Ok(()),
-        Some(expr) => {
-            globals.put(id, expr)?;
-            Ok(())
-        }
+        Some(expr) => globals.put(id, expr),
     }
 }
 
@@ -77,6 +71,5 @@ fn globals_among(
 pub fn globals_of(alloc: Global, readings: &Readings, names: &Names) -> Result<Globals, Memory>
     ensures { IfOk result (AreGlobals readings.now names.now) }
 {
-    let globals = globals_among(alloc, readings, names, readings.module().globals())?;
-    Ok(globals)
+    globals_among(alloc, readings, names, readings.module().globals())
 }

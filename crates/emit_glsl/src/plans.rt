@@ -96,8 +96,7 @@ pub fn plans_of<'a, L: Ledger>(
 {
     let mut steps = Steps::<L>::new(blank);
     let ids = ids_of(alloc, module, order)?;
-    let plans = plans_with(alloc, module, &ids, order.len(), locals, places, &mut steps)?;
-    Ok(plans)
+    plans_with(alloc, module, &ids, order.len(), locals, places, &mut steps)
 }
 
 /// The functions of plans.

@@ -138,8 +138,7 @@ fn planned_text<'a>(
     } = found;
     let order = order.as_slice();
     let plans = plans_of::<Brand>(alloc, readings.module(), order, locals, places, blank)?;
-    let text = text_by(alloc, readings, &entry, order, plans)?;
-    Ok(text)
+    text_by(alloc, readings, &entry, order, plans)
 }
 
 /// The text of a module that was judged: the size of workgroups, the items in the order of the module, and the functions,
@@ -159,6 +158,5 @@ pub fn text_of<'a>(
     let entry = found.entry.function;
     let pairs = overrides.pairs.as_slice();
     let readings = Readings::of(alloc, module, decor, entry, pairs)?;
-    let text = planned_text(alloc, &readings, found)?;
-    Ok(text)
+    planned_text(alloc, &readings, found)
 }

@@ -70,8 +70,7 @@ fn captured(
         return Ok(Vec::new(alloc));
     }
     let indexes = captured_indexes(alloc, module, inst)?;
-    let numbers = numbers_of(alloc, &indexes)?;
-    Ok(numbers)
+    Ok(numbers_of(alloc, &indexes)?)
 }
 
 /// Whether moves save a variable in a spare.
@@ -136,8 +135,7 @@ impl FunctionClaims for FunctionPlan<'_> {
     }
 
     fn targets(&self, alloc: Global, block: usize) -> Result<Vec<usize>, Memory> {
-        let list = each_once(alloc, targets(self.nodes.as_slice(), block))?;
-        Ok(list)
+        Ok(each_once(alloc, targets(self.nodes.as_slice(), block))?)
     }
 
     fn has_spares(&self, block: usize) -> bool {

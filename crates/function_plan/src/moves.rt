@@ -62,8 +62,7 @@ fn phi_places(alloc: Global, blocks: &[Block], naming: &Naming) -> Result<Vec<us
 pub fn phi_blocks(alloc: Global, function: &Function, naming: &Naming) -> Result<Vec<usize>, Memory>
     ensures { IfOk result (λ found. found.items ≡ phi_blocks_of (form_in naming.now) function.now) }
 {
-    let found = phi_places(alloc, function.blocks.as_slice(), naming)?;
-    Ok(found)
+    Ok(phi_places(alloc, function.blocks.as_slice(), naming)?)
 }
 
 /// Whether an id is that of a constant of the module.
@@ -253,8 +252,7 @@ fn moves_of_two(
     ensures { IfOk result (λ moves. IsSequence (first_pairs pairs.now) moves.items) }
 {
     if go_in_order(pair, other) {
-        let moves = two_moves(alloc, pair, other)?;
-        Ok(moves)
+        two_moves(alloc, pair, other)
     } else {
         moves_of_all(alloc, pairs)
     }
@@ -265,10 +263,7 @@ fn moves_by(alloc: Global, pairs: &[(Var, Src)]) -> Result<Vec<Move>, Memory>
     ensures { IfOk result (λ moves. IsSequence (first_pairs pairs.now) moves.items) }
 {
     match pairs {
-        [pair] => {
-            let moves = single_move(alloc, *pair)?;
-            Ok(moves)
-        }
+        [pair] => single_move(alloc, *pair),
         [pair, other] => moves_of_two(alloc, pairs, *pair, *other),
         _ => moves_of_all(alloc, pairs),
     }
@@ -327,8 +322,7 @@ impl<'p, 'f> Phis<'p, 'f> {
         let pairs = self.pairs_of(alloc, block)?;
         let blocks = origins(alloc, &pairs)?;
         let list = moves_from(alloc, &pairs, blocks.as_slice())?;
-        let moves = Moves::of(alloc, list)?;
-        Ok(moves)
+        Moves::of(alloc, list)
     }
 
     /// The moves of the edges into a block with one live phi.
@@ -340,8 +334,7 @@ impl<'p, 'f> Phis<'p, 'f> {
             None => self.moves_of_several(alloc, block),
             Some(phi) => {
                 let list = moves_of_phi(alloc, self.module, self.locals, phi)?;
-                let moves = Moves::of(alloc, list)?;
-                Ok(moves)
+                Moves::of(alloc, list)
             }
         }
     }
@@ -388,6 +381,5 @@ pub fn moves_of(
         locals,
         naming,
     };
-    let moves = phis.moves_to(alloc, blocks)?;
-    Ok(moves)
+    phis.moves_to(alloc, blocks)
 }

@@ -88,8 +88,7 @@ pub fn named(
     ensures { IfOk result (λ ids. (id : ℕ) → is_in ids id ≡ is_named_in (form_in naming.now) nodes.now function.now.blocks id) }
 {
     let ids = named_in(alloc, function.blocks.as_slice(), nodes, naming)?;
-    let set = id_set(alloc, ids.as_slice())?;
-    Ok(set)
+    Ok(id_set(alloc, ids.as_slice())?)
 }
 
 /// Whether an instruction is live: it has an effect, or a live instruction of a reached block mentions its result.

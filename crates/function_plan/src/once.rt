@@ -12,8 +12,7 @@ pub fn is_new(seen: &mut BTreeSet<usize>, id: usize) -> Result<bool, AllocError>
     ensures new { IfOk result (λ new. new ≡ not (contains nat_cmp seen.old id)) }
     ensures seen { OnOk result ((q : ℕ) → contains nat_cmp seen.new q ≡ with_id id (contains nat_cmp seen.old) q) }
 {
-    let new = seen.insert(id)?;
-    Ok(new)
+    Ok(seen.insert(id)?)
 }
 
 /// Adds an item, where it passes.

@@ -93,8 +93,7 @@ fn order_of(alloc: Global, places: &Places, header: usize) -> Result<Vec<usize>,
 {
     let targets = targets_of(alloc, places, header)?;
     let chains = chains_among(alloc, places, header, targets.as_slice())?;
-    let order = order_with(alloc, chains.as_slice(), targets.as_slice())?;
-    Ok(order)
+    Ok(order_with(alloc, chains.as_slice(), targets.as_slice())?)
 }
 
 fn is_reached_switch(node: &Node) -> bool

@@ -68,8 +68,7 @@ fn naming_of<L: Ledger>(
     ensures { IfOk result (λ naming. IsNamed «module».now.globals locals.now (graph locals.now) naming) }
 {
     let uses = Uses::build(alloc, locals, reached, steps)?;
-    let naming = plan(alloc, module, locals, places.nodes(), &uses, steps)?;
-    Ok(naming)
+    plan(alloc, module, locals, places.nodes(), &uses, steps)
 }
 
 impl<'a> FunctionPlan<'a> {

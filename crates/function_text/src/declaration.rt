@@ -23,6 +23,5 @@ pub fn function_decl<'a, 'b>(
     ensures { IfOk result (λ d. decl_of d ≡ decl_with readings.now names.now globals.now plan.now) }
 {
     let function = PlannedFunction::of(alloc, readings, names, globals, plan)?;
-    let decl = function.decl(alloc)?;
-    Ok(decl)
+    function.decl(alloc)
 }

@@ -139,8 +139,7 @@ impl<'a, 'b> PlannedFunction<'a, 'b> {
     pub fn initial(&self, alloc: Global, inst: &Inst) -> Result<Expr, Memory>
         ensures { IfOk result (λ e. expr_of e ≡ initial_of self.now.context.source (all_names self.now.context.names) inst.now) }
     {
-        let value = initial(alloc, self.readings, self.names, inst)?;
-        Ok(value)
+        initial(alloc, self.readings, self.names, inst)
     }
 
     /// The name of a type.

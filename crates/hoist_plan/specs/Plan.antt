@@ -15,6 +15,10 @@ use Rattle.spv_module.specs.declared.inst.Inst.{Inst}
 use Rattle.spv_module.specs.declared.inst.Block.{Block}
 use Rattle.spv_module.specs.declared.inst.Function.{Function}
 use Rattle.spv_index.specs.Locals.{block_in, inst_in, type_in}
+use Rattle.op_semantics.specs.declared.operation.Unary.TheVariants.{SAbs}
+use Rattle.op_semantics.specs.declared.operation.Operation.{Operation}
+use Rattle.op_semantics.specs.declared.operation.Operation.TheVariants as operation
+use Rattle.op_semantics.specs.Value.{extended_opcodes, operation_in}
 use Rattle.structure_rules.specs.declared.graph.Node.{Node}
 use Rattle.structure_rules.specs.Graph.{graph}
 use Rattle.use_chains.specs.declared.slot.SlotPlace.{SlotPlace}
@@ -121,9 +125,12 @@ is_repeating code.VectorShuffle = true
 is_repeating code.CopyLogical = true
 is_repeating _ = false
 
--- SAbs
+abbrev pub is_sabs : Option Operation → Bool
+is_sabs (Some (operation.Unary SAbs)) = true
+is_sabs _ = false
+
 abbrev pub is_absolute : Inst → Bool
-is_absolute i = is i.op code.ExtInst && (slice_index i.args 1 == 5)
+is_absolute i = is i.op code.ExtInst && is_sabs (operation_in extended_opcodes (slice_index i.args 1))
 
 -- operands that stand more than once in the expression of an operation
 abbrev pub repeats_operands : List Inst → Function → Inst → Bool

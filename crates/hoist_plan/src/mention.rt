@@ -1,8 +1,9 @@
 // Questions about the mentions of a value.
 ghost use Rattle.std.specs.Prelude.{◌≡◌, ◌+◌, slice_index};
 ghost use Rattle.std.specs.Option.{option_copied};
-ghost use Rattle.hoist_plan.specs.Plan.{user as user_of, mention_block as mention_block_of, is_elsewhere_by, is_elsewhere as is_elsewhere_in, has_type as has_type_in, is_value as is_value_in, is_always_named as is_always_named_opcode, is_named_other as is_named_other_opcode, is_by_component as is_by_component_opcode, is_repeating as is_repeating_opcode, is_vector_choice as is_vector_choice_of, repeats_operands as repeats_operands_of, wants_by as wants_by_of, wants_variable as wants_variable_in, is_vector as is_vector_type, is_absolute as is_absolute_inst};
+ghost use Rattle.hoist_plan.specs.Plan.{user as user_of, mention_block as mention_block_of, is_elsewhere_by, is_elsewhere as is_elsewhere_in, has_type as has_type_in, is_value as is_value_in, is_always_named as is_always_named_opcode, is_named_other as is_named_other_opcode, is_by_component as is_by_component_opcode, is_repeating as is_repeating_opcode, is_vector_choice as is_vector_choice_of, repeats_operands as repeats_operands_of, wants_by as wants_by_of, wants_variable as wants_variable_in, is_vector as is_vector_type, is_absolute as is_absolute_inst, is_sabs as is_sabs_of};
 
+use op_semantics::{Operation, Unary, extended_operation_of};
 use spv_index::{Locals, type_in};
 use spv_module::{Function, Id, Inst, Module};
 use spv_ops::{Op, OpGroup};
@@ -135,11 +136,17 @@ fn is_vector_choice(module: &Module, locals: &Locals, inst: &Inst) -> bool
         }
 }
 
-/// SAbs.
+fn is_sabs(operation: Option<Operation>) -> bool
+    ensures { result ≡ is_sabs_of operation }
+{
+    matches!(operation, Some(Operation::Unary(Unary::SAbs)))
+}
+
+/// SAbs of GLSL.std.450.
 fn is_absolute(inst: &Inst) -> bool
     ensures { result ≡ is_absolute_inst inst.now }
 {
-    inst.op == Op::ExtInst && inst.operand(1) == 5
+    inst.op == Op::ExtInst && is_sabs(extended_operation_of(inst.operand(1)))
 }
 
 /// Whether operands stand more than once in the expression of an instruction.

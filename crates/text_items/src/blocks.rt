@@ -108,8 +108,7 @@ fn type_in(alloc: Global, written: &Written, names: &Names, ty: u32) -> Result<T
         readings: written.readings(),
         names,
     };
-    let ty = type_at(&wording, ty)?;
-    Ok(ty)
+    type_at(&wording, ty)
 }
 
 /// A member of a block, by its number and the id of its type.

@@ -67,8 +67,7 @@ fn operand(alloc: Global, readings: &Readings, names: &Names, id: u32) -> Result
     ensures { IfOk result (λ a. argument_of a ≡ operand_of readings.now (id_names names.now) id) }
 {
     let inst = readings.module().global(Id(id));
-    let arg = operand_at(alloc, readings, names, inst)?;
-    Ok(arg)
+    operand_at(alloc, readings, names, inst)
 }
 
 fn operands(
@@ -122,8 +121,7 @@ fn calculated_by(
     let literals = inner_literals(op, words);
     let args = operands(alloc, readings, names, ids)?;
     let shape = shape_at(alloc, readings.module(), inst.ty)?;
-    let expr = lower_vector(alloc, op, 0, shape, args, literals, names)?;
-    Ok(expr)
+    lower_vector(alloc, op, 0, shape, args, literals, names)
 }
 
 /// The expression of a calculated constant. Where there is no operation, it is a zero.

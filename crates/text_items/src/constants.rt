@@ -47,12 +47,9 @@ fn expr_by(wording: &Wording, inst: Option<&Inst>) -> Result<Expr, Memory>
 {
     match inst {
         None => Ok(Expr::Literal(Literal::Uint(0))),
-        Some(inst) => {
-            let expr = wording
-                .readings
-                .constant_expr(wording.alloc, wording.names, inst)?;
-            Ok(expr)
-        }
+        Some(inst) => wording
+            .readings
+            .constant_expr(wording.alloc, wording.names, inst),
     }
 }
 
@@ -61,8 +58,7 @@ pub fn expr_at(wording: &Wording, id: u32) -> Result<Expr, Memory>
     ensures { IfOk result (λ e. expr_of e ≡ expr_at_of (source_of wording.now) (names_of wording.now) id) }
 {
     let inst = wording.readings.module().global(Id(id));
-    let expr = expr_by(wording, inst)?;
-    Ok(expr)
+    expr_by(wording, inst)
 }
 
 fn exprs_at(wording: &Wording, ids: &[u32]) -> Result<Vec<Expr>, Memory>

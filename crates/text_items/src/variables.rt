@@ -26,8 +26,7 @@ fn type_behind(wording: &Wording, ty: u32) -> Result<TypeName, Memory>
     ensures { IfOk result (λ t. type_of t ≡ type_at_of (source_of wording.now) (names_of wording.now) (pointee_at_of (source_of wording.now) ty)) }
 {
     let pointee = pointee_at(wording.readings.module(), ty);
-    let ty = type_at(wording, pointee)?;
-    Ok(ty)
+    type_at(wording, pointee)
 }
 
 /// The zero of the type that a pointer type points to.
@@ -35,8 +34,7 @@ fn zero_behind(wording: &Wording, ty: u32) -> Result<Expr, Memory>
     ensures { IfOk result (λ e. expr_of e ≡ zero_at_of (source_of wording.now) (names_of wording.now) (pointee_at_of (source_of wording.now) ty)) }
 {
     let pointee = pointee_at(wording.readings.module(), ty);
-    let zero = zero_at(wording, pointee)?;
-    Ok(zero)
+    zero_at(wording, pointee)
 }
 
 fn begin(wording: &Wording, inst: &Inst) -> Result<Expr, Memory>
@@ -113,9 +111,6 @@ pub fn declare_variable(
     };
     match block_of(written.module(), inst) {
         Some(block) => declare_block(alloc, written, names, inst, block),
-        None => {
-            let decl = declare_plain(&wording, inst)?;
-            Ok(decl)
-        }
+        None => declare_plain(&wording, inst),
     }
 }

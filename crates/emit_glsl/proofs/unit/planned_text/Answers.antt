@@ -1,4 +1,5 @@
 use Rattle.std.proofs.Common.{List, subst}
+use Rattle.std.proofs.lemmas.Result.{MatchResult-weaker}
 use Rattle.std.specs.List.{AllZip}
 use Rattle.spv_module.specs.State.{ModuleState}
 use Rattle.spv_module.specs.declared.inst.Id.{Id}
@@ -17,8 +18,8 @@ returns c =
     let plans = c.in_ok-plans.plans.items in
     let by_module = subst (λ (m : ModuleState). AllZip (IsPlanned m) (called c.as_slice-order.result.now found.locals.items) plans) c.module.ensures c.in_ok-plans.ensures in
     let by_order = subst (λ (ids : List Id). AllZip (IsPlanned s.of) (called ids found.locals.items) plans) order by_module in
-    record {
+    MatchResult-weaker c.text_by.result c.text_by.ensures (λ text is. record {
       plans = plans;
       planned = subst (λ (fs : List Function). AllZip (IsPlanned s.of) (called found.order.items fs) plans) c.requires.locals by_order;
-      made = subst (λ (ids : List Id). IsWritten s found.entry.size.items ids plans (unit_of c.in_ok-text.text.unit)) order c.in_ok-text.ensures;
-    }
+      made = subst (λ (ids : List Id). IsWritten s found.entry.size.items ids plans (unit_of text.unit)) order is;
+    }) (λ e no. no)

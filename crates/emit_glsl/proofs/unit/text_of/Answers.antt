@@ -1,4 +1,5 @@
 use Rattle.std.proofs.Common.{◌∙◌, ℕ, List, ap, subst}
+use Rattle.std.proofs.lemmas.Result.{MatchResult-weaker}
 use Rattle.profile_rules.specs.declared.given.Given.{Given}
 use Rattle.glsl_ast.specs.View.{unit_of}
 use Rattle.text_rules.specs.Constants.{Source}
@@ -8,4 +9,4 @@ use Rattle.emit_glsl.proofs.unit.text_of.Goals as goal
 pub returns : goal.returns
 returns c =
     let read = c.in_ok-readings.ensures ∙ ap (λ (pairs : List (ℕ × Given)). record { of = c.args.«module».now; entry = c.args.found.entry.function.0; overrides = pairs }) c.as_slice-pairs.ensures.value in
-    subst (λ (s : Source). IsMade s c.args.found.entry.size.items c.args.found.order.items (unit_of c.in_ok-text.text.unit)) read c.in_ok-text.ensures
+    MatchResult-weaker c.planned_text.result c.planned_text.ensures (λ text is. subst (λ (s : Source). IsMade s c.args.found.entry.size.items c.args.found.order.items (unit_of text.unit)) read is) (λ e no. no)

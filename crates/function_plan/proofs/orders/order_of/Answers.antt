@@ -11,6 +11,6 @@ returns c =
     let h = c.args.header in
     let chains_are = ap (flat_map items_of) c.as_slice-2.ensures.value ∙ (joined c.in_ok-chains.chains.items ∙ ap concat c.in_ok-chains.ensures) in
     let targets_are = c.as_slice-3.ensures.value ∙ c.in_ok-targets.ensures.all in
-    c.in_ok-order.ensures
+    c.in_ok-order_with.ensures
     ∙ (ap (λ (xs : List ℕ). order_with xs c.as_slice-3.result.now) chains_are
     ∙ ap (order_with (concat (chains_of g h))) targets_are)

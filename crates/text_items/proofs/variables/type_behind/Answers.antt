@@ -1,4 +1,5 @@
 use Rattle.std.proofs.Common.{◌≡◌, ◌∙◌, ap, rules}
+use Rattle.std.proofs.lemmas.Result.{MatchResult-weaker}
 use Rattle.text_rules.specs.Declarations.{type_at, pointee_at}
 use Rattle.text_items.specs.Wording.{source_of, names_of}
 use Rattle.text_items.proofs.variables.type_behind.Goals as goal
@@ -6,4 +7,4 @@ use Rattle.text_items.proofs.variables.type_behind.Goals as goal
 pub returns : goal.returns
 returns c =
     let at : c.pointee_at-pointee.result ≡ pointee_at (source_of c.args.wording.now) c.args.ty = search rules in
-    c.in_ok-ty.ensures ∙ ap (type_at (source_of c.args.wording.now) (names_of c.args.wording.now)) at
+    MatchResult-weaker c.type_at.result c.type_at.ensures (λ t is. is ∙ ap (type_at (source_of c.args.wording.now) (names_of c.args.wording.now)) at) (λ e no. no)
