@@ -1,5 +1,5 @@
 -- Acts whose places have the numbers that the program has for them.
-use Rattle.std.specs.Prelude.{List, map}
+use Rattle.std.specs.Prelude.{ℕ, List, map}
 use Rattle.traces.specs.Events.{Event, read, write, atomic, Access, reading, updating}
 use Rattle.traces.specs.Runs.{Act, goes, asks, stops, fails}
 use Rattle.memory_places.specs.Capped.{capped}
@@ -19,3 +19,8 @@ narrowed (goes es c) = goes (map narrow_event es) c
 narrowed (asks a f) = asks (narrow_access a) f
 narrowed stops = stops
 narrowed fails = fails
+
+-- what the words of an answer lead to, where it asks for them
+abbrev pub told_words : {C : Type 0} → Act C → List ℕ → C → C
+told_words (asks a f) words c = f words
+told_words _ words c = c

@@ -1,1 +1,9 @@
-// What one step of the program's own is of a module's machine: its act, with places by the numbers that the program has for them. Definitions alone.
+// What the steps of a program have in common: what a step is of a module's machine, with places by the numbers that the program has
+// for them; results; variables that other invocations see.
+#![tactic(auto)]
+
+mod results;
+mod variables;
+
+pub use results::set_result;
+pub use variables::seen;
