@@ -57,7 +57,7 @@ module _ (p : Program) (calls : Text → List Argument → State → Result (Opt
     abbrev Here : Supplied Conf → State → Type 0
     Here = At m s Holds f b done (i ∷ rest)
 
-    abbrev Plain : Supplied Conf → Run → Type 0
+    abbrev pub Plain : Supplied Conf → Run → Type 0
     Plain c o = Follows (Supplied Conf) (machine s) State (Option Typed) (At m s Holds f b (i ∷ done) rest) (Never (Supplied Conf) (machine s) State (Option Typed)) (Never (Supplied Conf) (machine s) State (Option Typed)) (NeverGives (Supplied Conf) (machine s) State (Option Typed)) 0 k c o
 
     abbrev pub Runs : List Stmt → Type 0
@@ -147,7 +147,7 @@ module _ (p : Program) (calls : Text → List Argument → State → Result (Opt
         by_void false off = set_follows (a.result off) (Expr.call (callee_text w i) (exprs_in (call_arguments w b i))) (a.comes off)
 
     -- an atomic instruction: its function makes the same access
-    abbrev AsksAccess : AtomicOp → Shape → Type 0
+    abbrev pub AsksAccess : AtomicOp → Shape → Type 0
     AsksAccess o u = (c : Supplied Conf) (z : State) → Here c z → (g : IsUpdate o s c.at rest i)
         → Updates p calls k m apart s Holds f b keeps done i rest o z (atomic_name o) (exprs_in (atomic_arguments w b i o)) u (updating (atomic_operation o) (location s g.variable g.target.1) g.operands)
 

@@ -12,3 +12,4 @@ pub mod Ends
 pub mod Written
 pub mod Tree
 pub mod Whole
+pub mod Accesses
