@@ -44,7 +44,8 @@ fn store(variables: &mut BTreeMap<u32, Value>, id: u32, path: &[u32], value: Val
 /// Puts a value in the place of a part of the variable into which a pointer leads. Where there is no such part the answer is
 /// false, and nothing changes. It takes no memory.
 pub fn store_at(conf: &mut Conf, root: Root, path: &[u32], value: Value) -> bool
-    ensures { (fs : List Function) → HasKept (conf_of fs conf.old) (conf_of fs conf.new) (root_of root) path.now (value_of value) result }
+    ensures at { conf.new.top.at ≡ conf.old.top.at }
+    ensures kept { (fs : List Function) → HasKept (conf_of fs conf.old) (conf_of fs conf.new) (root_of root) path.now (value_of value) result }
 {
     match root {
         Root::Global(id) => store(&mut conf.privates, id, path, value),

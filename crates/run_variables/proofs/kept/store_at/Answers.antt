@@ -9,8 +9,8 @@ use Rattle.run_variables.specs.Stored.{kept_by}
 use Rattle.run_variables.proofs.Calls.{called_past, lent_kept_by}
 use Rattle.run_variables.proofs.kept.store_at.Goals as goal
 
-pub returns-in-None : goal.returns-in-None
-returns-in-None c = λ fs.
+pub returns-in-None-clause-kept : goal.returns-in-None-clause-kept
+returns-in-None-clause-kept c = λ fs.
     let past : length c.args.conf.now.below.items ≤ c.in-Lent.depth = search rules in
     let root : root_of c.args.root ≡ state.lent c.in-Lent.depth c.in-Lent.id = search rules in (
       ap (λ r. option_and_then (inserted (value_of c.args.value) c.args.path.now) (kept_by (conf_of fs c.args.conf.now) r)) root
@@ -18,8 +18,8 @@ returns-in-None c = λ fs.
       refl,
     )
 
-pub returns-in-Some : goal.returns-in-Some
-returns-in-Some c = λ fs.
+pub returns-in-Some-clause-kept : goal.returns-in-Some-clause-kept
+returns-in-Some-clause-kept c = λ fs.
     let inside : c.in-Lent.depth < length c.args.conf.now.below.items = search rules in
     let root : root_of c.args.root ≡ state.lent c.in-Lent.depth c.in-Lent.id = search rules in
     lent_kept_by fs c.args.conf.now (root_of c.args.root) c.in-Lent.depth c.in-Lent.id c.in-Some.call.now c.store-in-Some.new.variables c.args.path.now _ c.store-in-Some.result root c.in-Some.ensures.value inside c.store-in-Some.ensures
