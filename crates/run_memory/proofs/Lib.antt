@@ -1,0 +1,9 @@
+pub mod Results
+pub mod Reading
+pub mod Storing
+pub mod Classes
+pub mod Onward
+pub mod Updating
+pub mod Barring
+pub mod Quiet
+pub mod Told
