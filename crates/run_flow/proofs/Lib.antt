@@ -1,0 +1,5 @@
+pub mod Bases
+pub mod Entries
+pub mod Labels
+pub mod Lists
+pub mod Moves

@@ -1,0 +1,20 @@
+use Rattle.std.proofs.Common.{◌≡◌, ◌∙◌, ap, rules}
+use Rattle.std.specs.Prelude.{Some, None}
+use Rattle.spv_types.specs.View.{value_of}
+use Rattle.run_state.specs.Ids.{ids_of}
+use Rattle.run_operands.specs.Looks.{value_by}
+use Rattle.run_flow.proofs.Lists.{if_ok}
+use Rattle.run_flow.proofs.Moves.{no_value, with_value}
+use Rattle.run_flow.proofs.leaving.return_value_step.Goals as goal
+
+pub returns-in-None-clause-step : goal.returns-in-None-clause-step
+returns-in-None-clause-step c = λ told.
+    let f = value_by c.args.map.now (ids_of c.args.conf.now.top.ids) in
+    let found : None ≡ f c.operand.result = search rules in
+    no_value c.args.map.now told c.args.conf.now c.args.conf.now c.args.inst.now (found ∙ ap f c.operand.ensures)
+
+pub returns-in-Some-clause-step : goal.returns-in-Some-clause-step
+returns-in-Some-clause-step c = λ told.
+    let f = value_by c.args.map.now (ids_of c.args.conf.now.top.ids) in
+    let found : Some (value_of c.in-Some.value) ≡ f c.operand.result = search rules in
+    if_ok c.give_back.result (λ step given. with_value c.args.map.now told c.args.conf.now c.give_back.new.conf c.args.inst.now (value_of c.in-Some.value) step (found ∙ ap f c.operand.ensures) given) (c.give_back.ensures.step c.args.map.now.of.functions)
