@@ -8,7 +8,6 @@ use Rattle.spv_ops.specs.declared.StorageClass.TheVariants as storage
 use Rattle.spv_module.specs.declared.inst.Inst.{Inst}
 use Rattle.spv_types.specs.Tree as plain
 use Rattle.spv_types.specs.Tree.{Tree, Trees}
-use Rattle.spv_types.specs.Leaves.{IsSized}
 use Rattle.spv_types.specs.Types.{type_tree}
 use Rattle.value_words.specs.Words.{scalar_paths}
 use Rattle.traces.specs.Events.{Location, shared}
@@ -31,7 +30,7 @@ some_same : {A : Type 0} (a b : A) → Some a ≡ Some b → a ≡ b
 some_same a b e = cc
 
 -- no text is asked here, so names are none
-no_names : StructNames
+pub no_names : StructNames
 no_names = record { struct_name = λ id. []; member_name = λ id k. [] }
 
 module _ (s : Setting) where
@@ -55,18 +54,27 @@ module _ (s : Setting) where
     all_low path t along at [] a = tt
     all_low path t along at (w ∷ ws) a = (low (path ++ w) (along_more s path (plain.struct p.number p.members) t w along at a.0), all_low path t along at ws a.1)
 
-    -- a place that the types allow
-    pub block_place : (path : List ℕ) → AreConstants s → are_allowed s (variable_type s v) path ≡ true → shared_number s v.result ≤ most_variables → capped (location s v path) ≡ location s v path
-    block_place path right allowed few = narrow_location s v path (low path (allowed_along s no_names p.layout path (variable_type s v) (plain.struct p.number p.members) right p.shape allowed)) few
+    -- a place in it, and those of the scalars of a part
+    pub placed_location : (path : List ℕ) → Along s (plain.struct p.number p.members) path → shared_number s v.result ≤ most_variables → capped (location s v path) ≡ location s v path
+    placed_location path along few = narrow_location s v path (low path along) few
 
-    -- and those of the scalars of a part that has a size
-    pub block_places : (path : List ℕ) (t : Tree) → AreConstants s → are_allowed s (variable_type s v) path ≡ true → shape_along s v path ≡ Some t → IsSized t → shared_number s v.result ≤ most_variables
-        → map capped (locations s v path) ≡ locations s v path
-    block_places path t right allowed shape h few =
-        let along = allowed_along s no_names p.layout path (variable_type s v) (plain.struct p.number p.members) right p.shape allowed in
-        let all : locations s v path ≡ map (λ rest. location s v (path ++ rest)) (scalar_paths t) = ap (λ (o : Option Tree). option_map_or (λ (t : Tree). map (λ rest. location s v (path ++ rest)) (scalar_paths t)) o []) shape in
-        ap (map capped) all
-        ∙ (narrow_locations s v path (scalar_paths t) (all_low path t along (place_is path (variable_type s v) (plain.struct p.number p.members) t p.shape along shape) (scalar_paths t) (scalars_along s t h)) few ∙ sym all)
+    pub placed_locations : (path : List ℕ) → Along s (plain.struct p.number p.members) path → shared_number s v.result ≤ most_variables → map capped (locations s v path) ≡ locations s v path
+    placed_locations path along few = by_shape (shape_along s v path) refl
+      where
+        by_shape : (o : Option Tree) → shape_along s v path ≡ o → map capped (option_map_or (λ (t : Tree). map (λ rest. location s v (path ++ rest)) (scalar_paths t)) o []) ≡ option_map_or (λ (t : Tree). map (λ rest. location s v (path ++ rest)) (scalar_paths t)) o []
+        by_shape None is = refl
+        by_shape (Some t) is =
+            narrow_locations s v path (scalar_paths t) (all_low path t along (place_is path (variable_type s v) (plain.struct p.number p.members) t p.shape along is) (scalar_paths t) (scalars_along s t)) few
+
+    -- by indexes that the types allow
+    allowed_here : (path : List ℕ) → AreConstants s → are_allowed s (variable_type s v) path ≡ true → Along s (plain.struct p.number p.members) path
+    allowed_here path right allowed = allowed_along s no_names p.layout path (variable_type s v) (plain.struct p.number p.members) right p.shape allowed
+
+    pub block_place : (path : List ℕ) → AreConstants s → are_allowed s (variable_type s v) path ≡ true → shared_number s v.result ≤ most_variables → capped (location s v path) ≡ location s v path
+    block_place path right allowed few = placed_location path (allowed_here path right allowed) few
+
+    pub block_places : (path : List ℕ) → AreConstants s → are_allowed s (variable_type s v) path ≡ true → shared_number s v.result ≤ most_variables → map capped (locations s v path) ≡ locations s v path
+    block_places path right allowed few = placed_locations path (allowed_here path right allowed) few
 
   -- workgroup variables have numbers alone
   by_class : (v : Inst) (path : List ℕ) (o : Option StorageClass) → o ≡ Some storage.Workgroup → shared_number s v.result ≤ most_variables

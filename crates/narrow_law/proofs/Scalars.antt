@@ -1,4 +1,4 @@
--- The ways to the scalars of what has a size lead along its parts.
+-- The ways to the scalars of a type lead along its parts.
 use Rattle.std.proofs.Common.{◌≡◌, ◌≤◌, ℕ, zero, suc, ◌+◌, List, [], ◌∷◌, ◌++◌, Option, Some, refl, ap, sym, subst, ◌∙◌, arith, map, flat_map}
 use Rattle.std.specs.Prelude.{option_and_then}
 use Rattle.std.specs.List.{range_with_len}
@@ -6,7 +6,6 @@ use Rattle.spv_module.specs.declared.tree.Elem.{Elem}
 use Rattle.spv_module.specs.declared.tree.Length.TheVariants.{Fixed, Spec}
 use Rattle.spv_types.specs.Tree as plain
 use Rattle.spv_types.specs.Tree.{Tree, Trees, no_trees, tree}
-use Rattle.spv_types.specs.Leaves.{IsSized, AreSized}
 use Rattle.op_semantics.specs.Fits.{elem_tree}
 use Rattle.value_words.specs.Words.{behind, scalar_paths, member_paths}
 use Rattle.module_semantics.specs.Setting.{Setting}
@@ -35,22 +34,22 @@ module _ (s : Setting) where
       (behind_along (plain.array t (Fixed n)) t a (scalar_paths t) refl (omega (arith, h)) tt each) (elements t n m (a + 1) (omega (arith, h)) each)
 
   mutual
-    pub scalars_along : (t : Tree) → IsSized t → AllAlong s t (scalar_paths t)
-    scalars_along plain.boolean h = (tt, tt)
-    scalars_along plain.int h = (tt, tt)
-    scalars_along plain.uint h = (tt, tt)
-    scalars_along (plain.vector e n) h = components e n n 0 (omega arith)
-    scalars_along (plain.array t (Fixed n)) h = elements t n n 0 (omega arith) (scalars_along t h)
-    scalars_along (plain.array t (Spec id)) h = absurd h
-    scalars_along (plain.runtime t) h = absurd h
-    scalars_along (plain.struct id ts) h = members_along id ts ts 0 h (λ i u at. ap (nth_of ts) (let none : 0 + i ≡ i = omega arith in none) ∙ at)
+    pub scalars_along : (t : Tree) → AllAlong s t (scalar_paths t)
+    scalars_along plain.boolean = (tt, tt)
+    scalars_along plain.int = (tt, tt)
+    scalars_along plain.uint = (tt, tt)
+    scalars_along (plain.vector e n) = components e n n 0 (omega arith)
+    scalars_along (plain.array t (Fixed n)) = elements t n n 0 (omega arith) (scalars_along t)
+    scalars_along (plain.array t (Spec id)) = tt
+    scalars_along (plain.runtime t) = tt
+    scalars_along (plain.struct id ts) = members_along id ts ts 0 (λ i u at. ap (nth_of ts) (let none : 0 + i ≡ i = omega arith in none) ∙ at)
 
-    members_along : (id : ℕ) (all ts : Trees) (k : ℕ) → AreSized ts → ((i : ℕ) (u : Tree) → nth_of ts i ≡ Some u → nth_of all (k + i) ≡ Some u) → AllAlong s (plain.struct id all) (member_paths k ts)
-    members_along id all no_trees k h at = tt
-    members_along id all (tree t ts) k h at =
+    members_along : (id : ℕ) (all ts : Trees) (k : ℕ) → ((i : ℕ) (u : Tree) → nth_of ts i ≡ Some u → nth_of all (k + i) ≡ Some u) → AllAlong s (plain.struct id all) (member_paths k ts)
+    members_along id all no_trees k at = tt
+    members_along id all (tree t ts) k at =
         both_along (plain.struct id all) (behind k (scalar_paths t)) (member_paths (k + 1) ts)
-        (behind_along (plain.struct id all) t k (scalar_paths t) (ap (nth_of all) (let none : k ≡ k + 0 = omega arith in none) ∙ at 0 t refl) tt tt (scalars_along t h.0))
-        (members_along id all ts (k + 1) h.1 (λ i u n. ap (nth_of all) (let next : k + 1 + i ≡ k + suc i = omega arith in next) ∙ at (suc i) u n))
+        (behind_along (plain.struct id all) t k (scalar_paths t) (ap (nth_of all) (let none : k ≡ k + 0 = omega arith in none) ∙ at 0 t refl) tt tt (scalars_along t))
+        (members_along id all ts (k + 1) (λ i u n. ap (nth_of all) (let next : k + 1 + i ≡ k + suc i = omega arith in next) ∙ at (suc i) u n))
 
   -- one way behind another
   pub along_more : (path : List ℕ) (t u : Tree) (rest : List ℕ) → Along s t path → place_shape t path ≡ Some u → Along s u rest → Along s t (path ++ rest)

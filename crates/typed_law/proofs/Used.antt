@@ -1,6 +1,6 @@
--- The types of constants and of what functions compute hold no runtime array, and no array whose length is a specialization constant (P17, P18).
+-- The types of constants and of what functions compute hold no runtime array, and no array whose length is a specialization constant (P17, P18); and blocks hold none but a runtime array as a member.
 use Rattle.std.proofs.Common.{◌≡◌, ◌<◌, ◌≤◌, ◌+◌, ◌==◌, ◌||◌, ◌&&◌, not, ℕ, zero, suc, Bool, true, false, List, [], ◌∷◌, ◌++◌, length, take, Option, Some, None, inl, inr, refl, sym, ap, subst, ◌∙◌, if◌then◌else◌, arith}
-use Rattle.std.specs.Prelude.{◌⊎◌, flat_map, slice_index, ◌-◌}
+use Rattle.std.specs.Prelude.{◌⊎◌, flat_map, option_map, slice_index, ◌-◌}
 use Rattle.std.specs.Option.{option_map_or}
 use Rattle.std.specs.List.{list_any, filter_map, cons_option}
 use Rattle.std.proofs.lemmas.Bool.Decides.{eqb_tells, nat_tests}
@@ -15,8 +15,8 @@ use Rattle.spv_module.specs.State.{ModuleState}
 use Rattle.spv_module.specs.Held.{global}
 use Rattle.spv_module.specs.Inst.{has_type, has_result}
 use Rattle.spv_module.specs.declared.inst.Inst.{Inst}
-use Rattle.spv_types.specs.Tree.{Tree}
-use Rattle.spv_types.specs.Types.{kind, ids_by_kind, tree_before, tree_at, type_tree, earlier}
+use Rattle.spv_types.specs.Tree.{Tree, runtime}
+use Rattle.spv_types.specs.Types.{kind, ids_by_kind, tree_by_kind, tree_before, tree_at, type_tree, earlier}
 use Rattle.spv_types.specs.Leaves.{IsSized}
 use Rattle.spv_types.proofs.Below.{tree_before_is}
 use Rattle.spv_decor.specs.Rows.{word}
@@ -30,7 +30,7 @@ use Rattle.plan_law.specs.InOrder.{IsAmong, AreRising}
 use Rattle.fits_law.proofs.Steps.{named}
 use Rattle.type_law.specs.Shaped.{EachFound}
 use Rattle.typed_law.specs.Conforms.{IsConforming}
-use Rattle.typed_law.proofs.Lists.{or_left, or_right, and_right, and_off, not_off, not_on, clash, no_true, same_some, found_in, earlier_some, from_zero}
+use Rattle.typed_law.proofs.Lists.{or_left, or_right, and_right, and_off, not_off, not_on, clash, no_true, same_some, both_on, found_in, earlier_some, from_zero}
 use Rattle.typed_law.proofs.Rules.{operand_there, global_there, used_type}
 use Rattle.typed_law.proofs.Types.{type_before, of_form}
 use Rattle.typed_law.proofs.Sized.{rising_low, sized_by}
@@ -106,7 +106,7 @@ array_part code.TypeArray [] e inside = absurd (omega (arith, inside))
 array_part code.TypeArray (a ∷ args) e inside = or_on_left (a == a) false (grind (arith, nat_tests))
 array_part o args e inside = cc
 
-struct_part : (o : Op) (args : List ℕ) (p : ℕ) → is o code.TypeStruct ≡ true → is_among args p ≡ true → is_among (option_map_or (λ (ids : List ℕ). ids) (ids_by_kind (kind o) args) []) p ≡ true
+pub struct_part : (o : Op) (args : List ℕ) (p : ℕ) → is o code.TypeStruct ≡ true → is_among args p ≡ true → is_among (option_map_or (λ (ids : List ℕ). ids) (ids_by_kind (kind o) args) []) p ≡ true
 unfolding kind number
 struct_part code.TypeStruct args p e there = there
 struct_part o args p e there = cc
@@ -115,6 +115,36 @@ array_least : (o : Op) (n : ℕ) → is o code.TypeArray ≡ true → (shape o).
 unfolding number shape
 array_least code.TypeArray n is_it le = omega (arith, le)
 array_least o n e le = cc
+
+-- the part of a runtime array
+no_struct : (o : Op) (b : Bool) → is o code.TypeRuntimeArray ≡ true → ((is o code.TypeStruct) && b) ≡ false
+unfolding number
+no_struct code.TypeRuntimeArray b e = refl
+no_struct o b e = cc
+
+runtime_part : (o : Op) (args : List ℕ) → is o code.TypeRuntimeArray ≡ true → 0 < length args → is_among (option_map_or (λ (ids : List ℕ). ids) (ids_by_kind (kind o) args) []) (slice_index args 0) ≡ true
+unfolding kind number
+runtime_part code.TypeRuntimeArray [] e inside = absurd (omega (arith, inside))
+runtime_part code.TypeRuntimeArray (a ∷ args) e inside = or_on_left (a == a) false (grind (arith, nat_tests))
+runtime_part o args e inside = cc
+
+runtime_least : (o : Op) (n : ℕ) → is o code.TypeRuntimeArray ≡ true → (shape o).least ≤ 1 + count_of (has_type o) + count_of (has_result o) + n → 0 < n
+unfolding number shape
+runtime_least code.TypeRuntimeArray n is_it le = omega (arith, le)
+runtime_least o n e le = cc
+
+runtime_shape : (gs : List Inst) (before : ℕ → Option Tree) (g : Inst) (o : Op) (u : Tree) → is o code.TypeRuntimeArray ≡ true → tree_by_kind gs before g (kind o) ≡ Some u → (t : Tree) × (before (slice_index g.args 0) ≡ Some t) × (u ≡ runtime t)
+unfolding kind number
+runtime_shape gs before g code.TypeRuntimeArray u on e = by_part (before (slice_index g.args 0)) refl e
+  where
+    by_part : (q : Option Tree) → before (slice_index g.args 0) ≡ q → option_map runtime q ≡ Some u → (t : Tree) × (before (slice_index g.args 0) ≡ Some t) × (u ≡ runtime t)
+    by_part None is e = cc
+    by_part (Some t) is e = (t, is, sym (same_some (runtime t) u e))
+runtime_shape gs before g o u on e = cc
+
+-- what has values, or is a runtime array of what has
+abbrev pub IsMemberSized : Tree → Type 0
+IsMemberSized u = IsSized u ⊎ ((t : Tree) × (u ≡ runtime t) × IsSized t)
 
 module _ (m : ModuleState) (entry : Option (List ℕ)) (right : IsConforming m entry) where
   abbrev Gs : List Inst
@@ -172,37 +202,41 @@ module _ (m : ModuleState) (entry : Option (List ℕ)) (right : IsConforming m e
     no_block : ((is g.op code.TypeStruct) && is_block m.heads g.result) ≡ false
     no_runtime : is g.op code.TypeRuntimeArray ≡ false
 
+  unblocked : (g : Inst) → IsAmong g Gs → is_among (block_misuses m) g.result ≡ true → ((is g.op code.TypeStruct) && is_block m.heads g.result) ≡ false
+  unblocked g there blocks =
+      let a = (is g.op code.TypeStruct) && is_block m.heads g.result in
+      no_true a (λ on. clash (sym (both_on a (is_among (block_misuses m) g.result) on blocks) ∙ or_left (a && is_among (block_misuses m) g.result) ((is g.op code.TypeRuntimeArray) && is_among (runtime_misuses m) g.result) (used_type m entry right g there)))
+
   misused : (g : Inst) → IsAmong g Gs → (is_among (block_misuses m) g.result ≡ true) → (is_among (runtime_misuses m) g.result ≡ true) → (((is g.op code.TypeStruct) && is_block m.heads g.result) ≡ false) × (is g.op code.TypeRuntimeArray ≡ false)
   misused g there blocks runtimes =
-      let a = (is g.op code.TypeStruct) && is_block m.heads g.result in
-      let w = used_type m entry right g there in (
-        no_true a (λ on. clash (sym (both_on a (is_among (block_misuses m) g.result) on blocks) ∙ or_left (a && is_among (block_misuses m) g.result) ((is g.op code.TypeRuntimeArray) && is_among (runtime_misuses m) g.result) w)),
-        no_true (is g.op code.TypeRuntimeArray) (λ on. clash (sym (both_on (is g.op code.TypeRuntimeArray) (is_among (runtime_misuses m) g.result) on runtimes) ∙ or_right (a && is_among (block_misuses m) g.result) ((is g.op code.TypeRuntimeArray) && is_among (runtime_misuses m) g.result) w)),
+      let a = (is g.op code.TypeStruct) && is_block m.heads g.result in (
+        unblocked g there blocks,
+        no_true (is g.op code.TypeRuntimeArray) (λ on. clash (sym (both_on (is g.op code.TypeRuntimeArray) (is_among (runtime_misuses m) g.result) on runtimes) ∙ or_right (a && is_among (block_misuses m) g.result) ((is g.op code.TypeRuntimeArray) && is_among (runtime_misuses m) g.result) (used_type m entry right g there))),
       )
-    where
-      both_on : (a b : Bool) → a ≡ true → b ≡ true → (a && b) ≡ true
-      both_on true b on e = e
-      both_on false b on e = cc
 
-  used_part : (g : Inst) → IsAmong g Gs → IsUsed g → (p : ℕ) (h : Inst) → is_among (parts_of g) p ≡ true → global Gs p ≡ Some h → IsUsed h
-  used_part g there used p h part at =
-      let own : h.result ≡ p = named Gs p h at in
-      let among : is_among (parts_of g) h.result ≡ true = subst (λ x. is_among (parts_of g) x ≡ true) (sym own) part in
-      let fixed : is_among (fixed_parts m g) h.result ≡ true = by_storage (is g.op code.TypeStruct) (is_block m.heads g.result) (not (is_among (pointees m (λ v. not (is_storage_block m.heads m.globals v))) g.result)) used.no_block among in
-      let blocks : is_among (block_misuses m) h.result ≡ true =
+  -- a part of a type of the module
+  part_among : (g : Inst) (p : ℕ) (h : Inst) → is_among (parts_of g) p ≡ true → global Gs p ≡ Some h → is_among (parts_of g) h.result ≡ true
+  part_among g p h part at = subst (λ x. is_among (parts_of g) x ≡ true) (sym (named Gs p h at)) part
+
+  part_blocks : (g : Inst) → IsAmong g Gs → (h : Inst) → is_among (parts_of g) h.result ≡ true → is_among (block_misuses m) h.result ≡ true
+  part_blocks g there h among =
       among_left (flat_map parts_of Gs ++ pointees m (λ v. not (is_some_block m.heads m.globals v)) ++ value_types m) (signature_types m) h.result
       (among_left (flat_map parts_of Gs ++ pointees m (λ v. not (is_some_block m.heads m.globals v))) (value_types m) h.result
-      (among_left (flat_map parts_of Gs) (pointees m (λ v. not (is_some_block m.heads m.globals v))) h.result (among_flat parts_of Gs g h.result there among))) in
+      (among_left (flat_map parts_of Gs) (pointees m (λ v. not (is_some_block m.heads m.globals v))) h.result (among_flat parts_of Gs g h.result there among)))
+
+  part_held : (g : Inst) → IsAmong g Gs → is_held Gs (other_types m) g.result ≡ true → (h : Inst) → is_among (parts_of g) h.result ≡ true → is_held Gs (other_types m) h.result ≡ true
+  part_held g there holds h among = closed Gs (other_types m) 0 right.rising (λ k k_in. (k_in, global_found k k_in)) g there holds h.result among
+
+  part_used : (g : Inst) → IsAmong g Gs → is_held Gs (other_types m) g.result ≡ true → ((is g.op code.TypeStruct) && is_block m.heads g.result) ≡ false → (p : ℕ) (h : Inst) → is_among (parts_of g) p ≡ true → global Gs p ≡ Some h → IsUsed h
+  part_used g there holds no_block p h part at =
+      let among : is_among (parts_of g) h.result ≡ true = part_among g p h part at in
+      let fixed : is_among (fixed_parts m g) h.result ≡ true = by_storage (is g.op code.TypeStruct) (is_block m.heads g.result) (not (is_among (pointees m (λ v. not (is_storage_block m.heads m.globals v))) g.result)) no_block among in
       let runtimes : is_among (runtime_misuses m) h.result ≡ true =
       among_left (flat_map (fixed_parts m) Gs ++ pointees m (λ v. true) ++ value_types m) (signature_types m) h.result
       (among_left (flat_map (fixed_parts m) Gs ++ pointees m (λ v. true)) (value_types m) h.result
       (among_left (flat_map (fixed_parts m) Gs) (pointees m (λ v. true)) h.result (among_flat (fixed_parts m) Gs g h.result there fixed))) in
-      let w = misused h (found_in Gs p h at) blocks runtimes in
-      record {
-        holds = closed Gs (other_types m) 0 right.rising (λ k k_in. (k_in, global_found k k_in)) g there used.holds h.result among;
-        no_block = w.0;
-        no_runtime = w.1;
-      }
+      let w = misused h (found_in Gs p h at) (part_blocks g there h among) runtimes in
+      record { holds = part_held g there holds h among; no_block = w.0; no_runtime = w.1 }
     where
       by_storage : (a b c : Bool) → (a && b) ≡ false → is_among (parts_of g) h.result ≡ true → is_among (if a && (b && c) then take (length g.args - 1) g.args else parts_of g) h.result ≡ true
       by_storage true true c none there = cc
@@ -227,7 +261,7 @@ module _ (m : ModuleState) (entry : Option (List ℕ)) (right : IsConforming m e
       where
         by_earlier : (o : Option Inst) → earlier Gs g.at p ≡ o → option_map_or (tree_at Gs) o None ≡ Some u → IsSized u
         by_earlier None at e = cc
-        by_earlier (Some h) at e = let w = earlier_some Gs g.at p h at in known h (found_in Gs p h w.0) w.1 (used_part g there used p h part w.0) u e
+        by_earlier (Some h) at e = let w = earlier_some Gs g.at p h at in known h (found_in Gs p h w.0) w.1 (part_used g there used.holds used.no_block p h part w.0) u e
 
     used_whole : (t : Tree) → tree_at Gs g ≡ Some t → IsSized t
     used_whole t shape =
@@ -312,3 +346,38 @@ module _ (m : ModuleState) (entry : Option (List ℕ)) (right : IsConforming m e
           let w = misused g (found_in Gs q g at) blocks runtimes in
           used_by (suc g.at) g (found_in Gs q g at) (let less : g.at < suc g.at = omega arith in less)
           (record { holds = held_own Gs (other_types m) g.result (among_left (pointees m (λ v. not (is_workgroup v))) (value_types m) g.result (mine (λ v. not (is_workgroup v)) (ap not own))); no_block = w.0; no_runtime = w.1 }) t e
+
+  -- a part of what no variable of a workgroup points to
+  member_of : (g : Inst) → IsAmong g Gs → is_held Gs (other_types m) g.result ≡ true → (p : ℕ) (h : Inst) → is_among (parts_of g) p ≡ true → global Gs p ≡ Some h → (u : Tree) → tree_at Gs h ≡ Some u → IsMemberSized u
+  member_of g there holds p h part at u shape = by_test (is h.op code.TypeRuntimeArray) refl
+    where
+      h_in : IsAmong h Gs
+      h_in = found_in Gs p h at
+
+      among : is_among (parts_of g) h.result ≡ true
+      among = part_among g p h part at
+
+      h_holds : is_held Gs (other_types m) h.result ≡ true
+      h_holds = part_held g there holds h among
+
+      by_element : (on : is h.op code.TypeRuntimeArray ≡ true) (t : Tree) (o : Option Inst) → earlier Gs h.at (slice_index h.args 0) ≡ o → option_map_or (tree_at Gs) o None ≡ Some t → IsSized t
+      by_element on t None found e = cc
+      by_element on t (Some k) found e =
+          let w = earlier_some Gs h.at (slice_index h.args 0) k found in
+          let inside : 0 < length h.args = runtime_least h.op (length h.args) on (right.formed h h_in).least in
+          used_by (suc k.at) k (found_in Gs (slice_index h.args 0) k w.0) (let less : k.at < suc k.at = omega arith in less)
+          (part_used h h_in h_holds (no_struct h.op (is_block m.heads h.result) on) (slice_index h.args 0) k (runtime_part h.op h.args on inside) w.0) t e
+
+      by_test : (b : Bool) → is h.op code.TypeRuntimeArray ≡ b → IsMemberSized u
+      by_test false off =
+          inl (used_by (suc h.at) h h_in (let less : h.at < suc h.at = omega arith in less) (record { holds = h_holds; no_block = unblocked h h_in (part_blocks g there h among); no_runtime = off }) u shape)
+      by_test true on =
+          let w = runtime_shape Gs (tree_before Gs h.at) h h.op u on shape in
+          inr (w.0, w.2, by_element on w.0 (earlier Gs h.at (slice_index h.args 0)) refl (sym (tree_before_is Gs h.at (slice_index h.args 0)) ∙ w.1))
+
+  -- so has each part of the type that a variable points to which is not of class Workgroup
+  pub member_sized : (v : Inst) (q : ℕ) (g : Inst) → IsAmong v (body_insts m) → is_variable v ≡ true → is_workgroup v ≡ false → pointee Gs v.ty ≡ Some q → global Gs q ≡ Some g → (p : ℕ) (h : Inst) → is_among (parts_of g) p ≡ true → global Gs p ≡ Some h → (u : Tree) → tree_at Gs h ≡ Some u → IsMemberSized u
+  member_sized v q g there on own points at p h part found u shape =
+      let among : is_among (pointees m (λ v. not (is_workgroup v))) q ≡ true = pointee_among (λ v. not (is_workgroup v)) (body_insts m) v q there on (ap not own) points in
+      let mine : is_among (pointees m (λ v. not (is_workgroup v))) g.result ≡ true = subst (λ x. is_among (pointees m (λ v. not (is_workgroup v))) x ≡ true) (sym (named Gs q g at)) among in
+      member_of g (found_in Gs q g at) (held_own Gs (other_types m) g.result (among_left (pointees m (λ v. not (is_workgroup v))) (value_types m) g.result mine)) p h part found u shape
