@@ -17,3 +17,4 @@ pub mod Meets
 pub mod Parts
 pub mod Kinded
 pub mod Switching
+pub mod Steps

@@ -98,7 +98,7 @@ either_right : (a b : Bool) → b ≡ true → (a || b) ≡ true
 either_right true b on = refl
 either_right false b on = on
 
-nth_has : (ts : Trees) (k : ℕ) (v : Tree) (n : ℕ) → nth_of ts k ≡ Some v → has_struct n v ≡ true → have_struct n ts ≡ true
+pub nth_has : (ts : Trees) (k : ℕ) (v : Tree) (n : ℕ) → nth_of ts k ≡ Some v → has_struct n v ≡ true → have_struct n ts ≡ true
 nth_has no_trees k v n at has = cc
 nth_has (tree t ts) zero v n at has = either_left (has_struct n t) (have_struct n ts) (ap (has_struct n) (same_some t v at) ∙ has)
 nth_has (tree t ts) (suc k) v n at has = either_right (has_struct n t) (have_struct n ts) (nth_has ts k v n at has)
