@@ -18,3 +18,4 @@ pub mod Parts
 pub mod Kinded
 pub mod Switching
 pub mod Steps
+pub mod Chains
