@@ -10,8 +10,8 @@ use Rattle.function_plan.specs.Moved.{items_at}
 use Rattle.function_plan.proofs.Lone.{moves_one}
 use Rattle.function_plan.proofs.moves.Phis.moves_of_one.Goals as goal
 
-pub returns-in-Some : goal.returns-in-Some
-returns-in-Some c =
+pub returns-in_ok-list-in-Some : goal.returns-in_ok-list-in-Some
+returns-in_ok-list-in-Some c =
     let gs = c.args.self.now.«module».now.globals in
     let f = c.args.self.now.locals.now in
     let phi = c.in-Some.phi.now in
