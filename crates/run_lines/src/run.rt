@@ -43,7 +43,7 @@ pub fn run_lines<R: Runner>(
 
 /// The same of a program, each invocation of which makes as many steps as the case allows. Where its invocations stand is not given
 /// back, since nothing is run behind this.
-pub fn run_program<P: Program>(
+pub fn run_program<P: Program + Drop>(
     alloc: Global,
     program: P,
     case: &Case,

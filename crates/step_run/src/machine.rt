@@ -11,6 +11,7 @@ use std::alloc::Global;
 
 /// A runner of invocations of a program, each within so many steps. Where each stands is kept, so that none is run again from its
 /// start.
+#[derive(Drop)]
 pub struct Machine<P: Program> {
     alloc: Global,
     program: P,
