@@ -7,4 +7,5 @@ mod whole;
 
 pub use dispatch_case::Case;
 pub use group_items::{End, Event, Invocation, LeafPlace, Pause, RmwKind, Runner, Stop, Store};
+pub use start::first_memory;
 pub use whole::{Outcome, dispatch};

@@ -70,8 +70,9 @@ fn put_buffers(
     Ok(())
 }
 
-/// The memory at the start.
-fn memory(alloc: Global, groups: usize, case: &Case) -> Result<Store, Memory>
+/// The memory at the start, for so many workgroups: the words of buffers and push constants, and 0 elsewhere. There is an error only
+/// for want of memory.
+pub fn first_memory(alloc: Global, groups: usize, case: &Case) -> Result<Store, Memory>
     requires some { 0 < groups }
     requires buffers { IsTrue (list_all (λ b. is_short b.2) (map buffer_view case.now.buffers.items)) }
     requires push { length case.now.push.items ≤ most_numbers }
@@ -239,7 +240,7 @@ pub fn begin<R: Runner>(
     Ok(Play {
         group: extent.group,
         passed: zeros(alloc, extent.count)?,
-        store: memory(alloc, extent.groups, case)?,
+        store: first_memory(alloc, extent.groups, case)?,
         events: Vec::new(alloc),
         weight: 0,
     })

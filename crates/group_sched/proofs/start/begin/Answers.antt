@@ -40,8 +40,8 @@ begin_all-requires g c κs within =
       ),
     )
 
-pub memory-requires-clause-some : goal.memory-requires-clause-some
-memory-requires-clause-some g c =
+pub first_memory-requires-clause-some : goal.first_memory-requires-clause-some
+first_memory-requires-clause-some g c =
     subst (λ n. 0 < n) (sym c.requires.start.extent.groups) (product_above (triple_of c.args.case.now.groups) (groups_above (parts_of c.args.case.now) c.requires.start.fine))
 
 pub returns-clause-at : goal.returns-clause-at
@@ -52,14 +52,14 @@ returns-clause-at g c =
     let e = c.requires.start.extent in
     let zeros = c.in_ok-zeros.ensures in
     begins (setup_of parts size special) (g.R.Runner.at c.begin_all.new.side)
-    (record { group = c.args.extent.group; passed = c.in_ok-zeros.field-0; store = c.in_ok-memory.field-0; events = c.new.result; weight = 0 })
+    (record { group = c.args.extent.group; passed = c.in_ok-zeros.field-0; store = c.in_ok-first_memory.field-0; events = c.new.result; weight = 0 })
     (ap length zeros ∙ length-replicate c.args.extent.count 0 ∙ e.count)
     (λ i less. ap (λ (xs : List ℕ). slice_index xs i) zeros ∙ get_or-replicate c.args.extent.count i 0 0 (subst (λ n. i < n) (sym e.count) less))
     e.group
     (product_above size c.requires.start.above)
-    (λ i less. subst (λ n. i / product size < n) (sym (c.in_ok-memory.ensures.rooms ∙ e.groups)) (div_below i (product size) (product parts.groups) (product_above size c.requires.start.above) less))
+    (λ i less. subst (λ n. i / product size < n) (sym (c.in_ok-first_memory.ensures.rooms ∙ e.groups)) (div_below i (product size) (product parts.groups) (product_above size c.requires.start.above) less))
     (λ i less. c.in_ok-begin_all.ensures.begun i (subst (λ n. i < n) (sym e.count) less)
     ∙ ap (λ (zs : List (ℕ × ℕ × ℕ)). fresh (invocation (record { groups = parts.groups; size = size; buffer_bytes = bytes_in zs; specialization = special }) i)) c.requires.sizes)
-    (sym c.in_ok-memory.ensures.words)
+    (sym c.in_ok-first_memory.ensures.words)
     c.new.ensures.items
     refl
