@@ -5,4 +5,4 @@ mod lines;
 mod rows;
 mod run;
 
-pub use run::{run_lines, run_program};
+pub use run::{run_program, run_side};

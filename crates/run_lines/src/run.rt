@@ -60,7 +60,7 @@ fn dispatch_lines<R: Runner>(
 /// `cut` and that. A workgroup has the size `size`; the side has no invocation yet, and is one of runs within some number of
 /// steps or turns. `Stop::Invocations` comes exactly where there are more than 1024 invocations, `Stop::Events` exactly where
 /// events and their scalars, added, are more than 1048576.
-pub fn run_lines<R: Runner>(
+pub fn run_side<R: Runner>(
     alloc: Global,
     side: &mut R,
     case: &Case,
@@ -96,5 +96,5 @@ pub fn run_program<P: Program + Drop>(
     ensures events { IsErrOf result Stop.Events → IsTooMuch (setup_of (parts_of case.now) (triple_of size) (get nat_cmp special)) (walks (P.walk program) case.now.steps) case.now.first.items }
 {
     let mut machine = Machine::new(alloc, program, case.steps as usize);
-    run_lines(alloc, &mut machine, case, size, special)
+    run_side(alloc, &mut machine, case, size, special)
 }
