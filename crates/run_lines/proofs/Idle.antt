@@ -1,12 +1,10 @@
 -- A case without invocations.
-use Rattle.std.proofs.Common.{◌≡◌, ℕ, ◌<◌, ◌≤◌, ◌*◌, List, [], ◌∷◌, Bool, true, false, cond, length, nat_lt, refl, sym, ap, subst, ◌∙◌, arith, mul-zero, zero-mul}
+use Rattle.std.proofs.Common.{◌≡◌, ℕ, ◌<◌, ◌*◌, List, [], ◌∷◌, ◌++◌, false, cond, Option, nat_lt, refl, sym, ap, subst, ◌∙◌, arith, mul-zero, zero-mul}
 use Rattle.std.proofs.lemmas.Bool.Decides.{nat_tests}
-use Rattle.traces.specs.Events.{Event}
 use Rattle.traces.specs.Invocations.{Triple}
 use Rattle.dispatch_semantics.specs.Grid.{product}
-use Rattle.dispatch_semantics.specs.Dispatch.{DispatchRun}
 use Rattle.group_items.specs.Sides.{Runs}
-use Rattle.group_items.specs.Schedule.{Setup, among, schedule, first_state, now, number_of, side, Comes, EndsBy}
+use Rattle.group_items.specs.Schedule.{Setup, among, schedule, Comes}
 use Rattle.group_items.specs.declared.schedule.End.TheVariants.{Ended}
 use Rattle.dispatch_case.specs.Cases.{CaseParts}
 use Rattle.group_sched.specs.Start.{setup_of, first_store}

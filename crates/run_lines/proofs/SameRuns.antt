@@ -1,12 +1,12 @@
 -- Dispatches whose invocations run alike come to the same.
-use Rattle.std.proofs.Common.{◌≡◌, ◌∙◌, ℕ, ◌<◌, List, [], sym, subst, ap}
+use Rattle.std.proofs.Common.{◌≡◌, ◌∙◌, ℕ, List, [], sym, subst}
 use Rattle.std.specs.Prelude.{Option}
 use Rattle.traces.specs.Events as trace
 use Rattle.traces.specs.Invocations.{Triple}
 use Rattle.dispatch_semantics.specs.Store.{Store}
 use Rattle.dispatch_semantics.specs.Dispatch.{State, Side, of_module, IsMove, HasEnded, IsStay, DispatchRun}
 use Rattle.group_items.specs.Sides.{Runs}
-use Rattle.group_items.specs.Schedule.{Setup, number_of, first_state, side, now, Goes, IsStillRound, HasEndedFreely, IsNeither, IsUndefined, EndsBy, Comes, IsTooMuch}
+use Rattle.group_items.specs.Schedule.{Setup, number_of, first_state, side, now, Goes, IsStillRound, HasEndedFreely, IsNeither, EndsBy, Comes, IsTooMuch}
 use Rattle.group_items.specs.declared.schedule.End.{End}
 use Rattle.group_items.specs.declared.schedule.End.TheVariants.{Ended, Waiting, Undefined, Cut}
 use Rattle.dispatch_case.specs.Cases.{CaseParts}

@@ -58,12 +58,7 @@ fn push_row(alloc: Global, text: &mut String, store: &Store, row: Row) -> Result
     Ok(())
 }
 
-fn push_rows(
-    alloc: Global,
-    text: &mut String,
-    store: &Store,
-    rows: &[Row],
-) -> Result<(), Memory>
+fn push_rows(alloc: Global, text: &mut String, store: &Store, rows: &[Row]) -> Result<(), Memory>
     ensures { OnOk result (string_bytes text.new ≡ string_bytes text.old ++ flat_map (row_line (words_in store.now)) rows.now) }
 {
     for row in rows {

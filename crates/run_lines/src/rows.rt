@@ -29,10 +29,7 @@ fn rows_of(alloc: Global, buffers: &[(u32, u32, Vec<u32>)]) -> Result<Vec<Row>, 
 }
 
 /// The buffers in the order of their sets, and in a set of their bindings.
-pub fn rows_in_order(
-    alloc: Global,
-    buffers: &[(u32, u32, Vec<u32>)],
-) -> Result<Vec<Row>, Memory>
+pub fn rows_in_order(alloc: Global, buffers: &[(u32, u32, Vec<u32>)]) -> Result<Vec<Row>, Memory>
     requires { IsTrue (list_all (λ b. is_short b.2) (map buffer_view buffers.now)) }
     ensures { IfOk result (λ rows. AreInOrder (map buffer_view buffers.now) rows.items) }
 {

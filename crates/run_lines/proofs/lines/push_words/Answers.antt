@@ -1,9 +1,8 @@
-use Rattle.std.proofs.Common.{◌≡◌, ◌∙◌, ◌++◌, ℕ, List, ap, sym, string_bytes}
+use Rattle.std.proofs.Common.{◌∙◌, ◌++◌, ℕ, List, ap, sym, string_bytes}
 use Rattle.std.proofs.lemmas.List.{flat_map_more}
 use Rattle.std.specs.Prelude.{codes}
 use Rattle.std.specs.Fmt.{decimal}
 use Rattle.std.specs.List.{flat_map}
-use Rattle.traces.specs.Events.{Location}
 use Rattle.dispatch_semantics.specs.Store.{found_at}
 use Rattle.group_items.proofs.Naming.{turn_more}
 use Rattle.group_items.specs.Schedule.{turn}
