@@ -84,9 +84,9 @@ fn taken_kind(module: &Module, decor: &Decor, first: Kind, members: &[Member]) -
     }
 }
 
-/// The plan of a variable with this block.
+/// The plan of a variable with this block, as `check_block` makes it of a block variable, and refuses it.
 #[tactic(auto, using(crate::proofs::Taken::plan_rules))]
-fn plan_of(
+pub fn plan_of(
     alloc: Global,
     module: &Module,
     decor: &Decor,

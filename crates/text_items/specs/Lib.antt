@@ -3,7 +3,6 @@ pub mod Names
 pub mod Wording
 pub mod Globals
 pub mod Plain
-pub mod Blocks
 pub mod Claimed
 pub mod View
 pub mod Asked

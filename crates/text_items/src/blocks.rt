@@ -1,18 +1,17 @@
 // The declarations of blocks (GLSL 4.60, section 4.3.9).
 ghost use Rattle.std.specs.Prelude.{◌≡◌, IfOk, Some, map};
 ghost use Rattle.std.specs.List.{enumerate_from};
-ghost use Rattle.layout_rules.specs.Blocks.{block_of, kind_at};
+ghost use Rattle.layout_rules.specs.Blocks.{kind_at};
 ghost use Rattle.glsl_ast.specs.View.{decl_of, member_of, type_of};
 ghost use Rattle.text_rules.specs.Declarations.{type_at as type_at_of, is_buffer as is_buffer_variable, place_of as place_of_variable, rules_by as rules_by_kind, member_decl, block_decl};
 ghost use Rattle.text_items.specs.Names.{item_names};
-ghost use Rattle.text_items.specs.Blocks.{is_like as is_like_inst, is_found as is_found_in};
 
 use crate::Written;
 use crate::constants::type_at;
 use crate::numbers::counted;
 use crate::qualifiers::{member_qualifiers, variable_qualifiers};
 use crate::wording::Wording;
-use buffer_layout::{Kind, check_block, is_block_variable};
+use buffer_layout::{Kind, plan_of};
 use constant_text::name;
 use glsl_ast::{BlockPlace, BlockRules, Decl, Member, TypeName};
 use name_alloc::{Key, Names};
@@ -55,25 +54,8 @@ fn rules_by(kind: Kind) -> BlockRules
     }
 }
 
-/// Whether an instruction has the opcode, the type and the first operand of another.
-fn is_like(inst: &Inst, other: &Inst) -> bool
-    ensures { result ≡ is_like_inst inst.now other.now }
-{
-    other.op == inst.op && other.ty == inst.ty && other.operand(0) == inst.operand(0)
-}
-
-/// Whether the first global with the id of this one is like it.
-fn is_found(module: &Module, inst: &Inst) -> bool
-    ensures { result ≡ is_found_in «module».now.globals inst.now }
-{
-    match module.global(Id(inst.result)) {
-        None => false,
-        Some(found) => is_like(inst, found),
-    }
-}
-
-/// The rules by which the block of a variable is laid out, std430 where none fits. There is an error for want of memory, where a
-/// type passes a limit, or where another global has the variable's id.
+/// The rules by which the block of a variable is laid out, std430 where none fits. There is an error for want of memory, or where
+/// a type passes a limit.
 #[tactic(auto, using(crate::proofs::Taken::kind_rules))]
 fn rules_of(
     alloc: Global,
@@ -82,17 +64,9 @@ fn rules_of(
     variable: &Inst,
     block: &Inst,
 ) -> Result<BlockRules, Memory>
-    requires { block_of «module».now.globals variable.now ≡ Some block.now }
     ensures { IfOk result (λ rules. rules ≡ rules_by_kind (kind_at decor.now «module».now.globals variable.now block.now)) }
 {
-    let id = Id(variable.result);
-    if !is_found(module, variable) {
-        return Err(Memory);
-    }
-    if !is_block_variable(module, id) {
-        return Err(Memory);
-    }
-    match check_block(alloc, module, decor, id) {
+    match plan_of(alloc, module, decor, variable, block) {
         Ok(plan) => Ok(rules_by(plan.kind)),
         Err(Fault::Refused(_)) => Ok(BlockRules::Std430),
         Err(Fault::Limit(_) | Fault::Memory) => Err(Memory),
@@ -166,7 +140,6 @@ pub fn declare_block(
     variable: &Inst,
     block: &Inst,
 ) -> Result<Decl, Memory>
-    requires { block_of written.now.source.of.globals variable.now ≡ Some block.now }
     ensures { IfOk result (λ d. decl_of d ≡ block_decl written.now.source (item_names written.now.source names.now) variable.now block.now) }
 {
     let id = Id(variable.result);
