@@ -19,3 +19,4 @@ pub mod Kinded
 pub mod Switching
 pub mod Steps
 pub mod Chains
+pub mod Sets
