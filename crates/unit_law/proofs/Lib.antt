@@ -20,3 +20,5 @@ pub mod Switching
 pub mod Steps
 pub mod Chains
 pub mod Sets
+pub mod Kept
+pub mod Carried

@@ -1,8 +1,7 @@
 -- What is asked of names where a result gets a value, and where the index of a chain is written or kept.
-use Rattle.std.proofs.Common.{◌≡◌, ◌<◌, ◌≤◌, ◌+◌, ◌==◌, ◌&&◌, ◌||◌, not, ℕ, zero, suc, Bool, true, false, List, [], ◌∷◌, length, drop, filter, map, Option, Some, None, unwrap_or, inl, inr, refl, sym, ap, ◌∙◌, subst, arith, if◌then◌else◌}
-use Rattle.std.specs.Prelude.{nat_le, nat_lt, slice_get, slice_index, slice_index_or}
+use Rattle.std.proofs.Common.{◌≡◌, ◌+◌, ◌==◌, ◌&&◌, ◌||◌, not, ℕ, suc, Bool, true, false, List, Option, Some, None, unwrap_or, refl, sym, ap, ◌∙◌, subst, arith}
+use Rattle.std.specs.Prelude.{nat_le, slice_get, slice_index, slice_index_or}
 use Rattle.std.specs.Option.{option_map_or}
-use Rattle.std.specs.List.{enumerate_from}
 use Rattle.std.proofs.lemmas.Bool.Decides.{nat_tests}
 use Rattle.spv_ops.specs.Opcode.{is, number}
 use Rattle.spv_ops.specs.OpGroups.{takes_of, group_of}
@@ -11,7 +10,6 @@ use Rattle.spv_ops.specs.Groups.{is_chain}
 use Rattle.spv_ops.specs.declared.Op.{Op}
 use Rattle.spv_ops.specs.declared.Op.TheVariants as code
 use Rattle.spv_module.specs.Lists.{id}
-use Rattle.spv_module.specs.Held.{global}
 use Rattle.spv_module.specs.declared.inst.Inst.{Inst}
 use Rattle.spv_module.specs.declared.inst.Block.{Block}
 use Rattle.spv_module.specs.declared.inst.Function.{Function}
@@ -23,29 +21,27 @@ use Rattle.structure_rules.specs.declared.graph.Node.{Node}
 use Rattle.structure_rules.specs.Graph.{graph, nth}
 use Rattle.conformance.specs.Rules.{Options}
 use Rattle.module_semantics.specs.Setting.{Setting}
-use Rattle.use_chains.specs.Slots.{inst_at, is_value, is_taken, is_label_reached, is_slot, IsLive}
+use Rattle.use_chains.specs.Slots.{inst_at, is_value, is_taken, is_label_reached, IsLive}
 use Rattle.hoist_plan.specs.declared.form.Form.{Form}
 use Rattle.hoist_plan.specs.declared.form.Form.TheVariants.{Gone, Forwarded, Local, Hoisted}
 use Rattle.hoist_plan.specs.Plan.{wants_by, is_elsewhere_by, repeats_operands}
 use Rattle.name_alloc.specs.declared.claims.Key.{Key}
-use Rattle.name_alloc.specs.declared.claims.Key.TheVariants.{Id, Captured}
+use Rattle.name_alloc.specs.declared.claims.Key.TheVariants.{Id}
 use Rattle.name_alloc.specs.Naming.{space_of, name_of}
 use Rattle.glsl_ast.specs.Tree.{Expr, name, TranslationUnit}
-use Rattle.access_paths.specs.Ways.{Spot, indexes, is_constant_index, captured_indexes, spot_of}
 use Rattle.expr_forward.specs.Scope.{Scope, type_of}
 use Rattle.expr_forward.specs.Paths.{index_expr}
-use Rattle.expr_forward.specs.Statements.{captured_of}
 use Rattle.expr_forward.specs.declared.kinds.InstKind.TheVariants as kind
 use Rattle.function_plan.specs.Phis.{is_gone}
 use Rattle.function_plan.specs.Planned.{has_name_by}
-use Rattle.function_text.specs.Functions.{FunctionPlan, written}
+use Rattle.function_text.specs.Functions.{FunctionPlan}
 use Rattle.emit_glsl.specs.Translation.{Naming, text_of, id_text}
 use Rattle.emit_glsl.specs.Unit.{source_of, claims_by, liveness_of, IsUnitOf}
 use Rattle.glsl_grammar.specs.Read.{is_declared}
 use Rattle.text_rules.specs.Printed.{is_written_struct}
 use Rattle.text_rules.specs.Declarations.{length_extent}
 use Rattle.spell_law.specs.Uses.{Words, UsesExpr, UsesExtent}
-use Rattle.spell_law.specs.Statements.{AsksSet, AskKept, MeetsInst}
+use Rattle.spell_law.specs.Statements.{AsksSet, MeetsInst}
 use Rattle.typed_law.specs.Conforms.{IsConforming}
 use Rattle.claim_law.specs.Claimed.{IsIn, IsOf, HasName}
 use Rattle.claim_law.proofs.Told.{named_is}

@@ -1,0 +1,150 @@
+-- Chains that other blocks mention are carried; and results that have a variable wherever they are live are named.
+use Rattle.std.proofs.Common.{◌≡◌, ◌==◌, ◌&&◌, ◌||◌, ◌++◌, not, ℕ, Bool, true, false, List, [], ◌∷◌, Option, Some, inl, inr, refl, sym, ap, ◌∙◌, subst, if◌then◌else◌}
+use Rattle.std.specs.Prelude.{◌⊎◌, slice_get, slice_index_or}
+use Rattle.std.specs.Option.{option_map_or}
+use Rattle.std.specs.List.{list_any}
+use Rattle.spv_ops.specs.Opcode.{is}
+use Rattle.spv_ops.specs.Groups.{is_chain}
+use Rattle.spv_ops.specs.declared.Op.TheVariants as code
+use Rattle.spv_module.specs.Lists.{id}
+use Rattle.spv_module.specs.declared.inst.Inst.{Inst}
+use Rattle.spv_module.specs.declared.inst.Block.{Block}
+use Rattle.spv_module.specs.declared.inst.Function.{Function}
+use Rattle.structure_rules.specs.declared.graph.Node.{Node}
+use Rattle.structure_rules.specs.Graph.{graph, nth}
+use Rattle.conformance.specs.Rules.{Options}
+use Rattle.module_semantics.specs.Setting.{Setting}
+use Rattle.use_chains.specs.declared.slot.SlotPlace.{SlotPlace}
+use Rattle.hoist_plan.specs.declared.form.Form.TheVariants.{Gone, Forwarded, Local, Hoisted}
+use Rattle.hoist_plan.specs.Plan.{Placed, user, results, is_elsewhere_by, is_live, is_value, is_always_named, is_named_by_use, own_height, is_named, is_hoisted, form_with, carries_by, carries, is_carried_with, is_base_unreached, carried_from}
+use Rattle.name_alloc.specs.declared.claims.Key.TheVariants.{Id}
+use Rattle.name_alloc.specs.Naming.{name_of}
+use Rattle.glsl_ast.specs.Tree.{TranslationUnit}
+use Rattle.expr_forward.specs.Scope.{Scope}
+use Rattle.function_plan.specs.Phis.{is_gone}
+use Rattle.function_text.specs.Functions.{FunctionPlan}
+use Rattle.emit_glsl.specs.Translation.{Naming, text_of}
+use Rattle.emit_glsl.specs.Unit.{IsUnitOf}
+use Rattle.plan_law.specs.Ordered.{AreOrdered}
+use Rattle.plan_law.proofs.Order.{in_order}
+use Rattle.typed_law.specs.Conforms.{IsConforming}
+use Rattle.claim_law.specs.Claimed.{IsIn}
+use Rattle.claim_law.proofs.Listed.{any_in}
+use Rattle.unit_law.specs.Mentioned.{IsMentioned}
+use Rattle.unit_law.specs.Words.{words_of, AreOfStructs}
+use Rattle.unit_law.proofs.Lists.{same_test, other_test, split_at}
+use Rattle.unit_law.proofs.Links.{mention_at, user_is, mention_stands}
+use Rattle.unit_law.proofs.Forms.{placed, is_placed, form_at}
+use Rattle.unit_law.proofs.Ways.{HaveKinds, F, R, V, plan_is, ordered, reached_nth, counts_here}
+use Rattle.unit_law.proofs.Sets.{formed_text}
+
+both_on : (a b : Bool) → a ≡ true → b ≡ true → (a && b) ≡ true
+both_on true b on e = e
+both_on false b on e = cc
+
+first_on : (a b : Bool) → a ≡ true → (a || b) ≡ true
+first_on true b on = refl
+first_on false b on = cc
+
+second_on : (a b : Bool) → b ≡ true → (a || b) ≡ true
+second_on true b on = refl
+second_on false b on = on
+
+module _ (f : Function) where
+  -- what is carried after some results is carried after all
+  carried_on : (front back : List Placed) (n : ℕ) → carried_from f back n ≡ true → carried_from f (front ++ back) n ≡ true
+  carried_on [] back n on = on
+  carried_on (p ∷ ps) back n on = by_test (is_carried_with f (carried_from f (ps ++ back)) p) (carried_on ps back n on)
+    where
+      by_test : (b : Bool) → carried_from f (ps ++ back) n ≡ true → elim b as (λ b. Bool) [ true ↦ carried_from f (ps ++ back) n || ((n == p.result) || is_base_unreached f p n) | false ↦ carried_from f (ps ++ back) n ] ≡ true
+      by_test true on = first_on (carried_from f (ps ++ back) n) ((n == p.result) || is_base_unreached f p n) on
+      by_test false on = on
+
+  -- a chain that is mentioned in another block than its own
+  carried_elsewhere : (ps : List Placed) (p : Placed) (at : SlotPlace) (i : Inst) → IsIn p ps → is_chain p.op ≡ true → IsIn at p.mentions → user f at ≡ Some i → is_elsewhere_by f p.block at i ≡ true → carried_from f ps p.result ≡ true
+  carried_elsewhere ps p at i among chain mentioned there elsewhere =
+      let w = split_at ps p among in
+      subst (λ (qs : List Placed). carried_from f qs p.result ≡ true) (sym w.2) (carried_on w.0 (p ∷ w.1) p.result (own w.1))
+    where
+      by_test : (back : List Placed) (b : Bool) → b ≡ true → elim b as (λ b. Bool) [ true ↦ carried_from f back p.result || ((p.result == p.result) || is_base_unreached f p p.result) | false ↦ carried_from f back p.result ] ≡ true
+      by_test back true on = second_on (carried_from f back p.result) ((p.result == p.result) || is_base_unreached f p p.result) (first_on (p.result == p.result) (is_base_unreached f p p.result) (same_test p.result p.result refl))
+      by_test back false on = cc
+
+      own : (back : List Placed) → carried_from f (p ∷ back) p.result ≡ true
+      own back =
+          let carried : carries f (carried_from f back) p.block at ≡ true
+          = ap (λ (q : Option Inst). option_map_or (carries_by f (carried_from f back) p.block at) q false) there
+          ∙ first_on (is_elsewhere_by f p.block at i) ((at.arg == 0) && (is_chain i.op && carried_from f back i.result)) elsewhere in
+          by_test back (is_carried_with f (carried_from f back) p)
+          (both_on (is_chain p.op) (carried_from f back p.result || list_any (carries f (carried_from f back) p.block) p.mentions) chain
+          (second_on (carried_from f back p.result) (list_any (carries f (carried_from f back) p.block) p.mentions) (any_in (carries f (carried_from f back) p.block) p.mentions at mentioned carried)))
+
+-- a result that has a variable wherever it is live has one where it is not gone
+always_formed : (gs : List Inst) (f : Function) (k : ℕ → Option ℕ) (p : Placed) → is_value gs p.ty ≡ true → is_always_named p.op ≡ true → is_gone (form_with gs f k p) ≡ false → (form_with gs f k p ≡ Local) ⊎ (form_with gs f k p ≡ Hoisted)
+always_formed gs f k p value always kept = by_live (is_live p) refl (is_named gs f k p) refl kept
+  where
+    by_hoisted : (h : Bool) → ((if h then Hoisted else Local) ≡ Local) ⊎ ((if h then Hoisted else Local) ≡ Hoisted)
+    by_hoisted true = inr refl
+    by_hoisted false = inl refl
+
+    named_on : is_live p ≡ true → is_named gs f k p ≡ true
+    named_on live =
+        both_on (is_value gs p.ty) (is_live p && (is_named_by_use gs f p || (own_height k p == 17))) value
+        (both_on (is_live p) (is_named_by_use gs f p || (own_height k p == 17)) live
+        (first_on (is_named_by_use gs f p) (own_height k p == 17) (first_on (is_always_named p.op) _ always)))
+
+    by_live : (l : Bool) → is_live p ≡ l → (n : Bool) → is_named gs f k p ≡ n → is_gone (if l then (if n then (if is_hoisted f p then Hoisted else Local) else Forwarded) else Gone) ≡ false
+        → ((if l then (if n then (if is_hoisted f p then Hoisted else Local) else Forwarded) else Gone) ≡ Local) ⊎ ((if l then (if n then (if is_hoisted f p then Hoisted else Local) else Forwarded) else Gone) ≡ Hoisted)
+    by_live false live n named kept = cc
+    by_live true live true named kept = by_hoisted (is_hoisted f p)
+    by_live true live false named kept = absurd (never (sym (named_on live) ∙ named))
+      where
+        never : true ≡ false → ⊥
+        never e = cc
+
+module _ (s : Setting) (entry : Option (List ℕ)) (right : IsConforming s.of entry) (kinds : HaveKinds s.of.globals) (o : Options) (unit : TranslationUnit) (u : IsUnitOf s.of o unit) (p : FunctionPlan) (among : IsIn p u.plans) where
+  abbrev Found : Naming
+  Found = name_of u.claimed
+
+  abbrev Fn : Function
+  Fn = F s entry right kinds o unit u p among
+
+  abbrev Marks : List Bool
+  Marks = R s entry right kinds o unit u p among
+
+  abbrev Where : Scope
+  Where = V s entry right kinds o unit u p among
+
+  module _ (block : ℕ) (holder : Block) (j : Inst) (there : slice_get Fn.blocks block ≡ Some holder) (inside : IsIn j holder.insts) (some : j.result ≡ 0 → ⊥) where
+    abbrev P : Placed
+    P = placed (plan_is s entry right kinds o unit u p among).links block j
+
+    listed : IsIn P (results (plan_is s entry right kinds o unit u p among).links Fn)
+    listed = is_placed (plan_is s entry right kinds o unit u p among).links Fn block holder j there inside some
+
+    -- a chain that a live instruction of another reached block mentions is carried
+    pub carried_by_use : is_chain j.op ≡ true → (b : ℕ) (i : Inst) (m : IsMentioned Fn Marks b i j.result) → is i.op code.Phi ≡ false → (b ≡ block → ⊥) → Where.carried j.result ≡ true
+    carried_by_use chain b i m no_phi apart =
+        carried_elsewhere Fn (results (plan_is s entry right kinds o unit u p among).links Fn) P (mention_at Fn Marks b i j.result m) i listed chain
+        (mention_stands Fn Marks b i j.result m (plan_is s entry right kinds o unit u p among).links (plan_is s entry right kinds o unit u p among).live)
+        (user_is Fn Marks b i j.result m)
+        (ap (λ (c : ℕ). not (c == block)) (counts_here s entry right kinds o unit u p among b i j.result m no_phi).0 ∙ ap not (other_test b block apart))
+
+    -- the name of a load, a call, an atomic instruction or a composite that is put together, where it is not gone
+    pub always_text : (names : List (List ℕ)) (structs : AreOfStructs s.of.globals (name_of u.claimed) names) → is_value s.of.globals j.ty ≡ true → is_always_named j.op ≡ true → is_gone (Where.form j.result) ≡ false → slice_index_or Marks block false ≡ true
+        → (words_of s.of.globals (name_of u.claimed) names).value (text_of Found (Id (id j.result)))
+    always_text names structs value always kept here =
+        by_form (always_formed s.of.globals Fn told.0 P value always (ap is_gone (sym told.1) ∙ kept))
+      where
+        order : AreOrdered Fn (results (plan_is s entry right kinds o unit u p among).links Fn)
+        order = in_order s.of Fn (ordered s entry right kinds o unit u p among) Marks (plan_is s entry right kinds o unit u p among).links (plan_is s entry right kinds o unit u p among).live
+
+        told : (k : ℕ → Option ℕ) × (Where.form j.result ≡ form_with s.of.globals Fn k P)
+        told = form_at s.of.globals Fn (plan_is s entry right kinds o unit u p among).links order P listed
+
+        reached : (nth p.graph block).reached ≡ true
+        reached = ap (λ (g : List Node). (nth g block).reached) (plan_is s entry right kinds o unit u p among).graph_is ∙ (sym (reached_nth (graph Fn) block) ∙ here)
+
+        by_form : (form_with s.of.globals Fn told.0 P ≡ Local) ⊎ (form_with s.of.globals Fn told.0 P ≡ Hoisted) → (words_of s.of.globals (name_of u.claimed) names).value (text_of Found (Id (id j.result)))
+        by_form (inl local) = formed_text s entry right kinds o unit u p among names structs block holder j there inside some Local (told.1 ∙ local) (first_on (nth p.graph block).reached (is j.op code.Variable) reached)
+        by_form (inr top) = formed_text s entry right kinds o unit u p among names structs block holder j there inside some Hoisted (told.1 ∙ top) refl
