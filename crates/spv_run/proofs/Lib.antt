@@ -1,0 +1,4 @@
+pub mod Begun
+pub mod Nexts
+pub mod Shapes
+pub mod Stepped
