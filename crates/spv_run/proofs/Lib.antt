@@ -1,4 +1,5 @@
 pub mod Begun
+pub mod Meant
 pub mod Nexts
 pub mod Shapes
 pub mod Stepped

@@ -11,3 +11,6 @@ mod taking;
 
 pub use kernel::ModuleProgram;
 pub use state::State;
+
+/// A runner of invocations of a module, each within so many steps.
+pub type Machine<'a> = step_run::Machine<ModuleProgram<'a>>;
