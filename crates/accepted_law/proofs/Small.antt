@@ -302,6 +302,14 @@ globals_args ws p (x ∷ is) = by_test (is_global p (kind_of ws x)) (globals_arg
     by_test true rest = le_both (length (inst_of ws x).args) x.len (args_in (globals_from ws (after p (kind_of ws x)) is)) (total is) (args_few ws x) rest
     by_test false rest = le_right (args_in (globals_from ws (after p (kind_of ws x)) is)) x.len (total is) rest
 
+globals_fewer : (ws : List ℕ) (p : Place) (is : List Inst1) → length (globals_from ws p is) ≤ length is
+globals_fewer ws p [] = le_zero 0
+globals_fewer ws p (x ∷ is) = by_test (is_global p (kind_of ws x)) (globals_fewer ws (after p (kind_of ws x)) is)
+  where
+    by_test : (b : Bool) → length (globals_from ws (after p (kind_of ws x)) is) ≤ length is → length (if b then inst_of ws x ∷ globals_from ws (after p (kind_of ws x)) is else globals_from ws (after p (kind_of ws x)) is) ≤ length (x ∷ is)
+    by_test true rest = le_suc (length (globals_from ws (after p (kind_of ws x)) is)) (length is) rest
+    by_test false rest = le_more (length (globals_from ws (after p (kind_of ws x)) is)) (length is) rest
+
 module _ (bytes : List ℕ) (m : ModuleState) (read : IsReadFrom bytes m) where
   abbrev ws : List ℕ
   ws = words bytes
@@ -333,3 +341,8 @@ module _ (bytes : List ℕ) (m : ModuleState) (read : IsReadFrom bytes m) where
   read_args =
       subst (λ (n : ModuleState). (g : Inst) → IsAmong g n.globals → length g.args < 2 ^ 32) (sym read.made)
       (λ g g_in. is_word (length g.args) (length bytes) (le_on (length g.args) (args_in (globals_from ws Outside (insts ws))) (length bytes) (among_args g (globals_from ws Outside (insts ws)) g_in) (le_on (args_in (globals_from ws Outside (insts ws))) (total (insts ws)) (length bytes) (globals_args ws Outside (insts ws)) all_few)) read.short)
+
+  pub read_globals : length m.globals < 2 ^ 32
+  read_globals =
+      subst (λ (n : ModuleState). length n.globals < 2 ^ 32) (sym read.made)
+      (is_word (length (globals_from ws Outside (insts ws))) (length bytes) (le_on (length (globals_from ws Outside (insts ws))) (length (insts ws)) (length bytes) (globals_fewer ws Outside (insts ws)) all_short) read.short)
