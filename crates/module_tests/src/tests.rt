@@ -8,4 +8,5 @@ mod opcodes;
 mod operations;
 mod shapes;
 mod streams;
+mod values;
 mod words;
