@@ -1,9 +1,10 @@
 -- A module that was read has no more words than the limit on bytes allows, and so few of all that is counted in it.
-use Rattle.std.proofs.Common.{◌≡◌, ◌<◌, ◌≤◌, ◌+◌, ◌==◌, ◌||◌, ◌^◌, ℕ, zero, suc, Bool, true, false, List, [], ◌∷◌, ◌++◌, length, drop, min, filter, find, Option, Some, None, inl, inr, refl, sym, subst, if◌then◌else◌, length-take, length-drop, length-append, arith}
+use Rattle.std.proofs.Common.{◌≡◌, ◌<◌, ◌≤◌, ◌+◌, ◌==◌, ◌^◌, ℕ, zero, suc, Bool, true, false, List, [], ◌∷◌, ◌++◌, length, drop, min, filter, find, Option, Some, None, inl, inr, refl, sym, subst, if◌then◌else◌, length-take, length-drop, length-append, arith}
 use Rattle.std.specs.Prelude.{◌/◌, ◌-◌, flat_map, nat_lt, Contains, slice_index_or}
-use Rattle.std.specs.List.{enumerate_from}
+use Rattle.std.specs.List.{All, enumerate_from}
 use Rattle.std.proofs.lemmas.Bool.Decides.{nat_tests}
 use Rattle.std.proofs.lemmas.List.{length-map}
+use Rattle.std.proofs.lemmas.List.Elements.{All-nil, All-cons}
 use Rattle.std.proofs.lemmas.List.FromFn.{length-enumerate_from}
 use Rattle.byteorder.specs.Endian.{little_number, big_number}
 use Rattle.spv_words.specs.Words.{magic, words_by, words, inst_at, insts_from, insts, is_at_fault, first_fault, slice}
@@ -26,7 +27,6 @@ use Rattle.use_chains.specs.Slots.{is_slot, mention, operands, slots_of_inst, sl
 use Rattle.module_check.specs.ReadFrom.{IsReadFrom}
 use Rattle.plan_law.specs.InOrder.{IsAmong}
 use Rattle.plan_law.proofs.Listed.{flat}
-use Rattle.plan_law.proofs.Conforming.{said_of}
 use Rattle.typed_law.proofs.Lists.{or_left, or_right}
 use Rattle.typed_law.proofs.Conforming.{uncut_words}
 use Rattle.accepted_law.specs.Small.{IsSmall}
@@ -153,6 +153,30 @@ abbrev args_in : List Inst → ℕ
 args_in [] = 0
 args_in (i ∷ is) = length i.args + args_in is
 
+args_append : (xs ys : List Inst) → args_in (xs ++ ys) ≡ args_in xs + args_in ys
+args_append [] ys = behind_none (args_in ys)
+  where
+    behind_none : (n : ℕ) → n ≡ 0 + n
+    behind_none n = omega arith
+args_append (x ∷ xs) ys = behind_one (length x.args) (args_in (xs ++ ys)) (args_in xs) (args_in ys) (args_append xs ys)
+  where
+    behind_one : (a b c d : ℕ) → b ≡ c + d → a + b ≡ a + c + d
+    behind_one a b c d e = omega (arith, e)
+
+-- each has as many at most
+contains_args : (is : List Inst) (i : Inst) → Contains is i → length i.args ≤ args_in is
+contains_args [] i there = let less = there.1 in absurd (omega (arith, less))
+contains_args (j ∷ is) i (zero, less, same) = subst (λ (x : Inst). length x.args ≤ length j.args + args_in is) same (le_left (length j.args) (args_in is))
+contains_args (j ∷ is) i (suc k, less, same) = le_right (length i.args) (length j.args) (args_in is) (contains_args is i (k, (let low : k < length is = omega (arith, less) in low), same))
+
+contains_block : (bs : List Block) (b : Block) → Contains bs b → args_in b.insts ≤ args_in (flat bs)
+contains_block [] b there = let less = there.1 in absurd (omega (arith, less))
+contains_block (c ∷ bs) b (zero, less, same) =
+    subst (λ (x : Block). args_in x.insts ≤ args_in (c.insts ++ flat bs)) same (subst (λ n. args_in c.insts ≤ n) (sym (args_append c.insts (flat bs))) (le_left (args_in c.insts) (args_in (flat bs))))
+contains_block (c ∷ bs) b (suc k, less, same) =
+    subst (λ n. args_in b.insts ≤ n) (sym (args_append c.insts (flat bs)))
+    (le_right (args_in b.insts) (args_in c.insts) (args_in (flat bs)) (contains_block bs b (k, (let low : k < length bs = omega (arith, less) in low), same)))
+
 args_few : (ws : List ℕ) (x : Inst1) → length (inst_of ws x).args ≤ x.len
 args_few ws x =
     fewer (length (slice ws x)) x.len (length (drop x.start ws)) (1 + count_of (has_type (known x.opcode)) + count_of (has_result (known x.opcode))) (length (inst_of ws x).args)
@@ -273,16 +297,6 @@ module _ (f : Function) (reached : List Bool) where
       by_test true = insts_slots n 0 b.insts
       by_test false = le_zero (args_in b.insts)
 
-  args_append : (xs ys : List Inst) → args_in (xs ++ ys) ≡ args_in xs + args_in ys
-  args_append [] ys = behind_none (args_in ys)
-    where
-      behind_none : (n : ℕ) → n ≡ 0 + n
-      behind_none n = omega arith
-  args_append (x ∷ xs) ys = behind_one (length x.args) (args_in (xs ++ ys)) (args_in xs) (args_in ys) (args_append xs ys)
-    where
-      behind_one : (a b c d : ℕ) → b ≡ c + d → a + b ≡ a + c + d
-      behind_one a b c d e = omega (arith, e)
-
   blocks_slots : (n : ℕ) (bs : List Block) → length (flat_map (slots_of_block f reached) (enumerate_from n bs)) ≤ args_in (flat bs)
   blocks_slots n [] = le_zero 0
   blocks_slots n (b ∷ bs) =
@@ -323,19 +337,26 @@ module _ (bytes : List ℕ) (m : ModuleState) (read : IsReadFrom bytes m) where
       dropped : (a b : ℕ) → a ≡ b - 5 → a ≤ b
       dropped a b e = omega (arith, e)
 
-  small : (f : Function) → Contains (functions ws) f → IsSmall f
-  small f there =
-      let counted = said_of (IsCounted (length bytes)) (AreCounted (length bytes)) (λ g fs all. all) (functions ws) f (functions_counted ws (length bytes) (insts ws) all_few all_short) there in
-      record {
-        blocks = is_word (length f.blocks) (length bytes) counted.blocks read.short;
-        insts = λ b b_in. is_word (length b.insts) (length bytes) (short_one (length bytes) f.blocks b counted.short b_in) read.short;
-        args = λ i i_in. is_word (length i.args) (length bytes) (le_on (length i.args) (args_in (insts_of f)) (length bytes) (among_args i (insts_of f) i_in) counted.args) read.short;
-        mentions = λ reached. is_word (length (slots f reached)) (length bytes) (le_on (length (slots f reached)) (args_in (insts_of f)) (length bytes) (blocks_slots f reached 0 f.blocks) counted.args) read.short;
-      }
+  small : (f : Function) → IsCounted (length bytes) f → IsSmall f
+  small f counted = record {
+    blocks = is_word (length f.blocks) (length bytes) counted.blocks read.short;
+    each = λ b b_in. record {
+      insts = is_word (length b.insts) (length bytes) (short_one (length bytes) f.blocks b counted.short b_in) read.short;
+      args = λ i i_in.
+          is_word (length i.args) (length bytes)
+          (le_on (length i.args) (args_in b.insts) (length bytes) (contains_args b.insts i i_in) (le_on (args_in b.insts) (args_in (flat f.blocks)) (length bytes) (contains_block f.blocks b b_in) counted.args))
+          read.short;
+    };
+    mentions = λ reached. is_word (length (slots f reached)) (length bytes) (le_on (length (slots f reached)) (args_in (insts_of f)) (length bytes) (blocks_slots f reached 0 f.blocks) counted.args) read.short;
+  }
+
+  all_small : (fs : List Function) → AreCounted (length bytes) fs → All IsSmall fs
+  all_small [] counted = All-nil IsSmall
+  all_small (f ∷ fs) counted = All-cons IsSmall f fs (small f counted.0) (all_small fs counted.1)
 
   -- so it is with each of its functions, and with the operands of its other instructions
-  pub read_small : (f : Function) → Contains m.functions f → IsSmall f
-  read_small = subst (λ (n : ModuleState). (f : Function) → Contains n.functions f → IsSmall f) (sym read.made) small
+  pub read_small : All IsSmall m.functions
+  read_small = subst (λ (n : ModuleState). All IsSmall n.functions) (sym read.made) (all_small (functions ws) (functions_counted ws (length bytes) (insts ws) all_few all_short))
 
   pub read_args : (g : Inst) → IsAmong g m.globals → length g.args < 2 ^ 32
   read_args =
