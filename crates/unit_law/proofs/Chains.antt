@@ -114,7 +114,7 @@ module _ (s : Setting) (entry : Option (List ℕ)) (right : IsConforming s.of en
         ends = ap (way_to (paths.step_type Site ty (step Gs spot k n (Some ty)))) later ∙ (ap (λ (x : ℕ). way_to x (steps_from Gs spot (k + 1) (Some one.to) ns)) one.text_type ∙ rest.ends);
         members = rest.members;
         uses = one.uses (steps_text Site (paths.step_type Site ty (step Gs spot k n (Some ty))) (steps_from Gs spot (k + 1) (step_type Gs n ty) ns))
-        (subst (λ (l : List LStep). UseSteps W l) (sym (ap (steps_text Site (paths.step_type Site ty (step Gs spot k n (Some ty)))) later ∙ ap (λ (x : ℕ). steps_text Site x (steps_from Gs spot (k + 1) (Some one.to) ns)) one.text_type)) rest.uses);
+            (subst (λ (l : List LStep). UseSteps W l) (sym (ap (steps_text Site (paths.step_type Site ty (step Gs spot k n (Some ty)))) later ∙ ap (λ (x : ℕ). steps_text Site x (steps_from Gs spot (k + 1) (Some one.to) ns)) one.text_type)) rest.uses);
       }
 
   -- a pointer's path is written of words that are declared, where it is printed
@@ -179,7 +179,7 @@ module _ (s : Setting) (entry : Option (List ℕ)) (right : IsConforming s.of en
         members = led.members;
         named = subst (λ (x : ℕ). W.value (base_text Site x)) (sym based) way.named;
         uses = subst (λ (l : List LStep). UseSteps W l) (sym (ap (steps_text Site way.from) stepped ∙ (steps_more way.from (path Gs f printed (base i)).steps ss ∙ ap (λ (x : ℕ). steps_text Site way.from (path Gs f printed (base i)).steps ++ steps_text Site x ss) way.ends)))
-        (more_uses W (steps_text Site way.from (path Gs f printed (base i)).steps) (steps_text Site way.to ss) way.uses led.uses);
+            (more_uses W (steps_text Site way.from (path Gs f printed (base i)).steps) (steps_text Site way.to ss) way.uses led.uses);
       }
     where
       nowhere : true ≡ false → ⊥

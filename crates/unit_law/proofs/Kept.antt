@@ -188,7 +188,7 @@ module _ (s : Setting) (entry : Option (List ℕ)) (right : IsConforming s.of en
           here = here;
           live = live;
           slot = both_on (is_id i.op i.args 1) (is_value i.op 1 && is_taken Fn Marks i 1) (store_id i.op i.args store)
-          (both_on (is_value i.op 1) (is_taken Fn Marks i 1) (store_value i.op store) (ap (λ (b : Bool). not b || is_label_reached Fn Marks (slice_index i.args 2)) (store_no_phi i.op store)));
+              (both_on (is_value i.op 1) (is_taken Fn Marks i 1) (store_value i.op store) (ap (λ (b : Bool). not b || is_label_reached Fn Marks (slice_index i.args 2)) (store_no_phi i.op store)));
           word = arg;
         };
         no_phi = store_no_phi i.op store;

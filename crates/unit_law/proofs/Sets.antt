@@ -173,7 +173,7 @@ module _ (s : Setting) (entry : Option (List ℕ)) (right : IsConforming s.of en
         here = here;
         live = live;
         slot = both_on (is_id i.op i.args (suc k)) (is_value i.op (suc k) && is_taken Fn Marks i (suc k)) (chain_id i.op i.args (suc k) on)
-        (both_on (is_value i.op (suc k)) (is_taken Fn Marks i (suc k)) (chain_value i.op (suc k) on) (ap (λ (b : Bool). not b || is_label_reached Fn Marks (slice_index i.args (suc k + 1))) (chain_no_phi i.op on)));
+            (both_on (is_value i.op (suc k)) (is_taken Fn Marks i (suc k)) (chain_value i.op (suc k) on) (ap (λ (b : Bool). not b || is_label_reached Fn Marks (slice_index i.args (suc k + 1))) (chain_no_phi i.op on)));
         word = arg;
       }
 

@@ -59,7 +59,7 @@ elem_free : (t : Tree) (k : ℕ) (v : Tree) (n : ℕ) → element_shape t k ≡ 
 elem_free boolean k v n at has = cc
 elem_free int k v n at has = cc
 elem_free uint k v n at has = cc
-elem_free (vector e m) k v n at has = by_elem (sym (ap (has_struct n) (same_some (elem_tree e) v at)) )
+elem_free (vector e m) k v n at has = by_elem (sym (ap (has_struct n) (same_some (elem_tree e) v at)))
   where
     by_elem : has_struct n v ≡ has_struct n (elem_tree e) → has_struct n (vector e m) ≡ true
     by_elem same = never e (sym same ∙ has)
