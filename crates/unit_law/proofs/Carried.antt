@@ -52,7 +52,7 @@ second_on false b on = on
 
 module _ (f : Function) where
   -- what is carried after some results is carried after all
-  carried_on : (front back : List Placed) (n : ℕ) → carried_from f back n ≡ true → carried_from f (front ++ back) n ≡ true
+  pub carried_on : (front back : List Placed) (n : ℕ) → carried_from f back n ≡ true → carried_from f (front ++ back) n ≡ true
   carried_on [] back n on = on
   carried_on (p ∷ ps) back n on = by_test (is_carried_with f (carried_from f (ps ++ back)) p) (carried_on ps back n on)
     where

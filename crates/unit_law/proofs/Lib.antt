@@ -22,3 +22,4 @@ pub mod Chains
 pub mod Sets
 pub mod Kept
 pub mod Carried
+pub mod Bases
