@@ -1,5 +1,5 @@
 -- The base of a chain that is carried is carried, where no chain of a block that is not reached is mentioned.
-use Rattle.std.proofs.Common.{◌≡◌, ◌==◌, ◌&&◌, ◌||◌, ◌++◌, not, ℕ, Bool, true, false, List, [], ◌∷◌, Option, Some, None, inl, inr, refl, sym, ap, ◌∙◌, subst, if◌then◌else◌}
+use Rattle.std.proofs.Common.{◌≡◌, ◌==◌, ◌&&◌, ◌||◌, ◌++◌, not, ℕ, Bool, true, false, List, [], ◌∷◌, Option, Some, inl, inr, refl, sym, ap, ◌∙◌, subst}
 use Rattle.std.specs.Prelude.{◌⊎◌, IfSome}
 use Rattle.std.specs.Option.{option_map_or}
 use Rattle.std.specs.List.{list_any}
@@ -93,9 +93,9 @@ module _ (f : Function) (links : List Link) where
         | inr here ↦ elim (split_or (n == p.result) (is_base_unreached f p n) here) [
           | inl same ↦ lone (ap (mentions_of links) (sym (test_same n p.result same)) ∙ none) is_it later
           | inr base ↦ lone
-            (q.quiet p (inl refl) (split_and (is_chain p.op) (carried_from f ps p.result || list_any (carries f (carried_from f ps) p.block) p.mentions) is_it).0
-            (off_of (is_reached f p.block) (split_and (not (is_reached f p.block)) (option_map_or (λ (i : Inst). is_chain i.op) (inst_in f n) false) (split_and (n == p.base) (not (is_reached f p.block) && option_map_or (λ (i : Inst). is_chain i.op) (inst_in f n) false) base).1).0))
-            is_it later
+              (q.quiet p (inl refl) (split_and (is_chain p.op) (carried_from f ps p.result || list_any (carries f (carried_from f ps) p.block) p.mentions) is_it).0
+              (off_of (is_reached f p.block) (split_and (not (is_reached f p.block)) (option_map_or (λ (i : Inst). is_chain i.op) (inst_in f n) false) (split_and (n == p.base) (not (is_reached f p.block) && option_map_or (λ (i : Inst). is_chain i.op) (inst_in f n) false) base).1).0))
+              is_it later
         ]
       ]
 
@@ -131,7 +131,7 @@ module _ (f : Function) (links : List Link) where
             carried = on;
           }
           | inr base ↦ absurd (by_base (split_and (is_chain p.op) (carried_from f ps p.result || list_any (carries f (carried_from f ps) p.block) p.mentions) is_it)
-            (off_of (is_reached f p.block) (split_and (not (is_reached f p.block)) (option_map_or (λ (i : Inst). is_chain i.op) (inst_in f n) false) (split_and (n == p.base) (not (is_reached f p.block) && option_map_or (λ (i : Inst). is_chain i.op) (inst_in f n) false) base).1).0))
+              (off_of (is_reached f p.block) (split_and (not (is_reached f p.block)) (option_map_or (λ (i : Inst). is_chain i.op) (inst_in f n) false) (split_and (n == p.base) (not (is_reached f p.block) && option_map_or (λ (i : Inst). is_chain i.op) (inst_in f n) false) base).1).0))
         ]
       ]
         where

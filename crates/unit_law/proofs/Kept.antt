@@ -66,7 +66,7 @@ store_no_phi code.Store on = refl
 store_no_phi o on = cc
 
 -- an index is an operand
-dropped : (args : List ℕ) (j n : ℕ) → slice_get (drop 1 args) j ≡ Some n → slice_get args (suc j) ≡ Some n
+pub dropped : (args : List ℕ) (j n : ℕ) → slice_get (drop 1 args) j ≡ Some n → slice_get args (suc j) ≡ Some n
 dropped [] j n at = cc
 dropped (x ∷ args) j n at = at
 

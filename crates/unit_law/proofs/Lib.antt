@@ -23,3 +23,4 @@ pub mod Sets
 pub mod Kept
 pub mod Carried
 pub mod Bases
+pub mod Places

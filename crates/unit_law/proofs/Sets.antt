@@ -75,19 +75,19 @@ second_on false b on = on
 low_zero : (k : ℕ) → nat_le 0 k ≡ true
 low_zero k = grind (arith, nat_tests)
 
-chain_id : (o : Op) (args : List ℕ) (k : ℕ) → is_chain o ≡ true → is_id o args k ≡ true
+pub chain_id : (o : Op) (args : List ℕ) (k : ℕ) → is_chain o ≡ true → is_id o args k ≡ true
 unfolding is_id
 chain_id code.AccessChain args k on = low_zero k
 chain_id code.InBoundsAccessChain args k on = low_zero k
 chain_id o args k on = cc
 
-chain_value : (o : Op) (k : ℕ) → is_chain o ≡ true → is_value o k ≡ true
+pub chain_value : (o : Op) (k : ℕ) → is_chain o ≡ true → is_value o k ≡ true
 unfolding takes_of group_of
 chain_value code.AccessChain k on = refl
 chain_value code.InBoundsAccessChain k on = refl
 chain_value o k on = cc
 
-chain_no_phi : (o : Op) → is_chain o ≡ true → is o code.Phi ≡ false
+pub chain_no_phi : (o : Op) → is_chain o ≡ true → is o code.Phi ≡ false
 unfolding number
 chain_no_phi code.AccessChain on = refl
 chain_no_phi code.InBoundsAccessChain on = refl

@@ -1,0 +1,281 @@
+-- The pointers that live instructions of a block mention are written of words that are declared, where no chain of a block that is not reached is mentioned.
+use Rattle.std.proofs.Common.{◌≡◌, ◌<◌, ◌++◌, ◌==◌, ◌&&◌, ◌||◌, not, ℕ, zero, suc, Bool, true, false, List, [], ◌∷◌, length, map, Option, Some, inl, inr, refl, sym, ap, ◌∙◌, subst, arith}
+use Rattle.std.specs.Prelude.{◌⊎◌, slice_get, slice_index, slice_index_or}
+use Rattle.std.specs.Option.{option_map_or}
+use Rattle.std.proofs.lemmas.Bool.Decides.{eqb_tells}
+use Rattle.spv_ops.specs.Opcode.{is}
+use Rattle.spv_ops.specs.Operands.{is_id}
+use Rattle.spv_ops.specs.Groups.{is_chain}
+use Rattle.spv_ops.specs.declared.Op.TheVariants as code
+use Rattle.spv_module.specs.Lists.{id}
+use Rattle.spv_module.specs.declared.inst.Inst.{Inst}
+use Rattle.spv_module.specs.declared.inst.Block.{Block}
+use Rattle.spv_module.specs.declared.inst.Function.{Function}
+use Rattle.spv_types.specs.Tree.{Tree}
+use Rattle.spv_types.specs.Types.{type_tree}
+use Rattle.spv_index.specs.Locals.{insts_of, type_in}
+use Rattle.spv_index.specs.Pointers.{pointee, pointee_of}
+use Rattle.structure_rules.specs.declared.graph.Node.{Node}
+use Rattle.structure_rules.specs.Graph.{graph}
+use Rattle.profile_rules.specs.TypeRows.{is_pointer, fails}
+use Rattle.profile_rules.specs.ValueRules.{breaks_t6}
+use Rattle.conformance.specs.Rules.{Options}
+use Rattle.module_semantics.specs.Setting.{Setting}
+use Rattle.use_chains.specs.Slots.{inst_at, is_value, is_taken, is_label_reached, IsLive}
+use Rattle.use_chains.specs.declared.slot.SlotPlace.{SlotPlace}
+use Rattle.use_chains.specs.Links.{Link}
+use Rattle.hoist_plan.specs.Plan.{Placed, results, mentions_of, is_reached}
+use Rattle.name_alloc.specs.declared.claims.Key.TheVariants.{Id}
+use Rattle.name_alloc.specs.Naming.{name_of}
+use Rattle.glsl_ast.specs.Tree.{Expr, TranslationUnit}
+use Rattle.access_paths.specs.Ways.{base, indexes, spot_of}
+use Rattle.expr_forward.specs.Scope.{Scope, type_of}
+use Rattle.expr_forward.specs.Paths.{index_expr, base_text}
+use Rattle.function_plan.specs.Planned.{is_reached_node}
+use Rattle.function_text.specs.Functions.{FunctionPlan}
+use Rattle.emit_glsl.specs.Unit.{IsUnitOf}
+use Rattle.plan_law.specs.Ordered.{AreOrdered}
+use Rattle.plan_law.proofs.Order.{in_order}
+use Rattle.path_law.specs.Chains.{ChainsRise, NoneMakes}
+use Rattle.type_law.proofs.Chains.{HaveTypes}
+use Rattle.spell_law.specs.Uses.{Words, UsesExpr}
+use Rattle.typed_law.specs.Conforms.{IsConforming}
+use Rattle.claim_law.specs.Claimed.{IsIn}
+use Rattle.unit_law.specs.Mentioned.{IsMentioned}
+use Rattle.unit_law.specs.Words.{is_struct_key, words_of, AreOfStructs}
+use Rattle.unit_law.proofs.Lists.{same_test, at_some, as_among, in_block, split_at}
+use Rattle.unit_law.proofs.Links.{mention_at, placed_in, user_is, mention_stands, maker_live}
+use Rattle.unit_law.proofs.Forms.{placed, is_placed, made_by}
+use Rattle.unit_law.proofs.Ways.{HaveKinds, F, R, V, plan_is, ordered}
+use Rattle.unit_law.proofs.Steps.{HasMembers}
+use Rattle.unit_law.proofs.Chains.{HasWay, AreWritable, start_has, chain_has}
+use Rattle.unit_law.proofs.Sets.{chain_id, chain_value, chain_no_phi, index_uses}
+use Rattle.unit_law.proofs.Kept.{dropped, here_writable, kept_writable}
+use Rattle.unit_law.proofs.Carried.{carried_by_use}
+use Rattle.unit_law.proofs.Bases.{AreQuiet, base_carried, carried_at}
+
+both_on : (a b : Bool) → a ≡ true → b ≡ true → (a && b) ≡ true
+both_on true b on e = e
+both_on false b on e = cc
+
+-- chains that make a pointer
+module _ (n : ℕ) where
+  abbrev Found : List Inst → Type 0
+  Found is = ((j : Inst) × (IsIn j is × (is_chain j.op ≡ true) × (j.result ≡ n))) ⊎ NoneMakes n is
+
+  makes_in : (is : List Inst) → Found is
+  makes_in [] = inr tt
+  makes_in (i ∷ is) = by_chain (is_chain i.op) refl (makes_in is)
+    where
+      later : (is_chain i.op ≡ true → i.result ≡ n → ⊥) → Found is → Found (i ∷ is)
+      later off (inl w) = inl (w.0, (inr w.1.0, w.1.1, w.1.2))
+      later off (inr none) = inr (off, none)
+
+      by_chain : (b : Bool) → is_chain i.op ≡ b → Found is → Found (i ∷ is)
+      by_chain false off rest = later (λ on. absurd (never (sym on ∙ off))) rest
+        where
+          never : true ≡ false → ⊥
+          never e = cc
+      by_chain true on rest = elim (eqb_tells i.result n) [
+        | inl w ↦ inl (i, (inl refl, on, w.1))
+        | inr w ↦ later (λ same_on. w.1) rest
+      ]
+
+  none_joined : (front back : List Inst) → NoneMakes n front → NoneMakes n back → NoneMakes n (front ++ back)
+  none_joined [] back one two = two
+  none_joined (i ∷ is) back one two = (one.0, none_joined is back one.1 two)
+
+rise_at : (xs : List Inst) (i : Inst) (ys : List Inst) → ChainsRise (xs ++ i ∷ ys) → is_chain i.op ≡ true → NoneMakes (base i) (i ∷ ys)
+rise_at [] i ys rise on = (rise.0 on).0
+rise_at (x ∷ xs) i ys rise on = rise_at xs i ys rise.1 on
+
+more_back : (front mid back : List Inst) → (front ++ mid) ++ back ≡ front ++ (mid ++ back)
+more_back [] mid back = refl
+more_back (x ∷ xs) mid back = ap (λ l. x ∷ l) (more_back xs mid back)
+
+no_more : (xs : List Inst) → xs ++ [] ≡ xs
+no_more [] = refl
+no_more (x ∷ xs) = ap (λ l. x ∷ l) (no_more xs)
+
+in_middle : (xs : List Inst) (i : Inst) (ys : List Inst) → IsIn i (xs ++ i ∷ ys)
+in_middle [] i ys = inl refl
+in_middle (x ∷ xs) i ys = inr (in_middle xs i ys)
+
+shorter : (xs : List Inst) (i : Inst) (ys : List Inst) → length xs < length (xs ++ i ∷ ys)
+shorter [] i ys = omega arith
+shorter (x ∷ xs) i ys = let less = shorter xs i ys in omega (arith, less)
+
+marked_is : (g : List Node) (c : ℕ) → slice_index_or (map is_reached_node g) c false ≡ option_map_or (λ (n : Node). n.reached) (slice_get g c) false
+marked_is [] c = refl
+marked_is (n ∷ g) zero = refl
+marked_is (n ∷ g) (suc c) = marked_is g c
+
+module _ (s : Setting) (entry : Option (List ℕ)) (right : IsConforming s.of entry) (kinds : HaveKinds s.of.globals) (o : Options) (unit : TranslationUnit) (u : IsUnitOf s.of o unit) (p : FunctionPlan) (among : IsIn p u.plans) (names : List (List ℕ)) (structs : AreOfStructs s.of.globals (name_of u.claimed) names) where
+  abbrev Gs : List Inst
+  Gs = s.of.globals
+
+  abbrev Fn : Function
+  Fn = F s entry right kinds o unit u p among
+
+  abbrev Marks : List Bool
+  Marks = R s entry right kinds o unit u p among
+
+  abbrev Where : Scope
+  Where = V s entry right kinds o unit u p among
+
+  abbrev W : Words
+  W = words_of s.of.globals (name_of u.claimed) names
+
+  abbrev T : ℕ → Option ℕ
+  T = type_in s.of.globals Fn
+
+  abbrev Way : ℕ → ℕ → Type 0
+  Way = HasWay s entry right Fn o unit u names Where.setting.global
+
+  abbrev links : List Link
+  links = (plan_is s entry right kinds o unit u p among).links
+
+  -- what the rules say of a chain
+  pub record IsRuled (i : Inst) : Type 0 where
+    pub some : i.result ≡ 0 → ⊥
+    pub based : slice_get i.args 0 ≡ Some (base i)
+    pub typed : HaveTypes s Fn (indexes i)
+    pub sound : breaks_t6 Gs T i ≡ false
+    pub own : T i.result ≡ Some i.ty
+    pub points : fails is_pointer Gs i.ty ≡ false → (q : ℕ) × (v : Tree) × (pointee Gs i.ty ≡ Some q) × (type_tree Gs q ≡ Some v)
+
+  -- an index has a shape, and is no struct; where it is read as a global, that is written
+  pub record IsReadable (n : ℕ) : Type 0 where
+    pub shape : Tree
+    pub shaped : type_tree Gs (type_of Where n) ≡ Some shape
+    pub other : is_struct_key Gs (Id (id n)) ≡ false
+    pub read : (e : Expr) → Where.setting.global n ≡ Some e → UsesExpr W e
+
+  -- a pointer that no chain makes has a name, and its members have
+  pub record IsRoot (n : ℕ) : Type 0 where
+    pub ty : ℕ
+    pub shape : Tree
+    pub points : pointee_of Gs Fn n ≡ Some ty
+    pub members : HasMembers s entry right Fn o unit u names Where.setting.global ty shape
+    pub named : W.value (base_text Where.setting n)
+
+  module _ (rise : ChainsRise (insts_of Fn)) (chains : (i : Inst) → IsIn i (insts_of Fn) → is_chain i.op ≡ true → IsRuled i) (readable : (i : Inst) → IsIn i (insts_of Fn) → is_chain i.op ≡ true → (n : ℕ) → IsIn n (indexes i) → IsReadable n)
+      (roots : (n : ℕ) → NoneMakes n (insts_of Fn) → (c : ℕ) (i : Inst) → IsMentioned Fn Marks c i n → IsRoot n)
+      (silent : (c : ℕ) (holder : Block) (i : Inst) → slice_get Fn.blocks c ≡ Some holder → IsIn i holder.insts → is_chain i.op ≡ true → slice_index_or Marks c false ≡ false → mentions_of links i.result ≡ []) where
+    quiet : AreQuiet Fn links (results links Fn)
+    quiet = record {
+      own = λ x x_in. (let w = made_by links Fn x x_in in subst (λ (y : Placed). y.mentions ≡ mentions_of links y.result) w.is refl);
+      quiet = λ x x_in chain off. (let w = made_by links Fn x x_in in
+          ap (λ (y : Placed). mentions_of links y.result) (sym w.is) ∙ silent w.block w.holder w.inst w.there w.among (ap (λ (y : Placed). is_chain y.op) w.is ∙ chain) (marked_is (graph Fn) w.block ∙ (ap (λ (y : Placed). is_reached Fn y.block) w.is ∙ off)));
+    }
+
+    order : AreOrdered Fn (results links Fn)
+    order = in_order s.of Fn (ordered s entry right kinds o unit u p among) Marks links (plan_is s entry right kinds o unit u p among).live
+
+    -- a mention in the block where the path is printed, or by a carried chain that is based on the pointer
+    abbrev IsSeen : (b c n : ℕ) (i : Inst) → IsMentioned Fn Marks c i n → Type 0
+    IsSeen b c n i m = (c ≡ b) ⊎ ((is_chain i.op ≡ true) × ((m.arg == 0) ≡ true) × (Where.carried i.result ≡ true))
+
+    module _ (b c0 : ℕ) (user : Inst) (j : Inst) (m : IsMentioned Fn Marks c0 user j.result) (no_phi : is user.op code.Phi ≡ false) (seen : IsSeen b c0 j.result user m) (chain : is_chain j.op ≡ true) (j_in : IsIn j (insts_of Fn)) where
+      home : (c : ℕ) × (holder : Block) × (slice_get Fn.blocks c ≡ Some holder) × IsIn j holder.insts
+      home = in_block Fn.blocks j j_in
+
+      abbrev ruled : IsRuled j
+      ruled = chains j j_in chain
+
+      abbrev P : Placed
+      P = placed links home.0 j
+
+      listed : IsIn P (results links Fn)
+      listed = is_placed links Fn home.0 home.1 j home.2 home.3 ruled.some
+
+      mentioned : IsIn (mention_at Fn Marks c0 user j.result m) (mentions_of links j.result)
+      mentioned = mention_stands Fn Marks c0 user j.result m links (plan_is s entry right kinds o unit u p among).live
+
+      reached : slice_index_or Marks home.0 false ≡ true
+      reached = by_test (slice_index_or Marks home.0 false) refl
+        where
+          by_test : (x : Bool) → slice_index_or Marks home.0 false ≡ x → x ≡ true
+          by_test true is_it = refl
+          by_test false is_it = absurd (subst (λ (l : List SlotPlace). IsIn (mention_at Fn Marks c0 user j.result m) l) (silent home.0 home.1 j home.2 home.3 chain is_it) mentioned)
+
+      place : (k : ℕ) × (inst_at Fn home.0 k ≡ Some j)
+      place = placed_in Fn home.0 home.1 j home.2 home.3
+
+      live : IsLive Fn Marks home.0 place.0
+      live = maker_live Fn Marks c0 user j.result m home.0 place.0 j place.1 refl
+
+      -- it mentions its base
+      abbrev base_mention : IsMentioned Fn Marks home.0 j (base j)
+      base_mention = record {
+        place = place.0;
+        arg = 0;
+        there = place.1;
+        here = reached;
+        live = live;
+        slot = both_on (is_id j.op j.args 0) (is_value j.op 0 && is_taken Fn Marks j 0) (chain_id j.op j.args 0 chain)
+            (both_on (is_value j.op 0) (is_taken Fn Marks j 0) (chain_value j.op 0 chain) (ap (λ (x : Bool). not x || is_label_reached Fn Marks (slice_index j.args 1)) (chain_no_phi j.op chain)));
+        word = ruled.based;
+      }
+
+      uses : (n : ℕ) → IsIn n (indexes j) → UsesExpr W (index_expr Where.setting n)
+      uses n n_in =
+          let at = at_some (indexes j) n n_in in
+          let r = readable j j_in chain n n_in in
+          index_uses s entry right kinds o unit u p among names structs home.0 home.1 j home.2 home.3 ruled.some place.0 at.0 n chain place.1 reached live (dropped j.args at.0 n at.1) r.shape r.shaped r.other r.read
+
+      carried : (home.0 ≡ b → ⊥) → Where.carried j.result ≡ true
+      carried apart = by_seen seen
+        where
+          by_seen : IsSeen b c0 j.result user m → Where.carried j.result ≡ true
+          by_seen (inl same) = carried_by_use s entry right kinds o unit u p among home.0 home.1 j home.2 home.3 ruled.some chain c0 user m no_phi (λ here. apart (sym here ∙ same))
+          by_seen (inr w) =
+              let at = carried_at Fn links (results links Fn) quiet user.result w.2 in
+              base_carried Fn links (results links Fn) order quiet P (mention_at Fn Marks c0 user j.result m) user listed chain mentioned (user_is Fn Marks c0 user j.result m) w.1 w.0 at (chain_no_phi at.by.op at.chain)
+
+      abbrev Written : Type 0
+      Written = AreWritable s entry right Fn o unit u names Where.setting.global (spot_of b (home.0, j)) 0 (indexes j)
+
+      -- so its base is seen there too, and its indexes are written
+      base_seen : (IsSeen b home.0 (base j) j base_mention) × Written
+      base_seen = elim (eqb_tells home.0 b) [
+        | inl w ↦ (inl w.1, subst (λ (x : ℕ). AreWritable s entry right Fn o unit u names Where.setting.global (spot_of x (home.0, j)) 0 (indexes j)) w.1 (here_writable s entry right kinds o unit u p among names structs home.0 home.1 j home.2 home.3 uses))
+        | inr w ↦ (inr (chain, same_test 0 0 refl, carried w.1), kept_writable s entry right kinds o unit u p among names structs home.0 home.1 j home.2 home.3 chain (carried w.1) b (λ n n_in on. uses n n_in))
+      ]
+
+      chain_way : Way b (base j) → Way b j.result
+      chain_way way = chain_has s entry right Fn o unit u names Where.setting.global b home.0 home.1 j rise home.2 (as_among home.1.insts j home.3) chain way base_seen.1 ruled.typed ruled.sound ruled.own ruled.points
+
+    -- along the instructions of the function
+    made_way : (front back : List Inst) → insts_of Fn ≡ front ++ back → (b c n : ℕ) (i : Inst) (m : IsMentioned Fn Marks c i n) → is i.op code.Phi ≡ false → IsSeen b c n i m → NoneMakes n back
+        → ((xs ys : List Inst) → insts_of Fn ≡ xs ++ ys → length xs < length front → (d h : ℕ) (j : Inst) (v : IsMentioned Fn Marks d j h) → is j.op code.Phi ≡ false → IsSeen b d h j v → NoneMakes h ys → Way b h) → Way b n
+    made_way front back whole b c n i m no_phi seen none later = by_found (makes_in n front)
+      where
+        root_way : NoneMakes n front → Way b n
+        root_way first =
+            let makes_none = subst (NoneMakes n) (sym whole) (none_joined n front back first none) in
+            let r = roots n makes_none c i m in
+            start_has s entry right Fn o unit u names Where.setting.global b n r.ty r.shape makes_none r.points r.members r.named
+
+        by_split : (j : Inst) (xs ys : List Inst) → front ≡ xs ++ j ∷ ys → is_chain j.op ≡ true → (v : IsMentioned Fn Marks c i j.result) → IsSeen b c j.result i v → Way b j.result
+        by_split j xs ys is_it chain v v_seen =
+            let joined : insts_of Fn ≡ xs ++ (j ∷ (ys ++ back)) = whole ∙ (ap (λ (l : List Inst). l ++ back) is_it ∙ more_back xs (j ∷ ys) back) in
+            let j_in : IsIn j (insts_of Fn) = subst (IsIn j) (sym joined) (in_middle xs j (ys ++ back)) in
+            chain_way b c i j v no_phi v_seen chain j_in
+            (later xs (j ∷ (ys ++ back)) joined (subst (λ (l : List Inst). length xs < length l) (sym is_it) (shorter xs j ys)) (home b c i j v no_phi v_seen chain j_in).0 (base j) j (base_mention b c i j v no_phi v_seen chain j_in) (chain_no_phi j.op chain)
+            (base_seen b c i j v no_phi v_seen chain j_in).0 (rise_at xs j (ys ++ back) (subst ChainsRise joined rise) chain))
+
+        by_found : Found n front → Way b n
+        by_found (inr first) = root_way first
+        by_found (inl w) =
+            let x = split_at front w.0 w.1.0 in
+            subst (λ (h : ℕ). (v : IsMentioned Fn Marks c i h) → IsSeen b c h i v → Way b h) w.1.2 (by_split w.0 x.0 x.1 x.2 w.1.1) m seen
+
+    seen_way : (k : ℕ) (front back : List Inst) → insts_of Fn ≡ front ++ back → length front < k → (b c n : ℕ) (i : Inst) (m : IsMentioned Fn Marks c i n) → is i.op code.Phi ≡ false → IsSeen b c n i m → NoneMakes n back → Way b n
+    seen_way zero front back whole low b c n i m no_phi seen none = absurd (omega (arith, low))
+    seen_way (suc k) front back whole low b c n i m no_phi seen none =
+        made_way front back whole b c n i m no_phi seen none (λ xs ys is_it less d h j v v_phi v_seen v_none. seen_way k xs ys is_it (let fewer : length xs < k = omega (arith, less, low) in fewer) b d h j v v_phi v_seen v_none)
+
+    -- so is what a live instruction mentions, in its block
+    pub mentioned_way : (b n : ℕ) (i : Inst) (m : IsMentioned Fn Marks b i n) → is i.op code.Phi ≡ false → Way b n
+    mentioned_way b n i m no_phi = seen_way (suc (length (insts_of Fn))) (insts_of Fn) [] (sym (no_more (insts_of Fn))) (let less : length (insts_of Fn) < suc (length (insts_of Fn)) = omega arith in less) b b n i m no_phi (inl refl) tt
