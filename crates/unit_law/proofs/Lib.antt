@@ -24,3 +24,4 @@ pub mod Kept
 pub mod Carried
 pub mod Bases
 pub mod Places
+pub mod Ruled

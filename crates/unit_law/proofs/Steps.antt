@@ -79,7 +79,7 @@ elem_free (struct m ts) k v n at has = either_right (m == n) (have_struct n ts) 
 less_of : (a b : ℕ) → nat_lt a b ≡ true → a < b
 less_of a b e = grind (arith, nat_tests, e)
 
-at_index : (xs : List ℕ) (k : ℕ) → k < length xs → slice_get xs k ≡ Some (slice_index xs k)
+pub at_index : (xs : List ℕ) (k : ℕ) → k < length xs → slice_get xs k ≡ Some (slice_index xs k)
 at_index [] k less = absurd (omega (arith, less))
 at_index (x ∷ xs) zero less = refl
 at_index (x ∷ xs) (suc k) less = at_index xs k (let low : k < length xs = omega (arith, less) in low)

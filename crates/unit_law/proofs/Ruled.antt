@@ -1,0 +1,112 @@
+-- What the rules say of chains in a conforming module: so it is with its pointers.
+use Rattle.std.proofs.Common.{◌≡◌, ◌<◌, ◌≤◌, ℕ, suc, true, false, List, [], ◌∷◌, drop, length, Option, Some, Contains, not, refl, sym, ap, ◌∙◌, subst, arith}
+use Rattle.std.specs.Prelude.{slice_get, slice_index, slice_index_or}
+use Rattle.std.specs.Option.{option_map_or}
+use Rattle.spv_ops.specs.Opcode.{is, number}
+use Rattle.spv_ops.specs.OpGroups.{takes_of, group_of}
+use Rattle.spv_ops.specs.Operands.{is_id}
+use Rattle.spv_ops.specs.Groups.{is_chain}
+use Rattle.spv_ops.specs.Shape.{shape}
+use Rattle.spv_ops.specs.declared.Op.{Op}
+use Rattle.spv_ops.specs.declared.Op.TheVariants as code
+use Rattle.spv_module.specs.Inst.{has_type, has_result}
+use Rattle.spv_module.specs.declared.inst.Inst.{Inst}
+use Rattle.spv_module.specs.declared.inst.Block.{Block}
+use Rattle.spv_module.specs.declared.inst.Function.{Function}
+use Rattle.spv_index.specs.Locals.{insts_of, type_in}
+use Rattle.profile_rules.specs.Operands.{need, is_there_in}
+use Rattle.profile_rules.specs.TypeRows.{is_pointer}
+use Rattle.profile_rules.specs.ValueRules.{breaks_t6}
+use Rattle.conformance.specs.Rules.{Options}
+use Rattle.module_semantics.specs.Setting.{Setting}
+use Rattle.hoist_plan.specs.Plan.{mentions_of}
+use Rattle.name_alloc.specs.Naming.{name_of}
+use Rattle.glsl_ast.specs.Tree.{TranslationUnit}
+use Rattle.access_paths.specs.Ways.{indexes}
+use Rattle.function_text.specs.Functions.{FunctionPlan}
+use Rattle.emit_glsl.specs.Unit.{IsUnitOf}
+use Rattle.plan_law.specs.InOrder.{IsAmong}
+use Rattle.path_law.specs.Chains.{ChainsRise, NoneMakes}
+use Rattle.path_law.proofs.Order.{chains_rise}
+use Rattle.typed_law.specs.Conforms.{IsConforming}
+use Rattle.typed_law.proofs.Lists.{from_zero, at_least, not_off}
+use Rattle.typed_law.proofs.Rules.{operand_there, value_right, number_right}
+use Rattle.typed_law.proofs.Types.{row_is, pointee_shaped}
+use Rattle.typed_law.proofs.Values.{inside, local_row, HasType, own_type, type_suits}
+use Rattle.typed_law.proofs.Operations.{Facts}
+use Rattle.typed_law.proofs.Others.{typed_some, typed_operand, chain_types}
+use Rattle.claim_law.specs.Claimed.{IsIn}
+use Rattle.unit_law.specs.Mentioned.{IsMentioned}
+use Rattle.unit_law.specs.Words.{AreOfStructs}
+use Rattle.unit_law.proofs.Lists.{as_among}
+use Rattle.unit_law.proofs.Ways.{HaveKinds, F, R, V, plan_is, in_module, ordered}
+use Rattle.unit_law.proofs.Steps.{at_index}
+use Rattle.unit_law.proofs.Chains.{HasWay}
+use Rattle.unit_law.proofs.Places.{IsRuled, IsReadable, IsRoot, mentioned_way}
+
+module _ (s : Setting) (entry : Option (List ℕ)) (right : IsConforming s.of entry) (kinds : HaveKinds s.of.globals) (o : Options) (unit : TranslationUnit) (u : IsUnitOf s.of o unit) (p : FunctionPlan) (among : IsIn p u.plans) (names : List (List ℕ)) (structs : AreOfStructs s.of.globals (name_of u.claimed) names) where
+  abbrev Gs : List Inst
+  Gs = s.of.globals
+
+  abbrev Fn : Function
+  Fn = F s entry right kinds o unit u p among
+
+  abbrev T : ℕ → Option ℕ
+  T = type_in s.of.globals Fn
+
+  in_it : Contains s.of.functions Fn
+  in_it = in_module s entry right kinds o unit u p among
+
+  module _ (i : Inst) (there : IsAmong i (insts_of Fn)) where
+    facts_of : Facts s entry right Fn in_it i there i.op
+    facts_of = record {
+      value = value_right s.of entry right Fn in_it i there;
+      number = number_right s.of entry right Fn in_it i there;
+      least = ((inside s entry right Fn in_it).formed i there).least;
+      most = ((inside s entry right Fn in_it).formed i there).most;
+      has = operand_there (is_there_in s.of Fn i.at) i ((inside s entry right Fn in_it).order.there i there);
+    }
+
+    ruled : has_type i.op ≡ true → has_result i.op ≡ true → breaks_t6 Gs T i ≡ false → ((k : ℕ) → k < length i.args → HasType s entry right Fn in_it (slice_index i.args k)) → 0 < length i.args → IsRuled s entry right kinds o unit u p among names structs i
+    ruled has results off each some = record {
+      some = ((inside s entry right Fn in_it).formed i there).result results;
+      based = at_index i.args 0 some;
+      typed = chain_types s entry right Fn in_it i there (drop 1 i.args) (behind i.args each);
+      sound = off;
+      own = own_type s entry right Fn in_it i there (typed_some s entry right Fn in_it i there has);
+      points = λ points. (
+          let g = local_row s entry right Fn in_it i there (typed_some s entry right Fn in_it i there has) in
+          let on = not_off (is_pointer g.0) (ap (λ (q : Option Inst). option_map_or (λ (x : Inst). not (is_pointer x)) q false) (sym (row_is s.of entry right i.ty g.0 g.1 (type_suits i.op g.0 g.2))) ∙ points) in
+          pointee_shaped s.of entry right i.ty g.0 g.1 on
+          );
+    }
+      where
+        behind : (args : List ℕ) → ((k : ℕ) → k < length args → HasType s entry right Fn in_it (slice_index args k)) → (k : ℕ) → k < length (drop 1 args) → HasType s entry right Fn in_it (slice_index (drop 1 args) k)
+        behind [] each k less = absurd (omega (arith, less))
+        behind (a ∷ args) each k less = each (suc k) (let more : suc k < suc (length args) = omega (arith, less) in more)
+
+    by_op : (c : Op) → i.op ≡ c → is_chain c ≡ true → Facts s entry right Fn in_it i there c → IsRuled s entry right kinds o unit u p among names structs i
+    unfolding group_of takes_of need is_id shape number
+    by_op code.AccessChain same on facts =
+        ruled (subst (λ (c : Op). has_type c ≡ true) (sym same) refl) (subst (λ (c : Op). has_result c ≡ true) (sym same) refl) facts.value (λ k less. typed_operand s entry right Fn in_it i there code.AccessChain facts k less (from_zero k) refl)
+        (let many : 1 ≤ length i.args = at_least 1 (length i.args) facts.least in let less : 0 < length i.args = omega (arith, many) in less)
+    by_op code.InBoundsAccessChain same on facts =
+        ruled (subst (λ (c : Op). has_type c ≡ true) (sym same) refl) (subst (λ (c : Op). has_result c ≡ true) (sym same) refl) facts.value (λ k less. typed_operand s entry right Fn in_it i there code.InBoundsAccessChain facts k less (from_zero k) refl)
+        (let many : 1 ≤ length i.args = at_least 1 (length i.args) facts.least in let less : 0 < length i.args = omega (arith, many) in less)
+    by_op c same on facts = cc
+
+    pub chain_ruled : is_chain i.op ≡ true → IsRuled s entry right kinds o unit u p among names structs i
+    chain_ruled on = by_op i.op refl on facts_of
+
+  chains : (i : Inst) → IsIn i (insts_of Fn) → is_chain i.op ≡ true → IsRuled s entry right kinds o unit u p among names structs i
+  chains i i_in on = chain_ruled i (as_among (insts_of Fn) i i_in) on
+
+  rise : ChainsRise (insts_of Fn)
+  rise = chains_rise s.of Fn (ordered s entry right kinds o unit u p among) (λ i i_in on. (chain_ruled i i_in on).some)
+
+  -- where indexes are readable, roots are named, and no link mentions a chain of a block that is not reached
+  pub pointer_way : (readable : (i : Inst) → IsIn i (insts_of Fn) → is_chain i.op ≡ true → (n : ℕ) → IsIn n (indexes i) → IsReadable s entry right kinds o unit u p among names structs n)
+      → (roots : (n : ℕ) → NoneMakes n (insts_of Fn) → (c : ℕ) (i : Inst) → IsMentioned Fn (R s entry right kinds o unit u p among) c i n → IsRoot s entry right kinds o unit u p among names structs n)
+      → (silent : (c : ℕ) (holder : Block) (i : Inst) → slice_get Fn.blocks c ≡ Some holder → IsIn i holder.insts → is_chain i.op ≡ true → slice_index_or (R s entry right kinds o unit u p among) c false ≡ false → mentions_of (plan_is s entry right kinds o unit u p among).links i.result ≡ [])
+      → (b n : ℕ) (i : Inst) → IsMentioned Fn (R s entry right kinds o unit u p among) b i n → is i.op code.Phi ≡ false → HasWay s entry right Fn o unit u names (V s entry right kinds o unit u p among).setting.global b n
+  pointer_way readable roots silent b n i m no_phi = mentioned_way s entry right kinds o unit u p among names structs rise chains readable roots silent b n i m no_phi
