@@ -70,7 +70,7 @@ pub dropped : (args : List ℕ) (j n : ℕ) → slice_get (drop 1 args) j ≡ So
 dropped [] j n at = cc
 dropped (x ∷ args) j n at = at
 
-shaped_type : (g : ℕ → Option Tree) (q : Option ℕ) (t : Tree) → option_and_then g q ≡ Some t → g (unwrap_or q 0) ≡ Some t
+pub shaped_type : (g : ℕ → Option Tree) (q : Option ℕ) (t : Tree) → option_and_then g q ≡ Some t → g (unwrap_or q 0) ≡ Some t
 shaped_type g None t e = cc
 shaped_type g (Some ty) t e = e
 

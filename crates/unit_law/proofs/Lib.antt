@@ -24,4 +24,5 @@ pub mod Kept
 pub mod Carried
 pub mod Bases
 pub mod Places
+pub mod Indexes
 pub mod Ruled

@@ -21,13 +21,14 @@ use Rattle.conformance.specs.Rules.{Options}
 use Rattle.module_semantics.specs.Setting.{Setting}
 use Rattle.hoist_plan.specs.Plan.{mentions_of}
 use Rattle.name_alloc.specs.Naming.{name_of}
-use Rattle.glsl_ast.specs.Tree.{TranslationUnit}
+use Rattle.glsl_ast.specs.Tree.{Expr, TranslationUnit}
 use Rattle.access_paths.specs.Ways.{indexes}
 use Rattle.function_text.specs.Functions.{FunctionPlan}
 use Rattle.emit_glsl.specs.Unit.{IsUnitOf}
 use Rattle.plan_law.specs.InOrder.{IsAmong}
 use Rattle.path_law.specs.Chains.{ChainsRise, NoneMakes}
 use Rattle.path_law.proofs.Order.{chains_rise}
+use Rattle.spell_law.specs.Uses.{UsesExpr}
 use Rattle.typed_law.specs.Conforms.{IsConforming}
 use Rattle.typed_law.proofs.Lists.{from_zero, at_least, not_off}
 use Rattle.typed_law.proofs.Rules.{operand_there, value_right, number_right}
@@ -37,12 +38,13 @@ use Rattle.typed_law.proofs.Operations.{Facts}
 use Rattle.typed_law.proofs.Others.{typed_some, typed_operand, chain_types}
 use Rattle.claim_law.specs.Claimed.{IsIn}
 use Rattle.unit_law.specs.Mentioned.{IsMentioned}
-use Rattle.unit_law.specs.Words.{AreOfStructs}
+use Rattle.unit_law.specs.Words.{words_of, AreOfStructs}
 use Rattle.unit_law.proofs.Lists.{as_among}
 use Rattle.unit_law.proofs.Ways.{HaveKinds, F, R, V, plan_is, in_module, ordered}
 use Rattle.unit_law.proofs.Steps.{at_index}
 use Rattle.unit_law.proofs.Chains.{HasWay}
-use Rattle.unit_law.proofs.Places.{IsRuled, IsReadable, IsRoot, mentioned_way}
+use Rattle.unit_law.proofs.Places.{IsRuled, IsRoot, mentioned_way}
+use Rattle.unit_law.proofs.Indexes.{index_readable}
 
 module _ (s : Setting) (entry : Option (List ℕ)) (right : IsConforming s.of entry) (kinds : HaveKinds s.of.globals) (o : Options) (unit : TranslationUnit) (u : IsUnitOf s.of o unit) (p : FunctionPlan) (among : IsIn p u.plans) (names : List (List ℕ)) (structs : AreOfStructs s.of.globals (name_of u.claimed) names) where
   abbrev Gs : List Inst
@@ -104,9 +106,11 @@ module _ (s : Setting) (entry : Option (List ℕ)) (right : IsConforming s.of en
   rise : ChainsRise (insts_of Fn)
   rise = chains_rise s.of Fn (ordered s entry right kinds o unit u p among) (λ i i_in on. (chain_ruled i i_in on).some)
 
-  -- where indexes are readable, roots are named, and no link mentions a chain of a block that is not reached
-  pub pointer_way : (readable : (i : Inst) → IsIn i (insts_of Fn) → is_chain i.op ≡ true → (n : ℕ) → IsIn n (indexes i) → IsReadable s entry right kinds o unit u p among names structs n)
+  -- where what is read of indexes as globals is written, roots are named, and no link mentions a chain of a block that is not reached
+  pub pointer_way : (reads : (i : Inst) → IsIn i (insts_of Fn) → is_chain i.op ≡ true → (n : ℕ) → IsIn n (indexes i) → (e : Expr) → (V s entry right kinds o unit u p among).setting.global n ≡ Some e → UsesExpr (words_of s.of.globals (name_of u.claimed) names) e)
       → (roots : (n : ℕ) → NoneMakes n (insts_of Fn) → (c : ℕ) (i : Inst) → IsMentioned Fn (R s entry right kinds o unit u p among) c i n → IsRoot s entry right kinds o unit u p among names structs n)
       → (silent : (c : ℕ) (holder : Block) (i : Inst) → slice_get Fn.blocks c ≡ Some holder → IsIn i holder.insts → is_chain i.op ≡ true → slice_index_or (R s entry right kinds o unit u p among) c false ≡ false → mentions_of (plan_is s entry right kinds o unit u p among).links i.result ≡ [])
       → (b n : ℕ) (i : Inst) → IsMentioned Fn (R s entry right kinds o unit u p among) b i n → is i.op code.Phi ≡ false → HasWay s entry right Fn o unit u names (V s entry right kinds o unit u p among).setting.global b n
-  pointer_way readable roots silent b n i m no_phi = mentioned_way s entry right kinds o unit u p among names structs rise chains readable roots silent b n i m no_phi
+  pointer_way reads roots silent b n i m no_phi =
+      mentioned_way s entry right kinds o unit u p among names structs rise chains
+      (λ j j_in on k k_in. index_readable s entry right kinds o unit u p among names structs j (chains j j_in on) k k_in (reads j j_in on k k_in)) roots silent b n i m no_phi

@@ -85,7 +85,7 @@ no_local e = cc
 no_some : {A : Type 0} (a : A) → None ≡ Some a → ⊥
 no_some a e = cc
 
-mapped_some : {A B : Type 0} (f : A → B) (x : Option A) (b : B) → option_map f x ≡ Some b → (a : A) × (x ≡ Some a)
+pub mapped_some : {A B : Type 0} (f : A → B) (x : Option A) (b : B) → option_map f x ≡ Some b → (a : A) × (x ≡ Some a)
 mapped_some f None b e = cc
 mapped_some f (Some a) b e = (a, refl)
 
