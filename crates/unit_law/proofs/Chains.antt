@@ -52,6 +52,15 @@ both_off : (a b : Bool) → (a && b) ≡ false → a ≡ true → b ≡ false
 both_off true b e h = e
 both_off false b e h = cc
 
+not_nothing : (gs : List Inst) (ty : ℕ) (class : Option ℕ) (r : Reached) → leads_elsewhere gs ty class r ≡ false → r ≡ Nothing → ⊥
+not_nothing gs ty class r e is = never (sym (ap (leads_elsewhere gs ty class) is) ∙ e)
+  where
+    never : true ≡ false → ⊥
+    never e = cc
+
+at_part : (gs : List Inst) (ty : ℕ) (class : Option ℕ) (r : Reached) (to : ℕ) → leads_elsewhere gs ty class r ≡ false → r ≡ Part to → is_other_pointer gs ty class to ≡ false
+at_part gs ty class r to e is = sym (ap (leads_elsewhere gs ty class) is) ∙ e
+
 more_uses : (W : Words) (xs ys : List LStep) → UseSteps W xs → UseSteps W ys → UseSteps W (xs ++ ys)
 more_uses W [] ys one two = two
 more_uses W (LStep.member m ∷ xs) ys one two = (one.0, more_uses W xs ys one.1 two)
@@ -85,6 +94,15 @@ module _ (s : Setting) (entry : Option (List ℕ)) (right : IsConforming s.of en
   steps_more : (ty : ℕ) (qs rs : List Step) → steps_text Site ty (qs ++ rs) ≡ steps_text Site ty qs ++ steps_text Site (way_to ty qs) rs
   steps_more ty [] rs = refl
   steps_more ty (q ∷ qs) rs = ap (λ l. step_text Site ty q ∷ l) (steps_more (paths.step_type Site ty q) qs rs)
+
+  -- steps that follow others
+  joined_ends : (from to : ℕ) (ps qs rs : List Step) → rs ≡ ps ++ qs → way_to from ps ≡ to → way_to from rs ≡ way_to to qs
+  joined_ends from to ps qs rs is ends = ap (way_to from) is ∙ (way_more from ps qs ∙ ap (λ (x : ℕ). way_to x qs) ends)
+
+  joined_uses : (from to : ℕ) (ps qs rs : List Step) → rs ≡ ps ++ qs → way_to from ps ≡ to → UseSteps W (steps_text Site from ps) → UseSteps W (steps_text Site to qs) → UseSteps W (steps_text Site from rs)
+  joined_uses from to ps qs rs is ends one two =
+      subst (λ (l : List LStep). UseSteps W l) (sym (ap (steps_text Site from) is ∙ (steps_more from ps qs ∙ ap (λ (x : ℕ). steps_text Site from ps ++ steps_text Site x qs) ends)))
+      (more_uses W (steps_text Site from ps) (steps_text Site to qs) one two)
 
   -- each of these indexes is written, the first with this number
   abbrev pub AreWritable : Spot → ℕ → List ℕ → Type 0
@@ -163,28 +181,23 @@ module _ (s : Setting) (entry : Option (List ℕ)) (right : IsConforming s.of en
       let offs = three_off (value_fails is_pointer Gs T (word i 0)) (list_any (value_fails is_int Gs T) (drop 1 i.args)) (leads_elsewhere Gs i.ty (option_and_then (storage_class Gs) (T (word i 0))) (chain_end Gs T i)) off in
       let reached : leads_elsewhere Gs i.ty (option_and_then (storage_class Gs) (T (word i 0))) (walk (chain_step Gs T) (Part way.to) (indexes i)) ≡ false
       = ap (λ (q : Option ℕ). leads_elsewhere Gs i.ty (option_and_then (storage_class Gs) (T (word i 0))) (walk (chain_step Gs T) (option_map_or Part q Unknown) (indexes i))) (sym way.points) ∙ offs.2 in
-      let led = all_steps spot 0 way.to (indexes i) way.whole way.members writable typed (λ none. nowhere (sym (ap (leads_elsewhere Gs i.ty (option_and_then (storage_class Gs) (T (word i 0)))) none) ∙ reached)) in
-      let part : is_other_pointer Gs i.ty (option_and_then (storage_class Gs) (T (word i 0))) led.to ≡ false = ap (leads_elsewhere Gs i.ty (option_and_then (storage_class Gs) (T (word i 0)))) (sym led.leads) ∙ reached in
+      let led = all_steps spot 0 way.to (indexes i) way.whole way.members writable typed (not_nothing Gs i.ty (option_and_then (storage_class Gs) (T (word i 0))) (walk (chain_step Gs T) (Part way.to) (indexes i)) reached) in
+      let part : is_other_pointer Gs i.ty (option_and_then (storage_class Gs) (T (word i 0))) led.to ≡ false = at_part Gs i.ty (option_and_then (storage_class Gs) (T (word i 0))) (walk (chain_step Gs T) (Part way.to) (indexes i)) led.to reached led.leads in
       let parts = three_off (fails is_pointer Gs i.ty) (option_map_or (λ (c : ℕ). is_not c (storage_class Gs i.ty)) (option_and_then (storage_class Gs) (T (word i 0))) false) (option_map_or (differ Gs led.to) (pointee Gs i.ty) false) part in
       let q = points parts.0 in
       let same : led.to ≡ q.0 = same_rows led.to q.0 led.whole q.1 led.members.shaped q.3 (ap (λ (x : Option ℕ). option_map_or (differ Gs led.to) x false) (sym q.2) ∙ parts.2) in
-      let joined : way_to way.from ((path Gs f printed (base i)).steps ++ ss) ≡ way_to way.to ss = way_more way.from (path Gs f printed (base i)).steps ss ∙ ap (λ (x : ℕ). way_to x ss) way.ends in
       record {
         from = way.from;
         to = led.to;
         whole = led.whole;
         starts = ap (pointee_of Gs f) based ∙ way.starts;
-        ends = ap (way_to way.from) stepped ∙ (joined ∙ led.ends);
+        ends = joined_ends way.from way.to (path Gs f printed (base i)).steps ss (path Gs f printed i.result).steps stepped way.ends ∙ led.ends;
         points = ap (option_and_then (pointee Gs)) own ∙ (q.2 ∙ ap (λ (x : ℕ). Some x) (sym same));
         members = led.members;
         named = subst (λ (x : ℕ). W.value (base_text Site x)) (sym based) way.named;
-        uses = subst (λ (l : List LStep). UseSteps W l) (sym (ap (steps_text Site way.from) stepped ∙ (steps_more way.from (path Gs f printed (base i)).steps ss ∙ ap (λ (x : ℕ). steps_text Site way.from (path Gs f printed (base i)).steps ++ steps_text Site x ss) way.ends)))
-            (more_uses W (steps_text Site way.from (path Gs f printed (base i)).steps) (steps_text Site way.to ss) way.uses led.uses);
+        uses = joined_uses way.from way.to (path Gs f printed (base i)).steps ss (path Gs f printed i.result).steps stepped way.ends way.uses led.uses;
       }
     where
-      nowhere : true ≡ false → ⊥
-      nowhere e = cc
-
       same_rows : (a b : ℕ) (x y : Tree) → type_tree Gs a ≡ Some x → type_tree Gs b ≡ Some y → differ Gs a b ≡ false → a ≡ b
       same_rows a b x y one two apart =
           same_count a b (both_off (is_some (type_row Gs a) && is_some (type_row Gs b)) (not (a == b)) apart (both_on (is_some (type_row Gs a)) (is_some (type_row Gs b)) (ap is_some (row s f a x one).1) (ap is_some (row s f b y two).1)))

@@ -1,5 +1,5 @@
 -- The pointers that live instructions of a block mention are written of words that are declared, where no chain of a block that is not reached is mentioned.
-use Rattle.std.proofs.Common.{◌≡◌, ◌<◌, ◌++◌, ◌==◌, ◌&&◌, ◌||◌, not, ℕ, zero, suc, Bool, true, false, List, [], ◌∷◌, length, map, Option, Some, inl, inr, refl, sym, ap, ◌∙◌, subst, arith}
+use Rattle.std.proofs.Common.{◌≡◌, ◌+◌, ◌<◌, ◌++◌, ◌==◌, ◌&&◌, ◌||◌, not, ℕ, zero, suc, Bool, true, false, List, [], ◌∷◌, length, map, Option, Some, inl, inr, refl, sym, ap, ◌∙◌, subst, arith}
 use Rattle.std.specs.Prelude.{◌⊎◌, slice_get, slice_index, slice_index_or}
 use Rattle.std.specs.Option.{option_map_or}
 use Rattle.std.proofs.lemmas.Bool.Decides.{eqb_tells}
@@ -140,6 +140,7 @@ module _ (s : Setting) (entry : Option (List ℕ)) (right : IsConforming s.of en
     pub some : i.result ≡ 0 → ⊥
     pub based : slice_get i.args 0 ≡ Some (base i)
     pub typed : HaveTypes s Fn (indexes i)
+    pub leads : (q : ℕ) × (t : Tree) × (pointee_of Gs Fn (base i) ≡ Some q) × (type_tree Gs q ≡ Some t)
     pub sound : breaks_t6 Gs T i ≡ false
     pub own : T i.result ≡ Some i.ty
     pub points : fails is_pointer Gs i.ty ≡ false → (q : ℕ) × (v : Tree) × (pointee Gs i.ty ≡ Some q) × (type_tree Gs q ≡ Some v)
@@ -151,16 +152,13 @@ module _ (s : Setting) (entry : Option (List ℕ)) (right : IsConforming s.of en
     pub other : is_struct_key Gs (Id (id n)) ≡ false
     pub read : (e : Expr) → Where.setting.global n ≡ Some e → UsesExpr W e
 
-  -- a pointer that no chain makes has a name, and its members have
-  pub record IsRoot (n : ℕ) : Type 0 where
-    pub ty : ℕ
-    pub shape : Tree
-    pub points : pointee_of Gs Fn n ≡ Some ty
-    pub members : HasMembers s entry right Fn o unit u names Where.setting.global ty shape
+  -- the members of what a pointer that no chain makes leads to have names, and it has
+  pub record IsRoot (n ty : ℕ) (t : Tree) : Type 0 where
+    pub members : HasMembers s entry right Fn o unit u names Where.setting.global ty t
     pub named : W.value (base_text Where.setting n)
 
-  module _ (rise : ChainsRise (insts_of Fn)) (chains : (i : Inst) → IsIn i (insts_of Fn) → is_chain i.op ≡ true → IsRuled i) (readable : (i : Inst) → IsIn i (insts_of Fn) → is_chain i.op ≡ true → (n : ℕ) → IsIn n (indexes i) → IsReadable n)
-      (roots : (n : ℕ) → NoneMakes n (insts_of Fn) → (c : ℕ) (i : Inst) → IsMentioned Fn Marks c i n → IsRoot n)
+  module _ (rise : ChainsRise (insts_of Fn)) (chains : (i : Inst) → IsIn i (insts_of Fn) → is_chain i.op ≡ true → IsRuled i) (readable : (i : Inst) → IsIn i (insts_of Fn) → is_chain i.op ≡ true → (n : ℕ) → IsIn n (indexes i) → (c : ℕ) → IsMentioned Fn Marks c i n → IsReadable n)
+      (roots : (n ty : ℕ) (t : Tree) → NoneMakes n (insts_of Fn) → (c : ℕ) (i : Inst) → IsMentioned Fn Marks c i n → pointee_of Gs Fn n ≡ Some ty → type_tree Gs ty ≡ Some t → IsRoot n ty t)
       (silent : (c : ℕ) (holder : Block) (i : Inst) → slice_get Fn.blocks c ≡ Some holder → IsIn i holder.insts → is_chain i.op ≡ true → slice_index_or Marks c false ≡ false → mentions_of links i.result ≡ []) where
     quiet : AreQuiet Fn links (results links Fn)
     quiet = record {
@@ -218,10 +216,23 @@ module _ (s : Setting) (entry : Option (List ℕ)) (right : IsConforming s.of en
         word = ruled.based;
       }
 
+      -- and its indexes
+      index_mention : (n k : ℕ) → slice_get j.args (suc k) ≡ Some n → IsMentioned Fn Marks home.0 j n
+      index_mention n k arg = record {
+        place = place.0;
+        arg = suc k;
+        there = place.1;
+        here = reached;
+        live = live;
+        slot = both_on (is_id j.op j.args (suc k)) (is_value j.op (suc k) && is_taken Fn Marks j (suc k)) (chain_id j.op j.args (suc k) chain)
+            (both_on (is_value j.op (suc k)) (is_taken Fn Marks j (suc k)) (chain_value j.op (suc k) chain) (ap (λ (x : Bool). not x || is_label_reached Fn Marks (slice_index j.args (suc k + 1))) (chain_no_phi j.op chain)));
+        word = arg;
+      }
+
       uses : (n : ℕ) → IsIn n (indexes j) → UsesExpr W (index_expr Where.setting n)
       uses n n_in =
           let at = at_some (indexes j) n n_in in
-          let r = readable j j_in chain n n_in in
+          let r = readable j j_in chain n n_in home.0 (index_mention n at.0 (dropped j.args at.0 n at.1)) in
           index_uses s entry right kinds o unit u p among names structs home.0 home.1 j home.2 home.3 ruled.some place.0 at.0 n chain place.1 reached live (dropped j.args at.0 n at.1) r.shape r.shaped r.other r.read
 
       carried : (home.0 ≡ b → ⊥) → Where.carried j.result ≡ true
@@ -247,23 +258,24 @@ module _ (s : Setting) (entry : Option (List ℕ)) (right : IsConforming s.of en
       chain_way way = chain_has s entry right Fn o unit u names Where.setting.global b home.0 home.1 j rise home.2 (as_among home.1.insts j home.3) chain way base_seen.1 ruled.typed ruled.sound ruled.own ruled.points
 
     -- along the instructions of the function
-    made_way : (front back : List Inst) → insts_of Fn ≡ front ++ back → (b c n : ℕ) (i : Inst) (m : IsMentioned Fn Marks c i n) → is i.op code.Phi ≡ false → IsSeen b c n i m → NoneMakes n back
-        → ((xs ys : List Inst) → insts_of Fn ≡ xs ++ ys → length xs < length front → (d h : ℕ) (j : Inst) (v : IsMentioned Fn Marks d j h) → is j.op code.Phi ≡ false → IsSeen b d h j v → NoneMakes h ys → Way b h) → Way b n
-    made_way front back whole b c n i m no_phi seen none later = by_found (makes_in n front)
+    made_way : (front back : List Inst) → insts_of Fn ≡ front ++ back → (b c n : ℕ) (i : Inst) (m : IsMentioned Fn Marks c i n) → is i.op code.Phi ≡ false → IsSeen b c n i m → (ty : ℕ) (t : Tree) → pointee_of Gs Fn n ≡ Some ty → type_tree Gs ty ≡ Some t → NoneMakes n back
+        → ((xs ys : List Inst) → insts_of Fn ≡ xs ++ ys → length xs < length front → (d h : ℕ) (j : Inst) (v : IsMentioned Fn Marks d j h) → is j.op code.Phi ≡ false → IsSeen b d h j v → (q : ℕ) (x : Tree) → pointee_of Gs Fn h ≡ Some q → type_tree Gs q ≡ Some x → NoneMakes h ys → Way b h) → Way b n
+    made_way front back whole b c n i m no_phi seen ty t points shaped none later = by_found (makes_in n front)
       where
         root_way : NoneMakes n front → Way b n
         root_way first =
             let makes_none = subst (NoneMakes n) (sym whole) (none_joined n front back first none) in
-            let r = roots n makes_none c i m in
-            start_has s entry right Fn o unit u names Where.setting.global b n r.ty r.shape makes_none r.points r.members r.named
+            let r = roots n ty t makes_none c i m points shaped in
+            start_has s entry right Fn o unit u names Where.setting.global b n ty t makes_none points r.members r.named
 
         by_split : (j : Inst) (xs ys : List Inst) → front ≡ xs ++ j ∷ ys → is_chain j.op ≡ true → (v : IsMentioned Fn Marks c i j.result) → IsSeen b c j.result i v → Way b j.result
         by_split j xs ys is_it chain v v_seen =
             let joined : insts_of Fn ≡ xs ++ (j ∷ (ys ++ back)) = whole ∙ (ap (λ (l : List Inst). l ++ back) is_it ∙ more_back xs (j ∷ ys) back) in
             let j_in : IsIn j (insts_of Fn) = subst (IsIn j) (sym joined) (in_middle xs j (ys ++ back)) in
+            let leads = (chains j j_in chain).leads in
             chain_way b c i j v no_phi v_seen chain j_in
             (later xs (j ∷ (ys ++ back)) joined (subst (λ (l : List Inst). length xs < length l) (sym is_it) (shorter xs j ys)) (home b c i j v no_phi v_seen chain j_in).0 (base j) j (base_mention b c i j v no_phi v_seen chain j_in) (chain_no_phi j.op chain)
-            (base_seen b c i j v no_phi v_seen chain j_in).0 (rise_at xs j (ys ++ back) (subst ChainsRise joined rise) chain))
+            (base_seen b c i j v no_phi v_seen chain j_in).0 leads.0 leads.1 leads.2 leads.3 (rise_at xs j (ys ++ back) (subst ChainsRise joined rise) chain))
 
         by_found : Found n front → Way b n
         by_found (inr first) = root_way first
@@ -271,11 +283,11 @@ module _ (s : Setting) (entry : Option (List ℕ)) (right : IsConforming s.of en
             let x = split_at front w.0 w.1.0 in
             subst (λ (h : ℕ). (v : IsMentioned Fn Marks c i h) → IsSeen b c h i v → Way b h) w.1.2 (by_split w.0 x.0 x.1 x.2 w.1.1) m seen
 
-    seen_way : (k : ℕ) (front back : List Inst) → insts_of Fn ≡ front ++ back → length front < k → (b c n : ℕ) (i : Inst) (m : IsMentioned Fn Marks c i n) → is i.op code.Phi ≡ false → IsSeen b c n i m → NoneMakes n back → Way b n
-    seen_way zero front back whole low b c n i m no_phi seen none = absurd (omega (arith, low))
-    seen_way (suc k) front back whole low b c n i m no_phi seen none =
-        made_way front back whole b c n i m no_phi seen none (λ xs ys is_it less d h j v v_phi v_seen v_none. seen_way k xs ys is_it (let fewer : length xs < k = omega (arith, less, low) in fewer) b d h j v v_phi v_seen v_none)
+    seen_way : (k : ℕ) (front back : List Inst) → insts_of Fn ≡ front ++ back → length front < k → (b c n : ℕ) (i : Inst) (m : IsMentioned Fn Marks c i n) → is i.op code.Phi ≡ false → IsSeen b c n i m → (ty : ℕ) (t : Tree) → pointee_of Gs Fn n ≡ Some ty → type_tree Gs ty ≡ Some t → NoneMakes n back → Way b n
+    seen_way zero front back whole low b c n i m no_phi seen ty t points shaped none = absurd (omega (arith, low))
+    seen_way (suc k) front back whole low b c n i m no_phi seen ty t points shaped none =
+        made_way front back whole b c n i m no_phi seen ty t points shaped none (λ xs ys is_it less d h j v v_phi v_seen q x v_points v_shaped v_none. seen_way k xs ys is_it (let fewer : length xs < k = omega (arith, less, low) in fewer) b d h j v v_phi v_seen q x v_points v_shaped v_none)
 
-    -- so is what a live instruction mentions, in its block
-    pub mentioned_way : (b n : ℕ) (i : Inst) (m : IsMentioned Fn Marks b i n) → is i.op code.Phi ≡ false → Way b n
-    mentioned_way b n i m no_phi = seen_way (suc (length (insts_of Fn))) (insts_of Fn) [] (sym (no_more (insts_of Fn))) (let less : length (insts_of Fn) < suc (length (insts_of Fn)) = omega arith in less) b b n i m no_phi (inl refl) tt
+    -- so is each pointer that a live instruction mentions, in its block
+    pub mentioned_way : (b n : ℕ) (i : Inst) (m : IsMentioned Fn Marks b i n) → is i.op code.Phi ≡ false → (ty : ℕ) (t : Tree) → pointee_of Gs Fn n ≡ Some ty → type_tree Gs ty ≡ Some t → Way b n
+    mentioned_way b n i m no_phi ty t points shaped = seen_way (suc (length (insts_of Fn))) (insts_of Fn) [] (sym (no_more (insts_of Fn))) (let less : length (insts_of Fn) < suc (length (insts_of Fn)) = omega arith in less) b b n i m no_phi (inl refl) ty t points shaped tt

@@ -1,7 +1,8 @@
 -- What the rules say of chains in a conforming module: so it is with its pointers.
 use Rattle.std.proofs.Common.{◌≡◌, ◌<◌, ◌≤◌, ℕ, suc, true, false, List, [], ◌∷◌, drop, length, Option, Some, Contains, not, refl, sym, ap, ◌∙◌, subst, arith}
-use Rattle.std.specs.Prelude.{slice_get, slice_index, slice_index_or}
+use Rattle.std.specs.Prelude.{option_and_then, slice_get, slice_index, slice_index_or}
 use Rattle.std.specs.Option.{option_map_or}
+use Rattle.std.specs.List.{list_any}
 use Rattle.spv_ops.specs.Opcode.{is, number}
 use Rattle.spv_ops.specs.OpGroups.{takes_of, group_of}
 use Rattle.spv_ops.specs.Operands.{is_id}
@@ -13,10 +14,14 @@ use Rattle.spv_module.specs.Inst.{has_type, has_result}
 use Rattle.spv_module.specs.declared.inst.Inst.{Inst}
 use Rattle.spv_module.specs.declared.inst.Block.{Block}
 use Rattle.spv_module.specs.declared.inst.Function.{Function}
+use Rattle.spv_types.specs.Tree.{Tree}
+use Rattle.spv_types.specs.Types.{type_tree}
+use Rattle.spv_decor.specs.Rows.{word}
 use Rattle.spv_index.specs.Locals.{insts_of, type_in}
+use Rattle.spv_index.specs.Pointers.{storage_class, pointee_of}
 use Rattle.profile_rules.specs.Operands.{need, is_there_in}
-use Rattle.profile_rules.specs.TypeRows.{is_pointer}
-use Rattle.profile_rules.specs.ValueRules.{breaks_t6}
+use Rattle.profile_rules.specs.TypeRows.{is_pointer, is_int, value_fails}
+use Rattle.profile_rules.specs.ValueRules.{chain_end, leads_elsewhere, breaks_t6}
 use Rattle.conformance.specs.Rules.{Options}
 use Rattle.module_semantics.specs.Setting.{Setting}
 use Rattle.hoist_plan.specs.Plan.{mentions_of}
@@ -25,6 +30,7 @@ use Rattle.glsl_ast.specs.Tree.{Expr, TranslationUnit}
 use Rattle.access_paths.specs.Ways.{indexes}
 use Rattle.function_text.specs.Functions.{FunctionPlan}
 use Rattle.emit_glsl.specs.Unit.{IsUnitOf}
+use Rattle.type_law.proofs.Vectors.{three_off}
 use Rattle.plan_law.specs.InOrder.{IsAmong}
 use Rattle.path_law.specs.Chains.{ChainsRise, NoneMakes}
 use Rattle.path_law.proofs.Order.{chains_rise}
@@ -35,7 +41,7 @@ use Rattle.typed_law.proofs.Rules.{operand_there, value_right, number_right}
 use Rattle.typed_law.proofs.Types.{row_is, pointee_shaped}
 use Rattle.typed_law.proofs.Values.{inside, local_row, HasType, own_type, type_suits}
 use Rattle.typed_law.proofs.Operations.{Facts}
-use Rattle.typed_law.proofs.Others.{typed_some, typed_operand, chain_types}
+use Rattle.typed_law.proofs.Others.{target_of, typed_some, typed_operand, chain_types}
 use Rattle.claim_law.specs.Claimed.{IsIn}
 use Rattle.unit_law.specs.Mentioned.{IsMentioned}
 use Rattle.unit_law.specs.Words.{words_of, AreOfStructs}
@@ -74,6 +80,7 @@ module _ (s : Setting) (entry : Option (List ℕ)) (right : IsConforming s.of en
       some = ((inside s entry right Fn in_it).formed i there).result results;
       based = at_index i.args 0 some;
       typed = chain_types s entry right Fn in_it i there (drop 1 i.args) (behind i.args each);
+      leads = target_of s entry right Fn in_it (word i 0) (each 0 some) (three_off (value_fails is_pointer Gs T (word i 0)) (list_any (value_fails is_int Gs T) (drop 1 i.args)) (leads_elsewhere Gs i.ty (option_and_then (storage_class Gs) (T (word i 0))) (chain_end Gs T i)) off).0;
       sound = off;
       own = own_type s entry right Fn in_it i there (typed_some s entry right Fn in_it i there has);
       points = λ points. (
@@ -107,10 +114,10 @@ module _ (s : Setting) (entry : Option (List ℕ)) (right : IsConforming s.of en
   rise = chains_rise s.of Fn (ordered s entry right kinds o unit u p among) (λ i i_in on. (chain_ruled i i_in on).some)
 
   -- where what is read of indexes as globals is written, roots are named, and no link mentions a chain of a block that is not reached
-  pub pointer_way : (reads : (i : Inst) → IsIn i (insts_of Fn) → is_chain i.op ≡ true → (n : ℕ) → IsIn n (indexes i) → (e : Expr) → (V s entry right kinds o unit u p among).setting.global n ≡ Some e → UsesExpr (words_of s.of.globals (name_of u.claimed) names) e)
-      → (roots : (n : ℕ) → NoneMakes n (insts_of Fn) → (c : ℕ) (i : Inst) → IsMentioned Fn (R s entry right kinds o unit u p among) c i n → IsRoot s entry right kinds o unit u p among names structs n)
+  pub pointer_way : (reads : (i : Inst) → is_chain i.op ≡ true → (n : ℕ) → IsIn n (indexes i) → (c : ℕ) → IsMentioned Fn (R s entry right kinds o unit u p among) c i n → (e : Expr) → (V s entry right kinds o unit u p among).setting.global n ≡ Some e → UsesExpr (words_of s.of.globals (name_of u.claimed) names) e)
+      → (roots : (n ty : ℕ) (t : Tree) → NoneMakes n (insts_of Fn) → (c : ℕ) (i : Inst) → IsMentioned Fn (R s entry right kinds o unit u p among) c i n → pointee_of Gs Fn n ≡ Some ty → type_tree Gs ty ≡ Some t → IsRoot s entry right kinds o unit u p among names structs n ty t)
       → (silent : (c : ℕ) (holder : Block) (i : Inst) → slice_get Fn.blocks c ≡ Some holder → IsIn i holder.insts → is_chain i.op ≡ true → slice_index_or (R s entry right kinds o unit u p among) c false ≡ false → mentions_of (plan_is s entry right kinds o unit u p among).links i.result ≡ [])
-      → (b n : ℕ) (i : Inst) → IsMentioned Fn (R s entry right kinds o unit u p among) b i n → is i.op code.Phi ≡ false → HasWay s entry right Fn o unit u names (V s entry right kinds o unit u p among).setting.global b n
-  pointer_way reads roots silent b n i m no_phi =
+      → (b n : ℕ) (i : Inst) → IsMentioned Fn (R s entry right kinds o unit u p among) b i n → is i.op code.Phi ≡ false → (ty : ℕ) (t : Tree) → pointee_of Gs Fn n ≡ Some ty → type_tree Gs ty ≡ Some t → HasWay s entry right Fn o unit u names (V s entry right kinds o unit u p among).setting.global b n
+  pointer_way reads roots silent b n i m no_phi ty t points shaped =
       mentioned_way s entry right kinds o unit u p among names structs rise chains
-      (λ j j_in on k k_in. index_readable s entry right kinds o unit u p among names structs j (chains j j_in on) k k_in (reads j j_in on k k_in)) roots silent b n i m no_phi
+      (λ j j_in on k k_in c v. index_readable s entry right kinds o unit u p among names structs j (chains j j_in on) k k_in (reads j on k k_in c v)) roots silent b n i m no_phi ty t points shaped
