@@ -1,30 +1,13 @@
 use Rattle.std.proofs.Common.{◌∙◌, List, ap, map, subst}
 use Rattle.std.specs.List.{flat_map}
 use Rattle.spv_module.specs.declared.inst.Function.{Function}
-use Rattle.name_alloc.specs.declared.claims.Claim.{Claim}
-use Rattle.name_alloc.specs.Naming.{name_of}
-use Rattle.text_items.specs.State.{WrittenState, functions_at}
+use Rattle.text_items.specs.State.{functions_at}
 use Rattle.function_plan.specs.Claimed.{claimed_by}
 use Rattle.function_text.specs.Live.{types_in, mentions_in}
 use Rattle.emit_glsl.specs.Reached.{IsHead}
-use Rattle.emit_glsl.proofs.Unasked.{head_live}
 use Rattle.emit_glsl.proofs.heads.head_of.Goals as goal
 
 pub returns : goal.returns
 returns c =
-    let readings = c.args.readings.now in
-    let plans = c.args.plans.now in
-    let head = record { names = c.in_ok-names.names; items = c.in_ok-items.items } in
-    let written : IsHead c.in_ok-written.written.source c.in_ok-written.written.reached (map claimed_by plans) head = record {
-      named = record {
-        claimed = c.in_ok-claims.claims.items;
-        claims_are = c.in_ok-claims.ensures;
-        lawful = c.in_ok-names.ensures.laws;
-        names_are = λ key. c.in_ok-names.ensures.names key ∙ ap (λ (cs : List Claim). name_of cs key) c.as_slice.ensures.value;
-      };
-      items_are = c.in_ok-items.ensures;
-    } in
-    let told = head_live readings (functions_at c.as_slice-functions.result.now) c.in_ok-live.live (flat_map types_in plans) (flat_map mentions_in plans) (map claimed_by plans) head
-    c.in_ok-live.ensures.types c.in_ok-live.ensures.mentions (subst (λ (w : WrittenState). IsHead w.source w.reached (map claimed_by plans) head) c.in_ok-written.ensures written) in
-    subst (λ (fs : List Function). IsHead readings (record { functions = fs; types = flat_map types_in plans; mentions = flat_map mentions_in plans }) (map claimed_by plans) head)
-    (ap functions_at c.as_slice-functions.ensures.value ∙ c.in_ok-functions.ensures) told
+    subst (λ (fs : List Function). IsHead c.args.readings.now (record { functions = fs; types = flat_map types_in c.args.plans.now; mentions = flat_map mentions_in c.args.plans.now }) (map claimed_by c.args.plans.now) c.in_ok-head.head)
+    (ap functions_at c.as_slice.ensures.value ∙ c.in_ok-functions.ensures) c.in_ok-head.ensures
