@@ -2,7 +2,7 @@
 ghost use Rattle.std.specs.Prelude.{◌≡◌, [], true, flat_map, IfOk, map};
 ghost use Rattle.std.specs.List.{list_any};
 ghost use Rattle.text_items.specs.Asked.{is_asked};
-ghost use Rattle.text_items.specs.State.{functions_at, reached_of};
+ghost use Rattle.text_items.specs.State.{functions_at};
 ghost use Rattle.function_plan.specs.Claimed.{claimed_by};
 ghost use Rattle.emit_glsl.specs.Reached.{reached_in, IsHead};
 ghost use Rattle.function_text.specs.Live.{types_in, mentions_in};
@@ -54,36 +54,10 @@ fn live_if_asked(alloc: Global, readings: &Readings, plans: &[FunctionPlan]) -> 
     ensures mentions { IfOk result (λ live. list_any (is_asked readings.now) readings.now.of.globals ≡ true → live.mentions.items ≡ flat_map mentions_in plans.now) }
 {
     if asks_live(readings) {
-        let live = live_of(alloc, plans)?;
-        Ok(live)
+        live_of(alloc, plans)
     } else {
         Ok(no_live(alloc))
     }
-}
-
-/// The head of a text by what is written.
-fn written_head(alloc: Global, written: &Written, plans: &[FunctionPlan]) -> Result<Head, Memory>
-    ensures { IfOk result (IsHead written.now.source written.now.reached (map claimed_by plans.now)) }
-{
-    let claims = claims(alloc, written, plans)?;
-    let names = names(alloc, claims.as_slice())?;
-    let items = declarations(alloc, written, &names)?;
-    Ok(Head { items, names })
-}
-
-/// The head of a text with these functions, and what is told of their live instructions.
-fn head_by<'a>(
-    alloc: Global,
-    readings: &Readings<'a>,
-    plans: &[FunctionPlan<'a>],
-    functions: &[&'a Function],
-    live: &Live,
-) -> Result<Head, Memory>
-    ensures { IfOk result (IsHead readings.now (reached_of functions.now live.now) (map claimed_by plans.now)) }
-{
-    let written = Written::of(alloc, readings, functions, live)?;
-    let head = written_head(alloc, &written, plans)?;
-    Ok(head)
 }
 
 /// The head of a text with these functions.
@@ -96,8 +70,11 @@ fn head_with<'a>(
     ensures { IfOk result (IsHead readings.now (record { functions = functions_at functions.now; types = flat_map types_in plans.now; mentions = flat_map mentions_in plans.now }) (map claimed_by plans.now)) }
 {
     let live = live_if_asked(alloc, readings, plans)?;
-    let head = head_by(alloc, readings, plans, functions, &live)?;
-    Ok(head)
+    let written = Written::of(alloc, readings, functions, &live)?;
+    let claims = claims(alloc, &written, plans)?;
+    let names = names(alloc, claims.as_slice())?;
+    let items = declarations(alloc, &written, &names)?;
+    Ok(Head { items, names })
 }
 
 /// The head of a text with planned functions.
@@ -109,6 +86,5 @@ pub fn head_of<'a>(
     ensures { IfOk result (IsHead readings.now (reached_in plans.now) (map claimed_by plans.now)) }
 {
     let functions = functions_of(alloc, plans)?;
-    let head = head_with(alloc, readings, plans, functions.as_slice())?;
-    Ok(head)
+    head_with(alloc, readings, plans, functions.as_slice())
 }

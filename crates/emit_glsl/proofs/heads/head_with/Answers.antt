@@ -1,13 +1,28 @@
-use Rattle.std.proofs.Common.{map}
-use Rattle.std.specs.Prelude.{flat_map}
-use Rattle.text_items.specs.State.{functions_at}
+use Rattle.std.proofs.Common.{◌∙◌, List, ap, map, subst}
+use Rattle.std.specs.List.{flat_map}
+use Rattle.name_alloc.specs.declared.claims.Claim.{Claim}
+use Rattle.name_alloc.specs.Naming.{name_of}
+use Rattle.text_items.specs.State.{WrittenState, functions_at}
 use Rattle.function_plan.specs.Claimed.{claimed_by}
 use Rattle.function_text.specs.Live.{types_in, mentions_in}
+use Rattle.emit_glsl.specs.declared.heads.Head.{Head}
+use Rattle.emit_glsl.specs.Reached.{IsHead}
 use Rattle.emit_glsl.proofs.Unasked.{head_live}
 use Rattle.emit_glsl.proofs.heads.head_with.Goals as goal
 
 pub returns : goal.returns
 returns c =
+    let readings = c.args.readings.now in
     let plans = c.args.plans.now in
-    head_live c.args.readings.now (functions_at c.args.functions.now) c.in_ok-live.live (flat_map types_in plans) (flat_map mentions_in plans) (map claimed_by plans) c.in_ok-head.head
-    c.in_ok-live.ensures.types c.in_ok-live.ensures.mentions c.in_ok-head.ensures
+    let head : Head = record { names = c.in_ok-names.names; items = c.in_ok-items.items } in
+    let written : IsHead c.in_ok-written.written.source c.in_ok-written.written.reached (map claimed_by plans) head = record {
+      named = record {
+        claimed = c.in_ok-claims.claims.items;
+        claims_are = c.in_ok-claims.ensures;
+        lawful = c.in_ok-names.ensures.laws;
+        names_are = λ key. c.in_ok-names.ensures.names key ∙ ap (λ (cs : List Claim). name_of cs key) c.as_slice.ensures.value;
+      };
+      items_are = c.in_ok-items.ensures;
+    } in
+    head_live readings (functions_at c.args.functions.now) c.in_ok-live.live (flat_map types_in plans) (flat_map mentions_in plans) (map claimed_by plans) head
+    c.in_ok-live.ensures.types c.in_ok-live.ensures.mentions (subst (λ (w : WrittenState). IsHead w.source w.reached (map claimed_by plans) head) c.in_ok-written.ensures written)
