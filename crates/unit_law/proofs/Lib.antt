@@ -24,5 +24,6 @@ pub mod Kept
 pub mod Carried
 pub mod Bases
 pub mod Places
+pub mod Composed
 pub mod Indexes
 pub mod Ruled

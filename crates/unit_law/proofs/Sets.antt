@@ -149,7 +149,7 @@ module _ (s : Setting) (entry : Option (List ℕ)) (right : IsConforming s.of en
       marked : slice_index_or (liveness_of (S s entry right kinds o unit u p among) p).reached block false ≡ true
       marked = reached_nth p.graph block ∙ reached
 
-      names_there : (x : Form) → Where.form i.result ≡ x → is_gone x ≡ false → HasNames s.of o unit u t
+      pub names_there : (x : Form) → Where.form i.result ≡ x → is_gone x ≡ false → HasNames s.of o unit u t
       names_there x form kept = result_names s entry right kinds o unit u p among i stands typed t shaped (live_type_written s.of o unit u p among i of_it marked (ap is_gone (scoped ∙ form) ∙ kept))
 
       -- a result that gets a value asks for its type and its name
