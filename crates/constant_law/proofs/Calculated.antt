@@ -1,6 +1,6 @@
 -- The expression of a calculated constant says its value, where those of its operands say theirs.
 use Rattle.std.proofs.Common.{◌≡◌, ◌≤◌, ◌+◌, ◌==◌, ◌||◌, ◌&&◌, ℕ, Bool, true, false, List, [], ◌∷◌, drop, map, Option, Some, None, inl, inr, refl, sym, ap, ap₂, ◌∙◌, subst, if◌then◌else◌, arith}
-use Rattle.std.specs.Prelude.{◌⊎◌, option_and_then, slice_index, unwrap_or}
+use Rattle.std.specs.Prelude.{◌⊎◌, ◌<◌, bytes_eq, option_and_then, slice_index, unwrap_or}
 use Rattle.std.specs.Option.{option_map_or}
 use Rattle.std.proofs.lemmas.Bool.Decides.{nat_tests}
 use Rattle.spv_ops.specs.Opcode.{op_of}
@@ -48,14 +48,15 @@ use Rattle.lowering_law.specs.BuiltIns.{NoneDeclared}
 use Rattle.lowering_law.specs.Written.{text_shape, text_fields, IsWritten, AreWritten}
 use Rattle.lowering_law.specs.Arguments.{MeansAs, AllMeanAs, AllWritten}
 use Rattle.lowering_law.proofs.Arguments.{written_says}
-use Rattle.path_law.specs.Parts.{StructNames, shape_in, fields_in}
+use Rattle.fits_law.specs.Takes.{nth_of}
+use Rattle.path_law.specs.Parts.{StructNames, HasMembersApart, HaveMembersApart, shape_in, fields_in}
 use Rattle.path_law.specs.Walks.{struct_names}
 use Rattle.global_law.specs.Sources.{source_of, chosen}
 use Rattle.global_law.proofs.Plain.{plain_has}
 use Rattle.global_law.proofs.Zeros.{HasZero, HaveZeros}
 use Rattle.typed_law.specs.Words.{HoldWords}
 use Rattle.typed_law.proofs.Lists.{and_left, and_right, same_some, some_part}
-use Rattle.constant_law.specs.Items.{key_text, IsShort, AreShort, HasMembersApart, HaveMembersApart}
+use Rattle.constant_law.specs.Items.{key_text, IsShort, AreShort}
 use Rattle.constant_law.proofs.Valued.{IsOperand, AreOperands}
 use Rattle.constant_law.proofs.Constituents.{have_shapes, all_fit, operation_right}
 use Rattle.constant_law.proofs.Inner.{AllSized, inner_operation, inner_given}
@@ -133,7 +134,7 @@ module _ (p : Program) (s : Setting) (source : Source) (found : Key → Option T
     zeros_sized (tree t ts) z = (zero_sized t z.0, zeros_sized ts z.1)
 
   mutual
-    pub type_written : (t : Tree) → HasZero p s source (key_text found) t → IsShort t → HasMembersApart found t → IsWritten p found t
+    pub type_written : (t : Tree) → HasZero p s source (key_text found) t → IsShort t → HasMembersApart (struct_names (key_text found)) t → IsWritten p found t
     type_written plain.boolean z short apart = tt
     type_written plain.int z short apart = tt
     type_written plain.uint z short apart = tt
@@ -147,9 +148,12 @@ module _ (p : Program) (s : Setting) (source : Source) (found : Key → Option T
     type_written (plain.array t (Spec l)) z short apart = absurd z
     type_written (plain.runtime t) z short apart = absurd z
     type_written (plain.struct k ts) z short apart =
-        (ap p.structs (text_same (found (Id (id k)))) ∙ z.0 ∙ ap (λ fs. Some fs) (sym (fields_same k 0 ts z.1)), apart.0, types_written ts z.1 short apart.1)
+        (ap p.structs (text_same (found (Id (id k)))) ∙ z.0 ∙ ap (λ fs. Some fs) (sym (fields_same k 0 ts z.1)), members_apart, types_written ts z.1 short apart.1)
+      where
+        members_apart : (i j : ℕ) (t : Tree) → i < j → nth_of ts j ≡ Some t → bytes_eq (text_or_none (found (Member (id k) i))) (text_or_none (found (Member (id k) j))) ≡ false
+        members_apart i j t less at = ap₂ (λ a b. bytes_eq a b) (text_same (found (Member (id k) i))) (text_same (found (Member (id k) j))) ∙ apart.0 i j t less at
 
-    types_written : (ts : Trees) → HaveZeros p s source (key_text found) ts → AreShort ts → HaveMembersApart found ts → AreWritten p found ts
+    types_written : (ts : Trees) → HaveZeros p s source (key_text found) ts → AreShort ts → HaveMembersApart (struct_names (key_text found)) ts → AreWritten p found ts
     types_written no_trees z short apart = tt
     types_written (tree t ts) z short apart = (type_written t z.0 short.0 apart.0, types_written ts z.1 short.1 apart.1)
 
@@ -209,7 +213,7 @@ module _ (s : Setting) (overrides : List (ℕ × Given)) (found : Key → Option
       pub says : Says p calls z (constant_expr source names is_one.inst) (typed (shape_in s YS t) v)
       pub zero : HasZero p s source key t
       pub short : IsShort t
-      pub apart : HasMembersApart found t
+      pub apart : HasMembersApart (struct_names (key_text found)) t
 
     abbrev pub AreRead : ℕ → List ℕ → List Tree → List ValueTree → Type 0
     AreRead at [] [] [] = Unit {0}
@@ -261,7 +265,7 @@ module _ (s : Setting) (overrides : List (ℕ × Given)) (found : Key → Option
 
     -- So its expression says its value.
     pub calculated_says : NoneDeclared p → (g : Inst) (t : Tree) (from : ℕ → Option ValueTree) (v : ValueTree) → is_sound s.of g ≡ true → constant_kind g.op ≡ kinds.Operation → type_tree s.of.globals g.ty ≡ Some t
-        → HasZero p s source key t → IsShort t → HasMembersApart found t → (w : IsCalculated g t from v) (us : List Tree) → AreRead g.at (inner_operands w.opcode (drop 1 g.args)) us w.values → Says p calls z (calculated_with source found names g) (typed (shape_in s YS t) v)
+        → HasZero p s source key t → IsShort t → HasMembersApart (struct_names (key_text found)) t → (w : IsCalculated g t from v) (us : List Tree) → AreRead g.at (inner_operands w.opcode (drop 1 g.args)) us w.values → Says p calls z (calculated_with source found names g) (typed (shape_in s YS t) v)
     calculated_says none g t from v sound kind shape zero_is short apart w us are =
         let operands_are = all_ones g.at (inner_operands w.opcode (drop 1 g.args)) us w.values are in
         let right = operation_right s g w.opcode sound kind w.numbered in

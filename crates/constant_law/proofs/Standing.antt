@@ -53,7 +53,7 @@ use Rattle.text_rules.specs.Constants.{Source, if_free, free_spec_id, is_scalar,
 use Rattle.text_rules.specs.Printed.{Reached, has_struct, have_struct, has_operand, is_private, is_workgroup, is_block_variable, is_operand_in, is_written_variable, is_length_of, needs_constant, is_named, declares, needed_from, is_needed, is_declared_constant, is_written_struct, type_has_struct, written_types}
 use Rattle.text_rules.specs.Declarations.{Names, type_at, pointee_at, initial, expr_at, value_by, extent_by, length_extent, struct_decl, constant_decl, variable_decl, declaration}
 use Rattle.text_items.specs.Names.{calculated_with}
-use Rattle.path_law.specs.Parts.{StructNames, shape_in, fields_in}
+use Rattle.path_law.specs.Parts.{StructNames, HasMembersApart, shape_in, fields_in}
 use Rattle.path_law.specs.Walks.{struct_names}
 use Rattle.path_law.proofs.Starts.{outside_is}
 use Rattle.lowering_law.specs.Says.{Says, AllSay}
@@ -72,7 +72,7 @@ use Rattle.global_law.proofs.Privates.{AreOtherVariables, items_find, own_value}
 use Rattle.global_law.proofs.Extents.{plain_extent, named_extent}
 use Rattle.global_law.proofs.Zeros.{HasZero, HaveZeros, is_declared}
 use Rattle.constant_law.specs.Within.{IsSpecBefore, IsStructBefore, IsWithin, AreWithin, IsNoBlock}
-use Rattle.constant_law.specs.Items.{key_text, is_item, IsScalarSpec, AreAsked, IsShort, HasMembersApart}
+use Rattle.constant_law.specs.Items.{key_text, is_item, IsScalarSpec, AreAsked, IsShort}
 use Rattle.constant_law.proofs.Valued.{IsValued, valued, IsOperand, AreOperands, operands}
 use Rattle.constant_law.proofs.Within.{wider, constant_no_variable, constant_within, members_unblocked}
 use Rattle.constant_law.proofs.Needed.{AllOperands, all_operands, inner_operands_are, operand_needed}
@@ -450,7 +450,7 @@ module _ (s : Setting) (entry : Option (List ℕ)) (overrides : List (ℕ × Giv
     all_declared (tree t ts) w held = (declared_stands t w.0 (λ j has. held j (or_on_left (has_struct j t) (have_struct j ts) has)), all_declared ts w.1 (λ j has. held j (or_on_right (has_struct j t) (have_struct j ts) has)))
 
   -- what is known of a scalar type
-  scalar_known : (p : Program) (t : Tree) → is_scalar t ≡ true → HasZero p s source key t × IsShort t × HasMembersApart found_key t
+  scalar_known : (p : Program) (t : Tree) → is_scalar t ≡ true → HasZero p s source key t × IsShort t × HasMembersApart (struct_names key) t
   scalar_known p plain.boolean on = (tt, tt, tt)
   scalar_known p plain.int on = (tt, tt, tt)
   scalar_known p plain.uint on = (tt, tt, tt)
@@ -535,7 +535,7 @@ module _ (s : Setting) (entry : Option (List ℕ)) (overrides : List (ℕ × Giv
         same_type : (u : Tree) → type_tree Gs h.ty ≡ Some u → u ≡ t
         same_type u e = same_some u t (sym e ∙ w.typed_as)
 
-        by_reading : (q : Reading) → reading source h ≡ q → HasZero d.program s source key t × IsShort t × HasMembersApart found_key t
+        by_reading : (q : Reading) → reading source h ≡ q → HasZero d.program s source key t × IsShort t × HasMembersApart (struct_names key) t
         by_reading Plain reads = let c = plain_is s overrides h reads in scalar_known d.program t (subst (λ u. is_scalar u ≡ true) (same_type c.shape c.typed_as) c.scalar)
         by_reading Named reads =
             let declared = operand_declared h n itself operand constant reads in
@@ -546,12 +546,12 @@ module _ (s : Setting) (entry : Option (List ℕ)) (overrides : List (ℕ × Giv
             )
         by_reading GroupSize reads =
             let c = size_has s overrides asked.have asked.right.results asked.right.rising asked.spec_ids asked.sizes h v among (own h among) (size_reading source h reads) has in
-            subst (λ u. HasZero d.program s source key u × IsShort u × HasMembersApart found_key u) (same_type (plain.vector elem.Uint 3) c.0) (inr (inl refl), tt, tt)
+            subst (λ u. HasZero d.program s source key u × IsShort u × HasMembersApart (struct_names key) u) (same_type (plain.vector elem.Uint 3) c.0) (inr (inl refl), tt, tt)
         by_reading (GroupSizePart axis) reads =
             let c = part_is_of s overrides asked.have asked.right.results asked.right.rising asked.spec_ids asked.sizes h axis v (own h among) has (part_reading source h axis reads) in
-            subst (λ u. HasZero d.program s source key u × IsShort u × HasMembersApart found_key u) (same_type plain.uint c.typed_as) (tt, tt, tt)
+            subst (λ u. HasZero d.program s source key u × IsShort u × HasMembersApart (struct_names key) u) (same_type plain.uint c.typed_as) (tt, tt, tt)
 
-        known : HasZero d.program s source key t × IsShort t × HasMembersApart found_key t
+        known : HasZero d.program s source key t × IsShort t × HasMembersApart (struct_names key) t
         known = by_reading (reading source h) refl
 
     all_read : (ns : List ℕ) (ts : List Tree) (vs : List ValueTree) → AreOperands s C asked.have asked.right.results asked.right.rising g.at ns ts vs → AllOperands g ns → AreRead s overrides found_key asked.have asked.right.results asked.right.rising asked.low d.program no_calls Z g.at ns ts vs

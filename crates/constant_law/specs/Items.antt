@@ -24,7 +24,8 @@ use Rattle.type_law.specs.Shaped.{HasConstants}
 use Rattle.typed_law.specs.Conforms.{IsConforming}
 use Rattle.typed_law.specs.Words.{HoldWords}
 use Rattle.global_law.specs.Sources.{source_of, chosen}
-use Rattle.lowering_law.specs.Written.{AreMembersApart}
+use Rattle.path_law.specs.Parts.{HasMembersApart}
+use Rattle.path_law.specs.Walks.{struct_names}
 use Rattle.name_alloc.specs.declared.claims.Key.{Key}
 use Rattle.name_alloc.specs.declared.claims.Key.TheVariants.{Id}
 use Rattle.glsl_ast.specs.Tree.{Text}
@@ -49,18 +50,6 @@ abbrev mutual
   pub AreShort : Trees → Type 0
   AreShort no_trees = Unit {0}
   AreShort (tree t ts) = IsShort t × AreShort ts
-
--- no two members of a struct in the type have one name
-abbrev mutual
-  pub HasMembersApart : (Key → Option Text) → Tree → Type 0
-  HasMembersApart found (plain.array t l) = HasMembersApart found t
-  HasMembersApart found (plain.runtime t) = HasMembersApart found t
-  HasMembersApart found (plain.struct k ts) = AreMembersApart found k ts × HaveMembersApart found ts
-  HasMembersApart found _ = Unit {0}
-
-  pub HaveMembersApart : (Key → Option Text) → Trees → Type 0
-  HaveMembersApart found no_trees = Unit {0}
-  HaveMembersApart found (tree t ts) = HasMembersApart found t × HaveMembersApart found ts
 
 -- the items have names apart (names), and none that of the size of workgroups
 pub record HaveNames (source : Source) (r : Reached) (key : Key → Text) : Type 0 where
@@ -97,4 +86,4 @@ pub record AreAsked (s : Setting) (entry : Option (List ℕ)) (overrides : List 
   pub sizes : AreSizes (source_of s overrides)
   pub lengths : HaveLengths s
   pub short : (g : Inst) (t : Tree) → IsAmong g s.of.globals → is_declared_constant (source_of s overrides) r g ≡ true → type_tree s.of.globals g.ty ≡ Some t → IsShort t
-  pub members : (g : Inst) (t : Tree) → IsAmong g s.of.globals → is_declared_constant (source_of s overrides) r g ≡ true → type_tree s.of.globals g.ty ≡ Some t → HasMembersApart found t
+  pub members : (g : Inst) (t : Tree) → IsAmong g s.of.globals → is_declared_constant (source_of s overrides) r g ≡ true → type_tree s.of.globals g.ty ≡ Some t → HasMembersApart (struct_names (key_text found)) t

@@ -1,6 +1,6 @@
 -- Loads, stores and atomic instructions: the text of their pointer is what they ask of it.
 use Rattle.std.proofs.Common.{◌≡◌, ◌++◌, ◌==◌, ◌&&◌, ℕ, Bool, true, false, List, [], ◌∷◌, Option, Some, None, inl, inr, refl, sym, ap, ◌∙◌, subst}
-use Rattle.std.specs.Prelude.{bytes_eq, option_and_then}
+use Rattle.std.specs.Prelude.{option_and_then}
 use Rattle.std.proofs.lemmas.Bool.Decides.{eqb_tells}
 use Rattle.std.proofs.lemmas.Slice.Eq.{bytes_eq-Decides}
 use Rattle.spv_ops.specs.declared.AtomicOp.{AtomicOp}
@@ -46,7 +46,7 @@ use Rattle.agree_law.proofs.Instructions.{ReadsSeen, Reads, WritesSeen, Updates}
 use Rattle.path_law.specs.Parts.{shape_in, HasScalars, part_value, IsPart}
 use Rattle.path_law.specs.Walks.{writing, struct_names}
 use Rattle.path_law.proofs.Leaves.{same_value, sized_in, places_are}
-use Rattle.path_law.proofs.Walks.{MembersApart, IsPlace, IsNoBlock, part_of}
+use Rattle.path_law.proofs.Walks.{IsPlace, IsNoBlock, part_of}
 use Rattle.path_law.proofs.Pointers.{first_type, Leads, place_stands, expr_stands}
 
 some_same : {A : Type 0} (a b : A) → Some a ≡ Some b → a ≡ b
@@ -86,7 +86,7 @@ shape_itself s key (plain.runtime t) z = absurd z
 shape_itself s key (plain.struct id ts) z = (bytes_eq-Decides ((struct_names key).struct_name id) ((struct_names key).struct_name id)).1 refl
 
 module _ (p : Program) (calls : Text → List Argument → State → Result (Option Typed × State)) (k : ℕ) (m : Naming) (names : AreApart m) (s : Setting) (Holds : Conf → Type 0) (f : Function) (b : ℕ) (keeps : IsKept (machine s) Holds) (done : List Inst) (i : Inst) (rest : List Inst)
-    (overrides : List (ℕ × Given)) (key : Key → Text) (globals : ℕ → Option Expr) (right : AreConstants s) (c : Supplied Conf) (z : State) (apart : MembersApart p calls z s overrides f key globals right) (stands : Stands m s Holds f b done c z) where
+    (overrides : List (ℕ × Given)) (key : Key → Text) (globals : ℕ → Option Expr) (right : AreConstants s) (c : Supplied Conf) (z : State) (stands : Stands m s Holds f b done c z) where
   abbrev W : scope.Setting
   W = writing s overrides f key globals
 
@@ -97,7 +97,7 @@ module _ (p : Program) (calls : Text → List Argument → State → Result (Opt
   n = arg i 0
 
   abbrev L : Root → List ℕ → Type 0
-  L r at = Leads p calls z m s overrides f key globals right apart c.at stands.agree.all b n r at
+  L r at = Leads p calls z m s overrides f key globals right c.at stands.agree.all b n r at
 
   -- where the instruction's pointer leads, if it does, its text does too
   abbrev pub PointerLeads : Type 0
@@ -109,7 +109,7 @@ module _ (p : Program) (calls : Text → List Argument → State → Result (Opt
     pub points_to : pointee_of Gs f n ≡ Some type
     pub typed_as : type_tree Gs type ≡ Some t
     pub sized : IsSized t
-    pub no_block : IsNoBlock p calls z s overrides f key globals right apart c.at [] [] (own 0) t
+    pub no_block : IsNoBlock p calls z s overrides f key globals right c.at [] [] (own 0) t
 
   abbrev S : Tree → Shape
   S t = shape_in s (struct_names key) t
@@ -122,10 +122,10 @@ module _ (p : Program) (calls : Text → List Argument → State → Result (Opt
   part_there t q r at l =
       let type : l.type ≡ q.type = some_same l.type q.type (sym l.points_to ∙ q.points_to) in
       let shape : l.shape ≡ t = some_same l.shape t (sym l.typed_as ∙ ap (type_tree Gs) type ∙ q.typed_as) in
-      part_of p calls z s overrides f key globals right apart c.at (base_text W l.begin) l.from r at t l.to (no_block t q.no_block)
-      (subst (λ u. IsPlace p calls z s overrides f key globals right apart c.at (base_text W l.begin) l.from r at u l.to) shape l.place)
+      part_of p calls z s overrides f key globals right c.at (base_text W l.begin) l.from r at t l.to (no_block t q.no_block)
+      (subst (λ u. IsPlace p calls z s overrides f key globals right c.at (base_text W l.begin) l.from r at u l.to) shape l.place)
     where
-      no_block : (t : Tree) → IsNoBlock p calls z s overrides f key globals right apart c.at [] [] (own 0) t → IsNoBlock p calls z s overrides f key globals right apart c.at (base_text W l.begin) l.from r t
+      no_block : (t : Tree) → IsNoBlock p calls z s overrides f key globals right c.at [] [] (own 0) t → IsNoBlock p calls z s overrides f key globals right c.at (base_text W l.begin) l.from r t
       no_block plain.boolean h = tt
       no_block plain.int h = tt
       no_block plain.uint h = tt
@@ -170,7 +170,7 @@ module _ (p : Program) (calls : Text → List Argument → State → Result (Opt
           let same : t ≡ u = some_same t u (sym at.along ∙ along) in
           record {
             site = at.site;
-            stands_for = expr_stands p calls z m s overrides f key globals right apart c.at stands.agree.all b n g.0 g.1 l ∙ ap (λ a. got [] (a, z)) at.thing ∙ ap (λ a. got [] (memory at.site a, z)) (sym result);
+            stands_for = expr_stands p calls z m s overrides f key globals right c.at stands.agree.all b n g.0 g.1 l ∙ ap (λ a. got [] (a, z)) at.thing ∙ ap (λ a. got [] (memory at.site a, z)) (sym result);
             sized = ap shapes.is_sized result ∙ sized_in s (struct_names key) t q.sized;
             places = ap (λ a. place.locations (tree_of a) at.site) result ∙ places_are s (struct_names key) v g.1 t at.site q.sized at.along at.scalars;
             values = λ words. ap (λ a. value_from (tree_of a) words) result ∙ same_value s (struct_names key) t q.sized words ∙ ap (λ a. value_from a words) same;
@@ -180,18 +180,18 @@ module _ (p : Program) (calls : Text → List Argument → State → Result (Opt
       own_part g is unseen v has =
           let l = leads g.0 g.1 is in
           let fetched = held_value t g.0 g.1 (base_text W l.begin) l.from v l.to (part_there t q g.0 g.1 l) unseen has in
-          ap (λ (g : Result (Thing × State)). then_fetch g (λ v y. got [] (v, y))) (expr_stands p calls z m s overrides f key globals right apart c.at stands.agree.all b n g.0 g.1 l)
+          ap (λ (g : Result (Thing × State)). then_fetch g (λ v y. got [] (v, y))) (expr_stands p calls z m s overrides f key globals right c.at stands.agree.all b n g.0 g.1 l)
           ∙ got_back (fetch l.to z) (typed (S t) v, z) fetched ∙ ap (λ a. got [] (typed a v, z)) (sym result)
 
   -- the left side of a store, in memory
   pub writes_seen : (t : Tree) → PointsTo t → PointerLeads → (g : Target) → pointer_at s c.at.top n ≡ Some g → (v : Inst) → seen s g.0 ≡ Some v
-      → WritesSeen p calls k m names s Holds f b keeps done i rest z (base_text W (path Gs f b n).base) (steps_text W (first_type p calls z m s overrides f key globals right apart c.at stands.agree.all b (path Gs f b n).base) (path Gs f b n).steps) (S t) v g.1
+      → WritesSeen p calls k m names s Holds f b keeps done i rest z (base_text W (path Gs f b n).base) (steps_text W (first_type p calls z m s overrides f key globals right c.at stands.agree.all b (path Gs f b n).base) (path Gs f b n).steps) (S t) v g.1
   writes_seen t q leads g is v sees =
       let l = leads g.0 g.1 is in
       let at = in_memory t g.0 g.1 (base_text W l.begin) l.from v l.to (part_there t q g.0 g.1 l) sees in
       record {
         site = at.site;
-        stands_for = place_stands p calls z m s overrides f key globals right apart c.at stands.agree.all b n g.0 g.1 l ∙ ap (λ a. got [] (a, z)) at.thing;
+        stands_for = place_stands p calls z m s overrides f key globals right c.at stands.agree.all b n g.0 g.1 l ∙ ap (λ a. got [] (a, z)) at.thing;
         places = places_are s (struct_names key) v g.1 t at.site q.sized at.along at.scalars;
       }
 
@@ -221,7 +221,7 @@ module _ (p : Program) (calls : Text → List Argument → State → Result (Opt
         operands = says.operands;
         words = says.words;
         places =
-            ap (λ (h : Result (Thing × State)). then_get h (λ x. then_get (values p calls es x.1) (λ y. got [] (x.0, y.0, y.1)))) (expr_stands p calls z m s overrides f key globals right apart c.at stands.agree.all b n g.0 g.1 l ∙ ap (λ a. got [] (a, z)) at.thing)
+            ap (λ (h : Result (Thing × State)). then_get h (λ x. then_get (values p calls es x.1) (λ y. got [] (x.0, y.0, y.1)))) (expr_stands p calls z m s overrides f key globals right c.at stands.agree.all b n g.0 g.1 l ∙ ap (λ a. got [] (a, z)) at.thing)
             ∙ ap (λ (h : Result (List Typed × State)). with_before {A = Thing × List Typed × State} [] (then_get h (λ y. got [] (memory at.site (S t), y.0, y.1)))) says.say;
         fit = says.fit;
         same = says.same (location_of at.site) ∙ ap access (at.scalars [] refl ∙ ap (location s v) (none_behind g.1));

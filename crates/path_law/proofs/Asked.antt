@@ -35,7 +35,6 @@ use Rattle.path_law.specs.Pointers.{Written}
 use Rattle.path_law.specs.Chains.{AreLed, ChainsAreRight}
 use Rattle.path_law.specs.Writings.{IsWrittenChain, IsWrittenStart}
 use Rattle.path_law.proofs.Based.{rank}
-use Rattle.path_law.proofs.Walks.{MembersApart}
 use Rattle.path_law.proofs.Pointers.{Leads, pointer_leads}
 use Rattle.path_law.proofs.Reached.{IsRightChain}
 use Rattle.path_law.proofs.Writings.{goes_on, begins}
@@ -48,7 +47,7 @@ far_from ds (global k) is = absurd is
 far_from ds (own k) is = absurd is
 
 module _ (p : Program) (calls : Text → List Argument → State → Result (Option Typed × State)) (k : ℕ) (m : Naming) (names : AreApart m) (s : Setting) (Holds : Conf → Type 0) (f : Function) (b : ℕ) (keeps : IsKept (machine s) Holds) (done : List Inst) (i : Inst) (rest : List Inst)
-    (overrides : List (ℕ × Given)) (key : Key → Text) (globals : ℕ → Option Expr) (right : AreConstants s) (c : Supplied Conf) (z : State) (apart : MembersApart p calls z s overrides f key globals right) (stands : Stands m s Holds f b done c z)
+    (overrides : List (ℕ × Given)) (key : Key → Text) (globals : ℕ → Option Expr) (right : AreConstants s) (c : Supplied Conf) (z : State) (stands : Stands m s Holds f b done c z)
     (known : AreLed s c.at.below c.at.top) (whole : LendsWhole s) (rules : ChainsAreRight s) (IsUsable : ℕ → Type 0) where
   abbrev W : scope.Setting
   W = writing s overrides f key globals
@@ -73,14 +72,14 @@ module _ (p : Program) (calls : Text → List Argument → State → Result (Opt
             (inr (goes_on p calls m s Holds f b done overrides key globals right c z stands known whole rules IsUsable w.0 w.2 w.3 w.4))
 
     -- So a pointer that may be written there stands for what it leads to.
-    pub leads_there : (n : ℕ) → IsUsable n → (r : Root) (at : List ℕ) → pointer_at s c.at.top n ≡ Some (r, at) → Leads p calls z m s overrides f key globals right apart c.at stands.agree.all b n r at
-    leads_there n usable r at is = pointer_leads p calls z m s overrides f key globals right apart c.at stands.agree.all b (rank f) IsUsable written n usable r at is
+    pub leads_there : (n : ℕ) → IsUsable n → (r : Root) (at : List ℕ) → pointer_at s c.at.top n ≡ Some (r, at) → Leads p calls z m s overrides f key globals right c.at stands.agree.all b n r at
+    leads_there n usable r at is = pointer_leads p calls z m s overrides f key globals right c.at stands.agree.all b (rank f) IsUsable written n usable r at is
 
-    pub load_met : (t : Tree) → PointsTo p calls k m names s Holds f b keeps done i rest overrides key globals right c z apart stands t → m.shape i.result ≡ S t → IsUsable (arg i 0) → Reads p calls k m names s Holds f b keeps done i rest c z (place_expr W b (arg i 0))
-    load_met t q result usable = reads_met p calls k m names s Holds f b keeps done i rest overrides key globals right c z apart stands t q result (leads_there (arg i 0) usable)
+    pub load_met : (t : Tree) → PointsTo p calls k m names s Holds f b keeps done i rest overrides key globals right c z stands t → m.shape i.result ≡ S t → IsUsable (arg i 0) → Reads p calls k m names s Holds f b keeps done i rest c z (place_expr W b (arg i 0))
+    load_met t q result usable = reads_met p calls k m names s Holds f b keeps done i rest overrides key globals right c z stands t q result (leads_there (arg i 0) usable)
 
     -- of the module's calls: parameters lead to variables of calls below, no two to one
-    pub are_lent : ((n : ℕ) → m.is_lent n ≡ true → is_parameter f n ≡ true) → AreLent p calls k m names s Holds f b keeps done i rest overrides key globals right c z apart stands
+    pub are_lent : ((n : ℕ) → m.is_lent n ≡ true → is_parameter f n ≡ true) → AreLent p calls k m names s Holds f b keeps done i rest overrides key globals right c z stands
     are_lent lents = record {
       far = λ a on n. if_pointer (λ r at. r ≢ global n) (c.at.top.ids a) (λ r at is. (far_from c.at.below r (of_pointer (λ r path. IsOfBelow c.at.below r × (path ≡ [])) (c.at.top.ids a) r at is (known.lending.parameters a (parameter a on))).0).1 n);
       no_two = λ a q r at on too differ is. if_pointer (λ y at. IsFar y × (y ≢ r)) (c.at.top.ids a) (λ y way has. (
@@ -92,11 +91,11 @@ module _ (p : Program) (calls : Text → List Argument → State → Result (Opt
         parameter : (n : ℕ) → m.is_lent n ≡ true → is_parameter c.at.top.function n ≡ true
         parameter n on = ap (λ g. is_parameter g n) stands.function ∙ lents n on
 
-    pub store_met : (t : Tree) → PointsTo p calls k m names s Holds f b keeps done i rest overrides key globals right c z apart stands t → (e : Expr) → Stores p calls k m names s Holds f b keeps done i rest overrides key globals right c z apart stands t e → ((n : ℕ) → m.is_lent n ≡ true → is_parameter f n ≡ true) → IsUsable (arg i 0)
-        → Writes p calls k m names s Holds f b keeps done i rest c z (left_name p calls k m names s Holds f b keeps done i rest overrides key globals right c z apart stands) (left_steps p calls k m names s Holds f b keeps done i rest overrides key globals right c z apart stands) e
-    store_met t q e g lents usable = writes_met p calls k m names s Holds f b keeps done i rest overrides key globals right c z apart stands t q (leads_there (arg i 0) usable) e g (are_lent lents)
+    pub store_met : (t : Tree) → PointsTo p calls k m names s Holds f b keeps done i rest overrides key globals right c z stands t → (e : Expr) → Stores p calls k m names s Holds f b keeps done i rest overrides key globals right c z stands t e → ((n : ℕ) → m.is_lent n ≡ true → is_parameter f n ≡ true) → IsUsable (arg i 0)
+        → Writes p calls k m names s Holds f b keeps done i rest c z (left_name p calls k m names s Holds f b keeps done i rest overrides key globals right c z stands) (left_steps p calls k m names s Holds f b keeps done i rest overrides key globals right c z stands) e
+    store_met t q e g lents usable = writes_met p calls k m names s Holds f b keeps done i rest overrides key globals right c z stands t q (leads_there (arg i 0) usable) e g (are_lent lents)
 
-    pub atomic_met : (o : AtomicOp) (t : Tree) → PointsTo p calls k m names s Holds f b keeps done i rest overrides key globals right c z apart stands t → IsUsable (arg i 0) → (w : Text) (es : Exprs) (access : Location → Access)
-        → SaysOperands p calls k m names s Holds f b keeps done i rest overrides key globals right c z apart stands o w es (S t) access → (g : Target) (v : Inst) → pointer_at s c.at.top (arg i 0) ≡ Some g → seen s g.0 ≡ Some v
+    pub atomic_met : (o : AtomicOp) (t : Tree) → PointsTo p calls k m names s Holds f b keeps done i rest overrides key globals right c z stands t → IsUsable (arg i 0) → (w : Text) (es : Exprs) (access : Location → Access)
+        → SaysOperands p calls k m names s Holds f b keeps done i rest overrides key globals right c z stands o w es (S t) access → (g : Target) (v : Inst) → pointer_at s c.at.top (arg i 0) ≡ Some g → seen s g.0 ≡ Some v
         → Updates p calls k m names s Holds f b keeps done i rest o z w (expr (place_expr W b (arg i 0)) es) (S t) (access (location s v g.1))
-    atomic_met o t q usable w es access says g v is sees = updates_met p calls k m names s Holds f b keeps done i rest overrides key globals right c z apart stands o t q (leads_there (arg i 0) usable) w es access says g v is sees
+    atomic_met o t q usable w es access says g v is sees = updates_met p calls k m names s Holds f b keeps done i rest overrides key globals right c z stands o t q (leads_there (arg i 0) usable) w es access says g v is sees

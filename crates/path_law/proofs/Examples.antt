@@ -1,5 +1,5 @@
 -- What is asked of where paths begin, met by computing: of a module that reads an element of a buffer by a built-in variable, and of what is declared for it.
-use Rattle.std.proofs.Common.{Bool, true, false, sym, ap, ◌∙◌, subst, inr, ◌≡◌, ◌++◌, ℕ, false, List, [], ◌∷◌, Option, Some, None, inl, refl}
+use Rattle.std.proofs.Common.{Bool, true, false, sym, ap, ◌∙◌, subst, inr, ◌≡◌, ◌<◌, ◌++◌, ℕ, zero, suc, arith, List, [], ◌∷◌, Option, Some, None, inl, refl}
 use Rattle.std.specs.Prelude.{not, ◌&&◌, codes, bytes_eq, slice_index_or, if◌then◌else◌, ◌==◌, ◌||◌}
 use Rattle.spv_ops.specs.declared.Op.TheVariants as code
 use Rattle.spv_ops.specs.Opcode.{op_of, number}
@@ -27,7 +27,6 @@ use Rattle.module_semantics.specs.Setting.{Setting, setting}
 use Rattle.module_semantics.specs.State.{global}
 use Rattle.name_alloc.specs.declared.claims.Key.{Key}
 use Rattle.name_alloc.specs.declared.claims.Key.TheVariants.{Id, Member}
-use Rattle.access_paths.specs.Ways.{path}
 use Rattle.glsl_ast.specs.Tree.{Text, Expr, name, literal, Decl}
 use Rattle.glsl_ast.specs.declared.expressions.Literal.TheVariants.{Uint}
 use Rattle.glsl_semantics.specs.Shapes.{uint, Typed, typed}
@@ -45,7 +44,8 @@ use Rattle.text_rules.specs.Declarations.{Names, declarations}
 use Rattle.vec_lowering.specs.Component.{axis_name}
 use Rattle.expr_forward.specs.Paths.{place_expr, literal_word}
 use Rattle.agree_law.specs.Agree.{Naming}
-use Rattle.path_law.specs.Walks.{writing, SaysIndex}
+use Rattle.path_law.specs.Parts.{AreMembersApart}
+use Rattle.path_law.specs.Walks.{writing, struct_names, SaysIndex}
 use Rattle.std.specs.List.{list_any}
 use Rattle.spv_ops.specs.Groups.{is_chain}
 use Rattle.path_law.specs.Chains.{NoneMakes, ChainsRise}
@@ -237,6 +237,13 @@ rise_by (i ∷ is) e =
     either true b e = cc
     either false b e = (refl, e)
 
+one_member : AreMembersApart (struct_names key) 3 (tree (plain.runtime plain.uint) no_trees)
+one_member j zero u less at = absurd (none_below j less)
+  where
+    none_below : (j : ℕ) → j < 0 → ⊥
+    none_below j less = omega (arith, less)
+one_member j (suc k) u less at = cc
+
 same_word : (i j : ℕ) → Some (word i) ≡ Some (word j) → i ≡ j
 same_word i j e = cc
 
@@ -249,6 +256,7 @@ module _ (calls : Text → List Argument → State → Result (Option Typed × S
     shape = plain.struct 3 (tree (plain.runtime plain.uint) no_trees);
     points_to = refl;
     typed_as = refl;
+    members = (one_member, (tt, tt));
     kind = inr (inr (refl, inr (inr (inr block))));
   }
 

@@ -36,13 +36,12 @@ use Rattle.fits_law.specs.Takes.{nth_of}
 use Rattle.type_law.specs.Shaped.{AreConstants}
 use Rattle.lowering_law.proofs.Saying.{says_build}
 use Rattle.agree_law.specs.Agree.{Naming, Agree}
-use Rattle.path_law.specs.Parts.{StructNames, shape_in}
+use Rattle.path_law.specs.Parts.{StructNames, HasMembersApart, shape_in}
 use Rattle.path_law.specs.Laid.{IsLaidOut, HasLengths}
 use Rattle.path_law.specs.Walks.{writing, struct_names}
 use Rattle.path_law.specs.Starts.{members_in, IsBlock}
 use Rattle.path_law.proofs.Bytes.{stride_same}
 use Rattle.path_law.proofs.BlockLayouts.{block_laid}
-use Rattle.path_law.proofs.Walks.{MembersApart}
 use Rattle.path_law.proofs.Starts.{outside_is, member_in_block, member_lengths}
 
 -- as many strides as there are bytes: none where the stride is 0
@@ -54,7 +53,7 @@ strides_are bytes byte stride = by_test (stride == 0) (eqb_tells stride 0)
     by_test true (inr w) = cc
     by_test false w = refl
 
-module _ (p : Program) (calls : Text → List Argument → State → Result (Option Typed × State)) (z : State) (m : Naming) (s : Setting) (overrides : List (ℕ × Given)) (f : Function) (key : Key → Text) (globals : ℕ → Option Expr) (right : AreConstants s) (apart : MembersApart p calls z s overrides f key globals right) (c : Conf) (agree : Agree m c z) (told : p.invocation ≡ s.invocation) where
+module _ (p : Program) (calls : Text → List Argument → State → Result (Option Typed × State)) (z : State) (m : Naming) (s : Setting) (overrides : List (ℕ × Given)) (f : Function) (key : Key → Text) (globals : ℕ → Option Expr) (right : AreConstants s) (c : Conf) (agree : Agree m c z) (told : p.invocation ≡ s.invocation) where
   abbrev W : scope.Setting
   W = writing s overrides f key globals
 
@@ -72,7 +71,7 @@ module _ (p : Program) (calls : Text → List Argument → State → Result (Opt
   in_set v (inr is) = ap (λ a. if a == class_number storage.PushConstant then Push else Set (set v) (binding v)) is
 
   -- T7: a block variable, and the number of its runtime array
-  module _ (b n k : ℕ) (t u : Tree) (is : IsBlock p m s W.source key globals n t (global n) []) (way : path s.of.globals f b n ≡ start n)
+  module _ (b n k : ℕ) (t u : Tree) (is : IsBlock p m s W.source key globals n t (global n) []) (members : HasMembersApart Y t) (way : path s.of.globals f b n ≡ start n)
       (in_memory : (word is.inst 0 ≡ class_number storage.StorageBuffer) ⊎ (word is.inst 0 ≡ class_number storage.Uniform)) (at : nth_of is.parts k ≡ Some (plain.runtime u)) where
     abbrev ty : ℕ
     ty = variable_type s is.inst
@@ -98,7 +97,7 @@ module _ (p : Program) (calls : Text → List Argument → State → Result (Opt
 
     member_there : member_of (instance (place_of W.source is.inst) is.kind (members_in s Y ty 0 is.parts)) (key (Member (id ty) k)) ≡ Some array
     member_there =
-        member_in_block s Y (place_of W.source is.inst) is.kind ty (apart ty) is.parts 0 k k (plain.runtime u) (let none : k ≡ 0 + k = omega arith in none) at
+        member_in_block s Y (place_of W.source is.inst) is.kind ty is.parts (subst (HasMembersApart Y) is.shape members).0 is.parts 0 k k (plain.runtime u) (let none : k ≡ 0 + k = omega arith in none) at at
         ∙ ap (λ q. Some (memory (site_at q is.kind (member_offset s ty k)) (runtime (shape_in s Y u)))) (in_set is.inst in_memory)
 
     length_there : length_value p.invocation array ≡ Some (value (typed int (word_value (elements s is.inst k))))

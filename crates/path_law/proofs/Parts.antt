@@ -28,7 +28,7 @@ use Rattle.fits_law.specs.Takes.{nth_of}
 use Rattle.fits_law.specs.State.{element_shape, place_shape}
 use Rattle.type_law.proofs.Places.{part_leads}
 use Rattle.fits_law.proofs.Parts.{many_of, each_at, MembersFit, members_of}
-use Rattle.path_law.specs.Parts.{StructNames, length_in, shape_in, fields_in, IsBelow, IsInside, HasScalars, part_value, IsPart}
+use Rattle.path_law.specs.Parts.{StructNames, AreMembersApart, length_in, shape_in, fields_in, IsBelow, IsInside, HasScalars, part_value, IsPart}
 
 bytes_same : (w : Text) → bytes_eq w w ≡ true
 bytes_same w = (bytes_eq-Decides w w).1 refl
@@ -231,16 +231,13 @@ module _ (s : Setting) (y : StructNames) where
     indexed_is path t u i z on is part inside low v at = indexed_shape t u i (indexed_in t u i on part inside) path z is part inside low v at
 
   -- a member by its name
-  AreApart : ℕ → Type 0
-  AreApart id = (j k : ℕ) → j < k → bytes_eq (y.member_name id j) (y.member_name id k) ≡ false
-
-  pub member_named : (id : ℕ) → ((j k : ℕ) → j < k → bytes_eq (y.member_name id j) (y.member_name id k) ≡ false) → (ts : Trees) (k i n : ℕ) (u : Tree) → n ≡ k + i → nth_of ts i ≡ Some u → member_from k (fields_in s y id k ts) (y.member_name id n) ≡ Some (n, shape_in s y u)
-  member_named id apart no_trees k i n u same at = cc
-  member_named id apart (tree t ts) k zero n u same at =
+  pub member_named : (id : ℕ) (whole : Trees) → AreMembersApart y id whole → (ts : Trees) (k i n : ℕ) (u : Tree) → n ≡ k + i → nth_of whole n ≡ Some u → nth_of ts i ≡ Some u → member_from k (fields_in s y id k ts) (y.member_name id n) ≡ Some (n, shape_in s y u)
+  member_named id whole apart no_trees k i n u same there at = cc
+  member_named id whole apart (tree t ts) k zero n u same there at =
       let here : n ≡ k = omega (arith, same) in
       subst (λ m. member_from k (fields_in s y id k (tree t ts)) (y.member_name id m) ≡ Some (m, shape_in s y u)) (sym here)
       (ap (λ b. elim b [ true ↦ Some (k, shape_in s y t) | false ↦ member_from (k + 1) (fields_in s y id (k + 1) ts) (y.member_name id k) ]) (bytes_same (y.member_name id k)) ∙ ap (λ a. Some (k, shape_in s y a)) (some_same t u at))
-  member_named id apart (tree t ts) k (suc i) n u same at =
+  member_named id whole apart (tree t ts) k (suc i) n u same there at =
       let less : k < n = omega (arith, same) in
       let next : n ≡ k + 1 + i = omega (arith, same) in
-      ap (λ b. elim b [ true ↦ Some (k, shape_in s y t) | false ↦ member_from (k + 1) (fields_in s y id (k + 1) ts) (y.member_name id n) ]) (apart k n less) ∙ member_named id apart ts (k + 1) i n u next at
+      ap (λ b. elim b [ true ↦ Some (k, shape_in s y t) | false ↦ member_from (k + 1) (fields_in s y id (k + 1) ts) (y.member_name id n) ]) (apart k n u less there) ∙ member_named id whole apart ts (k + 1) i n u next there at

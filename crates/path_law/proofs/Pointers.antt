@@ -27,7 +27,7 @@ use Rattle.agree_law.specs.Agree.{Naming, Agree}
 use Rattle.path_law.specs.Walks.{writing, struct_names, Walks}
 use Rattle.path_law.specs.Pointers.{BeginsAs, IsLedBy, GoesOn, Written}
 use Rattle.path_law.proofs.Parts.{types_more}
-use Rattle.path_law.proofs.Walks.{steps_walk, further_walk, walks_on, way_type, steps_more, way_more, MembersApart, IsPlace, chain_walks}
+use Rattle.path_law.proofs.Walks.{steps_walk, further_walk, walks_on, way_type, steps_more, way_more, IsPlace, chain_walks}
 use Rattle.path_law.proofs.Starts.{start_is}
 
 some_same : {A : Type 0} (a b : A) → Some a ≡ Some b → a ≡ b
@@ -43,7 +43,7 @@ joined : (xs ys zs : List ℕ) → (xs ++ ys) ++ zs ≡ xs ++ (ys ++ zs)
 joined [] ys zs = refl
 joined (x ∷ xs) ys zs = ap (λ l. x ∷ l) (joined xs ys zs)
 
-module _ (p : Program) (calls : Text → List Argument → State → Result (Option Typed × State)) (z : State) (m : Naming) (s : Setting) (overrides : List (ℕ × Given)) (f : Function) (key : Key → Text) (globals : ℕ → Option Expr) (right : AreConstants s) (apart : MembersApart p calls z s overrides f key globals right) (c : Conf) (agree : Agree m c z) (b : ℕ) where
+module _ (p : Program) (calls : Text → List Argument → State → Result (Option Typed × State)) (z : State) (m : Naming) (s : Setting) (overrides : List (ℕ × Given)) (f : Function) (key : Key → Text) (globals : ℕ → Option Expr) (right : AreConstants s) (c : Conf) (agree : Agree m c z) (b : ℕ) where
   abbrev W : scope.Setting
   W = writing s overrides f key globals
 
@@ -69,7 +69,7 @@ module _ (p : Program) (calls : Text → List Argument → State → Result (Opt
     pub type : ℕ
     pub shape : Tree
     pub walks : Walks p calls z (steps_text W (first_type begin) (path Gs f b n).steps) first to
-    pub place : IsPlace p calls z s overrides f key globals right apart c (base_text W begin) from r at shape to
+    pub place : IsPlace p calls z s overrides f key globals right c (base_text W begin) from r at shape to
     pub points_to : pointee_of Gs f n ≡ Some type
     pub typed_as : type_tree Gs type ≡ Some shape
     pub type_is : type ≡ type_along s (first_type begin) along
@@ -81,7 +81,7 @@ module _ (p : Program) (calls : Text → List Argument → State → Result (Opt
 
   begins_leads : (n : ℕ) (r : Root) (at : List ℕ) → BeginsAs p calls z m s overrides f key globals c b n → pointer_at s c.top n ≡ Some (r, at) → Leads n r at
   begins_leads n r at is leads =
-      let first = start_is p calls z m s overrides f key globals right apart c agree n is.shape r at (is.is r at leads) in
+      let first = start_is p calls z m s overrides f key globals right c agree n is.shape r at is.members (is.is r at leads) in
       let type_first : first_type n ≡ is.type = ap (λ o. unwrap_or o 0) is.points_to in
       record {
         begin = n;
@@ -97,7 +97,7 @@ module _ (p : Program) (calls : Text → List Argument → State → Result (Opt
         type = is.type;
         shape = is.shape;
         walks = subst (λ (w : Way). Walks p calls z (steps_text W (first_type n) w.steps) first.to first.to) (sym is.way) refl;
-        place = first.place;
+        place = (is.members, first.place);
         points_to = is.points_to;
         typed_as = is.typed_as;
         type_is = sym type_first;
@@ -114,7 +114,7 @@ module _ (p : Program) (calls : Text → List Argument → State → Result (Opt
         let more : List Step = steps_from Gs spot 0 (Some q.type) (drop 1 g.by.args) in
         let more_is : chain_steps Gs f spot g.by ≡ more = ap (λ o. steps_from Gs spot 0 o (drop 1 g.by.args)) q.points_to in
         let steps_are : (path Gs f b n).steps ≡ old ++ more = ap (λ (w : Way). w.steps) g.way ∙ ap (λ l. old ++ l) more_is in
-        let w = chain_walks p calls z s overrides f key globals right apart c (base_text W l.begin) l.from r (drop 1 g.by.args) q.indexes q.from q.type 0 spot l.shape l.to typed l.place q.allowed q.says q.by_constants in
+        let w = chain_walks p calls z s overrides f key globals right c (base_text W l.begin) l.from r (drop 1 g.by.args) q.indexes q.from q.type 0 spot l.shape l.to typed l.place q.allowed q.says q.by_constants in
         let here : way_type p calls z s overrides f key globals right (first_type l.begin) old ≡ q.type = l.way ∙ same in
         record {
           begin = l.begin;
@@ -133,7 +133,7 @@ module _ (p : Program) (calls : Text → List Argument → State → Result (Opt
               (subst (λ ls. Walks p calls z ls l.first w.to) (sym (steps_more p calls z s overrides f key globals right (first_type l.begin) old more))
               (walks_on p calls z (steps_text W (first_type l.begin) old) (steps_text W (way_type p calls z s overrides f key globals right (first_type l.begin) old) more) l.first l.to w.to l.walks
               (subst (λ ty. Walks p calls z (steps_text W ty more) l.to w.to) (sym here) w.walks)));
-          place = subst (λ l'. IsPlace p calls z s overrides f key globals right apart c (base_text W l.begin) l.from r l' w.shape w.to) (sym q.whole) w.place;
+          place = subst (λ l'. IsPlace p calls z s overrides f key globals right c (base_text W l.begin) l.from r l' w.shape w.to) (sym q.whole) w.place;
           points_to = q.reaches;
           typed_as = w.typed;
           type_is = ap (λ ty. type_along s ty q.indexes) (sym same ∙ l.type_is) ∙ sym (types_more s (struct_names key) (first_type l.begin) l.along q.indexes);

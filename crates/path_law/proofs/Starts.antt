@@ -46,14 +46,14 @@ use Rattle.region_law.proofs.Flags.{in_found}
 use Rattle.agree_law.specs.Agree.{Naming, variable_with, IfPointer, variable_in, target_value, IsFar, Agree}
 use Rattle.agree_law.proofs.Owned.{own_found}
 use Rattle.agree_law.proofs.Evaluating.{named_is}
-use Rattle.path_law.specs.Parts.{StructNames, shape_in, HasScalars, part_value, IsPart}
+use Rattle.path_law.specs.Parts.{StructNames, AreMembersApart, HasMembersApart, shape_in, HasScalars, part_value, IsPart}
 use Rattle.path_law.specs.Laid.{IsLaidOut, HasLengths, HaveLengths}
 use Rattle.path_law.specs.Walks.{writing, struct_names}
 use Rattle.path_law.specs.Starts.{members_in, IsVariable, IsOwn, IsParameter, IsPrivate, IsBuiltIn, IsShared, IsBlock, IsStart}
 use Rattle.path_law.proofs.Bytes.{bytes_in, buffer_along, push_along, bytes_same}
 use Rattle.path_law.proofs.BlockLayouts.{block_laid}
 use Rattle.path_law.proofs.Types.{declared_as}
-use Rattle.path_law.proofs.Walks.{MembersApart, IsPlace}
+use Rattle.path_law.proofs.Walks.{IsFound}
 
 some_same : {A : Type 0} (a b : A) → Some a ≡ Some b → a ≡ b
 some_same a b e = cc
@@ -117,19 +117,19 @@ global_is p z x u off there =
 bytes_same_text : (w : Text) → bytes_eq w w ≡ true
 bytes_same_text w = (bytes_eq-Decides w w).1 refl
 
-pub member_in_block : (s : Setting) (y : StructNames) (at : BlockPlace) (kind : Kind) (n : ℕ) → ((j k : ℕ) → j < k → bytes_eq (y.member_name n j) (y.member_name n k) ≡ false) → (ts : Trees) (k i j : ℕ) (u : Tree) → j ≡ k + i → nth_of ts i ≡ Some u
+pub member_in_block : (s : Setting) (y : StructNames) (at : BlockPlace) (kind : Kind) (n : ℕ) (whole : Trees) → AreMembersApart y n whole → (ts : Trees) (k i j : ℕ) (u : Tree) → j ≡ k + i → nth_of whole j ≡ Some u → nth_of ts i ≡ Some u
     → block_member at kind (members_in s y n k ts) (y.member_name n j) ≡ Some (memory (site_at at kind (member_offset s n j)) (shape_in s y u))
-member_in_block s y at kind n apart no_trees k i j u same part = cc
-member_in_block s y at kind n apart (tree t ts) k zero j u same part =
+member_in_block s y at kind n whole apart no_trees k i j u same there part = cc
+member_in_block s y at kind n whole apart (tree t ts) k zero j u same there part =
     let here : j ≡ k = omega (arith, same) in
     subst (λ q. block_member at kind (members_in s y n k (tree t ts)) (y.member_name n q) ≡ Some (memory (site_at at kind (member_offset s n q)) (shape_in s y u))) (sym here)
     (ap (λ b. elim b as (λ b. Option Thing) [ true ↦ Some (memory (site_at at kind (member_offset s n k)) (shape_in s y t)) | false ↦ block_member at kind (members_in s y n (k + 1) ts) (y.member_name n k) ]) (bytes_same_text (y.member_name n k))
     ∙ ap (λ a. Some (memory (site_at at kind (member_offset s n k)) (shape_in s y a))) (some_same t u part))
-member_in_block s y at kind n apart (tree t ts) k (suc i) j u same part =
+member_in_block s y at kind n whole apart (tree t ts) k (suc i) j u same there part =
     let less : k < j = omega (arith, same) in
     let next : j ≡ k + 1 + i = omega (arith, same) in
-    ap (λ b. elim b as (λ b. Option Thing) [ true ↦ Some (memory (site_at at kind (member_offset s n k)) (shape_in s y t)) | false ↦ block_member at kind (members_in s y n (k + 1) ts) (y.member_name n j) ]) (apart k j less)
-    ∙ member_in_block s y at kind n apart ts (k + 1) i j u next part
+    ap (λ b. elim b as (λ b. Option Thing) [ true ↦ Some (memory (site_at at kind (member_offset s n k)) (shape_in s y t)) | false ↦ block_member at kind (members_in s y n (k + 1) ts) (y.member_name n j) ]) (apart k j u less there)
+    ∙ member_in_block s y at kind n whole apart ts (k + 1) i j u next there part
 
 -- a shared variable's parts, by indexes alone
 joined : (xs ys : List ℕ) (i : ℕ) → (xs ++ i ∷ []) ++ ys ≡ xs ++ i ∷ ys
@@ -155,7 +155,7 @@ struct_bytes s ty n ts k shape =
     let d = declared_as s ty (plain.struct n ts) shape in
     ap (λ (o : Option Inst). option_map_or (λ (g : Inst). bytes_by s g k g.op) o 0) d.1 ∙ ap (bytes_by s d.0 k) d.2 ∙ ap (λ a. member_offset s a k) d.3
 
-module _ (p : Program) (calls : Text → List Argument → State → Result (Option Typed × State)) (z : State) (m : Naming) (s : Setting) (overrides : List (ℕ × Given)) (f : Function) (key : Key → Text) (globals : ℕ → Option Expr) (right : AreConstants s) (apart : MembersApart p calls z s overrides f key globals right) where
+module _ (p : Program) (calls : Text → List Argument → State → Result (Option Typed × State)) (z : State) (m : Naming) (s : Setting) (overrides : List (ℕ × Given)) (f : Function) (key : Key → Text) (globals : ℕ → Option Expr) (right : AreConstants s) where
   abbrev W : scope.Setting
   W = writing s overrides f key globals
 
@@ -201,7 +201,7 @@ module _ (p : Program) (calls : Text → List Argument → State → Result (Opt
     pub record Started (n : ℕ) (t : Tree) (r : Root) (path : List ℕ) : Type 0 where
       pub to : Thing
       pub there : named p z (base_text W n) ≡ Some to
-      pub place : IsPlace p calls z s overrides f key globals right apart c (base_text W n) path r path t to
+      pub place : IsFound p calls z s overrides f key globals right c (base_text W n) path r path t to
 
     abbrev P : ℕ → Root → List ℕ → Tree → Thing → Type 0
     P n r path t a = IsPart s Y c (base_text W n) path r path t a
@@ -275,8 +275,8 @@ module _ (p : Program) (calls : Text → List Argument → State → Result (Opt
           );
         }))
 
-    block_start : (n : ℕ) (t : Tree) (r : Root) (path : List ℕ) → IsBlock p m s W.source key globals n t r path → Started n t r path
-    block_start n t r path is =
+    block_start : (n : ℕ) (t : Tree) (r : Root) (path : List ℕ) → HasMembersApart Y t → IsBlock p m s W.source key globals n t r path → Started n t r path
+    block_start n t r path apart is =
         let o = agree.outside (key (Id (id n))) is.outside in
         let ty : ℕ = variable_type s is.inst in
         let sees : seen s (global n) ≡ Some is.inst = ap (option_and_then seen_if) is.there ∙ seen_by is.inst is.class in
@@ -291,7 +291,7 @@ module _ (p : Program) (calls : Text → List Argument → State → Result (Opt
             λ k u at.
                 let whole : type_tree Gs ty ≡ Some (plain.struct ty is.parts) = is.typed_as ∙ ap (λ a. Some a) is.shape in (
                   memory (site_at (place_of W.source is.inst) is.kind (member_offset s ty k)) (shape_in s Y u),
-                  member_in_block s Y (place_of W.source is.inst) is.kind ty (apart ty) is.parts 0 k k u (let none : k ≡ 0 + k = omega arith in none) at,
+                  member_in_block s Y (place_of W.source is.inst) is.kind ty is.parts (subst (HasMembersApart Y) is.shape apart).0 is.parts 0 k k u (let none : k ≡ 0 + k = omega arith in none) at at,
                   (
                     is.inst,
                     sees,
@@ -310,10 +310,10 @@ module _ (p : Program) (calls : Text → List Argument → State → Result (Opt
         seen_by v (inr (inr is)) = ap (if_seen v) (push_class v is)
 
     -- The name of what a path begins with stands for what the pointer leads to.
-    pub start_is : (n : ℕ) (t : Tree) (r : Root) (path : List ℕ) → IsStart p m s W.source key globals c n t r path → Started n t r path
-    start_is n t r path (inl is) = own_start n t r path is
-    start_is n t r path (inr (inl is)) = lent_start n t r path is
-    start_is n t r path (inr (inr (inl is))) = private_start n t r path is
-    start_is n t r path (inr (inr (inr (inl is)))) = built_in_start n t r path is
-    start_is n t r path (inr (inr (inr (inr (inl is))))) = shared_start n t r path is
-    start_is n t r path (inr (inr (inr (inr (inr is))))) = block_start n t r path is
+    pub start_is : (n : ℕ) (t : Tree) (r : Root) (path : List ℕ) → HasMembersApart Y t → IsStart p m s W.source key globals c n t r path → Started n t r path
+    start_is n t r path apart (inl is) = own_start n t r path is
+    start_is n t r path apart (inr (inl is)) = lent_start n t r path is
+    start_is n t r path apart (inr (inr (inl is))) = private_start n t r path is
+    start_is n t r path apart (inr (inr (inr (inl is)))) = built_in_start n t r path is
+    start_is n t r path apart (inr (inr (inr (inr (inl is))))) = shared_start n t r path is
+    start_is n t r path apart (inr (inr (inr (inr (inr is))))) = block_start n t r path apart is

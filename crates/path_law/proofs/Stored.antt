@@ -41,7 +41,6 @@ use Rattle.path_law.specs.Parts.{shape_in, IsInput}
 use Rattle.path_law.specs.Walks.{writing, struct_names}
 use Rattle.path_law.specs.Starts.{IsVariable, IsOwn, IsParameter, IsPrivate, IsShared, IsBlock, IsStart}
 use Rattle.path_law.proofs.Starts.{variable_named}
-use Rattle.path_law.proofs.Walks.{MembersApart}
 use Rattle.path_law.proofs.Pointers.{first_type, Leads, place_stands}
 use Rattle.path_law.proofs.Accesses.{shape_itself, PointerLeads, PointsTo, Part, part_there, writes_seen}
 
@@ -61,7 +60,7 @@ same_root None n = refl
 same_root (Some g) n = refl
 
 module _ (p : Program) (calls : Text → List Argument → State → Result (Option Typed × State)) (k : ℕ) (m : Naming) (names : AreApart m) (s : Setting) (Holds : Conf → Type 0) (f : Function) (b : ℕ) (keeps : IsKept (machine s) Holds) (done : List Inst) (i : Inst) (rest : List Inst)
-    (overrides : List (ℕ × Given)) (key : Key → Text) (globals : ℕ → Option Expr) (right : AreConstants s) (c : Supplied Conf) (z : State) (apart : MembersApart p calls z s overrides f key globals right) (stands : Stands m s Holds f b done c z) where
+    (overrides : List (ℕ × Given)) (key : Key → Text) (globals : ℕ → Option Expr) (right : AreConstants s) (c : Supplied Conf) (z : State) (stands : Stands m s Holds f b done c z) where
   abbrev W : scope.Setting
   W = writing s overrides f key globals
 
@@ -79,7 +78,7 @@ module _ (p : Program) (calls : Text → List Argument → State → Result (Opt
   left_name = base_text W (path Gs f b n).base
 
   abbrev pub left_steps : List LStep
-  left_steps = steps_text W (first_type p calls z m s overrides f key globals right apart c.at stands.agree.all b (path Gs f b n).base) (path Gs f b n).steps
+  left_steps = steps_text W (first_type p calls z m s overrides f key globals right c.at stands.agree.all b (path Gs f b n).base) (path Gs f b n).steps
 
   -- Of the module alone: parameters lead to variables of calls below, no two to one.
   pub record AreLent : Type 0 where
@@ -93,7 +92,7 @@ module _ (p : Program) (calls : Text → List Argument → State → Result (Opt
     pub says : (v : ValueTree) → value_at s c.at.top (arg i 1) ≡ Some v → evaluate p calls e z ≡ got [] (typed (S t) v, z)
     pub writable : (r : Root) (at : List ℕ) → pointer_at s c.at.top n ≡ Some (r, at) → IsInput s r → ⊥
 
-  module _ (t : Tree) (q : PointsTo p calls k m names s Holds f b keeps done i rest overrides key globals right c z apart stands t) (leads : PointerLeads p calls k m names s Holds f b keeps done i rest overrides key globals right c z apart stands) (e : Expr) (g : Stores t e) (lents : AreLent) where
+  module _ (t : Tree) (q : PointsTo p calls k m names s Holds f b keeps done i rest overrides key globals right c z stands t) (leads : PointerLeads p calls k m names s Holds f b keeps done i rest overrides key globals right c z stands) (e : Expr) (g : Stores t e) (lents : AreLent) where
     abbrev Goes : Root → ValueTree → Type 0
     Goes r whole = machine s c ≡ go [] (supplied (keeping r whole (advanced c.at rest)) c.answers)
 
@@ -165,15 +164,15 @@ module _ (p : Program) (calls : Text → List Argument → State → Result (Opt
     own_part : (a : Target) → pointer_at s c.at.top n ≡ Some a → seen s a.0 ≡ None → (v was whole : ValueTree) → value_at s c.at.top (arg i 1) ≡ Some v → kept s c.at a.0 ≡ Some was → inserted v a.1 was ≡ Some whole → Goes a.0 whole → IsDone
     own_part a is unseen v was whole has had into goes =
         let l = leads a.0 a.1 is in
-        by_thing l l.to refl (part_there p calls k m names s Holds f b keeps done i rest overrides key globals right c z apart stands t q a.0 a.1 l)
+        by_thing l l.to refl (part_there p calls k m names s Holds f b keeps done i rest overrides key globals right c z stands t q a.0 a.1 l)
       where
-        by_thing : (l : Leads p calls z m s overrides f key globals right apart c.at stands.agree.all b n a.0 a.1) (y : Thing) → l.to ≡ y → Part p calls k m names s Holds f b keeps done i rest overrides key globals right c z apart stands a.0 a.1 l t y → IsDone
+        by_thing : (l : Leads p calls z m s overrides f key globals right c.at stands.agree.all b n a.0 a.1) (y : Thing) → l.to ≡ y → Part p calls k m names s Holds f b keeps done i rest overrides key globals right c z stands a.0 a.1 l t y → IsDone
         by_thing l (value (typed u w)) there part = absurd (g.writable a.0 a.1 is part.4)
         by_thing l (variable w way u o) there part =
             by_start l.begin way a.0 l.from a.1 l.begins.shape v was whole (l.begins.is a.0 l.from l.begin_is) part.4
             (λ (x : IsVariable p m s W.source key globals l.begin l.begins.shape). record {
               old = o;
-              place = place_stands p calls z m s overrides f key globals right apart c.at stands.agree.all b n a.0 a.1 l ∙ ap (λ a. got [] (a, z)) there
+              place = place_stands p calls z m s overrides f key globals right c.at stands.agree.all b n a.0 a.1 l ∙ ap (λ a. got [] (a, z)) there
                   ∙ ap (λ d. got [] (variable d way u o, z)) (part.3 ∙ ap (λ o. option_map_or name_in o (key (Id (id l.begin)))) x.itself ∙ sym x.named) ∙ ap (λ d. got [] (variable (m.name l.begin) way d o, z)) part.1;
             }) unseen (g.writable a.0 a.1 is) has had into goes
         by_thing l (instance at kind members) there part = absurd part
@@ -185,6 +184,6 @@ module _ (p : Program) (calls : Text → List Argument → State → Result (Opt
       shape = S t;
       same = shape_itself s key t q.sized;
       says = g.says;
-      seen_part = writes_seen p calls k m names s Holds f b keeps done i rest overrides key globals right c z apart stands t q leads;
+      seen_part = writes_seen p calls k m names s Holds f b keeps done i rest overrides key globals right c z stands t q leads;
       own_part = own_part;
     }

@@ -1,6 +1,6 @@
 -- The steps that are written of a chain's indexes lead to the part to which the indexes lead.
-use Rattle.std.proofs.Common.{◌≡◌, ◌<◌, ◌≤◌, ◌==◌, ◌||◌, ◌+◌, ◌++◌, ◌^◌, ℕ, Bool, true, false, List, [], ◌∷◌, Option, Some, None, inl, inr, refl, sym, ap, ◌∙◌, subst, arith, if◌then◌else◌}
-use Rattle.std.specs.Prelude.{◌⊎◌, ◌&&◌, bytes_eq, is_some, nat_lt, option_and_then, slice_index}
+use Rattle.std.proofs.Common.{◌≡◌, ◌<◌, ◌≤◌, ◌==◌, ◌||◌, ◌+◌, ◌++◌, ◌^◌, ℕ, zero, suc, Bool, true, false, List, [], ◌∷◌, Option, Some, None, inl, inr, refl, sym, ap, ◌∙◌, subst, arith, if◌then◌else◌}
+use Rattle.std.specs.Prelude.{◌⊎◌, ◌&&◌, is_some, nat_lt, option_and_then, slice_index}
 use Rattle.std.specs.Option.{option_map_or}
 use Rattle.std.proofs.lemmas.Bool.Decides.{nat_tests}
 use Rattle.spv_ops.specs.Opcode.{is, number}
@@ -9,6 +9,7 @@ use Rattle.spv_module.specs.Lists.{id}
 use Rattle.spv_module.specs.declared.inst.Inst.{Inst}
 use Rattle.spv_module.specs.declared.inst.Function.{Function}
 use Rattle.spv_module.specs.declared.tree.Elem.{Elem}
+use Rattle.spv_module.specs.declared.tree.Elem.TheVariants as elem
 use Rattle.spv_types.specs.Tree as plain
 use Rattle.spv_types.specs.Tree.{Tree, Trees}
 use Rattle.spv_types.specs.Types.{type_tree}
@@ -21,7 +22,7 @@ use Rattle.module_semantics.specs.Setting.{Setting}
 use Rattle.module_semantics.specs.Memory.{part_by, part_type, type_along, is_allowed, are_allowed}
 use Rattle.module_semantics.specs.State.{Root, Conf}
 use Rattle.name_alloc.specs.declared.claims.Key.{Key}
-use Rattle.name_alloc.specs.declared.claims.Key.TheVariants.{Member, Captured}
+use Rattle.name_alloc.specs.declared.claims.Key.TheVariants.{Captured}
 use Rattle.access_paths.specs.declared.forms.Step.{Step}
 use Rattle.access_paths.specs.declared.forms.Step.TheVariants as steps_of
 use Rattle.access_paths.specs.Ways.{Spot, is_constant_index, index_step, step, steps_from}
@@ -39,7 +40,7 @@ use Rattle.type_law.specs.Shaped.{AreConstants}
 use Rattle.type_law.proofs.Places.{part_leads}
 use Rattle.lowering_law.proofs.Saying.{on_operand}
 use Rattle.lowering_law.proofs.Components.{axis_part}
-use Rattle.path_law.specs.Parts.{StructNames, shape_in, IsInside, IsPart}
+use Rattle.path_law.specs.Parts.{StructNames, HasMembersApart, HaveMembersApart, shape_in, IsInside, IsPart}
 use Rattle.path_law.specs.Walks.{writing, struct_names, SaysIndex, Walks, IsIndex, AreIndexes, ByConstants}
 use Rattle.path_law.proofs.Parts.{scalar_in, named_is, IsIndexed, indexed_is, member_named}
 use Rattle.path_law.proofs.Types.{allowed_is, op_of, declared_as, is_struct_shape, struct_by, vector_size_is, struct_number, step_type_is}
@@ -66,6 +67,26 @@ no_runtime = refl
 yes_vector : is code.TypeVector code.TypeVector ≡ true
 unfolding number
 yes_vector = refl
+
+-- members are apart in a part, where they are in the whole
+scalar_apart : (y : StructNames) (e : Elem) → HasMembersApart y (elem_tree e)
+scalar_apart y elem.Bool = tt
+scalar_apart y elem.Int = tt
+scalar_apart y elem.Uint = tt
+
+nth_apart : (y : StructNames) (ts : Trees) (i : ℕ) (u : Tree) → HaveMembersApart y ts → nth_of ts i ≡ Some u → HasMembersApart y u
+nth_apart y plain.no_trees i u h at = cc
+nth_apart y (plain.tree t ts) zero u h at = subst (HasMembersApart y) (some_same t u at) h.0
+nth_apart y (plain.tree t ts) (suc i) u h at = nth_apart y ts i u h.1 at
+
+part_apart : (y : StructNames) (t u : Tree) (i : ℕ) → HasMembersApart y t → element_shape t i ≡ Some u → HasMembersApart y u
+part_apart y (plain.vector e n) u i h at = subst (HasMembersApart y) (some_same (elem_tree e) u at) (scalar_apart y e)
+part_apart y (plain.array t l) u i h at = subst (HasMembersApart y) (some_same t u at) h
+part_apart y (plain.runtime t) u i h at = subst (HasMembersApart y) (some_same t u at) h
+part_apart y (plain.struct n ts) u i h at = nth_apart y ts i u h.1 at
+part_apart y plain.boolean u i h at = cc
+part_apart y plain.int u i h at = cc
+part_apart y plain.uint u i h at = cc
 
 module _ (p : Program) (calls : Text → List Argument → State → Result (Option Typed × State)) (z : State) where
   -- as the left side of an assignment, and as an expression
@@ -101,10 +122,6 @@ module _ (p : Program) (calls : Text → List Argument → State → Result (Opt
     abbrev Gs : List Inst
     Gs = s.of.globals
 
-    -- no two members of a struct have one name
-    abbrev pub MembersApart : Type 0
-    MembersApart = (n j k : ℕ) → j < k → bytes_eq (key (Member (id n) j)) (key (Member (id n) k)) ≡ false
-
     -- the type to which written steps lead
     abbrev pub way_type : ℕ → List Step → ℕ
     way_type ty [] = ty
@@ -118,7 +135,7 @@ module _ (p : Program) (calls : Text → List Argument → State → Result (Opt
     way_more ty [] rs = refl
     way_more ty (q ∷ qs) rs = way_more (paths.step_type W ty q) qs rs
 
-    module _ (apart : MembersApart) (c : Conf) (x : Text) (from : List ℕ) (r : Root) where
+    module _ (c : Conf) (x : Text) (from : List ℕ) (r : Root) where
       abbrev P : List ℕ → Tree → Thing → Type 0
       P = IsPart s Y c x from r
 
@@ -126,13 +143,16 @@ module _ (p : Program) (calls : Text → List Argument → State → Result (Opt
       abbrev pub HasMembers : List ℕ → Tree → Thing → Type 0
       HasMembers path t a = (n : ℕ) × (ts : Trees) × (t ≡ plain.struct n ts) × (is_block s.of.heads n ≡ true) × ((k : ℕ) (u : Tree) → nth_of ts k ≡ Some u → (b : Thing) × (member_of a (Y.member_name n k) ≡ Some b) × P (path ++ k ∷ []) u b)
 
+      abbrev pub IsFound : List ℕ → Tree → Thing → Type 0
+      IsFound path t a = P path t a ⊎ HasMembers path t a
+
       abbrev pub IsPlace : List ℕ → Tree → Thing → Type 0
-      IsPlace path t a = P path t a ⊎ HasMembers path t a
+      IsPlace path t a = HasMembersApart Y t × IsFound path t a
 
       members_of : (path : List ℕ) (n : ℕ) (ts : Trees) (a : Thing) → IsPlace path (plain.struct n ts) a → (k : ℕ) (u : Tree) → nth_of ts k ≡ Some u → (b : Thing) × (member_of a (Y.member_name n k) ≡ Some b) × P (path ++ k ∷ []) u b
-      members_of path n ts a (inl is) k u at =
-          named_is s Y c x from r path (plain.struct n ts) u k (Y.member_name n k) a is at tt (member_named s Y n (apart n) ts 0 k k u (let none : k ≡ 0 + k = omega arith in none) at)
-      members_of path n ts a (inr is) k u at =
+      members_of path n ts a (apart, inl is) k u at =
+          named_is s Y c x from r path (plain.struct n ts) u k (Y.member_name n k) a is at tt (member_named s Y n ts apart.0 ts 0 k k u (let none : k ≡ 0 + k = omega arith in none) at at)
+      members_of path n ts a (apart, inr is) k u at =
           let number : n ≡ is.0 = same_id n is.0 ts is.1 is.2 in
           let same : ts ≡ is.1 = same_trees n is.0 ts is.1 is.2 in
           let b = is.4 k u (ap (λ q. nth_of q k) (sym same) ∙ at) in
@@ -145,8 +165,8 @@ module _ (p : Program) (calls : Text → List Argument → State → Result (Opt
           same_trees n m ts us e = cc
 
       only_part : (path : List ℕ) (t : Tree) (a : Thing) → is_struct_shape s t ≡ false → IsPlace path t a → P path t a
-      only_part path t a off (inl is) = is
-      only_part path t a off (inr is) = absurd (never (sym (ap (is_struct_shape s) is.2) ∙ off))
+      only_part path t a off (apart, inl is) = is
+      only_part path t a off (apart, inr is) = absurd (never (sym (ap (is_struct_shape s) is.2) ∙ off))
         where
           never : true ≡ false → ⊥
           never e = cc
@@ -157,8 +177,8 @@ module _ (p : Program) (calls : Text → List Argument → State → Result (Opt
       IsNoBlock _ = Unit {0}
 
       pub part_of : (path : List ℕ) (t : Tree) (a : Thing) → IsNoBlock t → IsPlace path t a → P path t a
-      part_of path t a off (inl is) = is
-      part_of path t a off (inr is) = let never : true ≡ false = sym is.3 ∙ subst IsNoBlock is.2 off in cc
+      part_of path t a off (apart, inl is) = is
+      part_of path t a off (apart, inr is) = let never : true ≡ false = sym is.3 ∙ subst IsNoBlock is.2 off in cc
 
       -- where one step leads
       pub record Steps (path : List ℕ) (ty i : ℕ) (u : Tree) (q : Step) (a : Thing) : Type 0 where
@@ -324,7 +344,7 @@ module _ (p : Program) (calls : Text → List Argument → State → Result (Opt
           let told : is_struct_shape s t ≡ true → constant_word Gs n ≡ Some i
           = λ on. let w = some_of (constant_word Gs n) (by.0 (struct_by s ty t shape ∙ on)) in w.1 ∙ ap (λ (j : ℕ). Some j) (are.0.constant w.0 w.1) in
           let next : step_type Gs n ty ≡ Some (part_type s ty i) = step_type_is s ty i n t shape both.0 told in
-          let more = chain_walks ns is (path ++ i ∷ []) (part_type s ty i) (k + 1) spot q.part one.to typed (inl one.part) both.1 are.1 by.1 in
+          let more = chain_walks ns is (path ++ i ∷ []) (part_type s ty i) (k + 1) spot q.part one.to typed (part_apart Y t q.part i place.0 q.there, inl one.part) both.1 are.1 by.1 in
           let rest : steps_from Gs spot (k + 1) (option_and_then (step_type Gs n) (Some ty)) ns ≡ steps_from Gs spot (k + 1) (Some (part_type s ty i)) ns = ap (λ o. steps_from Gs spot (k + 1) o ns) next in
           let here : Step = step Gs spot k n (Some ty) in
           record {

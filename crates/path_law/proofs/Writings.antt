@@ -286,7 +286,7 @@ module _ (p : Program) (calls : Text → List Argument → State → Result (Opt
         by_kind (inr (inr (inr is))) = inr (inr (inr (inr (inr is))))
 
     pub begins : (n : ℕ) → IsWrittenStart p calls z m s overrides f key globals b done n → BeginsAs p calls z m s overrides f key globals c.at b n
-    begins n is = record { way = start_way Gs f b n is.none; type = is.type; shape = is.shape; points_to = is.points_to; typed_as = is.typed_as; is = by_kind is.kind }
+    begins n is = record { way = start_way Gs f b n is.none; type = is.type; shape = is.shape; points_to = is.points_to; typed_as = is.typed_as; members = is.members; is = by_kind is.kind }
       where
         by_kind : IsOwnStart p calls z m s overrides f key globals b done n is.shape ⊎ (IsParameterStart p calls z m s overrides f key globals b done n is.shape ⊎ IsGlobalStart p calls z m s overrides f key globals b done n is.shape) → (r : Root) (at : List ℕ) → pointer_at s c.at.top n ≡ Some (r, at) → Start n is.shape r at
         by_kind (inl a) = own_begins n is.shape a

@@ -1,5 +1,5 @@
 -- When what stands in a text is a part of a variable of its module.
-use Rattle.std.specs.Prelude.{◌≡◌, ◌<◌, ◌+◌, ◌++◌, ℕ, true, List, Option, Some, None, is_some, option_and_then}
+use Rattle.std.specs.Prelude.{◌≡◌, ◌<◌, ◌+◌, ◌++◌, ℕ, true, false, List, Option, Some, None, is_some, option_and_then, bytes_eq}
 use Rattle.spv_module.specs.declared.inst.Inst.{Inst}
 use Rattle.spv_module.specs.declared.tree.Length.{Length}
 use Rattle.spv_module.specs.declared.tree.Length.TheVariants.{Fixed, Spec}
@@ -18,6 +18,7 @@ use Rattle.glsl_ast.specs.Tree.{Text}
 use Rattle.glsl_semantics.specs.Shapes.{Shape, boolean, int, uint, vector, array, runtime, struct, Fields, no_fields, field, typed, tree_of}
 use Rattle.glsl_semantics.specs.Places.{Site, site_along, location_of}
 use Rattle.glsl_semantics.specs.States.{Thing, value, variable, instance, memory}
+use Rattle.fits_law.specs.Takes.{nth_of}
 use Rattle.fits_law.specs.State.{place_shape}
 
 -- the names of structs and of their members
@@ -44,6 +45,21 @@ abbrev mutual
   pub fields_in : Setting → StructNames → ℕ → ℕ → Trees → Fields
   fields_in s y id k no_trees = no_fields
   fields_in s y id k (tree t ts) = field (y.member_name id k) (shape_in s y t) (fields_in s y id (k + 1) ts)
+
+-- no two members of a struct in the type have one name
+abbrev pub AreMembersApart : StructNames → ℕ → Trees → Type 0
+AreMembersApart y id ts = (j k : ℕ) (u : Tree) → j < k → nth_of ts k ≡ Some u → bytes_eq (y.member_name id j) (y.member_name id k) ≡ false
+
+abbrev mutual
+  pub HasMembersApart : StructNames → Tree → Type 0
+  HasMembersApart y (plain.array t l) = HasMembersApart y t
+  HasMembersApart y (plain.runtime t) = HasMembersApart y t
+  HasMembersApart y (plain.struct id ts) = AreMembersApart y id ts × HaveMembersApart y ts
+  HasMembersApart y _ = Unit {0}
+
+  pub HaveMembersApart : StructNames → Trees → Type 0
+  HaveMembersApart y no_trees = Unit {0}
+  HaveMembersApart y (tree t ts) = HasMembersApart y t × HaveMembersApart y ts
 
 -- the index is below the number of parts, where there is one
 abbrev pub IsBelow : Option ℕ → ℕ → Type 0

@@ -18,7 +18,8 @@ use Rattle.glsl_semantics.specs.Shapes.{Typed}
 use Rattle.glsl_semantics.specs.States.{State}
 use Rattle.glsl_semantics.specs.Expressions.{Program, Argument}
 use Rattle.agree_law.specs.Agree.{Naming}
-use Rattle.path_law.specs.Walks.{writing, AreIndexes, ByConstants}
+use Rattle.path_law.specs.Parts.{HasMembersApart}
+use Rattle.path_law.specs.Walks.{writing, struct_names, AreIndexes, ByConstants}
 use Rattle.path_law.specs.Starts.{IsStart}
 
 module _ (p : Program) (calls : Text → List Argument → State → Result (Option Typed × State)) (z : State) (m : Naming) (s : Setting) (overrides : List (ℕ × Given)) (f : Function) (key : Key → Text) (globals : ℕ → Option Expr) (c : Conf) (b : ℕ) where
@@ -29,6 +30,7 @@ module _ (p : Program) (calls : Text → List Argument → State → Result (Opt
     pub shape : Tree
     pub points_to : pointee_of s.of.globals f n ≡ Some type
     pub typed_as : type_tree s.of.globals type ≡ Some shape
+    pub members : HasMembersApart (struct_names key) shape
     pub is : (r : Root) (at : List ℕ) → pointer_at s c.top n ≡ Some (r, at) → IsStart p m s (writing s overrides f key globals).source key globals c n shape r at
 
   -- where a chain leads: from where its base leads, by indexes that are written, to the type of which its own pointer is

@@ -26,7 +26,8 @@ use Rattle.expr_forward.specs.Paths.{word_at, index_expr}
 use Rattle.agree_law.specs.Agree.{Naming}
 use Rattle.agree_law.specs.Blocks.{IsOf, have_result}
 use Rattle.call_law.specs.Known.{is_parameter}
-use Rattle.path_law.specs.Walks.{writing, SaysIndex}
+use Rattle.path_law.specs.Parts.{HasMembersApart}
+use Rattle.path_law.specs.Walks.{writing, struct_names, SaysIndex}
 use Rattle.path_law.specs.Starts.{IsVariable, IsBuiltIn, IsPrivate, IsShared, IsBlock}
 use Rattle.path_law.specs.Chains.{NoneMakes, is_global}
 
@@ -95,4 +96,5 @@ module _ (p : Program) (calls : Text → List Argument → State → Result (Opt
     pub shape : Tree
     pub points_to : pointee_of s.of.globals f n ≡ Some type
     pub typed_as : type_tree s.of.globals type ≡ Some shape
+    pub members : HasMembersApart (struct_names key) shape
     pub kind : IsOwnStart n shape ⊎ (IsParameterStart n shape ⊎ IsGlobalStart n shape)
