@@ -37,7 +37,6 @@ use Rattle.call_law.specs.Known.{is_parameter, LendsWhole}
 use Rattle.path_law.specs.Parts.{shape_in, IsInput}
 use Rattle.path_law.specs.Walks.{writing, struct_names}
 use Rattle.path_law.specs.Chains.{AreLed, ChainsAreRight}
-use Rattle.path_law.proofs.Walks.{MembersApart}
 use Rattle.path_law.proofs.Accesses.{PointsTo, SaysOperands}
 use Rattle.path_law.proofs.Asked.{IsWrittenSo, load_met, store_met, atomic_met}
 use Rattle.function_law.specs.UnderWay.{IsUnderWay, IsRuled}
@@ -49,7 +48,7 @@ use Rattle.naming_law.proofs.Insts.{Plain, Comes, IsSet, AsksLoad, AsksStore, As
 
 module _ (p : Program) (calls : Text → List Argument → State → Result (Option Typed × State)) (k : ℕ) (m : Naming) (apart : AreApart m) (s : Setting) (Holds : Conf → Type 0) (f : Function) (b : ℕ) (keeps : IsKept (machine s) Holds) (w : Scope)
     (overrides : List (ℕ × Given)) (key : Key → Text) (globals : ℕ → Option Expr) (setting_is : writing s overrides f key globals ≡ w.setting) (right : AreConstants s) (whole : LendsWhole s) (rules : ChainsAreRight s) (led : (c : Conf) → Holds c → AreLed s c.below c.top)
-    (members : (z : State) → MembersApart p calls z s overrides f key globals right) (done : List Inst) (i : Inst) (rest : List Inst) (IsUsable : ℕ → Type 0) where
+    (done : List Inst) (i : Inst) (rest : List Inst) (IsUsable : ℕ → Type 0) where
   abbrev W : scope.Setting
   W = writing s overrides f key globals
 
@@ -58,11 +57,11 @@ module _ (p : Program) (calls : Text → List Argument → State → Result (Opt
 
   -- how pointers that may be written at the instruction are written
   abbrev pub AreWays : Type 0
-  AreWays = (c : Supplied Conf) (z : State) (stands : Stands m s Holds f b done c z) (n : ℕ) → IsUsable n → IsWrittenSo p calls k m apart s Holds f b keeps done i rest overrides key globals right c z (members z) stands (led c.at stands.holds) whole rules IsUsable n
+  AreWays = (c : Supplied Conf) (z : State) (stands : Stands m s Holds f b done c z) (n : ℕ) → IsUsable n → IsWrittenSo p calls k m apart s Holds f b keeps done i rest overrides key globals right c z stands (led c.at stands.holds) whole rules IsUsable n
 
   -- to what the instruction's pointer points: a value type, and no block
   abbrev pub AllPoint : Tree → Type 0
-  AllPoint t = (c : Supplied Conf) (z : State) (stands : Stands m s Holds f b done c z) → PointsTo p calls k m apart s Holds f b keeps done i rest overrides key globals right c z (members z) stands t
+  AllPoint t = (c : Supplied Conf) (z : State) (stands : Stands m s Holds f b done c z) → PointsTo p calls k m apart s Holds f b keeps done i rest overrides key globals right c z stands t
 
   module _ (ways : AreWays) (t : Tree) (points : AllPoint t) (usable : IsUsable (arg i 0)) where
     pub load_asked : step_kind i.op ≡ steps.load → IsNew i done → IsSet p calls k m apart s Holds f b keeps w done i rest → m.shape i.result ≡ S t → AsksLoad p calls k m apart s Holds f b keeps w done i rest
@@ -72,7 +71,7 @@ module _ (p : Program) (calls : Text → List Argument → State → Result (Opt
       result = result;
       reads = λ c z here.
           subst (λ (v : scope.Setting). Reads p calls k m apart s Holds f b keeps done i rest c z (place_expr v b (arg i 0))) setting_is
-          (load_met p calls k m apart s Holds f b keeps done i rest overrides key globals right c z (members z) here.stands (led c.at here.stands.holds) whole rules IsUsable (ways c z here.stands) t (points c z here.stands) shape usable);
+          (load_met p calls k m apart s Holds f b keeps done i rest overrides key globals right c z here.stands (led c.at here.stands.holds) whole rules IsUsable (ways c z here.stands) t (points c z here.stands) shape usable);
     }
 
     -- a store: what is stored says itself, and nothing built in is stored to
@@ -91,20 +90,20 @@ module _ (p : Program) (calls : Text → List Argument → State → Result (Opt
       behind = steps_text W (unwrap_or (pointee_of s.of.globals f (path s.of.globals f b (arg i 0)).base) 0) (path s.of.globals f b (arg i 0)).steps;
       place = ap (λ (v : scope.Setting). place_text v b (arg i 0)) (sym setting_is);
       writes = λ c z here.
-          store_met p calls k m apart s Holds f b keeps done i rest overrides key globals right c z (members z) here.stands (led c.at here.stands.holds) whole rules IsUsable (ways c z here.stands) t (points c z here.stands) (value w b (arg i 1))
+          store_met p calls k m apart s Holds f b keeps done i rest overrides key globals right c z here.stands (led c.at here.stands.holds) whole rules IsUsable (ways c z here.stands) t (points c z here.stands) (value w b (arg i 1))
           (record { kind = g.step; no_result = g.local; says = g.says c z here; writable = g.writable c z here }) g.lents usable;
     }
 
     -- an atomic instruction: its operands say themselves
     abbrev pub SaysAll : AtomicOp → Type 0
     SaysAll o = (c : Supplied Conf) (z : State) (here : At m s Holds f b done (i ∷ rest) c z) (g : IsUpdate o s c.at rest i)
-        → SaysOperands p calls k m apart s Holds f b keeps done i rest overrides key globals right c z (members z) here.stands o (atomic_name o) (exprs_in (comparator w b i o ++ (atomic_operand w b i o ∷ []))) (S t) (λ at. updating (atomic_operation o) at g.operands)
+        → SaysOperands p calls k m apart s Holds f b keeps done i rest overrides key globals right c z here.stands o (atomic_name o) (exprs_in (comparator w b i o ++ (atomic_operand w b i o ∷ []))) (S t) (λ at. updating (atomic_operation o) at g.operands)
 
     access_asked : (o : AtomicOp) → SaysAll o → (u : Shape) → u ≡ S t → AsksAccess p calls k m apart s Holds f b keeps w done i rest o u
     access_asked o says u shape c z here g =
         subst (λ (v : scope.Setting). Updates p calls k m apart s Holds f b keeps done i rest o z (atomic_name o) (exprs_in (place_expr v b (arg i 0) ∷ (comparator w b i o ++ (atomic_operand w b i o ∷ [])))) u (updating (atomic_operation o) (location s g.variable g.target.1) g.operands)) setting_is
         (subst (λ (x : Shape). Updates p calls k m apart s Holds f b keeps done i rest o z (atomic_name o) (exprs_in (place_expr W b (arg i 0) ∷ (comparator w b i o ++ (atomic_operand w b i o ∷ [])))) x (updating (atomic_operation o) (location s g.variable g.target.1) g.operands)) (sym shape)
-        (atomic_met p calls k m apart s Holds f b keeps done i rest overrides key globals right c z (members z) here.stands (led c.at here.stands.holds) whole rules IsUsable (ways c z here.stands) o t (points c z here.stands) usable (atomic_name o) (exprs_in (comparator w b i o ++ (atomic_operand w b i o ∷ []))) (λ at. updating (atomic_operation o) at g.operands) (says c z here g) g.target g.variable g.pointer_is g.seen_is))
+        (atomic_met p calls k m apart s Holds f b keeps done i rest overrides key globals right c z here.stands (led c.at here.stands.holds) whole rules IsUsable (ways c z here.stands) o t (points c z here.stands) usable (atomic_name o) (exprs_in (comparator w b i o ++ (atomic_operand w b i o ∷ []))) (λ at. updating (atomic_operation o) at g.operands) (says c z here g) g.target g.variable g.pointer_is g.seen_is))
 
     pub atomic_asked : (o : AtomicOp) → step_kind i.op ≡ steps.atomic o → IsNew i done → (has_result o ≡ true → IsSet p calls k m apart s Holds f b keeps w done i rest × (m.shape i.result ≡ S t)) → (has_result o ≡ false → m.is_local i.result ≡ false) → SaysAll o → AsksAtomic p calls k m apart s Holds f b keeps w done i rest o
     atomic_asked o step new result local says = record {
