@@ -1,3 +1,5 @@
+pub mod Cases
+pub mod Fronts
 pub mod Ends
 pub mod Pieces
 pub mod Writes

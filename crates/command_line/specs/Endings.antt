@@ -8,7 +8,9 @@ use Rattle.spv_words.specs.declared.rule.Fault.{Fault}
 use Rattle.spv_words.specs.declared.rule.Fault.TheVariants.{Refused as RefusedFault, Limit as LimitFault, Memory as NoMemory}
 use Rattle.conformance.specs.Rules.{Options, Breaks, Conforms, Exceeds, IsWithinLimits}
 use Rattle.command_line.specs.declared.endings.Ending.{Ending}
-use Rattle.command_line.specs.declared.endings.Ending.TheVariants.{Done, Usage, Refused, Limit, ReadFault, WriteFault, Memory}
+use Rattle.command_line.specs.declared.endings.Ending.TheVariants.{Done, Usage, Refused, Limit, RunLimit, ReadFault, WriteFault, Memory}
+use Rattle.command_line.specs.declared.endings.RunLimit.{RunLimit as Quantity}
+use Rattle.command_line.specs.declared.endings.RunLimit.TheVariants.{Invocations}
 
 -- the exit status
 abbrev pub status_of : Ending → ℕ
@@ -16,6 +18,7 @@ status_of Done = 0
 status_of Usage = 1
 status_of (Refused r) = 2
 status_of (Limit l) = 3
+status_of (RunLimit l) = 3
 status_of ReadFault = 4
 status_of WriteFault = 5
 status_of Memory = 6
@@ -26,15 +29,26 @@ ending_of (RefusedFault r) = Refused r
 ending_of (LimitFault l) = Limit l
 ending_of NoMemory = Memory
 
+-- which quantities of a run are above their largest numbers
+abbrev pub Above : Type 1
+Above = Quantity → Type 0
+
+-- the module conforms, and is run where it is to be
+pub record IsFit (o : Options) (above : Above) (bytes : List ℕ) : Type 0 where
+  pub conforms : Conforms bytes o
+  pub within : IsWithinLimits bytes o
+  pub few : above Invocations → ⊥
+
 -- what the bytes of the module are, where a command ended so over them; a rule is named only where there are no more of them than the limit
-abbrev pub IsCause : Options → List ℕ → Ending → Type 0
-IsCause o bytes Done = Conforms bytes o × IsWithinLimits bytes o
-IsCause o bytes Usage = ⊥
-IsCause o bytes (Refused r) = (length bytes ≤ limit_number Bytes) × Breaks bytes o r.rule r.at
-IsCause o bytes (Limit l) = Exceeds bytes o l
-IsCause o bytes ReadFault = ⊥
-IsCause o bytes WriteFault = Conforms bytes o × IsWithinLimits bytes o
-IsCause o bytes Memory = Unit {0}
+abbrev pub IsCause : Options → Above → List ℕ → Ending → Type 0
+IsCause o above bytes Done = IsFit o above bytes
+IsCause o above bytes Usage = ⊥
+IsCause o above bytes (Refused r) = (length bytes ≤ limit_number Bytes) × Breaks bytes o r.rule r.at
+IsCause o above bytes (Limit l) = Exceeds bytes o l
+IsCause o above bytes (RunLimit l) = Conforms bytes o × (IsWithinLimits bytes o × above l)
+IsCause o above bytes ReadFault = ⊥
+IsCause o above bytes WriteFault = IsFit o above bytes
+IsCause o above bytes Memory = Unit {0}
 
 -- all was written, or the writing ended
 abbrev pub IsEndOfWriting : Ending → Type 0
@@ -42,15 +56,27 @@ IsEndOfWriting Done = Unit {0}
 IsEndOfWriting Usage = ⊥
 IsEndOfWriting (Refused r) = ⊥
 IsEndOfWriting (Limit l) = ⊥
+IsEndOfWriting (RunLimit l) = ⊥
 IsEndOfWriting ReadFault = ⊥
 IsEndOfWriting WriteFault = Unit {0}
 IsEndOfWriting Memory = Unit {0}
 
+-- how a task ends on a module that conforms: what it says was written, or the writing ended; or a run was too much
+abbrev pub IsEndOfTask : Above → Ending → Type 0
+IsEndOfTask above Done = above Invocations → ⊥
+IsEndOfTask above Usage = ⊥
+IsEndOfTask above (Refused r) = ⊥
+IsEndOfTask above (Limit l) = ⊥
+IsEndOfTask above (RunLimit l) = above l
+IsEndOfTask above ReadFault = ⊥
+IsEndOfTask above WriteFault = above Invocations → ⊥
+IsEndOfTask above Memory = Unit {0}
+
 -- why a command ended so, where the bytes of the module are told; `read_fault` says that a read of them failed
-abbrev pub HasCause : Options → Option (List ℕ) → (read_fault : Type 0) → Ending → Type 0
-HasCause o bytes read_fault Usage = ⊥
-HasCause o bytes read_fault ReadFault = read_fault
-HasCause o bytes read_fault ending = IfSome bytes (λ b. IsCause o b ending)
+abbrev pub HasCause : Options → (List ℕ → Above) → Option (List ℕ) → (read_fault : Type 0) → Ending → Type 0
+HasCause o above bytes read_fault Usage = ⊥
+HasCause o above bytes read_fault ReadFault = read_fault
+HasCause o above bytes read_fault ending = IfSome bytes (λ b. IsCause o (above b) b ending)
 
 -- a read of the module failed: its source counted that; a module that is generated is not read
 abbrev pub ReadFails : Option ℕ → (before now : ℕ) → Type 0
@@ -67,6 +93,7 @@ IsRead left rest Done = IsAtEnd rest
 IsRead left rest Usage = IsAtEnd rest
 IsRead left rest (Refused r) = IsAtEnd rest
 IsRead left rest (Limit l) = IsAtEnd rest ⊎ TakesMore left rest
+IsRead left rest (RunLimit l) = IsAtEnd rest
 IsRead left rest ReadFault = Unit {0}
 IsRead left rest WriteFault = IsAtEnd rest
 IsRead left rest Memory = Unit {0}
@@ -90,6 +117,7 @@ IsOutput written faults IsText old new Done = AppendsAll IsText (written old) (w
 IsOutput written faults IsText old new Usage = new ≡ old
 IsOutput written faults IsText old new (Refused r) = new ≡ old
 IsOutput written faults IsText old new (Limit l) = new ≡ old
+IsOutput written faults IsText old new (RunLimit l) = new ≡ old
 IsOutput written faults IsText old new ReadFault = new ≡ old
 IsOutput written faults IsText old new WriteFault = Rose (faults old) (faults new) × AppendsFront IsText (written old) (written new)
 IsOutput written faults IsText old new Memory = (new ≡ old) ⊎ AppendsFront IsText (written old) (written new)

@@ -1,6 +1,7 @@
 pub mod State
 pub mod Commands
 pub mod Summary
+pub mod RunLimits
 pub mod Lines
 pub mod Wrote
 pub mod Endings

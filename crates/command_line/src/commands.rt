@@ -1,23 +1,36 @@
 // The command line.
-ghost use Rattle.std.specs.Prelude.{◌≡◌, ◌≤◌, ◌&&◌, nat_le, slice_index, Some, map, option_map, option_and_then, string_bytes, IfOk, IfErr, IfSome};
+ghost use Rattle.std.specs.Prelude.{◌≡◌, ◌≤◌, ◌&&◌, nat_le, slice_index, Some, map, option_map, option_and_then, string_bytes, IfOk, IfErr, IfSome, IsTrue};
 ghost use Rattle.profile_rules.specs.Overrides.{at_most, above_zero};
 ghost use Rattle.spec_constants.specs.declared.overrides.Unparsed.TheVariants.{Memory as OutOfMemory};
 ghost use Rattle.module_check.specs.Asked.{asked};
-ghost use Rattle.command_line.specs.Commands.{command_of as command_named, action_of as action_named, options_of as options_in, named_options, with_entry, with_options, generating, pieces_of, is_name as is_entry_name};
+ghost use Rattle.command_line.specs.State.{task_of, is_allowed};
+ghost use Rattle.command_line.specs.Commands.{command_of as command_named, verb_of as verb_named, with_entry, with_task, with_case, with_verb, named, asking, generating, pieces_of, is_name as is_entry_name};
 ghost use Rattle.command_line.specs.Unread.{IsUnread};
 
+use dispatch_case::Case;
 use profile_check::Options;
 use spec_constants::{Overrides, Unparsed};
 use std::alloc::Global;
 use std::marker::Model;
 
-/// What is done with a module: its text is printed, it is judged, the report on it is written, or the summary of its text.
-#[derive(Clone, Copy, Debug, PartialEq, Eq)]
+/// What is done with a module: its text is printed, it is judged, the report on it is written, or the summary of its text; or a
+/// case is run on it.
+#[derive(Drop)]
 pub enum Action {
     Glsl,
     Check,
     Report,
     Summary,
+    Run(Case),
+}
+
+/// What is asked of the input.
+#[derive(Clone, Copy, Debug, PartialEq, Eq)]
+enum Verb {
+    Glsl,
+    Check,
+    Report,
+    Run,
 }
 
 /// What is asked of the program: an action; the number of pieces of the module, from 1 to 1000, where it is one that is
@@ -31,24 +44,25 @@ pub struct Command {
 }
 
 impl Model for Command {
-    ghost use Rattle.std.specs.Prelude.{◌≤◌};
+    ghost use Rattle.std.specs.Prelude.{◌≤◌, IsTrue};
     ghost use Rattle.std.specs.Option.{ForSome};
     ghost use Rattle.module_check.specs.Asked.{asked};
-    ghost use Rattle.command_line.specs.State.{CommandState};
+    ghost use Rattle.command_line.specs.State.{CommandState, task_of, is_allowed};
 
     ghost Value = { CommandState };
 
-    ghost view = { λ c. record { action = c.action; pieces = c.pieces; options = asked c.options } };
+    ghost view = { λ c. record { task = task_of c.action; pieces = c.pieces; options = asked c.options } };
 
-    ghost invariant = { λ c. ForSome c.pieces (λ n. (1 ≤ n) × (n ≤ 1000)) };
+    ghost invariant = { λ c. ForSome c.pieces (λ n. (1 ≤ n) × (n ≤ 1000)) × IsTrue (is_allowed (task_of c.action)) };
 }
 
 impl Command {
     /// What is done with the module.
-    pub fn action(&self) -> Action
-        ensures { result ≡ self.now.action }
+    pub fn action(&self) -> &Action
+        ensures task { task_of result.now ≡ self.now.task }
+        ensures allowed { IsTrue (is_allowed (task_of result.now)) }
     {
-        self.action
+        &self.action
     }
 
     /// The number of pieces of the module, where it is generated.
@@ -68,15 +82,17 @@ impl Command {
     }
 }
 
-fn action_of(word: &str) -> Option<Action>
-    ensures { result ≡ action_named word.now }
+fn verb_of(word: &str) -> Option<Verb>
+    ensures { result ≡ verb_named word.now }
 {
     if word == "glsl" {
-        Some(Action::Glsl)
+        Some(Verb::Glsl)
     } else if word == "check" {
-        Some(Action::Check)
+        Some(Verb::Check)
     } else if word == "report" {
-        Some(Action::Report)
+        Some(Verb::Report)
+    } else if word == "run" {
+        Some(Verb::Run)
     } else {
         None
     }
@@ -113,25 +129,74 @@ fn options_with(alloc: Global, entry: Option<&str>, words: &[&str]) -> Result<Op
     Ok(Options { entry, overrides })
 }
 
-/// The options behind `--entry`.
-fn options_named(alloc: Global, words: &[&str]) -> Result<Options, Unparsed>
-    ensures read { IfOk result (λ o. named_options (map (λ w. w.now) words.now) ≡ Some (asked o)) }
-    ensures unread { IfErr result (IsUnread (named_options (map (λ w. w.now) words.now))) }
+/// The command of an action, of this entry point, where one is given, and with these words as overrides.
+fn command_with(
+    alloc: Global,
+    action: Action,
+    entry: Option<&str>,
+    words: &[&str],
+) -> Result<Command, Unparsed>
+    requires { IsTrue (is_allowed (task_of action)) }
+    ensures read { IfOk result (λ c. with_task (option_map (λ n. n.now) entry.entry) (map (λ w. w.now) words.now) (task_of action) ≡ Some c) }
+    ensures unread { IfErr result (IsUnread (with_task (option_map (λ n. n.now) entry.entry) (map (λ w. w.now) words.now) (task_of action))) }
+{
+    let options = options_with(alloc, entry, words)?;
+    Ok(Command {
+        action,
+        pieces: None,
+        options,
+    })
+}
+
+/// The command that runs a case: the first word, and overrides.
+fn run_command(alloc: Global, entry: Option<&str>, words: &[&str]) -> Result<Command, Unparsed>
+    ensures read { IfOk result (λ c. with_case (option_map (λ n. n.now) entry.entry) (map (λ w. w.now) words.now) ≡ Some c) }
+    ensures unread { IfErr result (IsUnread (with_case (option_map (λ n. n.now) entry.entry) (map (λ w. w.now) words.now))) }
+{
+    let [word, rest @ ..] = words else {
+        return Err(Unparsed::Usage);
+    };
+    let case = Case::parse(alloc, *word)?;
+    command_with(alloc, Action::Run(case), entry, rest)
+}
+
+/// The command that a verb asks for, of this entry point, where one is given, by the words behind.
+fn verb_command(
+    alloc: Global,
+    verb: Verb,
+    entry: Option<&str>,
+    words: &[&str],
+) -> Result<Command, Unparsed>
+    ensures read { IfOk result (λ c. with_verb (option_map (λ n. n.now) entry.entry) (map (λ w. w.now) words.now) verb ≡ Some c) }
+    ensures unread { IfErr result (IsUnread (with_verb (option_map (λ n. n.now) entry.entry) (map (λ w. w.now) words.now) verb)) }
+{
+    match verb {
+        Verb::Glsl => command_with(alloc, Action::Glsl, entry, words),
+        Verb::Check => command_with(alloc, Action::Check, entry, words),
+        Verb::Report => command_with(alloc, Action::Report, entry, words),
+        Verb::Run => run_command(alloc, entry, words),
+    }
+}
+
+/// The command that a verb asks for, by the words behind `--entry`.
+fn named_command(alloc: Global, verb: Verb, words: &[&str]) -> Result<Command, Unparsed>
+    ensures read { IfOk result (λ c. named (map (λ w. w.now) words.now) verb ≡ Some c) }
+    ensures unread { IfErr result (IsUnread (named (map (λ w. w.now) words.now) verb)) }
 {
     match words {
-        [name, rest @ ..] if is_name(*name) => options_with(alloc, Some(*name), rest),
+        [name, rest @ ..] if is_name(*name) => verb_command(alloc, verb, Some(*name), rest),
         _ => Err(Unparsed::Usage),
     }
 }
 
-/// The options that the words behind the action are.
-fn options_of(alloc: Global, words: &[&str]) -> Result<Options, Unparsed>
-    ensures read { IfOk result (λ o. options_in (map (λ w. w.now) words.now) ≡ Some (asked o)) }
-    ensures unread { IfErr result (IsUnread (options_in (map (λ w. w.now) words.now))) }
+/// The command that a verb asks for, by the words behind it.
+fn input_command(alloc: Global, verb: Verb, words: &[&str]) -> Result<Command, Unparsed>
+    ensures read { IfOk result (λ c. asking (map (λ w. w.now) words.now) verb ≡ Some c) }
+    ensures unread { IfErr result (IsUnread (asking (map (λ w. w.now) words.now) verb)) }
 {
     match words {
-        [first, rest @ ..] if *first == "--entry" => options_named(alloc, rest),
-        _ => options_with(alloc, None, words),
+        [first, rest @ ..] if *first == "--entry" => named_command(alloc, verb, rest),
+        _ => verb_command(alloc, verb, None, words),
     }
 }
 
@@ -193,19 +258,6 @@ fn generating_command(alloc: Global, words: &[&str]) -> Result<Command, Unparsed
     })
 }
 
-/// The command of an action on the input, with the words behind it.
-fn input_command(alloc: Global, action: Action, words: &[&str]) -> Result<Command, Unparsed>
-    ensures read { IfOk result (λ c. with_options (map (λ w. w.now) words.now) action ≡ Some c) }
-    ensures unread { IfErr result (IsUnread (with_options (map (λ w. w.now) words.now) action)) }
-{
-    let options = options_of(alloc, words)?;
-    Ok(Command {
-        action,
-        pieces: None,
-        options,
-    })
-}
-
 /// The command that these words are. `Unparsed::Usage` comes only where they are no command line.
 pub fn command_of(alloc: Global, words: &[&str]) -> Result<Command, Unparsed>
     ensures read { IfOk result (λ c. command_named (map (λ w. w.now) words.now) ≡ Some c) }
@@ -217,8 +269,8 @@ pub fn command_of(alloc: Global, words: &[&str]) -> Result<Command, Unparsed>
     if *word == "gen" {
         return generating_command(alloc, rest);
     }
-    let Some(action) = action_of(*word) else {
+    let Some(verb) = verb_of(*word) else {
         return Err(Unparsed::Usage);
     };
-    input_command(alloc, action, rest)
+    input_command(alloc, verb, rest)
 }

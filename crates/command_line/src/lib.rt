@@ -8,7 +8,7 @@ mod output;
 mod summary;
 
 pub use commands::{Action, Command, command_of};
-pub use endings::{Ending, ending_of};
+pub use endings::{Ending, RunLimit, ending_of};
 pub use notes::say;
 pub use output::put;
 pub use summary::summary_of;

@@ -2,7 +2,6 @@
 ghost use Rattle.std.specs.Prelude.{◌≡◌, ◌∷◌, []};
 ghost use Rattle.std.specs.Fmt.{decimal};
 ghost use Rattle.spv_words.specs.Rule.{letter_of, number_of};
-ghost use Rattle.spv_words.specs.Limit.{limit_name, limit_number};
 ghost use Rattle.command_line.specs.Wrote.{Wrote, Goes, Said};
 ghost use Rattle.command_line.specs.Lines.{refusal_line, limit_line, plain_line, line_of};
 ghost use Rattle.command_line.specs.declared.endings.Ending.TheVariants.{Done};
@@ -10,7 +9,7 @@ ghost use Rattle.command_line.specs.declared.endings.Ending.TheVariants.{Done};
 use crate::endings::Ending;
 use cc_outside::{Sink, WriteEnd, write_all};
 use itoa::Buffer;
-use spv_words::{Limit, Refusal, Rule};
+use spv_words::{Refusal, Rule};
 
 type Status = Result<(), WriteEnd>;
 
@@ -60,26 +59,15 @@ fn say_refusal<N: Sink>(refusal: Refusal, notes: &mut N) -> Status
     put(b"\n", notes, word)
 }
 
-fn put_limit_name<N: Sink>(limit: Limit, notes: &mut N, status: Status) -> Status
-    ensures { Goes N.written N.faults N.wants notes.old status (limit_name limit) notes.new result }
-{
-    put(limit.name().as_bytes(), notes, status)
-}
-
-fn put_limit_number<N: Sink>(limit: Limit, notes: &mut N, status: Status) -> Status
-    ensures { Goes N.written N.faults N.wants notes.old status (decimal (limit_number limit)) notes.new result }
-{
-    put_number(limit.number(), notes, status)
-}
-
-fn say_limit<N: Sink>(limit: Limit, notes: &mut N) -> Status
-    ensures { Wrote N.written N.faults N.wants notes.old notes.new (limit_line limit) result }
+/// Says that a quantity is above its largest number.
+fn say_limit<N: Sink>(name: &str, number: u32, notes: &mut N) -> Status
+    ensures { Wrote N.written N.faults N.wants notes.old notes.new (limit_line name.now number) result }
 {
     let start = put(b"limit ", notes, Ok(()));
-    let name = put_limit_name(limit, notes, start);
-    let blank = put(b" ", notes, name);
-    let number = put_limit_number(limit, notes, blank);
-    put(b"\n", notes, number)
+    let named = put(name.as_bytes(), notes, start);
+    let blank = put(b" ", notes, named);
+    let numbered = put_number(number, notes, blank);
+    put(b"\n", notes, numbered)
 }
 
 /// The line of an ending that names neither a rule nor a limit.
@@ -88,7 +76,7 @@ fn plain_bytes(ending: Ending) -> &'static [u8]
     ensures { result.now ≡ plain_line ending }
 {
     match ending {
-        Ending::Done | Ending::Refused(_) | Ending::Limit(_) => b"",
+        Ending::Done | Ending::Refused(_) | Ending::Limit(_) | Ending::RunLimit(_) => b"",
         Ending::Usage => {
             b"usage: cross glsl|check|report [--entry NAME] [ID=VALUE]... or cross gen NUMBER\n"
         }
@@ -105,7 +93,8 @@ fn say_line<N: Sink>(ending: Ending, notes: &mut N) -> Status
     match ending {
         Ending::Done => Ok(()),
         Ending::Refused(refusal) => say_refusal(refusal, notes),
-        Ending::Limit(limit) => say_limit(limit, notes),
+        Ending::Limit(limit) => say_limit(limit.name(), limit.number(), notes),
+        Ending::RunLimit(limit) => say_limit(limit.name(), limit.number(), notes),
         _ => say_bytes(plain_bytes(ending), notes),
     }
 }

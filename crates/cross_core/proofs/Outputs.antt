@@ -1,5 +1,5 @@
 -- What commands leave in the output.
-use Rattle.std.proofs.Common.{◌≡◌, ◌++◌, inl, inr, ℕ, false, List, Option, None, Some, IfSome, refl, sym, subst, ◌∙◌}
+use Rattle.std.proofs.Common.{◌≡◌, ◌≤◌, ◌*◌, ◌++◌, arith, inl, inr, length, ℕ, false, List, Option, None, Some, IfSome, refl, sym, subst, ◌∙◌}
 use Rattle.std.specs.Prelude.{codes, option_map}
 use Rattle.spv_words.specs.declared.rule.Fault.{Fault}
 use Rattle.spv_words.specs.declared.rule.Fault.TheVariants.{Refused as RefusedFault, Limit as LimitFault, Memory as NoMemory}
@@ -14,14 +14,19 @@ use Rattle.serde_json.specs.Data.{Data}
 use Rattle.serde_json.specs.Written.{compact_text, has_float}
 use Rattle.reflection.specs.Report.{IsReport}
 use Rattle.reflection.proofs.Floats.{no_float}
-use Rattle.command_line.specs.State.{CommandState}
-use Rattle.command_line.specs.declared.commands.Action.{Action}
-use Rattle.command_line.specs.declared.commands.Action.TheVariants.{Glsl, Check, Report, Summary}
+use Rattle.command_line.specs.State.{Task, prints, judges, reports, sums, runs, CommandState}
 use Rattle.command_line.specs.declared.endings.Ending.{Ending}
-use Rattle.command_line.specs.declared.endings.Ending.TheVariants.{Done, Usage, Refused, Limit, ReadFault, WriteFault, Memory}
+use Rattle.command_line.specs.declared.endings.Ending.TheVariants.{Done, Usage, Refused, Limit, RunLimit, ReadFault, WriteFault, Memory}
 use Rattle.command_line.specs.Asked.{bytes_by, bytes_of}
 use Rattle.command_line.specs.Summary.{summary}
-use Rattle.cross_core.specs.Answers.{IsAnswer, IsAnswerBy, IsTextOf}
+use Rattle.dispatch_semantics.specs.Grid.{product}
+use Rattle.dispatch_case.specs.Cases.{CaseParts}
+use Rattle.profile_rules.specs.Entry.{chosen}
+use Rattle.run_module.specs.Runs.{given_words, workgroup_size}
+use Rattle.run_module.specs.Ends.{IsSaidOf}
+use Rattle.run_module.proofs.Causes.{same_entry}
+use Rattle.command_line.specs.declared.endings.RunLimit.TheVariants.{Invocations}
+use Rattle.cross_core.specs.Answers.{IsAnswer, IsAnswerBy, IsTextOf, IsRunText, above_by}
 use Rattle.command_line.specs.Endings.{ending_of, IsOutput}
 
 module _ {K : Type 0} (written : K → Option (List ℕ)) (faults : K → ℕ) where
@@ -31,6 +36,7 @@ module _ {K : Type 0} (written : K → Option (List ℕ)) (faults : K → ℕ) w
   output_of P Q old new Usage f h = h
   output_of P Q old new (Refused r) f h = h
   output_of P Q old new (Limit l) f h = h
+  output_of P Q old new (RunLimit l) f h = h
   output_of P Q old new ReadFault f h = h
   output_of P Q old new WriteFault f (rose, (text, is, wrote)) = (rose, (text, f text is, wrote))
   output_of P Q old new Memory f (inl same) = inl same
@@ -43,10 +49,10 @@ module _ {K : Type 0} (written : K → Option (List ℕ)) (faults : K → ℕ) w
   unwritten P k NoMemory = inl refl
 
   -- what is written for this action
-  pub output_by : (P : List ℕ → Type 0) (action this : Action) (o : Options) (told : Option ModuleState) (old new : K) (ending : Ending) → action ≡ this →
-      ((text : List ℕ) → P text → IsAnswerBy this o told text) → IsOutput written faults P old new ending → IsOutput written faults (IsAnswerBy action o told) old new ending
-  output_by P action this o told old new ending is f h =
-      subst (λ (a : Action). IsOutput written faults (IsAnswerBy a o told) old new ending) (sym is) (output_of P (IsAnswerBy this o told) old new ending f h)
+  pub output_by : (P : List ℕ → Type 0) (task this : Task) (o : Options) (told : Option ModuleState) (old new : K) (ending : Ending) → task ≡ this →
+      ((text : List ℕ) → P text → IsAnswerBy this o told text) → IsOutput written faults P old new ending → IsOutput written faults (IsAnswerBy task o told) old new ending
+  output_by P task this o told old new ending is f h =
+      subst (λ (t : Task). IsOutput written faults (IsAnswerBy t o told) old new ending) (sym is) (output_of P (IsAnswerBy this o told) old new ending f h)
 
   -- a command on the input, and one on a generated module
   pub output_on_input : (command : CommandState) (left : Option (List ℕ)) (old new : K) (ending : Ending) → command.pieces ≡ None → IsOutput written faults (IsAnswer command left) old new ending → IsOutput written faults (IsAnswer command (bytes_of command left)) old new ending
@@ -67,7 +73,7 @@ glsl_answer o m u text is same = record {
 }
 
 -- the line of a report
-pub report_answer : (o : Options) (m : ModuleState) (d : Data) (line text : List ℕ) → IsReport m o d → (has_float d ≡ false → line ≡ compact_text d ++ codes "\n") → text ≡ line → IsAnswerBy Report o (Some m) text
+pub report_answer : (o : Options) (m : ModuleState) (d : Data) (line text : List ℕ) → IsReport m o d → (has_float d ≡ false → line ≡ compact_text d ++ codes "\n") → text ≡ line → IsAnswerBy reports o (Some m) text
 report_answer o m d line text report is same = (d, same ∙ is (no_float m o d report), report)
 
 -- what is said of the module that was read is said of that in what was left, where that is told
@@ -84,11 +90,38 @@ module _ (o : Options) (left : Option (List ℕ)) (read : List ℕ) (same : IfSo
     translation = module_told left read (λ m. IsTranslationOf m o of.unit) same of.translation;
   }
 
-  answer_told : (action : Action) (text : List ℕ) → IsAnswerBy action o (Some (module_in read)) text → IsAnswerBy action o (option_map module_in left) text
-  answer_told Glsl text of = text_told text of
-  answer_told Check text h = h
-  answer_told Report text (d, is, report) = (d, is, module_told left read (λ m. IsReport m o d) same report)
-  answer_told Summary text (listing, of, is) = (listing, text_told listing of, module_told left read (λ m. text ≡ summary m listing) same is)
+  run_told : (c : CaseParts) (text : List ℕ) → IsRunText c o (Some (module_in read)) text → IsRunText c o (option_map module_in left) text
+  run_told c text of = record {
+    store = of.store;
+    count = of.count;
+    end = of.end;
+    lines = of.lines;
+    said = module_told left read (λ m. IsSaidOf m o c text) same of.said;
+  }
+
+  answer_told : (task : Task) (text : List ℕ) → IsAnswerBy task o (Some (module_in read)) text → IsAnswerBy task o (option_map module_in left) text
+  answer_told prints text of = text_told text of
+  answer_told judges text h = h
+  answer_told reports text (d, is, report) = (d, is, module_told left read (λ m. IsReport m o d) same report)
+  answer_told sums text (listing, of, is) = (listing, text_told listing of, module_told left read (λ m. text ≡ summary m listing) same is)
+  answer_told (runs c) text of = run_told c text of
 
 pub answer_on_left : (command : CommandState) (left : Option (List ℕ)) (read : List ℕ) → IfSome left (λ b. read ≡ b) → (text : List ℕ) → IsAnswer command (Some read) text → IsAnswer command left text
-answer_on_left command left read same text h = answer_told command.options left read same command.action text h
+answer_on_left command left read same text h = answer_told command.options left read same command.task text h
+
+-- the lines of a run
+pub run_answer : (o : Options) (m : ModuleState) (c : CaseParts) (line text : List ℕ) → IsSaidOf m o c line → text ≡ line → IsRunText c o (Some m) text
+run_answer o m c line text of same = subst (λ (t : List ℕ). IsRunText c o (Some m) t) (sym same) (record {
+  store = of.said.store;
+  count = length of.said.events;
+  end = of.said.end;
+  lines = of.said.lines;
+  said = of;
+})
+
+-- a run that says something has not too many invocations
+pub said_few : (o : Options) (m : ModuleState) (c : CaseParts) (text : List ℕ) → IsSaidOf m o c text → above_by (runs c) o m Invocations → ⊥
+said_few o m c text of too_many =
+    let same : of.entry ≡ too_many.entry = same_entry (chosen o.entry m.heads) of.entry too_many.entry of.is too_many.is in
+    let few = subst (λ (e : ℕ). product c.groups * product (workgroup_size m (given_words o.overrides) e) ≤ 1024) same of.said.few in
+    omega (arith, few, too_many.above)

@@ -1,5 +1,5 @@
 // The answer of each action, written to the output.
-ghost use Rattle.std.specs.Prelude.{◌≡◌, ◌≤◌, ◌++◌, codes, false, Some, IfOk, IfErr, OnOk, OnErr, length, string_bytes};
+ghost use Rattle.std.specs.Prelude.{◌≡◌, ◌≤◌, ◌++◌, codes, false, Some, IfOk, IfErr, OnOk, OnErr, IsTrue, length, string_bytes};
 ghost use Rattle.serde_json.specs.View.{view};
 ghost use Rattle.serde_json.specs.Written.{compact_text, has_float};
 ghost use Rattle.spv_words.specs.Limit.{limit_number};
@@ -10,18 +10,22 @@ ghost use Rattle.glsl_grammar.specs.Layout.{unit_text};
 ghost use Rattle.conformance.specs.Rules.{Conforms, IsRight, IsWithinLimits};
 ghost use Rattle.module_check.specs.Asked.{asked};
 ghost use Rattle.module_check.specs.Judged.{IsFault, IsFine, IsRead};
-ghost use Rattle.cross_core.specs.Answers.{IsAnswer, IsAnswerBy};
-ghost use Rattle.command_line.specs.Endings.{IsCause, IsEndOfWriting, IsOutput};
+ghost use Rattle.dispatch_case.specs.Cases.{parts_of, is_fine};
+ghost use Rattle.command_line.specs.State.{task_of, is_allowed, runs};
+ghost use Rattle.command_line.specs.Endings.{IsCause, IsEndOfWriting, IsEndOfTask, IsOutput};
+ghost use Rattle.cross_core.specs.Answers.{IsAnswer, IsAnswerBy, above_by, above};
 
 use crate::summaries::summarized;
 use cc_outside::Sink;
 use command_line::{Action, Command, Ending, ending_of, put};
+use dispatch_case::Case;
 use emit_glsl::{Translation, translate};
 use glsl_ast::Unit;
 use glsl_print::{PrintEnd, print};
 use module_check::{check_module, read_module};
 use profile_check::Options;
 use reflection::report;
+use run_module::{CaseRun, run_case};
 use serde_json::Value;
 use spv_decor::Decor;
 use spv_module::Module;
@@ -60,10 +64,34 @@ fn tree_of(text: Translation) -> Unit
     unit
 }
 
+/// Writes what a run of a case on a module says, if it is not too much.
+fn run_written<K: Sink>(
+    alloc: Global,
+    module: &Module,
+    decor: &Decor,
+    options: &Options,
+    case: &Case,
+    output: &mut K,
+) -> Result<Ending, Fault>
+    requires heads { decor.now ≡ «module».now.heads }
+    requires read { IsRead «module».now }
+    requires fine { IsTrue (is_fine (parts_of case.now)) }
+    ensures end { IfOk result (IsEndOfTask (above_by (runs (parts_of case.now)) (asked options.now) «module».now)) }
+    ensures passes { OnOk result (IsFine «module».now (asked options.now)) }
+    ensures output { IfOk result (IsOutput K.written K.faults (IsAnswerBy (runs (parts_of case.now)) (asked options.now) (Some «module».now)) output.old output.new) }
+    ensures refused { IfErr result (IsFault «module».now (asked options.now)) }
+    ensures unwritten { OnErr result (output.new ≡ output.old) }
+{
+    match run_case(alloc, module, decor, options, case)? {
+        CaseRun::Said(lines) => Ok(put(lines.as_bytes(), output)),
+        CaseRun::Above(limit) => Ok(Ending::RunLimit(limit)),
+    }
+}
+
 /// Writes the answer to an action on a module; where this has a fault, nothing.
 fn written<K: Sink>(
     alloc: Global,
-    action: Action,
+    action: &Action,
     module: &Module,
     decor: &Decor,
     options: &Options,
@@ -71,9 +99,10 @@ fn written<K: Sink>(
 ) -> Result<Ending, Fault>
     requires heads { decor.now ≡ «module».now.heads }
     requires read { IsRead «module».now }
-    ensures end { IfOk result IsEndOfWriting }
+    requires allowed { IsTrue (is_allowed (task_of action.now)) }
+    ensures end { IfOk result (IsEndOfTask (above_by (task_of action.now) (asked options.now) «module».now)) }
     ensures passes { OnOk result (IsFine «module».now (asked options.now)) }
-    ensures output { IfOk result (IsOutput K.written K.faults (IsAnswerBy action (asked options.now) (Some «module».now)) output.old output.new) }
+    ensures output { IfOk result (IsOutput K.written K.faults (IsAnswerBy (task_of action.now) (asked options.now) (Some «module».now)) output.old output.new) }
     ensures refused { IfErr result (IsFault «module».now (asked options.now)) }
     ensures unwritten { OnErr result (output.new ≡ output.old) }
 {
@@ -98,6 +127,7 @@ fn written<K: Sink>(
             let line = summarized(alloc, module, decor, options)?;
             Ok(put(line.as_bytes(), output))
         }
+        Action::Run(case) => run_written(alloc, module, decor, options, case, output),
     }
 }
 
@@ -109,7 +139,7 @@ fn answered<K: Sink>(
     output: &mut K,
 ) -> Result<Ending, Fault>
     requires { length bytes.now ≤ limit_number Bytes }
-    ensures end { IfOk result IsEndOfWriting }
+    ensures end { IfOk result (IsEndOfTask (above command.now bytes.now)) }
     ensures passes { OnOk result (Conforms bytes.now command.now.options × IsWithinLimits bytes.now command.now.options) }
     ensures output { IfOk result (IsOutput K.written K.faults (IsAnswer command.now (Some bytes.now)) output.old output.new) }
     ensures refused { IfErr result (IsRight bytes.now command.now.options) }
@@ -134,7 +164,7 @@ fn answered<K: Sink>(
 #[tactic(auto, using(command_line::proofs::Ends::met_cause, command_line::proofs::Ends::fault_cause))]
 pub fn answer<K: Sink>(alloc: Global, command: &Command, bytes: &[u8], output: &mut K) -> Ending
     requires { length bytes.now ≤ limit_number Bytes }
-    ensures cause { IsCause command.now.options bytes.now result }
+    ensures cause { IsCause command.now.options (above command.now bytes.now) bytes.now result }
     ensures output { IsOutput K.written K.faults (IsAnswer command.now (Some bytes.now)) output.old output.new result }
 {
     match answered(alloc, command, bytes, output) {

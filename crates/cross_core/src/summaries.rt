@@ -5,10 +5,11 @@ ghost use Rattle.module_check.specs.Judged.{IsFault, IsFine, IsRead};
 ghost use Rattle.glsl_grammar.specs.InGrammar.{IsInGrammar};
 ghost use Rattle.glsl_ast.specs.View.{unit_of};
 ghost use Rattle.glsl_grammar.specs.Layout.{unit_text};
+ghost use Rattle.command_line.specs.State.{sums};
 ghost use Rattle.cross_core.specs.Answers.{IsAnswerBy};
 
 use cc_outside::SteadySink;
-use command_line::{Action, summary_of};
+use command_line::summary_of;
 use emit_glsl::translate;
 use glsl_ast::Unit;
 use glsl_print::print;
@@ -40,7 +41,7 @@ pub fn summarized(
     requires heads { decor.now ≡ «module».now.heads }
     requires read { IsRead «module».now }
     ensures passes { OnOk result (IsFine «module».now (asked options.now)) }
-    ensures summary { IfOk result (λ line. IsAnswerBy Action.Summary (asked options.now) (Some «module».now) (string_bytes line)) }
+    ensures summary { IfOk result (λ line. IsAnswerBy sums (asked options.now) (Some «module».now) (string_bytes line)) }
     ensures refused { IfErr result (IsFault «module».now (asked options.now)) }
 {
     let translation = translate(alloc, module, decor, options)?;

@@ -5,7 +5,7 @@ ghost use Rattle.spv_words.specs.Words.{octets_of};
 ghost use Rattle.module_gen.specs.Generated.{generated};
 ghost use Rattle.command_line.specs.Commands.{command_of as command_named};
 ghost use Rattle.command_line.specs.Asked.{bytes_of};
-ghost use Rattle.cross_core.specs.Answers.{IsAnswer};
+ghost use Rattle.cross_core.specs.Answers.{IsAnswer, above};
 ghost use Rattle.command_line.specs.Endings.{IsCause, HasCause, ReadFails, IsRead, IsReadBy, IsOutput};
 ghost use Rattle.command_line.specs.Carried.{Carried, IsComplete, IsTurnedAway};
 ghost use Rattle.command_line.specs.Wrote.{Said};
@@ -25,7 +25,7 @@ fn run_on_input<S: Source, K: Sink>(
     input: &mut S,
     output: &mut K,
 ) -> Ending
-    ensures cause { HasCause command.now.options (S.left input.old) (Rose (S.faults input.old) (S.faults input.new)) result }
+    ensures cause { HasCause command.now.options (above command.now) (S.left input.old) (Rose (S.faults input.old) (S.faults input.new)) result }
     ensures read { IsRead (S.left input.old) (S.left input.new) result }
     ensures output { IsOutput K.written K.faults (IsAnswer command.now (S.left input.old)) output.old output.new result }
 {
@@ -46,7 +46,7 @@ fn run_on_generated<K: Sink>(
 ) -> Ending
     requires positive { 1 ≤ pieces }
     requires small { pieces ≤ 1000 }
-    ensures cause { IsCause command.now.options (octets_of (generated pieces)) result }
+    ensures cause { IsCause command.now.options (above command.now (octets_of (generated pieces))) (octets_of (generated pieces)) result }
     ensures output { IsOutput K.written K.faults (IsAnswer command.now (Some (octets_of (generated pieces)))) output.old output.new result }
 {
     match generate(alloc, pieces) {
@@ -67,7 +67,7 @@ fn run<S: Source, K: Sink>(
     input: &mut S,
     output: &mut K,
 ) -> Ending
-    ensures cause { HasCause command.now.options (bytes_of command.now (S.left input.old)) (ReadFails command.now.pieces (S.faults input.old) (S.faults input.new)) result }
+    ensures cause { HasCause command.now.options (above command.now) (bytes_of command.now (S.left input.old)) (ReadFails command.now.pieces (S.faults input.old) (S.faults input.new)) result }
     ensures read { IsReadBy command.now.pieces (input.new ≡ input.old) (S.left input.old) (S.left input.new) result }
     ensures output { IsOutput K.written K.faults (IsAnswer command.now (bytes_of command.now (S.left input.old))) output.old output.new result }
 {
@@ -87,8 +87,8 @@ fn carry_out<S: Source, K: Sink, N: Sink>(
 ) -> u8
     ensures no_usage { result ≡ 1 → ⊥ }
     ensures complete { IfSome (bytes_of command.now (S.left input.old)) (λ bytes.
-        IsComplete command.now.options bytes (ReadFails command.now.pieces (S.faults input.old) (S.faults input.new)) (Rose (K.faults output.old) (K.faults output.new)) result) }
-    ensures carried { Carried command.now (S.left input.old) (S.left input.new) (S.faults input.old) (S.faults input.new) (input.new ≡ input.old)
+        IsComplete command.now.options (above command.now bytes) bytes (ReadFails command.now.pieces (S.faults input.old) (S.faults input.new)) (Rose (K.faults output.old) (K.faults output.new)) result) }
+    ensures carried { Carried command.now (above command.now) (S.left input.old) (S.left input.new) (S.faults input.old) (S.faults input.new) (input.new ≡ input.old)
         (λ ending. IsOutput K.written K.faults (IsAnswer command.now (bytes_of command.now (S.left input.old))) output.old output.new ending)
         (λ line. Said N.written N.faults N.wants notes.old notes.new line) (notes.new ≡ notes.old) result }
 {
@@ -114,13 +114,13 @@ pub fn cross<S: Source, K: Sink, N: Sink>(
 
     // What the command did, and why it ended so.
     ensures carried { IfSome (command_named (map (λ w. w.now) words.now)) (λ command.
-        Carried command (S.left input.old) (S.left input.new) (S.faults input.old) (S.faults input.new) (input.new ≡ input.old)
+        Carried command (above command) (S.left input.old) (S.left input.new) (S.faults input.old) (S.faults input.new) (input.new ≡ input.old)
         (λ ending. IsOutput K.written K.faults (IsAnswer command (bytes_of command (S.left input.old))) output.old output.new ending)
         (λ line. Said N.written N.faults N.wants notes.old notes.new line) (notes.new ≡ notes.old) result) }
 
     // It succeeds, refuses or comes to a limit wherever it should, but for want of memory.
     ensures complete { IfSome (command_named (map (λ w. w.now) words.now)) (λ command. IfSome (bytes_of command (S.left input.old)) (λ bytes.
-        IsComplete command.options bytes (ReadFails command.pieces (S.faults input.old) (S.faults input.new)) (Rose (K.faults output.old) (K.faults output.new)) result)) }
+        IsComplete command.options (above command bytes) bytes (ReadFails command.pieces (S.faults input.old) (S.faults input.new)) (Rose (K.faults output.old) (K.faults output.new)) result)) }
 {
     match command_of(alloc, words) {
         Err(Unparsed::Usage) => {

@@ -1,12 +1,12 @@
 use Rattle.std.proofs.Common.{inr, refl}
-use Rattle.cross_core.specs.Answers.{IsAnswer}
+use Rattle.cross_core.specs.Answers.{IsAnswer, above}
 use Rattle.std.specs.Prelude.{Some}
 use Rattle.command_line.proofs.Ends.{has_cause, read_to_end}
 use Rattle.cross_core.proofs.Outputs.{output_of, answer_on_left}
 use Rattle.cross_core.proofs.top.run_on_input.Goals as goal
 
 pub returns-in-Ok-clause-cause : goal.returns-in-Ok-clause-cause
-returns-in-Ok-clause-cause g c = has_cause _ _ _ _ _ c.in-Ok.ensures.all (rw c.deref.ensures.value at c.answer.ensures.cause)
+returns-in-Ok-clause-cause g c = has_cause _ (above c.args.command.now) _ _ _ _ c.in-Ok.ensures.all (rw c.deref.ensures.value at c.answer.ensures.cause)
 
 pub returns-in-Ok-clause-read : goal.returns-in-Ok-clause-read
 returns-in-Ok-clause-read g c = read_to_end _ _ _ c.in-Ok.ensures.end

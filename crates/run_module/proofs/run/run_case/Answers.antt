@@ -1,0 +1,6 @@
+use Rattle.module_check.specs.Asked.{asked}
+use Rattle.run_module.proofs.Causes.{can_run}
+use Rattle.run_module.proofs.run.run_case.Goals as goal
+
+pub run_from-requires-clause-can : goal.run_from-requires-clause-can
+run_from-requires-clause-can c = can_run c.args.«module».now (asked c.args.options.now) c.in_ok-conforming.conforming.entry.function.0 c.requires.read c.in_ok-conforming.ensures.passes c.in_ok-conforming.ensures.entry
