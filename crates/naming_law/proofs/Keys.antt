@@ -53,7 +53,7 @@ use Rattle.naming_law.specs.Names.{is_other, is_result, is_value_parameter, is_v
 use Rattle.naming_law.proofs.Alone.{no_flip, variable_inst, outer_once, variable_once, lent_once, global_apart, private_once}
 
 -- an instruction of a function stands in a block of it
-placed_in : (bs : List Block) (i : Inst) → IsIn i (flat_map (λ (b : Block). b.insts) bs) → (k : ℕ) × (b : Block) × (slice_get bs k ≡ Some b) × IsIn i b.insts
+pub placed_in : (bs : List Block) (i : Inst) → IsIn i (flat_map (λ (b : Block). b.insts) bs) → (k : ℕ) × (b : Block) × (slice_get bs k ≡ Some b) × IsIn i b.insts
 placed_in [] i among = absurd among
 placed_in (b ∷ bs) i among = elim (either_in b.insts (flat_map (λ (b : Block). b.insts) bs) among) [
   | inl here ↦ (0, b, refl, here)
@@ -66,7 +66,7 @@ placed_in (b ∷ bs) i among = elim (either_in b.insts (flat_map (λ (b : Block)
     either_in (x ∷ xs) ys (inr among) = elim (either_in xs ys among) [ inl left ↦ inl (inr left) | inr right ↦ inr right ]
 
 -- what passes a test is one of them
-some_in : {A : Type 0} (test : A → Bool) (xs : List A) → list_any test xs ≡ true → (x : A) × IsIn x xs × (test x ≡ true)
+pub some_in : {A : Type 0} (test : A → Bool) (xs : List A) → list_any test xs ≡ true → (x : A) × IsIn x xs × (test x ≡ true)
 some_in {A = A} test [] on = cc
 some_in {A = A} test (x ∷ xs) on = by_test (test x) refl on (some_in test xs)
   where
@@ -79,21 +79,21 @@ in_numbers [] k x among same = absurd among
 in_numbers (y ∷ xs) k x (inl here) same = inl (ap (λ (n : ℕ × ℕ). n.0) here ∙ same)
 in_numbers (y ∷ xs) k x (inr among) same = inr (in_numbers xs k x among same)
 
-hoisted_is : (x : Form) → is_hoisted x ≡ true → x ≡ Hoisted
+pub hoisted_is : (x : Form) → is_hoisted x ≡ true → x ≡ Hoisted
 hoisted_is Hoisted on = refl
 hoisted_is Gone on = cc
 hoisted_is Forwarded on = cc
 hoisted_is Local on = cc
 
 -- a variable has a name, and so has a result that is declared at the top
-variable_has : (x : Form) (reached : Bool) → has_name_by x reached true ≡ true
+pub variable_has : (x : Form) (reached : Bool) → has_name_by x reached true ≡ true
 variable_has Hoisted reached = refl
 variable_has Local true = refl
 variable_has Local false = refl
 variable_has Gone reached = refl
 variable_has Forwarded reached = refl
 
-equal : (a b : ℕ) → (a == b) ≡ true → a ≡ b
+pub equal : (a b : ℕ) → (a == b) ≡ true → a ≡ b
 equal a b on = elim (eqb_tells a b) [ inl w ↦ w.1 | inr w ↦ no_flip (a == b) on w.0 ]
 
 as_in : (ps : List (IdOf × IdOf)) (p : IdOf × IdOf) → IsParameter p ps → IsIn p ps
@@ -136,13 +136,13 @@ module _ (m : ModuleState) (o : Options) (unit : TranslationUnit) (u : IsUnitOf 
     N = names p
 
     -- where an instruction of the function stands
-    stands : (n : ℕ) (i : Inst) → inst_in (written p) n ≡ Some i → IsOf (claims_by src p) i × (i.result ≡ n)
+    pub stands : (n : ℕ) (i : Inst) → inst_in (written p) n ≡ Some i → IsOf (claims_by src p) i × (i.result ≡ n)
     stands n i at =
         let w = found_in (insts_of (written p)) n i at in
         let b = placed_in (written p).blocks i w.0 in
         (record { number = b.0; block = b.1; there = b.2; among = b.3 }, w.1)
 
-    parameter_has : (n : ℕ) → is_parameter (written p) n ≡ true → HasName found (Id (id n))
+    pub parameter_has : (n : ℕ) → is_parameter (written p) n ≡ true → HasName found (Id (id n))
     parameter_has n on =
         let q = parameter_of (written p).params n on in
         subst (λ (k : ℕ). HasName found (Id (id k))) q.2 (parameter_named m o unit u p q.0 among (as_in (written p).params q.0 q.1))
@@ -170,7 +170,7 @@ module _ (m : ModuleState) (o : Options) (unit : TranslationUnit) (u : IsUnitOf 
         = ap (has_name_by (p.scope.form v.0.result) (nth p.graph w.0.number).reached) v.2 ∙ variable_has (p.scope.form v.0.result) (nth p.graph w.0.number).reached in
         subst (λ (k : ℕ). HasName found (Id (id k))) w.1 (result_named m o unit u p v.0 among w.0 named_by)
 
-    private_has : (n : ℕ) → N.is_private n ≡ true → HasName found (Id (id n))
+    pub private_has : (n : ℕ) → N.is_private n ≡ true → HasName found (Id (id n))
     private_has n on =
         let g = some_by (is_written_private S o.overrides R key) (global m.globals n) on in
         let parts = and_parts (is_private g.0) (is_written_variable R g.0) g.2 in

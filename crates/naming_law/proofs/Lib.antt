@@ -13,3 +13,4 @@ pub mod Written
 pub mod Tree
 pub mod Whole
 pub mod Accesses
+pub mod Tops
