@@ -25,8 +25,8 @@ use Rattle.text_rules.specs.Declarations.{spelling, type_at, pointee_at}
 use Rattle.expr_forward.specs.Scope.{Scope}
 use Rattle.expr_forward.specs.Statements.{is_void_in}
 use Rattle.function_text.specs.Functions.{FunctionPlan, written, param_text, result_type}
-use Rattle.emit_glsl.specs.Translation.{names_of as type_names, scope_of, IsPlanOf}
-use Rattle.emit_glsl.specs.Unit.{source_of, called, IsUnitOf}
+use Rattle.unit_rules.specs.Translation.{names_of as type_names, scope_of, IsPlanOf}
+use Rattle.unit_rules.specs.Unit.{source_of, called, IsUnitOf}
 use Rattle.module_semantics.specs.Setting.{Setting}
 use Rattle.agree_law.specs.Agree.{Naming}
 use Rattle.path_law.specs.Parts.{shape_in}

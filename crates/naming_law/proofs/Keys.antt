@@ -31,8 +31,8 @@ use Rattle.text_rules.specs.Constants.{Source, is_constant}
 use Rattle.text_rules.specs.Printed.{Reached, is_private, is_workgroup, is_block_variable, is_variable, is_operand_in, is_written_variable, is_declared_constant}
 use Rattle.function_plan.specs.Planned.{has_name_by, has_name, is_named_in}
 use Rattle.function_text.specs.Functions.{FunctionPlan, written, is_hoisted}
-use Rattle.emit_glsl.specs.Translation.{text_of}
-use Rattle.emit_glsl.specs.Unit.{claims_by, reached_of, source_of, IsUnitOf}
+use Rattle.unit_rules.specs.Translation.{text_of}
+use Rattle.unit_rules.specs.Unit.{claims_by, reached_of, source_of, IsUnitOf}
 use Rattle.module_semantics.specs.Setting.{Setting, setting}
 use Rattle.region_law.proofs.Flags.{same_text}
 use Rattle.agree_law.specs.Agree.{Naming, is_named, AreApart}

@@ -26,8 +26,8 @@ use Rattle.expr_forward.specs.Scope.{Scope, globals}
 use Rattle.expr_forward.specs.Statements.{captured_of}
 use Rattle.function_plan.specs.Planned.{has_name_by, has_name}
 use Rattle.function_text.specs.Functions.{FunctionPlan, written, is_variable, is_hoisted, is_hoisted_in}
-use Rattle.emit_glsl.specs.Translation.{IsPlanOf}
-use Rattle.emit_glsl.specs.Unit.{claims_by, called, source_of, IsUnitOf}
+use Rattle.unit_rules.specs.Translation.{IsPlanOf}
+use Rattle.unit_rules.specs.Unit.{claims_by, called, source_of, IsUnitOf}
 use Rattle.module_semantics.specs.Setting.{Setting}
 use Rattle.module_semantics.specs.Accesses.{initial_in}
 use Rattle.agree_law.specs.Agree.{Naming}

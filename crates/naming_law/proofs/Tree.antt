@@ -26,7 +26,7 @@ use Rattle.name_alloc.specs.declared.claims.Key.TheVariants.{Again, Leave as Lea
 use Rattle.glsl_ast.specs.Tree.{Text}
 use Rattle.text_rules.specs.Constants.{Source}
 use Rattle.function_text.specs.Functions.{FunctionPlan, label_of, when, blocks_of}
-use Rattle.emit_glsl.specs.Translation.{Naming, IsPlanOf}
+use Rattle.unit_rules.specs.Translation.{Naming, IsPlanOf}
 use Rattle.agree_law.specs.Blocks.{IsOf}
 use Rattle.tree_law.specs.Written.{FlagsApart, IsWritten}
 use Rattle.typed_law.specs.Conforms.{IsFormed}

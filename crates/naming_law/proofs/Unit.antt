@@ -16,8 +16,8 @@ use Rattle.glsl_ast.specs.Tree.{Text, Decl, TranslationUnit}
 use Rattle.text_rules.specs.Declarations.{declarations}
 use Rattle.expr_forward.specs.Scope.{Scope}
 use Rattle.function_text.specs.Functions.{FunctionPlan, written, function_key, function_name, function_decl}
-use Rattle.emit_glsl.specs.Translation.{text_of, IsPlanOf}
-use Rattle.emit_glsl.specs.Unit.{item_names_of, called, has_id, in_order, source_of, IsUnitOf}
+use Rattle.unit_rules.specs.Translation.{text_of, IsPlanOf}
+use Rattle.unit_rules.specs.Unit.{item_names_of, called, has_id, in_order, source_of, IsUnitOf}
 use Rattle.function_law.specs.Texts.{FunctionText, decl_of, IsNoName, AreOnceNames}
 use Rattle.claim_law.specs.Claimed.{IsIn, HasName}
 use Rattle.claim_law.proofs.Keys.{main_claimed}

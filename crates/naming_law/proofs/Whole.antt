@@ -30,7 +30,7 @@ use Rattle.glsl_semantics.specs.Expressions.{Program, Argument}
 use Rattle.text_rules.specs.Constants.{Source}
 use Rattle.control_text.specs.Statements.{region_text}
 use Rattle.function_text.specs.Functions.{FunctionPlan, written, blocks_of, body_text}
-use Rattle.emit_glsl.specs.Translation.{Naming as Names, IsPlanOf}
+use Rattle.unit_rules.specs.Translation.{Naming as Names, IsPlanOf}
 use Rattle.region_law.specs.Leads.{In}
 use Rattle.agree_law.specs.Agree.{Naming, AreApart}
 use Rattle.agree_law.specs.Blocks.{IsOf}
