@@ -14,3 +14,4 @@ pub mod Tree
 pub mod Whole
 pub mod Accesses
 pub mod Tops
+pub mod Once

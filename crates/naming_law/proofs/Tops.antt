@@ -51,7 +51,7 @@ is_top [] t among = absurd among
 is_top (u ∷ ts) t (inl same) = inl (ap (λ (x : Top). x.name) same, ap (λ (x : Top). x.shape) same, ap (λ (x : Top). x.value) same)
 is_top (u ∷ ts) t (inr among) = inr (is_top ts t among)
 
-no_top : (x : Text) (ts : List Top) → ((t : Top) → IsIn t ts → t.name ≢ x) → IsNoTop x ts
+pub no_top : (x : Text) (ts : List Top) → ((t : Top) → IsIn t ts → t.name ≢ x) → IsNoTop x ts
 no_top x [] far = tt
 no_top x (t ∷ ts) far = (far t (inl refl), no_top x ts (λ u among. far u (inr among)))
 
@@ -69,7 +69,7 @@ in_filtered {A = A} test (y ∷ xs) x (inr among) on = by_test (test y) (in_filt
     by_test false later = later
 
 -- what stands in such lists
-of_filtered : {A : Type 0} (test : A → Bool) (xs : List A) (x : A) → IsIn x (filter test xs) → IsIn x xs × (test x ≡ true)
+pub of_filtered : {A : Type 0} (test : A → Bool) (xs : List A) (x : A) → IsIn x (filter test xs) → IsIn x xs × (test x ≡ true)
 of_filtered {A = A} test [] x among = absurd among
 of_filtered {A = A} test (y ∷ xs) x among = by_test (test y) refl among (of_filtered test xs x)
   where
@@ -78,17 +78,17 @@ of_filtered {A = A} test (y ∷ xs) x among = by_test (test y) refl among (of_fi
     by_test true on (inr rest) later = let w = later rest in (inr w.0, w.1)
     by_test false on rest later = let w = later rest in (inr w.0, w.1)
 
-of_mapped : {A B : Type 0} (f : A → B) (xs : List A) (y : B) → IsIn y (map f xs) → (x : A) × IsIn x xs × (f x ≡ y)
+pub of_mapped : {A B : Type 0} (f : A → B) (xs : List A) (y : B) → IsIn y (map f xs) → (x : A) × IsIn x xs × (f x ≡ y)
 of_mapped f [] y among = absurd among
 of_mapped f (x ∷ xs) y (inl same) = (x, inl refl, same)
 of_mapped f (x ∷ xs) y (inr among) = let w = of_mapped f xs y among in (w.0, inr w.1, w.2)
 
-of_either : {A : Type 0} (x : A) (xs ys : List A) → IsIn x (xs ++ ys) → IsIn x xs ⊎ IsIn x ys
+pub of_either : {A : Type 0} (x : A) (xs ys : List A) → IsIn x (xs ++ ys) → IsIn x xs ⊎ IsIn x ys
 of_either x [] ys among = inr among
 of_either x (z ∷ xs) ys (inl same) = inl (inl same)
 of_either x (z ∷ xs) ys (inr among) = elim (of_either x xs ys among) [ inl left ↦ inl (inr left) | inr right ↦ inr right ]
 
-of_flat : {A B : Type 0} (f : A → List B) (xs : List A) (y : B) → IsIn y (flat_map f xs) → (x : A) × IsIn x xs × IsIn y (f x)
+pub of_flat : {A B : Type 0} (f : A → List B) (xs : List A) (y : B) → IsIn y (flat_map f xs) → (x : A) × IsIn x xs × IsIn y (f x)
 of_flat f [] y among = absurd among
 of_flat f (x ∷ xs) y among = elim (of_either y (f x) (flat_map f xs) among) [
   | inl here ↦ (x, inl refl, here)
@@ -116,10 +116,10 @@ abbrev key_number : Key → ℕ
 key_number (Id n) = n.0
 key_number _ = 0
 
-key_id : (a b : ℕ) → Id (id a) ≡ Id (id b) → a ≡ b
+pub key_id : (a b : ℕ) → Id (id a) ≡ Id (id b) → a ≡ b
 key_id a b e = ap key_number e
 
-no_chain_key : (a q k : ℕ) → Captured (id q) k ≡ Id (id a) → ⊥
+pub no_chain_key : (a q k : ℕ) → Captured (id q) k ≡ Id (id a) → ⊥
 no_chain_key a q k e = cc
 
 module _ (m : ModuleState) (o : Options) (unit : TranslationUnit) (u : IsUnitOf m o unit) (inv : Invocation) (p : FunctionPlan) (among : IsIn p u.plans) (alone : AreAlone m.globals (written p)) where
@@ -138,10 +138,10 @@ module _ (m : ModuleState) (o : Options) (unit : TranslationUnit) (u : IsUnitOf 
   abbrev f : Function
   f = written p
 
-  abbrev tops : List Top
+  abbrev pub tops : List Top
   tops = tops_of p.scope N s f.blocks
 
-  planned : (g : Function) × IsPlanOf (source_of m o u.entry) found g p
+  pub planned : (g : Function) × IsPlanOf (source_of m o u.entry) found g p
   planned = planned_as (IsPlanOf (source_of m o u.entry) found) (called u.order m.functions) u.plans p u.planned among
 
   key_is : (k : Key) → p.scope.setting.key k ≡ key k
@@ -217,43 +217,55 @@ module _ (m : ModuleState) (o : Options) (unit : TranslationUnit) (u : IsUnitOf 
   in_function : (b : Block) (i : Inst) → IsIn b f.blocks → IsIn i b.insts → IsIn i (insts_of f)
   in_function b i block there = in_flat (λ (x : Block). x.insts) f.blocks b i block there
 
-  result_key : (i : Inst) (there : IsIn i (insts_of f)) → ((reached : Bool) → has_name p.scope.form reached i ≡ true) → IsOfKey (p.scope.setting.key (Id (id i.result)))
-  result_key i there has =
+  result_name : (i : Inst) → IsIn i (insts_of f) → ((reached : Bool) → has_name p.scope.form reached i ≡ true) → found (Id (id i.result)) ≡ Some (p.scope.setting.key (Id (id i.result)))
+  result_name i there has =
       let at = placed i there in
-      inl (i, there, named_is found (Id (id i.result)) (result_named m o unit u p i among at (has (nth p.graph at.number).reached)) ∙ ap (λ (x : Text). Some x) (sym (key_is (Id (id i.result)))))
+      named_is found (Id (id i.result)) (result_named m o unit u p i among at (has (nth p.graph at.number).reached)) ∙ ap (λ (x : Text). Some x) (sym (key_is (Id (id i.result))))
 
-  index_key : (i : Inst) (n : ℕ × ℕ) → IsIn i (insts_of f) → IsIn n (captured_of p.scope i) → IsOfKey (p.scope.setting.key (Captured (id i.result) n.0))
-  index_key i n there one =
-      inr (i.result, n.0, named_is found (Captured (id i.result) n.0) (captured_named m o unit u p i n.0 among (placed i there) (by_test (is_chain i.op && p.scope.carried i.result) (subst (λ (l : List (ℕ × ℕ)). IsIn n l) (kept_is i) one))) ∙ ap (λ (x : Text). Some x) (sym (key_is (Captured (id i.result) n.0))))
+  pub index_name : (i : Inst) (n : ℕ × ℕ) → IsIn i (insts_of f) → IsIn n (captured_of p.scope i) → found (Captured (id i.result) n.0) ≡ Some (p.scope.setting.key (Captured (id i.result) n.0))
+  index_name i n there one =
+      named_is found (Captured (id i.result) n.0) (captured_named m o unit u p i n.0 among (placed i there) (by_test (is_chain i.op && p.scope.carried i.result) (subst (λ (l : List (ℕ × ℕ)). IsIn n l) (kept_is i) one))) ∙ ap (λ (x : Text). Some x) (sym (key_is (Captured (id i.result) n.0)))
     where
       by_test : (b : Bool) → IsIn n (if b then captured_indexes m.globals i else []) → IsIn n.0 (if b then map (λ (x : ℕ × ℕ). x.0) (captured_indexes m.globals i) else [])
       by_test true one = in_mapped (λ (x : ℕ × ℕ). x.0) (captured_indexes m.globals i) n one
       by_test false one = absurd one
 
-  variable_key : (b : Block) (t : Top) → IsIn b f.blocks → IsIn t (variable_tops p.scope N s b) → IsOfKey t.name
-  variable_key b t block there =
-      let i = of_mapped (variable_top p.scope N s) (filter is_variable b.insts) t there in
-      let w = of_filtered is_variable b.insts i.0 i.1 in
-      subst (λ (x : Top). IsOfKey x.name) i.2 (result_key i.0 (in_function b i.0 block w.0) (λ reached. ap (has_name_by (p.scope.form i.0.result) reached) w.1 ∙ variable_has (p.scope.form i.0.result) reached))
+  pub variable_name : (i : Inst) → IsIn i (insts_of f) → is_variable i ≡ true → found (Id (id i.result)) ≡ Some (p.scope.setting.key (Id (id i.result)))
+  variable_name i there on = result_name i there (λ reached. ap (has_name_by (p.scope.form i.result) reached) on ∙ variable_has (p.scope.form i.result) reached)
 
-  hoisted_key : (b : Block) (t : Top) → IsIn b f.blocks → IsIn t (hoisted_tops p.scope N s b) → IsOfKey t.name
-  hoisted_key b t block there =
-      let i = of_mapped (hoisted_top p.scope N s) (filter (is_hoisted_in p.scope) b.insts) t there in
-      let w = of_filtered (is_hoisted_in p.scope) b.insts i.0 i.1 in
-      subst (λ (x : Top). IsOfKey x.name) i.2 (result_key i.0 (in_function b i.0 block w.0) (λ reached. ap (λ (x : Form). has_name_by x reached (is i.0.op code.Variable)) (hoisted_is (p.scope.form i.0.result) w.1)))
+  pub hoisted_name : (i : Inst) → IsIn i (insts_of f) → is_hoisted_in p.scope i ≡ true → found (Id (id i.result)) ≡ Some (p.scope.setting.key (Id (id i.result)))
+  hoisted_name i there on = result_name i there (λ reached. ap (λ (x : Form). has_name_by x reached (is i.op code.Variable)) (hoisted_is (p.scope.form i.result) on))
 
-  index_keys : (b : Block) (t : Top) → IsIn b f.blocks → IsIn t (index_tops p.scope N s b) → IsOfKey t.name
-  index_keys b t block there =
-      let i = of_flat (λ (j : Inst). map (index_top p.scope N s j) (captured_of p.scope j)) b.insts t there in
+  -- what is declared is declared for an instruction
+  pub variable_of : (t : Top) → IsIn t (flat_map (variable_tops p.scope N s) f.blocks) → (i : Inst) × IsIn i (insts_of f) × (is_variable i ≡ true) × (found (Id (id i.result)) ≡ Some t.name)
+  variable_of t among =
+      let b = of_flat (variable_tops p.scope N s) f.blocks t among in
+      let i = of_mapped (variable_top p.scope N s) (filter is_variable b.0.insts) t b.2 in
+      let w = of_filtered is_variable b.0.insts i.0 i.1 in
+      let there = in_function b.0 i.0 b.1 w.0 in
+      (i.0, there, w.1, subst (λ (x : Top). found (Id (id i.0.result)) ≡ Some x.name) i.2 (variable_name i.0 there w.1))
+
+  pub hoisted_of : (t : Top) → IsIn t (flat_map (hoisted_tops p.scope N s) f.blocks) → (i : Inst) × IsIn i (insts_of f) × (is_hoisted_in p.scope i ≡ true) × (found (Id (id i.result)) ≡ Some t.name)
+  hoisted_of t among =
+      let b = of_flat (hoisted_tops p.scope N s) f.blocks t among in
+      let i = of_mapped (hoisted_top p.scope N s) (filter (is_hoisted_in p.scope) b.0.insts) t b.2 in
+      let w = of_filtered (is_hoisted_in p.scope) b.0.insts i.0 i.1 in
+      let there = in_function b.0 i.0 b.1 w.0 in
+      (i.0, there, w.1, subst (λ (x : Top). found (Id (id i.0.result)) ≡ Some x.name) i.2 (hoisted_name i.0 there w.1))
+
+  pub index_of : (t : Top) → IsIn t (flat_map (index_tops p.scope N s) f.blocks) → (q : ℕ) × (k : ℕ) × (found (Captured (id q) k) ≡ Some t.name)
+  index_of t among =
+      let b = of_flat (index_tops p.scope N s) f.blocks t among in
+      let i = of_flat (λ (j : Inst). map (index_top p.scope N s j) (captured_of p.scope j)) b.0.insts t b.2 in
       let n = of_mapped (index_top p.scope N s i.0) (captured_of p.scope i.0) t i.2 in
-      subst (λ (x : Top). IsOfKey x.name) n.2 (index_key i.0 n.0 (in_function b i.0 block i.1) n.1)
+      (i.0.result, n.0.0, subst (λ (x : Top). found (Captured (id i.0.result) n.0.0) ≡ Some x.name) n.2 (index_name i.0 n.0 (in_function b.0 i.0 b.1 i.1) n.1))
 
   of_key : (t : Top) → IsIn t tops → IsOfKey t.name
   of_key t there = elim (of_either t (flat_map (variable_tops p.scope N s) f.blocks) (flat_map (hoisted_tops p.scope N s) f.blocks ++ flat_map (index_tops p.scope N s) f.blocks) there) [
-    | inl variable ↦ let b = of_flat (variable_tops p.scope N s) f.blocks t variable in variable_key b.0 t b.1 b.2
+    | inl variable ↦ let i = variable_of t variable in inl (i.0, i.1, i.3)
     | inr more ↦ elim (of_either t (flat_map (hoisted_tops p.scope N s) f.blocks) (flat_map (index_tops p.scope N s) f.blocks) more) [
-      | inl hoisted ↦ let b = of_flat (hoisted_tops p.scope N s) f.blocks t hoisted in hoisted_key b.0 t b.1 b.2
-      | inr index ↦ let b = of_flat (index_tops p.scope N s) f.blocks t index in index_keys b.0 t b.1 b.2
+      | inl hoisted ↦ let i = hoisted_of t hoisted in inl (i.0, i.1, i.3)
+      | inr index ↦ inr (index_of t index)
     ]
   ]
 
