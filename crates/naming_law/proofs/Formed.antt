@@ -58,11 +58,11 @@ not_off true far = refl
 not_off false far = absurd (far refl)
 
 -- what stands behind each instruction of a kind passes a test
-abbrev AreGood : Kind → (List Kind → Bool) → List Kind → Type 0
+abbrev pub AreGood : Kind → (List Kind → Bool) → List Kind → Type 0
 AreGood at test [] = Unit {0}
 AreGood at test (k ∷ ks) = (k ≡ at → test ks ≡ true) × AreGood at test ks
 
-good : (at : Kind) (test : List Kind → Bool) (ks : List Kind) → ((k : ℕ) → k < length ks → nth_kind ks k ≡ at → test (drop (k + 1) ks) ≡ false → ⊥) → AreGood at test ks
+pub good : (at : Kind) (test : List Kind → Bool) (ks : List Kind) → ((k : ℕ) → k < length ks → nth_kind ks k ≡ at → test (drop (k + 1) ks) ≡ false → ⊥) → AreGood at test ks
 good at test [] far = tt
 good at test (x ∷ ks) far = (
   λ e. not_off (test ks) (λ off. far 0 (let less : 0 < suc (length ks) = omega arith in less) e off),
@@ -188,7 +188,7 @@ module _ (ws : List ℕ) where
           (record { first = first.0; there = first.1; blocks = nth_formed (blocks ws is) (blocks_from is right.1) }, rest)
       by_kind k here rest = rest
 
-  inside : (k : ℕ) → k < length (kinds ws) → k < length (insts ws)
+  pub inside : (k : ℕ) → k < length (kinds ws) → k < length (insts ws)
   inside k less = subst (λ n. k < n) (map_length (kind_of ws) (insts ws)) less
 
   -- the functions of a module

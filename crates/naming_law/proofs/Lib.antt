@@ -15,3 +15,5 @@ pub mod Whole
 pub mod Accesses
 pub mod Tops
 pub mod Once
+pub mod Declares
+pub mod Firsts

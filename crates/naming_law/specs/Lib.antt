@@ -4,3 +4,4 @@ pub mod Alone
 pub mod Names
 pub mod Types
 pub mod Ends
+pub mod Declares
