@@ -17,3 +17,4 @@ pub mod Tops
 pub mod Once
 pub mod Declares
 pub mod Firsts
+pub mod Labels

@@ -124,7 +124,7 @@ one_inst (x ∷ is) i j apart (inr a) (inl b) same some =
     absurd (have_not x.result is i (apart.0 (λ z. some (same ∙ (ap (λ (y : Inst). y.result) (sym b) ∙ z)))) a (same ∙ ap (λ (y : Inst). y.result) (sym b)))
 one_inst (x ∷ is) i j apart (inr a) (inr b) same some = one_inst is i j apart.1 a b same some
 
-among_in : (is : List Inst) (i : Inst) → IsIn i is → IsAmong i is
+pub among_in : (is : List Inst) (i : Inst) → IsIn i is → IsAmong i is
 among_in [] i there = absurd there
 among_in (x ∷ is) i (inl same) = inl same
 among_in (x ∷ is) i (inr there) = inr (among_in is i there)
