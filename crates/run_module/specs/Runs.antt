@@ -7,11 +7,9 @@ use Rattle.profile_rules.specs.declared.given.Given.{Given}
 use Rattle.profile_rules.specs.declared.size.SizePart.{SizePart}
 use Rattle.profile_rules.specs.declared.size.SizePart.TheVariants.{Fixed, Spec}
 use Rattle.traces.specs.Invocations.{Triple}
-use Rattle.module_semantics.specs.Setting.{setting}
-use Rattle.module_semantics.specs.Run.{start}
+use Rattle.module_semantics.specs.Run.{module_run}
 use Rattle.group_items.specs.Sides.{Runs}
 use Rattle.dispatch_case.specs.Three.{triple_of}
-use Rattle.spv_run.specs.Runs.{walk_by}
 
 -- the word that a SpecId is given
 abbrev pub given_words : List (ℕ × Given) → ℕ → Option ℕ
@@ -25,6 +23,6 @@ part_word special (Spec id default) = unwrap_or (special id) default
 abbrev pub workgroup_size : ModuleState → (ℕ → Option ℕ) → ℕ → Triple
 workgroup_size m special entry = triple_of (map (part_word special) (group_size m entry))
 
--- what invocations do within so many steps, with the numbers that the program has for places
+-- what invocations do within so many steps
 abbrev pub module_runs : ModuleState → ℕ → List (ℕ × Given) → ℕ → Runs
-module_runs m entry pairs steps told answers = walk_by (setting m entry pairs told) (start (setting m entry pairs told)) answers steps
+module_runs m entry pairs steps told answers = module_run m entry pairs told answers steps

@@ -17,7 +17,6 @@ use group_sched::Stop;
 use module_check::check_module;
 use profile_check::{Entry, Options};
 use run_lines::run_program;
-use spec_constants::Overrides;
 use spv_decor::Decor;
 use spv_module::Module;
 use spv_run::ModuleProgram;
@@ -36,17 +35,20 @@ fn run_from(
     alloc: Global,
     module: &Module,
     decor: &Decor,
-    overrides: &Overrides,
+    options: &Options,
     case: &Case,
     entry: &Entry,
 ) -> Result<CaseRun, Fault>
     requires heads { decor.now ≡ «module».now.heads }
+    requires read { IsRead «module».now }
+    requires passes { IsFine «module».now (asked options.now) }
     requires can { CanRun «module».now entry.now.function.0 }
     requires size { entry.now.size.items ≡ group_size «module».now entry.now.function.0 }
     requires fine { IsTrue (is_fine (parts_of case.now)) }
-    ensures run { IfOk result (IsRunFrom «module».now overrides.now.pairs.items entry.now.function.0 (parts_of case.now)) }
-    ensures refused { IfErr result (IsCause «module».now overrides.now.pairs.items) }
+    ensures run { IfOk result (IsRunFrom «module».now options.now.overrides.pairs.items entry.now.function.0 (parts_of case.now)) }
+    ensures refused { IfErr result (IsCause «module».now options.now.overrides.pairs.items) }
 {
+    let overrides = &options.overrides;
     let special = words_given(alloc, overrides.pairs.as_slice())?;
     let constants = resolve(alloc, module, decor, overrides, &special)?;
     let program = ModuleProgram::new(alloc, module, decor, &constants, entry.function)?;
@@ -76,12 +78,5 @@ pub fn run_case(
     ensures refused { IfErr result (IsFault «module».now (asked options.now)) }
 {
     let conforming = check_module(alloc, module, decor, options)?;
-    run_from(
-        alloc,
-        module,
-        decor,
-        &options.overrides,
-        case,
-        &conforming.entry,
-    )
+    run_from(alloc, module, decor, options, case, &conforming.entry)
 }
