@@ -21,7 +21,7 @@ use Rattle.text_rules.specs.Printed.{Reached, is_named, has_operand, needs_const
 use Rattle.function_plan.specs.Planned.{is_live}
 use Rattle.function_text.specs.Functions.{FunctionPlan, written}
 use Rattle.function_text.specs.Live.{mentions_of, in_block}
-use Rattle.emit_glsl.specs.Unit.{claims_by, liveness_of, live_of, reached_of, source_of, IsUnitOf}
+use Rattle.unit_rules.specs.Unit.{claims_by, liveness_of, live_of, reached_of, source_of, IsUnitOf}
 use Rattle.claim_law.specs.Claimed.{IsIn, HasName, IsOf}
 use Rattle.claim_law.proofs.Listed.{numbered}
 use Rattle.claim_law.proofs.Keys.{constant_claimed}

@@ -20,8 +20,8 @@ use Rattle.glsl_ast.specs.Tree.{Text, TranslationUnit}
 use Rattle.function_plan.specs.Phis.{phi_blocks}
 use Rattle.function_plan.specs.Orders.{is_among}
 use Rattle.function_text.specs.Functions.{FunctionPlan, written, label_of, when, blocks_of}
-use Rattle.emit_glsl.specs.Translation.{Naming, text_of, IsPlanOf}
-use Rattle.emit_glsl.specs.Unit.{source_of, called, IsUnitOf}
+use Rattle.unit_rules.specs.Translation.{Naming, text_of, IsPlanOf}
+use Rattle.unit_rules.specs.Unit.{source_of, called, IsUnitOf}
 use Rattle.claim_law.specs.Claimed.{IsIn, HasName}
 use Rattle.agree_law.specs.Agree.{Naming as Names, IsOther}
 use Rattle.name_alloc.specs.Law.{AreNames}

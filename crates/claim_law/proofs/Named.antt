@@ -24,7 +24,7 @@ use Rattle.function_plan.specs.Planned.{captured_numbers, spares_in, has_name, n
 use Rattle.function_plan.specs.Once.{once, itself}
 use Rattle.function_plan.specs.Targets.{targets_in}
 use Rattle.function_text.specs.Functions.{FunctionPlan, written}
-use Rattle.emit_glsl.specs.Unit.{claims_by, reached_of, source_of, IsUnitOf}
+use Rattle.unit_rules.specs.Unit.{claims_by, reached_of, source_of, IsUnitOf}
 use Rattle.claim_law.specs.Claimed.{IsIn, HasKey, HasName, IsOf}
 use Rattle.claim_law.proofs.Listed.{in_mapped, numbered, any_in}
 use Rattle.claim_law.proofs.Keys.{function_claimed, parameter_claimed, result_claimed, again_claimed, leave_claimed, fell_claimed, captured_claimed, spare_claimed}

@@ -19,7 +19,7 @@ use Rattle.spell_law.specs.Uses.{UsesExpr}
 use Rattle.spell_law.specs.Statements.{UsesStmt}
 use Rattle.spell_law.proofs.Grammar.{expr-spelled}
 use Rattle.spell_law.proofs.Sentences.{stmt-spelled}
-use Rattle.emit_glsl.specs.Translation.{text_of}
+use Rattle.unit_rules.specs.Translation.{text_of}
 use Rattle.claim_law.specs.Claimed.{HasName}
 use Rattle.claim_law.specs.Told.{built_ins, components, is_among, IsGiven, told}
 use Rattle.claim_law.proofs.Words.{given_is_name}

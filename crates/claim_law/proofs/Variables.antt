@@ -19,7 +19,7 @@ use Rattle.glsl_ast.specs.Tree.{TranslationUnit}
 use Rattle.text_rules.specs.Constants.{is_constant}
 use Rattle.text_rules.specs.Printed.{Reached, has_operand, is_variable, is_private, is_workgroup, is_block_variable, is_operand_in, is_written_variable, is_declared_constant}
 use Rattle.function_text.specs.Functions.{FunctionPlan, written}
-use Rattle.emit_glsl.specs.Unit.{reached_of, source_of, IsUnitOf}
+use Rattle.unit_rules.specs.Unit.{reached_of, source_of, IsUnitOf}
 use Rattle.claim_law.specs.Claimed.{IsIn, HasName}
 use Rattle.claim_law.proofs.Listed.{any_in, in_mapped}
 use Rattle.claim_law.proofs.Keys.{variable_claimed, block_claimed}

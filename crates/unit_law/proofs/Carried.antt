@@ -23,8 +23,8 @@ use Rattle.glsl_ast.specs.Tree.{TranslationUnit}
 use Rattle.expr_forward.specs.Scope.{Scope}
 use Rattle.function_plan.specs.Phis.{is_gone}
 use Rattle.function_text.specs.Functions.{FunctionPlan}
-use Rattle.emit_glsl.specs.Translation.{Naming, text_of}
-use Rattle.emit_glsl.specs.Unit.{IsUnitOf}
+use Rattle.unit_rules.specs.Translation.{Naming, text_of}
+use Rattle.unit_rules.specs.Unit.{IsUnitOf}
 use Rattle.plan_law.specs.Ordered.{AreOrdered}
 use Rattle.plan_law.proofs.Order.{in_order}
 use Rattle.typed_law.specs.Conforms.{IsConforming}

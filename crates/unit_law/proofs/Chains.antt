@@ -25,7 +25,7 @@ use Rattle.glsl_ast.specs.Tree.{Expr, TranslationUnit, LStep}
 use Rattle.expr_forward.specs.Scope.{Setting as Place}
 use Rattle.expr_forward.specs.Paths as paths
 use Rattle.expr_forward.specs.Paths.{base_text, step_text, steps_text, place_text}
-use Rattle.emit_glsl.specs.Unit.{IsUnitOf}
+use Rattle.unit_rules.specs.Unit.{IsUnitOf}
 use Rattle.name_alloc.specs.Naming.{name_of}
 use Rattle.spell_law.specs.Uses.{Words, UseSteps, UsesLValue}
 use Rattle.type_law.proofs.Chains.{HaveTypes}

@@ -27,7 +27,7 @@ use Rattle.glsl_ast.specs.Tree.{Expr, TranslationUnit}
 use Rattle.access_paths.specs.Ways.{indexes}
 use Rattle.expr_forward.specs.Scope.{Scope}
 use Rattle.function_text.specs.Functions.{FunctionPlan}
-use Rattle.emit_glsl.specs.Unit.{IsUnitOf}
+use Rattle.unit_rules.specs.Unit.{IsUnitOf}
 use Rattle.type_law.proofs.Vectors.{three_off}
 use Rattle.type_law.proofs.Chains.{HaveTypes}
 use Rattle.spell_law.specs.Uses.{Words, UsesExpr}

@@ -28,8 +28,8 @@ use Rattle.expr_forward.specs.Statements.{captured_of}
 use Rattle.expr_forward.specs.declared.kinds.InstKind.TheVariants as kind
 use Rattle.function_plan.specs.Planned.{captured_numbers}
 use Rattle.function_text.specs.Functions.{FunctionPlan}
-use Rattle.emit_glsl.specs.Translation.{Naming, text_of}
-use Rattle.emit_glsl.specs.Unit.{claims_by, IsUnitOf}
+use Rattle.unit_rules.specs.Translation.{Naming, text_of}
+use Rattle.unit_rules.specs.Unit.{claims_by, IsUnitOf}
 use Rattle.fits_law.specs.State.{value_shape, target_shape}
 use Rattle.spell_law.specs.Uses.{Words, UsesExpr}
 use Rattle.spell_law.specs.Statements.{AskKept, MeetsInst}

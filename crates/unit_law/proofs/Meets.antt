@@ -29,7 +29,7 @@ use Rattle.expr_forward.specs.Kinds.{kind_of, operation_kind_of}
 use Rattle.expr_forward.specs.Scope.{Scope, globals}
 use Rattle.expr_forward.specs.Values.{value_words}
 use Rattle.function_text.specs.Functions.{FunctionPlan}
-use Rattle.emit_glsl.specs.Unit.{IsUnitOf}
+use Rattle.unit_rules.specs.Unit.{IsUnitOf}
 use Rattle.block_law.specs.Ranked.{ids_by_kind, operand_ids}
 use Rattle.spell_law.specs.Uses.{Words}
 use Rattle.spell_law.specs.Named.{FitsShape, IsNamedType, Asks, AsksIfAny}

@@ -30,8 +30,8 @@ use Rattle.vec_lowering.specs.Component.{axis_name}
 use Rattle.text_rules.specs.Printed.{has_struct, have_struct}
 use Rattle.expr_forward.specs.Scope.{Setting as Place}
 use Rattle.expr_forward.specs.Paths.{part_step_by, part_step, part_type_by, part_type, part_steps}
-use Rattle.emit_glsl.specs.Translation.{Naming, text_of}
-use Rattle.emit_glsl.specs.Unit.{source_of, IsUnitOf}
+use Rattle.unit_rules.specs.Translation.{Naming, text_of}
+use Rattle.unit_rules.specs.Unit.{source_of, IsUnitOf}
 use Rattle.spell_law.specs.Uses.{Words, UseSteps}
 use Rattle.spell_law.specs.Blocks.{FitWords}
 use Rattle.fits_law.specs.Takes.{nth_of, part_shape, shape_at}

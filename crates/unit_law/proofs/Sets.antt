@@ -35,8 +35,8 @@ use Rattle.expr_forward.specs.declared.kinds.InstKind.TheVariants as kind
 use Rattle.function_plan.specs.Phis.{is_gone}
 use Rattle.function_plan.specs.Planned.{has_name_by}
 use Rattle.function_text.specs.Functions.{FunctionPlan}
-use Rattle.emit_glsl.specs.Translation.{Naming, text_of, id_text}
-use Rattle.emit_glsl.specs.Unit.{source_of, claims_by, liveness_of, IsUnitOf}
+use Rattle.unit_rules.specs.Translation.{Naming, text_of, id_text}
+use Rattle.unit_rules.specs.Unit.{source_of, claims_by, liveness_of, IsUnitOf}
 use Rattle.glsl_grammar.specs.Read.{is_declared}
 use Rattle.text_rules.specs.Printed.{is_written_struct}
 use Rattle.text_rules.specs.Declarations.{length_extent}

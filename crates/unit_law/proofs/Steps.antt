@@ -37,8 +37,8 @@ use Rattle.text_rules.specs.Printed.{has_struct, have_struct}
 use Rattle.expr_forward.specs.Scope.{Setting as Place}
 use Rattle.expr_forward.specs.Paths as paths
 use Rattle.expr_forward.specs.Paths.{word_at, index_expr, vector_size, index_by, step_text}
-use Rattle.emit_glsl.specs.Translation.{Naming, text_of}
-use Rattle.emit_glsl.specs.Unit.{IsUnitOf}
+use Rattle.unit_rules.specs.Translation.{Naming, text_of}
+use Rattle.unit_rules.specs.Unit.{IsUnitOf}
 use Rattle.spell_law.specs.Uses.{Words, UsesExpr, UseSteps}
 use Rattle.fits_law.specs.State.{element_shape}
 use Rattle.type_law.proofs.Parts.{row, all_nth}

@@ -22,8 +22,8 @@ use Rattle.text_rules.specs.Constants.{Source}
 use Rattle.text_rules.specs.Claims.{has_block, is_written_block}
 use Rattle.text_rules.specs.Declarations.{length_extent, type_at, zero_at}
 use Rattle.text_rules.specs.Printed.{Reached, has_struct, pointee_or_self, type_has_struct, written_types, is_written_variable, is_written_struct}
-use Rattle.emit_glsl.specs.Translation.{Naming, id_text, names_of}
-use Rattle.emit_glsl.specs.Unit.{reached_of, source_of, IsUnitOf}
+use Rattle.unit_rules.specs.Translation.{Naming, id_text, names_of}
+use Rattle.unit_rules.specs.Unit.{reached_of, source_of, IsUnitOf}
 use Rattle.spell_law.specs.Uses.{Words, UsesExtent, UsesType, UsesExpr}
 use Rattle.typed_law.specs.Conforms.{IsConforming}
 use Rattle.typed_law.proofs.Lists.{both_on}

@@ -16,7 +16,7 @@ use Rattle.function_plan.specs.Phis.{is_gone}
 use Rattle.function_plan.specs.Planned.{is_live, is_captured}
 use Rattle.function_text.specs.Functions.{FunctionPlan, written, is_hoisted}
 use Rattle.function_text.specs.Live.{is_composite, is_wanted, has_type_written, types_of, in_block}
-use Rattle.emit_glsl.specs.Unit.{claims_by, liveness_of, live_of, source_of, IsUnitOf}
+use Rattle.unit_rules.specs.Unit.{claims_by, liveness_of, live_of, source_of, IsUnitOf}
 use Rattle.claim_law.specs.Claimed.{IsIn, IsOf}
 use Rattle.claim_law.proofs.Listed.{in_left, in_right, in_flat, in_mapped}
 use Rattle.unit_law.proofs.Lists.{numbered_first, in_filter}

@@ -20,7 +20,7 @@ use Rattle.glsl_ast.specs.Tree.{TranslationUnit}
 use Rattle.expr_forward.specs.Kinds.{kind_of, operation_kind_of}
 use Rattle.expr_forward.specs.Scope.{Scope}
 use Rattle.function_text.specs.Functions.{FunctionPlan}
-use Rattle.emit_glsl.specs.Unit.{IsUnitOf}
+use Rattle.unit_rules.specs.Unit.{IsUnitOf}
 use Rattle.block_law.specs.Ranked.{operand_ids, AreBelow, IsForwardedBy}
 use Rattle.spell_law.specs.Asked.{AreRanked}
 use Rattle.typed_law.specs.Conforms.{IsConforming}

@@ -21,7 +21,7 @@ use Rattle.spv_decor.specs.Decorations.{local_insts}
 use Rattle.glsl_ast.specs.Tree.{TranslationUnit}
 use Rattle.text_rules.specs.Printed.{pointee_or_self, written_types}
 use Rattle.function_text.specs.Functions.{FunctionPlan}
-use Rattle.emit_glsl.specs.Unit.{source_of, IsUnitOf}
+use Rattle.unit_rules.specs.Unit.{source_of, IsUnitOf}
 use Rattle.plan_law.proofs.Order.{among_right}
 use Rattle.typed_law.specs.Conforms.{IsConforming}
 use Rattle.typed_law.proofs.Used.{among_left, among_right as ids_right}

@@ -31,8 +31,8 @@ use Rattle.text_items.specs.Globals.{global_by}
 use Rattle.expr_forward.specs.Scope.{Scope, type_of}
 use Rattle.function_plan.specs.Planned.{is_reached_node, has_name_by}
 use Rattle.function_text.specs.Functions.{FunctionPlan, written}
-use Rattle.emit_glsl.specs.Translation.{Naming, id_text, scope_of, IsPlanOf}
-use Rattle.emit_glsl.specs.Unit.{is_called, called, source_of, IsUnitOf}
+use Rattle.unit_rules.specs.Translation.{Naming, id_text, scope_of, IsPlanOf}
+use Rattle.unit_rules.specs.Unit.{is_called, called, source_of, IsUnitOf}
 use Rattle.plan_law.specs.InOrder.{AreInOrder}
 use Rattle.plan_law.specs.Ordered.{AreOrdered}
 use Rattle.plan_law.proofs.Order.{in_order}
