@@ -23,13 +23,13 @@ use Rattle.spv_module.specs.declared.inst.Block.{Block}
 use Rattle.spv_module.specs.declared.inst.Function.{Function}
 use Rattle.spv_ops.specs.Shape.{count_of}
 use Rattle.spv_index.specs.Locals.{insts_of}
-use Rattle.use_chains.specs.Slots.{is_slot, mention, operands, slots_of_inst, slots_of_block, slots}
+use Rattle.use_chains.specs.Slots.{is_slot_in, mention, slots_of_inst, slots_of_block, slots}
+use Rattle.use_chains.specs.Small.{IsSmall}
 use Rattle.module_check.specs.ReadFrom.{IsReadFrom}
 use Rattle.plan_law.specs.InOrder.{IsAmong}
 use Rattle.plan_law.proofs.Listed.{flat}
 use Rattle.typed_law.proofs.Lists.{or_left, or_right}
 use Rattle.typed_law.proofs.Conforming.{uncut_words}
-use Rattle.accepted_law.specs.Small.{IsSmall}
 
 -- numbers
 le_zero : (n : ℕ) → 0 ≤ n
@@ -281,21 +281,17 @@ joined : {A : Type 0} (xs ys : List A) (m n : ℕ) → length xs ≤ m → lengt
 joined xs ys m n first second = subst (λ k. k ≤ m + n) (sym (length-append xs ys)) (le_both (length xs) m (length ys) n first second)
 
 module _ (f : Function) (reached : List Bool) where
-  inst_slots : (b n : ℕ) (i : Inst) → length (slots_of_inst f reached b (n, i)) ≤ length i.args
-  inst_slots b n i =
-      subst (λ k. k ≤ length i.args) (sym (length-map (operands f reached i) (mention b n i)))
-      (subst (λ k. length (operands f reached i) ≤ k) (length-enumerate_from 0 i.args) (filtered (λ (operand : ℕ × ℕ). is_slot f reached i operand.0) (enumerate_from 0 i.args)))
+  inst_slots : (here : Bool) (b n : ℕ) (i : Inst) → length (slots_of_inst f reached here b (n, i)) ≤ length i.args
+  inst_slots here b n i =
+      subst (λ k. k ≤ length i.args) (sym (length-map (filter (λ (operand : ℕ × ℕ). is_slot_in f reached here i operand.0) (enumerate_from 0 i.args)) (mention b n i)))
+      (subst (λ k. length (filter (λ (operand : ℕ × ℕ). is_slot_in f reached here i operand.0) (enumerate_from 0 i.args)) ≤ k) (length-enumerate_from 0 i.args) (filtered (λ (operand : ℕ × ℕ). is_slot_in f reached here i operand.0) (enumerate_from 0 i.args)))
 
-  insts_slots : (b n : ℕ) (is : List Inst) → length (flat_map (slots_of_inst f reached b) (enumerate_from n is)) ≤ args_in is
-  insts_slots b n [] = le_zero 0
-  insts_slots b n (i ∷ is) = joined (slots_of_inst f reached b (n, i)) (flat_map (slots_of_inst f reached b) (enumerate_from (n + 1) is)) (length i.args) (args_in is) (inst_slots b n i) (insts_slots b (n + 1) is)
+  insts_slots : (here : Bool) (b n : ℕ) (is : List Inst) → length (flat_map (slots_of_inst f reached here b) (enumerate_from n is)) ≤ args_in is
+  insts_slots here b n [] = le_zero 0
+  insts_slots here b n (i ∷ is) = joined (slots_of_inst f reached here b (n, i)) (flat_map (slots_of_inst f reached here b) (enumerate_from (n + 1) is)) (length i.args) (args_in is) (inst_slots here b n i) (insts_slots here b (n + 1) is)
 
   block_slots : (n : ℕ) (b : Block) → length (slots_of_block f reached (n, b)) ≤ args_in b.insts
-  block_slots n b = by_test (slice_index_or reached n false)
-    where
-      by_test : (t : Bool) → length (if t then flat_map (slots_of_inst f reached n) (enumerate_from 0 b.insts) else []) ≤ args_in b.insts
-      by_test true = insts_slots n 0 b.insts
-      by_test false = le_zero (args_in b.insts)
+  block_slots n b = insts_slots (slice_index_or reached n false) n 0 b.insts
 
   blocks_slots : (n : ℕ) (bs : List Block) → length (flat_map (slots_of_block f reached) (enumerate_from n bs)) ≤ args_in (flat bs)
   blocks_slots n [] = le_zero 0

@@ -1,5 +1,5 @@
 -- A filter over what is left of a list, one item further.
-use Rattle.std.proofs.Common.{◌≡◌, ◌<◌, ◌+◌, ◌&&◌, ℕ, Bool, true, false, List, [], ◌∷◌, ◌++◌, length, get_or, drop, map, filter, refl, ap, sym, ◌∙◌, cond}
+use Rattle.std.proofs.Common.{◌≡◌, ◌<◌, ◌+◌, ◌&&◌, ◌||◌, ℕ, Bool, true, false, List, [], ◌∷◌, ◌++◌, length, get_or, drop, map, filter, refl, ap, sym, ◌∙◌, cond}
 use Rattle.std.proofs.lemmas.Bool.{and_left, and_right}
 use Rattle.spv_module.specs.declared.inst.Inst.{Inst}
 use Rattle.spv_module.specs.declared.inst.Function.{Function}
@@ -8,7 +8,7 @@ use Rattle.spv_ops.specs.declared.Op.{Op}
 use Rattle.spv_ops.specs.OpGroups.{takes_of}
 use Rattle.spv_ops.specs.declared.Takes.{Takes}
 use Rattle.spv_ops.specs.declared.Takes.TheVariants.{Labels}
-use Rattle.use_chains.specs.Slots.{are_labels, has_labels, is_slot, is_taken, is_value_by, is_value, mention, slots_of_inst}
+use Rattle.use_chains.specs.Slots.{are_labels, has_labels, is_base, is_slot, is_slot_in, is_taken, is_value_by, is_value, mention, slots_of_inst}
 use Rattle.std.specs.List.{enumerate_from}
 use Rattle.std.proofs.lemmas.List.{drop_more, append_assoc}
 
@@ -40,5 +40,9 @@ no_value : (o : Op) (k : ℕ) → has_labels o ≡ true → is_value o k ≡ fal
 no_value o k e = no_value_by (takes_of o) k e
 
 -- what mentions labels alone has no slots
-pub no_slots : (f : Function) (reached : List Bool) (b n : ℕ) (i : Inst) → has_labels i.op ≡ true → slots_of_inst f reached b (n, i) ≡ []
-no_slots f reached b n i e = ap (map (mention b n i)) (none_taken (λ (operand : ℕ × ℕ). is_slot f reached i operand.0) 0 i.args (λ k x. and_right (is_id i.op i.args k) (is_value i.op k && is_taken f reached i k) (and_left (is_value i.op k) (is_taken f reached i k) (no_value i.op k e))))
+no_slot : (f : Function) (reached : List Bool) (i : Inst) (k : ℕ) → has_labels i.op ≡ true → is_slot f reached i k ≡ false
+no_slot f reached i k e = and_right (is_id i.op i.args k) (is_value i.op k && is_taken f reached i k) (and_left (is_value i.op k) (is_taken f reached i k) (no_value i.op k e))
+
+pub no_slots : (f : Function) (reached : List Bool) (here : Bool) (b n : ℕ) (i : Inst) → has_labels i.op ≡ true → slots_of_inst f reached here b (n, i) ≡ []
+no_slots f reached here b n i e =
+    ap (map (mention b n i)) (none_taken (λ (operand : ℕ × ℕ). is_slot_in f reached here i operand.0) 0 i.args (λ k x. and_right (here || is_base i k) (is_slot f reached i k) (no_slot f reached i k e)))

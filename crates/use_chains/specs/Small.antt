@@ -10,7 +10,7 @@ pub record IsSmallBlock (b : Block) : Type 0 where
   pub insts : length b.insts < 2 ^ 32
   pub args : (i : Inst) → Contains b.insts i → length i.args < 2 ^ 32
 
--- so are the blocks of a function, and its operands that mention values
+-- so are the blocks of a function, and its slots
 pub record IsSmall (f : Function) : Type 0 where
   pub blocks : length f.blocks < 2 ^ 32
   pub each : (b : Block) → Contains f.blocks b → IsSmallBlock b
