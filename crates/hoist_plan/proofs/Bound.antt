@@ -1,6 +1,6 @@
 -- Different results are mentioned by different slots, so the steps are bounded by the slots and the results.
 use Rattle.std.proofs.Common.{◌≡◌, ◌≤◌, ◌+◌, ◌*◌, ◌==◌, ℕ, false, not, List, [], ◌∷◌, ◌++◌, length, filter, map, refl, ap, sym, ◌∙◌, subst, inl, inr, arith}
-use Rattle.std.specs.Prelude.{flat_map, slice_index, sum_by}
+use Rattle.std.specs.Prelude.{flat_map, sum_by}
 use Rattle.std.specs.List.{enumerate_from, AllByRecursion}
 use Rattle.std.specs.List.{IsDistinct}
 use Rattle.std.proofs.lemmas.Bool.{cases_Bool, eqb-true}
@@ -84,7 +84,7 @@ counted_one links block i = elim (cases_Bool (i.result == 0)) [
   | inl none ↦ rw none (record { is = refl })
   | inr some ↦ rw some (record {
     is =
-        let p : Placed = record { block = block; op = i.op; ty = i.ty; result = i.result; base = slice_index i.args 0; mentions = mentions_of links i.result } in
+        let p : Placed = record { block = block; op = i.op; ty = i.ty; result = i.result; mentions = mentions_of links i.result } in
         let steps = sum_by-cons steps_of p [] in
         let ids = sum_by-cons (λ n. length (chain links n)) i.result [] in
         let long : length (mentions_of links i.result) ≡ length (chain links i.result) = length-map (chain links i.result) (λ (l : Link). l.place) in

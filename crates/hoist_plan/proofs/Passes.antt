@@ -1,6 +1,6 @@
 -- The passes over the results, a step at a time.
 use Rattle.std.proofs.Common.{◌≡◌, ◌<◌, ◌+◌, ◌==◌, ◌++◌, ◌∙◌, ℕ, Bool, List, [], ◌∷◌, length, get_or, drop, filter, map, refl, ap, sym, subst, inl, inr, Option, true, false, not, ◌&&◌}
-use Rattle.std.specs.Prelude.{fold, flat_map, slice_index, sum_by}
+use Rattle.std.specs.Prelude.{fold, flat_map, sum_by}
 use Rattle.std.specs.List.{enumerate_from}
 use Rattle.std.proofs.lemmas.Bool.{and_from, cases_Bool, not_from_false}
 use Rattle.std.proofs.lemmas.List.{append_assoc, append-nil, at_drop_more, map-append}
@@ -108,14 +108,13 @@ of_not_false : (b c : Bool) → c ≡ not b → c ≡ false → b ≡ true
 of_not_false true c is e = refl
 of_not_false false c is e = sym e ∙ is
 
-one_result : (links : List Link) (block : ℕ) (i : Inst) → (i.result == 0) ≡ false → placed (mentions_of links i.result) (record { block = block; op = i.op; ty = i.ty; result = i.result; base = slice_index i.args 0 }) ∷ [] ≡ result_of links block i
+one_result : (links : List Link) (block : ℕ) (i : Inst) → (i.result == 0) ≡ false → placed (mentions_of links i.result) (record { block = block; op = i.op; ty = i.ty; result = i.result }) ∷ [] ≡ result_of links block i
 one_result links block i some = rw some refl
 
-pub result_is : (links : List Link) (block : ℕ) (i : Inst) (mentions : List SlotPlace) (base : ℕ) (has : Bool) → has ≡ not (i.result == 0) → has ≡ true → mentions ≡ mentions_of links i.result → base ≡ slice_index i.args 0
-    → placed mentions (record { block = block; op = i.op; ty = i.ty; result = i.result; base = base }) ∷ [] ≡ result_of links block i
-result_is links block i mentions base has is on are first =
-    ap (λ ms. placed ms (record { block = block; op = i.op; ty = i.ty; result = i.result; base = base }) ∷ []) are
-    ∙ (ap (λ (b : ℕ). placed (mentions_of links i.result) (record { block = block; op = i.op; ty = i.ty; result = i.result; base = b }) ∷ []) first ∙ one_result links block i (of_not (i.result == 0) has is on))
+pub result_is : (links : List Link) (block : ℕ) (i : Inst) (mentions : List SlotPlace) (has : Bool) → has ≡ not (i.result == 0) → has ≡ true → mentions ≡ mentions_of links i.result
+    → placed mentions (record { block = block; op = i.op; ty = i.ty; result = i.result }) ∷ [] ≡ result_of links block i
+result_is links block i mentions has is on are =
+    ap (λ ms. placed ms (record { block = block; op = i.op; ty = i.ty; result = i.result }) ∷ []) are ∙ one_result links block i (of_not (i.result == 0) has is on)
 
 pub result_none : (links : List Link) (block : ℕ) (i : Inst) (has : Bool) → has ≡ not (i.result == 0) → has ≡ false → [] ≡ result_of links block i
 result_none links block i has is off = let none : (i.result == 0) ≡ true = of_not_false (i.result == 0) has is off in rw none refl

@@ -9,7 +9,6 @@ use Rattle.spv_ops.specs.declared.Op.TheVariants as code
 use Rattle.spv_ops.specs.Shape.{shape}
 use Rattle.spv_module.specs.declared.inst.Inst.{Inst}
 use Rattle.spv_module.specs.declared.inst.Block.{Block}
-use Rattle.structure_rules.specs.Graph.{graph, grown, nodes, reach, reached}
 use Rattle.use_chains.specs.Links.{Link}
 use Rattle.hoist_plan.specs.declared.form.Form.TheVariants.{Gone, Forwarded, Local, Hoisted}
 use Rattle.hoist_plan.specs.Plan.{Scope, form, is_carried}
@@ -53,7 +52,7 @@ unfolding two_blocks planned_of globals block inst link number group_of shape
 forms_two_blocks = refl
 
 carried_two_blocks : map (is_carried two_blocks) (25 ∷ 26 ∷ 5 ∷ []) ≡ true ∷ false ∷ false ∷ []
-unfolding two_blocks planned_of globals block inst link number group_of takes_of graph nodes reach reached grown
+unfolding two_blocks planned_of globals block inst link number group_of takes_of
 carried_two_blocks = refl
 
 -- a loop over itself: a value comes to its phi from its own block
@@ -99,13 +98,13 @@ forms_deep : map (form deep) (101 ∷ 115 ∷ 116 ∷ 117 ∷ 118 ∷ 119 ∷ []
 unfolding deep negations negation_links planned_of globals block inst link number group_of shape
 forms_deep = refl
 
--- block 1 is not reached: block 2 loads through a chain of it, on a chain whose only mention has no slot
+-- block 1 is not reached: block 2 loads through a chain of it, which is based on another chain there
 apart : Scope
 apart = planned_of (
     block 10 (inst code.Branch 0 0 (12 ∷ []) ∷ []) ∷ block 11 (inst code.AccessChain 13 50 (5 ∷ 21 ∷ []) ∷ inst code.AccessChain 13 51 (50 ∷ 21 ∷ []) ∷ inst code.Branch 0 0 (12 ∷ []) ∷ []) ∷
     block 12 (inst code.Load 8 52 (51 ∷ []) ∷ inst code.Return 0 0 [] ∷ []) ∷ []
-    ) (link 0 2 0 0 51 ∷ [])
+    ) (link 0 1 0 0 5 ∷ link 1 1 1 0 50 ∷ link 2 2 0 0 51 ∷ [])
 
 carried_apart : map (is_carried apart) (50 ∷ 51 ∷ 5 ∷ []) ≡ true ∷ true ∷ false ∷ []
-unfolding apart planned_of globals block inst link number group_of takes_of graph nodes reach reached grown
+unfolding apart planned_of globals block inst link number group_of takes_of
 carried_apart = refl

@@ -26,7 +26,7 @@ places_in (Listed places) = places.items
 
 -- a result, with where it is mentioned
 abbrev pub placed : List SlotPlace → Row → Placed
-placed mentions r = record { block = r.block; op = r.op; ty = r.ty; result = r.result; base = r.base; mentions = mentions }
+placed mentions r = record { block = r.block; op = r.op; ty = r.ty; result = r.result; mentions = mentions }
 
 abbrev pub placed_chain : Chain → Placed
 placed_chain c = placed (places_in c.mentions) c.row

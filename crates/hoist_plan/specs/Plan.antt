@@ -1,5 +1,5 @@
 -- Which results of a function's instructions have variables, and where these are declared; which chains other blocks need. All is told over the slots that are linked.
-use Rattle.std.specs.Prelude.{ℕ, ◌+◌, ◌==◌, ◌&&◌, ◌||◌, not, nat_le, nat_lt, max, min, Bool, true, false, List, [], ◌∷◌, flat_map, fold, length, map, Option, Some, None, unwrap_or, if◌then◌else◌, slice_get, slice_index}
+use Rattle.std.specs.Prelude.{ℕ, ◌+◌, ◌==◌, ◌&&◌, ◌||◌, not, nat_le, nat_lt, max, min, Bool, true, false, List, [], ◌∷◌, flat_map, fold, length, map, Option, Some, None, unwrap_or, if◌then◌else◌, slice_index}
 use Rattle.std.specs.Option.{option_map_or}
 use Rattle.std.specs.List.{enumerate_from, list_any}
 use Rattle.spv_ops.specs.Opcode.{is}
@@ -14,13 +14,11 @@ use Rattle.spv_module.specs.Held.{global}
 use Rattle.spv_module.specs.declared.inst.Inst.{Inst}
 use Rattle.spv_module.specs.declared.inst.Block.{Block}
 use Rattle.spv_module.specs.declared.inst.Function.{Function}
-use Rattle.spv_index.specs.Locals.{block_in, inst_in, type_in}
+use Rattle.spv_index.specs.Locals.{block_in, type_in}
 use Rattle.op_semantics.specs.declared.operation.Unary.TheVariants.{SAbs}
 use Rattle.op_semantics.specs.declared.operation.Operation.{Operation}
 use Rattle.op_semantics.specs.declared.operation.Operation.TheVariants as operation
 use Rattle.op_semantics.specs.Value.{extended_opcodes, operation_in}
-use Rattle.structure_rules.specs.declared.graph.Node.{Node}
-use Rattle.structure_rules.specs.Graph.{graph}
 use Rattle.use_chains.specs.declared.slot.SlotPlace.{SlotPlace}
 use Rattle.use_chains.specs.Links.{Link, chain}
 use Rattle.use_chains.specs.Slots.{inst_at}
@@ -33,13 +31,12 @@ pub record Scope : Type 0 where
   pub function : Function
   pub links : List Link
 
--- the result of an instruction: the index of its block, the opcode, its type and its id, the first operand, which is the base of a chain, and where it is mentioned
+-- the result of an instruction: the index of its block, the opcode, its type and its id, and where it is mentioned
 pub record Placed : Type 0 where
   pub block : ℕ
   pub op : Op
   pub ty : ℕ
   pub result : ℕ
-  pub base : ℕ
   pub mentions : List SlotPlace
 
 -- where an id is mentioned
@@ -49,7 +46,7 @@ mentions_of links id = map (λ (l : Link). l.place) (chain links id)
 abbrev pub result_of : List Link → ℕ → Inst → List Placed
 result_of links block i =
     if i.result == 0 then [] else
-    record { block = block; op = i.op; ty = i.ty; result = i.result; base = slice_index i.args 0; mentions = mentions_of links i.result } ∷ []
+    record { block = block; op = i.op; ty = i.ty; result = i.result; mentions = mentions_of links i.result } ∷ []
 
 abbrev pub results_of_block : List Link → ℕ × Block → List Placed
 results_of_block links b = flat_map (result_of links b.0) b.1.insts
@@ -217,16 +214,9 @@ carries f carried block at = option_map_or (carries_by f carried block at) (user
 abbrev pub is_carried_with : Function → (ℕ → Bool) → Placed → Bool
 is_carried_with f carried p = is_chain p.op && (carried p.result || list_any (carries f carried p.block) p.mentions)
 
-abbrev pub is_reached : Function → ℕ → Bool
-is_reached f block = option_map_or (λ (n : Node). n.reached) (slice_get (graph f) block) false
-
--- the chain on which one is based in a block that is not reached, where no slots are linked
-abbrev pub is_base_unreached : Function → Placed → ℕ → Bool
-is_base_unreached f p n = (n == p.base) && (not (is_reached f p.block) && option_map_or (λ (i : Inst). is_chain i.op) (inst_in f n) false)
-
 abbrev pub with_carried : Function → (ℕ → Bool) → Placed → ℕ → Bool
 with_carried f carried p n =
-    elim (is_carried_with f carried p) [ true ↦ carried n || ((n == p.result) || is_base_unreached f p n) | false ↦ carried n ]
+    elim (is_carried_with f carried p) [ true ↦ carried n || (n == p.result) | false ↦ carried n ]
 
 -- the chains that are carried, of these: what is based on a chain stands behind it
 abbrev pub carried_from : Function → List Placed → ℕ → Bool

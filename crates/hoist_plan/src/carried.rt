@@ -1,14 +1,10 @@
 // The chains that other blocks need.
-ghost use Rattle.std.specs.Prelude.{◌≡◌, ◌==◌, ◌&&◌, ◌||◌, ℕ, IfOk, OnOk, false, map, slice_get};
-ghost use Rattle.std.specs.Option.{option_map_or};
+ghost use Rattle.std.specs.Prelude.{◌≡◌, ℕ, IfOk, OnOk, map};
 ghost use Rattle.std.specs.List.{list_any};
 ghost use Rattle.std.specs.BTreeSet.{contains};
 ghost use Rattle.std.specs.Ordering.{nat_cmp};
-ghost use Rattle.hoist_plan.specs.Plan.{carries_by as carries_by_in, carries as carries_in, is_carried_with, is_base_unreached, with_carried, carried_from};
+ghost use Rattle.hoist_plan.specs.Plan.{carries_by as carries_by_in, carries as carries_in, is_carried_with, with_carried, carried_from};
 ghost use Rattle.hoist_plan.specs.Kept.{placed_chain};
-ghost use Rattle.spv_ops.specs.Groups.{is_chain};
-ghost use Rattle.spv_index.specs.Locals.{inst_in};
-ghost use Rattle.structure_rules.specs.Graph.{graph as graph_of};
 
 use crate::mention::{stands_elsewhere, user};
 use crate::row::Chain;
@@ -17,7 +13,6 @@ use spv_module::Inst;
 use spv_words::Memory;
 use std::alloc::{AllocError, Global};
 use std::collections::BTreeSet;
-use structure_rules::Node;
 use use_chains::SlotPlace;
 
 /// Whether another block needs a chain because of the instruction that mentions it.
@@ -64,42 +59,16 @@ fn is_carried(locals: &Locals, carried: &BTreeSet<u32>, chain: &Chain) -> bool
             || some_carries(locals, carried, row.block, chain.mentions.as_slice()))
 }
 
-fn is_reached(graph: &[Node], block: usize) -> bool
-    ensures { result ≡ option_map_or (λ n. n.reached) (slice_get graph.now block) false }
-{
-    graph.get(block).map_or(false, |node| node.reached)
-}
-
-/// Whether an id is a chain of the function.
-fn names_chain(locals: &Locals, id: u32) -> bool
-    ensures { result ≡ option_map_or (λ i. is_chain i.op) (inst_in locals.now id) false }
-{
-    locals.inst(id).map_or(false, |inst| inst.op.is_chain())
-}
-
-/// Whether a carried chain is based on one in a block that is not reached, where no slots are linked.
-fn is_based_unreached(locals: &Locals, graph: &[Node], chain: &Chain) -> bool
-    requires { graph.now ≡ graph_of locals.now }
-    ensures { (n : ℕ) → is_base_unreached locals.now (placed_chain chain.now) n ≡ (result && (chain.now.row.base == n)) }
-{
-    !is_reached(graph, chain.row.block) && names_chain(locals, chain.row.base)
-}
-
 /// Adds a chain where another block needs it.
 fn add_if_carried(
     locals: &Locals,
-    graph: &[Node],
     carried: &mut BTreeSet<u32>,
     chain: &Chain,
 ) -> Result<(), AllocError>
-    requires { graph.now ≡ graph_of locals.now }
     ensures { OnOk result ((n : ℕ) → contains nat_cmp carried.new n ≡ with_carried locals.now (contains nat_cmp carried.old) (placed_chain chain.now) n) }
 {
     if is_carried(locals, carried, chain) {
         carried.insert(chain.row.result)?;
-        if is_based_unreached(locals, graph, chain) {
-            carried.insert(chain.row.base)?;
-        }
     }
     Ok(())
 }
@@ -108,15 +77,13 @@ fn add_if_carried(
 pub fn carried(
     alloc: Global,
     locals: &Locals,
-    graph: &[Node],
     chains: &[Chain],
 ) -> Result<BTreeSet<u32>, Memory>
-    requires { graph.now ≡ graph_of locals.now }
     ensures { IfOk result (λ carried. (n : ℕ) → contains nat_cmp carried n ≡ carried_from locals.now (map placed_chain chains.now) n) }
 {
     let mut carried = BTreeSet::new(alloc);
     for k in (0..chains.len()).rev() {
-        add_if_carried(locals, graph, &mut carried, &chains[k])?;
+        add_if_carried(locals, &mut carried, &chains[k])?;
     }
     Ok(carried)
 }

@@ -2,7 +2,6 @@
 ghost use Rattle.std.specs.Prelude.{◌≡◌, ◌+◌, ◌*◌, ◌==◌, ◌≤◌, ℕ, IfOk, OnOk, length, map, sum_by};
 ghost use Rattle.std.specs.List.{IsDistinct};
 ghost use Rattle.hoist_plan.specs.Plan.{form, is_carried, results as results_in};
-ghost use Rattle.structure_rules.specs.Graph.{graph as graph_of};
 ghost use Rattle.hoist_plan.specs.Kept.{form_in, is_carried_in, result_id, steps_of, AreRising};
 
 use crate::Form;
@@ -16,7 +15,6 @@ use std::alloc::Global;
 use std::collections::BTreeSet;
 use std::marker::Model;
 use std::sync::ledger::Ledger;
-use structure_rules::Node;
 use use_chains::{Steps, Uses};
 
 /// Which values of a function have variables, and where these are declared; which chains other blocks
@@ -66,12 +64,10 @@ pub fn plan<L: Ledger>(
     alloc: Global,
     module: &Module,
     locals: &Locals,
-    graph: &[Node],
     uses: &Uses,
     steps: &mut Steps<L>,
 ) -> Result<Naming, Memory>
-    requires graph { graph.now ≡ graph_of locals.now }
-    requires rising { AreRising uses.now }
+    requires { AreRising uses.now }
     ensures forms { IfOk result (λ n. (id : ℕ) → form_in n id ≡ form (record { globals = «module».now.globals; function = locals.now; links = uses.now }) id) }
     ensures carried { IfOk result (λ n. (id : ℕ) → is_carried_in n id ≡ is_carried (record { globals = «module».now.globals; function = locals.now; links = uses.now }) id) }
     ensures steps { OnOk result (steps.new ≡ steps.old + sum_by steps_of (results_in uses.now locals.now)) }
@@ -80,6 +76,6 @@ pub fn plan<L: Ledger>(
     let Told { forms, chains, .. } = results(alloc, module, locals, uses, steps)?;
     Ok(Naming {
         forms: forms.forms,
-        carried: carried(alloc, locals, graph, &chains)?,
+        carried: carried(alloc, locals, &chains)?,
     })
 }

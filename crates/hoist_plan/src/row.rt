@@ -4,15 +4,13 @@ ghost use Rattle.hoist_plan.specs.Kept.{places_in};
 use crate::mentioned::Mentioned;
 use spv_ops::Op;
 
-/// The result of an instruction: the index of its block, the opcode, its type and its id, and its first
-/// operand, which is the base of a chain.
+/// The result of an instruction: the index of its block, the opcode, its type and its id.
 #[derive(Clone, Copy)]
 pub struct Row {
     pub block: usize,
     pub op: Op,
     pub ty: u32,
     pub result: u32,
-    pub base: u32,
 }
 
 /// A result that is a chain, and where the linked slots that mention it stand, in text order.

@@ -92,13 +92,11 @@ impl<'w, 'f> Linked<'w, 'f> {
             return Ok(());
         }
         list_mentions(&mut told.places, self.uses, Id(inst.result), steps)?;
-        let base = inst.operand(0);
         let row = Row {
             block: place,
             op: inst.op,
             ty: inst.ty,
             result: inst.result,
-            base,
         };
         add_form(
             &mut told.forms,

@@ -26,24 +26,24 @@ returns-then-not-has_result-clause-steps g c =
 
 pub returns-clause-known : goal.returns-clause-known
 returns-clause-known g c =
-    let r : Row = record { block = c.args.place; op = c.args.inst.now.op; ty = c.args.inst.now.ty; result = c.args.inst.now.result; base = c.operand-base.result } in
+    let r : Row = record { block = c.args.place; op = c.args.inst.now.op; ty = c.args.inst.now.ty; result = c.args.inst.now.result } in
     let are : c.deref.result.now ≡ mentions_of c.args.self.now.uses.now c.args.inst.now.result = c.deref.ensures.value ∙ c.in_ok-list_mentions.ensures.places in
-    let one : placed c.deref.result.now r ∷ [] ≡ result_of c.args.self.now.uses.now c.args.place c.args.inst.now = result_is c.args.self.now.uses.now c.args.place c.args.inst.now c.deref.result.now c.operand-base.result c.has_result.result c.has_result.ensures c.if-not-has_result.false are c.operand-base.ensures in
+    let one : placed c.deref.result.now r ∷ [] ≡ result_of c.args.self.now.uses.now c.args.place c.args.inst.now = result_is c.args.self.now.uses.now c.args.place c.args.inst.now c.deref.result.now c.has_result.result c.has_result.ensures c.if-not-has_result.false are in
     known_is c.add_form.new.forms (with_result c.args.self.now.«module».now.globals c.args.self.now.locals.now (known_in c.args.told.now.forms) (placed c.deref.result.now r)) c.in_ok-add_form.ensures.operands c.in_ok-add_form.ensures.forms
     ∙ ap (fold (with_result c.args.self.now.«module».now.globals c.args.self.now.locals.now) (known_in c.args.told.now.forms)) one
 
 pub returns-clause-chains : goal.returns-clause-chains
 returns-clause-chains g c =
-    let r : Row = record { block = c.args.place; op = c.args.inst.now.op; ty = c.args.inst.now.ty; result = c.args.inst.now.result; base = c.operand-base.result } in
+    let r : Row = record { block = c.args.place; op = c.args.inst.now.op; ty = c.args.inst.now.ty; result = c.args.inst.now.result } in
     let are : c.deref-2.result.now ≡ mentions_of c.args.self.now.uses.now c.args.inst.now.result = c.deref-2.ensures.value ∙ c.in_ok-list_mentions.ensures.places in
-    let one : placed c.deref-2.result.now r ∷ [] ≡ result_of c.args.self.now.uses.now c.args.place c.args.inst.now = result_is c.args.self.now.uses.now c.args.place c.args.inst.now c.deref-2.result.now c.operand-base.result c.has_result.result c.has_result.ensures c.if-not-has_result.false are c.operand-base.ensures in
+    let one : placed c.deref-2.result.now r ∷ [] ≡ result_of c.args.self.now.uses.now c.args.place c.args.inst.now = result_is c.args.self.now.uses.now c.args.place c.args.inst.now c.deref-2.result.now c.has_result.result c.has_result.ensures c.if-not-has_result.false are in
     c.in_ok-add_chain.ensures ∙ ap (λ (ps : List Placed). map placed_chain c.args.told.now.chains.items ++ chains_among ps) one
 
 pub returns-clause-steps : goal.returns-clause-steps
 returns-clause-steps g c =
     let ms : List SlotPlace = mentions_of c.args.self.now.uses.now c.args.inst.now.result in
-    let r : Row = record { block = c.args.place; op = c.args.inst.now.op; ty = c.args.inst.now.ty; result = c.args.inst.now.result; base = c.operand-base.result } in
-    let one : placed ms r ∷ [] ≡ result_of c.args.self.now.uses.now c.args.place c.args.inst.now = result_is c.args.self.now.uses.now c.args.place c.args.inst.now ms c.operand-base.result c.has_result.result c.has_result.ensures c.if-not-has_result.false refl c.operand-base.ensures in
+    let r : Row = record { block = c.args.place; op = c.args.inst.now.op; ty = c.args.inst.now.ty; result = c.args.inst.now.result } in
+    let one : placed ms r ∷ [] ≡ result_of c.args.self.now.uses.now c.args.place c.args.inst.now = result_is c.args.self.now.uses.now c.args.place c.args.inst.now ms c.has_result.result c.has_result.ensures c.if-not-has_result.false refl in
     let sum = ap (sum_by steps_of) one in
     let first = sum_by-cons steps_of (placed ms r) [] in
     omega (arith, sum, first, c.in_ok-list_mentions.ensures.steps)
