@@ -1,6 +1,6 @@
 -- Operands stand before what mentions them, where no instruction breaks the rules on ids and on operands.
 use Rattle.std.proofs.Common.{◌≡◌, ◌<◌, ◌≤◌, ◌+◌, ◌==◌, ◌&&◌, ◌||◌, not, ℕ, zero, suc, Bool, true, false, List, [], ◌∷◌, ◌++◌, map, filter, Some, None, IfSome, nat_lt, cond, if◌then◌else◌, inl, inr, refl, sym, ap, ◌∙◌, subst, arith}
-use Rattle.std.specs.Prelude.{◌⊎◌, flat_map, find, is_some, slice_index, slice_index_or, slice_get, option_and_then}
+use Rattle.std.specs.Prelude.{◌⊎◌, flat_map, find, is_some, slice_index_or, slice_get, option_and_then}
 use Rattle.std.specs.Option.{option_map_or}
 use Rattle.std.specs.List.{enumerate_from, list_any}
 use Rattle.std.proofs.lemmas.Bool.{cases_Bool}
@@ -25,7 +25,7 @@ use Rattle.profile_rules.specs.declared.needs.Need.TheVariants.{AnyType, Constan
 use Rattle.profile_rules.specs.Operands.{need, need_by, suits, type_need, is_in_function, is_local_before, is_there_in, lacks_operand}
 use Rattle.use_chains.specs.declared.mention.Mention.{Mention}
 use Rattle.use_chains.specs.declared.slot.SlotPlace.{SlotPlace}
-use Rattle.use_chains.specs.Slots.{is_value_by, is_value, is_taken, is_slot, mention, slots_of_inst, slots_of_block, slots, inst_at}
+use Rattle.use_chains.specs.Slots.{is_value_by, is_value, is_taken, is_base, is_slot, is_slot_in, mention, slots_of_inst, slots_of_block, slots, inst_at}
 use Rattle.use_chains.specs.Links.{Link, chain, link_of, AreLiveLinks}
 use Rattle.hoist_plan.specs.Plan.{Placed, user, mentions_of, result_of, results_of_block, results}
 use Rattle.plan_law.specs.Ordered.{NoOperand, NoneMentioned, NoneIs, AreOrdered}
@@ -201,7 +201,7 @@ module _ (links : List Link) where
   ]
     where
       made : Placed
-      made = record { block = block; op = i.op; ty = i.ty; result = i.result; base = slice_index i.args 0; mentions = mentions_of links i.result }
+      made = record { block = block; op = i.op; ty = i.ty; result = i.result; mentions = mentions_of links i.result }
 
   come_blocks : (n : ℕ) (bs : List Block) → Come links (flat_map (λ (b : Block). b.insts) bs) (flat_map (results_of_block links) (enumerate_from n bs))
   come_blocks n [] = tt
@@ -228,21 +228,21 @@ module _ (m : ModuleState) (f : Function) (order : AreInOrder m f) where
     both_uses [] ys a b = b
     both_uses (x ∷ xs) ys a b = (a.0, both_uses xs ys a.1 b)
 
-    uses_of_operands : (b n : ℕ) (i : Inst) → inst_at f b n ≡ Some i → IsAmong i All → (k : ℕ) (args : List ℕ) → list_any (lacks_operand (is_there_in m f i.at) i) (enumerate_from k args) ≡ false
-        → AreUses m f (map (mention b n i) (filter (λ (operand : ℕ × ℕ). is_slot f reached i operand.0) (enumerate_from k args)))
-    uses_of_operands b n i there stands k [] right = tt
-    uses_of_operands b n i there stands k (x ∷ args) right =
-        let here = none_left (lacks_operand (is_there_in m f i.at) i (k, x)) (list_any (lacks_operand (is_there_in m f i.at) i) (enumerate_from (k + 1) args)) right in
-        let more = uses_of_operands b n i there stands (k + 1) args (none_right (lacks_operand (is_there_in m f i.at) i (k, x)) (list_any (lacks_operand (is_there_in m f i.at) i) (enumerate_from (k + 1) args)) right) in
-        elim (cases_Bool (is_slot f reached i k)) [
+    uses_of_operands : (here : Bool) (b n : ℕ) (i : Inst) → inst_at f b n ≡ Some i → IsAmong i All → (k : ℕ) (args : List ℕ) → list_any (lacks_operand (is_there_in m f i.at) i) (enumerate_from k args) ≡ false
+        → AreUses m f (map (mention b n i) (filter (λ (operand : ℕ × ℕ). is_slot_in f reached here i operand.0) (enumerate_from k args)))
+    uses_of_operands here b n i there stands k [] right = tt
+    uses_of_operands here b n i there stands k (x ∷ args) right =
+        let suited = none_left (lacks_operand (is_there_in m f i.at) i (k, x)) (list_any (lacks_operand (is_there_in m f i.at) i) (enumerate_from (k + 1) args)) right in
+        let more = uses_of_operands here b n i there stands (k + 1) args (none_right (lacks_operand (is_there_in m f i.at) i (k, x)) (list_any (lacks_operand (is_there_in m f i.at) i) (enumerate_from (k + 1) args)) right) in
+        elim (cases_Bool (is_slot_in f reached here i k)) [
           | inl on ↦ subst (λ t. AreUses m f (map (mention b n i) (cond t ((k, x) ∷ rest) rest))) (sym on) (
             record {
               inst = i;
               there = there;
               among = stands;
-              names = both_left (is_id i.op i.args k) (is_value i.op k && is_taken f reached i k) on;
-              value = both_left (is_value i.op k) (is_taken f reached i k) (both_right (is_id i.op i.args k) (is_value i.op k && is_taken f reached i k) on);
-              right = here;
+              names = both_left (is_id i.op i.args k) (is_value i.op k && is_taken f reached i k) (both_right (here || is_base i k) (is_slot f reached i k) on);
+              value = both_left (is_value i.op k) (is_taken f reached i k) (both_right (is_id i.op i.args k) (is_value i.op k && is_taken f reached i k) (both_right (here || is_base i k) (is_slot f reached i k) on));
+              right = suited;
             },
             more,
           )
@@ -250,14 +250,14 @@ module _ (m : ModuleState) (f : Function) (order : AreInOrder m f) where
         ]
       where
         rest : List (ℕ × ℕ)
-        rest = filter (λ (operand : ℕ × ℕ). is_slot f reached i operand.0) (enumerate_from (k + 1) args)
+        rest = filter (λ (operand : ℕ × ℕ). is_slot_in f reached here i operand.0) (enumerate_from (k + 1) args)
 
-    uses_of_insts : (b n : ℕ) (is : List Inst) → ((k : ℕ) (i : Inst) → slice_get is k ≡ Some i → inst_at f b (n + k) ≡ Some i) → ((i : Inst) → IsAmong i is → IsAmong i All) → AreUses m f (flat_map (slots_of_inst f reached b) (enumerate_from n is))
-    uses_of_insts b n [] there all = tt
-    uses_of_insts b n (i ∷ is) there all =
-        both_uses (slots_of_inst f reached b (n, i)) (flat_map (slots_of_inst f reached b) (enumerate_from (n + 1) is))
-        (uses_of_operands b n i (subst (λ m. inst_at f b m ≡ Some i) (let h : n + 0 ≡ n = omega arith in h) (there zero i refl)) (all i (inl refl)) 0 i.args (lacks_none i (all i (inl refl))))
-        (uses_of_insts b (n + 1) is (λ k j e. subst (λ m. inst_at f b m ≡ Some j) (let h : n + suc k ≡ n + 1 + k = omega arith in h) (there (suc k) j e)) (λ j stands. all j (inr stands)))
+    uses_of_insts : (here : Bool) (b n : ℕ) (is : List Inst) → ((k : ℕ) (i : Inst) → slice_get is k ≡ Some i → inst_at f b (n + k) ≡ Some i) → ((i : Inst) → IsAmong i is → IsAmong i All) → AreUses m f (flat_map (slots_of_inst f reached here b) (enumerate_from n is))
+    uses_of_insts here b n [] there all = tt
+    uses_of_insts here b n (i ∷ is) there all =
+        both_uses (slots_of_inst f reached here b (n, i)) (flat_map (slots_of_inst f reached here b) (enumerate_from (n + 1) is))
+        (uses_of_operands here b n i (subst (λ m. inst_at f b m ≡ Some i) (let h : n + 0 ≡ n = omega arith in h) (there zero i refl)) (all i (inl refl)) 0 i.args (lacks_none i (all i (inl refl))))
+        (uses_of_insts here b (n + 1) is (λ k j e. subst (λ m. inst_at f b m ≡ Some j) (let h : n + suc k ≡ n + 1 + k = omega arith in h) (there (suc k) j e)) (λ j stands. all j (inr stands)))
 
     uses_of_blocks : (n : ℕ) (bs : List Block) → ((k : ℕ) (b : Block) → slice_get bs k ≡ Some b → slice_get f.blocks (n + k) ≡ Some b) → ((i : Inst) → IsAmong i (flat_map (λ (b : Block). b.insts) bs) → IsAmong i All)
         → AreUses m f (flat_map (slots_of_block f reached) (enumerate_from n bs))
@@ -265,12 +265,8 @@ module _ (m : ModuleState) (f : Function) (order : AreInOrder m f) where
     uses_of_blocks n (b ∷ bs) there all =
         let here : slice_get f.blocks n ≡ Some b = subst (λ m. slice_get f.blocks m ≡ Some b) (let h : n + 0 ≡ n = omega arith in h) (there zero b refl) in
         both_uses (slots_of_block f reached (n, b)) (flat_map (slots_of_block f reached) (enumerate_from (n + 1) bs))
-        (elim (cases_Bool (slice_index_or reached n false)) [
-          | inl on ↦ subst (λ t. AreUses m f (if t then flat_map (slots_of_inst f reached n) (enumerate_from 0 b.insts) else [])) (sym on)
-              (uses_of_insts n 0 b.insts (λ k i e. ap (option_and_then (λ (block : Block). slice_get block.insts (0 + k))) here ∙ (ap (slice_get b.insts) (let h : 0 + k ≡ k = omega arith in h) ∙ e))
-              (λ i stands. all i (among_left i b.insts (flat_map (λ (c : Block). c.insts) bs) stands)))
-          | inr off ↦ subst (λ t. AreUses m f (if t then flat_map (slots_of_inst f reached n) (enumerate_from 0 b.insts) else [])) (sym off) tt
-        ])
+        (uses_of_insts (slice_index_or reached n false) n 0 b.insts (λ k i e. ap (option_and_then (λ (block : Block). slice_get block.insts (0 + k))) here ∙ (ap (slice_get b.insts) (let h : 0 + k ≡ k = omega arith in h) ∙ e))
+        (λ i stands. all i (among_left i b.insts (flat_map (λ (c : Block). c.insts) bs) stands)))
         (uses_of_blocks (n + 1) bs (λ k c e. subst (λ m. slice_get f.blocks m ≡ Some c) (let h : n + suc k ≡ n + 1 + k = omega arith in h) (there (suc k) c e)) (λ i stands. all i (among_right i b.insts (flat_map (λ (c : Block). c.insts) bs) stands)))
 
     uses : AreUses m f (slots f reached)
