@@ -50,7 +50,7 @@ block_names form g id b = list_any (names_id form (nth g b.0).reached id) b.1.in
 abbrev pub is_named_in : (ℕ → Form) → List Node → List Block → ℕ → Bool
 is_named_in form g blocks id = list_any (block_names form g id) (enumerate_from 0 blocks)
 
--- an instruction is live: it has an effect, or a live instruction of a reached block mentions its result
+-- an instruction is live: it has an effect, or a slot that is linked mentions its result
 abbrev pub is_live : (ℕ → Form) → Inst → Bool
 is_live form i = elim (is_pure i.op) [ true ↦ elim (is_gone (form i.result)) [ true ↦ false | false ↦ true ] | false ↦ true ]
 

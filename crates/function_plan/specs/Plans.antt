@@ -20,7 +20,7 @@ use Rattle.function_plan.specs.Flagged.{has_again, has_leave, has_fell}
 use Rattle.function_plan.specs.Moved.{moves_in}
 use Rattle.function_plan.specs.Planned.{is_reached_node, order_in, is_named_in}
 
--- the forms of a function's values by the slots that are linked in its reached blocks
+-- the forms of a function's values by the slots that are linked in it
 pub record IsNamed (gs : List Inst) (f : Function) (g : List Node) (naming : NamingState) : Type 0 where
   pub links : List Link
   pub live : AreLiveLinks f (map is_reached_node g) links

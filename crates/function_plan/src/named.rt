@@ -91,7 +91,7 @@ pub fn named(
     Ok(id_set(alloc, ids.as_slice())?)
 }
 
-/// Whether an instruction is live: it has an effect, or a live instruction of a reached block mentions its result.
+/// Whether an instruction is live: it has an effect, or a linked slot mentions its result.
 pub fn is_live(naming: &Naming, inst: &Inst) -> bool
     ensures { result ≡ is_live_in (form_in naming.now) inst.now }
 {

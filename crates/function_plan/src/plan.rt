@@ -1,6 +1,7 @@
 // What is planned of a function.
 ghost use Rattle.std.specs.Prelude.{◌≡◌, ℕ, IfOk, map};
 ghost use Rattle.structure_rules.specs.Graph.{graph};
+ghost use Rattle.use_chains.specs.Small.{IsSmall};
 ghost use Rattle.function_plan.specs.Planned.{is_reached_node, order_in};
 ghost use Rattle.function_plan.specs.Moved.{moves_in};
 ghost use Rattle.function_plan.specs.Plans.{IsNamed, IsPlanned};
@@ -59,16 +60,15 @@ fn naming_of<L: Ledger>(
     alloc: Global,
     module: &Module,
     locals: &Locals,
-    places: &Places,
     reached: &[bool],
     steps: &mut Steps<L>,
 ) -> Result<Naming, Memory>
-    requires places { places.now ≡ graph locals.now }
     requires reached { reached.now ≡ map is_reached_node (graph locals.now) }
+    requires small { IsSmall locals.now }
     ensures { IfOk result (λ naming. IsNamed «module».now.globals locals.now (graph locals.now) naming) }
 {
     let uses = Uses::build(alloc, locals, reached, steps)?;
-    plan(alloc, module, locals, places.nodes(), &uses, steps)
+    plan(alloc, module, locals, &uses, steps)
 }
 
 impl<'a> FunctionPlan<'a> {
@@ -80,12 +80,13 @@ impl<'a> FunctionPlan<'a> {
         places: Places,
         steps: &mut Steps<L>,
     ) -> Result<FunctionPlan<'a>, Memory>
-        requires { places ≡ graph locals }
+        requires places { places ≡ graph locals }
+        requires small { IsSmall locals }
         ensures { IfOk result (λ p. IsPlanned «module».now locals.entry p) }
     {
         let function = locals.function();
         let reached = reached_blocks(alloc, &places)?;
-        let naming = naming_of(alloc, module, &locals, &places, &reached, steps)?;
+        let naming = naming_of(alloc, module, &locals, &reached, steps)?;
         let region = recover(alloc, function, &places)?;
         let phis = phi_blocks(alloc, function, &naming)?;
         let needed = flags(alloc, function, &places, &region, phis.as_slice())?;

@@ -8,8 +8,8 @@ both : {A E : Type 0} (P Q R : A → Type 0) (r : Result A E) → ((a : A) → P
 both P Q R (Ok a) f p q = f a p q
 both P Q R (Err e) f p q = tt
 
-pub plan-requires-clause-rising : goal.plan-requires-clause-rising
-plan-requires-clause-rising g c = live_rise c.args.locals.now c.args.reached.now c.in_ok-uses.uses c.in_ok-uses.ensures.live
+pub plan-requires : goal.plan-requires
+plan-requires g c = live_rise c.args.locals.now c.args.reached.now c.in_ok-uses.uses c.in_ok-uses.ensures.live
 
 pub returns : goal.returns
 returns g c =
