@@ -1,9 +1,10 @@
 // The plans of the functions that calls reach.
 ghost use Rattle.std.specs.Prelude.{◌≡◌, ◌==◌, ℕ, Some, drop, filter, IfOk, OnOk, map, option_copied, slice_get};
-ghost use Rattle.std.specs.List.{AllZip, list_any};
+ghost use Rattle.std.specs.List.{All, AllZip, list_any};
 ghost use Rattle.std.specs.Vec.Iter.{into_iter_items};
 ghost use Rattle.id_map.specs.Entries.{is_in};
 ghost use Rattle.structure_rules.specs.Graph.{graph};
+ghost use Rattle.use_chains.specs.Small.{IsSmall};
 ghost use Rattle.text_items.specs.State.{functions_at};
 ghost use Rattle.function_plan.specs.Plans.{IsPlanned};
 ghost use Rattle.emit_glsl.specs.Reached.{IsPlannedNext, function_in, id_in, is_among, ArePlaces, planned_at};
@@ -41,7 +42,8 @@ fn add_next<'a, L: Ledger>(
     places: &mut IntoIter<Nested>,
     steps: &mut Steps<L>,
 ) -> Result<(), Memory>
-    requires { slice_get (into_iter_items places.old) 0 ≡ Some (graph locals) }
+    requires places { slice_get (into_iter_items places.old) 0 ≡ Some (graph locals) }
+    requires small { IsSmall locals }
     ensures plans { OnOk result (IsPlannedNext «module».now (is_among ids.now) locals.entry plans.old.items plans.new.items) }
     ensures rest { into_iter_items places.new ≡ drop 1 (into_iter_items places.old) }
 {
@@ -67,7 +69,8 @@ fn plans_with<'a, L: Ledger>(
     places: Vec<Nested>,
     steps: &mut Steps<L>,
 ) -> Result<Vec<FunctionPlan<'a>>, Memory>
-    requires { places.items ≡ map graph locals.items }
+    requires places { places.items ≡ map graph locals.items }
+    requires small { All IsSmall locals.items }
     ensures { IfOk result (λ plans. AllZip (IsPlanned «module».now) (filter (is_among ids.now) locals.entry.items) plans.items) }
 {
     let mut plans = Vec::with_capacity(alloc, count)?;
@@ -92,6 +95,7 @@ pub fn plans_of<'a, L: Ledger>(
     requires parts { blank.parts ≡ L.parts }
     requires one { blank.parts ≡ 1 }
     requires places { places.items ≡ map graph locals.items }
+    requires small { All IsSmall locals.items }
     ensures { IfOk result (λ plans. AllZip (IsPlanned «module».now) (called_in order.now locals.entry.items) plans.items) }
 {
     let mut steps = Steps::<L>::new(blank);

@@ -1,6 +1,8 @@
 // The tree of a text.
 ghost use Rattle.std.specs.Prelude.{◌≡◌, ◌++◌, flat_map, IfOk, OnOk, map, option_copied, option_map, option_to_list};
+ghost use Rattle.std.specs.List.{All};
 ghost use Rattle.structure_rules.specs.Graph.{graph};
+ghost use Rattle.use_chains.specs.Small.{IsSmall};
 ghost use Rattle.glsl_ast.specs.View.{decl_of, unit_of as tree_of_unit};
 ghost use Rattle.emit_glsl.specs.Reached.{ArePlaces, decls_at, IsWritten, IsMade};
 ghost use Rattle.function_text.specs.State.{decl_with};
@@ -127,6 +129,7 @@ fn planned_text<'a>(
 ) -> Result<Translation<'a>, Memory>
     requires locals { found.locals.items ≡ readings.now.of.functions }
     requires places { found.places.items ≡ map graph readings.now.of.functions }
+    requires small { All IsSmall readings.now.of.functions }
     ensures { IfOk result (λ text. IsMade readings.now found.entry.entry.size.items found.entry.order.items (tree_of_unit text.unit)) }
 {
     let blank = Blank::new(1);
@@ -153,6 +156,7 @@ pub fn text_of<'a>(
     requires decor { decor.now ≡ «module».now.heads }
     requires locals { found.locals.items ≡ «module».now.functions }
     requires places { found.places.items ≡ map graph «module».now.functions }
+    requires small { All IsSmall «module».now.functions }
     ensures { IfOk result (λ text. IsMade (record { of = «module».now; entry = found.entry.entry.function.0; overrides = overrides.now.pairs.items }) found.entry.entry.size.items found.entry.order.items (tree_of_unit text.unit)) }
 {
     let entry = found.entry.function;
