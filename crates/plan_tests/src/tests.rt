@@ -1,5 +1,6 @@
 // The tests, one module a subject.
 mod copies;
+mod first;
 mod paths;
 mod plans;
 mod uses;

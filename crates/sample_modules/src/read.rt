@@ -1,6 +1,10 @@
 // Modules from their words.
+ghost use Rattle.std.specs.Prelude.{IfOk};
+ghost use Rattle.module_check.specs.Judged.{IsRead};
+
+use module_check::read_module;
 use spv_module::Module;
-use spv_words::{Fault, Limit, Words, octets};
+use spv_words::{Fault, Limit, octets};
 use std::alloc::{AllocError, Global};
 
 // The header of a module, and a function up to its first label, %16.
@@ -17,18 +21,22 @@ pub fn bytes_of(alloc: Global, pieces: &[&[u32]]) -> Result<Vec<u8>, AllocError>
     octets(alloc, &words)
 }
 
-/// The module with the words of these pieces. It is refused as `Words::of` and `Module::read` refuse it, and by
+/// The module with the words of these pieces. It is refused as `read_module` refuses it, and by
 /// `Limit::Bytes` where it is longer.
-pub fn module_of(alloc: Global, pieces: &[&[u32]]) -> Result<Module, Fault> {
+pub fn module_of(alloc: Global, pieces: &[&[u32]]) -> Result<Module, Fault>
+    ensures { IfOk result IsRead }
+{
     let bytes = bytes_of(alloc, pieces)?;
     if bytes.len() > 4194304 {
         return Err(Fault::Limit(Limit::Bytes));
     }
-    Module::read(alloc, &Words::of(alloc, &bytes)?)
+    read_module(alloc, &bytes)
 }
 
 /// The module of one function, %1, with this body behind its first label, %16.
-pub fn function_of(alloc: Global, body: &[u32]) -> Result<Module, Fault> {
+pub fn function_of(alloc: Global, body: &[u32]) -> Result<Module, Fault>
+    ensures { IfOk result IsRead }
+{
     module_of(alloc, &[&FRONT, body, &[0x10038]])
 }
 

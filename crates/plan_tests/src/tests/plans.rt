@@ -1,7 +1,9 @@
 // Plans of a small function.
 ghost use Rattle.std.specs.Prelude.{◌≡◌};
+ghost use Rattle.module_check.specs.Judged.{IsRead};
+ghost use Rattle.use_chains.specs.Small.{IsSmall};
 
-use block_graph::control_flow;
+use super::first::first_function;
 use hoist_plan::{Form, Naming, plan};
 use sample_modules::module_of;
 use spv_index::Locals;
@@ -24,7 +26,7 @@ static MODULE: [u32; 62] = [
 ];
 
 /// The plan of the values of a function, of whose blocks these are reached.
-pub fn planned<L: Ledger>(
+fn planned<L: Ledger>(
     alloc: Global,
     module: &Module,
     f: &Function,
@@ -34,20 +36,38 @@ pub fn planned<L: Ledger>(
     requires name { blank.name ≡ L.name }
     requires parts { blank.parts ≡ L.parts }
     requires one { blank.parts ≡ 1 }
+    requires small { IsSmall f.now }
 {
     let mut steps = Steps::<L>::new(blank);
     let locals = Locals::of(alloc, f)?;
-    let graph = control_flow(alloc, &locals)?;
     let uses = Uses::build(alloc, &locals, reached, &mut steps)?;
-    plan(alloc, module, &locals, &graph, &uses, &mut steps)
+    plan(alloc, module, &locals, &uses, &mut steps)
+}
+
+/// The plan of the first function of a module, where there is one.
+fn first_planned<L: Ledger>(
+    alloc: Global,
+    module: &Module,
+    reached: &[bool],
+    blank: Blank,
+) -> Result<Option<Naming>, Memory>
+    requires name { blank.name ≡ L.name }
+    requires parts { blank.parts ≡ L.parts }
+    requires one { blank.parts ≡ 1 }
+    requires read { IsRead «module».now }
+{
+    match first_function(module) {
+        None => Ok(None),
+        Some(function) => Ok(Some(planned::<L>(alloc, module, function, reached, blank)?)),
+    }
 }
 
 #[test]
 fn forms_of_a_function(rt: HostRuntime) -> Result<(), Fail> {
     let alloc = rt.alloc();
     let module = module_of(alloc, &[&MODULE])?;
-    let function = module.functions().get(0).ok_or("no function")?;
-    let plan = planned::<Brand>(alloc, &module, function, &[true, true], Blank::new(1))?;
+    let plan = first_planned::<Brand>(alloc, &module, &[true, true], Blank::new(1))?;
+    let plan = plan.ok_or("no function")?;
     for (id, form) in [
         (30, Form::Local),
         (31, Form::Forwarded),

@@ -1,9 +1,12 @@
 // A function whose operands are linked.
 ghost use Rattle.std.specs.Prelude.{◌≡◌};
+ghost use Rattle.module_check.specs.Judged.{IsRead};
+ghost use Rattle.use_chains.specs.Small.{IsSmall};
 
+use super::first::first_function;
 use sample_modules::function_of;
 use spv_index::Locals;
-use spv_module::{Function, Id};
+use spv_module::{Function, Id, Module};
 use spv_words::Memory;
 use std::alloc::{AllocError, Global};
 use std::marker::Brand;
@@ -87,6 +90,7 @@ fn found<L: Ledger>(alloc: Global, function: &Function, blank: Blank) -> Result<
     requires name { blank.name ≡ L.name }
     requires parts { blank.parts ≡ L.parts }
     requires one { blank.parts ≡ 1 }
+    requires small { IsSmall function.now }
 {
     let mut steps = Steps::<L>::new(blank);
     let locals = Locals::of(alloc, function)?;
@@ -99,12 +103,24 @@ fn found<L: Ledger>(alloc: Global, function: &Function, blank: Blank) -> Result<
     Ok(found)
 }
 
+// What is found of the first function of a module.
+fn first_found<L: Ledger>(alloc: Global, module: &Module, blank: Blank) -> Result<Vec<u32>, Memory>
+    requires name { blank.name ≡ L.name }
+    requires parts { blank.parts ≡ L.parts }
+    requires one { blank.parts ≡ 1 }
+    requires read { IsRead «module».now }
+{
+    match first_function(module) {
+        None => Ok(Vec::new(alloc)),
+        Some(function) => found::<L>(alloc, function, blank),
+    }
+}
+
 #[test]
 fn linked_slots(rt: HostRuntime) -> Result<(), Fail> {
     let alloc = rt.alloc();
     let module = function_of(alloc, &COUNTED)?;
-    let function = module.functions().first().ok_or("no function")?;
-    let found = found::<Brand>(alloc, function, Blank::new(1))?;
+    let found = first_found::<Brand>(alloc, &module, Blank::new(1))?;
     let wanted = [
         6, 0, 2, 6, 7, 13, 16, 3, 5, 0, 1, 2, 7, 9, 13, 16, 0, 0, 1, 2, 7, 9, 13, 16, 0,
     ];
