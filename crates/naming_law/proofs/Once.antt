@@ -1,6 +1,6 @@
 -- No name is declared twice at the top of a planned function of a conforming module: each declaration has the name of a key of its own.
 use Rattle.std.proofs.Common.{◌≡◌, ◌≤◌, ◌+◌, ◌==◌, ◌&&◌, ◌||◌, not, ℕ, Bool, true, false, List, [], ◌∷◌, ◌++◌, append_assoc, map, filter, fold, unwrap_or, Option, Some, None, inl, inr, refl, sym, ap, ◌∙◌, subst, if◌then◌else◌, arith}
-use Rattle.std.specs.Prelude.{◌⊎◌, flat_map, Contains, slice_index}
+use Rattle.std.specs.Prelude.{◌⊎◌, flat_map, Contains}
 use Rattle.std.specs.Option.{option_map_or}
 use Rattle.std.specs.List.{enumerate_from}
 use Rattle.std.proofs.lemmas.Bool.{and_parts}
@@ -88,7 +88,7 @@ module _ (gs : List Inst) (f : Function) where
   of_numbered (b ∷ bs) from x (inr there) = inr (of_numbered bs (from + 1) x there)
 
   abbrev own : List Link → ℕ → Inst → Placed
-  own links k i = record { block = k; op = i.op; ty = i.ty; result = i.result; base = slice_index i.args 0; mentions = mentions_of links i.result }
+  own links k i = record { block = k; op = i.op; ty = i.ty; result = i.result; mentions = mentions_of links i.result }
 
   of_result : (links : List Link) (k : ℕ) (i : Inst) (p : Placed) → IsIn p (result_of links k i) → (i.result ≡ p.result) × (i.ty ≡ p.ty) × (i.result ≡ 0 → ⊥)
   of_result links k i p there = by_test (i.result == 0) (eqb_tells i.result 0) there
