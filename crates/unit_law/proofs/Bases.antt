@@ -1,5 +1,5 @@
--- The base of a chain that is carried is carried, where no chain of a block that is not reached is mentioned.
-use Rattle.std.proofs.Common.{◌≡◌, ◌==◌, ◌&&◌, ◌||◌, ◌++◌, not, ℕ, Bool, true, false, List, [], ◌∷◌, Option, Some, inl, inr, refl, sym, ap, ◌∙◌, subst}
+-- The base of a chain that is carried is carried.
+use Rattle.std.proofs.Common.{◌≡◌, ◌==◌, ◌&&◌, ◌||◌, ◌++◌, ℕ, Bool, true, false, List, [], ◌∷◌, Option, Some, inl, inr, refl, sym, ap, ◌∙◌, subst}
 use Rattle.std.specs.Prelude.{◌⊎◌, IfSome}
 use Rattle.std.specs.Option.{option_map_or}
 use Rattle.std.specs.List.{list_any}
@@ -9,9 +9,7 @@ use Rattle.spv_ops.specs.declared.Op.TheVariants as code
 use Rattle.spv_module.specs.declared.inst.Inst.{Inst}
 use Rattle.spv_module.specs.declared.inst.Function.{Function}
 use Rattle.use_chains.specs.declared.slot.SlotPlace.{SlotPlace}
-use Rattle.use_chains.specs.Links.{Link}
-use Rattle.spv_index.specs.Locals.{inst_in}
-use Rattle.hoist_plan.specs.Plan.{Placed, user, mentions_of, is_reached, is_elsewhere_by, carries_by, carries, is_carried_with, is_base_unreached, carried_from}
+use Rattle.hoist_plan.specs.Plan.{Placed, user, is_elsewhere_by, carries_by, carries, is_carried_with, carried_from}
 use Rattle.plan_law.specs.Ordered.{NoOperand, NoneMentioned, AreOrdered}
 use Rattle.claim_law.specs.Claimed.{IsIn}
 use Rattle.claim_law.proofs.Listed.{any_in}
@@ -26,10 +24,6 @@ second_on : (a b : Bool) → b ≡ true → (a || b) ≡ true
 second_on true b on = refl
 second_on false b on = on
 
-first_on : (a b : Bool) → a ≡ true → (a || b) ≡ true
-first_on true b on = refl
-first_on false b on = cc
-
 split_and : (a b : Bool) → (a && b) ≡ true → (a ≡ true) × (b ≡ true)
 split_and true b e = (refl, e)
 split_and false b e = cc
@@ -37,13 +31,6 @@ split_and false b e = cc
 split_or : (a b : Bool) → (a || b) ≡ true → (a ≡ true) ⊎ (b ≡ true)
 split_or true b e = inl refl
 split_or false b e = inr e
-
-off_of : (b : Bool) → not b ≡ true → b ≡ false
-off_of true e = cc
-off_of false e = refl
-
-clash : true ≡ false → ⊥
-clash e = cc
 
 none_at : (f : Function) (n : ℕ) (places : List SlotPlace) (at : SlotPlace) (i : Inst) → NoOperand f n places → IsIn at places → user f at ≡ Some i → i.result ≡ n → ⊥
 none_at f n [] at i none among there = absurd among
@@ -64,41 +51,7 @@ more_back : (front mid back : List Placed) → (front ++ mid) ++ back ≡ front 
 more_back [] mid back = refl
 more_back (x ∷ xs) mid back = ap (λ l. x ∷ l) (more_back xs mid back)
 
-module _ (f : Function) (links : List Link) where
-  -- each has the mentions of its result; what is in a block that is not reached has none
-  pub record AreQuiet (ps : List Placed) : Type 0 where
-    pub own : (p : Placed) → IsIn p ps → p.mentions ≡ mentions_of links p.result
-    pub quiet : (p : Placed) → IsIn p ps → is_chain p.op ≡ true → is_reached f p.block ≡ false → mentions_of links p.result ≡ []
-
-  behind : (p : Placed) (ps : List Placed) → AreQuiet (p ∷ ps) → AreQuiet ps
-  behind p ps q = record { own = λ x x_in. q.own x (inr x_in); quiet = λ x x_in. q.quiet x (inr x_in) }
-
-  -- what is not mentioned is not carried
-  unmentioned : (ps : List Placed) → AreQuiet ps → (n : ℕ) → mentions_of links n ≡ [] → carried_from f ps n ≡ true → ⊥
-  unmentioned [] q n none on = cc
-  unmentioned (p ∷ ps) q n none on = by_test (is_carried_with f (carried_from f ps) p) refl on (unmentioned ps (behind p ps q))
-    where
-      lone : mentions_of links p.result ≡ [] → is_carried_with f (carried_from f ps) p ≡ true → ((k : ℕ) → mentions_of links k ≡ [] → carried_from f ps k ≡ true → ⊥) → ⊥
-      lone empty carried later =
-          let parts = split_and (is_chain p.op) (carried_from f ps p.result || list_any (carries f (carried_from f ps) p.block) p.mentions) carried in
-          elim (split_or (carried_from f ps p.result) (list_any (carries f (carried_from f ps) p.block) p.mentions) parts.1) [
-            | inl back ↦ later p.result empty back
-            | inr some ↦ clash (sym some ∙ ap (list_any (carries f (carried_from f ps) p.block)) (q.own p (inl refl) ∙ empty))
-          ]
-
-      by_test : (b : Bool) → is_carried_with f (carried_from f ps) p ≡ b → elim b as (λ b. Bool) [ true ↦ carried_from f ps n || ((n == p.result) || is_base_unreached f p n) | false ↦ carried_from f ps n ] ≡ true → ((k : ℕ) → mentions_of links k ≡ [] → carried_from f ps k ≡ true → ⊥) → ⊥
-      by_test false is_it on later = later n none on
-      by_test true is_it on later = elim (split_or (carried_from f ps n) ((n == p.result) || is_base_unreached f p n) on) [
-        | inl back ↦ later n none back
-        | inr here ↦ elim (split_or (n == p.result) (is_base_unreached f p n) here) [
-          | inl same ↦ lone (ap (mentions_of links) (sym (test_same n p.result same)) ∙ none) is_it later
-          | inr base ↦ lone
-              (q.quiet p (inl refl) (split_and (is_chain p.op) (carried_from f ps p.result || list_any (carries f (carried_from f ps) p.block) p.mentions) is_it).0
-              (off_of (is_reached f p.block) (split_and (not (is_reached f p.block)) (option_map_or (λ (i : Inst). is_chain i.op) (inst_in f n) false) (split_and (n == p.base) (not (is_reached f p.block) && option_map_or (λ (i : Inst). is_chain i.op) (inst_in f n) false) base).1).0))
-              is_it later
-        ]
-      ]
-
+module _ (f : Function) where
   -- what is carried is carried from its own chain on
   pub record IsCarriedAt (ps : List Placed) (n : ℕ) : Type 0 where
     pub front : List Placed
@@ -109,42 +62,30 @@ module _ (f : Function) (links : List Link) where
     pub chain : is_chain by.op ≡ true
     pub carried : carried_from f (by ∷ back) n ≡ true
 
-  pub carried_at : (ps : List Placed) → AreQuiet ps → (n : ℕ) → carried_from f ps n ≡ true → IsCarriedAt ps n
-  carried_at [] q n on = cc
-  carried_at (p ∷ ps) q n on = by_test (is_carried_with f (carried_from f ps) p) refl on (carried_at ps (behind p ps q) n)
+  pub carried_at : (ps : List Placed) (n : ℕ) → carried_from f ps n ≡ true → IsCarriedAt ps n
+  carried_at [] n on = cc
+  carried_at (p ∷ ps) n on = by_test (is_carried_with f (carried_from f ps) p) refl on (carried_at ps n)
     where
       more : IsCarriedAt ps n → IsCarriedAt (p ∷ ps) n
       more w = record { front = p ∷ w.front; back = w.back; by = w.by; whole = ap (λ l. p ∷ l) w.whole; result = w.result; chain = w.chain; carried = w.carried }
 
-      by_test : (b : Bool) → is_carried_with f (carried_from f ps) p ≡ b → elim b as (λ b. Bool) [ true ↦ carried_from f ps n || ((n == p.result) || is_base_unreached f p n) | false ↦ carried_from f ps n ] ≡ true → (carried_from f ps n ≡ true → IsCarriedAt ps n) → IsCarriedAt (p ∷ ps) n
+      by_test : (b : Bool) → is_carried_with f (carried_from f ps) p ≡ b → elim b as (λ b. Bool) [ true ↦ carried_from f ps n || (n == p.result) | false ↦ carried_from f ps n ] ≡ true → (carried_from f ps n ≡ true → IsCarriedAt ps n) → IsCarriedAt (p ∷ ps) n
       by_test false is_it told later = more (later told)
-      by_test true is_it told later = elim (split_or (carried_from f ps n) ((n == p.result) || is_base_unreached f p n) told) [
+      by_test true is_it told later = elim (split_or (carried_from f ps n) (n == p.result) told) [
         | inl there ↦ more (later there)
-        | inr here ↦ elim (split_or (n == p.result) (is_base_unreached f p n) here) [
-          | inl same ↦ record {
-            front = [];
-            back = ps;
-            by = p;
-            whole = refl;
-            result = sym (test_same n p.result same);
-            chain = (split_and (is_chain p.op) (carried_from f ps p.result || list_any (carries f (carried_from f ps) p.block) p.mentions) is_it).0;
-            carried = on;
-          }
-          | inr base ↦ absurd (by_base (split_and (is_chain p.op) (carried_from f ps p.result || list_any (carries f (carried_from f ps) p.block) p.mentions) is_it)
-              (off_of (is_reached f p.block) (split_and (not (is_reached f p.block)) (option_map_or (λ (i : Inst). is_chain i.op) (inst_in f n) false) (split_and (n == p.base) (not (is_reached f p.block) && option_map_or (λ (i : Inst). is_chain i.op) (inst_in f n) false) base).1).0))
-        ]
+        | inr same ↦ record {
+          front = [];
+          back = ps;
+          by = p;
+          whole = refl;
+          result = sym (test_same n p.result same);
+          chain = (split_and (is_chain p.op) (carried_from f ps p.result || list_any (carries f (carried_from f ps) p.block) p.mentions) is_it).0;
+          carried = on;
+        }
       ]
-        where
-          by_base : (is_chain p.op ≡ true) × ((carried_from f ps p.result || list_any (carries f (carried_from f ps) p.block) p.mentions) ≡ true) → is_reached f p.block ≡ false → ⊥
-          by_base parts off =
-              let empty = q.quiet p (inl refl) parts.0 off in
-              elim (split_or (carried_from f ps p.result) (list_any (carries f (carried_from f ps) p.block) p.mentions) parts.1) [
-                | inl there ↦ unmentioned ps (behind p ps q) p.result empty there
-                | inr some ↦ clash (sym some ∙ ap (list_any (carries f (carried_from f ps) p.block)) (q.own p (inl refl) ∙ empty))
-              ]
 
   -- so is its base, where its mention is linked
-  module _ (ps : List Placed) (ordered : AreOrdered f ps) (q : AreQuiet ps) (p : Placed) (at : SlotPlace) (i : Inst) (among : IsIn p ps) (is_it : is_chain p.op ≡ true) (mentioned : IsIn at p.mentions) (there : user f at ≡ Some i) (first : (at.arg == 0) ≡ true) (chain : is_chain i.op ≡ true) where
+  module _ (ps : List Placed) (ordered : AreOrdered f ps) (p : Placed) (at : SlotPlace) (i : Inst) (among : IsIn p ps) (is_it : is_chain p.op ≡ true) (mentioned : IsIn at p.mentions) (there : user f at ≡ Some i) (first : (at.arg == 0) ≡ true) (chain : is_chain i.op ≡ true) where
     at_front : (w : IsCarriedAt ps i.result) → is w.by.op code.Phi ≡ false → IsIn p w.front
     at_front w no_phi = elim (of_either w.front (w.by ∷ w.back) p (subst (IsIn p) w.whole among)) [
       | inl here ↦ here
@@ -157,8 +98,8 @@ module _ (f : Function) (links : List Link) where
         subst (λ (l : List Placed). carried_from f l p.result ≡ true) (sym (w.whole ∙ (ap (λ l. l ++ w.by ∷ w.back) x.2 ∙ more_back x.0 (p ∷ x.1) (w.by ∷ w.back))))
         (carried_on f x.0 (p ∷ (x.1 ++ w.by ∷ w.back)) p.result (own (x.1 ++ w.by ∷ w.back) (carried_on f x.1 (w.by ∷ w.back) i.result w.carried)))
       where
-        by_test : (back : List Placed) (b : Bool) → b ≡ true → elim b as (λ b. Bool) [ true ↦ carried_from f back p.result || ((p.result == p.result) || is_base_unreached f p p.result) | false ↦ carried_from f back p.result ] ≡ true
-        by_test back true on = second_on (carried_from f back p.result) ((p.result == p.result) || is_base_unreached f p p.result) (first_on (p.result == p.result) (is_base_unreached f p p.result) (same_test p.result p.result refl))
+        by_test : (back : List Placed) (b : Bool) → b ≡ true → elim b as (λ b. Bool) [ true ↦ carried_from f back p.result || (p.result == p.result) | false ↦ carried_from f back p.result ] ≡ true
+        by_test back true on = second_on (carried_from f back p.result) (p.result == p.result) (same_test p.result p.result refl)
         by_test back false on = cc
 
         own : (back : List Placed) → carried_from f back i.result ≡ true → carried_from f (p ∷ back) p.result ≡ true

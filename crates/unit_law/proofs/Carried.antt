@@ -16,7 +16,7 @@ use Rattle.conformance.specs.Rules.{Options}
 use Rattle.module_semantics.specs.Setting.{Setting}
 use Rattle.use_chains.specs.declared.slot.SlotPlace.{SlotPlace}
 use Rattle.hoist_plan.specs.declared.form.Form.TheVariants.{Gone, Forwarded, Local, Hoisted}
-use Rattle.hoist_plan.specs.Plan.{Placed, user, results, is_elsewhere_by, is_live, is_value, is_always_named, is_named_by_use, own_height, is_named, is_hoisted, form_with, carries_by, carries, is_carried_with, is_base_unreached, carried_from}
+use Rattle.hoist_plan.specs.Plan.{Placed, user, results, is_elsewhere_by, is_live, is_value, is_always_named, is_named_by_use, own_height, is_named, is_hoisted, form_with, carries_by, carries, is_carried_with, carried_from}
 use Rattle.name_alloc.specs.declared.claims.Key.TheVariants.{Id}
 use Rattle.name_alloc.specs.Naming.{name_of}
 use Rattle.glsl_ast.specs.Tree.{TranslationUnit}
@@ -30,12 +30,12 @@ use Rattle.plan_law.proofs.Order.{in_order}
 use Rattle.typed_law.specs.Conforms.{IsConforming}
 use Rattle.claim_law.specs.Claimed.{IsIn}
 use Rattle.claim_law.proofs.Listed.{any_in}
-use Rattle.unit_law.specs.Mentioned.{IsMentioned}
+use Rattle.unit_law.specs.Mentioned.{IsLinked}
 use Rattle.unit_law.specs.Words.{words_of, AreOfStructs}
 use Rattle.unit_law.proofs.Lists.{same_test, other_test, split_at}
-use Rattle.unit_law.proofs.Links.{mention_at, user_is, mention_stands}
+use Rattle.unit_law.proofs.Links.{link_at, linked_user, own_block, link_stands}
 use Rattle.unit_law.proofs.Forms.{placed, is_placed, form_at}
-use Rattle.unit_law.proofs.Ways.{HaveKinds, F, R, V, plan_is, ordered, reached_nth, counts_here}
+use Rattle.unit_law.proofs.Ways.{HaveKinds, F, R, V, plan_is, ordered, reached_nth}
 use Rattle.unit_law.proofs.Sets.{formed_text}
 
 both_on : (a b : Bool) → a ≡ true → b ≡ true → (a && b) ≡ true
@@ -56,8 +56,8 @@ module _ (f : Function) where
   carried_on [] back n on = on
   carried_on (p ∷ ps) back n on = by_test (is_carried_with f (carried_from f (ps ++ back)) p) (carried_on ps back n on)
     where
-      by_test : (b : Bool) → carried_from f (ps ++ back) n ≡ true → elim b as (λ b. Bool) [ true ↦ carried_from f (ps ++ back) n || ((n == p.result) || is_base_unreached f p n) | false ↦ carried_from f (ps ++ back) n ] ≡ true
-      by_test true on = first_on (carried_from f (ps ++ back) n) ((n == p.result) || is_base_unreached f p n) on
+      by_test : (b : Bool) → carried_from f (ps ++ back) n ≡ true → elim b as (λ b. Bool) [ true ↦ carried_from f (ps ++ back) n || (n == p.result) | false ↦ carried_from f (ps ++ back) n ] ≡ true
+      by_test true on = first_on (carried_from f (ps ++ back) n) (n == p.result) on
       by_test false on = on
 
   -- a chain that is mentioned in another block than its own
@@ -66,8 +66,8 @@ module _ (f : Function) where
       let w = split_at ps p among in
       subst (λ (qs : List Placed). carried_from f qs p.result ≡ true) (sym w.2) (carried_on w.0 (p ∷ w.1) p.result (own w.1))
     where
-      by_test : (back : List Placed) (b : Bool) → b ≡ true → elim b as (λ b. Bool) [ true ↦ carried_from f back p.result || ((p.result == p.result) || is_base_unreached f p p.result) | false ↦ carried_from f back p.result ] ≡ true
-      by_test back true on = second_on (carried_from f back p.result) ((p.result == p.result) || is_base_unreached f p p.result) (first_on (p.result == p.result) (is_base_unreached f p p.result) (same_test p.result p.result refl))
+      by_test : (back : List Placed) (b : Bool) → b ≡ true → elim b as (λ b. Bool) [ true ↦ carried_from f back p.result || (p.result == p.result) | false ↦ carried_from f back p.result ] ≡ true
+      by_test back true on = second_on (carried_from f back p.result) (p.result == p.result) (same_test p.result p.result refl)
       by_test back false on = cc
 
       own : (back : List Placed) → carried_from f (p ∷ back) p.result ≡ true
@@ -122,13 +122,13 @@ module _ (s : Setting) (entry : Option (List ℕ)) (right : IsConforming s.of en
     listed : IsIn P (results (plan_is s entry right kinds o unit u p among).links Fn)
     listed = is_placed (plan_is s entry right kinds o unit u p among).links Fn block holder j there inside some
 
-    -- a chain that a live instruction of another reached block mentions is carried
-    pub carried_by_use : is_chain j.op ≡ true → (b : ℕ) (i : Inst) (m : IsMentioned Fn Marks b i j.result) → is i.op code.Phi ≡ false → (b ≡ block → ⊥) → Where.carried j.result ≡ true
+    -- a chain that a live instruction of another block mentions is carried
+    pub carried_by_use : is_chain j.op ≡ true → (b : ℕ) (i : Inst) (m : IsLinked Fn Marks b i j.result) → is i.op code.Phi ≡ false → (b ≡ block → ⊥) → Where.carried j.result ≡ true
     carried_by_use chain b i m no_phi apart =
-        carried_elsewhere Fn (results (plan_is s entry right kinds o unit u p among).links Fn) P (mention_at Fn Marks b i j.result m) i listed chain
-        (mention_stands Fn Marks b i j.result m (plan_is s entry right kinds o unit u p among).links (plan_is s entry right kinds o unit u p among).live)
-        (user_is Fn Marks b i j.result m)
-        (ap (λ (c : ℕ). not (c == block)) (counts_here s entry right kinds o unit u p among b i j.result m no_phi).0 ∙ ap not (other_test b block apart))
+        carried_elsewhere Fn (results (plan_is s entry right kinds o unit u p among).links Fn) P (link_at Fn Marks b i j.result m) i listed chain
+        (link_stands Fn Marks b i j.result m (plan_is s entry right kinds o unit u p among).links (plan_is s entry right kinds o unit u p among).live)
+        (linked_user Fn Marks b i j.result m)
+        (ap (λ (c : ℕ). not (c == block)) (own_block Fn Marks b i j.result m no_phi) ∙ ap not (other_test b block apart))
 
     -- the name of a load, a call, an atomic instruction or a composite that is put together, where it is not gone
     pub always_text : (names : List (List ℕ)) (structs : AreOfStructs s.of.globals (name_of u.claimed) names) → is_value s.of.globals j.ty ≡ true → is_always_named j.op ≡ true → is_gone (Where.form j.result) ≡ false → slice_index_or Marks block false ≡ true

@@ -1,6 +1,6 @@
 -- The form of a result that a live instruction mentions: a variable at the top of the function, or one of its own block, or an expression there.
 use Rattle.std.proofs.Common.{◌≡◌, ◌==◌, ◌&&◌, ◌||◌, not, ℕ, Bool, true, false, List, [], ◌∷◌, Option, Some, None, fold, length, nat_le, nat_lt, unwrap_or, inl, inr, refl, sym, ap, ◌∙◌, subst, if◌then◌else◌}
-use Rattle.std.specs.Prelude.{◌⊎◌, slice_get, slice_index}
+use Rattle.std.specs.Prelude.{◌⊎◌, slice_get}
 use Rattle.std.specs.Option.{option_map_or}
 use Rattle.std.specs.List.{enumerate_from, list_any}
 use Rattle.spv_ops.specs.Opcode.{is}
@@ -29,7 +29,7 @@ second_on false b on = on
 
 -- the result of an instruction, as it is planned
 abbrev pub placed : List Link → ℕ → Inst → Placed
-placed links c j = record { block = c; op = j.op; ty = j.ty; result = j.result; base = slice_index j.args 0; mentions = mentions_of links j.result }
+placed links c j = record { block = c; op = j.op; ty = j.ty; result = j.result; mentions = mentions_of links j.result }
 
 module _ (links : List Link) (f : Function) where
   pub is_placed : (c : ℕ) (block : Block) (j : Inst) → slice_get f.blocks c ≡ Some block → IsIn j block.insts → (j.result ≡ 0 → ⊥) → IsIn (placed links c j) (results links f)

@@ -1,12 +1,13 @@
--- The pointers that live instructions of a block mention are written of words that are declared, where no chain of a block that is not reached is mentioned.
-use Rattle.std.proofs.Common.{◌≡◌, ◌+◌, ◌<◌, ◌++◌, ◌==◌, ◌&&◌, ◌||◌, not, ℕ, zero, suc, Bool, true, false, List, [], ◌∷◌, length, map, Option, Some, inl, inr, refl, sym, ap, ◌∙◌, subst, arith}
-use Rattle.std.specs.Prelude.{◌⊎◌, slice_get, slice_index, slice_index_or}
+-- The pointers that live instructions of a reached block mention are written of words that are declared.
+use Rattle.std.proofs.Common.{◌≡◌, ◌+◌, ◌<◌, ◌++◌, ◌==◌, ◌&&◌, ◌||◌, not, ℕ, zero, suc, Bool, true, false, List, [], ◌∷◌, length, Option, Some, None, unwrap_or, inl, inr, refl, sym, ap, ◌∙◌, subst, arith, if◌then◌else◌}
+use Rattle.std.specs.Prelude.{◌⊎◌, slice_get, slice_index, slice_index_or, option_and_then}
 use Rattle.std.specs.Option.{option_map_or}
 use Rattle.std.proofs.lemmas.Bool.Decides.{eqb_tells}
 use Rattle.spv_ops.specs.Opcode.{is}
 use Rattle.spv_ops.specs.Operands.{is_id}
-use Rattle.spv_ops.specs.Groups.{is_chain}
+use Rattle.spv_ops.specs.Groups.{is_chain, is_constant}
 use Rattle.spv_ops.specs.declared.Op.TheVariants as code
+use Rattle.spv_module.specs.Held.{global}
 use Rattle.spv_module.specs.Lists.{id}
 use Rattle.spv_module.specs.declared.inst.Inst.{Inst}
 use Rattle.spv_module.specs.declared.inst.Block.{Block}
@@ -15,24 +16,23 @@ use Rattle.spv_types.specs.Tree.{Tree}
 use Rattle.spv_types.specs.Types.{type_tree}
 use Rattle.spv_index.specs.Locals.{insts_of, type_in}
 use Rattle.spv_index.specs.Pointers.{pointee, pointee_of}
-use Rattle.structure_rules.specs.declared.graph.Node.{Node}
-use Rattle.structure_rules.specs.Graph.{graph}
 use Rattle.profile_rules.specs.TypeRows.{is_pointer, fails}
 use Rattle.profile_rules.specs.ValueRules.{breaks_t6}
 use Rattle.conformance.specs.Rules.{Options}
 use Rattle.module_semantics.specs.Setting.{Setting}
-use Rattle.use_chains.specs.Slots.{inst_at, is_value, is_taken, is_label_reached, IsLive}
-use Rattle.use_chains.specs.declared.slot.SlotPlace.{SlotPlace}
+use Rattle.use_chains.specs.Slots.{inst_at, is_base, is_slot, is_value, is_taken, is_label_reached, IsLive}
 use Rattle.use_chains.specs.Links.{Link}
-use Rattle.hoist_plan.specs.Plan.{Placed, results, mentions_of, is_reached}
+use Rattle.hoist_plan.specs.Plan.{Placed, results, mentions_of}
 use Rattle.name_alloc.specs.declared.claims.Key.TheVariants.{Id}
 use Rattle.name_alloc.specs.Naming.{name_of}
-use Rattle.glsl_ast.specs.Tree.{Expr, TranslationUnit}
-use Rattle.access_paths.specs.Ways.{base, indexes, spot_of}
+use Rattle.glsl_ast.specs.Tree.{Text, Expr, name, TranslationUnit}
+use Rattle.text_rules.specs.Constants.{Source, constant_expr}
+use Rattle.text_items.specs.Globals.{global_by}
+use Rattle.access_paths.specs.Ways.{base, indexes, is_constant_index, spot_of}
 use Rattle.expr_forward.specs.Scope.{Scope, type_of}
 use Rattle.expr_forward.specs.Paths.{index_expr, base_text}
-use Rattle.function_plan.specs.Planned.{is_reached_node}
 use Rattle.function_text.specs.Functions.{FunctionPlan}
+use Rattle.unit_rules.specs.Translation.{text_of, id_text}
 use Rattle.unit_rules.specs.Unit.{IsUnitOf}
 use Rattle.plan_law.specs.Ordered.{AreOrdered}
 use Rattle.plan_law.proofs.Order.{in_order}
@@ -41,22 +41,26 @@ use Rattle.type_law.proofs.Chains.{HaveTypes}
 use Rattle.spell_law.specs.Uses.{Words, UsesExpr}
 use Rattle.typed_law.specs.Conforms.{IsConforming}
 use Rattle.claim_law.specs.Claimed.{IsIn}
-use Rattle.unit_law.specs.Mentioned.{IsMentioned}
+use Rattle.unit_law.specs.Mentioned.{IsMentioned, IsLinked, IsCaptured}
 use Rattle.unit_law.specs.Words.{is_struct_key, words_of, AreOfStructs}
 use Rattle.unit_law.proofs.Lists.{same_test, at_some, as_among, in_block, split_at}
-use Rattle.unit_law.proofs.Links.{mention_at, placed_in, user_is, mention_stands, maker_live}
-use Rattle.unit_law.proofs.Forms.{placed, is_placed, made_by}
-use Rattle.unit_law.proofs.Ways.{HaveKinds, F, R, V, plan_is, ordered}
+use Rattle.unit_law.proofs.Links.{as_linked, link_at, placed_in, linked_user, link_stands, linked_live}
+use Rattle.unit_law.proofs.Forms.{placed, is_placed}
+use Rattle.unit_law.proofs.Ways.{HaveKinds, S, F, R, V, plan_is, ordered}
 use Rattle.unit_law.proofs.Steps.{HasMembers}
 use Rattle.unit_law.proofs.Chains.{HasWay, AreWritable, start_has, chain_has}
 use Rattle.unit_law.proofs.Sets.{chain_id, chain_value, chain_no_phi, index_uses}
 use Rattle.unit_law.proofs.Kept.{dropped, here_writable, kept_writable}
 use Rattle.unit_law.proofs.Carried.{carried_by_use}
-use Rattle.unit_law.proofs.Bases.{AreQuiet, base_carried, carried_at}
+use Rattle.unit_law.proofs.Bases.{base_carried, carried_at}
 
 both_on : (a b : Bool) → a ≡ true → b ≡ true → (a && b) ≡ true
 both_on true b on e = e
 both_on false b on e = cc
+
+second_on : (a b : Bool) → b ≡ true → (a || b) ≡ true
+second_on true b on = refl
+second_on false b on = on
 
 -- chains that make a pointer
 module _ (n : ℕ) where
@@ -105,10 +109,19 @@ shorter : (xs : List Inst) (i : Inst) (ys : List Inst) → length xs < length (x
 shorter [] i ys = omega arith
 shorter (x ∷ xs) i ys = let less = shorter xs i ys in omega (arith, less)
 
-marked_is : (g : List Node) (c : ℕ) → slice_index_or (map is_reached_node g) c false ≡ option_map_or (λ (n : Node). n.reached) (slice_get g c) false
-marked_is [] c = refl
-marked_is (n ∷ g) zero = refl
-marked_is (n ∷ g) (suc c) = marked_is g c
+-- a constant is read as a global
+constant_read : (src : Source) (ids : ℕ → Text) (q : Option Inst) → option_map_or (λ (g : Inst). is_constant g.op) q false ≡ true → (e : Expr) × (option_and_then (global_by src ids) q ≡ Some e)
+constant_read src ids None on = cc
+constant_read src ids (Some g) on = (constant_expr src ids g, first_some (is_constant g.op) (constant_expr src ids g) _ on)
+  where
+    first_some : (b : Bool) (e : Expr) (rest : Option Expr) → b ≡ true → (if b then Some e else rest) ≡ Some e
+    first_some true e rest on = refl
+    first_some false e rest on = cc
+
+constant_on : (a b : Bool) → (a || b) ≡ true → b ≡ false → a ≡ true
+constant_on true b on off = refl
+constant_on false true on off = cc
+constant_on false false on off = cc
 
 module _ (s : Setting) (entry : Option (List ℕ)) (right : IsConforming s.of entry) (kinds : HaveKinds s.of.globals) (o : Options) (unit : TranslationUnit) (u : IsUnitOf s.of o unit) (p : FunctionPlan) (among : IsIn p u.plans) (names : List (List ℕ)) (structs : AreOfStructs s.of.globals (name_of u.claimed) names) where
   abbrev Gs : List Inst
@@ -157,137 +170,140 @@ module _ (s : Setting) (entry : Option (List ℕ)) (right : IsConforming s.of en
     pub members : HasMembers s entry right Fn o unit u names Where.setting.global ty t
     pub named : W.value (base_text Where.setting n)
 
-  module _ (rise : ChainsRise (insts_of Fn)) (chains : (i : Inst) → IsIn i (insts_of Fn) → is_chain i.op ≡ true → IsRuled i) (readable : (i : Inst) → IsIn i (insts_of Fn) → is_chain i.op ≡ true → (n : ℕ) → IsIn n (indexes i) → (c : ℕ) → IsMentioned Fn Marks c i n → IsReadable n)
-      (roots : (n ty : ℕ) (t : Tree) → NoneMakes n (insts_of Fn) → (c : ℕ) (i : Inst) → IsMentioned Fn Marks c i n → pointee_of Gs Fn n ≡ Some ty → type_tree Gs ty ≡ Some t → IsRoot n ty t)
-      (silent : (c : ℕ) (holder : Block) (i : Inst) → slice_get Fn.blocks c ≡ Some holder → IsIn i holder.insts → is_chain i.op ≡ true → slice_index_or Marks c false ≡ false → mentions_of links i.result ≡ []) where
-    quiet : AreQuiet Fn links (results links Fn)
-    quiet = record {
-      own = λ x x_in. (let w = made_by links Fn x x_in in subst (λ (y : Placed). y.mentions ≡ mentions_of links y.result) w.is refl);
-      quiet = λ x x_in chain off. (let w = made_by links Fn x x_in in
-          ap (λ (y : Placed). mentions_of links y.result) (sym w.is) ∙ silent w.block w.holder w.inst w.there w.among (ap (λ (y : Placed). is_chain y.op) w.is ∙ chain) (marked_is (graph Fn) w.block ∙ (ap (λ (y : Placed). is_reached Fn y.block) w.is ∙ off)));
-    }
-
+  module _ (rise : ChainsRise (insts_of Fn)) (chains : (i : Inst) → IsIn i (insts_of Fn) → is_chain i.op ≡ true → IsRuled i) (readable : (i : Inst) → IsIn i (insts_of Fn) → is_chain i.op ≡ true → (n : ℕ) → IsIn n (indexes i) → (c : ℕ) → IsMentioned Fn Marks c i n ⊎ IsCaptured Where Marks c i → IsReadable n)
+      (roots : (n ty : ℕ) (t : Tree) → NoneMakes n (insts_of Fn) → (c : ℕ) (i : Inst) → IsLinked Fn Marks c i n → pointee_of Gs Fn n ≡ Some ty → type_tree Gs ty ≡ Some t → IsRoot n ty t) where
     order : AreOrdered Fn (results links Fn)
     order = in_order s.of Fn (ordered s entry right kinds o unit u p among) Marks links (plan_is s entry right kinds o unit u p among).live
 
-    -- a mention in the block where the path is printed, or by a carried chain that is based on the pointer
-    abbrev IsSeen : (b c n : ℕ) (i : Inst) → IsMentioned Fn Marks c i n → Type 0
-    IsSeen b c n i m = (c ≡ b) ⊎ ((is_chain i.op ≡ true) × ((m.arg == 0) ≡ true) × (Where.carried i.result ≡ true))
+    -- in the block where paths are printed
+    module _ (b : ℕ) (printed : slice_index_or Marks b false ≡ true) where
+      -- a mention there, or by a carried chain that is based on the pointer
+      abbrev IsSeen : (c n : ℕ) (i : Inst) → IsLinked Fn Marks c i n → Type 0
+      IsSeen c n i m = (c ≡ b) ⊎ ((is_chain i.op ≡ true) × ((m.arg == 0) ≡ true) × (Where.carried i.result ≡ true))
 
-    module _ (b c0 : ℕ) (user : Inst) (j : Inst) (m : IsMentioned Fn Marks c0 user j.result) (no_phi : is user.op code.Phi ≡ false) (seen : IsSeen b c0 j.result user m) (chain : is_chain j.op ≡ true) (j_in : IsIn j (insts_of Fn)) where
-      home : (c : ℕ) × (holder : Block) × (slice_get Fn.blocks c ≡ Some holder) × IsIn j holder.insts
-      home = in_block Fn.blocks j j_in
+      module _ (c0 : ℕ) (user : Inst) (j : Inst) (m : IsLinked Fn Marks c0 user j.result) (no_phi : is user.op code.Phi ≡ false) (seen : IsSeen c0 j.result user m) (chain : is_chain j.op ≡ true) (j_in : IsIn j (insts_of Fn)) where
+        home : (c : ℕ) × (holder : Block) × (slice_get Fn.blocks c ≡ Some holder) × IsIn j holder.insts
+        home = in_block Fn.blocks j j_in
 
-      abbrev ruled : IsRuled j
-      ruled = chains j j_in chain
+        abbrev ruled : IsRuled j
+        ruled = chains j j_in chain
 
-      abbrev P : Placed
-      P = placed links home.0 j
+        abbrev P : Placed
+        P = placed links home.0 j
 
-      listed : IsIn P (results links Fn)
-      listed = is_placed links Fn home.0 home.1 j home.2 home.3 ruled.some
+        listed : IsIn P (results links Fn)
+        listed = is_placed links Fn home.0 home.1 j home.2 home.3 ruled.some
 
-      mentioned : IsIn (mention_at Fn Marks c0 user j.result m) (mentions_of links j.result)
-      mentioned = mention_stands Fn Marks c0 user j.result m links (plan_is s entry right kinds o unit u p among).live
+        mentioned : IsIn (link_at Fn Marks c0 user j.result m) (mentions_of links j.result)
+        mentioned = link_stands Fn Marks c0 user j.result m links (plan_is s entry right kinds o unit u p among).live
 
-      reached : slice_index_or Marks home.0 false ≡ true
-      reached = by_test (slice_index_or Marks home.0 false) refl
+        place : (k : ℕ) × (inst_at Fn home.0 k ≡ Some j)
+        place = placed_in Fn home.0 home.1 j home.2 home.3
+
+        live : IsLive Fn Marks home.0 place.0
+        live = linked_live Fn Marks c0 user j.result m home.0 place.0 j place.1 refl
+
+        value_at : (k : ℕ) → is_slot Fn Marks j k ≡ true
+        value_at k =
+            both_on (is_id j.op j.args k) (is_value j.op k && is_taken Fn Marks j k) (chain_id j.op j.args k chain)
+            (both_on (is_value j.op k) (is_taken Fn Marks j k) (chain_value j.op k chain) (ap (λ (x : Bool). not x || is_label_reached Fn Marks (slice_index j.args (k + 1))) (chain_no_phi j.op chain)))
+
+        -- it mentions its base
+        abbrev base_link : IsLinked Fn Marks home.0 j (base j)
+        base_link = record {
+          place = place.0;
+          arg = 0;
+          there = place.1;
+          live = live;
+          slot = both_on (slice_index_or Marks home.0 false || is_base j 0) (is_slot Fn Marks j 0)
+              (second_on (slice_index_or Marks home.0 false) (is_base j 0) (both_on (is_chain j.op) (0 == 0) chain (same_test 0 0 refl)))
+              (value_at 0);
+          word = ruled.based;
+        }
+
+        -- and in a reached block its indexes
+        index_mention : slice_index_or Marks home.0 false ≡ true → (n k : ℕ) → slice_get j.args (suc k) ≡ Some n → IsMentioned Fn Marks home.0 j n
+        index_mention here n k arg = record { place = place.0; arg = suc k; there = place.1; here = here; live = live; slot = value_at (suc k); word = arg }
+
+        uses : slice_index_or Marks home.0 false ≡ true → (n : ℕ) → IsIn n (indexes j) → UsesExpr W (index_expr Where.setting n)
+        uses here n n_in =
+            let at = at_some (indexes j) n n_in in
+            let r = readable j j_in chain n n_in home.0 (inl (index_mention here n at.0 (dropped j.args at.0 n at.1))) in
+            index_uses s entry right kinds o unit u p among names structs home.0 home.1 j home.2 home.3 ruled.some place.0 at.0 n chain place.1 here live (dropped j.args at.0 n at.1) r.shape r.shaped r.other r.read
+
+        carried : (home.0 ≡ b → ⊥) → Where.carried j.result ≡ true
+        carried apart = by_seen seen
+          where
+            by_seen : IsSeen c0 j.result user m → Where.carried j.result ≡ true
+            by_seen (inl same) = carried_by_use s entry right kinds o unit u p among home.0 home.1 j home.2 home.3 ruled.some chain c0 user m no_phi (λ here. apart (sym here ∙ same))
+            by_seen (inr w) =
+                let at = carried_at Fn (results links Fn) user.result w.2 in
+                base_carried Fn (results links Fn) order P (link_at Fn Marks c0 user j.result m) user listed chain mentioned (linked_user Fn Marks c0 user j.result m) w.1 w.0 at (chain_no_phi at.by.op at.chain)
+
+        -- of a chain that is printed in another block the constants among its indexes are written as they are, be its own block reached or not
+        constant_uses : (home.0 ≡ b → ⊥) → (n : ℕ) → IsIn n (indexes j) → is_constant_index Gs n ≡ true → UsesExpr W (index_expr Where.setting n)
+        constant_uses apart n n_in constant = by_reached (slice_index_or Marks home.0 false) refl
+          where
+            by_reached : (here : Bool) → slice_index_or Marks home.0 false ≡ here → UsesExpr W (index_expr Where.setting n)
+            by_reached true here = uses here n n_in
+            by_reached false off =
+                let r = readable j j_in chain n n_in home.0 (inr (record { holder = home.1; there = home.2; among = home.3; off = off; chain = chain; carried = carried apart })) in
+                let read = constant_read (S s entry right kinds o unit u p among) (id_text (name_of u.claimed)) (global Gs n) constant in
+                subst (λ (q : Option Expr). UsesExpr W (unwrap_or q (name (text_of (name_of u.claimed) (Id (id n)))))) (sym read.1) (r.read read.0 read.1)
+
+        abbrev Written : Type 0
+        Written = AreWritable s entry right Fn o unit u names Where.setting.global (spot_of b (home.0, j)) 0 (indexes j)
+
+        -- so its base is seen there too, and its indexes are written
+        base_seen : (IsSeen home.0 (base j) j base_link) × Written
+        base_seen = elim (eqb_tells home.0 b) [
+          | inl w ↦ (
+            inl w.1,
+            subst (λ (x : ℕ). AreWritable s entry right Fn o unit u names Where.setting.global (spot_of x (home.0, j)) 0 (indexes j)) w.1
+            (here_writable s entry right kinds o unit u p among names structs home.0 home.1 j home.2 home.3 (uses (ap (λ (x : ℕ). slice_index_or Marks x false) w.1 ∙ printed))),
+          )
+          | inr w ↦ (
+            inr (chain, same_test 0 0 refl, carried w.1),
+            kept_writable s entry right kinds o unit u p among names structs home.0 home.1 j home.2 home.3 chain (carried w.1) b
+            (λ n n_in on. constant_uses w.1 n n_in (constant_on (is_constant_index Gs n) (home.0 == b) on w.0)),
+          )
+        ]
+
+        chain_way : Way b (base j) → Way b j.result
+        chain_way way = chain_has s entry right Fn o unit u names Where.setting.global b home.0 home.1 j rise home.2 (as_among home.1.insts j home.3) chain way base_seen.1 ruled.typed ruled.sound ruled.own ruled.points
+
+      -- along the instructions of the function
+      made_way : (front back : List Inst) → insts_of Fn ≡ front ++ back → (c n : ℕ) (i : Inst) (m : IsLinked Fn Marks c i n) → is i.op code.Phi ≡ false → IsSeen c n i m → (ty : ℕ) (t : Tree) → pointee_of Gs Fn n ≡ Some ty → type_tree Gs ty ≡ Some t → NoneMakes n back
+          → ((xs ys : List Inst) → insts_of Fn ≡ xs ++ ys → length xs < length front → (d h : ℕ) (j : Inst) (v : IsLinked Fn Marks d j h) → is j.op code.Phi ≡ false → IsSeen d h j v → (q : ℕ) (x : Tree) → pointee_of Gs Fn h ≡ Some q → type_tree Gs q ≡ Some x → NoneMakes h ys → Way b h) → Way b n
+      made_way front back whole c n i m no_phi seen ty t points shaped none later = by_found (makes_in n front)
         where
-          by_test : (x : Bool) → slice_index_or Marks home.0 false ≡ x → x ≡ true
-          by_test true is_it = refl
-          by_test false is_it = absurd (subst (λ (l : List SlotPlace). IsIn (mention_at Fn Marks c0 user j.result m) l) (silent home.0 home.1 j home.2 home.3 chain is_it) mentioned)
+          root_way : NoneMakes n front → Way b n
+          root_way first =
+              let makes_none = subst (NoneMakes n) (sym whole) (none_joined n front back first none) in
+              let r = roots n ty t makes_none c i m points shaped in
+              start_has s entry right Fn o unit u names Where.setting.global b n ty t makes_none points r.members r.named
 
-      place : (k : ℕ) × (inst_at Fn home.0 k ≡ Some j)
-      place = placed_in Fn home.0 home.1 j home.2 home.3
+          by_split : (j : Inst) (xs ys : List Inst) → front ≡ xs ++ j ∷ ys → is_chain j.op ≡ true → (v : IsLinked Fn Marks c i j.result) → IsSeen c j.result i v → Way b j.result
+          by_split j xs ys is_it chain v v_seen =
+              let joined : insts_of Fn ≡ xs ++ (j ∷ (ys ++ back)) = whole ∙ (ap (λ (l : List Inst). l ++ back) is_it ∙ more_back xs (j ∷ ys) back) in
+              let j_in : IsIn j (insts_of Fn) = subst (IsIn j) (sym joined) (in_middle xs j (ys ++ back)) in
+              let leads = (chains j j_in chain).leads in
+              chain_way c i j v no_phi v_seen chain j_in
+              (later xs (j ∷ (ys ++ back)) joined (subst (λ (l : List Inst). length xs < length l) (sym is_it) (shorter xs j ys)) (home c i j v no_phi v_seen chain j_in).0 (base j) j (base_link c i j v no_phi v_seen chain j_in) (chain_no_phi j.op chain)
+              (base_seen c i j v no_phi v_seen chain j_in).0 leads.0 leads.1 leads.2 leads.3 (rise_at xs j (ys ++ back) (subst ChainsRise joined rise) chain))
 
-      live : IsLive Fn Marks home.0 place.0
-      live = maker_live Fn Marks c0 user j.result m home.0 place.0 j place.1 refl
+          by_found : Found n front → Way b n
+          by_found (inr first) = root_way first
+          by_found (inl w) =
+              let x = split_at front w.0 w.1.0 in
+              subst (λ (h : ℕ). (v : IsLinked Fn Marks c i h) → IsSeen c h i v → Way b h) w.1.2 (by_split w.0 x.0 x.1 x.2 w.1.1) m seen
 
-      -- it mentions its base
-      abbrev base_mention : IsMentioned Fn Marks home.0 j (base j)
-      base_mention = record {
-        place = place.0;
-        arg = 0;
-        there = place.1;
-        here = reached;
-        live = live;
-        slot = both_on (is_id j.op j.args 0) (is_value j.op 0 && is_taken Fn Marks j 0) (chain_id j.op j.args 0 chain)
-            (both_on (is_value j.op 0) (is_taken Fn Marks j 0) (chain_value j.op 0 chain) (ap (λ (x : Bool). not x || is_label_reached Fn Marks (slice_index j.args 1)) (chain_no_phi j.op chain)));
-        word = ruled.based;
-      }
-
-      -- and its indexes
-      index_mention : (n k : ℕ) → slice_get j.args (suc k) ≡ Some n → IsMentioned Fn Marks home.0 j n
-      index_mention n k arg = record {
-        place = place.0;
-        arg = suc k;
-        there = place.1;
-        here = reached;
-        live = live;
-        slot = both_on (is_id j.op j.args (suc k)) (is_value j.op (suc k) && is_taken Fn Marks j (suc k)) (chain_id j.op j.args (suc k) chain)
-            (both_on (is_value j.op (suc k)) (is_taken Fn Marks j (suc k)) (chain_value j.op (suc k) chain) (ap (λ (x : Bool). not x || is_label_reached Fn Marks (slice_index j.args (suc k + 1))) (chain_no_phi j.op chain)));
-        word = arg;
-      }
-
-      uses : (n : ℕ) → IsIn n (indexes j) → UsesExpr W (index_expr Where.setting n)
-      uses n n_in =
-          let at = at_some (indexes j) n n_in in
-          let r = readable j j_in chain n n_in home.0 (index_mention n at.0 (dropped j.args at.0 n at.1)) in
-          index_uses s entry right kinds o unit u p among names structs home.0 home.1 j home.2 home.3 ruled.some place.0 at.0 n chain place.1 reached live (dropped j.args at.0 n at.1) r.shape r.shaped r.other r.read
-
-      carried : (home.0 ≡ b → ⊥) → Where.carried j.result ≡ true
-      carried apart = by_seen seen
-        where
-          by_seen : IsSeen b c0 j.result user m → Where.carried j.result ≡ true
-          by_seen (inl same) = carried_by_use s entry right kinds o unit u p among home.0 home.1 j home.2 home.3 ruled.some chain c0 user m no_phi (λ here. apart (sym here ∙ same))
-          by_seen (inr w) =
-              let at = carried_at Fn links (results links Fn) quiet user.result w.2 in
-              base_carried Fn links (results links Fn) order quiet P (mention_at Fn Marks c0 user j.result m) user listed chain mentioned (user_is Fn Marks c0 user j.result m) w.1 w.0 at (chain_no_phi at.by.op at.chain)
-
-      abbrev Written : Type 0
-      Written = AreWritable s entry right Fn o unit u names Where.setting.global (spot_of b (home.0, j)) 0 (indexes j)
-
-      -- so its base is seen there too, and its indexes are written
-      base_seen : (IsSeen b home.0 (base j) j base_mention) × Written
-      base_seen = elim (eqb_tells home.0 b) [
-        | inl w ↦ (inl w.1, subst (λ (x : ℕ). AreWritable s entry right Fn o unit u names Where.setting.global (spot_of x (home.0, j)) 0 (indexes j)) w.1 (here_writable s entry right kinds o unit u p among names structs home.0 home.1 j home.2 home.3 uses))
-        | inr w ↦ (inr (chain, same_test 0 0 refl, carried w.1), kept_writable s entry right kinds o unit u p among names structs home.0 home.1 j home.2 home.3 chain (carried w.1) b (λ n n_in on. uses n n_in))
-      ]
-
-      chain_way : Way b (base j) → Way b j.result
-      chain_way way = chain_has s entry right Fn o unit u names Where.setting.global b home.0 home.1 j rise home.2 (as_among home.1.insts j home.3) chain way base_seen.1 ruled.typed ruled.sound ruled.own ruled.points
-
-    -- along the instructions of the function
-    made_way : (front back : List Inst) → insts_of Fn ≡ front ++ back → (b c n : ℕ) (i : Inst) (m : IsMentioned Fn Marks c i n) → is i.op code.Phi ≡ false → IsSeen b c n i m → (ty : ℕ) (t : Tree) → pointee_of Gs Fn n ≡ Some ty → type_tree Gs ty ≡ Some t → NoneMakes n back
-        → ((xs ys : List Inst) → insts_of Fn ≡ xs ++ ys → length xs < length front → (d h : ℕ) (j : Inst) (v : IsMentioned Fn Marks d j h) → is j.op code.Phi ≡ false → IsSeen b d h j v → (q : ℕ) (x : Tree) → pointee_of Gs Fn h ≡ Some q → type_tree Gs q ≡ Some x → NoneMakes h ys → Way b h) → Way b n
-    made_way front back whole b c n i m no_phi seen ty t points shaped none later = by_found (makes_in n front)
-      where
-        root_way : NoneMakes n front → Way b n
-        root_way first =
-            let makes_none = subst (NoneMakes n) (sym whole) (none_joined n front back first none) in
-            let r = roots n ty t makes_none c i m points shaped in
-            start_has s entry right Fn o unit u names Where.setting.global b n ty t makes_none points r.members r.named
-
-        by_split : (j : Inst) (xs ys : List Inst) → front ≡ xs ++ j ∷ ys → is_chain j.op ≡ true → (v : IsMentioned Fn Marks c i j.result) → IsSeen b c j.result i v → Way b j.result
-        by_split j xs ys is_it chain v v_seen =
-            let joined : insts_of Fn ≡ xs ++ (j ∷ (ys ++ back)) = whole ∙ (ap (λ (l : List Inst). l ++ back) is_it ∙ more_back xs (j ∷ ys) back) in
-            let j_in : IsIn j (insts_of Fn) = subst (IsIn j) (sym joined) (in_middle xs j (ys ++ back)) in
-            let leads = (chains j j_in chain).leads in
-            chain_way b c i j v no_phi v_seen chain j_in
-            (later xs (j ∷ (ys ++ back)) joined (subst (λ (l : List Inst). length xs < length l) (sym is_it) (shorter xs j ys)) (home b c i j v no_phi v_seen chain j_in).0 (base j) j (base_mention b c i j v no_phi v_seen chain j_in) (chain_no_phi j.op chain)
-            (base_seen b c i j v no_phi v_seen chain j_in).0 leads.0 leads.1 leads.2 leads.3 (rise_at xs j (ys ++ back) (subst ChainsRise joined rise) chain))
-
-        by_found : Found n front → Way b n
-        by_found (inr first) = root_way first
-        by_found (inl w) =
-            let x = split_at front w.0 w.1.0 in
-            subst (λ (h : ℕ). (v : IsMentioned Fn Marks c i h) → IsSeen b c h i v → Way b h) w.1.2 (by_split w.0 x.0 x.1 x.2 w.1.1) m seen
-
-    seen_way : (k : ℕ) (front back : List Inst) → insts_of Fn ≡ front ++ back → length front < k → (b c n : ℕ) (i : Inst) (m : IsMentioned Fn Marks c i n) → is i.op code.Phi ≡ false → IsSeen b c n i m → (ty : ℕ) (t : Tree) → pointee_of Gs Fn n ≡ Some ty → type_tree Gs ty ≡ Some t → NoneMakes n back → Way b n
-    seen_way zero front back whole low b c n i m no_phi seen ty t points shaped none = absurd (omega (arith, low))
-    seen_way (suc k) front back whole low b c n i m no_phi seen ty t points shaped none =
-        made_way front back whole b c n i m no_phi seen ty t points shaped none (λ xs ys is_it less d h j v v_phi v_seen q x v_points v_shaped v_none. seen_way k xs ys is_it (let fewer : length xs < k = omega (arith, less, low) in fewer) b d h j v v_phi v_seen q x v_points v_shaped v_none)
+      seen_way : (k : ℕ) (front back : List Inst) → insts_of Fn ≡ front ++ back → length front < k → (c n : ℕ) (i : Inst) (m : IsLinked Fn Marks c i n) → is i.op code.Phi ≡ false → IsSeen c n i m → (ty : ℕ) (t : Tree) → pointee_of Gs Fn n ≡ Some ty → type_tree Gs ty ≡ Some t → NoneMakes n back → Way b n
+      seen_way zero front back whole low c n i m no_phi seen ty t points shaped none = absurd (omega (arith, low))
+      seen_way (suc k) front back whole low c n i m no_phi seen ty t points shaped none =
+          made_way front back whole c n i m no_phi seen ty t points shaped none (λ xs ys is_it less d h j v v_phi v_seen q x v_points v_shaped v_none. seen_way k xs ys is_it (let fewer : length xs < k = omega (arith, less, low) in fewer) d h j v v_phi v_seen q x v_points v_shaped v_none)
 
     -- so is each pointer that a live instruction mentions, in its block
     pub mentioned_way : (b n : ℕ) (i : Inst) (m : IsMentioned Fn Marks b i n) → is i.op code.Phi ≡ false → (ty : ℕ) (t : Tree) → pointee_of Gs Fn n ≡ Some ty → type_tree Gs ty ≡ Some t → Way b n
-    mentioned_way b n i m no_phi ty t points shaped = seen_way (suc (length (insts_of Fn))) (insts_of Fn) [] (sym (no_more (insts_of Fn))) (let less : length (insts_of Fn) < suc (length (insts_of Fn)) = omega arith in less) b b n i m no_phi (inl refl) ty t points shaped tt
+    mentioned_way b n i m no_phi ty t points shaped =
+        seen_way b m.here (suc (length (insts_of Fn))) (insts_of Fn) [] (sym (no_more (insts_of Fn))) (let less : length (insts_of Fn) < suc (length (insts_of Fn)) = omega arith in less) b n i (as_linked Fn Marks b i n m) no_phi (inl refl) ty t points shaped tt

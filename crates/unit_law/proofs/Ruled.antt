@@ -1,6 +1,6 @@
 -- What the rules say of chains in a conforming module: so it is with its pointers.
 use Rattle.std.proofs.Common.{◌≡◌, ◌<◌, ◌≤◌, ℕ, suc, true, false, List, [], ◌∷◌, drop, length, Option, Some, Contains, not, refl, sym, ap, ◌∙◌, subst, arith}
-use Rattle.std.specs.Prelude.{option_and_then, slice_get, slice_index, slice_index_or}
+use Rattle.std.specs.Prelude.{◌⊎◌, option_and_then, slice_index}
 use Rattle.std.specs.Option.{option_map_or}
 use Rattle.std.specs.List.{list_any}
 use Rattle.spv_ops.specs.Opcode.{is, number}
@@ -12,7 +12,6 @@ use Rattle.spv_ops.specs.declared.Op.{Op}
 use Rattle.spv_ops.specs.declared.Op.TheVariants as code
 use Rattle.spv_module.specs.Inst.{has_type, has_result}
 use Rattle.spv_module.specs.declared.inst.Inst.{Inst}
-use Rattle.spv_module.specs.declared.inst.Block.{Block}
 use Rattle.spv_module.specs.declared.inst.Function.{Function}
 use Rattle.spv_types.specs.Tree.{Tree}
 use Rattle.spv_types.specs.Types.{type_tree}
@@ -24,7 +23,6 @@ use Rattle.profile_rules.specs.TypeRows.{is_pointer, is_int, value_fails}
 use Rattle.profile_rules.specs.ValueRules.{chain_end, leads_elsewhere, breaks_t6}
 use Rattle.conformance.specs.Rules.{Options}
 use Rattle.module_semantics.specs.Setting.{Setting}
-use Rattle.hoist_plan.specs.Plan.{mentions_of}
 use Rattle.name_alloc.specs.Naming.{name_of}
 use Rattle.glsl_ast.specs.Tree.{Expr, TranslationUnit}
 use Rattle.access_paths.specs.Ways.{indexes}
@@ -43,10 +41,10 @@ use Rattle.typed_law.proofs.Values.{inside, local_row, HasType, own_type, type_s
 use Rattle.typed_law.proofs.Operations.{Facts}
 use Rattle.typed_law.proofs.Others.{target_of, typed_some, typed_operand, chain_types}
 use Rattle.claim_law.specs.Claimed.{IsIn}
-use Rattle.unit_law.specs.Mentioned.{IsMentioned}
+use Rattle.unit_law.specs.Mentioned.{IsMentioned, IsLinked, IsCaptured}
 use Rattle.unit_law.specs.Words.{words_of, AreOfStructs}
 use Rattle.unit_law.proofs.Lists.{as_among}
-use Rattle.unit_law.proofs.Ways.{HaveKinds, F, R, V, plan_is, in_module, ordered}
+use Rattle.unit_law.proofs.Ways.{HaveKinds, F, R, V, in_module, ordered}
 use Rattle.unit_law.proofs.Steps.{at_index}
 use Rattle.unit_law.proofs.Chains.{HasWay}
 use Rattle.unit_law.proofs.Places.{IsRuled, IsRoot, mentioned_way}
@@ -113,11 +111,11 @@ module _ (s : Setting) (entry : Option (List ℕ)) (right : IsConforming s.of en
   rise : ChainsRise (insts_of Fn)
   rise = chains_rise s.of Fn (ordered s entry right kinds o unit u p among) (λ i i_in on. (chain_ruled i i_in on).some)
 
-  -- where what is read of indexes as globals is written, roots are named, and no link mentions a chain of a block that is not reached
-  pub pointer_way : (reads : (i : Inst) → is_chain i.op ≡ true → (n : ℕ) → IsIn n (indexes i) → (c : ℕ) → IsMentioned Fn (R s entry right kinds o unit u p among) c i n → (e : Expr) → (V s entry right kinds o unit u p among).setting.global n ≡ Some e → UsesExpr (words_of s.of.globals (name_of u.claimed) names) e)
-      → (roots : (n ty : ℕ) (t : Tree) → NoneMakes n (insts_of Fn) → (c : ℕ) (i : Inst) → IsMentioned Fn (R s entry right kinds o unit u p among) c i n → pointee_of Gs Fn n ≡ Some ty → type_tree Gs ty ≡ Some t → IsRoot s entry right kinds o unit u p among names structs n ty t)
-      → (silent : (c : ℕ) (holder : Block) (i : Inst) → slice_get Fn.blocks c ≡ Some holder → IsIn i holder.insts → is_chain i.op ≡ true → slice_index_or (R s entry right kinds o unit u p among) c false ≡ false → mentions_of (plan_is s entry right kinds o unit u p among).links i.result ≡ [])
+  -- where what is read of indexes as globals is written, and roots are named
+  pub pointer_way : (reads : (i : Inst) → is_chain i.op ≡ true → (n : ℕ) → IsIn n (indexes i) → (c : ℕ) → IsMentioned Fn (R s entry right kinds o unit u p among) c i n ⊎ IsCaptured (V s entry right kinds o unit u p among) (R s entry right kinds o unit u p among) c i
+      → (e : Expr) → (V s entry right kinds o unit u p among).setting.global n ≡ Some e → UsesExpr (words_of s.of.globals (name_of u.claimed) names) e)
+      → (roots : (n ty : ℕ) (t : Tree) → NoneMakes n (insts_of Fn) → (c : ℕ) (i : Inst) → IsLinked Fn (R s entry right kinds o unit u p among) c i n → pointee_of Gs Fn n ≡ Some ty → type_tree Gs ty ≡ Some t → IsRoot s entry right kinds o unit u p among names structs n ty t)
       → (b n : ℕ) (i : Inst) → IsMentioned Fn (R s entry right kinds o unit u p among) b i n → is i.op code.Phi ≡ false → (ty : ℕ) (t : Tree) → pointee_of Gs Fn n ≡ Some ty → type_tree Gs ty ≡ Some t → HasWay s entry right Fn o unit u names (V s entry right kinds o unit u p among).setting.global b n
-  pointer_way reads roots silent b n i m no_phi ty t points shaped =
+  pointer_way reads roots b n i m no_phi ty t points shaped =
       mentioned_way s entry right kinds o unit u p among names structs rise chains
-      (λ j j_in on k k_in c v. index_readable s entry right kinds o unit u p among names structs j (chains j j_in on) k k_in (reads j on k k_in c v)) roots silent b n i m no_phi ty t points shaped
+      (λ j j_in on k k_in c v. index_readable s entry right kinds o unit u p among names structs j (chains j j_in on) k k_in (reads j on k k_in c v)) roots b n i m no_phi ty t points shaped

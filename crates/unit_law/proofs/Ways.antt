@@ -1,6 +1,6 @@
 -- A value of a block, if it is no global: it has a name, or it is the result of a live instruction of the block that stands in expressions there.
-use Rattle.std.proofs.Common.{◌≡◌, ◌+◌, ◌==◌, ◌||◌, ℕ, zero, suc, Bool, true, false, List, [], ◌∷◌, map, Option, Some, None, Contains, unwrap_or, inl, inr, refl, sym, ap, ◌∙◌, subst, if◌then◌else◌}
-use Rattle.std.specs.Prelude.{◌⊎◌, find, slice_get, slice_index, slice_index_or, option_and_then, option_map}
+use Rattle.std.proofs.Common.{◌≡◌, ◌==◌, ◌||◌, ℕ, zero, suc, Bool, true, false, List, [], ◌∷◌, map, Option, Some, None, Contains, unwrap_or, inl, inr, refl, sym, ap, ◌∙◌, subst, if◌then◌else◌}
+use Rattle.std.specs.Prelude.{◌⊎◌, find, slice_get, slice_index_or, option_and_then, option_map}
 use Rattle.std.specs.Option.{option_map_or, option_or}
 use Rattle.std.specs.List.{AllZip}
 use Rattle.spv_ops.specs.Opcode.{is}
@@ -14,7 +14,7 @@ use Rattle.spv_module.specs.declared.inst.Block.{Block}
 use Rattle.spv_module.specs.declared.inst.Function.{Function}
 use Rattle.spv_types.specs.Tree.{Tree}
 use Rattle.spv_types.specs.Types.{tree_at, type_tree}
-use Rattle.spv_index.specs.Locals.{insts_of, inst_in, block_in, parameter_in, typed, global_type, local_type, type_in}
+use Rattle.spv_index.specs.Locals.{insts_of, inst_in, parameter_in, typed, global_type, local_type, type_in}
 use Rattle.structure_rules.specs.declared.graph.Node.{Node}
 use Rattle.structure_rules.specs.Graph.{graph, nth}
 use Rattle.conformance.specs.Rules.{Options}
@@ -45,7 +45,7 @@ use Rattle.claim_law.proofs.Constants.{found_in}
 use Rattle.claim_law.proofs.Named.{result_named, parameter_named}
 use Rattle.unit_law.specs.Mentioned.{IsMentioned, Stands, IsValueIn}
 use Rattle.unit_law.proofs.Lists.{same_test, test_same, contained, of_filter, found_by, as_among, in_block}
-use Rattle.unit_law.proofs.Links.{mention_at, placed_in, user_is, mention_stands, maker_live}
+use Rattle.unit_law.proofs.Links.{as_linked, mention_at, own_block, placed_in, user_is, mention_stands, maker_live}
 use Rattle.unit_law.proofs.Forms.{placed, is_placed, made_by, formed_result, form_at, mentioned_form, wanted_form}
 use Rattle.unit_law.proofs.Shaped.{pointer_none, shaped_value}
 
@@ -144,7 +144,7 @@ module _ (s : Setting) (entry : Option (List ℕ)) (right : IsConforming s.of en
   CountsIn block i n m b = (mention_block F (mention_at F R block i n m) i ≡ b) × (slice_index_or R b false ≡ true)
 
   pub counts_here : (block : ℕ) (i : Inst) (n : ℕ) (m : IsMentioned F R block i n) → is i.op code.Phi ≡ false → CountsIn block i n m block
-  counts_here block i n m no_phi = (ap (λ (b : Bool). if b then unwrap_or (block_in F (slice_index i.args (m.arg + 1))) block else block) no_phi, m.here)
+  counts_here block i n m no_phi = (own_block F R block i n (as_linked F R block i n m) no_phi, m.here)
 
   module _ (block n : ℕ) (i j : Inst) (m : IsMentioned F R block i n) (b : ℕ) (counts : CountsIn block i n m b) (made : inst_in F n ≡ Some j) (some_type : j.ty ≡ 0 → ⊥) (value : is_value s.of.globals j.ty ≡ true) where
     pub result : IsIn j (insts_of F) × (j.result ≡ n)
