@@ -74,11 +74,7 @@ fn add_if_carried(
 }
 
 /// Those of these chains that another block needs.
-pub fn carried(
-    alloc: Global,
-    locals: &Locals,
-    chains: &[Chain],
-) -> Result<BTreeSet<u32>, Memory>
+pub fn carried(alloc: Global, locals: &Locals, chains: &[Chain]) -> Result<BTreeSet<u32>, Memory>
     ensures { IfOk result (λ carried. (n : ℕ) → contains nat_cmp carried n ≡ carried_from locals.now (map placed_chain chains.now) n) }
 {
     let mut carried = BTreeSet::new(alloc);

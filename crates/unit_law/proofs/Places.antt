@@ -260,12 +260,12 @@ module _ (s : Setting) (entry : Option (List ℕ)) (right : IsConforming s.of en
           | inl w ↦ (
             inl w.1,
             subst (λ (x : ℕ). AreWritable s entry right Fn o unit u names Where.setting.global (spot_of x (home.0, j)) 0 (indexes j)) w.1
-            (here_writable s entry right kinds o unit u p among names structs home.0 home.1 j home.2 home.3 (uses (ap (λ (x : ℕ). slice_index_or Marks x false) w.1 ∙ printed))),
+                (here_writable s entry right kinds o unit u p among names structs home.0 home.1 j home.2 home.3 (uses (ap (λ (x : ℕ). slice_index_or Marks x false) w.1 ∙ printed))),
           )
           | inr w ↦ (
             inr (chain, same_test 0 0 refl, carried w.1),
             kept_writable s entry right kinds o unit u p among names structs home.0 home.1 j home.2 home.3 chain (carried w.1) b
-            (λ n n_in on. constant_uses w.1 n n_in (constant_on (is_constant_index Gs n) (home.0 == b) on w.0)),
+                (λ n n_in on. constant_uses w.1 n n_in (constant_on (is_constant_index Gs n) (home.0 == b) on w.0)),
           )
         ]
 
