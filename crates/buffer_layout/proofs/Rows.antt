@@ -27,7 +27,7 @@ some_limit gs id (Refused r) h = h
 some_limit gs id (Limit l) h = (id, h)
 some_limit gs id Memory h = tt
 
-pub ruleset member_rows = (members_next, members_end, some_limit)
+pub ruleset member_rows = (members_next, members_end)
 
 -- the rest of the members begins with the next
 pub rest_next : (l : List Member) (i : ℕ) (d : Member) → i < length l → map member_of (drop i l) ≡ member_of (get_or l i d) ∷ map member_of (drop (i + 1) l)

@@ -86,7 +86,7 @@ last_rule heads gs kind ms = refl
 pub fit_unbroken : (heads gs : List Inst) (kind : Kind) (ms : List Member) → first_broken heads gs kind ms ≡ None → AllFit kind ms
 fit_unbroken heads gs kind ms none = all_fit heads gs kind ms (sym (last_rule heads gs kind ms) ∙ last_unbroken (members_break heads gs kind ms) none)
 
-pub limit_at : (heads gs : List Inst) (v block : Inst) (fault : Fault) → IsLimit gs fault → IsRightAt heads gs v block fault
+limit_at : (heads gs : List Inst) (v block : Inst) (fault : Fault) → IsLimit gs fault → IsRightAt heads gs v block fault
 limit_at heads gs v block (Refused r) h = absurd h
 limit_at heads gs v block (Limit l) h = h
 limit_at heads gs v block Memory h = tt
@@ -114,4 +114,4 @@ type_fits heads gs kind id t none =
 
 pub ruleset found_rules = (broken_passes)
 
-pub ruleset plan_rules = (fit_unbroken, limit_at, type_limit_at)
+pub ruleset plan_rules = (fit_unbroken, type_limit_at)

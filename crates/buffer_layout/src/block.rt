@@ -2,7 +2,7 @@
 ghost use Rattle.std.specs.Prelude.{◌≡◌, ◌↔◌, IfOk, IfErr, IsTrue, OnOk, OnErr, true, map};
 ghost use Rattle.std.specs.Option.{option_copied};
 ghost use Rattle.spv_types.specs.Types.{IsWithin};
-ghost use Rattle.layout_rules.specs.Blocks.{first_kind as first_kind_of, kind_of_members, members_break, first_broken as first_broken_in, is_block_class as is_block_class_number, block_of as block_in, IsBlockVariable, IsRightAt, IsRight};
+ghost use Rattle.layout_rules.specs.Blocks.{first_kind as first_kind_of, kind_of_members, members_break, first_broken as first_broken_in, is_block_class as is_block_class_number, block_of as block_in, kind_at, IsBlockVariable, IsRightAt, IsRight};
 ghost use Rattle.buffer_layout.specs.Members.{member_of};
 ghost use Rattle.buffer_layout.specs.Plan.{IsPlanAt, IsPlanOf, IsWithinLimits, IsUnbroken};
 
@@ -16,7 +16,7 @@ use spv_index::{is_uniform_struct, pointer};
 use spv_module::{Id, Inst, Module};
 use spv_ops::{Op, StorageClass};
 use spv_types::shape;
-use spv_words::{Fault, Refusal, Rule};
+use spv_words::{Fault, Memory, Refusal, Rule};
 use std::alloc::Global;
 
 /// Uniform, PushConstant and StorageBuffer (SPIR-V 1.6, section 3.7).
@@ -84,9 +84,29 @@ fn taken_kind(module: &Module, decor: &Decor, first: Kind, members: &[Member]) -
     }
 }
 
-/// The plan of a variable with this block, as `check_block` makes it of a block variable, and refuses it.
+/// The layout that the block of a variable takes, and none where it breaks a rule by each, as `check_block` tells it of a block
+/// variable, without its limits: for a module that was judged, whose types are within them. There is an error only for want of
+/// memory.
+pub fn kind_of(
+    alloc: Global,
+    module: &Module,
+    decor: &Decor,
+    variable: &Inst,
+    block: &Inst,
+) -> Result<Option<Kind>, Memory>
+    ensures { IfOk result (λ kind. kind ≡ kind_at decor.now «module».now.globals variable.now block.now) }
+{
+    let members = members_of(alloc, module, decor, block)?;
+    let first = first_kind(decor, variable.operand(0), Id(block.result));
+    match taken_kind(module, decor, first, &members) {
+        Ok(kind) => Ok(Some(kind)),
+        Err(_) => Ok(None),
+    }
+}
+
+/// The plan of a variable with this block, or why it is refused.
 #[tactic(auto, using(crate::proofs::Taken::plan_rules))]
-pub fn plan_of(
+fn plan_of(
     alloc: Global,
     module: &Module,
     decor: &Decor,

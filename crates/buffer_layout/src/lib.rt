@@ -11,7 +11,7 @@ mod ruler;
 mod sizes;
 mod types;
 
-pub use block::{block_of, check_block, is_block_variable, plan_of};
+pub use block::{block_of, check_block, is_block_variable, kind_of};
 pub use layout_rules::Kind;
 pub use plan::{BlockPlan, Layout};
 pub use types::layout;

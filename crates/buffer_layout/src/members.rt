@@ -1,12 +1,12 @@
 // The members of a block, and the rules on layout that they break.
-ghost use Rattle.std.specs.Prelude.{◌≡◌, ◌+◌, ◌≤◌, ℕ, IfOk, IfErr, map, min, nat_lt, option_map, false};
+ghost use Rattle.std.specs.Prelude.{◌≡◌, ◌+◌, ◌≤◌, ℕ, IfOk, map, min, nat_lt, option_map, false};
 ghost use Rattle.std.specs.List.{list_any};
 ghost use Rattle.std.specs.Option.{option_map_or};
 ghost use Rattle.spv_types.specs.View.{tree_of};
-ghost use Rattle.spv_types.specs.Types.{tree_before, IsRight as IsRightType};
+ghost use Rattle.spv_types.specs.Types.{tree_before};
 ghost use Rattle.layout_rules.specs.Sizes.{size_of};
 ghost use Rattle.layout_rules.specs.Rules.{is_past};
-ghost use Rattle.layout_rules.specs.Blocks.{members_of as members_in, is_misaligned as is_misaligned_in, end_of, begins_below as begins_below_in, any_overlap as any_overlap_in, member_breaks as member_breaks_in, members_break as members_break_in, first_broken as first_broken_in, IsLimit};
+ghost use Rattle.layout_rules.specs.Blocks.{members_of as members_in, is_misaligned as is_misaligned_in, end_of, begins_below as begins_below_in, any_overlap as any_overlap_in, member_breaks as member_breaks_in, members_break as members_break_in, first_broken as first_broken_in};
 ghost use Rattle.buffer_layout.specs.Members.{member_of};
 ghost use Rattle.buffer_layout.specs.Measures.{IsMeasureOfMember};
 
@@ -16,8 +16,8 @@ use crate::ruler::Ruler;
 use crate::sizes::CAP;
 use spv_decor::Decor;
 use spv_module::{Id, Inst, Module, Shape};
-use spv_types::shape;
-use spv_words::{Fault, Rule};
+use spv_types::judged_shape;
+use spv_words::{Memory, Rule};
 use std::alloc::Global;
 
 /// A member of a block: the id of its type, its Offset where it has one, and its shape where its
@@ -29,33 +29,31 @@ pub struct Member {
     pub shape: Option<Shape>,
 }
 
-/// The shape of a type that stands before a word.
+/// The shape of a type that stands before a word, where no such type passes a limit.
 #[tactic(auto, using(spv_types::proofs::Below::tree_before_is))]
 fn shape_before(
     alloc: Global,
     module: &Module,
     before: u32,
     id: u32,
-) -> Result<Option<Shape>, Fault>
-    ensures shape { IfOk result (λ s. option_map tree_of s ≡ tree_before «module».now.globals before id) }
-    ensures limit { IfErr result (IsRightType «module».now.globals id) }
+) -> Result<Option<Shape>, Memory>
+    ensures { IfOk result (λ s. option_map tree_of s ≡ tree_before «module».now.globals before id) }
 {
     match module.global(Id(id)) {
-        Some(inst) if inst.at < before => shape(alloc, module, Id(id)),
+        Some(inst) if inst.at < before => judged_shape(alloc, module, Id(id)),
         _ => Ok(None),
     }
 }
 
-/// The members of a block.
+/// The members of a block whose type passes no limit.
 #[tactic(auto, using(crate::proofs::Rows::member_rows))]
 pub fn members_of(
     alloc: Global,
     module: &Module,
     decor: &Decor,
     block: &Inst,
-) -> Result<Vec<Member>, Fault>
-    ensures members { IfOk result (λ v. map member_of v.items ≡ members_in decor.now «module».now.globals block.now) }
-    ensures limit { IfErr result (IsLimit «module».now.globals) }
+) -> Result<Vec<Member>, Memory>
+    ensures { IfOk result (λ v. map member_of v.items ≡ members_in decor.now «module».now.globals block.now) }
 {
     let mut members = Vec::new(alloc);
     for (k, id) in block.args.as_slice().iter().enumerate() {

@@ -2,7 +2,6 @@ pub mod Built
 pub mod Parts
 pub mod Laws
 pub mod Joined
-pub mod Taken
 pub mod Fits
 pub mod Firsts
 pub mod Unasked

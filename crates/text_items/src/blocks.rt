@@ -1,5 +1,5 @@
 // The declarations of blocks (GLSL 4.60, section 4.3.9).
-ghost use Rattle.std.specs.Prelude.{◌≡◌, IfOk, Some, map};
+ghost use Rattle.std.specs.Prelude.{◌≡◌, IfOk, map};
 ghost use Rattle.std.specs.List.{enumerate_from};
 ghost use Rattle.layout_rules.specs.Blocks.{kind_at};
 ghost use Rattle.glsl_ast.specs.View.{decl_of, member_of, type_of};
@@ -11,7 +11,7 @@ use crate::constants::type_at;
 use crate::numbers::counted;
 use crate::qualifiers::{member_qualifiers, variable_qualifiers};
 use crate::wording::Wording;
-use buffer_layout::{Kind, plan_of};
+use buffer_layout::{Kind, kind_of};
 use constant_text::name;
 use glsl_ast::{BlockPlace, BlockRules, Decl, Member, TypeName};
 use name_alloc::{Key, Names};
@@ -19,7 +19,7 @@ use spv_decor::Decor;
 use spv_index::is_storage_struct;
 use spv_module::{Id, Inst, Module};
 use spv_ops::{Decoration, StorageClass};
-use spv_words::{Fault, Memory};
+use spv_words::Memory;
 use std::alloc::Global;
 
 /// Whether a variable with this struct is a storage block.
@@ -45,18 +45,16 @@ fn place_of(written: &Written, inst: &Inst) -> BlockPlace
     }
 }
 
-fn rules_by(kind: Kind) -> BlockRules
-    ensures { result ≡ rules_by_kind (Some kind) }
+fn rules_by(kind: Option<Kind>) -> BlockRules
+    ensures { result ≡ rules_by_kind kind }
 {
     match kind {
-        Kind::Std140 => BlockRules::Std140,
-        Kind::Std430 => BlockRules::Std430,
+        Some(Kind::Std140) => BlockRules::Std140,
+        Some(Kind::Std430) | None => BlockRules::Std430,
     }
 }
 
-/// The rules by which the block of a variable is laid out, std430 where none fits. There is an error for want of memory, or where
-/// a type passes a limit.
-#[tactic(auto, using(crate::proofs::Taken::kind_rules))]
+/// The rules by which the block of a variable is laid out, std430 where none fits.
 fn rules_of(
     alloc: Global,
     module: &Module,
@@ -66,11 +64,8 @@ fn rules_of(
 ) -> Result<BlockRules, Memory>
     ensures { IfOk result (λ rules. rules ≡ rules_by_kind (kind_at decor.now «module».now.globals variable.now block.now)) }
 {
-    match plan_of(alloc, module, decor, variable, block) {
-        Ok(plan) => Ok(rules_by(plan.kind)),
-        Err(Fault::Refused(_)) => Ok(BlockRules::Std430),
-        Err(Fault::Limit(_) | Fault::Memory) => Err(Memory),
-    }
+    let kind = kind_of(alloc, module, decor, variable, block)?;
+    Ok(rules_by(kind))
 }
 
 /// The name of the type of a member.
