@@ -10,7 +10,7 @@ use crate::Context;
 use constant_text::basic_shape;
 use glsl_ast::{Expr, TypeName};
 use spv_module::{Id, Shape};
-use spv_types::shape;
+use spv_types::judged_shape;
 use spv_words::Memory;
 use std::alloc::Global;
 
@@ -28,11 +28,9 @@ impl Context<'_, '_> {
     pub(crate) fn shape_at(&self, alloc: Global, ty: u32) -> Result<Shape, Memory>
         ensures { IfOk result (λ s. tree_of s ≡ shape_at_of self.now.source ty) }
     {
-        match shape(alloc, self.module(), Id(ty)) {
-            Ok(Some(shape)) => Ok(shape),
-            Ok(None) => Ok(Shape::Uint),
-            // a type past the limits counts as one for which there is no memory
-            Err(_) => Err(Memory),
+        match judged_shape(alloc, self.module(), Id(ty))? {
+            Some(shape) => Ok(shape),
+            None => Ok(Shape::Uint),
         }
     }
 
@@ -46,7 +44,7 @@ impl Context<'_, '_> {
     }
 
     /// The zero of a type, which lists each part (GLSL 4.60, section 5.4), and `0u` of what is none. There is an error only for
-    /// want of memory, or for a type that is past the limits on types.
+    /// want of memory.
     pub fn zero_of(&self, alloc: Global, ty: u32) -> Result<Expr, Memory>
         ensures { IfOk result (λ e. expr_of e ≡ zero_at self.now.source (all_names self.now.names) ty) }
     {

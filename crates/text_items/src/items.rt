@@ -50,8 +50,8 @@ fn add_declaration(
 }
 
 /// The items of a text before its functions, in the order in which the module defines them: structs, constants, Private and
-/// Workgroup variables and blocks (GLSL 4.60, chapter 4). There is an error for want of memory, where a type passes a limit, or for
-/// a struct with more members than a `u32` counts.
+/// Workgroup variables and blocks (GLSL 4.60, chapter 4). There is an error for want of memory, or for a struct with
+/// more members than a `u32` counts.
 pub fn declarations(alloc: Global, written: &Written, names: &Names) -> Result<Vec<Decl>, Memory>
     ensures { IfOk result (λ items. map decl_of items.items ≡ declarations_of written.now.source written.now.reached (item_names written.now.source names.now)) }
 {

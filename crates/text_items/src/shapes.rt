@@ -7,19 +7,18 @@ ghost use Rattle.spv_types.specs.View.{tree_of};
 
 use spv_index::pointer;
 use spv_module::{Id, Module, Shape};
-use spv_types::shape;
+use spv_types::judged_shape;
 use spv_words::Memory;
 use std::alloc::Global;
 
-/// The shape of a type, and uint of what has none. There is an error for want of memory, or where the type passes a limit.
+/// The shape of a type, and uint of what has none. There is an error only for want of memory.
 #[tactic(auto, using(spv_types::proofs::Views::shape_rows))]
 pub fn shape_at(alloc: Global, module: &Module, ty: u32) -> Result<Shape, Memory>
     ensures { IfOk result (λ s. tree_of s ≡ unwrap_or (type_tree «module».now.globals ty) uint) }
 {
-    match shape(alloc, module, Id(ty)) {
-        Ok(Some(shape)) => Ok(shape),
-        Ok(None) => Ok(Shape::Uint),
-        Err(_) => Err(Memory),
+    match judged_shape(alloc, module, Id(ty))? {
+        Some(shape) => Ok(shape),
+        None => Ok(Shape::Uint),
     }
 }
 

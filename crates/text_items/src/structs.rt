@@ -9,7 +9,7 @@ ghost use Rattle.text_items.specs.State.{HasThose};
 use crate::shapes::pointee_at;
 use id_map::IdSet;
 use spv_module::{Id, Module, Shape};
-use spv_types::shape;
+use spv_types::judged_shape;
 use spv_words::Memory;
 use std::alloc::{AllocError, Global};
 
@@ -45,13 +45,12 @@ fn add_members(found: &mut IdSet, members: &[Shape]) -> Result<(), AllocError>
 fn add_type(alloc: Global, module: &Module, found: &mut IdSet, ty: u32) -> Result<(), Memory>
     ensures { OnOk result ((id : ℕ) → is_in found.new id ≡ (is_in found.old id || type_has_struct «module».now.globals id ty)) }
 {
-    match shape(alloc, module, Id(pointee_at(module, ty))) {
-        Ok(Some(shape)) => {
+    match judged_shape(alloc, module, Id(pointee_at(module, ty)))? {
+        Some(shape) => {
             add_structs(found, &shape)?;
             Ok(())
         }
-        Ok(None) => Ok(()),
-        Err(_) => Err(Memory),
+        None => Ok(()),
     }
 }
 
@@ -82,8 +81,7 @@ fn add_once(
     Ok(())
 }
 
-/// The structs of types. A type that comes again is not gone through again. There is an error for want of memory, or where a type
-/// passes a limit.
+/// The structs of types. A type that comes again is not gone through again. There is an error only for want of memory.
 pub fn structs_of(alloc: Global, module: &Module, types: &[u32]) -> Result<IdSet, Memory>
     ensures { IfOk result (λ found. (id : ℕ) → is_in found id ≡ list_any (type_has_struct «module».now.globals id) types.now) }
 {

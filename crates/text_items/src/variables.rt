@@ -46,7 +46,7 @@ fn begin(wording: &Wording, inst: &Inst) -> Result<Expr, Memory>
     }
 }
 
-/// What a variable begins with: its initializer, or zero. There is an error for want of memory, or where its type passes a limit.
+/// What a variable begins with: its initializer, or zero. There is an error only for want of memory.
 pub fn initial(
     alloc: Global,
     readings: &Readings,

@@ -46,7 +46,7 @@ impl<'a, 'b> Model for Written<'a, 'b> {
 
 impl<'a, 'b> Written<'a, 'b> {
     /// What is written of a module, where calls reach these functions from the entry, and this is told of their live instructions.
-    /// There is an error for want of memory, or where a type passes a limit.
+    /// There is an error only for want of memory.
     pub fn of(
         alloc: Global,
         readings: &'a Readings<'b>,
