@@ -304,6 +304,10 @@ among_args i [] there = absurd there
 among_args i (j ∷ is) (inl same) = subst (λ (x : Inst). length x.args ≤ length j.args + args_in is) same (le_left (length j.args) (args_in is))
 among_args i (j ∷ is) (inr there) = le_right (length i.args) (length j.args) (args_in is) (among_args i is there)
 
+all_among : (is : List Inst) → ((i : Inst) → IsAmong i is → length i.args < 2 ^ 32) → All (λ (i : Inst). length i.args < 2 ^ 32) is
+all_among [] each = All-nil (λ (i : Inst). length i.args < 2 ^ 32)
+all_among (i ∷ is) each = All-cons (λ (j : Inst). length j.args < 2 ^ 32) i is (each i (inl refl)) (all_among is (λ j there. each j (inr there)))
+
 globals_args : (ws : List ℕ) (p : Place) (is : List Inst1) → args_in (globals_from ws p is) ≤ total is
 globals_args ws p [] = le_zero 0
 globals_args ws p (x ∷ is) = by_test (is_global p (kind_of ws x)) (globals_args ws (after p (kind_of ws x)) is)
@@ -358,6 +362,9 @@ module _ (bytes : List ℕ) (m : ModuleState) (read : IsReadFrom bytes m) where
   read_args =
       subst (λ (n : ModuleState). (g : Inst) → IsAmong g n.globals → length g.args < 2 ^ 32) (sym read.made)
       (λ g g_in. is_word (length g.args) (length bytes) (le_on (length g.args) (args_in (globals_from ws Outside (insts ws))) (length bytes) (among_args g (globals_from ws Outside (insts ws)) g_in) (le_on (args_in (globals_from ws Outside (insts ws))) (total (insts ws)) (length bytes) (globals_args ws Outside (insts ws)) all_few)) read.short)
+
+  pub read_few : All (λ (g : Inst). length g.args < 2 ^ 32) m.globals
+  read_few = all_among m.globals read_args
 
   pub read_globals : length m.globals < 2 ^ 32
   read_globals =

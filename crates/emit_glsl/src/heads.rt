@@ -1,7 +1,8 @@
 // The names of a text, and its items before the functions.
 ghost use Rattle.std.specs.Prelude.{◌≡◌, [], true, flat_map, IfOk, map};
-ghost use Rattle.std.specs.List.{list_any};
+ghost use Rattle.std.specs.List.{All, list_any};
 ghost use Rattle.text_items.specs.Asked.{is_asked};
+ghost use Rattle.text_items.specs.Few.{HasFewArgs};
 ghost use Rattle.text_items.specs.State.{functions_at};
 ghost use Rattle.function_plan.specs.Claimed.{claimed_by};
 ghost use Rattle.emit_glsl.specs.Reached.{reached_in, IsHead};
@@ -67,6 +68,7 @@ fn head_with<'a>(
     plans: &[FunctionPlan<'a>],
     functions: &[&'a Function],
 ) -> Result<Head, Memory>
+    requires { All HasFewArgs readings.now.of.globals }
     ensures { IfOk result (IsHead readings.now (record { functions = functions_at functions.now; types = flat_map types_in plans.now; mentions = flat_map mentions_in plans.now }) (map claimed_by plans.now)) }
 {
     let live = live_if_asked(alloc, readings, plans)?;
@@ -83,6 +85,7 @@ pub fn head_of<'a>(
     readings: &Readings<'a>,
     plans: &[FunctionPlan<'a>],
 ) -> Result<Head, Memory>
+    requires { All HasFewArgs readings.now.of.globals }
     ensures { IfOk result (IsHead readings.now (reached_in plans.now) (map claimed_by plans.now)) }
 {
     let functions = functions_of(alloc, plans)?;

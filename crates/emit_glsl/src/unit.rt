@@ -3,6 +3,7 @@ ghost use Rattle.std.specs.Prelude.{◌≡◌, ◌++◌, flat_map, IfOk, OnOk, m
 ghost use Rattle.std.specs.List.{All};
 ghost use Rattle.structure_rules.specs.Graph.{graph};
 ghost use Rattle.use_chains.specs.Small.{IsSmall};
+ghost use Rattle.text_items.specs.Few.{HasFewArgs};
 ghost use Rattle.glsl_ast.specs.View.{decl_of, unit_of as tree_of_unit};
 ghost use Rattle.emit_glsl.specs.Reached.{ArePlaces, decls_at, IsWritten, IsMade};
 ghost use Rattle.function_text.specs.State.{decl_with};
@@ -102,6 +103,7 @@ fn text_by<'a>(
     order: &[Id],
     plans: Vec<FunctionPlan<'a>>,
 ) -> Result<Translation<'a>, Memory>
+    requires { All HasFewArgs readings.now.of.globals }
     ensures { IfOk result (λ text. IsWritten readings.now entry.now.size.items order.now plans.entry.items (tree_of_unit text.unit)) }
 {
     let planned = plans.as_slice();
@@ -130,6 +132,7 @@ fn planned_text<'a>(
     requires locals { found.locals.items ≡ readings.now.of.functions }
     requires places { found.places.items ≡ map graph readings.now.of.functions }
     requires small { All IsSmall readings.now.of.functions }
+    requires few { All HasFewArgs readings.now.of.globals }
     ensures { IfOk result (λ text. IsMade readings.now found.entry.entry.size.items found.entry.order.items (tree_of_unit text.unit)) }
 {
     let blank = Blank::new(1);
@@ -157,6 +160,7 @@ pub fn text_of<'a>(
     requires locals { found.locals.items ≡ «module».now.functions }
     requires places { found.places.items ≡ map graph «module».now.functions }
     requires small { All IsSmall «module».now.functions }
+    requires few { All HasFewArgs «module».now.globals }
     ensures { IfOk result (λ text. IsMade (record { of = «module».now; entry = found.entry.entry.function.0; overrides = overrides.now.pairs.items }) found.entry.entry.size.items found.entry.order.items (tree_of_unit text.unit)) }
 {
     let entry = found.entry.function;

@@ -6,3 +6,4 @@ pub mod Plain
 pub mod Claimed
 pub mod View
 pub mod Asked
+pub mod Few

@@ -1,9 +1,10 @@
 // The declarations of blocks (GLSL 4.60, section 4.3.9).
-ghost use Rattle.std.specs.Prelude.{◌≡◌, IfOk, map};
+ghost use Rattle.std.specs.Prelude.{◌≡◌, ◌<◌, ◌^◌, IfOk, length, map};
 ghost use Rattle.std.specs.List.{enumerate_from};
 ghost use Rattle.layout_rules.specs.Blocks.{kind_at};
 ghost use Rattle.glsl_ast.specs.View.{decl_of, member_of, type_of};
 ghost use Rattle.text_rules.specs.Declarations.{type_at as type_at_of, is_buffer as is_buffer_variable, place_of as place_of_variable, rules_by as rules_by_kind, member_decl, block_decl};
+ghost use Rattle.text_items.specs.Few.{HasFewArgs};
 ghost use Rattle.text_items.specs.Names.{item_names};
 
 use crate::Written;
@@ -90,11 +91,12 @@ fn member(
     k: usize,
     part: u32,
 ) -> Result<Member, Memory>
+    requires { k < 2 ^ 32 }
     ensures { IfOk result (λ m. member_of m ≡ member_decl written.now.source (item_names written.now.source names.now) variable.now block.now (k, part)) }
 {
     let decor = written.decor();
     let id = Id(block.result);
-    let number = counted(k)?;
+    let number = counted(k);
     let buffer = is_buffer(written, variable, block);
     let quals = member_qualifiers(alloc, decor, buffer, id, number)?;
     let value = decor.member_value(id, number, Decoration::Offset.number());
@@ -117,6 +119,7 @@ fn members(
     block: &Inst,
     types: &[u32],
 ) -> Result<Vec<Member>, Memory>
+    requires { length types.now < 2 ^ 32 }
     ensures { IfOk result (λ members. map member_of members.items ≡ map (member_decl written.now.source (item_names written.now.source names.now) variable.now block.now) (enumerate_from 0 types.now)) }
 {
     let mut members = Vec::new(alloc);
@@ -135,6 +138,7 @@ pub fn declare_block(
     variable: &Inst,
     block: &Inst,
 ) -> Result<Decl, Memory>
+    requires { HasFewArgs block.now }
     ensures { IfOk result (λ d. decl_of d ≡ block_decl written.now.source (item_names written.now.source names.now) variable.now block.now) }
 {
     let id = Id(variable.result);

@@ -1,5 +1,5 @@
 // The declarations of constants and of structs.
-ghost use Rattle.std.specs.Prelude.{◌≡◌, IfOk, map};
+ghost use Rattle.std.specs.Prelude.{◌≡◌, ◌<◌, ◌^◌, IfOk, length, map};
 ghost use Rattle.std.specs.List.{enumerate_from};
 ghost use Rattle.std.specs.Option.{option_copied};
 ghost use Rattle.glsl_ast.specs.View.{decl_of, expr_of, field_of, type_of};
@@ -7,6 +7,7 @@ ghost use Rattle.profile_rules.specs.Constants.{constant_kind};
 ghost use Rattle.profile_rules.specs.declared.constant.ConstantKind.TheVariants.{Composite};
 ghost use Rattle.text_rules.specs.Declarations.{type_at as type_at_of, zero_at as zero_at_of, expr_at as expr_at_of, value_by, constant_decl, struct_decl};
 ghost use Rattle.constant_text.specs.Named.{id_names};
+ghost use Rattle.text_items.specs.Few.{HasFewArgs};
 ghost use Rattle.text_items.specs.Names.{field_at, expr_if_any};
 ghost use Rattle.text_items.specs.Wording.{source_of, names_of};
 
@@ -116,9 +117,10 @@ pub fn declare_constant(wording: &Wording, inst: &Inst) -> Result<Decl, Memory>
 
 /// A member of a struct, by its number and the id of its type.
 fn field(wording: &Wording, inst: &Inst, k: usize, ty: u32) -> Result<Field, Memory>
+    requires { k < 2 ^ 32 }
     ensures { IfOk result (λ field. field_of field ≡ field_at (source_of wording.now) (names_of wording.now) inst.now (k, ty)) }
 {
-    let number = counted(k)?;
+    let number = counted(k);
     Ok(Field {
         ty: type_at(wording, ty)?,
         name: name(
@@ -130,6 +132,7 @@ fn field(wording: &Wording, inst: &Inst, k: usize, ty: u32) -> Result<Field, Mem
 }
 
 fn fields(wording: &Wording, inst: &Inst, types: &[u32]) -> Result<Vec<Field>, Memory>
+    requires { length types.now < 2 ^ 32 }
     ensures { IfOk result (λ fields. map field_of fields.items ≡ map (field_at (source_of wording.now) (names_of wording.now) inst.now) (enumerate_from 0 types.now)) }
 {
     let mut fields = Vec::new(wording.alloc);
@@ -142,6 +145,7 @@ fn fields(wording: &Wording, inst: &Inst, types: &[u32]) -> Result<Vec<Field>, M
 
 /// The declaration of a struct (GLSL 4.60, section 4.1.8).
 pub fn declare_struct(wording: &Wording, inst: &Inst) -> Result<Decl, Memory>
+    requires { HasFewArgs inst.now }
     ensures { IfOk result (λ d. decl_of d ≡ struct_decl (source_of wording.now) (names_of wording.now) inst.now) }
 {
     Ok(Decl::Struct {

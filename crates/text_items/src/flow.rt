@@ -1,8 +1,9 @@
 // The claims of flags, captured indexes and spares, and all claims.
 ghost use Rattle.std.specs.Prelude.{◌≡◌, ◌++◌, IfOk, OnOk, flat_map, map};
-ghost use Rattle.std.specs.List.{enumerate_from};
+ghost use Rattle.std.specs.List.{All, enumerate_from};
 ghost use Rattle.text_rules.specs.Claims.{label as label_of, claim_captured as claims_of_captured, claim_spares as claims_of_spares, claim_flow as claims_of_flow, claim_function as claims_of_function, claims as all_claims};
 ghost use Rattle.text_items.specs.Claimed.{claim_flows as claims_of_flows};
+ghost use Rattle.text_items.specs.Few.{HasFewArgs};
 ghost use Rattle.text_items.specs.View.{claims_of};
 
 use crate::Written;
@@ -152,12 +153,13 @@ impl ClaimList {
 
 /// The claims of all names of a text in their order, where these are the plans of the functions that are written, in the order
 /// of the module: `main`; the globals that are written; the functions with their parameters and variables; flags, captured indexes
-/// and spares. There is an error only for want of memory, or for a struct with more members than a `u32` counts.
+/// and spares. There is an error only for want of memory.
 pub fn claims<P: FunctionClaims>(
     alloc: Global,
     written: &Written,
     plans: &[P],
 ) -> Result<Vec<Claim>, Memory>
+    requires { All HasFewArgs written.now.source.of.globals }
     ensures { IfOk result (λ claims. claims_of claims.items ≡ all_claims written.now.source written.now.reached (map P.plan plans.now)) }
 {
     let mut claims = ClaimList::with_capacity(alloc, written.inst_count())?;

@@ -1,7 +1,9 @@
 // The items of a text before its functions.
 ghost use Rattle.std.specs.Prelude.{◌≡◌, ◌++◌, ◌∷◌, [], IfOk, OnOk, map};
+ghost use Rattle.std.specs.List.{All};
 ghost use Rattle.glsl_ast.specs.View.{decl_of};
 ghost use Rattle.text_rules.specs.Declarations.{constant_decl, declaration, declarations as declarations_of};
+ghost use Rattle.text_items.specs.Few.{HasFewArgs};
 ghost use Rattle.text_items.specs.Names.{item_names};
 ghost use Rattle.text_items.specs.Wording.{source_of, names_of};
 
@@ -32,6 +34,8 @@ fn add_declaration(
     names: &Names,
     inst: &Inst,
 ) -> Result<(), Memory>
+    requires few { All HasFewArgs written.now.source.of.globals }
+    requires args { HasFewArgs inst.now }
     ensures { OnOk result (map decl_of items.new.items ≡ map decl_of items.old.items ++ declaration written.now.source written.now.reached (item_names written.now.source names.now) inst.now) }
 {
     let wording = Wording {
@@ -50,9 +54,9 @@ fn add_declaration(
 }
 
 /// The items of a text before its functions, in the order in which the module defines them: structs, constants, Private and
-/// Workgroup variables and blocks (GLSL 4.60, chapter 4). There is an error for want of memory, or for a struct with
-/// more members than a `u32` counts.
+/// Workgroup variables and blocks (GLSL 4.60, chapter 4). There is an error only for want of memory.
 pub fn declarations(alloc: Global, written: &Written, names: &Names) -> Result<Vec<Decl>, Memory>
+    requires { All HasFewArgs written.now.source.of.globals }
     ensures { IfOk result (λ items. map decl_of items.items ≡ declarations_of written.now.source written.now.reached (item_names written.now.source names.now)) }
 {
     let mut items = Vec::new(alloc);

@@ -1,11 +1,12 @@
 // The claims of the names of globals.
-ghost use Rattle.std.specs.Prelude.{◌≡◌, ◌++◌, ◌∷◌, ◌||◌, ◌&&◌, [], ℕ, IfOk, OnOk, flat_map, map};
-ghost use Rattle.std.specs.List.{enumerate_from};
+ghost use Rattle.std.specs.Prelude.{◌≡◌, ◌<◌, ◌^◌, ◌++◌, ◌∷◌, ◌||◌, ◌&&◌, [], ℕ, IfOk, OnOk, flat_map, length, map};
+ghost use Rattle.std.specs.List.{All, enumerate_from};
 ghost use Rattle.std.specs.BTreeSet.{contains};
 ghost use Rattle.std.specs.Ordering.{nat_cmp};
 ghost use Rattle.text_rules.specs.Printed.{is_written_variable};
 ghost use Rattle.text_rules.specs.Claims.{claim_id as claim_of_id, has_block, is_written_block, claim_members as claims_of_members, claim_variable as claims_of_variable, claim_global as claims_of_global};
 ghost use Rattle.text_items.specs.Claimed.{claim_member as claim_of_member};
+ghost use Rattle.text_items.specs.Few.{HasFewArgs};
 
 use crate::Written;
 use crate::list::ClaimList;
@@ -59,16 +60,18 @@ impl ClaimList {
         k: usize,
         ty: u32,
     ) -> Result<(), Memory>
+        requires { k < 2 ^ 32 }
         ensures { OnOk result (self.new ≡ self.old ++ claim_of_member written.now.source inst.now (k, ty) ∷ []) }
     {
         let id = Id(inst.result);
-        let number = counted(k)?;
+        let number = counted(k);
         let name = written.decor().member_name(id, number);
         self.add(Key::Member(id, number), name)?;
         Ok(())
     }
 
     fn claim_each(&mut self, written: &Written, inst: &Inst, types: &[u32]) -> Result<(), Memory>
+        requires { length types.now < 2 ^ 32 }
         ensures { OnOk result (self.new ≡ self.old ++ map (claim_of_member written.now.source inst.now) (enumerate_from 0 types.now)) }
     {
         for (k, ty) in types.iter().enumerate() {
@@ -78,6 +81,7 @@ impl ClaimList {
     }
 
     fn claim_members(&mut self, written: &Written, inst: &Inst) -> Result<(), Memory>
+        requires { HasFewArgs inst.now }
         ensures { OnOk result (self.new ≡ self.old ++ claims_of_members written.now.source inst.now) }
     {
         self.claim_each(written, inst, inst.args.as_slice())?;
@@ -107,7 +111,8 @@ impl ClaimList {
         blocks: &BTreeSet<u32>,
         inst: &Inst,
     ) -> Result<(), Memory>
-        requires { (id : ℕ) → contains nat_cmp blocks.now id ≡ is_written_block written.now.source written.now.reached id }
+        requires args { HasFewArgs inst.now }
+        requires blocks { (id : ℕ) → contains nat_cmp blocks.now id ≡ is_written_block written.now.source written.now.reached id }
         ensures { OnOk result (self.new ≡ self.old ++ claims_of_global written.now.source written.now.reached inst.now) }
     {
         if inst.op == Op::TypeStruct {
@@ -131,6 +136,7 @@ impl ClaimList {
 
     /// Adds the claims of the globals that are written, in their order.
     pub fn claim_globals(&mut self, written: &Written) -> Result<(), Memory>
+        requires { All HasFewArgs written.now.source.of.globals }
         ensures { OnOk result (self.new ≡ self.old ++ flat_map (claims_of_global written.now.source written.now.reached) written.now.source.of.globals) }
     {
         let blocks = block_structs(self.alloc(), written)?;

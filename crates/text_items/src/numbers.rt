@@ -1,14 +1,10 @@
 // Numbers of members.
-ghost use Rattle.std.specs.Prelude.{◌≡◌, IfOk};
+ghost use Rattle.std.specs.Prelude.{◌≡◌, ◌<◌, ◌^◌};
 
-use spv_words::Memory;
-
-/// A number as a word; the error is for one that no word is.
-pub fn counted(number: usize) -> Result<u32, Memory>
-    ensures { IfOk result (λ n. n ≡ number) }
+/// A number as a word.
+pub fn counted(number: usize) -> u32
+    requires { number < 2 ^ 32 }
+    ensures { result ≡ number }
 {
-    match u32::try_from(number) {
-        Ok(number) => Ok(number),
-        Err(_) => Err(Memory),
-    }
+    number as u32
 }

@@ -1,8 +1,10 @@
 // The declarations of variables.
 ghost use Rattle.std.specs.Prelude.{◌≡◌, ◌∷◌, [], IfOk};
+ghost use Rattle.std.specs.List.{All};
 ghost use Rattle.glsl_ast.specs.View.{decl_of, expr_of, type_of};
 ghost use Rattle.layout_rules.specs.Blocks.{block_of as block_of_variable};
 ghost use Rattle.text_rules.specs.Declarations.{type_at as type_at_of, zero_at as zero_at_of, pointee_at as pointee_at_of, initial as initial_of, variable_decl};
+ghost use Rattle.text_items.specs.Few.{HasFewArgs};
 ghost use Rattle.text_items.specs.Names.{item_names};
 ghost use Rattle.text_items.specs.Wording.{source_of, names_of};
 ghost use Rattle.text_items.specs.Plain.{shared_decl, private_decl, plain_decl};
@@ -102,6 +104,7 @@ pub fn declare_variable(
     names: &Names,
     inst: &Inst,
 ) -> Result<Decl, Memory>
+    requires { All HasFewArgs written.now.source.of.globals }
     ensures { IfOk result (λ d. decl_of d ∷ [] ≡ variable_decl written.now.source (item_names written.now.source names.now) inst.now (block_of_variable written.now.source.of.globals inst.now)) }
 {
     let wording = Wording {

@@ -1,7 +1,8 @@
-use Rattle.std.proofs.Common.{◌∙◌, List, ap, map, subst}
-use Rattle.std.specs.List.{flat_map}
+use Rattle.std.proofs.Common.{◌∙◌, List, ap, map, subst, sym}
+use Rattle.std.specs.List.{All, flat_map}
 use Rattle.name_alloc.specs.declared.claims.Claim.{Claim}
 use Rattle.name_alloc.specs.Naming.{name_of}
+use Rattle.text_items.specs.Few.{HasFewArgs}
 use Rattle.text_items.specs.State.{WrittenState, functions_at}
 use Rattle.function_plan.specs.Claimed.{claimed_by}
 use Rattle.function_text.specs.Live.{types_in, mentions_in}
@@ -9,6 +10,12 @@ use Rattle.emit_glsl.specs.declared.heads.Head.{Head}
 use Rattle.emit_glsl.specs.Reached.{IsHead}
 use Rattle.emit_glsl.proofs.Unasked.{head_live}
 use Rattle.emit_glsl.proofs.heads.head_with.Goals as goal
+
+pub claims-requires : goal.claims-requires
+claims-requires c = subst (λ (w : WrittenState). All HasFewArgs w.source.of.globals) (sym c.in_ok-written.ensures) c.requires
+
+pub declarations-requires : goal.declarations-requires
+declarations-requires c = subst (λ (w : WrittenState). All HasFewArgs w.source.of.globals) (sym c.in_ok-written.ensures) c.requires
 
 pub returns : goal.returns
 returns c =

@@ -1,10 +1,15 @@
-use Rattle.std.proofs.Common.{◌∙◌, ℕ, List, ap, subst}
+use Rattle.std.proofs.Common.{◌∙◌, ℕ, List, ap, subst, sym}
 use Rattle.std.proofs.lemmas.Result.{MatchResult-weaker}
+use Rattle.std.specs.List.{All}
 use Rattle.profile_rules.specs.declared.given.Given.{Given}
 use Rattle.glsl_ast.specs.View.{unit_of}
 use Rattle.text_rules.specs.Constants.{Source}
+use Rattle.text_items.specs.Few.{HasFewArgs}
 use Rattle.emit_glsl.specs.Reached.{IsMade}
 use Rattle.emit_glsl.proofs.unit.text_of.Goals as goal
+
+pub planned_text-requires-clause-few : goal.planned_text-requires-clause-few
+planned_text-requires-clause-few c = subst (λ (s : Source). All HasFewArgs s.of.globals) (sym c.in_ok-readings.ensures) c.requires.few
 
 pub returns : goal.returns
 returns c =

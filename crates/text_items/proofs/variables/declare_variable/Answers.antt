@@ -1,4 +1,4 @@
-use Rattle.std.proofs.Common.{◌≡◌, ◌∷◌, [], ◌∙◌, None, ap, rules}
+use Rattle.std.proofs.Common.{◌≡◌, ◌∷◌, [], ◌∙◌, Some, None, sym, ap, rules}
 use Rattle.std.proofs.lemmas.Result.{MatchResult-weaker}
 use Rattle.layout_rules.specs.Blocks.{block_of}
 use Rattle.glsl_ast.specs.Tree.{Decl}
@@ -6,7 +6,13 @@ use Rattle.text_rules.specs.Constants.{Source}
 use Rattle.text_rules.specs.Declarations.{variable_decl}
 use Rattle.text_items.specs.Names.{item_names}
 use Rattle.text_items.specs.Plain.{plain_decl}
+use Rattle.text_items.proofs.Counted.{block_few}
 use Rattle.text_items.proofs.variables.declare_variable.Goals as goal
+
+pub declare_block-requires : goal.declare_block-requires
+declare_block-requires c =
+    let found : Some c.in-Some.block.now ≡ block_of c.args.written.now.source.of.globals c.args.inst.now = search rules in
+    block_few c.args.written.now.source.of.globals c.args.inst.now c.in-Some.block.now c.requires (sym found)
 
 pub returns-in-None : goal.returns-in-None
 returns-in-None c =
