@@ -1,7 +1,7 @@
 """SPIR-V modules as words: names of numbers, types and how they are laid out, a writer, and a reader of instructions."""
 import enum
 import struct
-from dataclasses import dataclass
+from dataclasses import make_dataclass
 
 MOST_WORD = 0xFFFFFFFF
 
@@ -58,37 +58,16 @@ class BuiltIn(enum.IntEnum):
 # Shapes of values and blocks. `rule` is std430, std140 or nothing; shapes that differ in it are different types.
 
 
-@dataclass(frozen=True)
-class Scalar:
-    name: str
+def shape(name, fields, **rest):
+    """A kind of shapes with these fields, and with those of `rest`, which have these values where nothing else is said."""
+    return make_dataclass(name, [*fields.split(), *((field, object, value) for field, value in rest.items())], frozen=True)
 
 
-@dataclass(frozen=True)
-class Vector:
-    of: Scalar
-    size: int
-
-
-@dataclass(frozen=True)
-class Array:
-    of: object
-    length: int
-    rule: str = ""
-    by: int = 0  # the specialization constant that is the length
-
-
-@dataclass(frozen=True)
-class Runtime:
-    of: object
-    rule: str
-
-
-@dataclass(frozen=True)
-class Record:
-    parts: tuple
-    rule: str = ""
-    block: int = 0  # the decoration that makes it a block
-
+Scalar = shape("Scalar", "name")
+Vector = shape("Vector", "of size")
+Array = shape("Array", "of length", rule="", by=0)  # by the specialization constant that is the length
+Runtime = shape("Runtime", "of rule")
+Record = shape("Record", "parts", rule="", block=0)  # the decoration that makes it a block
 
 BOOL, UINT, INT = Scalar("bool"), Scalar("uint"), Scalar("int")
 INTS = [UINT, INT]
