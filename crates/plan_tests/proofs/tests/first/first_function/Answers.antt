@@ -1,4 +1,4 @@
-use Rattle.std.proofs.Common.{List, subst}
+use Rattle.std.proofs.Common.{rules, List, sym, subst}
 use Rattle.std.specs.List.{All}
 use Rattle.spv_module.specs.declared.inst.Function.{Function}
 use Rattle.use_chains.specs.Small.{IsSmall}
