@@ -149,7 +149,7 @@ total_few (a ∷ b ∷ c ∷ d ∷ e ∷ rest) none =
     behind_head t n le = omega (arith, le)
 
 -- how many operands instructions have together
-abbrev args_in : List Inst → ℕ
+abbrev pub args_in : List Inst → ℕ
 args_in [] = 0
 args_in (i ∷ is) = length i.args + args_in is
 
@@ -357,6 +357,14 @@ module _ (bytes : List ℕ) (m : ModuleState) (read : IsReadFrom bytes m) where
   -- so it is with each of its functions, and with the operands of its other instructions
   pub read_small : All IsSmall m.functions
   read_small = subst (λ (n : ModuleState). All IsSmall n.functions) (sym read.made) (all_small (functions ws) (functions_counted ws (length bytes) (insts ws) all_few all_short))
+
+  -- the operands of a function's instructions together
+  all_args : (fs : List Function) → AreCounted (length bytes) fs → All (λ (f : Function). args_in (insts_of f) < 2 ^ 32) fs
+  all_args [] counted = All-nil (λ (f : Function). args_in (insts_of f) < 2 ^ 32)
+  all_args (f ∷ fs) counted = All-cons (λ (g : Function). args_in (insts_of g) < 2 ^ 32) f fs (is_word (args_in (insts_of f)) (length bytes) counted.0.args read.short) (all_args fs counted.1)
+
+  pub read_operands : All (λ (f : Function). args_in (insts_of f) < 2 ^ 32) m.functions
+  read_operands = subst (λ (n : ModuleState). All (λ (f : Function). args_in (insts_of f) < 2 ^ 32) n.functions) (sym read.made) (all_args (functions ws) (functions_counted ws (length bytes) (insts ws) all_few all_short))
 
   pub read_args : (g : Inst) → IsAmong g m.globals → length g.args < 2 ^ 32
   read_args =

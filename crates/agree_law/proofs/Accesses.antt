@@ -6,7 +6,7 @@ use Rattle.spv_module.specs.declared.inst.Function.{Function}
 use Rattle.spv_types.specs.Tree.{Tree, ValueTree}
 use Rattle.value_words.specs.Words.{words_of, value_from}
 use Rattle.traces.specs.Events.{Event, Access, Location, reading, updating, write}
-use Rattle.traces.specs.Runs.{Move, go, Supplied, supplied, answered}
+use Rattle.traces.specs.Runs.{Move, go, Supplied, supplied}
 use Rattle.traces.specs.Outcomes.{normal, cut, waits, stuck, Result, got, with_before, then_get, or_stuck, on_got, begun, then_do}
 use Rattle.traces.specs.Simulation.{Follows}
 use Rattle.traces.proofs.Moves.{Never, NeverGives, one_step, fewer}
@@ -21,6 +21,7 @@ use Rattle.glsl_semantics.specs.Functions.{pure_value}
 use Rattle.glsl_semantics.specs.Expressions as expressions
 use Rattle.glsl_semantics.specs.Expressions.{Program, Argument, named, AtomicFunction, atomic_operation, operand_words, found_value, updated, CallKind, user, atomic, pure, barrier, unknown, call_kind, then_fetch, denote, values, arguments, place_and_values, evaluate, steps}
 use Rattle.glsl_semantics.specs.Statements.{Run, barrier_run, stmt_run, stmts_run}
+use Rattle.agree_law.specs.Answers.{answered}
 use Rattle.agree_law.specs.Agree.{Naming, AreApart}
 use Rattle.agree_law.specs.Blocks.{has_outcome, IsNew, Stands, At, have_result}
 use Rattle.agree_law.specs.Evaluates.{Evaluates, IsKept, Gets}

@@ -4,7 +4,7 @@ use Rattle.spv_module.specs.declared.inst.Inst.{Inst}
 use Rattle.spv_module.specs.declared.inst.Function.{Function}
 use Rattle.spv_types.specs.Tree.{ValueTree}
 use Rattle.traces.specs.Events.{Event}
-use Rattle.traces.specs.Runs.{Act, move, go, Supplied, supplied}
+use Rattle.traces.specs.Runs.{Act, go, Supplied, supplied}
 use Rattle.traces.specs.Outcomes.{normal, cut, waits, stuck, Result, got, with_before, then_get, on_got}
 use Rattle.traces.specs.Simulation.{Follows}
 use Rattle.traces.proofs.Moves.{Never, NeverGives, stays}
@@ -20,6 +20,7 @@ use Rattle.glsl_semantics.specs.States.{State, Thing, fetch, found}
 use Rattle.glsl_semantics.specs.Expressions as expressions
 use Rattle.glsl_semantics.specs.Expressions.{Program, Argument, CallKind, user, atomic, pure, barrier, unknown, call_kind, then_fetch, updated, denote, values, arguments, place_and_values, evaluate}
 use Rattle.glsl_semantics.specs.Statements.{Run, barrier_run, stmt_run}
+use Rattle.agree_law.specs.Answers.{move}
 use Rattle.agree_law.specs.Agree.{Naming, AreApart, variable_with, AgreeIn}
 use Rattle.agree_law.specs.Blocks.{has_outcome, have_result, IsNew, Stands, At}
 use Rattle.agree_law.specs.Evaluates.{Evaluates, IsKept, Gets}

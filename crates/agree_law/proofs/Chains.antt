@@ -6,7 +6,7 @@ use Rattle.spv_module.specs.declared.inst.Inst.{Inst}
 use Rattle.spv_module.specs.declared.inst.Function.{Function}
 use Rattle.spv_types.specs.Tree.{ValueTree, word}
 use Rattle.profile_rules.specs.MemoryRules.{pointee_of}
-use Rattle.traces.specs.Runs.{Act, goes, fails, move, go, Supplied, supplied}
+use Rattle.traces.specs.Runs.{Act, goes, fails, go, Supplied, supplied}
 use Rattle.traces.specs.Outcomes.{normal, begun, then_do, Result, got}
 use Rattle.traces.specs.Simulation.{Follows}
 use Rattle.traces.proofs.Moves.{Never, NeverGives, one_step, fewer, fails_now}
@@ -22,6 +22,7 @@ use Rattle.glsl_semantics.specs.Expressions.{Program, Argument, evaluate}
 use Rattle.glsl_semantics.specs.Statements.{Run, stmts_run}
 use Rattle.region_law.proofs.Flags.{other_put}
 use Rattle.region_law.specs.Leads.{In}
+use Rattle.agree_law.specs.Answers.{move}
 use Rattle.agree_law.specs.Own.{Own}
 use Rattle.agree_law.specs.Agree.{Naming, AreApart, variable_with, as_value, AgreeIn}
 use Rattle.agree_law.specs.Blocks.{IsOf, have_result, outcome, reads, IsSettled, IsNew, Stands, At}

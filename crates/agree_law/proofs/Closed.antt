@@ -9,7 +9,7 @@ use Rattle.spv_index.specs.Locals.{block_in}
 use Rattle.structure_recover.specs.Tree.{Groups, targets}
 use Rattle.control_text.specs.declared.place.Place.{Place}
 use Rattle.control_text.specs.Statements.{Blocks}
-use Rattle.traces.specs.Runs.{Act, move, wrong, Supplied}
+use Rattle.traces.specs.Runs.{Act, wrong, Supplied}
 use Rattle.traces.specs.Outcomes.{behind_switch, Result, got}
 use Rattle.traces.specs.Simulation.{Follows}
 use Rattle.traces.proofs.Moves.{Never, NeverGives}
@@ -28,6 +28,7 @@ use Rattle.glsl_semantics.proofs.Appended.{OnOutcome}
 use Rattle.region_law.specs.Leads.{Term, jump, table, return, lost, In, AreApart}
 use Rattle.region_law.specs.Leads as ending
 use Rattle.region_law.proofs.Regions.{names_of, Keeps, Facts}
+use Rattle.agree_law.specs.Answers.{move}
 use Rattle.agree_law.specs.Agree.{Naming, IsOther}
 use Rattle.agree_law.specs.Evaluates.{IsKept}
 use Rattle.agree_law.specs.Points.{Body}

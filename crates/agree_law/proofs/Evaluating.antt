@@ -4,10 +4,10 @@ use Rattle.spv_module.specs.declared.inst.Inst.{Inst}
 use Rattle.spv_module.specs.declared.inst.Function.{Function}
 use Rattle.spv_types.specs.Tree.{ValueTree}
 use Rattle.traces.specs.Events.{Event, Access, event_of}
-use Rattle.traces.specs.Runs.{Move, go, Supplied, supplied, told, answered, after, exec}
+use Rattle.traces.specs.Runs.{Move, go, Supplied, supplied, told, after, exec}
 use Rattle.traces.specs.Outcomes.{Outcome, normal, cut, waits, stuck, Result, got, or_stuck, on_got}
 use Rattle.traces.specs.Simulation.{Follows}
-use Rattle.traces.proofs.Moves.{Never, NeverGives, stays, one_step, fewer, weaker, after_coming, fails_before}
+use Rattle.traces.proofs.Moves.{Never, NeverGives, stays, one_step, fewer, weaker, after_coming, fails_now, fails_before}
 use Rattle.module_semantics.specs.Setting.{Setting}
 use Rattle.module_semantics.specs.State.{Conf}
 use Rattle.glsl_ast.specs.Tree.{Text, TypeName, Expr, declare, assign, lvalue}
@@ -17,6 +17,7 @@ use Rattle.glsl_semantics.specs.States.{Variable, State, found, found_in, has_in
 use Rattle.glsl_semantics.specs.Expressions.{Program, Argument, type_of, named, variable_of, evaluate, steps}
 use Rattle.glsl_semantics.specs.Statements.{Run, declaration, with_first_value, stmt_run}
 use Rattle.region_law.proofs.Flags.{in_found}
+use Rattle.agree_law.specs.Answers.{are_words, told_words, answered}
 use Rattle.agree_law.specs.Agree.{Naming, AreApart, value_of, AgreeIn}
 use Rattle.agree_law.specs.Blocks.{have_result, Stands, At}
 use Rattle.agree_law.specs.Evaluates.{Evaluates, Gets}
@@ -52,7 +53,11 @@ access_follows step A P k a c answers g h same steps holds = subst (λ l. E (acc
 
     by_answers : (l : List (List ℕ)) → step c ≡ answered a g l → Evaluates (Supplied Conf) step A P k c (accessed a l h)
     by_answers [] goes = inl (1, ap (λ (m : Move (Supplied Conf)). after m (exec step 0)) goes)
-    by_answers (words ∷ more) goes = by_event words more (event_of a words) goes
+    by_answers (words ∷ more) goes = by_words (are_words words) goes
+      where
+        by_words : (b : Bool) → step c ≡ told_words b a g words more → E (accessed a (words ∷ more) h)
+        by_words true goes = by_event words more (event_of a words) goes
+        by_words false goes = inr (fails_now (Supplied Conf) step c _ goes)
 
 -- one step without an event, behind which an evaluation has come to a value that it says
 pub known_follows : (step : Supplied Conf → Move (Supplied Conf)) (A : Type 0) (P : Supplied Conf → A → Type 0) (k : ℕ) (c d : Supplied Conf) (g : Result A) (a : A) → step c ≡ go [] d → g ≡ got [] a → P d a → Evaluates (Supplied Conf) step A P k c g

@@ -10,7 +10,7 @@ use Rattle.op_semantics.specs.Composite.{extracted, inserted}
 use Rattle.value_words.specs.Words.{words_of, value_from}
 use Rattle.traces.specs.Events.{Event, Access, Location, updating}
 use Rattle.traces.specs.Events as event
-use Rattle.traces.specs.Runs.{Act, goes, asks, fails, move, go, wrong, Supplied, supplied, answered}
+use Rattle.traces.specs.Runs.{Act, goes, asks, fails, go, wrong, Supplied, supplied}
 use Rattle.traces.specs.Outcomes.{normal, cut, waits, stuck, events_of, Result, got, with_before, then_get, or_stuck, on_got}
 use Rattle.traces.specs.Simulation.{Follows}
 use Rattle.traces.proofs.Moves.{Never, NeverGives, stays, one_step, fewer, fails_now}
@@ -29,6 +29,7 @@ use Rattle.glsl_semantics.specs.States as state
 use Rattle.glsl_semantics.specs.Expressions as expressions
 use Rattle.glsl_semantics.specs.Expressions.{Program, Argument, AtomicFunction, operand_words, found_value, call_kind, named, then_fetch, denote, place_and_values, evaluate, steps}
 use Rattle.glsl_semantics.specs.Statements.{Run, barrier_run, stmt_run, stmts_run}
+use Rattle.agree_law.specs.Answers.{move, answered}
 use Rattle.agree_law.specs.Agree.{Naming, AreApart, variable_with, as_value}
 use Rattle.agree_law.specs.Blocks.{measured, outcome, has_outcome, IsNew, At, have_result}
 use Rattle.agree_law.specs.Evaluates.{as_outcome, Evaluates, IsKept, Gets}

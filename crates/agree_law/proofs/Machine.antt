@@ -1,5 +1,5 @@
 -- What the machine of a module does next, by the kind of the instruction: where it goes on, asks or has no meaning.
-use Rattle.std.proofs.Common.{◌≡◌, ◌⊎◌, ◌++◌, ℕ, List, [], ◌∷◌, Option, Some, None, inl, inr, refl, ap, ◌∙◌}
+use Rattle.std.proofs.Common.{◌≡◌, ◌⊎◌, ◌++◌, ℕ, zero, suc, Bool, true, false, List, [], ◌∷◌, Option, Some, None, inl, inr, refl, ap, ◌∙◌}
 use Rattle.std.specs.Prelude.{slice_get, option_map, option_and_then}
 use Rattle.spv_ops.specs.declared.AtomicOp.{AtomicOp}
 use Rattle.spv_ops.specs.declared.Terminator.{Terminator}
@@ -10,18 +10,54 @@ use Rattle.spv_index.specs.Locals.{block_in}
 use Rattle.op_semantics.specs.Component.{each_one}
 use Rattle.traces.specs.Events as event
 use Rattle.traces.specs.Events.{updating}
-use Rattle.traces.specs.Runs.{Move, Act, goes, asks, fails, move, Supplied, step_of}
+use Rattle.traces.specs.Events.{Event, event_of}
+use Rattle.traces.specs.Runs.{Act, goes, asks, stops, fails, go, told, before, after, exec, Supplied, supplied, step_of}
+use Rattle.traces.specs.Runs as runs
 use Rattle.module_semantics.specs.Setting.{Setting}
 use Rattle.module_semantics.specs.State.{value, pointer, own, Frame, Conf}
 use Rattle.module_semantics.specs.Memory.{location, elements}
 use Rattle.module_semantics.specs.Operands.{value_at, word_at, pointer_at, Target, arg}
 use Rattle.module_semantics.specs.Accesses.{seen}
+pub use Rattle.agree_law.specs.Answers.{machine}
+use Rattle.agree_law.specs.Answers.{are_words, AreWorded, told_words, move}
 use Rattle.agree_law.specs.Blocks.{measured}
 use Rattle.module_semantics.specs.Steps.{StepKind, step_kind, step_by, act, act_on, with_some, advanced, set, set_value, set_found, atomic_step, atomic_operation, atomic_operands, length_step, variable_step, memory_barrier_step, control_barrier_step, memory_barriers, computed, operation_step, load_step, load_from, store_step, store_to, edge_step, branch_step, target_label, phis, phi_value, present_label, gone_to, return_step, return_value_step, given, given_to}
 
--- the machine
-abbrev pub machine : Setting → Supplied Conf → Move (Supplied Conf)
-machine s = step_of (act s)
+-- a step of it is one of the module's
+pub machine_steps : (s : Setting) (c d : Supplied Conf) (e : List Event) → machine s c ≡ go e d → step_of (act s) c ≡ go e d
+machine_steps s c d e is = by_act (act s c.at) c.answers is
+  where
+    by_act : (a : Act Conf) (answers : List (List ℕ)) → move a answers ≡ go e d → runs.move a answers ≡ go e d
+    by_act (goes x f) answers is = is
+    by_act (asks a f) [] is = cc
+    by_act (asks a f) (words ∷ more) is = by_told (are_words words) is
+      where
+        by_told : (b : Bool) → told_words b a f words more ≡ go e d → told (event_of a words) (f words) more ≡ go e d
+        by_told true is = is
+        by_told false is = cc
+    by_act stops answers is = cc
+    by_act fails answers is = cc
+
+-- and where all answers are words it runs as the module
+pub machine_runs : (s : Setting) (n : ℕ) (c : Supplied Conf) → AreWorded c.answers → exec (machine s) n c ≡ exec (step_of (act s)) n c
+machine_runs s zero c worded = refl
+machine_runs s (suc n) c worded = by_act (act s c.at) c.answers worded (machine_runs s n)
+  where
+    Later : Type 0
+    Later = (d : Supplied Conf) → AreWorded d.answers → exec (machine s) n d ≡ exec (step_of (act s)) n d
+
+    by_event : (o : Option Event) (f : Conf) (more : List (List ℕ)) → AreWorded more → Later → after (told o f more) (exec (machine s) n) ≡ after (told o f more) (exec (step_of (act s)) n)
+    by_event None f more worded later = refl
+    by_event (Some x) f more worded later = ap (before (x ∷ [])) (later (supplied f more) worded)
+
+    by_act : (a : Act Conf) (answers : List (List ℕ)) → AreWorded answers → Later → after (move a answers) (exec (machine s) n) ≡ after (runs.move a answers) (exec (step_of (act s)) n)
+    by_act (goes e f) answers worded later = ap (before e) (later (supplied f answers) worded)
+    by_act (asks a f) [] worded later = refl
+    by_act (asks a f) (words ∷ more) worded later =
+        ap (λ (b : Bool). after (told_words b a f words more) (exec (machine s) n)) worded.0
+        ∙ by_event (event_of a words) (f words) more worded.1 later
+    by_act stops answers worded later = refl
+    by_act fails answers worded later = refl
 
 -- the instruction that is next
 pub step_is : (s : Setting) (c : Supplied Conf) (i : Inst) (rest : List Inst) → c.at.top.rest ≡ i ∷ rest → machine s c ≡ move (step_by (step_kind i.op) s c.at rest i) c.answers

@@ -7,7 +7,7 @@ use Rattle.spv_module.specs.declared.inst.Inst.{Inst}
 use Rattle.spv_module.specs.declared.inst.Function.{Function}
 use Rattle.spv_types.specs.Tree.{ValueTree, truth}
 use Rattle.spv_index.specs.Locals.{block_in}
-use Rattle.traces.specs.Runs.{Act, move, go, wrong, Supplied, supplied}
+use Rattle.traces.specs.Runs.{Act, go, wrong, Supplied, supplied}
 use Rattle.traces.specs.Outcomes.{returns, Result, got}
 use Rattle.traces.specs.Simulation.{Follows}
 use Rattle.traces.proofs.Moves.{Never, stays, fails_now}
@@ -21,6 +21,7 @@ use Rattle.glsl_semantics.specs.States.{State}
 use Rattle.glsl_semantics.specs.Expressions.{Program, Argument, evaluate}
 use Rattle.glsl_semantics.specs.Statements.{Run, stmt_run}
 use Rattle.region_law.proofs.Regions.{names_of}
+use Rattle.agree_law.specs.Answers.{move}
 use Rattle.agree_law.specs.Agree.{Naming}
 use Rattle.agree_law.specs.Evaluates.{IsKept}
 use Rattle.agree_law.specs.Points.{Body, GivesBy, Stops, Arrives, Returns}

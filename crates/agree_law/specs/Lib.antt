@@ -1,5 +1,6 @@
 pub mod Own
 pub mod Agree
+pub mod Answers
 pub mod Points
 pub mod Blocks
 pub mod Evaluates

@@ -13,7 +13,7 @@ use Rattle.expr_forward.specs.Scope.{Scope, Argument, globals, inst_at, type_of}
 use Rattle.expr_forward.specs.Paths.{word_at, further, part_steps}
 use Rattle.expr_forward.specs.Kinds.{operation_kind_of}
 use Rattle.expr_forward.specs.Values.{variable, argument, value_words, literal_words, operation_text, by_kind, expression, forwarded, by_form, value_in, value}
-use Rattle.block_law.specs.Ranked.{ids_by_kind, operand_ids, AreBelow, IsForwardedBy, IsRanked}
+use Rattle.block_law.specs.Ranked.{ids_by_kind, operand_ids, AreUsableBelow, IsForwardedBy, IsRanked}
 
 -- two ways to write values agree on these
 abbrev AreSame : (ℕ → Expr) → (ℕ → Expr) → List ℕ → Type 0
@@ -50,27 +50,27 @@ module _ (w : Scope) (f g : ℕ → Expr) where
   expression_is : (block : ℕ) (i : Inst) → AreSame f g (operand_ids i) → expression w f block i ≡ expression w g block i
   expression_is block i same = kind_is block i (operation_kind_of i.op) same
 
-module _ (w : Scope) (rank : ℕ → ℕ) (ranked : IsRanked w rank) (block : ℕ) where
-  all_same : (d e n : ℕ) (ids : List ℕ) → n ≤ d → n ≤ e → AreBelow rank n ids → ((id : ℕ) → rank id < d → rank id < e → value_in w block d id ≡ value_in w block e id) → AreSame (value_in w block d) (value_in w block e) ids
+module _ (w : Scope) (IsUsable : ℕ → Type 0) (rank : ℕ → ℕ) (ranked : IsRanked w IsUsable rank) (block : ℕ) where
+  abbrev Each : ℕ → ℕ → Type 0
+  Each d e = (id : ℕ) → IsUsable id → rank id < d → rank id < e → value_in w block d id ≡ value_in w block e id
+
+  all_same : (d e n : ℕ) (ids : List ℕ) → n ≤ d → n ≤ e → AreUsableBelow IsUsable rank n ids → Each d e → AreSame (value_in w block d) (value_in w block e) ids
   all_same d e n [] p q below each = tt
   all_same d e n (id ∷ ids) p q below each =
-      let less = below.0 in
-      (each id (omega (arith, less, p)) (omega (arith, less, q)), all_same d e n ids p q below.1 each)
-
-  abbrev Each : ℕ → ℕ → Type 0
-  Each d e = (id : ℕ) → rank id < d → rank id < e → value_in w block d id ≡ value_in w block e id
+      let less = below.1 in
+      (each id below.0 (omega (arith, less, p)) (omega (arith, less, q)), all_same d e n ids p q below.2 each)
 
   -- how deep it may stand does not matter, where it is deep enough
-  steady : (d e n : ℕ) → rank n < d → rank n < e → value_in w block d n ≡ value_in w block e n
+  steady : (d e n : ℕ) → IsUsable n → rank n < d → rank n < e → value_in w block d n ≡ value_in w block e n
   unfolding value_in
-  steady zero e n p q = absurd (omega (arith, p))
-  steady (suc d) zero n p q = absurd (omega (arith, q))
-  steady (suc d) (suc e) n p q = by_global (w.setting.global n) refl (steady d e)
+  steady zero e n usable p q = absurd (omega (arith, p))
+  steady (suc d) zero n usable p q = absurd (omega (arith, q))
+  steady (suc d) (suc e) n usable p q = by_global (w.setting.global n) refl (steady d e)
     where
       by_inst : (o : Option Inst) → w.setting.global n ≡ None → w.form n ≡ Forwarded → inst_at w n ≡ o → Each d e → forwarded w (value_in w block d) block n o ≡ forwarded w (value_in w block e) block n o
       by_inst None local form there each = refl
       by_inst (Some i) local form there each =
-          expression_is w (value_in w block d) (value_in w block e) block i (all_same d e (rank n) (operand_ids i) (omega (arith, p)) (omega (arith, q)) (ranked.falls n i (record { local = local; form = form; there = there })) each)
+          expression_is w (value_in w block d) (value_in w block e) block i (all_same d e (rank n) (operand_ids i) (omega (arith, p)) (omega (arith, q)) (ranked.falls n i usable (record { local = local; form = form; there = there })) each)
 
       by_the_form : (x : Form) → w.setting.global n ≡ None → w.form n ≡ x → Each d e → by_form w (value_in w block d) block n x ≡ by_form w (value_in w block e) block n x
       by_the_form Forwarded local form each = by_inst (inst_at w n) local form refl each
@@ -82,16 +82,17 @@ module _ (w : Scope) (rank : ℕ → ℕ) (ranked : IsRanked w rank) (block : �
       by_global (Some x) is each = refl
       by_global None is each = by_the_form (w.form n) is refl each
 
-  -- a value that has no variable is written as its operation
-  pub written_as : (n : ℕ) (i : Inst) → IsForwardedBy w n i → value w block n ≡ expression w (value w block) block i
+  -- a usable value that has no variable is written as its operation
+  pub written_as : (n : ℕ) (i : Inst) → IsUsable n → IsForwardedBy w n i → value w block n ≡ expression w (value w block) block i
   unfolding value_in
-  written_as n i by =
+  written_as n i usable by =
       let low = ranked.low n in
       ap (λ (o : Option Expr). unwrap_or o (by_form w (value_in w block 16) block n (w.form n))) by.local
       ∙ (ap (by_form w (value_in w block 16) block n) by.form
       ∙ (ap (forwarded w (value_in w block 16) block n) by.there
-      ∙ expression_is w (value_in w block 16) (value_in w block 17) block i (all_same 16 17 (rank n) (operand_ids i) low (omega (arith, low)) (ranked.falls n i by) (λ id less more. steady 16 17 id less more))))
+      ∙ expression_is w (value_in w block 16) (value_in w block 17) block i (all_same 16 17 (rank n) (operand_ids i) low (omega (arith, low)) (ranked.falls n i usable by) (λ id is less more. steady 16 17 id is less more))))
 
+module _ (w : Scope) (block : ℕ) where
   -- and one that has a variable, by its name
   pub written_by_name : (n : ℕ) → w.setting.global n ≡ None → ((w.form n ≡ Forwarded) → ⊥) → value w block n ≡ variable w n
   unfolding value_in

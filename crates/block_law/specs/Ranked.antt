@@ -34,7 +34,12 @@ pub record IsForwardedBy (w : Scope) (n : ℕ) (i : Inst) : Type 0 where
   pub form : w.form n ≡ Forwarded
   pub there : inst_at w n ≡ Some i
 
--- what stands in the expression of a value has a lower rank, and no value has a rank above 16
-pub record IsRanked (w : Scope) (rank : ℕ → ℕ) : Type 0 where
-  pub falls : (n : ℕ) (i : Inst) → IsForwardedBy w n i → AreBelow rank (rank n) (operand_ids i)
+-- each is usable and has a lower rank
+abbrev pub AreUsableBelow : (ℕ → Type 0) → (ℕ → ℕ) → ℕ → List ℕ → Type 0
+AreUsableBelow IsUsable rank n [] = Unit {0}
+AreUsableBelow IsUsable rank n (id ∷ ids) = IsUsable id × (rank id < n) × AreUsableBelow IsUsable rank n ids
+
+-- what stands in the expression of a usable value is usable and has a lower rank, and no value has a rank above 16
+pub record IsRanked (w : Scope) (IsUsable : ℕ → Type 0) (rank : ℕ → ℕ) : Type 0 where
+  pub falls : (n : ℕ) (i : Inst) → IsUsable n → IsForwardedBy w n i → AreUsableBelow IsUsable rank (rank n) (operand_ids i)
   pub low : (n : ℕ) → rank n ≤ 16

@@ -12,7 +12,7 @@ use Rattle.op_semantics.specs.Component.{each_one}
 use Rattle.op_semantics.specs.Composite.{extracted, inserted}
 use Rattle.profile_rules.specs.Entry.{function_of}
 use Rattle.traces.specs.Events.{Event, event_of, control_barrier}
-use Rattle.traces.specs.Runs.{go, told, Act, goes, asks, stops, fails, move, Supplied, supplied}
+use Rattle.traces.specs.Runs.{go, told, Act, goes, asks, stops, fails, Supplied, supplied}
 use Rattle.module_semantics.specs.Setting.{Setting}
 use Rattle.module_semantics.specs.Memory.{shape_along, are_allowed, elements}
 use Rattle.module_semantics.specs.State.{Root, global, own, lent, value, Frame, Conf, put, call_at, with_call, with_variable}
@@ -23,6 +23,7 @@ use Rattle.module_semantics.specs.Steps.{with_some, advanced, set_value, compute
 use Rattle.agree_law.proofs.Stores.{length_with}
 use Rattle.agree_law.proofs.Machine.{machine}
 use Rattle.call_law.specs.Frames.{Waits, AllWait, HoldsOfAll, ActKeeps, makes_pointer, IsClosed}
+use Rattle.agree_law.specs.Answers.{are_words, told_words, move}
 
 some_same : {A : Type 0} (a b : A) → Some a ≡ Some b → a ≡ b
 some_same a b e = cc
@@ -201,6 +202,10 @@ module _ (h : ℕ) (J : List (Frame × ℕ) → Frame → Type 0) (s : Setting) 
       by_act : (a : Act Conf) → Keeps a → (answers : List (List ℕ)) → move a answers ≡ go e d → Inv d.at
       by_act (goes x f) there answers is = to f answers there (let same : supplied f answers ≡ d = cc in same)
       by_act (asks a f) there [] is = cc
-      by_act (asks a f) there (words ∷ more) is = by_event (event_of a words) (f words) more (there words) is
+      by_act (asks a f) there (words ∷ more) is = by_words (are_words words) is
+        where
+          by_words : (b : Bool) → told_words b a f words more ≡ go e d → Inv d.at
+          by_words true is = by_event (event_of a words) (f words) more (there words) is
+          by_words false is = cc
       by_act stops there answers is = cc
       by_act fails there answers is = cc

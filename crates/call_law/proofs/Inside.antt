@@ -14,7 +14,7 @@ use Rattle.op_semantics.specs.Component.{each_one}
 use Rattle.op_semantics.specs.Composite.{extracted, inserted}
 use Rattle.profile_rules.specs.Entry.{function_of}
 use Rattle.traces.specs.Events.{Event, event_of, control_barrier}
-use Rattle.traces.specs.Runs.{go, told, Act, goes, asks, stops, fails, move, Supplied, supplied}
+use Rattle.traces.specs.Runs.{go, told, Act, goes, asks, stops, fails, Supplied, supplied}
 use Rattle.module_semantics.specs.Setting.{Setting, global_variable}
 use Rattle.module_semantics.specs.Memory.{shape_along, are_allowed, elements}
 use Rattle.module_semantics.specs.State.{Root, global, own, lent, Held, value, pointer, Frame, Conf, put, call_at, with_call, with_variable}
@@ -23,6 +23,7 @@ use Rattle.module_semantics.specs.Accesses.{seen, kept, keeping, with_lent}
 use Rattle.module_semantics.specs.Steps as the
 use Rattle.module_semantics.specs.Steps.{with_some, advanced, set, set_value, computed, operation_step, base, without_based, is_based_on, lead_if, chain_step, length_step, variable_step, read_shape, load_from, load_step, store_to, store_step, atomic_operands, set_found, atomic_step, memory_barriers, memory_barrier_step, control_barrier_step, phis, passed, argument_of, entered, called, call_step, return_step, given_to, return_value_step, target_label, phi_value, with_phis, present_label, edge_step, branch_step, StepKind, step_kind, step_by, act_on, act}
 use Rattle.fits_law.proofs.Operations.{before_some}
+use Rattle.agree_law.specs.Answers.{are_words, told_words, move}
 use Rattle.agree_law.specs.Agree.{IfPointer}
 use Rattle.agree_law.proofs.Machine.{machine}
 use Rattle.call_law.specs.Waits.{IsAsBefore, Wait, IsWithin, FrameWithin, Within, IsInside, ActInside}
@@ -331,7 +332,11 @@ module _ (s : Setting) (IsLent : ℕ → ℕ → Type 0) (start : List (Frame ×
           let stays : length start ≤ length f.below = subst (λ (q : Supplied Conf). length start ≤ length q.at.below) same le in
           absurd (omega (arith, out, stays))
       by_act (asks a f) there [] is = cc
-      by_act (asks a f) there (words ∷ more) is = by_event (event_of a words) (f words) more (there words) is
+      by_act (asks a f) there (words ∷ more) is = by_words (are_words words) is
+        where
+          by_words : (b : Bool) → told_words b a f words more ≡ go e d → IsInside IsLent start d.at
+          by_words true is = by_event (event_of a words) (f words) more (there words) is
+          by_words false is = cc
       by_act stops there answers is = cc
       by_act fails there answers is = cc
 

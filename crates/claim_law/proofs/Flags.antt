@@ -25,7 +25,7 @@ use Rattle.unit_rules.specs.Unit.{source_of, called, IsUnitOf}
 use Rattle.claim_law.specs.Claimed.{IsIn, HasName}
 use Rattle.agree_law.specs.Agree.{Naming as Names, IsOther}
 use Rattle.name_alloc.specs.Law.{AreNames}
-use Rattle.claim_law.specs.Apart.{AreOfKeys, is_flow, IsFlow}
+use Rattle.claim_law.specs.Apart.{AreOfKeys, IsFlow}
 use Rattle.claim_law.specs.Told.{told}
 use Rattle.claim_law.proofs.Named.{again_named, leave_named, fell_named}
 use Rattle.claim_law.proofs.Told.{named_is}
@@ -79,32 +79,45 @@ module _ (m : ModuleState) (o : Options) (unit : TranslationUnit) (u : IsUnitOf 
   function_is : written p ≡ planned.0
   function_is = ap (λ w. w.setting.function) planned.1.scope_is
 
-  flag_is : (flag : ℕ → Bool) (make : IdOf → Key) (test : ℕ → Bool) → ((b : ℕ) → flag b ≡ is_among (blocks_that test (graph planned.0)) b)
-      → ((b : ℕ) (block : Block) → slice_get (written p).blocks b ≡ Some block → flag b ≡ true → HasName found (make block.label)) → ((l : IdOf) → is_flow (make l) ≡ true)
-      → (b : ℕ) (x : Text) → when (flag b) (p.scope.setting.key (make (label_of p b))) ≡ Some x → IsFlow found x
-  flag_is flag make test flags_are named flow b x is = by_flag (flag b) refl is
+  -- the name is that of the flag's key, of a block of the function
+  abbrev pub IsOfFlag : (IdOf → Key) → ℕ → Text → Type 0
+  IsOfFlag make b x = (b < length (written p).blocks) × (found (make (label_of p b)) ≡ Some x)
+
+  flag_key : (flag : ℕ → Bool) (make : IdOf → Key) (test : ℕ → Bool) → ((b : ℕ) → flag b ≡ is_among (blocks_that test (graph planned.0)) b)
+      → ((b : ℕ) (block : Block) → slice_get (written p).blocks b ≡ Some block → flag b ≡ true → HasName found (make block.label))
+      → (b : ℕ) (x : Text) → when (flag b) (p.scope.setting.key (make (label_of p b))) ≡ Some x → IsOfFlag make b x
+  flag_key flag make test flags_are named b x is = by_flag (flag b) refl is
     where
       same_text : (y : Text) → Some y ≡ Some x → y ≡ x
       same_text y e = cc
 
-      by_flag : (t : Bool) → flag b ≡ t → when t (p.scope.setting.key (make (label_of p b))) ≡ Some x → IsFlow found x
+      by_flag : (t : Bool) → flag b ≡ t → when t (p.scope.setting.key (make (label_of p b))) ≡ Some x → IsOfFlag make b x
       by_flag false off e = cc
       by_flag true on e =
           let inside : b < length (written p).blocks = subst (λ (f : Function). b < length f.blocks) (sym function_is) (passes_inside test planned.0 b (sym (flags_are b) ∙ on)) in
           let there = at_inside (written p).blocks b inside in
           let label : label_of p b ≡ there.0.label = ap (λ (y : Option Block). id (option_map_or (λ (block : Block). block.label.0) y 0)) there.1 in
           let has : HasName found (make (label_of p b)) = subst (λ (l : IdOf). HasName found (make l)) (sym label) (named b there.0 there.1 on) in
-          (make (label_of p b), flow (label_of p b), named_is found (make (label_of p b)) has ∙ ap (λ (y : Text). Some y) (sym (key_is (make (label_of p b))) ∙ same_text (p.scope.setting.key (make (label_of p b))) e))
+          (inside, named_is found (make (label_of p b)) has ∙ ap (λ (y : Text). Some y) (sym (key_is (make (label_of p b))) ∙ same_text (p.scope.setting.key (make (label_of p b))) e))
 
   -- the flags by which loops and case targets are written
+  pub again_key : (b : ℕ) (x : Text) → (blocks_of p).again b ≡ Some x → IsOfFlag Again b x
+  again_key = flag_key p.again Again (needs_again (graph planned.0)) planned.1.again_is (λ b block at on. again_named m o unit u p b block among at on)
+
+  pub leave_key : (b : ℕ) (x : Text) → (blocks_of p).leave b ≡ Some x → IsOfFlag Leave b x
+  leave_key = flag_key p.leave Leave (needs_leave (graph planned.0)) planned.1.leave_is (λ b block at on. leave_named m o unit u p b block among at on)
+
+  pub fell_key : (b : ℕ) (x : Text) → (blocks_of p).fell b ≡ Some x → IsOfFlag Fell b x
+  fell_key = flag_key p.fell Fell (needs_fell (graph planned.0) (phi_blocks p.scope.form planned.0)) planned.1.fell_is (λ b block at on. fell_named m o unit u p b block among at on)
+
   pub again_is_flow : (b : ℕ) (x : Text) → (blocks_of p).again b ≡ Some x → IsFlow found x
-  again_is_flow = flag_is p.again Again (needs_again (graph planned.0)) planned.1.again_is (λ b block at on. again_named m o unit u p b block among at on) (λ l. refl)
+  again_is_flow b x is = (Again (label_of p b), refl, (again_key b x is).1)
 
   pub leave_is_flow : (b : ℕ) (x : Text) → (blocks_of p).leave b ≡ Some x → IsFlow found x
-  leave_is_flow = flag_is p.leave Leave (needs_leave (graph planned.0)) planned.1.leave_is (λ b block at on. leave_named m o unit u p b block among at on) (λ l. refl)
+  leave_is_flow b x is = (Leave (label_of p b), refl, (leave_key b x is).1)
 
   pub fell_is_flow : (b : ℕ) (x : Text) → (blocks_of p).fell b ≡ Some x → IsFlow found x
-  fell_is_flow = flag_is p.fell Fell (needs_fell (graph planned.0) (phi_blocks p.scope.form planned.0)) planned.1.fell_is (λ b block at on. fell_named m o unit u p b block among at on) (λ l. refl)
+  fell_is_flow b x is = (Fell (label_of p b), refl, (fell_key b x is).1)
 
 -- such a name is told, and is none of the function's other names
 pub flow_told : (named : Key → Option Text) (x : Text) → IsFlow named x → (told named).value x

@@ -101,7 +101,7 @@ module _ (p : Program) (calls : Text → List Argument → State → Result (Opt
     pub typed_moves : AreTyped m names moves
     pub reads : AllReads m names (have_result (behind [] o.insts)) moves
     pub constants : ℕ → V
-    pub constants_say : (n : ℕ) (u : ValueTree) (c : Conf) (z : State) → constants n ≡ Some u → AgreeIn m (have_result (behind [] o.insts)) c z → evaluate p calls (names.constant n) z ≡ got [] (typed (m.shape n) u, z)
+    pub constants_say : (n : ℕ) (u : ValueTree) (c : Conf) (z : State) → names.is_constant n ≡ true → constants n ≡ Some u → AgreeIn m (have_result (behind [] o.insts)) c z → evaluate p calls (names.constant n) z ≡ got [] (typed (m.shape n) u, z)
     pub pairs : List Pair
     pub at_once : (st : Values V) → IsAtOnce V constants pairs st.vars (run V constants st moves).vars
     pub goes_to : Body f t

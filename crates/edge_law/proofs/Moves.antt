@@ -33,7 +33,7 @@ put_else : (n k : ℕ) (x : V) (f : ℕ → V) → (k ≡ n → ⊥) → put_by 
 put_else n k x f ne = elim (eqb_tells k n) [ inl e ↦ absurd (ne e.1) | inr e ↦ ap (λ b. cond b x (f n)) e.0 ]
 
 module _ (p : Program) (calls : Text → List Argument → State → Result (Option Typed × State)) (k : ℕ) (m : Naming) (apart : AreApart m) (done : ℕ → Bool) (e : EdgeNames) (spares : SparesApart m e) (types : (j : ℕ) → type_of p (e.spare_type j) ≡ Some (e.spare_shape j)) (constants : ℕ → V)
-    (constants_say : (n : ℕ) (u : ValueTree) (c : Conf) (z : State) → constants n ≡ Some u → AgreeIn m done c z → evaluate p calls (e.constant n) z ≡ got [] (typed (m.shape n) u, z)) (base : Conf) where
+    (constants_say : (n : ℕ) (u : ValueTree) (c : Conf) (z : State) → e.is_constant n ≡ true → constants n ≡ Some u → AgreeIn m done c z → evaluate p calls (e.constant n) z ≡ got [] (typed (m.shape n) u, z)) (base : Conf) where
   -- The state of the text has what the moves have: by the ids of a configuration that is like the module's but for what was set so far.
   pub record Follow (c : Conf) (st : Values V) (z : State) : Type 0 where
     pub agree : AgreeIn m done c z
@@ -54,7 +54,7 @@ module _ (p : Program) (calls : Text → List Argument → State → Result (Opt
 
   source_says : (c : Conf) (st : Values V) (z : State) → Follow c st z → (t : Shape) (src : Src) (u : ValueTree) → IsSource m e t src → IsRead m e done src → value_by V constants st.vars src ≡ Some u → evaluate p calls (source_text m e src) z ≡ got [] (typed t u, z)
   source_says c st z f t (Variable v) u type read has = subst (λ t. evaluate p calls (name (m.name v.0)) z ≡ got [] (typed t u, z)) type (name_says p calls z (m.name v.0) (m.shape v.0) u (var_found c st z f v.0 u read has))
-  source_says c st z f t (Constant n) u type read has = subst (λ t. evaluate p calls (e.constant n.0) z ≡ got [] (typed t u, z)) type (constants_say n.0 u c z has f.agree)
+  source_says c st z f t (Constant n) u type read has = subst (λ t. evaluate p calls (e.constant n.0) z ≡ got [] (typed t u, z)) type (constants_say n.0 u c z read has f.agree)
 
   -- fewer results are told of
   less_done : (n : ℕ) (c : Conf) (z : State) → AgreeIn m (with_done done n) c z → AgreeIn m done c z

@@ -12,12 +12,13 @@ use Rattle.glsl_ast.specs.Tree.{Text, TypeName, Expr, name, Stmt, declare, assig
 use Rattle.glsl_semantics.specs.Shapes.{Shape, same_shape}
 use Rattle.agree_law.specs.Agree.{Naming, IsOther}
 
--- the names and the types of the spares of an edge, and the expressions of constants
+-- the names and the types of the spares of an edge, and the expressions of the constants that its moves read
 pub record EdgeNames : Type 0 where
   pub spare : ℕ → Text
   pub spare_shape : ℕ → Shape
   pub spare_type : ℕ → TypeName
   pub constant : ℕ → Expr
+  pub is_constant : ℕ → Bool
 
 module _ (m : Naming) (e : EdgeNames) where
   -- a variable is given the value of another or of a constant; a spare is declared with the value of a variable; a variable is given that of a spare
@@ -44,11 +45,11 @@ module _ (m : Naming) (e : EdgeNames) where
   AreTyped [] = Unit {0}
   AreTyped (q ∷ qs) = IsTyped q × AreTyped qs
 
-  -- what is read are variables at the top of the function and those of the block, behind these results, and constants
+  -- what is read are variables at the top of the function and those of the block, behind these results, and these constants
   module _ (done : ℕ → Bool) where
     abbrev pub IsRead : Src → Type 0
     IsRead (Variable v) = (m.is_outer v.0 ≡ true) ⊎ ((m.is_local v.0 ≡ true) × (done v.0 ≡ true))
-    IsRead (Constant c) = Unit {0}
+    IsRead (Constant c) = e.is_constant c.0 ≡ true
 
     abbrev pub Reads : Move → Type 0
     Reads (Set v source) = IsRead source

@@ -5,7 +5,7 @@ use Rattle.spv_module.specs.declared.inst.Function.{Function}
 use Rattle.spv_types.specs.Tree.{ValueTree}
 use Rattle.op_semantics.specs.Component.{each_one}
 use Rattle.profile_rules.specs.Entry.{function_of}
-use Rattle.traces.specs.Runs.{Act, goes, fails, go, wrong, move, Supplied, supplied}
+use Rattle.traces.specs.Runs.{Act, goes, fails, go, wrong, Supplied, supplied}
 use Rattle.module_semantics.specs.Setting.{Setting}
 use Rattle.module_semantics.specs.State.{Held, value, Frame, Conf, put}
 use Rattle.module_semantics.specs.Operands.{held, arg}
@@ -19,6 +19,7 @@ use Rattle.call_law.proofs.LeftBehind.{waiting, call_begins}
 use Rattle.call_law.proofs.Again.{inside_again, inside_given}
 use Rattle.function_law.specs.UnderWay.{IsKnown, IsUnderWay, IsRuled}
 use Rattle.function_law.proofs.UnderWay.{known_kept}
+use Rattle.agree_law.specs.Answers.{move}
 
 call_goes : (s : Setting) (c : Conf) (rest : List Inst) (i : Inst) (g : Function) (hs : List Held) → function_of s.of.functions (arg i 0) ≡ Some g → each_one (held s c.top) (drop 1 i.args) ≡ Some hs → call_step s c rest i ≡ goes [] (called s c rest i g hs)
 unfolding call_step

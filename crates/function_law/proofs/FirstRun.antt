@@ -3,7 +3,7 @@ use Rattle.std.proofs.Common.{◌≡◌, ◌==◌, ◌++◌, ℕ, true, List, []
 use Rattle.std.specs.Prelude.{is_some, option_map, find}
 use Rattle.spv_module.specs.declared.inst.Id.{Id}
 use Rattle.spv_module.specs.declared.inst.Function.{Function}
-use Rattle.traces.specs.Runs.{ended, Run, exec, Act, stop, stops as act_stops, move, after, Supplied, supplied}
+use Rattle.traces.specs.Runs.{ended, Run, exec, Act, stop, stops as act_stops, after, Supplied, supplied}
 use Rattle.traces.specs.Outcomes.{events_of, normal, breaks, continues, returns, cut, waits, stuck, Result, got, then_get}
 use Rattle.traces.specs.Preservation.{TextRun, text_made, has_ended, MatchesOrFails}
 use Rattle.traces.specs.Simulation.{IsPrefix, Fails}
@@ -20,6 +20,7 @@ use Rattle.glsl_semantics.specs.Expressions.{Program, Argument}
 use Rattle.glsl_semantics.specs.Statements as statements
 use Rattle.glsl_semantics.specs.Statements.{stmts_run}
 use Rattle.glsl_semantics.specs.Run.{come_back, returned, function_run, ended_by}
+use Rattle.agree_law.specs.Answers.{move}
 use Rattle.agree_law.specs.Agree.{IfPointer}
 use Rattle.agree_law.specs.Evaluates.{as_outcome}
 use Rattle.agree_law.specs.Points.{GivesBy, Returns}

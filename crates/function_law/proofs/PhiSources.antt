@@ -57,7 +57,7 @@ label_found (x ∷ bs) k c id e = by_test (x.label.0 == id) (eqb_tells x.label.0
 
 module _ (f : Function) (b : ℕ) (from : Block) (there : slice_get f.blocks b ≡ Some from) (place : block_in f from.label.0 ≡ Some b) where
   -- a pair of a phi comes from the block where it has the block's label
-  comes_is : (n l : ℕ) → comes_from f b (n, l) ≡ (l == from.label.0)
+  pub comes_is : (n l : ℕ) → comes_from f b (n, l) ≡ (l == from.label.0)
   comes_is n l = by_label (eqb_tells l from.label.0)
     where
       found : Option ℕ → Bool

@@ -15,7 +15,8 @@ use Rattle.glsl_ast.specs.Tree.{Text, TypeName, stmts_in, Param, Decl, translati
 use Rattle.glsl_ast.specs.declared.items.Size.{Size}
 use Rattle.glsl_semantics.specs.Items.{Declared, declared_by}
 use Rattle.glsl_semantics.specs.Run.{function_run, calls_of, ended_by, run_if, text_run}
-use Rattle.agree_law.proofs.Machine.{machine}
+use Rattle.agree_law.specs.Answers.{AreWorded}
+use Rattle.agree_law.proofs.Machine.{machine, machine_runs}
 use Rattle.function_law.specs.UnderWay.{IsRuled}
 use Rattle.function_law.specs.Texts.{FunctionText, decl_of, IsText, AreOnceNames}
 use Rattle.function_law.specs.First.{IsFirst}
@@ -70,14 +71,14 @@ module _ (s : Setting) (More : Conf → Type 0) (ruled : IsRuled s More) (sizes 
         ∙ (ap (λ (o : Option TypeName). ended_by (function_run d.program k run.later o t.parameters (stmts_in t.statements) [] (record { frames = []; globals = d.globals; answers = answers }))) first.no_result
         ∙ ap (λ (qs : List Param). ended_by (function_run d.program k run.later None qs (stmts_in t.statements) [] (record { frames = []; globals = d.globals; answers = answers }))) first.none_written))))
 
-    pub unit_preserves : PreservesEvents (run_from s (start s) answers) (text_run (translation_unit sizes items) inv answers)
-    unit_preserves = elim (start_is s t.function unit.entry) [
+    pub unit_preserves : AreWorded answers → PreservesEvents (run_from s (start s) answers) (text_run (translation_unit sizes items) inv answers)
+    unit_preserves worded = elim (start_is s t.function unit.entry) [
       | inl there ↦ subst (λ o. PreservesEvents (run_from s o answers) (text_run (translation_unit sizes items) inv answers)) (sym there) (from_first (unit.first there))
       | inr none ↦ subst (λ o. PreservesEvents (run_from s o answers) (text_run (translation_unit sizes items) inv answers)) (sym none) (undefined_preserved (text_run (translation_unit sizes items) inv answers))
     ]
       where
         from_first : (d.is_stuck ≡ false) × IsFirst s More d.globals t → PreservesEvents (run_from s (Some (first_state s t.function)) answers) (text_run (translation_unit sizes items) inv answers)
-        from_first first = preserves_from (Supplied Conf) (machine s) (supplied (first_state s t.function) answers) (text_run (translation_unit sizes items) inv answers) (λ k.
+        from_first first = subst (λ (r : ℕ → Run). PreservesEvents r (text_run (translation_unit sizes items) inv answers)) (λ i n. machine_runs s n (supplied (first_state s t.function) answers) worded i) (preserves_from (Supplied Conf) (machine s) (supplied (first_state s t.function) answers) (text_run (translation_unit sizes items) inv answers) (λ k.
             let run : IsRun d.program k s More ruled (in_text d.program k s More ruled others ts) t = all_run d.program k s More ruled others ts unit.once (unit.known k) t unit.there in
             subst (MatchesOrFails (λ n. exec (machine s) n (supplied (first_state s t.function) answers)) k) (sym (text_is first.1 k run first.0))
-            (run_matches d.program k s More ruled d.globals t first.1 answers run.later run.IsFlag run.written))
+            (run_matches d.program k s More ruled d.globals t first.1 answers run.later run.IsFlag run.written)))

@@ -9,7 +9,7 @@ use Rattle.spv_types.specs.Tree.{ValueTree}
 use Rattle.op_semantics.specs.Component.{each_one}
 use Rattle.op_semantics.specs.Composite.{extracted}
 use Rattle.profile_rules.specs.Entry.{function_of}
-use Rattle.traces.specs.Runs.{go, Act, move, Supplied, supplied}
+use Rattle.traces.specs.Runs.{go, Act, Supplied, supplied}
 use Rattle.traces.specs.Outcomes.{Result}
 use Rattle.module_semantics.specs.Setting.{Setting}
 use Rattle.module_semantics.specs.State as module_state
@@ -21,6 +21,7 @@ use Rattle.glsl_semantics.specs.Shapes.{Typed, typed, same_shape}
 use Rattle.glsl_semantics.specs.States.{Variable, State, found}
 use Rattle.glsl_semantics.specs.Expressions.{Program, Argument}
 use Rattle.glsl_semantics.specs.Run.{last_value}
+use Rattle.agree_law.specs.Answers.{move}
 use Rattle.agree_law.specs.Agree.{Naming, AreApart, IsFar, variable_with, target_value, Agree}
 use Rattle.agree_law.specs.Blocks.{has_outcome, IsNew, Stands}
 use Rattle.agree_law.specs.Evaluates.{IsKept}

@@ -12,7 +12,7 @@ use Rattle.glsl_semantics.specs.States.{State}
 use Rattle.glsl_semantics.specs.Expressions.{Program, Argument, evaluate}
 use Rattle.glsl_semantics.specs.Statements.{is_case, is_selector}
 
-word_value : (o : Option ValueTree) (x : ℕ) → as_word o ≡ Some x → o ≡ Some (word x)
+pub word_value : (o : Option ValueTree) (x : ℕ) → as_word o ≡ Some x → o ≡ Some (word x)
 word_value None x e = cc
 word_value (Some (word w)) x e = let same : w ≡ x = cc in ap (λ w. Some (word w)) same
 word_value (Some (truth b)) x e = cc

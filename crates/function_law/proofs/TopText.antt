@@ -3,7 +3,7 @@ use Rattle.std.proofs.Common.{◌≡◌, ◌≢◌, ◌⊎◌, ◌++◌, ℕ, Bo
 use Rattle.spv_module.specs.declared.inst.Inst.{Inst}
 use Rattle.spv_module.specs.declared.inst.Function.{Function}
 use Rattle.spv_types.specs.Tree.{ValueTree}
-use Rattle.traces.specs.Runs.{Act, goes, move, Supplied, supplied}
+use Rattle.traces.specs.Runs.{Act, goes, Supplied, supplied}
 use Rattle.traces.specs.Outcomes.{normal, Result, got, or_stuck, then_do}
 use Rattle.traces.specs.Simulation.{Fails}
 use Rattle.traces.proofs.Moves.{begun_none, one_step, fails_now, fails_on}
@@ -18,6 +18,7 @@ use Rattle.glsl_semantics.specs.States.{Variable, Frame, State, found, has}
 use Rattle.glsl_semantics.specs.Expressions.{Program, Argument, type_of}
 use Rattle.glsl_semantics.specs.Statements.{Run, with_variable, stmt_run, stmts_run}
 use Rattle.region_law.proofs.Flags.{own_text, other_text}
+use Rattle.agree_law.specs.Answers.{move}
 use Rattle.agree_law.specs.Agree.{Naming, variable_with, as_value, value_of, IfPointer, IsFar, target_value, Agree}
 use Rattle.agree_law.specs.Blocks.{IsOf}
 use Rattle.agree_law.proofs.Machine.{machine, kind_is}

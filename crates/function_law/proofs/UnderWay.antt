@@ -1,15 +1,16 @@
 -- Each step of a module keeps what is known of its state; and what is known of the call under way, until that returns. So it is known of the caller again.
-use Rattle.std.proofs.Common.{◌≡◌, ℕ, List, [], ◌∷◌, length, Option, Some, None, refl, ◌∙◌, subst, arith}
+use Rattle.std.proofs.Common.{◌≡◌, ℕ, Bool, true, false, List, [], ◌∷◌, length, Option, Some, None, refl, ◌∙◌, subst, arith}
 use Rattle.spv_module.specs.declared.inst.Inst.{Inst}
 use Rattle.spv_module.specs.declared.inst.Function.{Function}
 use Rattle.traces.specs.Events.{Event, event_of}
-use Rattle.traces.specs.Runs.{go, told, Act, goes, asks, stops, fails, move, Supplied, supplied}
+use Rattle.traces.specs.Runs.{go, told, Act, goes, asks, stops, fails, Supplied, supplied}
 use Rattle.module_semantics.specs.Setting.{Setting}
 use Rattle.module_semantics.specs.State.{Held, Frame, Conf}
 use Rattle.module_semantics.specs.Steps.{step_kind, act}
 use Rattle.fits_law.specs.State.{ConfFits, ActFits}
 use Rattle.fits_law.specs.Typed.{IsTyped}
 use Rattle.fits_law.proofs.Steps.{fits_step}
+use Rattle.agree_law.specs.Answers.{are_words, told_words, move}
 use Rattle.agree_law.specs.Evaluates.{IsKept}
 use Rattle.agree_law.proofs.Machine.{machine}
 use Rattle.call_law.proofs.Inside.{inside_kept}
@@ -40,7 +41,11 @@ module _ (s : Setting) (More : Conf → Type 0) (ruled : IsRuled s More) where
       by_act : (a : Act Conf) → ActFits s a → (answers : List (List ℕ)) → move a answers ≡ go e d → ConfFits s d.at
       by_act (goes x f) there answers is = to f answers there (let same : supplied f answers ≡ d = cc in same)
       by_act (asks a f) there [] is = cc
-      by_act (asks a f) there (words ∷ more) is = by_event words f (event_of a words) more (there words) is
+      by_act (asks a f) there (words ∷ more) is = by_words (are_words words) is
+        where
+          by_words : (b : Bool) → told_words b a f words more ≡ go e d → ConfFits s d.at
+          by_words true is = by_event words f (event_of a words) more (there words) is
+          by_words false is = cc
       by_act stops there answers is = cc
       by_act fails there answers is = cc
 

@@ -56,7 +56,7 @@ module _ (p : Program) (calls : Text → List Argument → State → Result (Opt
     pub written : statements ≡ map (move_text m names) moves
     pub typed_moves : AreTyped m names moves
     pub reads : AllReads m names (have_result (behind [] o.insts)) moves
-    pub constants_say : (n : ℕ) (u : ValueTree) (c : Conf) (z : State) → s.constants n ≡ Some u → AgreeIn m (have_result (behind [] o.insts)) c z → evaluate p calls (names.constant n) z ≡ got [] (typed (m.shape n) u, z)
+    pub constants_say : (n : ℕ) (u : ValueTree) (c : Conf) (z : State) → names.is_constant n ≡ true → s.constants n ≡ Some u → AgreeIn m (have_result (behind [] o.insts)) c z → evaluate p calls (names.constant n) z ≡ got [] (typed (m.shape n) u, z)
     pub goes_to : Body f t
     pub there : body t ≡ Some goes_to
     pub phis_of : ArePhisOf m form f b goes_to.block

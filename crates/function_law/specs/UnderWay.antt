@@ -4,12 +4,13 @@ use Rattle.spv_module.specs.declared.inst.Inst.{Inst}
 use Rattle.spv_module.specs.declared.inst.Function.{Function}
 use Rattle.spv_index.specs.Locals.{insts_of}
 use Rattle.traces.specs.Events.{Event}
-use Rattle.traces.specs.Runs.{go, step_of, Supplied}
+use Rattle.traces.specs.Runs.{go, Supplied}
 use Rattle.module_semantics.specs.Setting.{Setting}
 use Rattle.module_semantics.specs.State.{Held, Frame, Conf}
-use Rattle.module_semantics.specs.Steps.{step_kind, act}
+use Rattle.module_semantics.specs.Steps.{step_kind}
 use Rattle.fits_law.specs.State.{ConfFits, ModuleFits}
 use Rattle.fits_law.specs.Typed.{IsTyped}
+use Rattle.agree_law.specs.Answers.{machine}
 use Rattle.agree_law.specs.Blocks.{IsOf}
 use Rattle.call_law.specs.Waits.{IsInside}
 use Rattle.call_law.specs.Frames.{HoldsOfAll}
@@ -36,4 +37,4 @@ module _ (s : Setting) (More : Conf → Type 0) where
     pub fits : ModuleFits s
     pub typed : (f : Function) → IsFunctionOf f s.of.functions → (i : Inst) → IsOf i (insts_of f) → IsTyped s f i (step_kind i.op)
     pub lends : LendsWhole s
-    pub more : (c d : Supplied Conf) (e : List Event) → step_of (act s) c ≡ go e d → More c.at → More d.at
+    pub more : (c d : Supplied Conf) (e : List Event) → machine s c ≡ go e d → More c.at → More d.at

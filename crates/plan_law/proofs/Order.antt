@@ -146,7 +146,7 @@ module _ (m : ModuleState) (f : Function) (n id : ℕ) where
       ap (λ o. is_some o || (is_some (typed j) && nat_lt j.at n)) (sym lacks_it) ∙ (ap (λ o. is_some (parameter_in f id) || option_map_or (λ (i : Inst). is_some (typed i) && nat_lt i.at n) o false) (sym is) ∙ there) in
       below_of j.at n (both_right (is_some (typed j)) (nat_lt j.at n) now)
 
-  before_of : (o : Op) (k : ℕ) (j : Inst) → is_value o k ≡ true → is_op o code.Phi ≡ false → IsOwn m f id → inst_in f id ≡ Some j → is_there_in m f n (need o k) id ≡ true → j.at < n
+  pub before_of : (o : Op) (k : ℕ) (j : Inst) → is_value o k ≡ true → is_op o code.Phi ≡ false → IsOwn m f id → inst_in f id ≡ Some j → is_there_in m f n (need o k) id ≡ true → j.at < n
   unfolding need
   before_of o k j value phi own is there =
       before_it j own.made is (before_by (takes_of o) k value (λ e. not_both (is_op o code.Phi) (phi_alone o e) phi) (in_function (need o k) own.inside there))

@@ -20,10 +20,11 @@ use Rattle.spv_module.specs.State.{ModuleState}
 use Rattle.spv_module.specs.declared.inst.Id.{Id}
 use Rattle.spv_module.specs.declared.inst.Inst.{Inst}
 use Rattle.spv_module.specs.declared.inst.Function.{Function}
+use Rattle.spv_types.specs.Tree.{Tree}
 use Rattle.spv_types.specs.Types.{type_tree}
 use Rattle.spv_decor.specs.Rows.{word}
 use Rattle.spv_index.specs.Locals.{insts_of, inst_in, parameter_in, typed, local_type, type_in}
-use Rattle.spv_index.specs.Pointers.{pointer, as_pointer, storage_class, pointee}
+use Rattle.spv_index.specs.Pointers.{pointer, as_pointer, storage_class, pointee, pointee_of}
 use Rattle.profile_rules.specs.declared.given.Given.{Given}
 use Rattle.profile_rules.specs.declared.needs.Need.TheVariants.{Callee, Value}
 use Rattle.profile_rules.specs.Operands.{need, first_or, is_there_in}
@@ -39,18 +40,19 @@ use Rattle.module_check.specs.Judged.{IsFine}
 use Rattle.module_check.specs.ReadFrom.{IsReadFrom}
 use Rattle.traces.specs.Events.{Event}
 use Rattle.traces.specs.Invocations.{Invocation}
-use Rattle.traces.specs.Runs.{go, step_of, Supplied}
+use Rattle.traces.specs.Runs.{go, Supplied}
 use Rattle.plan_law.specs.InOrder.{IsAmong}
 use Rattle.plan_law.proofs.Order.{found}
 use Rattle.module_semantics.specs.Setting.{Setting, setting, global_variable, as_variable}
 use Rattle.module_semantics.specs.State.{Conf}
 use Rattle.module_semantics.specs.Operands.{arg}
-use Rattle.module_semantics.specs.Steps.{chain, variable, call, step_kind, base, act}
+use Rattle.module_semantics.specs.Steps.{chain, variable, call, step_kind, base}
 use Rattle.fits_law.specs.State.{target_shape}
 use Rattle.fits_law.proofs.Steps.{named}
 use Rattle.type_law.specs.Shaped.{HasConstants}
 use Rattle.type_law.proofs.Vectors.{three_off}
 use Rattle.type_law.proofs.Chains.{chain_pointer}
+use Rattle.agree_law.specs.Answers.{machine}
 use Rattle.agree_law.specs.Blocks.{IsOf}
 use Rattle.call_law.specs.Known.{IsFunctionOf, ArePointersSo, is_parameter, LendsWhole}
 use Rattle.function_law.specs.UnderWay.{IsRuled}
@@ -95,7 +97,7 @@ chain_op code.AccessChain e = (refl, refl, refl, λ args k. from_zero k, λ k. r
 chain_op code.InBoundsAccessChain e = (refl, refl, refl, λ args k. from_zero k, λ k. refl, λ n le. omega (arith, le))
 chain_op o e = cc
 
-variable_op : (o : Op) → step_kind o ≡ variable → (is o code.Variable ≡ true) × (has_type o ≡ true)
+pub variable_op : (o : Op) → step_kind o ≡ variable → (is o code.Variable ≡ true) × (has_type o ≡ true)
 unfolding step_kind group_of shape number
 variable_op code.Variable e = (refl, refl)
 variable_op o e = cc
@@ -122,7 +124,7 @@ parameter_of (q ∷ ps) n e = by_test (q.0.0 == n) (eqb_tells q.0.0 n) e (λ res
     by_test false (inr w) e next = let p = next e in (p.0, inr p.1, p.2)
 
 -- a type that points
-class_there : (gs : List Inst) (ty : ℕ) (g : Inst) → global gs ty ≡ Some g → is g.op code.TypePointer ≡ true → is_some (storage_class gs ty) ≡ true
+pub class_there : (gs : List Inst) (ty : ℕ) (g : Inst) → global gs ty ≡ Some g → is g.op code.TypePointer ≡ true → is_some (storage_class gs ty) ≡ true
 class_there gs ty g at on = ap (λ o. is_some (option_map (λ (p : Inst). slice_index p.args 0) (option_and_then as_pointer o))) at ∙ ap (λ (b : Bool). is_some (option_map (λ (p : Inst). slice_index p.args 0) (if b then Some g else None))) on
 
 class_pointed : (gs : List Inst) (ty q : ℕ) → pointee gs ty ≡ Some q → is_some (storage_class gs ty) ≡ true
@@ -132,8 +134,15 @@ class_pointed gs ty q e = by_pointer (pointer gs ty) e
     by_pointer None e = cc
     by_pointer (Some p) e = refl
 
-pointer_by : (gs : List Inst) (f : Function) (id ty : ℕ) → type_in gs f id ≡ Some ty → is_some (storage_class gs ty) ≡ true → is_pointer gs f id ≡ true
+pub pointer_by : (gs : List Inst) (f : Function) (id ty : ℕ) → type_in gs f id ≡ Some ty → is_some (storage_class gs ty) ≡ true → is_pointer gs f id ≡ true
 pointer_by gs f id ty at there = ap (λ o. is_some (option_and_then (storage_class gs) o)) at ∙ there
+
+pointed_by : (gs : List Inst) (f : Function) (id q : ℕ) → pointee_of gs f id ≡ Some q → is_pointer gs f id ≡ true
+pointed_by gs f id q e = by_type (type_in gs f id) refl e
+  where
+    by_type : (o : Option ℕ) → type_in gs f id ≡ o → option_and_then (pointee gs) o ≡ Some q → is_pointer gs f id ≡ true
+    by_type None at e = cc
+    by_type (Some ty) at e = pointer_by gs f id ty at (class_pointed gs ty q e)
 
 module _ (s : Setting) (entry : Option (List ℕ)) (right : IsConforming s.of entry) (chosen : ℕ → Option ℕ) (have : HasConstants s chosen) where
   abbrev Gs : List Inst
@@ -197,14 +206,28 @@ module _ (s : Setting) (entry : Option (List ℕ)) (right : IsConforming s.of en
           let g = local_row s entry right f in_it i there (typed_some s entry right f in_it i there v.1) in
           own_class v.1 (class_there Gs i.ty g.0 g.1 (variable_type_is i.op g.0 v.0 g.2))
 
+      -- T6
+      chain_right : step_kind i.op ≡ chain → breaks_t6 Gs (type_in Gs f) i ≡ false
+      chain_right kind = ap (is_value_broken s.of (type_in Gs f) i) (sym (chain_op i.op kind).0) ∙ value_right s.of entry right f in_it i there
+
+      chain_typed : step_kind i.op ≡ chain → (k : ℕ) → k < length i.args → HasType s entry right f in_it (slice_index i.args k)
+      chain_typed kind k less = let o = chain_op i.op kind in operand_typed k less (o.3 i.args k) (o.4 k)
+
+      base_target : step_kind i.op ≡ chain → (q : ℕ) × (t : Tree) × (pointee_of Gs f (base i) ≡ Some q) × (type_tree Gs q ≡ Some t)
+      base_target kind =
+          let some = (chain_op i.op kind).5 (length i.args) ((inside s entry right f in_it).formed i there).least in
+          let parts = three_off (value_fails is_pointer_type Gs (type_in Gs f) (word i 0)) (list_any (value_fails is_int Gs (type_in Gs f)) (drop 1 i.args)) (leads_elsewhere Gs i.ty (option_and_then (storage_class Gs) (type_in Gs f (word i 0))) (chain_end Gs (type_in Gs f) i)) (chain_right kind) in
+          target_of s entry right f in_it (word i 0) (chain_typed kind 0 some) parts.0
+
+      pub base_pointer : step_kind i.op ≡ chain → is_pointer Gs f (base i) ≡ true
+      base_pointer kind = let q = base_target kind in pointed_by Gs f (base i) q.0 q.2
+
       chain_is : step_kind i.op ≡ chain → (is_own_memory f i.result ≡ false) × (is_pointer Gs f i.result ≡ true)
       chain_is kind =
           let o = chain_op i.op kind in
-          let some = o.5 (length i.args) ((inside s entry right f in_it).formed i there).least in
-          let each : (k : ℕ) → k < length i.args → HasType s entry right f in_it (slice_index i.args k) = λ k less. operand_typed k less (o.3 i.args k) (o.4 k) in
-          let off : breaks_t6 Gs (type_in Gs f) i ≡ false = ap (is_value_broken s.of (type_in Gs f) i) (sym o.0) ∙ value_right s.of entry right f in_it i there in
-          let parts = three_off (value_fails is_pointer_type Gs (type_in Gs f) (word i 0)) (list_any (value_fails is_int Gs (type_in Gs f)) (drop 1 i.args)) (leads_elsewhere Gs i.ty (option_and_then (storage_class Gs) (type_in Gs f (word i 0))) (chain_end Gs (type_in Gs f) i)) off in
-          let q = target_of s entry right f in_it (word i 0) (each 0 some) parts.0 in
+          let each = chain_typed kind in
+          let off = chain_right kind in
+          let q = base_target kind in
           let target : target_shape s f (base i) ≡ Some q.1 = ap (option_and_then (type_tree Gs)) q.2 ∙ q.3 in
           let points = chain_pointer s f i q.1 off (chain_types s entry right f in_it i there (drop 1 i.args) (dropped i.args each)) target in
           let g = local_row s entry right f in_it i there (typed_some s entry right f in_it i there o.1) in
@@ -255,7 +278,7 @@ module _ (s : Setting) (entry : Option (List ℕ)) (right : IsConforming s.of en
   }
 
   -- and of all that the law of functions asks of a module
-  pub is_ruled : (More : Conf → Type 0) → ((c d : Supplied Conf) (e : List Event) → step_of (act s) c ≡ go e d → More c.at → More d.at) → IsRuled s More
+  pub is_ruled : (More : Conf → Type 0) → ((c d : Supplied Conf) (e : List Event) → machine s c ≡ go e d → More c.at → More d.at) → IsRuled s More
   is_ruled More kept = record {
     fits = conforming_fits s entry right chosen have;
     typed = λ f is_one i there. is_typed s entry right chosen have f (contains_of s.of.functions f is_one) i (among_of (insts_of f) i there);
@@ -271,7 +294,7 @@ module _ (ws : List ℕ) (entry : Option (List ℕ)) (right : BreakNone ws entry
   pub conforming_lends : LendsWhole S
   conforming_lends = lends_whole S entry (conforms ws entry right) (chosen_word S.of.heads overrides inv.specialization) (λ id. refl)
 
-  pub conforming_ruled : (More : Conf → Type 0) → ((c d : Supplied Conf) (e : List Event) → step_of (act S) c ≡ go e d → More c.at → More d.at) → IsRuled S More
+  pub conforming_ruled : (More : Conf → Type 0) → ((c d : Supplied Conf) (e : List Event) → machine S c ≡ go e d → More c.at → More d.at) → IsRuled S More
   conforming_ruled More kept = is_ruled S entry (conforms ws entry right) (chosen_word S.of.heads overrides inv.specialization) (λ id. refl) More kept
 
 -- so is a module that was read from bytes and that the judges do not refuse
@@ -282,5 +305,5 @@ module _ (bytes : List ℕ) (m : ModuleState) (o : Options) (read : IsReadFrom b
   pub accepted_lends : LendsWhole A
   accepted_lends = lends_whole A o.entry (accepted_conforming bytes m o read fine) (chosen_word A.of.heads overrides inv.specialization) (λ id. refl)
 
-  pub accepted_ruled : (More : Conf → Type 0) → ((c d : Supplied Conf) (e : List Event) → step_of (act A) c ≡ go e d → More c.at → More d.at) → IsRuled A More
+  pub accepted_ruled : (More : Conf → Type 0) → ((c d : Supplied Conf) (e : List Event) → machine A c ≡ go e d → More c.at → More d.at) → IsRuled A More
   accepted_ruled More kept = is_ruled A o.entry (accepted_conforming bytes m o read fine) (chosen_word A.of.heads overrides inv.specialization) (λ id. refl) More kept

@@ -16,7 +16,7 @@ use Rattle.control_text.specs.declared.place.Place.{Place}
 use Rattle.control_text.specs.Statements.{Blocks, set_flag, declare_flag, flags, conditional, unless_fallen, groups_have_break, plain_block, leave_again, by_target, in_order, turn, inside_loop, inside_switch, leave_loop, edge_text, exit_text, entering, onward, entering_case, behind_switch, labels_text, fell_flags, loop_flags, loop_text, region_text, item_text, groups_text}
 use Rattle.spell_law.specs.Uses.{Words, UsesExpr}
 use Rattle.spell_law.specs.Statements.{UsesIfSome, UsesStmt, UseStmts, UseArms, EachStmt}
-use Rattle.spell_law.specs.Blocks.{AreMade, IsTarget, HasLabel, FitWords, IsHereAt, IsWhole, IsWholeItem, AreWhole}
+use Rattle.spell_law.specs.Blocks.{AreMade, IsTarget, HasLabel, FitWords, IsHereAt, IsEntered, GoesOn, IsWhole, IsWholeItem, AreWhole}
 use Rattle.spell_law.proofs.Statements.{both-stmts}
 use Rattle.spell_law.proofs.Sentences.{list-uses}
 
@@ -110,7 +110,7 @@ module _ (w : Blocks) where
       by_arm None some = cc
       by_arm (Some (text.group ls b)) some = refl
 
-module _ (W : Words) (w : Blocks) (IsHere : ℕ → Type 0) (Chooses : ℕ → Type 0) (made : AreMade W w IsHere Chooses) where
+module _ (W : Words) (w : Blocks) (IsHere : ℕ → Type 0) (Chooses : ℕ → Type 0) (Leads : ℕ → ℕ → Type 0) (made : AreMade W w IsHere Chooses Leads) where
   given-made : (o : Option Expr) → ((e : Expr) → o ≡ Some e → UsesExpr W e) → UsesIfSome W o
   given-made None each = tt
   given-made (Some e) each = each e refl
@@ -128,23 +128,23 @@ module _ (W : Words) (w : Blocks) (IsHere : ℕ → Type 0) (Chooses : ℕ → T
   edge-made p t Back = if-made W p.continues [] (text.again ∷ []) tt (tt, tt)
   edge-made p t Fall = flags-made W (λ flag. set_flag flag true ∷ []) (w.fell t) (made.fell t) (set-made W true)
 
-  exit-made : (p : Place) (e : Exit) → IsHereAt w IsHere Chooses e → EachStmt W (exit_text w p e)
-  exit-made p (Edge b t k) here = both-stmts W (w.copies b t) (edge_text w p t k) (made.copies b t here) (edge-made p t k)
+  exit-made : (p : Place) (e : Exit) → IsHereAt w IsHere Chooses Leads e → EachStmt W (exit_text w p e)
+  exit-made p (Edge b t k) here = both-stmts W (w.copies b t) (edge_text w p t k) (made.copies b t here.0 here.1) (edge-made p t k)
   exit-made p (Return b) here = (given-made (w.value b) (λ e is. made.value b e here is), tt)
   exit-made p (Lost b) here = tt
   exit-made p Closed here = tt
 
-  entering-made : (b t : ℕ) (r : Region) → IsHere b → EachStmt W (entering w b t r)
-  entering-made b t (ends e) here = tt
-  entering-made b t (item i r) here = made.copies b t here
+  entering-made : (b t : ℕ) (r : Region) → IsHere b → IsEntered w IsHere Chooses Leads b t r → EachStmt W (entering w b t r)
+  entering-made b t (ends e) here enters = tt
+  entering-made b t (item i r) here enters = made.copies b t here enters
 
-  onward-made : (i : Item) (r : Region) → IsWholeItem w IsHere Chooses i → EachStmt W (onward w (plain_block i) r)
-  onward-made (plain b) r here = entering-made b (w.target b 0) r here
-  onward-made (choose h x y) r here = tt
-  onward-made (loose h x y) r here = tt
-  onward-made (loop h x) r here = tt
-  onward-made (loop_on h z x) r here = tt
-  onward-made (switch h gs) r here = tt
+  onward-made : (i : Item) (r : Region) → IsWholeItem w IsHere Chooses Leads i → GoesOn w IsHere Chooses Leads i r → EachStmt W (onward w (plain_block i) r)
+  onward-made (plain b) r here on = entering-made b (w.target b 0) r here on
+  onward-made (choose h x y) r here on = tt
+  onward-made (loose h x y) r here on = tt
+  onward-made (loop h x) r here on = tt
+  onward-made (loop_on h z x) r here on = tt
+  onward-made (switch h gs) r here on = tt
 
   unless-made : (copies : List Stmt) (o : Option Text) → ((x : Text) → o ≡ Some x → W.value x) → EachStmt W copies → EachStmt W (unless_fallen copies o)
   unless-made copies None named p = p
@@ -177,12 +177,12 @@ module _ (W : Words) (w : Blocks) (IsHere : ℕ → Type 0) (Chooses : ℕ → T
   loop-made : (h : ℕ) (inside : List Stmt) → EachStmt W inside → EachStmt W (loop_text w h inside)
   loop-made h inside p = both-stmts W (loop_flags w h) (text.loop (stmts_in inside) ∷ []) (loops-made h) (list-uses W inside p, tt)
 
-  choice-made : (h : ℕ) (p : Place) (x y : Region) → IsHere h × Chooses h → EachStmt W (region_text w p x) → EachStmt W (region_text w p y)
+  choice-made : (h : ℕ) (p : Place) (x y : Region) → IsHere h × Chooses h → IsEntered w IsHere Chooses Leads h (w.target h 0) x × IsEntered w IsHere Chooses Leads h (w.target h 1) y → EachStmt W (region_text w p x) → EachStmt W (region_text w p y)
       → EachStmt W (w.statements h ++ (conditional (w.condition h) (entering w h (w.target h 0) x ++ region_text w p x) (entering w h (w.target h 1) y ++ region_text w p y) ∷ []))
-  choice-made h p x y here made_x made_y =
+  choice-made h p x y here enters made_x made_y =
       both-stmts W (w.statements h) _ (made.statements h here.0) (
-        conditional-made W (w.condition h) (entering w h (w.target h 0) x ++ region_text w p x) (entering w h (w.target h 1) y ++ region_text w p y) (made.condition h here.0 here.1) (both-stmts W (entering w h (w.target h 0) x) (region_text w p x) (entering-made h (w.target h 0) x here.0) made_x)
-            (both-stmts W (entering w h (w.target h 1) y) (region_text w p y) (entering-made h (w.target h 1) y here.0) made_y),
+        conditional-made W (w.condition h) (entering w h (w.target h 0) x ++ region_text w p x) (entering w h (w.target h 1) y ++ region_text w p y) (made.condition h here.0 here.1) (both-stmts W (entering w h (w.target h 0) x) (region_text w p x) (entering-made h (w.target h 0) x here.0 enters.0) made_x)
+            (both-stmts W (entering w h (w.target h 1) y) (region_text w p y) (entering-made h (w.target h 1) y here.0 enters.1) made_y),
         tt,
       )
 
@@ -198,7 +198,7 @@ module _ (W : Words) (w : Blocks) (IsHere : ℕ → Type 0) (Chooses : ℕ → T
   some-label h [] false (inr on) = cc
   some-label h (x ∷ words) default has = omega arith
 
-  switch-made : (h : ℕ) (p : Place) (gs : Groups) → IsWholeItem w IsHere Chooses (switch h gs) → AreMadeGroups W (groups_text w (inside_switch p) h gs) → EachStmt W (item_text w p (switch h gs))
+  switch-made : (h : ℕ) (p : Place) (gs : Groups) → IsWholeItem w IsHere Chooses Leads (switch h gs) → AreMadeGroups W (groups_text w (inside_switch p) h gs) → EachStmt W (item_text w p (switch h gs))
   switch-made h p gs whole groups =
       let arms : ℕ → Option text.Arm = by_target (groups_text w (inside_switch p) h gs) in
       let some : has_arms (arms_in (in_order (w.order h) arms)) ≡ true =
@@ -208,23 +208,23 @@ module _ (W : Words) (w : Blocks) (IsHere : ℕ → Type 0) (Chooses : ℕ → T
       ((made.condition h whole.0.0 whole.0.1, some, arms-made W (in_order (w.order h) arms) (in-order-made W (w.order h) arms (all-updated-made W (groups_text w (inside_switch p) h gs) (λ t. None) (λ t. tt) groups))), behind-made p (groups_have_break gs)))
 
   mutual
-    pub region-made : (p : Place) (r : Region) → IsWhole w IsHere Chooses r → EachStmt W (region_text w p r)
+    pub region-made : (p : Place) (r : Region) → IsWhole w IsHere Chooses Leads r → EachStmt W (region_text w p r)
     region-made p (ends e) whole = exit-made p e whole
-    region-made p (item i r) whole = both-stmts W (item_text w p i) (onward w (plain_block i) r ++ region_text w p r) (item-made p i whole.0) (both-stmts W (onward w (plain_block i) r) (region_text w p r) (onward-made i r whole.0) (region-made p r whole.1))
+    region-made p (item i r) whole = both-stmts W (item_text w p i) (onward w (plain_block i) r ++ region_text w p r) (item-made p i whole.0) (both-stmts W (onward w (plain_block i) r) (region_text w p r) (onward-made i r whole.0 whole.1) (region-made p r whole.2))
 
-    item-made : (p : Place) (i : Item) → IsWholeItem w IsHere Chooses i → EachStmt W (item_text w p i)
+    item-made : (p : Place) (i : Item) → IsWholeItem w IsHere Chooses Leads i → EachStmt W (item_text w p i)
     item-made p (plain b) whole = made.statements b whole
-    item-made p (choose h x y) whole = choice-made h p x y whole.0 (region-made p x whole.1) (region-made p y whole.2)
-    item-made p (loose h x y) whole = choice-made h p x y whole.0 (region-made p x whole.1) (region-made p y whole.2)
+    item-made p (choose h x y) whole = choice-made h p x y whole.0 whole.1 (region-made p x whole.2) (region-made p y whole.3)
+    item-made p (loose h x y) whole = choice-made h p x y whole.0 whole.1 (region-made p x whole.2) (region-made p y whole.3)
     item-made p (loop h x) whole = loop-made h (region_text w (inside_loop h false) x) (region-made (inside_loop h false) x whole)
     item-made p (loop_on h z x) whole =
         loop-made h (turn (w.again h) (region_text w (inside_loop h true) z) ++ region_text w (inside_loop h false) x)
         (both-stmts W (turn (w.again h) (region_text w (inside_loop h true) z)) (region_text w (inside_loop h false) x) (turn-made (w.again h) (region_text w (inside_loop h true) z) (made.again h) (region-made (inside_loop h true) z whole.0)) (region-made (inside_loop h false) x whole.1))
     item-made p (switch h gs) whole = switch-made h p gs whole (groups-made (inside_switch p) h gs whole.0.0 whole.2)
 
-    groups-made : (p : Place) (h : ℕ) (gs : Groups) → IsHere h → AreWhole w IsHere Chooses gs → AreMadeGroups W (groups_text w p h gs)
+    groups-made : (p : Place) (h : ℕ) (gs : Groups) → IsHere h → AreWhole w IsHere Chooses Leads h gs → AreMadeGroups W (groups_text w p h gs)
     groups-made p h none here whole = tt
     groups-made p h (group t labels default x gs) here whole = (
-      (some-label h labels default whole.0.0, words-made h labels default whole.0.1, list-uses W (entering_case w h t x ++ region_text w p x) (both-stmts W (entering_case w h t x) (region_text w p x) (unless-made (entering w h t x) (w.fell t) (made.fell t) (entering-made h t x here)) (region-made p x whole.1))),
-      groups-made p h gs here whole.2,
+      (some-label h labels default whole.0.0, words-made h labels default whole.0.1, list-uses W (entering_case w h t x ++ region_text w p x) (both-stmts W (entering_case w h t x) (region_text w p x) (unless-made (entering w h t x) (w.fell t) (made.fell t) (entering-made h t x here whole.1)) (region-made p x whole.2))),
+      groups-made p h gs here whole.3,
     )

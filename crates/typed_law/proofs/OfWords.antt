@@ -79,7 +79,7 @@ module _ (ws : List ℕ) (all : AreAllWords ws) (function : ℕ) (overrides : Li
       by_spec None = tt
       by_spec (Some n) = either_low (option_map word_given (given_to overrides n)) (inv.specialization n) (given_low overrides n given) (told.specialization n)
 
-  setting_of_words : IsSettingOfWords S
+  pub setting_of_words : IsSettingOfWords S
   setting_of_words = record { constants = constants_low S.of (chosen_word S.of.heads overrides inv.specialization) chosen_low global_low; told = told }
 
   pub words_at_start : (c : Conf) → start S ≡ Some c → IsStateOfWords c

@@ -66,7 +66,7 @@ unfolding shape
 room op.Nop = refl
 room o = refl
 
--- kinds of globals; these and parameters have results
+-- kinds of globals; these, functions and parameters have results
 abbrev pub is_global_kind : Kind → Bool
 is_global_kind Global = true
 is_global_kind Undef = true
@@ -78,6 +78,7 @@ has_own Global = true
 has_own Undef = true
 has_own Variable = true
 has_own Parameter = true
+has_own Opening_of = true
 has_own k = false
 
 own_global : (k : Kind) → is_global_kind k ≡ true → has_own k ≡ true
@@ -94,6 +95,12 @@ unfolding kind_of_op shape
 own_result None e = cc
 own_result (Some op.Undef) e = refl
 own_result (Some o) e = cc
+
+of_function : (o : Option Op) (w : ℕ → ℕ) → option_map_or kind_of_op o Other ≡ Opening_of → (if has_result (unwrap_or o op.Nop) then w (1 + count_of (has_type (unwrap_or o op.Nop))) else 0) ≡ w 2
+unfolding kind_of_op shape
+of_function None w e = cc
+of_function (Some op.Function) w e = refl
+of_function (Some o) w e = cc
 
 result_by_other : (k : Kind) (i : Inst) → (k ≡ Debug → ⊥) → result_by k i ≡ i.result
 result_by_other Debug i far = absurd (far refl)
@@ -401,6 +408,43 @@ module _ (ws : List ℕ) (entry : Option (List ℕ)) (right : BreakNone ws entry
   parameter_alone : (p q : Id × Id) → IsParameterMade ws (insts ws) p → IsParameterMade ws (insts ws) q → q.0.0 ≡ p.0.0 → q ≡ p
   parameter_alone p q w v same =
       sym v.2 ∙ ap (λ x. (id_of (word ws x 2), id_of (word ws x 1))) (same_one ws (insts ws) v.0 w.0 apart v.1 w.1 (parameter_some q v) (parameter_is q v ∙ same ∙ sym (parameter_is p w))) ∙ w.2
+
+  -- functions
+  function_result : (x : Inst1) → kind_of ws x ≡ Opening_of → (inst_of ws x).result ≡ word ws x 2
+  unfolding kind_of_opcode known
+  function_result x e = by_test ((x.opcode == number op.ExtInst) && is_import ws (word ws x 3)) e
+    where
+      by_test : (b : Bool) → (if b then Debug else kind_of_opcode x.opcode) ≡ Opening_of → (inst_of ws x).result ≡ word ws x 2
+      by_test true e = cc
+      by_test false e = of_function (op_of x.opcode) (word ws x) e
+
+  abbrev AreOutside : List Function → Type 0
+  AreOutside [] = Unit {0}
+  AreOutside (f ∷ fs) = (global (globals ws) f.id.0 ≡ None) × AreOutside fs
+
+  function_outside : (x : Inst1) → IsOne x (insts ws) → kind_of ws x ≡ Opening_of → global (globals ws) (word ws x 2) ≡ None
+  function_outside x one e = none_at (globals ws) (word ws x 2) (λ g g_in same.
+      let own : has_own (kind_of ws x) ≡ true = ap has_own e in
+      let x_is = result_is x (own_not_debug (kind_of ws x) own) ∙ function_result x e in
+      let y = global_made ws Outside (insts ws) g g_in in
+      let y_is = result_is y.0 (own_not_debug (kind_of ws y.0) (own_global (kind_of ws y.0) y.3)) ∙ ap (λ (i : Inst). i.result) y.2 in
+      let alone = same_one ws (insts ws) x y.0 apart one y.1 (own_some x one own) (x_is ∙ sym same ∙ sym y_is) in
+      never (ap is_global_kind (sym e) ∙ ap (λ z. is_global_kind (kind_of ws z)) alone ∙ y.3))
+    where
+      never : false ≡ true → ⊥
+      never e = cc
+
+  all_outside : (is : List Inst1) → ((x : Inst1) → IsOne x is → IsOne x (insts ws)) → AreOutside (functions_from ws is)
+  all_outside [] sub = tt
+  all_outside (x ∷ is) sub = by_kind (kind_of ws x) refl (all_outside is (λ y one. sub y (inr one)))
+    where
+      by_kind : (k : Kind) → kind_of ws x ≡ k → AreOutside (functions_from ws is) → AreOutside (with_function k (function ws x is) (functions_from ws is))
+      by_kind Opening_of e rest = (function_outside x (sub x (inl refl)) e, rest)
+      by_kind k e rest = rest
+
+  -- no function has the id of what stands outside of functions
+  pub functions_outside : (f : Function) → Contains (functions ws) f → global (globals ws) f.id.0 ≡ None
+  functions_outside f there = said_of (λ (g : Function). global (globals ws) g.id.0 ≡ None) AreOutside (λ g fs all. all) (functions ws) f (all_outside (insts ws) (λ x one. one)) there
 
   made_of : (f : Function) → Contains (functions ws) f → IsFunctionMade ws (insts ws) f
   made_of f there = said_of (IsFunctionMade ws (insts ws)) (AreFunctionsMade ws (insts ws)) (λ g fs all. all) (functions ws) f (functions_made ws (insts ws) (insts ws) (λ x one. one)) there
