@@ -48,7 +48,7 @@ use Rattle.naming_law.specs.Types.{IsTypeOfText, HasTypesOfText}
 use Rattle.naming_law.proofs.Alone.{are_alone}
 use Rattle.naming_law.proofs.Keys.{S, found, key as key_of, R, names, are_apart}
 
-each_found : (gs is : List Inst) → EachFound gs is → (g : Inst) → IsIn g is → global gs g.result ≡ Some g
+pub each_found : (gs is : List Inst) → EachFound gs is → (g : Inst) → IsIn g is → global gs g.result ≡ Some g
 each_found gs [] each g among = absurd among
 each_found gs (i ∷ is) each g (inl same) = subst (λ (x : Inst). global gs x.result ≡ Some x) same each.0
 each_found gs (i ∷ is) each g (inr among) = each_found gs is each.1 g among

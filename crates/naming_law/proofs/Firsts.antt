@@ -26,7 +26,7 @@ use Rattle.function_law.specs.Tops.{Top, IsOneOf, AreFirst}
 use Rattle.function_law.proofs.PlannedText.{variable_top, hoisted_top, index_top, variable_tops, hoisted_tops, index_tops}
 use Rattle.claim_law.specs.Claimed.{IsIn}
 use Rattle.naming_law.specs.Alone.{AreAlone}
-use Rattle.naming_law.specs.Declares.{AreVariables, HaveNoVariable, NoneDeclare, DeclaresFirst}
+use Rattle.formed_law.specs.Declares.{AreVariables, HaveNoVariable, NoneDeclare, DeclaresFirst}
 use Rattle.naming_law.proofs.Alone.{no_flip}
 use Rattle.naming_law.proofs.Keys.{S, names}
 use Rattle.naming_law.proofs.Tops.{of_filtered, of_mapped, of_either, of_flat, tops as tops_in}

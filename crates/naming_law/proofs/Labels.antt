@@ -86,7 +86,7 @@ label_of code.BranchConditional args label among = conditional_label args label 
 label_of code.Switch args label among = switch_label args label among
 label_of o args label among = absurd among
 
-found_among : (test : Inst → Bool) (is : List Inst) (i : Inst) → find test is ≡ Some i → IsIn i is
+pub found_among : (test : Inst → Bool) (is : List Inst) (i : Inst) → find test is ≡ Some i → IsIn i is
 found_among test [] i e = cc
 found_among test (x ∷ is) i e = by_test (test x) e (found_among test is i)
   where

@@ -1,11 +1,7 @@
-pub mod Formed
-pub mod Blocks
-pub mod Reach
-pub mod Traced
 pub mod Alone
 pub mod Keys
-pub mod Parameters
 pub mod Fine
+pub mod Functions
 pub mod Unit
 pub mod Insts
 pub mod Ends
@@ -15,6 +11,7 @@ pub mod Whole
 pub mod Accesses
 pub mod Tops
 pub mod Once
-pub mod Declares
 pub mod Firsts
 pub mod Labels
+pub mod Literals
+pub mod Planned

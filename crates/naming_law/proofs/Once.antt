@@ -248,7 +248,7 @@ module _ (m : ModuleState) (o : Options) (unit : TranslationUnit) (u : IsUnitOf 
       none true = refl
       none false = refl
 
-  a_value : (i : Inst) → IsIn i (insts_of f) → is_hoisted_in p.scope i ≡ true → (i.result ≡ 0 → ⊥) × (is_value m.globals i.ty ≡ true)
+  pub a_value : (i : Inst) → IsIn i (insts_of f) → is_hoisted_in p.scope i ≡ true → (i.result ≡ 0 → ⊥) × (is_value m.globals i.ty ≡ true)
   a_value i there on =
       let planned = planned_in m o unit u inv p among alone in
       let form_is : form (plan_scope (source_of m o u.entry) planned.0 planned.1.links) i.result ≡ Hoisted = sym (ap (λ (w : Scope). w.form i.result) planned.1.scope_is) ∙ hoisted_is (p.scope.form i.result) on in

@@ -31,10 +31,10 @@ use Rattle.agree_law.specs.Blocks.{IsOf}
 use Rattle.tree_law.specs.Written.{FlagsApart, IsWritten}
 use Rattle.typed_law.specs.Conforms.{IsFormed}
 use Rattle.function_law.proofs.TreeWays.{AreGroups}
-use Rattle.naming_law.specs.Formed.{IsFormedFunction}
+use Rattle.formed_law.specs.Formed.{IsFormedFunction}
 use Rattle.naming_law.specs.Ends.{term_by, is_lost_block, term_of}
 use Rattle.claim_law.proofs.Flags.{at_inside}
-use Rattle.naming_law.proofs.Blocks.{has_body}
+use Rattle.formed_law.proofs.Blocks.{has_body}
 use Rattle.naming_law.proofs.Ends.{least_of, targets_of}
 
 -- what passes a test, among numbers, is one of those that pass, and no other is
@@ -46,7 +46,7 @@ second_on : (a b : Bool) → b ≡ true → (a || b) ≡ true
 second_on true b on = refl
 second_on false b on = on
 
-among_that : (test : ℕ → Bool) (n from b : ℕ) → test b ≡ true → from ≤ b → b < from + n → is_among (filter test (range_with_len from n)) b ≡ true
+pub among_that : (test : ℕ → Bool) (n from b : ℕ) → test b ≡ true → from ≤ b → b < from + n → is_among (filter test (range_with_len from n)) b ≡ true
 among_that test zero from b on low high = absurd (omega (arith, low, high))
 among_that test (suc n) from b on low high = by_place (eqb_tells from b) (λ low high. among_that test n (from + 1) b on low high)
   where

@@ -27,7 +27,7 @@ use Rattle.claim_law.proofs.Flags.{planned_as}
 use Rattle.naming_law.specs.Names.{text_of_plan}
 use Rattle.naming_law.proofs.Keys.{S, found as names_found, key as key_of, R}
 
-map_joined : {A B : Type 0} (f : A → B) (xs ys : List A) → map f (xs ++ ys) ≡ map f xs ++ map f ys
+pub map_joined : {A B : Type 0} (f : A → B) (xs ys : List A) → map f (xs ++ ys) ≡ map f xs ++ map f ys
 map_joined f [] ys = refl
 map_joined f (x ∷ xs) ys = ap (λ l. f x ∷ l) (map_joined f xs ys)
 
@@ -153,7 +153,7 @@ module _ (m : ModuleState) (o : Options) (unit : TranslationUnit) (u : IsUnitOf 
         by_test true is = has_name_of m o unit u Main (main_claimed (source_of m o u.entry) (R m o unit u inv) (Plans m o unit u))
         by_test false other = function_named m o unit u p among other
 
-    named_so : found (function_key u.entry (written p).id) ≡ Some (function_name p.scope)
+    pub named_so : found (function_key u.entry (written p).id) ≡ Some (function_name p.scope)
     named_so = named_is found (function_key u.entry (written p).id) function_has ∙ ap (λ (x : Text). Some x) (sym name_is)
 
   names_differ : (p q : FunctionPlan) → IsIn p u.plans → IsIn q u.plans → (written p).id.0 ≢ (written q).id.0 → function_name p.scope ≢ function_name q.scope
@@ -163,7 +163,7 @@ module _ (m : ModuleState) (o : Options) (unit : TranslationUnit) (u : IsUnitOf 
       (function_space u.entry (written p).id ∙ sym (function_space u.entry (written q).id)) (named_so p one) (named_so q two ∙ ap (λ (x : Text). Some x) (sym same))))
 
   -- a plan in the order is one of the plans, with the number there
-  found_plan : (ps : List FunctionPlan) (n : IdOf) (p : FunctionPlan) → find (has_id n) ps ≡ Some p → IsIn p ps × ((written p).id.0 ≡ n.0)
+  pub found_plan : (ps : List FunctionPlan) (n : IdOf) (p : FunctionPlan) → find (has_id n) ps ≡ Some p → IsIn p ps × ((written p).id.0 ≡ n.0)
   found_plan [] n p e = cc
   found_plan (q ∷ ps) n p e = by_test (has_id n q) (eqb_tells (written q).id.0 n.0) e (found_plan ps n p)
     where

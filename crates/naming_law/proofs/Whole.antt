@@ -49,12 +49,12 @@ use Rattle.function_law.proofs.TreeWays.{none_out, begins_with, ways_lead}
 use Rattle.function_law.proofs.UnderWay.{way_kept}
 use Rattle.call_law.specs.Reached.{IsInReached}
 use Rattle.typed_law.specs.Conforms.{IsFormed}
-use Rattle.naming_law.specs.Formed.{IsFormedFunction}
-use Rattle.naming_law.specs.Traced.{IsReachedBlock, IsTraced}
+use Rattle.formed_law.specs.Formed.{IsFormedFunction}
+use Rattle.formed_law.specs.Traced.{IsReachedBlock, IsTraced}
 use Rattle.naming_law.specs.Ends.{term_of, HasLabels}
-use Rattle.naming_law.proofs.Blocks.{reached_body, has_body}
+use Rattle.formed_law.proofs.Blocks.{reached_body, has_body}
 use Rattle.naming_law.proofs.Ends.{ends_by}
-use Rattle.naming_law.proofs.Reach.{first_marked}
+use Rattle.formed_law.proofs.Reach.{first_marked}
 use Rattle.naming_law.proofs.Tree.{switch_exit, tree_written}
 use Rattle.naming_law.proofs.Written.{AreAsked, are_written}
 
@@ -76,7 +76,7 @@ module _ (p : Program) (calls : Text → List Argument → State → Result (Opt
   pub record IsKnownPlan : Type 1 where
     pub sound : IsSound (graph f)
     pub labels : HasLabels f
-    pub once : (b : ℕ) (block : Block) (i : Inst) → slice_get f.blocks b ≡ Some block → terminator block ≡ Some i → AreOnceWords (firsts (drop 2 i.args))
+    pub once : (b : ℕ) (block : Block) (i : Inst) → slice_get f.blocks b ≡ Some block → terminator block ≡ Some i → exit_of i.op ≡ Switch → AreOnceWords (firsts (drop 2 i.args))
     pub flags : FlagsApart (blocks_of plan)
     pub inside : (h : ℕ) → needs_leave (graph f) h ≡ true → h < length (graph f)
     pub says : AllSay p calls m (tops_of plan.scope m s f.blocks)
@@ -102,7 +102,7 @@ module _ (p : Program) (calls : Text → List Argument → State → Result (Opt
         by_args (a ∷ d ∷ words) at few =
             switch_of f h o.block o.last a d words o.there ended.0 exit at
             (λ label among. known.labels.there h o.block o.last o.there ended.0 label (subst (λ (x : Exit). In label (labels_by x o.last.args)) (sym exit) among))
-            (subst (λ (l : List ℕ). AreOnceWords (firsts (drop 2 l))) at (known.once h o.block o.last o.there ended.0))
+            (subst (λ (l : List ℕ). AreOnceWords (firsts (drop 2 l))) at (known.once h o.block o.last o.there ended.0 exit))
 
     -- So its text is written as the law asks.
     pub function_written : IsWritten p calls k s (IsTraced s) ruled m f IsFlag (body_text plan)

@@ -38,10 +38,10 @@ use Rattle.block_law.proofs.Blocks.{text_of, texts_are, condition_is, result_is}
 use Rattle.edge_law.proofs.Copies.{IsTaken, IsEdge, copies_follow}
 use Rattle.function_law.proofs.WholeEdges.{IsPlannedEdge, edge_whole}
 use Rattle.typed_law.specs.Conforms.{IsFormed}
-use Rattle.naming_law.specs.Formed.{IsFormedFunction}
-use Rattle.naming_law.specs.Traced.{IsReachedBlock}
+use Rattle.formed_law.specs.Formed.{IsFormedFunction}
+use Rattle.formed_law.specs.Traced.{IsReachedBlock}
 use Rattle.naming_law.specs.Ends.{term_of, HasLabels}
-use Rattle.naming_law.proofs.Blocks.{reached_body, has_body}
+use Rattle.formed_law.proofs.Blocks.{reached_body, has_body}
 use Rattle.naming_law.proofs.Ends.{ends_by, jumps_to, branches_to, table_kind, return_kind, lost_kind}
 use Rattle.naming_law.proofs.Insts.{AllAsk, all_follow}
 

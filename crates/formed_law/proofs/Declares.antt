@@ -21,8 +21,8 @@ use Rattle.spv_module.specs.Broken.{IsUnbroken}
 use Rattle.spv_module.specs.Lists.{with_inst, block_insts, block, with_block, blocks, function, with_function, functions_from, functions}
 use Rattle.profile_rules.specs.Places.{is_variable}
 use Rattle.call_law.specs.Known.{IsFunctionOf}
-use Rattle.naming_law.specs.Declares.{HaveNoVariable, NoneDeclare, IsSplit, DeclaresFirst}
-use Rattle.naming_law.proofs.Formed.{AreGood, good, inside}
+use Rattle.formed_law.specs.Declares.{HaveNoVariable, NoneDeclare, IsSplit, DeclaresFirst}
+use Rattle.formed_law.proofs.Formed.{AreGood, good, inside}
 
 abbrev is_variable_kind : Kind → Bool
 is_variable_kind Variable = true
@@ -39,7 +39,7 @@ variable_by None = refl
 variable_by (Some o) = variable_op o
 
 -- each instruction stands where it may, where the first of them stands at a place
-abbrev AreStanding : Place → List Kind → Type 0
+abbrev pub AreStanding : Place → List Kind → Type 0
 AreStanding p [] = Unit {0}
 AreStanding p (k ∷ ks) = (is_stray p k ≡ false) × AreStanding (after p k) ks
 
@@ -47,7 +47,7 @@ not_on : (b : Bool) → (b ≡ true → ⊥) → b ≡ false
 not_on false far = refl
 not_on true far = absurd (far refl)
 
-standing : (p : Place) (ks : List Kind) → ((k : ℕ) → k < length ks → is_stray (place_from p (take k ks)) (nth_kind ks k) ≡ true → ⊥) → AreStanding p ks
+pub standing : (p : Place) (ks : List Kind) → ((k : ℕ) → k < length ks → is_stray (place_from p (take k ks)) (nth_kind ks k) ≡ true → ⊥) → AreStanding p ks
 standing p [] far = tt
 standing p (x ∷ ks) far = (
   not_on (is_stray p x) (λ e. far 0 (let less : 0 < suc (length ks) = omega arith in less) e),

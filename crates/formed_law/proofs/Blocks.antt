@@ -15,7 +15,7 @@ use Rattle.module_semantics.specs.Steps.{is_phi, behind_phis}
 use Rattle.agree_law.specs.Blocks.{IsOf}
 use Rattle.agree_law.specs.Points.{Body}
 use Rattle.function_law.specs.Edges.{HaveNoPhi, ArePhisFirst}
-use Rattle.naming_law.specs.Formed.{ArePhis, ArePlain, IsEnded, IsFormedBlock, IsFormedFunction}
+use Rattle.formed_law.specs.Formed.{ArePhis, ArePlain, IsEnded, IsFormedBlock, IsFormedFunction}
 
 phi_no_end : (o : Op) → is o code.Phi ≡ true → is_terminator o ≡ false
 unfolding number

@@ -23,7 +23,7 @@ use Rattle.spv_module.specs.Lists.{with_inst, block_insts, block, with_block, bl
 use Rattle.plan_law.proofs.Listed.{map_length}
 use Rattle.module_semantics.specs.Steps.{is_phi}
 use Rattle.call_law.specs.Known.{IsFunctionOf}
-use Rattle.naming_law.specs.Formed.{IsEnded, IsFormedBlock, IsFormedFunction}
+use Rattle.formed_law.specs.Formed.{IsEnded, IsFormedBlock, IsFormedFunction}
 
 -- what kinds tell of opcodes
 abbrev is_phi_kind : Kind → Bool
