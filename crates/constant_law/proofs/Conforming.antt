@@ -21,6 +21,7 @@ use Rattle.spv_module.specs.declared.tree.Elem.{Elem}
 use Rattle.spv_module.specs.declared.tree.Elem.TheVariants as elem
 use Rattle.spv_types.specs.declared.kind.TypeKind.TheVariants as type_kinds
 use Rattle.spv_types.specs.Tree as plain
+use Rattle.spv_types.specs.Tree.{Tree}
 use Rattle.spv_types.specs.Types.{kind, elem_of, tree_by_kind, tree_before, tree_at, type_tree}
 use Rattle.spv_decor.specs.Rows.{word, is_same, key_by, key_of, has_key, first_row}
 use Rattle.spv_decor.specs.declared.target.Target.TheVariants.{SpecConstant}
@@ -94,23 +95,26 @@ found_only test (h ∷ rows) i there on few = by_test (test h) refl there few (�
 -- opcodes
 decorate_key : (o : Op) (i : Inst) (n d : ℕ) → option_map_or (λ other. is_same other (number code.Decorate, n, 0, d)) (key_by o i) false ≡ true → (is o code.Decorate ≡ true) × (word i 0 ≡ n) × (word i 1 ≡ d)
 unfolding number
-decorate_key code.Name i n d e = cc
-decorate_key code.MemberName i n d e = cc
-decorate_key code.MemberDecorate i n d e = cc
+decorate_key code.Name i n d e = clash (sym e)
+decorate_key code.MemberName i n d e = clash (sym e)
+decorate_key code.MemberDecorate i n d e = clash (sym e)
 decorate_key code.Decorate i n d e =
     let front = and_left ((number code.Decorate == number code.Decorate) && (word i 0 == n) && (0 == 0)) (word i 1 == d) e in
     let own = and_left ((number code.Decorate == number code.Decorate) && (word i 0 == n)) (0 == 0) front in
     (refl, number_is (word i 0) n (and_right (number code.Decorate == number code.Decorate) (word i 0 == n) own), number_is (word i 1) d (and_right ((number code.Decorate == number code.Decorate) && (word i 0 == n) && (0 == 0)) (word i 1 == d) e))
-decorate_key o i n d e = cc
+decorate_key o i n d e = clash (sym e)
 
 row_key : (i : Inst) (n d : ℕ) → has_key (number code.Decorate, n, 0, d) i ≡ true → (is i.op code.Decorate ≡ true) × (word i 0 ≡ n) × (word i 1 ≡ d)
 unfolding key_of
 row_key i n d e = decorate_key i.op i n d e
 
-misplaced_is : (m : ModuleState) (i : Inst) (o : Op) → is o code.Decorate ≡ true → is_misplaced_by m i o ≡ not (option_map_or (λ target. is_target m target (word i 0)) (target_of (word i 1)) false)
+decorate_op : (o : Op) → is o code.Decorate ≡ true → o ≡ code.Decorate
 unfolding number
-misplaced_is m i code.Decorate on = refl
-misplaced_is m i o on = cc
+decorate_op code.Decorate on = refl
+decorate_op o on = cc
+
+misplaced_is : (m : ModuleState) (i : Inst) (o : Op) → is o code.Decorate ≡ true → is_misplaced_by m i o ≡ not (option_map_or (λ target. is_target m target (word i 0)) (target_of (word i 1)) false)
+misplaced_is m i o on = ap (is_misplaced_by m i) (decorate_op o on)
 
 scalar_spec : (o : Op) → ((is o code.SpecConstantTrue) || (is o code.SpecConstantFalse) || (is o code.SpecConstant)) ≡ true → IsScalarSpec (constant_kind o)
 unfolding constant_kind number
@@ -186,6 +190,34 @@ three_are m none (a ∷ b ∷ c ∷ []) off =
     let w = four_off (is_no_part m none a) (is_no_part m none b) (is_no_part m none c) (is_same_spec m.heads a b || is_same_spec m.heads a c || is_same_spec m.heads b c) off in
     record { first = a; second = b; third = c; whole = refl; first_part = w.0; second_part = w.1; third_part = w.2 }
 
+module _ (s : Setting) where
+  -- the shape of a uint
+  pub uint_tree : (h : Inst) → is_uint h ≡ true → tree_at s.of.globals h ≡ Some plain.uint
+  uint_tree h on =
+      let front = and_left ((is h.op code.TypeInt) && (word h 0 == 32)) (word h 1 == 0) on in
+      let int_is = and_left (is h.op code.TypeInt) (word h 0 == 32) front in
+      let width = and_right (is h.op code.TypeInt) (word h 0 == 32) front in
+      let sign = and_right ((is h.op code.TypeInt) && (word h 0 == 32)) (word h 1 == 0) on in
+      ap (tree_by_kind s.of.globals (tree_before s.of.globals h.at) h) (int_kind h.op int_is)
+      ∙ ap (λ b. if b then (if word h 1 == 0 then Some plain.uint else (if word h 1 == 1 then Some plain.int else None)) else None) width
+      ∙ ap (λ b. if b then Some plain.uint else (if word h 1 == 1 then Some plain.int else None)) sign
+
+  -- and of a vector of three
+  pub uvec3_tree : (h : Inst) (t : Tree) → tree_at s.of.globals h ≡ Some t → is_no_uvec3 s.of.globals h ≡ false → t ≡ plain.vector elem.Uint 3
+  uvec3_tree h t shape off =
+      let vector = not_off ((is h.op code.TypeVector) && (word h 1 == 3)) (or_left (not ((is h.op code.TypeVector) && (word h 1 == 3))) (is_no_uint s.of.globals (word h 0)) off) in
+      let three = number_is (word h 1) 3 (and_right (is h.op code.TypeVector) (word h 1 == 3) vector) in
+      let typed = or_right (not ((is h.op code.TypeVector) && (word h 1 == 3))) (is_no_uint s.of.globals (word h 0)) off in
+      let v = vector_parts s.of.globals h t (and_left (is h.op code.TypeVector) (word h 1 == 3) vector) shape in
+      let part = row s nothing (word h 0) v.0 (earlier_is s nothing h.at (word h 0) v.0 v.2) in
+      let uint = not_off (is_uint part.0) (ap (λ o. option_map_or (λ (x : Inst). not (is_uint x)) o false) (sym part.1) ∙ typed) in
+      let component : plain.uint ≡ v.0 = same_some plain.uint v.0 (sym (uint_tree part.0 uint) ∙ part.2) in
+      let unsigned : elem.Uint ≡ v.1 = same_elem elem.Uint v.1 (ap elem_of component ∙ v.3) in
+      v.4 ∙ ap (λ q. plain.vector q (word h 1)) (sym unsigned) ∙ ap (plain.vector elem.Uint) three
+    where
+      same_elem : (a b : Elem) → Some a ≡ Some b → a ≡ b
+      same_elem a b e = cc
+
 module _ (s : Setting) (entry : Option (List ℕ)) (right : IsConforming s.of entry) (overrides : List (ℕ × Given)) (e : Inst) (chosen_is : chosen entry s.of.heads ≡ Some e) (entry_is : s.entry ≡ word e 1) where
   abbrev source : Source
   source = source_of s overrides
@@ -204,17 +236,6 @@ module _ (s : Setting) (entry : Option (List ℕ)) (right : IsConforming s.of en
       size_off s.of (count_by (is_size_composite s.of.heads) Gs) g
       (none_at_fault (is_bad_size s.of (count_by (is_size_composite s.of.heads) Gs)) Gs g (λ at has. unbroken at (subst (λ l. Contains l at) (sym faults) (Contains-append_left (composite_faults s.of) (places (is_bad_size_id s.of (word e 1)) s.of.heads) at has))) there) on
 
-  -- a uint
-  uint_tree : (h : Inst) → is_uint h ≡ true → tree_at Gs h ≡ Some plain.uint
-  uint_tree h on =
-      let front = and_left ((is h.op code.TypeInt) && (word h 0 == 32)) (word h 1 == 0) on in
-      let int_is = and_left (is h.op code.TypeInt) (word h 0 == 32) front in
-      let width = and_right (is h.op code.TypeInt) (word h 0 == 32) front in
-      let sign = and_right ((is h.op code.TypeInt) && (word h 0 == 32)) (word h 1 == 0) on in
-      ap (tree_by_kind Gs (tree_before Gs h.at) h) (int_kind h.op int_is)
-      ∙ ap (λ b. if b then (if word h 1 == 0 then Some plain.uint else (if word h 1 == 1 then Some plain.int else None)) else None) width
-      ∙ ap (λ b. if b then Some plain.uint else (if word h 1 == 1 then Some plain.int else None)) sign
-
   type_row_of : (g : Inst) → IsAmong g Gs → has_type g.op ≡ true → (h : Inst) × (global Gs g.ty ≡ Some h) × (type_row Gs g.ty ≡ Some h)
   type_row_of g there has =
       let w = global_row s entry right g there (global_typed_some s entry right g there has) in
@@ -223,7 +244,7 @@ module _ (s : Setting) (entry : Option (List ℕ)) (right : IsConforming s.of en
   uint_type : (g : Inst) → IsAmong g Gs → has_type g.op ≡ true → is_no_uint Gs g.ty ≡ false → type_tree Gs g.ty ≡ Some plain.uint
   uint_type g there has off =
       let w = type_row_of g there has in
-      ap (λ o. option_map_or (tree_at Gs) o None) w.1 ∙ uint_tree w.0 (not_off (is_uint w.0) (ap (λ o. option_map_or (λ (h : Inst). not (is_uint h)) o false) (sym w.2) ∙ off))
+      ap (λ o. option_map_or (tree_at Gs) o None) w.1 ∙ uint_tree s w.0 (not_off (is_uint w.0) (ap (λ o. option_map_or (λ (h : Inst). not (is_uint h)) o false) (sym w.2) ∙ off))
 
   -- a part
   part_good : (none : ℕ → Bool) (n : ℕ) (g : Inst) → is_no_part s.of none n ≡ false → global Gs n ≡ Some g → (type_tree Gs g.ty ≡ Some plain.uint) × ((constant_kind g.op ≡ kinds.Word) ⊎ (constant_kind g.op ≡ kinds.SpecWord))
@@ -258,20 +279,8 @@ module _ (s : Setting) (entry : Option (List ℕ)) (right : IsConforming s.of en
       let typed_row = row_is s.of entry right g.ty w.0 w.1 (type_suits g.op w.0 w.2) in
       let told : is_no_uvec3 Gs w.0 ≡ false = ap (λ o. option_map_or (is_no_uvec3 Gs) o false) (sym typed_row) ∙ off in
       let vector = not_off ((is w.0.op code.TypeVector) && (word w.0 1 == 3)) (or_left (not ((is w.0.op code.TypeVector) && (word w.0 1 == 3))) (is_no_uint Gs (word w.0 0)) told) in
-      let on = and_left (is w.0.op code.TypeVector) (word w.0 1 == 3) vector in
-      let three = number_is (word w.0 1) 3 (and_right (is w.0.op code.TypeVector) (word w.0 1 == 3) vector) in
-      let typed = or_right (not ((is w.0.op code.TypeVector) && (word w.0 1 == 3))) (is_no_uint Gs (word w.0 0)) told in
-      let t = type_shaped s.of entry right g.ty w.0 w.1 (type_suits g.op w.0 w.2) (vector_shaped w.0.op on) in
-      let whole : tree_at Gs w.0 ≡ Some t.0 = sym (ap (λ o. option_map_or (tree_at Gs) o None) w.1) ∙ t.1 in
-      let v = vector_parts Gs w.0 t.0 on whole in
-      let part = row s nothing (word w.0 0) v.0 (earlier_is s nothing w.0.at (word w.0 0) v.0 v.2) in
-      let uint = not_off (is_uint part.0) (ap (λ o. option_map_or (λ (h : Inst). not (is_uint h)) o false) (sym part.1) ∙ typed) in
-      let component : plain.uint ≡ v.0 = same_some plain.uint v.0 (sym (uint_tree part.0 uint) ∙ part.2) in
-      let unsigned : elem.Uint ≡ v.1 = same_elem elem.Uint v.1 (ap elem_of component ∙ v.3) in
-      t.1 ∙ ap (λ q. Some q) (v.4 ∙ ap (λ q. plain.vector q (word w.0 1)) (sym unsigned) ∙ ap (plain.vector elem.Uint) three)
-    where
-      same_elem : (a b : Elem) → Some a ≡ Some b → a ≡ b
-      same_elem a b e = cc
+      let t = type_shaped s.of entry right g.ty w.0 w.1 (type_suits g.op w.0 w.2) (vector_shaped w.0.op (and_left (is w.0.op code.TypeVector) (word w.0 1 == 3) vector)) in
+      t.1 ∙ ap (λ q. Some q) (uvec3_tree s w.0 t.0 (sym (ap (λ o. option_map_or (tree_at Gs) o None) w.1) ∙ t.1) told)
 
   -- P10: the size is given by three constants, if any
   pub sizes_conform : AreSizes source

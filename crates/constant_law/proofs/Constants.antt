@@ -20,14 +20,13 @@ use Rattle.spv_index.specs.Pointers.{pointee}
 use Rattle.profile_rules.specs.TypeForm.{is_workgroup}
 use Rattle.profile_rules.specs.declared.given.Given.{Given}
 use Rattle.module_semantics.specs.Setting.{Setting}
-use Rattle.module_semantics.specs.State.{Conf}
 use Rattle.name_alloc.specs.declared.claims.Key.{Key}
 use Rattle.name_alloc.specs.declared.claims.Key.TheVariants.{Id}
 use Rattle.glsl_ast.specs.Tree as items
 use Rattle.glsl_ast.specs.Tree.{Text, name, Decl}
 use Rattle.traces.specs.Outcomes.{Result, got}
 use Rattle.glsl_semantics.specs.Shapes.{Typed, typed}
-use Rattle.glsl_semantics.specs.States.{State}
+use Rattle.glsl_semantics.specs.States.{State, has_in, found}
 use Rattle.glsl_semantics.specs.Expressions.{Program, Argument, named, evaluate}
 use Rattle.glsl_semantics.specs.Items.{Declared, first_program, with_items, declared_by}
 use Rattle.text_rules.specs.declared.readings.Reading.TheVariants.{Named}
@@ -37,7 +36,7 @@ use Rattle.text_rules.specs.Declarations.{Names, declaration, declarations}
 use Rattle.text_items.specs.Globals.{is_input, built_in_text, global_by}
 use Rattle.plan_law.specs.InOrder.{IsAmong, AreRising}
 use Rattle.plan_law.proofs.Order.{among_left as inst_left}
-use Rattle.agree_law.specs.Agree.{Naming, Agree}
+use Rattle.agree_law.specs.Agree.{Naming}
 use Rattle.path_law.specs.Parts.{StructNames, shape_in}
 use Rattle.path_law.specs.Walks.{struct_names}
 use Rattle.path_law.proofs.Starts.{outside_is}
@@ -75,7 +74,7 @@ function_keeps (items.global t w e) x on = absurd on
 function_keeps (items.block place q quals buffer w members y) x on = absurd on
 function_keeps (Decl.function result w params body) x on = tt
 
-functions_keep : (fs : List Decl) (x : Text) → AreFunctions fs → AreOtherNames x fs
+pub functions_keep : (fs : List Decl) (x : Text) → AreFunctions fs → AreOtherNames x fs
 functions_keep [] x are = tt
 functions_keep (i ∷ fs) x are = (function_keeps i x are.0, functions_keep fs x are.1)
 
@@ -154,11 +153,12 @@ module _ (s : Setting) (entry : Option (List ℕ)) (overrides : List (ℕ × Giv
     abbrev pub P : Program
     P = (declared_by s.invocation (sizes source) (declarations source r Ns ++ fs)).program
 
-    things_same : (x : Text) → P.things x ≡ (with_items (first s overrides) (declarations source r Ns)).program.things x
+    pub things_same : (x : Text) → P.things x ≡ (with_items (first s overrides) (declarations source r Ns)).program.things x
     unfolding declared_by
     things_same x = ap (λ (d : Declared). d.program.things x) (items_more (declarations source r Ns) fs (first s overrides)) ∙ items_keep fs (with_items (first s overrides) (declarations source r Ns)) x (functions_keep fs x functions)
 
-    last : StandsAt s entry overrides found_key r asked [] (with_items (first s overrides) (declarations source r Ns))
+    -- behind all items
+    pub last : StandsAt s entry overrides found_key r asked [] (with_items (first s overrides) (declarations source r Ns))
     last = stands_at s entry overrides found_key r asked Gs [] (first s overrides) (sym (no_more Gs)) first_stands
       where
         no_more : (xs : List Inst) → xs ++ [] ≡ xs
@@ -181,9 +181,9 @@ module _ (s : Setting) (entry : Option (List ℕ)) (overrides : List (ℕ × Giv
     mentioned_needed n on = needed_kept source (needs_constant source r) Gs n (or_on_left (list_any (λ (k : ℕ). k == n) r.mentions) _ on)
 
     -- In each state in which nothing hides its name, the expression of a constant says the value that the constant has in the run.
-    pub constants_say : (calls : Text → List Argument → State → Result (Option Typed × State)) (m : Naming) (n : ℕ) (v : ValueTree) (c : Conf) (z : State) → Agree m c z → s.constants n ≡ Some v → (w : IsReadHere m n)
+    pub constants_say : (calls : Text → List Argument → State → Result (Option Typed × State)) (m : Naming) (n : ℕ) (v : ValueTree) (z : State) → ((x : Text) → m.is_outside x ≡ true → (has_in z.frames x ≡ false) × (found z.globals x ≡ None)) → s.constants n ≡ Some v → (w : IsReadHere m n)
         → (option_and_then (global_by source names) (global_inst Gs n) ≡ Some (constant_expr source names w.inst)) × (evaluate P calls (constant_expr source names w.inst) z ≡ got [] (typed (m.shape n) v, z))
-    constants_say calls m n v c z agree has w = (
+    constants_say calls m n v z clear has w = (
       ap (option_and_then (global_by source names)) w.there ∙ ap (λ b. if b then Some (constant_expr source names w.inst) else (if is_input w.inst then Some (name (built_in_text (unwrap_or (value_of s.of.heads w.inst.result (decoration_number decoration.BuiltIn)) 0))) else None)) constant,
       subst (λ u. evaluate P calls (constant_expr source names w.inst) z ≡ got [] (typed u v, z)) (sym w.named_as)
           (reads_says s overrides key asked.have asked.right.results asked.right.rising asked.spec_ids asked.sizes P calls z (seen group_size_text w.size ∙ things_same group_size_text ∙ stands.size) w.inst w.shape v among (own s entry overrides found_key r asked w.inst among) own_value w.typed_as
@@ -209,4 +209,4 @@ module _ (s : Setting) (entry : Option (List ℕ)) (overrides : List (ℕ × Giv
         lower h h_in = elim (last.rest h h_in) [ inl low ↦ low | inr none ↦ absurd none ]
 
         seen : (x : Text) → m.is_outside x ≡ true → named P z x ≡ P.things x
-        seen x out = let o = agree.outside x out in outside_is P z x o.0 o.1
+        seen x out = let o = clear x out in outside_is P z x o.0 o.1

@@ -10,5 +10,6 @@ pub mod Reading
 pub mod Written
 pub mod Standing
 pub mod Constants
+pub mod Types
 pub mod Variables
 pub mod Conforming

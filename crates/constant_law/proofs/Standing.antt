@@ -140,12 +140,12 @@ variable_op r g on = elim (or_either (is_private g) (is_workgroup g || is_block_
 ]
 
 -- a value that is no composite is of a scalar
-abbrev IsSingle : ValueTree → Type 0
+abbrev pub IsSingle : ValueTree → Type 0
 IsSingle (truth b) = Unit {0}
 IsSingle (value_word w) = Unit {0}
 IsSingle (many vs) = ⊥
 
-scalar_fit : (t : Tree) (v : ValueTree) → IsSingle v → fits t v ≡ true → is_scalar t ≡ true
+pub scalar_fit : (t : Tree) (v : ValueTree) → IsSingle v → fits t v ≡ true → is_scalar t ≡ true
 scalar_fit plain.boolean v one fit = refl
 scalar_fit plain.int v one fit = refl
 scalar_fit plain.uint v one fit = refl
@@ -221,9 +221,9 @@ module _ (s : Setting) (entry : Option (List ℕ)) (overrides : List (ℕ × Giv
   abbrev C : ℕ → Option ℕ
   C = chosen s overrides
 
-  -- no variable that is written has the name
+  -- no Private variable that is written has the name
   abbrev pub HasNoVariable : Text → Type 0
-  HasNoVariable x = (g : Inst) → IsAmong g Gs → is_written_variable r g ≡ true → bytes_eq (names g.result) x ≡ false
+  HasNoVariable x = (g : Inst) → IsAmong g Gs → is_private g ≡ true → is_written_variable r g ≡ true → bytes_eq (names g.result) x ≡ false
 
   pub record Stands (k : ℕ) (d : Declared) : Type 0 where
     pub invocation : d.program.invocation ≡ s.invocation
@@ -262,12 +262,12 @@ module _ (s : Setting) (entry : Option (List ℕ)) (overrides : List (ℕ × Giv
 
   -- the name of a constant is none of a variable, and neither is that of the size of workgroups
   pub constant_hidden : (g : Inst) → IsAmong g Gs → is_declared_constant source r g ≡ true → HasNoVariable (names g.result)
-  constant_hidden g there on h h_in written = bytes_off (names h.result) (names g.result) (λ same.
+  constant_hidden g there on h h_in own written = bytes_off (names h.result) (names g.result) (λ same.
       let one : h ≡ g = same_item h g h_in there (variable_is_item h written) (constant_is_item g on) same in
       clash (sym (variable_op r h written) ∙ ap (λ (x : Inst). is x.op code.Variable) one ∙ constant_no_variable g.op (declared_op g on)))
 
   pub size_hidden : HasNoVariable group_size_text
-  size_hidden h h_in written = bytes_off (names h.result) group_size_text (λ same. asked.names.size_apart h h_in (variable_is_item h written) same)
+  size_hidden h h_in own written = bytes_off (names h.result) group_size_text (λ same. asked.names.size_apart h h_in (variable_is_item h written) same)
 
   -- what is declared of one global
   declares_struct : (g : Inst) → is_written_struct source r g ≡ true → declaration source r N g ≡ struct_decl source N g ∷ []
@@ -320,21 +320,21 @@ module _ (s : Setting) (entry : Option (List ℕ)) (overrides : List (ℕ × Giv
       by_kind false false true off = by_block (block_of Gs g)
       by_kind false false false off = tt
 
-  pub other_variables : (x : Text) (g : Inst) → (is_written_variable r g ≡ true → bytes_eq (names g.result) x ≡ false) → AreOtherVariables x (declaration source r N g)
+  pub other_variables : (x : Text) (g : Inst) → (is_private g ≡ true → is_written_variable r g ≡ true → bytes_eq (names g.result) x ≡ false) → AreOtherVariables x (declaration source r N g)
   other_variables x g off = by_kind (is_written_struct source r g) (is_declared_constant source r g) (is_written_variable r g) off
     where
-      by_private : (b : Bool) → bytes_eq (names g.result) x ≡ false → AreOtherVariables x ((if b then items.global (type_at source N (pointee_at source g.ty)) (names g.result) (initial source N g) else items.shared (type_at source N (pointee_at source g.ty)) (names g.result)) ∷ [])
-      by_private true off = (off, tt)
+      by_private : (b : Bool) → (b ≡ true → bytes_eq (names g.result) x ≡ false) → AreOtherVariables x ((if b then items.global (type_at source N (pointee_at source g.ty)) (names g.result) (initial source N g) else items.shared (type_at source N (pointee_at source g.ty)) (names g.result)) ∷ [])
+      by_private true off = (off refl, tt)
       by_private false off = (tt, tt)
 
-      by_block : (o : Option Inst) → bytes_eq (names g.result) x ≡ false → AreOtherVariables x (variable_decl source N g o)
+      by_block : (o : Option Inst) → (is_private g ≡ true → bytes_eq (names g.result) x ≡ false) → AreOtherVariables x (variable_decl source N g o)
       by_block (Some b) off = (tt, tt)
       by_block None off = by_private (is_private g) off
 
-      by_kind : (a b c : Bool) → (c ≡ true → bytes_eq (names g.result) x ≡ false) → AreOtherVariables x (By a b c g)
+      by_kind : (a b c : Bool) → (is_private g ≡ true → c ≡ true → bytes_eq (names g.result) x ≡ false) → AreOtherVariables x (By a b c g)
       by_kind true b c off = (tt, tt)
       by_kind false true c off = (tt, tt)
-      by_kind false false true off = by_block (block_of Gs g) (off refl)
+      by_kind false false true off = by_block (block_of Gs g) (λ own. off own refl)
       by_kind false false false off = tt
 
   no_function : (d : Declared) (w : Text) (g : Inst) → (with_items d (declaration source r N g)).program.is_function w ≡ d.program.is_function w
@@ -541,7 +541,7 @@ module _ (s : Setting) (entry : Option (List ℕ)) (overrides : List (ℕ × Giv
             let declared = operand_declared h n itself operand constant reads in
             let less = w.less in (
               zero_stands g.at d stands t (wider (IsNoBlock s.of) s.of h.at g.at (let low : h.at ≤ g.at = omega (arith, less) in low) t (constant_within s.of entry asked.right h t among constant w.typed_as)) (constant_sized h t among constant w.typed_as) (constant_held h t among declared w.typed_as),
-              asked.short h t among declared w.typed_as,
+              asked.short h t v among declared has w.typed_as,
               asked.members h t among declared w.typed_as,
             )
         by_reading GroupSize reads =
@@ -632,7 +632,7 @@ module _ (s : Setting) (entry : Option (List ℕ)) (overrides : List (ℕ × Giv
             let w = calculated_is g t from (C g.result) v kind made in
             let ops = operands s C asked.have asked.right.results asked.right.rising g.at from last earlier (inner_operands w.opcode (drop 1 g.args)) w.values w.each in
             let are = all_read (inner_operands w.opcode (drop 1 g.args)) ops.0 w.values ops.1 (inner_operands_are g w.opcode (calculated_op g.op kind) (inner_is (slice_index g.args 0) w.opcode w.numbered w.inside)) in
-            said_there kinds.Operation kind free (calculated_says s overrides found_key asked.have asked.right.results asked.right.rising asked.low d.program no_calls Z (λ f. stands.functions (built_in_name f)) g t from v sound kind shape zero_is (asked.short g t there on shape) (asked.members g t there on shape) w ops.0 are)
+            said_there kinds.Operation kind free (calculated_says s overrides found_key asked.have asked.right.results asked.right.rising asked.low d.program no_calls Z (λ f. stands.functions (built_in_name f)) g t from v sound kind shape zero_is (asked.short g t v there on has shape) (asked.members g t there on shape) w ops.0 are)
 
         by_kind : (k : ConstantKind) → constant_kind g.op ≡ k → value_by_kind from (C g.result) t g.args k ≡ Some v → Goal
         by_kind kinds.True kind e = absurd (literal_none (subst IsSingle (same_some _ v e) tt) fit (λ o. no_kind (sym kind ∙ o)) (no_free g there (λ spec. subst IsScalarSpec kind spec)))
@@ -718,7 +718,7 @@ module _ (s : Setting) (entry : Option (List ℕ)) (overrides : List (ℕ × Giv
       invocation = items_invocation (declaration source r N g) d ∙ stands.invocation;
       functions = λ w. no_function d w g ∙ stands.functions w;
       size = items_keep (declaration source r N g) d group_size_text (other_names group_size_text g (λ also. bytes_off group_size_text (names g.result) (λ same. asked.names.size_apart g there also (sym same)))) ∙ stands.size;
-      hidden = λ x off. items_find (declaration source r N g) d x (other_variables x g (λ written. off g there written)) ∙ stands.hidden x off;
+      hidden = λ x off. items_find (declaration source r N g) d x (other_variables x g (λ own written. off g there own written)) ∙ stands.hidden x off;
       structs = struct_after;
       constants = constant_after;
     }

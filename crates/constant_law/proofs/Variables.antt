@@ -40,8 +40,8 @@ use Rattle.glsl_ast.specs.Tree.{Text, name, Decl}
 use Rattle.glsl_ast.specs.declared.expressions.Literal.TheVariants.{Uint}
 use Rattle.glsl_semantics.specs.Shapes.{typed}
 use Rattle.glsl_semantics.specs.States.{State, found}
-use Rattle.glsl_semantics.specs.Expressions.{Program, named}
-use Rattle.glsl_semantics.specs.Items.{Declared, no_calls, known_if, known_value, with_items, declared_by}
+use Rattle.glsl_semantics.specs.Expressions.{Program, type_of, named}
+use Rattle.glsl_semantics.specs.Items.{Declared, no_calls, known_if, known_value, global_value, with_items, declared_by}
 use Rattle.text_rules.specs.Constants.{Source, sizes, reading, free_spec_id, constant_expr, group_size_text}
 use Rattle.text_rules.specs.Printed as printed
 use Rattle.text_rules.specs.Printed.{Reached, is_private, is_workgroup as is_shared, is_block_variable, is_operand_in, is_length_of, has_operand, needs_constant, is_named, is_needed, is_written_variable, is_declared_constant, is_written_struct, type_has_struct, written_types}
@@ -58,7 +58,7 @@ use Rattle.typed_law.proofs.Lists.{or_right, and_left, and_right, and_off, not_o
 use Rattle.typed_law.proofs.Rules.{initializer_right}
 use Rattle.typed_law.proofs.Sized.{rising_low}
 use Rattle.global_law.specs.Sources.{source_of, chosen}
-use Rattle.global_law.proofs.Blocks.{items_more}
+use Rattle.global_law.proofs.Blocks.{items_more, type_declared}
 use Rattle.global_law.proofs.Privates.{IsOtherVariable, AreOtherVariables, items_find, private_there, own_value, zero_begins, given_first, zero_first}
 use Rattle.global_law.proofs.Zeros.{HasZero, is_declared}
 use Rattle.constant_law.specs.Items.{key_text, AreAsked}
@@ -73,7 +73,7 @@ use Rattle.constant_law.proofs.Constants.{IsFunction, AreFunctions, first, stand
 number_is : (a b : ℕ) → (a == b) ≡ true → a ≡ b
 number_is a b e = elim (eqb_tells a b) [ inl w ↦ w.1 | inr w ↦ clash (sym e ∙ w.0) ]
 
-variable_id : (o : Op) (args : List ℕ) (k : ℕ) → is o code.Variable ≡ true → is_id o args (suc k) ≡ true
+pub variable_id : (o : Op) (args : List ℕ) (k : ℕ) → is o code.Variable ≡ true → is_id o args (suc k) ≡ true
 unfolding number is_id
 variable_id code.Variable args k on = grind (arith, nat_tests)
 variable_id o args k on = cc
@@ -96,7 +96,7 @@ never : (a : Bool) → (a && false) ≡ false
 never true = refl
 never false = refl
 
-second_at : (args : List ℕ) (n : ℕ) → slice_get args 1 ≡ Some n → (1 < length args) × (slice_index args 1 ≡ n)
+pub second_at : (args : List ℕ) (n : ℕ) → slice_get args 1 ≡ Some n → (1 < length args) × (slice_index args 1 ≡ n)
 second_at [] n e = cc
 second_at (a ∷ []) n e = cc
 second_at (a ∷ b ∷ args) n e = ((let low : 1 < suc (suc (length args)) = omega arith in low), let same : b ≡ n = cc in same)
@@ -109,7 +109,7 @@ function_finds (items.global t w e) x on = absurd on
 function_finds (items.block place q quals buffer w members y) x on = absurd on
 function_finds (Decl.function result w params body) x on = tt
 
-functions_find : (fs : List Decl) (x : Text) → AreFunctions fs → AreOtherVariables x fs
+pub functions_find : (fs : List Decl) (x : Text) → AreFunctions fs → AreOtherVariables x fs
 functions_find [] x are = tt
 functions_find (i ∷ fs) x are = (function_finds i x are.0, functions_find fs x are.1)
 
@@ -118,15 +118,15 @@ both_variables x [] ys a b = b
 both_variables x (i ∷ xs) ys a b = (a.0, both_variables x xs ys a.1 b)
 
 -- what stands behind one in a rising list
-behind : (before after : List Inst) (k : ℕ) (v : Inst) → AreRising k (before ++ v ∷ after) → (h : Inst) → IsAmong h after → v.at < h.at
+pub behind : (before after : List Inst) (k : ℕ) (v : Inst) → AreRising k (before ++ v ∷ after) → (h : Inst) → IsAmong h after → v.at < h.at
 behind [] after k v rise h there = let far = rising_low (v.at + 1) after h rise.1 there in omega (arith, far)
 behind (b ∷ before) after k v rise h there = behind before after (b.at + 1) v rise.1 h there
 
-among_behind : (before after : List Inst) (v h : Inst) → IsAmong h after → IsAmong h (before ++ v ∷ after)
+pub among_behind : (before after : List Inst) (v h : Inst) → IsAmong h after → IsAmong h (before ++ v ∷ after)
 among_behind [] after v h there = inr there
 among_behind (b ∷ before) after v h there = inr (among_behind before after v h there)
 
-among_here : (before after : List Inst) (v : Inst) → IsAmong v (before ++ v ∷ after)
+pub among_here : (before after : List Inst) (v : Inst) → IsAmong v (before ++ v ∷ after)
 among_here [] after v = inl refl
 among_here (b ∷ before) after v = inr (among_here before after v)
 
@@ -155,7 +155,7 @@ module _ (s : Setting) (entry : Option (List ℕ)) (overrides : List (ℕ × Giv
   variables_after v there written (h ∷ hs) all far =
       subst (AreOtherVariables (names v.result)) (sym (flat_map-cons (declaration source r Ns) h hs))
       (both_variables (names v.result) (declaration source r Ns h) (flat_map (declaration source r Ns) hs)
-      (other_variables s entry overrides found_key r asked (names v.result) h (λ also. bytes_off (names h.result) (names v.result) (λ same.
+      (other_variables s entry overrides found_key r asked (names v.result) h (λ own also. bytes_off (names h.result) (names v.result) (λ same.
       let one : h ≡ v = same_item s entry overrides found_key r asked h v (all h (inl refl)) there (variable_is_item s entry overrides found_key r asked h also) (variable_is_item s entry overrides found_key r asked v written) same in
       let at : h.at ≡ v.at = ap (λ (x : Inst). x.at) one in
       let less = far h (inl refl) in
@@ -167,10 +167,10 @@ module _ (s : Setting) (entry : Option (List ℕ)) (overrides : List (ℕ × Giv
     there = subst (IsAmong v) (sym whole) (among_here before after v)
 
     variable : is v.op code.Variable ≡ true
-    variable = and_left (is v.op code.Variable) (printed.class v == 6) private
+    variable = and_left (is v.op code.Variable) (printed.class v == class_number storage.Private) private
 
-    class : printed.class v ≡ 6
-    class = number_is (printed.class v) 6 (and_right (is v.op code.Variable) (printed.class v == 6) private)
+    class : printed.class v ≡ class_number storage.Private
+    class = number_is (printed.class v) (class_number storage.Private) (and_right (is v.op code.Variable) (printed.class v == class_number storage.Private) private)
 
     written : is_written_variable r v ≡ true
     written = both_on (is_private v || (is_shared v || is_block_variable v)) (is_operand_in r.functions v.result) (or_on_left (is_private v) (is_shared v || is_block_variable v) private) mentioned
@@ -197,10 +197,10 @@ module _ (s : Setting) (entry : Option (List ℕ)) (overrides : List (ℕ × Giv
 
     module _ (q : ℕ) (t : Tree) (points : pointee Gs v.ty ≡ Some q) (shape : type_tree Gs q ≡ Some t) where
       zero_is : HasZero D.program s source key t
-      zero_is = zero_before s entry overrides found_key r asked before after v q t whole there variable written (no_block q points) (ap (λ n. n == 4) class) points shape
+      zero_is = zero_before s entry overrides found_key r asked before after v q t whole there variable written (no_block q points) (ap (λ n. n == class_number storage.Workgroup) class) points shape
         where
           no_block : (q : ℕ) → pointee Gs v.ty ≡ Some q → is_some_block s.of.heads Gs v ≡ false
-          no_block q points = ap (λ n. option_map_or (is_block_struct s.of.heads n) (pointee Gs v.ty) false) class ∙ ap (λ o. option_map_or (is_block_struct s.of.heads 6) o false) points
+          no_block q points = ap (λ n. option_map_or (is_block_struct s.of.heads n) (pointee Gs v.ty) false) class ∙ ap (λ o. option_map_or (is_block_struct s.of.heads (class_number storage.Private)) o false) points
 
       shape_at : type_tree Gs (pointee_at source v.ty) ≡ Some t
       shape_at = ap (λ o. type_tree Gs (unwrap_or o v.ty)) points ∙ shape
@@ -283,6 +283,10 @@ module _ (s : Setting) (entry : Option (List ℕ)) (overrides : List (ℕ × Giv
               ∙ ap (λ u. Some (typed (shape_in s Y t) u)) (same_some (zero_of t) a (sym (zero_first s overrides key (Ns.calculated) v.result v t itself second at) ∙ starts))
           by_second (Some n) second = by_constant n a second (sym (given_first s overrides key (Ns.calculated) v.result n v itself second) ∙ starts)
 
+      -- its expression gives it a value of its type
+      pub private_valued : (a : ValueTree) → global_variable s v.result ≡ Some v → initial_private s v.result ≡ Some a → global_value D (type_of D.program (type_at source Ns (pointee_at source v.ty))) (initial source Ns v) ≡ Some (typed (shape_in s Y t) a)
+      private_valued a itself starts = ap (λ o. global_value D o (initial source Ns v)) (type_declared s nothing overrides key (Ns.calculated) D.program (pointee_at source v.ty) t shape_at (is_declared D.program s source key t zero_is)) ∙ begins a itself starts
+
       -- So it begins, behind all items, with the value that it has in the module.
       pub private_begins : (fs : List Decl) → AreFunctions fs → (a : ValueTree) → global_variable s v.result ≡ Some v → initial_private s v.result ≡ Some a
           → found (declared_by s.invocation (sizes source) (declarations source r Ns ++ fs)).globals (names v.result) ≡ Some (variable_with (shape_in s Y t) (initial_private s v.result))
@@ -311,4 +315,4 @@ module _ (s : Setting) (entry : Option (List ℕ)) (overrides : List (ℕ × Giv
           no_expr =
               ap (option_and_then (global_by source names)) (own s entry overrides found_key r asked v there)
               ∙ ap (λ b. if b then Some (constant_expr source names v) else (if is_input v then Some (name (built_in_text (unwrap_or (value_of s.of.heads v.result (decoration_number decoration.BuiltIn)) 0))) else None)) (variable_no_constant v.op variable)
-              ∙ ap (λ b. if b then Some (name (built_in_text (unwrap_or (value_of s.of.heads v.result (decoration_number decoration.BuiltIn)) 0))) else None) (ap (λ n. is v.op code.Variable && (n == 1)) class ∙ never (is v.op code.Variable))
+              ∙ ap (λ b. if b then Some (name (built_in_text (unwrap_or (value_of s.of.heads v.result (decoration_number decoration.BuiltIn)) 0))) else None) (ap (λ n. is v.op code.Variable && (n == class_number storage.Input)) class ∙ never (is v.op code.Variable))

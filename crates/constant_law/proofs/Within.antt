@@ -1,8 +1,8 @@
 -- The structs in a type of a conforming module, and the constants that give the lengths of its arrays, stand before what is of the type.
 use Rattle.std.proofs.Common.{◌≡◌, ◌<◌, ◌≤◌, ◌+◌, ◌==◌, ◌||◌, ◌&&◌, ℕ, zero, suc, Bool, true, false, List, [], ◌∷◌, ◌++◌, length, take, not, Option, Some, None, inl, inr, refl, sym, ap, subst, ◌∙◌, if◌then◌else◌, arith}
-use Rattle.std.specs.Prelude.{◌⊎◌, flat_map, nat_le, option_map, option_and_then, slice_index}
+use Rattle.std.specs.Prelude.{◌⊎◌, flat_map, fold, nat_le, option_map, option_and_then, slice_index}
 use Rattle.std.specs.Option.{option_map_or}
-use Rattle.std.specs.List.{filter_map, cons_option}
+use Rattle.std.specs.List.{list_any, filter_map, cons_option}
 use Rattle.std.proofs.lemmas.Bool.Decides.{nat_tests}
 use Rattle.spv_ops.specs.Opcode.{is, number}
 use Rattle.spv_ops.specs.Groups.{is_constant as is_constant_op}
@@ -27,6 +27,7 @@ use Rattle.spv_types.proofs.Below.{tree_before_is}
 use Rattle.spv_decor.specs.Decorations.{local_insts}
 use Rattle.spv_index.specs.BlockStructs.{is_block, is_some_block}
 use Rattle.spv_index.specs.Pointers.{pointee, as_pointer}
+use Rattle.spv_index.specs.ValueTypes.{other_by, other_step, with_other, is_no_value_type}
 use Rattle.profile_rules.specs.Operands.{need, type_need, suits, is_there}
 use Rattle.profile_rules.specs.Places.{is_among, is_variable, body_insts}
 use Rattle.profile_rules.specs.TypeForm.{parts_of, value_type, value_types, signature_types, pointee_by, pointees, block_misuses, runtime_misuses}
@@ -35,7 +36,7 @@ use Rattle.plan_law.proofs.Order.{among_left as inst_left}
 use Rattle.fits_law.proofs.Steps.{named}
 use Rattle.type_law.proofs.Parts.{struct_kind}
 use Rattle.typed_law.specs.Conforms.{IsConforming}
-use Rattle.typed_law.proofs.Lists.{same_some, found_in, earlier_some, some_by, from_zero}
+use Rattle.typed_law.proofs.Lists.{or_left, or_right, and_off, same_some, found_in, earlier_some, some_by, from_zero}
 use Rattle.typed_law.proofs.Rules.{type_there, operand_there, global_there, used_type}
 use Rattle.typed_law.proofs.Used.{among_left, among_right, global_found}
 use Rattle.constant_law.specs.Within.{IsStructBefore, IsLengthBefore, IsWithin, AreWithin, IsNoBlock, Anything}
@@ -117,6 +118,11 @@ two_to_four n a b = by_number n (let low : 2 ≤ n = grind (arith, nat_tests, a)
     by_number (suc (suc (suc zero))) low high = inr (inl refl)
     by_number (suc (suc (suc (suc zero)))) low high = inr (inr refl)
     by_number (suc (suc (suc (suc (suc n))))) low high = absurd (omega (arith, high))
+
+other_struct : (heads gs : List Inst) (f : ℕ → Bool) (g : Inst) (o : Op) → is o code.TypeStruct ≡ true → other_by heads gs f g o ≡ false → is_block heads g.result ≡ false
+unfolding number
+other_struct heads gs f g code.TypeStruct on off = or_left (is_block heads g.result) (list_any f g.args) off
+other_struct heads gs f g o on off = cc
 
 among_flat : (f : Inst → List ℕ) (xs : List Inst) (x : Inst) (p : ℕ) → IsAmong x xs → is_among (f x) p ≡ true → is_among (flat_map f xs) p ≡ true
 among_flat f [] x p there own = absurd there
@@ -318,15 +324,18 @@ module _ (m : ModuleState) (entry : Option (List ℕ)) (right : IsConforming m e
       by_option None e = e
       by_option (Some x) e = or_on_right (x == i.ty) (is_among (filter_map value_type is) i.ty) e
 
+  -- so a value's type is used where a block may not be
+  pub value_misused : (i : Inst) → IsAmong i (body_insts m) → is_variable i ≡ false → is_among (block_misuses m) i.ty ≡ true
+  value_misused i there off =
+      among_left (flat_map parts_of Gs ++ pointees m (λ v. not (is_some_block m.heads m.globals v)) ++ value_types m) (signature_types m) i.ty
+      (among_right (flat_map parts_of Gs ++ pointees m (λ v. not (is_some_block m.heads m.globals v))) (value_types m) i.ty (value_among (body_insts m) i there off))
+
   pub constant_within : (h : Inst) (t : Tree) → IsAmong h Gs → is_constant_op h.op ≡ true → type_tree Gs h.ty ≡ Some t → IsWithin (IsNoBlock m) m h.at t
   constant_within h t there on shape =
       let c = type_before h there (typed_constant h.op on) in
       let less = c.2 in
       let among = found_in Gs h.ty c.0 c.1 in
-      let mine : is_among (value_types m) c.0.result ≡ true = subst (λ x. is_among (value_types m) x ≡ true) (sym (named Gs h.ty c.0 c.1)) (value_among (body_insts m) h (inst_left h Gs (local_insts m) there) (constant_no_variable h.op on)) in
-      let misused : is_among (block_misuses m) c.0.result ≡ true =
-      among_left (flat_map parts_of Gs ++ pointees m (λ v. not (is_some_block m.heads m.globals v)) ++ value_types m) (signature_types m) c.0.result
-      (among_right (flat_map parts_of Gs ++ pointees m (λ v. not (is_some_block m.heads m.globals v))) (value_types m) c.0.result mine) in
+      let misused : is_among (block_misuses m) c.0.result ≡ true = subst (λ x. is_among (block_misuses m) x ≡ true) (sym (named Gs h.ty c.0 c.1)) (value_misused h (inst_left h Gs (local_insts m) there) (constant_no_variable h.op on)) in
       wider (IsNoBlock m) m (c.0.at + 1) h.at (let low : c.0.at + 1 ≤ h.at = omega (arith, less) in low) t
       (type_within (IsNoBlock m) part_plain c.0 t among (sym (ap (λ o. option_map_or (tree_at Gs) o None) c.1) ∙ shape) (λ opcode. unblocked_by c.0 among opcode misused))
 
@@ -341,6 +350,12 @@ module _ (m : ModuleState) (entry : Option (List ℕ)) (right : IsConforming m e
       by_option : (o : Option ℕ) → is_among (filter_map (pointee_by Gs test) is) q ≡ true → is_among (cons_option o (filter_map (pointee_by Gs test) is)) q ≡ true
       by_option None e = e
       by_option (Some x) e = or_on_right (x == q) (is_among (filter_map (pointee_by Gs test) is) q) e
+
+  pub pointee_misused : (v : Inst) (q : ℕ) → IsAmong v (body_insts m) → is_variable v ≡ true → is_some_block m.heads Gs v ≡ false → pointee Gs v.ty ≡ Some q → is_among (block_misuses m) q ≡ true
+  pointee_misused v q there on off at =
+      among_left (flat_map parts_of Gs ++ pointees m (λ v. not (is_some_block m.heads m.globals v)) ++ value_types m) (signature_types m) q
+      (among_left (flat_map parts_of Gs ++ pointees m (λ v. not (is_some_block m.heads m.globals v))) (value_types m) q
+      (among_right (flat_map parts_of Gs) (pointees m (λ v. not (is_some_block m.heads m.globals v))) q (pointee_among (λ v. not (is_some_block m.heads m.globals v)) (body_insts m) v q there on (ap not off) at)))
 
   -- the row of the type to which a variable points stands before the variable
   pub pointee_before : (v : Inst) (q : ℕ) (h : Inst) → IsAmong v Gs → is_variable v ≡ true → pointee Gs v.ty ≡ Some q → global Gs q ≡ Some h → h.at < v.at
@@ -366,12 +381,7 @@ module _ (m : ModuleState) (entry : Option (List ℕ)) (right : IsConforming m e
       by_global (Some h) here e =
           let less = pointee_before v q h there on at here in
           let among = found_in Gs q h here in
-          let mine : is_among (pointees m (λ v. not (is_some_block m.heads m.globals v))) h.result ≡ true =
-          subst (λ x. is_among (pointees m (λ v. not (is_some_block m.heads m.globals v))) x ≡ true) (sym (named Gs q h here)) (pointee_among (λ v. not (is_some_block m.heads m.globals v)) (body_insts m) v q (inst_left v Gs (local_insts m) there) on (ap not off) at) in
-          let misused : is_among (block_misuses m) h.result ≡ true =
-          among_left (flat_map parts_of Gs ++ pointees m (λ v. not (is_some_block m.heads m.globals v)) ++ value_types m) (signature_types m) h.result
-          (among_left (flat_map parts_of Gs ++ pointees m (λ v. not (is_some_block m.heads m.globals v))) (value_types m) h.result
-          (among_right (flat_map parts_of Gs) (pointees m (λ v. not (is_some_block m.heads m.globals v))) h.result mine)) in
+          let misused : is_among (block_misuses m) h.result ≡ true = subst (λ x. is_among (block_misuses m) x ≡ true) (sym (named Gs q h here)) (pointee_misused v q (inst_left v Gs (local_insts m) there) on off at) in
           wider (IsNoBlock m) m (h.at + 1) v.at (let low : h.at + 1 ≤ v.at = omega (arith, less) in low) t (type_within (IsNoBlock m) part_plain h t among e (λ opcode. unblocked_by h among opcode misused))
 
   -- the members of a block
@@ -385,3 +395,35 @@ module _ (m : ModuleState) (entry : Option (List ℕ)) (right : IsConforming m e
       by_global : (o : Option Inst) → global Gs ty ≡ o → option_map_or (tree_at Gs) o None ≡ Some t → (n : ℕ) × IsWithin Anything m n t
       by_global None at e = none_some e
       by_global (Some g) at e = (g.at + 1, type_within Anything (λ g h p there part at on. tt) g t (found_in Gs ty g at) e (λ on. tt))
+
+  -- a type that is used where a block may not be
+  pub misused_within : (ty : ℕ) (t : Tree) → is_among (block_misuses m) ty ≡ true → type_tree Gs ty ≡ Some t → (n : ℕ) × IsWithin (IsNoBlock m) m n t
+  misused_within ty t misused shape = by_global (global Gs ty) refl shape
+    where
+      by_global : (o : Option Inst) → global Gs ty ≡ o → option_map_or (tree_at Gs) o None ≡ Some t → (n : ℕ) × IsWithin (IsNoBlock m) m n t
+      by_global None at e = none_some e
+      by_global (Some h) at e =
+          let among = found_in Gs ty h at in
+          (h.at + 1, type_within (IsNoBlock m) part_plain h t among e (λ opcode. unblocked_by h among opcode (subst (λ x. is_among (block_misuses m) x ≡ true) (sym (named Gs ty h at)) misused)))
+
+  -- and a value type
+  others_off : (gs : List Inst) (others : ℕ → Bool) (n : ℕ) → fold (with_other m.heads Gs) others gs n ≡ false → others n ≡ false
+  others_off [] others n off = off
+  others_off (x ∷ gs) others n off = or_left (others n) ((x.result == n) && other_step m.heads Gs others x) (others_off gs (with_other m.heads Gs others x) n off)
+
+  unblocked_value : (gs : List Inst) (others : ℕ → Bool) (g : Inst) → IsAmong g gs → fold (with_other m.heads Gs) others gs g.result ≡ false → is g.op code.TypeStruct ≡ true → is_block m.heads g.result ≡ false
+  unblocked_value [] others g there off on = absurd there
+  unblocked_value (x ∷ gs) others g (inl same) off on =
+      let here = or_right (others g.result) ((x.result == g.result) && other_step m.heads Gs others x) (others_off gs (with_other m.heads Gs others x) g.result off) in
+      let step = and_off (x.result == g.result) (other_step m.heads Gs others x) here (let one : x.result ≡ g.result = ap (λ (y : Inst). y.result) same in grind (arith, nat_tests, one)) in
+      other_struct m.heads Gs others g g.op on (subst (λ (y : Inst). other_step m.heads Gs others y ≡ false) same step)
+  unblocked_value (x ∷ gs) others g (inr there) off on = unblocked_value gs (with_other m.heads Gs others x) g there off on
+
+  pub value_within : (ty : ℕ) (t : Tree) → is_no_value_type m.heads Gs ty ≡ false → type_tree Gs ty ≡ Some t → (n : ℕ) × IsWithin (IsNoBlock m) m n t
+  value_within ty t off shape = by_global (global Gs ty) refl shape
+    where
+      by_global : (o : Option Inst) → global Gs ty ≡ o → option_map_or (tree_at Gs) o None ≡ Some t → (n : ℕ) × IsWithin (IsNoBlock m) m n t
+      by_global None at e = none_some e
+      by_global (Some h) at e =
+          let among = found_in Gs ty h at in
+          (h.at + 1, type_within (IsNoBlock m) part_plain h t among e (λ opcode. unblocked_value Gs (λ id. false) h among (subst (λ x. is_no_value_type m.heads Gs x ≡ false) (sym (named Gs ty h at)) off) opcode))

@@ -71,7 +71,7 @@ unfolding kind number
 pointer_kind code.TypePointer e = refl
 pointer_kind o e = cc
 
-no_pointee : (gs : List Inst) (ty : ℕ) (t : Tree) → type_tree gs ty ≡ Some t → pointee gs ty ≡ None
+pub no_pointee : (gs : List Inst) (ty : ℕ) (t : Tree) → type_tree gs ty ≡ Some t → pointee gs ty ≡ None
 no_pointee gs ty t shape = by_global (global gs ty) shape
   where
     by_test : (g : Inst) (b : Bool) → is g.op code.TypePointer ≡ b → tree_at gs g ≡ Some t → option_map (λ (p : Inst). slice_index p.args 1) (if b then Some g else None) ≡ None

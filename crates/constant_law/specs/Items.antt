@@ -9,7 +9,7 @@ use Rattle.spv_module.specs.declared.inst.Inst.{Inst}
 use Rattle.spv_module.specs.declared.tree.Elem.TheVariants as elem
 use Rattle.spv_module.specs.declared.tree.Length.TheVariants.{Fixed}
 use Rattle.spv_types.specs.Tree as plain
-use Rattle.spv_types.specs.Tree.{Tree, Trees, no_trees, tree, word as value_word}
+use Rattle.spv_types.specs.Tree.{Tree, Trees, no_trees, tree, ValueTree, word as value_word}
 use Rattle.spv_types.specs.Types.{type_tree}
 use Rattle.spv_decor.specs.Rows.{word}
 use Rattle.profile_rules.specs.declared.given.Given.{Given}
@@ -85,5 +85,5 @@ pub record AreAsked (s : Setting) (entry : Option (List ℕ)) (overrides : List 
   pub spec_ids : AreSpecIds (source_of s overrides)
   pub sizes : AreSizes (source_of s overrides)
   pub lengths : HaveLengths s
-  pub short : (g : Inst) (t : Tree) → IsAmong g s.of.globals → is_declared_constant (source_of s overrides) r g ≡ true → type_tree s.of.globals g.ty ≡ Some t → IsShort t
+  pub short : (g : Inst) (t : Tree) (v : ValueTree) → IsAmong g s.of.globals → is_declared_constant (source_of s overrides) r g ≡ true → s.constants g.result ≡ Some v → type_tree s.of.globals g.ty ≡ Some t → IsShort t
   pub members : (g : Inst) (t : Tree) → IsAmong g s.of.globals → is_declared_constant (source_of s overrides) r g ≡ true → type_tree s.of.globals g.ty ≡ Some t → HasMembersApart (struct_names (key_text found)) t

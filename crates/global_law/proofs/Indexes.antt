@@ -44,7 +44,7 @@ plain_reading GroupSize e = cc
 plain_reading (GroupSizePart axis) e = cc
 
 -- a scalar that has a word is a number
-word_number : (s : Setting) (y : StructNames) (t : Tree) (i : ℕ) → is_scalar t ≡ true → fits t (word i) ≡ true → index_word (typed (shape_in s y t) (word i)) ≡ Some i
+pub word_number : (s : Setting) (y : StructNames) (t : Tree) (i : ℕ) → is_scalar t ≡ true → fits t (word i) ≡ true → index_word (typed (shape_in s y t) (word i)) ≡ Some i
 word_number s y plain.int i on fit = refl
 word_number s y plain.uint i on fit = refl
 word_number s y plain.boolean i on fit = cc

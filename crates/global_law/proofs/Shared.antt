@@ -7,6 +7,7 @@ use Rattle.std.proofs.lemmas.Bool.Decides.{eqb_tells}
 use Rattle.std.proofs.lemmas.List.Concat.{flat_map-cons}
 use Rattle.std.proofs.lemmas.Slice.Eq.{bytes_eq-Decides}
 use Rattle.spv_ops.specs.Opcode.{is, number}
+use Rattle.spv_ops.specs.Enumerants.{class_number}
 use Rattle.spv_ops.specs.Operands.{is_id}
 use Rattle.spv_ops.specs.Groups.{is_constant as is_constant_op}
 use Rattle.spv_ops.specs.declared.Op.{Op}
@@ -23,7 +24,7 @@ use Rattle.layout_rules.specs.Blocks.{block_of, is_block_class, as_struct}
 use Rattle.spv_index.specs.Pointers.{pointee}
 use Rattle.spv_index.specs.BlockStructs.{is_block}
 use Rattle.spv_module.specs.Held.{global}
-use Rattle.module_semantics.specs.Setting.{Setting, global_variable, reached_functions, is_mentioned, is_in_class, shared_number}
+use Rattle.module_semantics.specs.Setting.{Setting, global_variable, is_mentioned, is_in_class, shared_number}
 use Rattle.module_semantics.specs.Setting as settings
 use Rattle.name_alloc.specs.declared.claims.Key.{Key}
 use Rattle.name_alloc.specs.declared.claims.Key.TheVariants.{Id}
@@ -149,8 +150,9 @@ either_true false = refl
 operand_same : (n : ℕ) (i : Inst) → has_operand i n ≡ settings.has_operand n i
 operand_same n i = any_same (λ (p : ℕ × ℕ). is_id i.op i.args p.0 && (p.1 == n)) (λ (p : ℕ × ℕ). (p.1 == n) && is_id i.op i.args p.0) (enumerate_from 0 i.args) (λ p. both_ways (is_id i.op i.args p.0) (p.1 == n))
 
-pub mentioned_same : (s : Setting) (fs : List Function) (n : ℕ) → fs ≡ reached_functions s → is_operand_in fs n ≡ is_mentioned s n
-mentioned_same s fs n is = ap (λ fs. is_operand_in fs n) is ∙ any_same (λ (f : Function). list_any (λ (i : Inst). has_operand i n) (insts_of f)) (λ (f : Function). list_any (settings.has_operand n) (insts_of f)) (reached_functions s) (λ f. any_same (λ (i : Inst). has_operand i n) (settings.has_operand n) (insts_of f) (operand_same n))
+-- an instruction of these functions mentions it, as the text and as the module ask for it
+pub mentioned_same : (fs : List Function) (n : ℕ) → is_operand_in fs n ≡ list_any (λ (f : Function). list_any (settings.has_operand n) (insts_of f)) fs
+mentioned_same fs n = any_same (λ (f : Function). list_any (λ (i : Inst). has_operand i n) (insts_of f)) (λ (f : Function). list_any (settings.has_operand n) (insts_of f)) fs (λ f. any_same (λ (i : Inst). has_operand i n) (settings.has_operand n) (insts_of f) (operand_same n))
 
 first_off : (a b : Bool) → a ≡ false → (a && b) ≡ false
 first_off true b e = cc
@@ -178,7 +180,7 @@ both_true : (a b : Bool) → (a && b) ≡ true → (a ≡ true) × (b ≡ true)
 both_true true b e = (refl, e)
 both_true false b e = cc
 
-module _ (s : Setting) (overrides : List (ℕ × Given)) (key : Key → Text) (calculated : Inst → Expr) (r : Reached) (functions : r.functions ≡ reached_functions s) where
+module _ (s : Setting) (overrides : List (ℕ × Given)) (key : Key → Text) (calculated : Inst → Expr) (r : Reached) (mentions : (n : ℕ) → is_operand_in r.functions n ≡ is_mentioned s n) where
   abbrev source : Source
   source = source_of s overrides
 
@@ -192,16 +194,16 @@ module _ (s : Setting) (overrides : List (ℕ × Given)) (key : Key → Text) (c
   -- it is written as one item
   workgroup_written : (g : Inst) → is_in_class storage.Workgroup g ≡ true → declaration source r N g ≡ (if is_mentioned s g.result then tree.shared (type_at source N (pointee_at source g.ty)) (N.id g.result) ∷ [] else [])
   workgroup_written g on =
-      let parts = both_true (is g.op code.Variable) (printed.class g == 4) on in
-      let number : printed.class g ≡ 4 = same_number (printed.class g) 4 parts.1 in
+      let parts = both_true (is g.op code.Variable) (printed.class g == class_number storage.Workgroup) on in
+      let number : printed.class g ≡ class_number storage.Workgroup = same_number (printed.class g) (class_number storage.Workgroup) parts.1 in
       let ops = variable_op g.op parts.0 in
       let no_struct : is_written_struct source r g ≡ false = first_off (is g.op code.TypeStruct) (not (is_block s.of.heads g.result) && list_any (type_has_struct s.of.globals g.result) (written_types source r)) ops.0 in
       let no_constant : is_declared_constant source r g ≡ false = first_off (is_constant_op g.op) (is_named (reading source g) && (is_some (free_spec_id source g.result) || is_needed source r g.result)) ops.1 in
-      let no_private : is_private g ≡ false = ap (λ n. is g.op code.Variable && (n == 6)) number ∙ never (is g.op code.Variable) in
+      let no_private : is_private g ≡ false = ap (λ n. is g.op code.Variable && (n == class_number storage.Private)) number ∙ never (is g.op code.Variable) in
       let written : is_written_variable r g ≡ is_mentioned s g.result
-      = ap (λ a. (a || (is_workgroup g || is_block_variable g)) && is_operand_in r.functions g.result) no_private ∙ ap (λ a. (a || is_block_variable g) && is_operand_in r.functions g.result) on ∙ mentioned_same s r.functions g.result functions in
+      = ap (λ a. (a || (is_workgroup g || is_block_variable g)) && is_operand_in r.functions g.result) no_private ∙ ap (λ a. (a || is_block_variable g) && is_operand_in r.functions g.result) on ∙ mentions g.result in
       let no_block : block_of s.of.globals g ≡ None
-      = no_other (is g.op code.Variable && is_block_class (slice_index g.args 0)) (option_and_then as_struct (option_and_then (global s.of.globals) (pointee s.of.globals g.ty))) (ap (λ n. is g.op code.Variable && ((n == 2) || ((n == 9) || (n == 12)))) number ∙ never (is g.op code.Variable)) in
+      = no_other (is g.op code.Variable && is_block_class (slice_index g.args 0)) (option_and_then as_struct (option_and_then (global s.of.globals) (pointee s.of.globals g.ty))) (ap (λ n. is g.op code.Variable && is_block_class n) number ∙ never (is g.op code.Variable)) in
       ap (λ b. if b then struct_decl source N g ∷ [] else (if is_declared_constant source r g then constant_decl source N g ∷ [] else (if is_written_variable r g then variable_decl source N g (block_of s.of.globals g) else []))) no_struct
       ∙ ap (λ b. if b then constant_decl source N g ∷ [] else (if is_written_variable r g then variable_decl source N g (block_of s.of.globals g) else [])) no_constant
       ∙ ap₂ (λ b o. if b then variable_decl source N g o else []) written no_block
@@ -283,7 +285,7 @@ module _ (s : Setting) (overrides : List (ℕ × Given)) (key : Key → Text) (c
         whole = refl;
         inst = v;
         there = there;
-        class = same_number (printed.class v) 4 (both_true (is v.op code.Variable) (printed.class v == 4) class).1;
+        class = same_number (printed.class v) (class_number storage.Workgroup) (both_true (is v.op code.Variable) (printed.class v == class_number storage.Workgroup) class).1;
         itself = itself;
         outside = outside;
         typed_as = ap (λ o. type_tree s.of.globals (unwrap_or o 0)) points ∙ shape;

@@ -151,7 +151,7 @@ module _ (s : Setting) (entry : Option (List ℕ)) (right : IsConforming s.of en
   constant_there : (g : Inst) → is_declared_constant source r g ≡ true → is_constant_op g.op ≡ true
   constant_there g on = and_left (is_constant g) (is_named (reading source g) && (is_some (free_spec_id source g.result) || is_needed source r g.result)) on
 
-  item_named : (g : Inst) → IsAmong g Gs → is_item source r g ≡ true → HasName found (Id (id g.result))
+  pub item_named : (g : Inst) → IsAmong g Gs → is_item source r g ≡ true → HasName found (Id (id g.result))
   item_named g among on = by_kind (is_written_struct source r g) (is_declared_constant source r g) (is_written_variable r g) refl refl refl on
     where
       there : IsIn g Gs

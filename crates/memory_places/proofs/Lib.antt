@@ -4,7 +4,7 @@ mod Gaining
 pub mod Positions
 mod Numbers
 mod Mentioned
-mod Reached
+pub mod Reached
 mod Fine
 pub mod Narrow
 mod Wanting

@@ -36,7 +36,7 @@ use Rattle.type_law.proofs.Places.{part_leads}
 use Rattle.type_law.proofs.Rows.{is_a_type}
 use Rattle.type_law.proofs.Vectors.{three_off}
 use Rattle.typed_law.specs.Conforms.{IsConforming}
-use Rattle.typed_law.proofs.Lists.{and_left, and_off, not_off, same_some, found_in, none_at_fault}
+use Rattle.typed_law.proofs.Lists.{and_left, and_right, and_off, not_off, same_some, found_in, none_at_fault}
 use Rattle.typed_law.proofs.Types.{row_is}
 use Rattle.typed_law.proofs.Used.{struct_part, IsMemberSized, member_sized}
 use Rattle.typed_law.proofs.Calls.{class_is, global_variable_is, global_points}
@@ -135,7 +135,7 @@ module _ (s : Setting) (entry : Option (List ℕ)) (right : IsConforming s.of en
     variable_is : is_variable v ≡ true
     variable_is = (global_variable_is s entry right chosen have id v is_it).1
 
-    points : (q : ℕ) × (t : Tree) × (pointee Gs v.ty ≡ Some q) × (type_tree Gs q ≡ Some t)
+    pub points : (q : ℕ) × (t : Tree) × (pointee Gs v.ty ≡ Some q) × (type_tree Gs q ≡ Some t)
     points = let w = global_points s entry right chosen have id v is_it in (w.0, w.1, w.2, w.3)
 
     of_number : word v 0 ≡ class_number class
@@ -148,7 +148,7 @@ module _ (s : Setting) (entry : Option (List ℕ)) (right : IsConforming s.of en
     is_a_block = ap (λ n. AreBlocks n (is_variable v)) of_number ∙ ap (AreBlocks (class_number class)) variable_is ∙ block
 
     -- the struct to which it points
-    found : (g : Inst) × (global_inst Gs points.0 ≡ Some g) × (tree_at Gs g ≡ Some points.1)
+    pub found : (g : Inst) × (global_inst Gs points.0 ≡ Some g) × (tree_at Gs g ≡ Some points.1)
     found = type_found Gs points.0 points.1 points.3
 
     abbrev g : Inst
@@ -157,13 +157,20 @@ module _ (s : Setting) (entry : Option (List ℕ)) (right : IsConforming s.of en
     row : type_row Gs points.0 ≡ Some g
     row = row_is s.of entry right points.0 g found.1 (is_a_type Gs (tree_before Gs g.at) g points.1 found.2)
 
-    struct_is : is g.op code.TypeStruct ≡ true
-    struct_is =
+    block_struct : ((is g.op code.TypeStruct) && is_block_struct s.of.heads (word v 0) g.result) ≡ true
+    block_struct =
         let off = block_pointee (count_by is_push (body_insts s.of)) v (block_right v in_body) variable_is is_a_block in
         let here : is_no_block s.of.heads (word v 0) g ≡ false = sym (ap (λ o. option_map_or (is_no_block s.of.heads (word v 0)) o false) (ap (option_and_then (type_row Gs)) points.2 ∙ row)) ∙ off in
-        and_left (is g.op code.TypeStruct) (is_block_struct s.of.heads (word v 0) g.result) (not_off ((is g.op code.TypeStruct) && is_block_struct s.of.heads (word v 0) g.result) here)
+        not_off ((is g.op code.TypeStruct) && is_block_struct s.of.heads (word v 0) g.result) here
 
-    block_is : block_of Gs v ≡ Some g
+    pub struct_is : is g.op code.TypeStruct ≡ true
+    struct_is = and_left (is g.op code.TypeStruct) (is_block_struct s.of.heads (word v 0) g.result) block_struct
+
+    -- which is decorated as a block of the variable's class
+    pub decorated_is : is_block_struct s.of.heads (word v 0) g.result ≡ true
+    decorated_is = and_right (is g.op code.TypeStruct) (is_block_struct s.of.heads (word v 0) g.result) block_struct
+
+    pub block_is : block_of Gs v ≡ Some g
     block_is =
         ap (λ (b : Bool). if b && is_block_class (word v 0) then option_and_then as_struct (option_and_then (global_inst Gs) (pointee Gs v.ty)) else None) variable_is
         ∙ ap (λ (b : Bool). if b then option_and_then as_struct (option_and_then (global_inst Gs) (pointee Gs v.ty)) else None) (ap is_block_class of_number ∙ in_class)
@@ -174,13 +181,13 @@ module _ (s : Setting) (entry : Option (List ℕ)) (right : IsConforming s.of en
     type_is : variable_type s v ≡ points.0
     type_is = ap (λ o. unwrap_or o 0) points.2
 
-    parts : (ts : Trees) × (all_trees (tree_before Gs g.at) g.args ≡ Some ts) × (points.1 ≡ plain.struct g.result ts)
+    pub parts : (ts : Trees) × (all_trees (tree_before Gs g.at) g.args ≡ Some ts) × (points.1 ≡ plain.struct g.result ts)
     parts = struct_shape Gs (tree_before Gs g.at) g g.op points.1 struct_is found.2
 
     shape_is : type_tree Gs (variable_type s v) ≡ Some (plain.struct g.result parts.0)
     shape_is = ap (type_tree Gs) type_is ∙ points.3 ∙ ap Some parts.2
 
-    member_fine : (i : ℕ) (u : Tree) → nth_of parts.0 i ≡ Some u → IsFineMember u
+    pub member_fine : (i : ℕ) (u : Tree) → nth_of parts.0 i ≡ Some u → IsFineMember u
     member_fine i u at =
         let part : part_type s (variable_type s v) i ≡ slice_index g.args i = ap (λ o. option_map_or (λ (x : Inst). part_by x.op x.args i) o 0) (ap (global_inst Gs) type_is ∙ found.1) ∙ struct_part_by g.op g.args i struct_is in
         let typed : type_tree Gs (slice_index g.args i) ≡ Some u = ap (type_tree Gs) (sym part) ∙ part_leads s (variable_type s v) i (plain.struct g.result parts.0) u shape_is at in

@@ -22,7 +22,7 @@ use Rattle.module_semantics.specs.Memory.{location, shape_along, elements, are_a
 use Rattle.module_semantics.specs.Operands.{Target, as_pointer, of_module, held, value_at, pointer_at, word_at, words_at, arg}
 use Rattle.module_semantics.specs.Accesses.{seen, kept, keeping, with_lent}
 use Rattle.module_semantics.specs.Steps as the
-use Rattle.module_semantics.specs.Steps.{with_some, advanced, set, set_value, computed, operation_step, base, lead_if, without_based, chain_step, length_step, variable_step, read_shape, load_from, load_step, store_to, store_step, atomic_operation, atomic_operands, set_found, atomic_step, memory_barriers, memory_barrier_step, control_barrier_step, phis, argument_of, entered, called, call_step, return_step, given_to, return_value_step, target_label, phi_value, present_label, gone_to, edge_step, branch_step, StepKind, step_kind, step_by, act_on, act}
+use Rattle.module_semantics.specs.Steps.{with_some, advanced, set, set_value, computed, operation_step, base, lead_if, without_based, chain_step, length_step, variable_step, read_shape, load_from, load_step, store_to, store_step, atomic_operation, atomic_operands, set_found, atomic_step, memory_barriers, memory_barrier_step, control_barrier_step, phis, entered, called, call_step, return_step, given_to, return_value_step, target_label, phi_value, present_label, gone_to, edge_step, branch_step, StepKind, step_kind, step_by, act_on, act}
 use Rattle.fits_law.specs.State.{place_shape, target_shape, root_shape, functions_of, LeadsTo, IdsFit, ModuleFits}
 use Rattle.fits_law.proofs.Operations.{before_some}
 use Rattle.type_law.specs.Shaped.{AreConstants}
