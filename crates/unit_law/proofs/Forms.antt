@@ -94,6 +94,20 @@ module _ (gs : List Inst) (f : Function) where
           none_told : None ≡ Some x → ⊥
           none_told e = cc
 
+  -- 0 is no result
+  pub unmade_gone : (links : List Link) → form (record { globals = gs; function = f; links = links }) 0 ≡ Gone
+  unmade_gone links = by_form ((known gs f (results links f)).forms 0) refl
+    where
+      none_told : (x : Form) → None ≡ Some x → ⊥
+      none_told x e = cc
+
+      by_form : (o : Option Form) → (known gs f (results links f)).forms 0 ≡ o → unwrap_or o Gone ≡ Gone
+      by_form None told = refl
+      by_form (Some x) told = elim (told_result nothing (results links f) 0 x told) [
+        | inl here ↦ absurd (none_told x here)
+        | inr there ↦ let w = made_by links f there.0 there.1 in absurd (w.some (ap (λ (q : Placed). q.result) w.is ∙ there.2))
+      ]
+
   module _ (links : List Link) (ordered : AreOrdered f (results links f)) where
     pub form_at : (p : Placed) → IsIn p (results links f) → (k : ℕ → Option ℕ) × (form (record { globals = gs; function = f; links = links }) p.result ≡ form_with gs f k p)
     form_at p among =

@@ -140,14 +140,14 @@ module _ (m : ModuleState) (entry : Option (List ℕ)) (right : IsConforming m e
     members_free : (ts : Trees) → is g.op code.TypeStruct ≡ true → all_trees (tree_before m.globals g.at) g.args ≡ Some ts → AreAllFree ts
     members_free ts on all = all_free g.args ts (λ p there. member_part g.op g.args p on there) all
 
-    struct_free : is_among (block_misuses m) g.result ≡ true → (q : Option Trees) (t : Tree) → all_trees (tree_before m.globals g.at) g.args ≡ q → is g.op code.TypeStruct ≡ true → option_map (struct g.result) q ≡ Some t → AreFree t
-    struct_free own None t all on is = cc
-    struct_free own (Some ts) t all on is = subst AreFree (same_some (struct g.result ts) t is) (λ n has. by_own n (g.result == n) refl has)
+    struct_free : (is g.op code.TypeStruct ≡ true → is_block m.heads g.result ≡ false) → (q : Option Trees) (t : Tree) → all_trees (tree_before m.globals g.at) g.args ≡ q → is g.op code.TypeStruct ≡ true → option_map (struct g.result) q ≡ Some t → AreFree t
+    struct_free top None t all on is = cc
+    struct_free top (Some ts) t all on is = subst AreFree (same_some (struct g.result ts) t is) (λ n has. by_own n (g.result == n) refl has)
       where
         by_own : (n : ℕ) (b : Bool) → (g.result == n) ≡ b → (b || have_struct n ts) ≡ true → IsFree n
         by_own n true same has =
             let here : g.result ≡ n = test_same g.result n same in
-            record { ty = g; among = among; is_struct = on; result = here; free = subst (λ (k : ℕ). is_block m.heads k ≡ false) here (free_struct g among on own) }
+            record { ty = g; among = among; is_struct = on; result = here; free = subst (λ (k : ℕ). is_block m.heads k ≡ false) here (top on) }
         by_own n false other has = members_free ts on all n has
 
     vector_free : (o : Option Tree) (n : ℕ) (t : Tree) → vector_tree o n ≡ Some t → AreFree t
@@ -163,24 +163,24 @@ module _ (m : ModuleState) (entry : Option (List ℕ)) (right : IsConforming m e
         by_elem None is = cc
         by_elem (Some e) is = by_size e (nat_le 2 n) (nat_le n 4) is
 
-    kind_free : is_among (block_misuses m) g.result ≡ true → (k : TypeKind) (t : Tree) → kind g.op ≡ k → tree_by_kind m.globals (tree_before m.globals g.at) g k ≡ Some t → AreFree t
-    kind_free own kinds.Bool t on is = subst AreFree (same_some boolean t is) (λ n has. never has)
-    kind_free own kinds.Int t on is = by_width (slice_index g.args 0 == 32) (slice_index g.args 1 == 0) (slice_index g.args 1 == 1) is
+    kind_free : (is g.op code.TypeStruct ≡ true → is_block m.heads g.result ≡ false) → (k : TypeKind) (t : Tree) → kind g.op ≡ k → tree_by_kind m.globals (tree_before m.globals g.at) g k ≡ Some t → AreFree t
+    kind_free top kinds.Bool t on is = subst AreFree (same_some boolean t is) (λ n has. never has)
+    kind_free top kinds.Int t on is = by_width (slice_index g.args 0 == 32) (slice_index g.args 1 == 0) (slice_index g.args 1 == 1) is
       where
         by_width : (a b c : Bool) → (if a then (if b then Some uint else (if c then Some int else None)) else None) ≡ Some t → AreFree t
         by_width true true c is = subst AreFree (same_some uint t is) (λ n has. never has)
         by_width true false true is = subst AreFree (same_some int t is) (λ n has. never has)
         by_width true false false is = cc
         by_width false b c is = cc
-    kind_free own kinds.Vector t on is = vector_free (tree_before m.globals g.at (slice_index g.args 0)) (slice_index g.args 1) t is
-    kind_free own kinds.Array t on is = array_free (tree_before m.globals g.at (slice_index g.args 0)) (length_by (slice_index g.args 1) (global m.globals (slice_index g.args 1))) t refl (array_op g.op on) is
-    kind_free own kinds.Runtime t on is = runtime_free (tree_before m.globals g.at (slice_index g.args 0)) t refl (runtime_op g.op on) is
-    kind_free own kinds.Struct t on is = struct_free own (all_trees (tree_before m.globals g.at) g.args) t refl (struct_op g.op on) is
-    kind_free own kinds.Other t on is = cc
+    kind_free top kinds.Vector t on is = vector_free (tree_before m.globals g.at (slice_index g.args 0)) (slice_index g.args 1) t is
+    kind_free top kinds.Array t on is = array_free (tree_before m.globals g.at (slice_index g.args 0)) (length_by (slice_index g.args 1) (global m.globals (slice_index g.args 1))) t refl (array_op g.op on) is
+    kind_free top kinds.Runtime t on is = runtime_free (tree_before m.globals g.at (slice_index g.args 0)) t refl (runtime_op g.op on) is
+    kind_free top kinds.Struct t on is = struct_free top (all_trees (tree_before m.globals g.at) g.args) t refl (struct_op g.op on) is
+    kind_free top kinds.Other t on is = cc
 
   free_at : (k : ℕ) (g : Inst) (t : Tree) → IsIn g m.globals → g.at < k → is_among (block_misuses m) g.result ≡ true → tree_at m.globals g ≡ Some t → AreFree t
   free_at zero g t among less own is = absurd (omega (arith, less))
-  free_at (suc k) g t among less own is = kind_free g among (λ p v misused part. part_of p v misused part (free_at k)) own (kind g.op) t refl is
+  free_at (suc k) g t among less own is = kind_free g among (λ p v misused part. part_of p v misused part (free_at k)) (λ on. free_struct g among on own) (kind g.op) t refl is
     where
       part_of : (p : ℕ) (v : Tree) → is_among (block_misuses m) p ≡ true → tree_before m.globals g.at p ≡ Some v → ((h : Inst) (w : Tree) → IsIn h m.globals → h.at < k → is_among (block_misuses m) h.result ≡ true → tree_at m.globals h ≡ Some w → AreFree w) → AreFree v
       part_of p v misused part known = by_earlier (earlier m.globals g.at p) refl (sym (tree_before_is m.globals g.at p) ∙ part)
@@ -201,3 +201,18 @@ module _ (m : ModuleState) (entry : Option (List ℕ)) (right : IsConforming m e
       by_global (Some g) at is =
           let there = found_in m.globals ty g at in
           free_at (suc g.at) g t there.0 (let less : g.at < suc g.at = omega arith in less) (subst (λ (n : ℕ). is_among (block_misuses m) n ≡ true) (sym there.1) misused) is
+
+  -- the parts of any type
+  part_known : (g : Inst) → IsIn g m.globals → (p : ℕ) (v : Tree) → is_among (block_misuses m) p ≡ true → tree_before m.globals g.at p ≡ Some v → AreFree v
+  part_known g among p v misused part = by_earlier (earlier m.globals g.at p) refl (sym (tree_before_is m.globals g.at p) ∙ part)
+    where
+      by_earlier : (o : Option Inst) → earlier m.globals g.at p ≡ o → option_map_or (tree_at m.globals) o None ≡ Some v → AreFree v
+      by_earlier None at e = cc
+      by_earlier (Some h) at e = misused_free p v misused (ap (λ (o : Option Inst). option_map_or (tree_at m.globals) o None) (earlier_some m.globals g.at p h at).0 ∙ e)
+
+  -- a type that is itself no block's, and the members of any struct
+  pub open_free : (g : Inst) (t : Tree) → IsIn g m.globals → (is g.op code.TypeStruct ≡ true → is_block m.heads g.result ≡ false) → tree_at m.globals g ≡ Some t → AreFree t
+  open_free g t among top is = kind_free g among (part_known g among) top (kind g.op) t refl is
+
+  pub inner_free : (g : Inst) (ts : Trees) → IsIn g m.globals → is g.op code.TypeStruct ≡ true → all_trees (tree_before m.globals g.at) g.args ≡ Some ts → AreAllFree ts
+  inner_free g ts among on all = members_free g among (part_known g among) ts on all

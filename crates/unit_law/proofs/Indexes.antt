@@ -1,6 +1,6 @@
 -- The indexes of a conforming module's chains have shapes, and are no structs; no value of a function is.
-use Rattle.std.proofs.Common.{◌≡◌, ◌==◌, ℕ, Bool, true, false, List, [], ◌∷◌, drop, Option, Some, None, Contains, unwrap_or, inl, inr, refl, sym, ap, ◌∙◌, subst, if◌then◌else◌}
-use Rattle.std.specs.Prelude.{find, is_some, option_and_then}
+use Rattle.std.proofs.Common.{◌≡◌, ℕ, Bool, true, false, List, [], ◌∷◌, drop, Option, Some, None, Contains, unwrap_or, inl, inr, refl, sym, ap, ◌∙◌, subst, if◌then◌else◌}
+use Rattle.std.specs.Prelude.{is_some, option_and_then}
 use Rattle.std.specs.Option.{option_map_or, option_or}
 use Rattle.std.specs.List.{list_any}
 use Rattle.spv_ops.specs.Opcode.{is, number}
@@ -10,12 +10,11 @@ use Rattle.spv_ops.specs.declared.Op.TheVariants as code
 use Rattle.spv_module.specs.Held.{global}
 use Rattle.spv_module.specs.Inst.{has_type}
 use Rattle.spv_module.specs.Lists.{id}
-use Rattle.spv_module.specs.declared.inst.Id.{Id as IdOf}
 use Rattle.spv_module.specs.declared.inst.Inst.{Inst}
 use Rattle.spv_module.specs.declared.inst.Function.{Function}
 use Rattle.spv_types.specs.Types.{type_tree}
 use Rattle.spv_decor.specs.Rows.{word}
-use Rattle.spv_index.specs.Locals.{insts_of, inst_in, parameter_in, typed, global_type, local_type, type_in}
+use Rattle.spv_index.specs.Locals.{typed, global_type, local_type, type_in}
 use Rattle.spv_index.specs.Pointers.{storage_class}
 use Rattle.profile_rules.specs.TypeRows.{is_pointer, is_int, value_fails}
 use Rattle.profile_rules.specs.ValueRules.{chain_end, leads_elsewhere}
@@ -31,14 +30,14 @@ use Rattle.unit_rules.specs.Unit.{IsUnitOf}
 use Rattle.type_law.proofs.Vectors.{three_off}
 use Rattle.type_law.proofs.Chains.{HaveTypes}
 use Rattle.spell_law.specs.Uses.{Words, UsesExpr}
-use Rattle.typed_law.specs.Conforms.{IsConforming, IsParameter}
-use Rattle.typed_law.proofs.Lists.{some_part, or_left, or_right}
-use Rattle.typed_law.proofs.Values.{inside, passing, int_shaped, typed_result, has_a_type}
+use Rattle.typed_law.specs.Conforms.{IsConforming}
+use Rattle.typed_law.proofs.Lists.{or_left, or_right}
+use Rattle.typed_law.proofs.Values.{passing, int_shaped}
 use Rattle.claim_law.specs.Claimed.{IsIn}
 use Rattle.claim_law.proofs.Constants.{found_in}
 use Rattle.unit_law.specs.Words.{is_struct_key, words_of, AreOfStructs}
-use Rattle.unit_law.proofs.Lists.{same_test, test_same, found_by, as_among}
-use Rattle.unit_law.proofs.Ways.{HaveKinds, F, V, in_module, ordered, own_type_of, mapped_some}
+use Rattle.unit_law.proofs.Lists.{same_test, as_among}
+use Rattle.unit_law.proofs.Ways.{HaveKinds, F, V, in_module, local_outside}
 use Rattle.unit_law.proofs.Kept.{shaped_type}
 use Rattle.unit_law.proofs.Places.{IsRuled, IsReadable}
 
@@ -46,11 +45,6 @@ struct_untyped : (o : Op) → is o code.TypeStruct ≡ true → has_type o ≡ f
 unfolding shape number
 struct_untyped code.TypeStruct on = refl
 struct_untyped o on = cc
-
-as_parameter : (q : IdOf × IdOf) (ps : List (IdOf × IdOf)) → IsIn q ps → IsParameter q ps
-as_parameter q [] there = absurd there
-as_parameter q (p ∷ ps) (inl same) = inl same
-as_parameter q (p ∷ ps) (inr there) = inr (as_parameter q ps there)
 
 some_of : (x : Option ℕ) → is_some x ≡ true → (y : ℕ) × (x ≡ Some y)
 some_of None e = cc
@@ -75,23 +69,7 @@ module _ (s : Setting) (entry : Option (List ℕ)) (right : IsConforming s.of en
   in_it : Contains s.of.functions Fn
   in_it = in_module s entry right kinds o unit u p among
 
-  -- what a function makes is no global
-  local_outside : (n ty : ℕ) → local_type Fn n ≡ Some ty → global Gs n ≡ None
-  local_outside n ty told = by_parameter (parameter_in Fn n) refl told
-    where
-      by_parameter : (x : Option ℕ) → parameter_in Fn n ≡ x → option_or x (option_and_then typed (inst_in Fn n)) ≡ Some ty → global Gs n ≡ None
-      by_parameter (Some y) made told =
-          let q = mapped_some (λ (r : IdOf × IdOf). r.1.0) (find (λ (r : IdOf × IdOf). r.0.0 == n) Fn.params) y made in
-          let w = found_by (λ (r : IdOf × IdOf). r.0.0 == n) Fn.params q.0 q.1 in
-          subst (λ (k : ℕ). global Gs k ≡ None) (test_same q.0.0.0 n w.1) ((inside s entry right Fn in_it).outside q.0 (as_parameter q.0 Fn.params w.0))
-      by_parameter None made told =
-          let j = some_part typed (inst_in Fn n) ty told in
-          let w = found_in (insts_of Fn) n j.0 j.1 in
-          let own = own_type_of j.0 ty j.2 in
-          let formed = (inside s entry right Fn in_it).formed j.0 (as_among (insts_of Fn) j.0 w.0) in
-          subst (λ (k : ℕ). global Gs k ≡ None) w.1 ((ordered s entry right kinds o unit u p among).own j.0 (as_among (insts_of Fn) j.0 w.0) (formed.result (typed_result j.0.op (has_a_type j.0 formed own.1)))).inside
-
-  -- so a value is no struct
+  -- a value is no struct
   pub value_other : (n ty : ℕ) → T n ≡ Some ty → is_struct_key Gs (Id (id n)) ≡ false
   value_other n ty told = by_global (global Gs n) refl
     where
@@ -107,7 +85,7 @@ module _ (s : Setting) (entry : Option (List ℕ)) (right : IsConforming s.of en
       by_test g at false off = refl
       by_test g at true on =
           let none : global_type Gs n ≡ None = ap (option_and_then typed) at ∙ untyped g at on in
-          absurd (never g (sym at ∙ local_outside n ty (ap (λ (x : Option ℕ). option_or x (local_type Fn n)) (sym none) ∙ told)))
+          absurd (never g (sym at ∙ local_outside s entry right kinds o unit u p among n ty (ap (λ (x : Option ℕ). option_or x (local_type Fn n)) (sym none) ∙ told)))
 
       by_global : (q : Option Inst) → global Gs n ≡ q → option_map_or (λ (g : Inst). is g.op code.TypeStruct) q false ≡ false
       by_global None at = refl

@@ -27,3 +27,8 @@ pub mod Places
 pub mod Composed
 pub mod Indexes
 pub mod Ruled
+pub mod ArgWords
+pub mod ResultShapes
+pub mod CallTypes
+pub mod ResultTypes
+pub mod DeclaredConstants

@@ -3,9 +3,11 @@ use Rattle.std.proofs.Common.{◌≡◌, ◌<◌, ◌+◌, ◌==◌, ℕ, zero, 
 use Rattle.std.specs.Prelude.{◌⊎◌, slice_get}
 use Rattle.std.specs.List.{enumerate_from, list_any}
 use Rattle.std.proofs.lemmas.Bool.Decides.{eqb_tells, nat_tests}
+use Rattle.spv_module.specs.declared.inst.Id.{Id as IdOf}
 use Rattle.spv_module.specs.declared.inst.Inst.{Inst}
 use Rattle.spv_module.specs.declared.inst.Block.{Block}
 use Rattle.plan_law.specs.InOrder.{IsAmong}
+use Rattle.typed_law.specs.Conforms.{IsParameter}
 use Rattle.typed_law.proofs.Lists.{clash, no_true, same_some}
 use Rattle.claim_law.specs.Claimed.{IsIn}
 use Rattle.claim_law.proofs.Listed.{numbered, any_in}
@@ -160,6 +162,11 @@ pub as_among : (is : List Inst) (i : Inst) → IsIn i is → IsAmong i is
 as_among [] i among = absurd among
 as_among (j ∷ is) i (inl same) = inl same
 as_among (j ∷ is) i (inr among) = inr (as_among is i among)
+
+pub as_parameter : (q : IdOf × IdOf) (ps : List (IdOf × IdOf)) → IsIn q ps → IsParameter q ps
+as_parameter q [] there = absurd there
+as_parameter q (p ∷ ps) (inl same) = inl same
+as_parameter q (p ∷ ps) (inr there) = inr (as_parameter q ps there)
 
 -- the block in which an instruction stands
 pub in_block : (bs : List Block) (i : Inst) → IsIn i (flat_map (λ (b : Block). b.insts) bs) → (c : ℕ) × (block : Block) × (slice_get bs c ≡ Some block) × IsIn i block.insts

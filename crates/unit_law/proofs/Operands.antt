@@ -64,7 +64,7 @@ values_kind kind.Extended i id among = refl
 values_kind kind.Plain i id among = refl
 
 -- the same list by the opcode and the operands alone
-abbrev ids_at : OperationKind → Op → List ℕ → List ℕ
+abbrev pub ids_at : OperationKind → Op → List ℕ → List ℕ
 ids_at kind.Undef o args = []
 ids_at kind.CopyObject o args = slice_index args 0 ∷ []
 ids_at kind.ArrayLength o args = []
@@ -75,7 +75,7 @@ ids_at kind.Extended o args = value_words o (drop 2 args)
 ids_at kind.Plain o args = value_words o args
 ids_at kind.Other o args = []
 
-same_ids : (k : OperationKind) (i : Inst) → ids_by_kind k i ≡ ids_at k i.op i.args
+pub same_ids : (k : OperationKind) (i : Inst) → ids_by_kind k i ≡ ids_at k i.op i.args
 same_ids kind.Undef i = refl
 same_ids kind.CopyObject i = refl
 same_ids kind.ArrayLength i = refl
@@ -192,10 +192,18 @@ unfolding operation_of number
 operation_of_is code.ExtInst literals other = cc
 operation_of_is o literals other = refl
 
+is_extended_op : (o : Op) → is o code.ExtInst ≡ true → o ≡ code.ExtInst
+unfolding number
+is_extended_op code.ExtInst on = refl
+is_extended_op o on = cc
+
+extended_one : (args : List ℕ) → operation_of code.ExtInst (literal_operands code.ExtInst args) ≡ operation_in extended_opcodes (slice_index (take 1 (drop 1 args)) 0)
+unfolding operation_of
+extended_one args = refl
+
+-- by that one opcode: to look up the operation for each of all takes minutes
 extended_is : (o : Op) (args : List ℕ) → is o code.ExtInst ≡ true → operation_of o (literal_operands o args) ≡ operation_in extended_opcodes (slice_index (take 1 (drop 1 args)) 0)
-unfolding operation_of number
-extended_is code.ExtInst args on = refl
-extended_is o args on = cc
+extended_is o args on = ap (λ (q : Op). operation_of q (literal_operands q args)) (is_extended_op o on) ∙ extended_one args
 
 extended_group : (o : Op) → is o code.ExtInst ≡ true → group_of o ≡ groups.Extended
 unfolding group_of number

@@ -69,7 +69,7 @@ elem_is (runtime t) e is = cc
 elem_is (struct n ts) e is = cc
 
 -- the member of a struct
-nth_arg : (f : ℕ → Option Tree) (ids : List ℕ) (ts : Trees) (k : ℕ) (v : Tree) → all_trees f ids ≡ Some ts → nth_of ts k ≡ Some v → (slice_get ids k ≡ Some (slice_index ids k)) × (f (slice_index ids k) ≡ Some v)
+pub nth_arg : (f : ℕ → Option Tree) (ids : List ℕ) (ts : Trees) (k : ℕ) (v : Tree) → all_trees f ids ≡ Some ts → nth_of ts k ≡ Some v → (slice_get ids k ≡ Some (slice_index ids k)) × (f (slice_index ids k) ≡ Some v)
 nth_arg f [] ts k v is at = absurd (never (ap (λ x. nth_of x k) (same_trees no_trees ts is) ∙ at))
   where
     same_trees : (a b : Trees) → Some a ≡ Some b → a ≡ b

@@ -55,7 +55,7 @@ use Rattle.unit_law.proofs.Types.{of_types}
 use Rattle.unit_law.proofs.Structs.{HasNames, part_named}
 use Rattle.unit_law.proofs.Parts.{nth_has, Here}
 
-elem_free : (t : Tree) (k : ℕ) (v : Tree) (n : ℕ) → element_shape t k ≡ Some v → has_struct n v ≡ true → has_struct n t ≡ true
+pub elem_free : (t : Tree) (k : ℕ) (v : Tree) (n : ℕ) → element_shape t k ≡ Some v → has_struct n v ≡ true → has_struct n t ≡ true
 elem_free boolean k v n at has = cc
 elem_free int k v n at has = cc
 elem_free uint k v n at has = cc

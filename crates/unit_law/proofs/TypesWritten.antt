@@ -66,7 +66,7 @@ module _ (m : ModuleState) (o : Options) (unit : TranslationUnit) (u : IsUnitOf 
     pub return_type_written : IsIn (written p).result.0 Types
     return_type_written = of_signature (written p).result.0 (in_flat signature_types (map written u.plans) (written p) (written p).result.0 (in_mapped written u.plans p among) (inl refl))
 
-    type_written : (i : Inst) (of_it : IsOf (claims_by S p) i) → has_type_written (liveness_of S p) (slice_index_or (liveness_of S p).reached of_it.number false) i ≡ true → IsIn i.ty Types
+    pub type_written : (i : Inst) (of_it : IsOf (claims_by S p) i) → has_type_written (liveness_of S p) (slice_index_or (liveness_of S p).reached of_it.number false) i ≡ true → IsIn i.ty Types
     type_written i of_it on =
         of_live i.ty
         (in_flat (live_of types_of S) u.plans p i.ty among

@@ -46,7 +46,7 @@ no_pointer gs ty t shaped = by_global (global gs ty) shaped
     by_global (Some g) at = by_test g at (is g.op code.TypePointer) refl
 
 -- the types of instructions that are no variables
-value_type_in : (is : List Inst) (i : Inst) → IsIn i is → is_variable i ≡ false → is_among (filter_map value_type is) i.ty ≡ true
+pub value_type_in : (is : List Inst) (i : Inst) → IsIn i is → is_variable i ≡ false → is_among (filter_map value_type is) i.ty ≡ true
 value_type_in [] i there off = absurd there
 value_type_in (j ∷ is) i (inl same) off = subst (λ (x : Inst). is_among (filter_map value_type (x ∷ is)) i.ty ≡ true) (sym same) (by_test (is_variable i) off)
   where

@@ -44,7 +44,7 @@ use Rattle.claim_law.proofs.Listed.{in_flat, at_place}
 use Rattle.claim_law.proofs.Constants.{found_in}
 use Rattle.claim_law.proofs.Named.{result_named, parameter_named}
 use Rattle.unit_law.specs.Mentioned.{IsMentioned, Stands, IsValueIn}
-use Rattle.unit_law.proofs.Lists.{same_test, test_same, contained, of_filter, found_by, as_among, in_block}
+use Rattle.unit_law.proofs.Lists.{same_test, test_same, contained, of_filter, found_by, as_among, as_parameter, in_block}
 use Rattle.unit_law.proofs.Links.{as_linked, mention_at, own_block, placed_in, user_is, mention_stands, maker_live}
 use Rattle.unit_law.proofs.Forms.{placed, is_placed, made_by, formed_result, form_at, mentioned_form, wanted_form}
 use Rattle.unit_law.proofs.Shaped.{pointer_none, shaped_value}
@@ -220,6 +220,22 @@ module _ (s : Setting) (entry : Option (List ℕ)) (right : IsConforming s.of en
   abbrev Gs : List Inst
   Gs = s.of.globals
 
+  -- what a function makes is no global
+  pub local_outside : (n ty : ℕ) → local_type F n ≡ Some ty → global Gs n ≡ None
+  local_outside n ty told = by_parameter (parameter_in F n) refl told
+    where
+      by_parameter : (x : Option ℕ) → parameter_in F n ≡ x → option_or x (option_and_then typed (inst_in F n)) ≡ Some ty → global Gs n ≡ None
+      by_parameter (Some y) made told =
+          let q = mapped_some (λ (r : IdOf × IdOf). r.1.0) (find (λ (r : IdOf × IdOf). r.0.0 == n) F.params) y made in
+          let w = found_by (λ (r : IdOf × IdOf). r.0.0 == n) F.params q.0 q.1 in
+          subst (λ (k : ℕ). global Gs k ≡ None) (test_same q.0.0.0 n w.1) ((inside s entry right F in_module).outside q.0 (as_parameter q.0 F.params w.0))
+      by_parameter None made told =
+          let j = some_part typed (inst_in F n) ty told in
+          let w = found_in (insts_of F) n j.0 j.1 in
+          let own = own_type_of j.0 ty j.2 in
+          let formed = (inside s entry right F in_module).formed j.0 (as_among (insts_of F) j.0 w.0) in
+          subst (λ (k : ℕ). global Gs k ≡ None) w.1 (ordered.own j.0 (as_among (insts_of F) j.0 w.0) (formed.result (typed_result j.0.op (has_a_type j.0 formed own.1)))).inside
+
   -- what makes a value that is no global: a parameter, which has a name, or an instruction
   module _ (n : ℕ) (t : Tree) (whole : type_tree s.of.globals (type_of V n) ≡ Some t) (local : V.setting.global n ≡ None) where
     abbrev pub IsMadeSo : Type 0
@@ -252,12 +268,13 @@ module _ (s : Setting) (entry : Option (List ℕ)) (right : IsConforming s.of en
         let w = found_by (λ (r : IdOf × IdOf). r.0.0 == n) F.params q.0 q.1 in
         by_parameter q.0 w.0 (test_same q.0.0.0 n w.1) y made
 
-    by_kind : (g : Inst) → IsIn g Gs → global Gs n ≡ Some g → (g.ty ≡ 0 → ⊥) → type_tree Gs g.ty ≡ Some t → (is_constant_op g.op ≡ true) ⊎ (is g.op code.Variable ≡ true) → IsMadeSo
-    by_kind g there at some shaped (inl constant) =
-        absurd (not_read (is_constant g) (constant_expr S (id_text Found) g) _ constant (ap (option_and_then (global_by S (id_text Found))) (sym at) ∙ local))
-    by_kind g there at some shaped (inr variable) =
+    -- no global has its id and its type
+    pub never_global : (g : Inst) → IsIn g Gs → global Gs n ≡ Some g → (g.ty ≡ 0 → ⊥) → type_tree Gs g.ty ≡ Some t → (is_constant_op g.op ≡ true) ⊎ (is g.op code.Variable ≡ true) → ⊥
+    never_global g there at some shaped (inl constant) =
+        not_read (is_constant g) (constant_expr S (id_text Found) g) _ constant (ap (option_and_then (global_by S (id_text Found))) (sym at) ∙ local)
+    never_global g there at some shaped (inr variable) =
         let row = global_row s entry right g (as_among Gs g there) some in
-        absurd (pointer_none Gs row.0 t (variable_type_is g.op row.0 variable row.2) (ap (λ x. option_map_or (tree_at Gs) x None) (sym row.1) ∙ shaped))
+        pointer_none Gs row.0 t (variable_type_is g.op row.0 variable row.2) (ap (λ x. option_map_or (tree_at Gs) x None) (sym row.1) ∙ shaped)
 
     by_global : (x : Option ℕ) → global_type Gs n ≡ x → (ty : ℕ) → type_tree Gs ty ≡ Some t → option_or x (local_type F n) ≡ Some ty → IsMadeSo
     by_global None at ty shaped is = by_local (parameter_in F n) refl ty shaped is
@@ -265,7 +282,7 @@ module _ (s : Setting) (entry : Option (List ℕ)) (right : IsConforming s.of en
         let g = some_part typed (global Gs n) y at in
         let own = own_type_of g.0 y g.2 in
         let there = found_in Gs n g.0 g.1 in
-        by_kind g.0 there.0 g.1 own.1 (ap (type_tree Gs) (own.0 ∙ same_some y ty is) ∙ shaped) (kinds g.0 there.0 own.1)
+        absurd (never_global g.0 there.0 g.1 own.1 (ap (type_tree Gs) (own.0 ∙ same_some y ty is) ∙ shaped) (kinds g.0 there.0 own.1))
 
     by_type : (x : Option ℕ) → type_in Gs F n ≡ x → type_tree Gs (unwrap_or x 0) ≡ Some t → IsMadeSo
     by_type None is shaped = absurd (no_some t (sym (ap (λ x. option_map_or (tree_at Gs) x None) right.results.none) ∙ shaped))

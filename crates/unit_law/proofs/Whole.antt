@@ -1,4 +1,4 @@
--- In the tree of a function stand reached blocks, and each switch has groups with labels.
+-- In the tree of a function stand reached blocks, edges lead from one to the next, and each switch has groups with labels.
 use Rattle.std.proofs.Common.{◌≡◌, ◌<◌, ◌≤◌, ◌==◌, ◌&&◌, ◌||◌, not, ℕ, zero, suc, Bool, true, false, List, [], ◌∷◌, ◌++◌, length, map, filter, drop, Option, Some, None, inl, inr, refl, sym, ap, ◌∙◌, subst, arith, if◌then◌else◌}
 use Rattle.std.specs.Prelude.{slice_get, slice_index}
 use Rattle.std.specs.Option.{option_map_or}
@@ -21,7 +21,7 @@ use Rattle.structure_recover.specs.declared.edges.Start.TheVariants.{Block, Body
 use Rattle.structure_recover.specs.declared.edges.Next.{Next}
 use Rattle.structure_recover.specs.declared.edges.Next.TheVariants.{At, Stop}
 use Rattle.structure_recover.specs.Tree.{Region, ends, item, Item, plain, choose, loose, loop, loop_on, switch, Groups, none, group, head, targets}
-use Rattle.structure_recover.specs.Follows.{heads_loop, target, Carries, CarriesTo, if_reached, merged, left_by, last_inst, IsAfter, IsBehindBlock, IsBehind, StandsAt, other_block, switch_targets, firsts, literals_by, cases, labels_to, is_default, Follows, FollowsItem, FollowsGroups, first, IsTree}
+use Rattle.structure_recover.specs.Follows.{heads_loop, is_plain, target, Carries, CarriesTo, if_reached, merged, left_by, last_inst, IsAfter, IsBehindBlock, IsBehind, StandsAt, other_block, switch_targets, firsts, literals_by, cases, labels_to, is_default, Follows, FollowsItem, FollowsGroups, first, IsTree}
 use Rattle.structure_recover.proofs.Shape.{first_reached}
 use Rattle.switch_ladder.specs.Ladder.{chains_of}
 use Rattle.control_text.specs.Statements.{Blocks}
@@ -29,9 +29,9 @@ use Rattle.function_plan.specs.Orders as orders
 use Rattle.function_plan.specs.Orders.{order_of, order_by}
 use Rattle.region_law.specs.Leads.{In}
 use Rattle.tree_law.proofs.SwitchOrder.{in_list, list_in, in_range, order_is}
-use Rattle.spell_law.specs.Blocks.{IsTarget, HasLabel, FitWords, IsHereAt, IsWhole, IsWholeItem, AreWhole}
+use Rattle.spell_law.specs.Blocks.{IsTarget, HasLabel, FitWords, IsHereAt, IsEntered, GoesOn, IsWhole, IsWholeItem, AreWhole}
 use Rattle.typed_law.proofs.Lists.{both_on}
-use Rattle.unit_law.specs.Switches.{IsSwitchAt, IsReached, Chooses, by_condition, by_selector}
+use Rattle.unit_law.specs.Switches.{IsSwitchAt, IsReached, Chooses, Leads, by_condition, by_selector}
 use Rattle.unit_law.proofs.Lists.{same_test}
 
 same_switch : (x : Terminator) → orders.is_switch x ≡ is_switch x
@@ -75,7 +75,7 @@ some_first : (ts : List ℕ) (t : ℕ) → In t ts → (x : ℕ) × (xs : List �
 some_first [] t there = absurd there
 some_first (x ∷ xs) t there = (x, xs, refl)
 
-module _ (f : Function) (sound : IsSound (graph f)) (switches : (h : ℕ) → (nth (graph f) h).reached ≡ true → is_switch (nth (graph f) h).exit ≡ true → IsSwitchAt f (graph f) h) (w : Blocks) (written : (h : ℕ) → w.order h ≡ order_by (graph f) h) where
+module _ (f : Function) (sound : IsSound (graph f)) (switches : (h : ℕ) → (nth (graph f) h).reached ≡ true → is_switch (nth (graph f) h).exit ≡ true → IsSwitchAt f (graph f) h) (w : Blocks) (written : (h : ℕ) → w.order h ≡ order_by (graph f) h) (aimed : (b k t : ℕ) → (nth (graph f) b).reached ≡ true → target (graph f) b k ≡ Some t → w.target b k ≡ t) where
   abbrev g : List Node
   g = graph f
 
@@ -85,10 +85,13 @@ module _ (f : Function) (sound : IsSound (graph f)) (switches : (h : ℕ) → (n
   abbrev Asks : ℕ → Type 0
   Asks = Chooses (graph f)
 
+  abbrev Edges : ℕ → ℕ → Type 0
+  Edges = Leads (graph f)
+
   abbrev IsReachedNext : Next → Type 0
   IsReachedNext (At (Block b)) = Here b
   IsReachedNext (At (Body h)) = Here h
-  IsReachedNext (Stop e) = IsHereAt w Here Asks e
+  IsReachedNext (Stop e) = IsHereAt w Here Asks Edges e
 
   -- edges lead to reached blocks
   leads_at : (ts : List ℕ) (k t : ℕ) → slice_get ts k ≡ Some t → list_any (λ (x : ℕ). x == t) ts ≡ true
@@ -104,20 +107,34 @@ module _ (f : Function) (sound : IsSound (graph f)) (switches : (h : ℕ) → (n
       second_on true b on = refl
       second_on false b on = on
 
-  carried_next : (b t : ℕ) (n : Next) → Here b → Here t → Carries g b t n → IsReachedNext n
-  carried_next b t (At (Block u)) here there c = subst Here (sym c.0) there
-  carried_next b t (At (Body h)) here there c = absurd c
-  carried_next b t (Stop (Edge a u k)) here there c = subst Here (sym c.0) here
-  carried_next b t (Stop (Return a)) here there c = absurd c
-  carried_next b t (Stop (Lost a)) here there c = absurd c
-  carried_next b t (Stop Closed) here there c = absurd c
+  carried_next : (b t : ℕ) (n : Next) → Here b → leads_to t (nth g b) ≡ true → Carries g b t n → IsReachedNext n
+  carried_next b t (At (Block u)) here leads c = subst Here (sym c.0) (sound.reached b t here leads)
+  carried_next b t (At (Body h)) here leads c = absurd c
+  carried_next b t (Stop (Edge a u k)) here leads c = (subst Here (sym c.0) here, subst (λ (x : ℕ). Edges x u) (sym c.0) (subst (Edges b) (sym c.1) leads))
+  carried_next b t (Stop (Return a)) here leads c = absurd c
+  carried_next b t (Stop (Lost a)) here leads c = absurd c
+  carried_next b t (Stop Closed) here leads c = absurd c
+
+  -- a region that goes on so in a block is entered by that edge
+  carried_enters : (b t : ℕ) (r : Region) (n : Next) → leads_to t (nth g b) ≡ true → Follows f g r n → Carries g b t n → IsEntered w Here Asks Edges b t r
+  carried_enters b t (ends e) n leads fo c = tt
+  carried_enters b t (item i r) n leads fo c = leads
+
+  carries_enters : (b k : ℕ) (r : Region) (n : Next) → Here b → Follows f g r n → CarriesTo g b (target g b k) n → IsEntered w Here Asks Edges b (w.target b k) r
+  carries_enters b k (ends e) n here fo c = tt
+  carries_enters b k (item i r) (Stop e) here fo c = absurd fo
+  carries_enters b k (item i r) (At s) here fo c = by_target (target g b k) refl c
+    where
+      by_target : (o : Option ℕ) → target g b k ≡ o → CarriesTo g b o (At s) → Edges b (w.target b k)
+      by_target None at c = cc
+      by_target (Some t) at c = subst (Edges b) (sym (aimed b k t here at)) (leads_at (nth g b).targets k t at)
 
   carries_next : (b k : ℕ) (n : Next) → Here b → CarriesTo g b (target g b k) n → IsReachedNext n
   carries_next b k n here c = by_target (target g b k) refl c
     where
       by_target : (o : Option ℕ) → target g b k ≡ o → CarriesTo g b o n → IsReachedNext n
       by_target None at c = subst IsReachedNext (sym c) tt
-      by_target (Some t) at c = carried_next b t n here (sound.reached b t here (leads_at (nth g b).targets k t at)) c
+      by_target (Some t) at c = carried_next b t n here (leads_at (nth g b).targets k t at) c
 
   merged_next : (h : ℕ) → IsReachedNext (merged g h)
   merged_next h = by_merge (merge_block g h)
@@ -155,6 +172,29 @@ module _ (f : Function) (sound : IsSound (graph f)) (switches : (h : ℕ) → (n
       by_test : (t : Bool) → IsBehindBlock f g b n t → IsReachedNext n
       by_test true c = subst IsReachedNext (sym c) (merged_next b)
       by_test false c = after_next b (nth g b).exit n here c
+
+  -- what stands behind a block is entered from it
+  after_enters : (b : ℕ) (x : Terminator) (r : Region) (n : Next) → Here b → is_plain x ≡ true → Follows f g r n → IsAfter f g b x n → IsEntered w Here Asks Edges b (w.target b 0) r
+  after_enters b x (ends e) n here on fo c = tt
+  after_enters b x (item i r) (Stop e) here on fo c = absurd fo
+  after_enters b terminator.Branch (item i r) (At s) here on fo c = carries_enters b 0 (item i r) (At s) here fo c
+  after_enters b terminator.Leave (item i r) (At s) here on fo c = cc
+  after_enters b terminator.Switch (item i r) (At s) here on fo c = cc
+  after_enters b terminator.Conditional (item i r) (At s) here on fo c = cc
+
+  plain_enters : (b : ℕ) (s : Start) (r : Region) (n : Next) → Here b → is_plain (nth g b).exit ≡ true → StandsAt g (plain b) s → Follows f g r n → IsBehind f g s n → IsEntered w Here Asks Edges b (w.target b 0) r
+  plain_enters b (Body h) r n here on at fo c = after_enters b (nth g b).exit r n here on fo (subst (λ (x : ℕ). IsAfter f g x (nth g x).exit n) (sym at.0) c)
+  plain_enters b (Block u) r n here on at fo c =
+      after_enters b (nth g b).exit r n here on fo
+      (subst (λ (x : ℕ). IsAfter f g x (nth g x).exit n) (sym at.0) (subst (IsBehindBlock f g u n) (sym at.1) c))
+
+  goes-on : (i : Item) (s : Start) (r : Region) (n : Next) → Here (head i) → FollowsItem f g i → StandsAt g i s → Follows f g r n → IsBehind f g s n → GoesOn w Here Asks Edges i r
+  goes-on (plain b) s r n here on at fo c = plain_enters b s r n here on at fo c
+  goes-on (choose h x y) s r n here on at fo c = tt
+  goes-on (loose h x y) s r n here on at fo c = tt
+  goes-on (loop h x) s r n here on at fo c = tt
+  goes-on (loop_on h z x) s r n here on at fo c = tt
+  goes-on (switch h gs) s r n here on at fo c = tt
 
   head_reached : (i : Item) (s : Start) → StandsAt g i s → IsReachedNext (At s) → Here (head i)
   head_reached i (Block b) at here = subst Here (sym at.0) here
@@ -219,34 +259,37 @@ module _ (f : Function) (sound : IsSound (graph f)) (switches : (h : ℕ) → (n
     leads_of gs same t there =
         (filter_has (λ u. leads_to u (nth g h)) (range_with_len 0 (length g)) t (list_in t (switch_targets g h) (subst (In t) same (in_targets t gs there)))).1
 
-  stopped : (n : Next) (e : Exit) → n ≡ Stop e → IsReachedNext n → IsHereAt w Here Asks e
+  stopped : (n : Next) (e : Exit) → n ≡ Stop e → IsReachedNext n → IsHereAt w Here Asks Edges e
   stopped n e same next = subst IsReachedNext same next
 
   mutual
-    pub region-whole : (r : Region) (n : Next) → Follows f g r n → IsReachedNext n → IsWhole w Here Asks r
+    pub region-whole : (r : Region) (n : Next) → Follows f g r n → IsReachedNext n → IsWhole w Here Asks Edges r
     region-whole (ends e) n fo next = stopped n e fo next
     region-whole (item i r) (Stop e) fo next = absurd fo
-    region-whole (item i r) (At s) fo next = (item-whole i (head_reached i s fo.0 next) fo.1, region-whole r fo.2.0 fo.2.2 (behind_next s fo.2.0 next fo.2.1))
+    region-whole (item i r) (At s) fo next =
+        let here = head_reached i s fo.0 next in
+        (item-whole i here fo.1, goes-on i s r fo.2.0 here fo.1 fo.0 fo.2.2 fo.2.1, region-whole r fo.2.0 fo.2.2 (behind_next s fo.2.0 next fo.2.1))
 
-    item-whole : (i : Item) → Here (head i) → FollowsItem f g i → IsWholeItem w Here Asks i
+    item-whole : (i : Item) → Here (head i) → FollowsItem f g i → IsWholeItem w Here Asks Edges i
     item-whole (plain b) here fo = here
-    item-whole (choose h x y) here fo = ((here, by_condition fo.0), region-whole x fo.2.0 fo.2.2 (carries_next h 0 fo.2.0 here fo.2.1), region-whole y fo.3.0 fo.3.2 (carries_next h 1 fo.3.0 here fo.3.1))
-    item-whole (loose h x y) here fo = ((here, by_condition fo.0), region-whole x fo.2.0 fo.2.2 (carries_next h 0 fo.2.0 here fo.2.1), region-whole y fo.3.0 fo.3.2 (carries_next h 1 fo.3.0 here fo.3.1))
+    item-whole (choose h x y) here fo = ((here, by_condition fo.0), (carries_enters h 0 x fo.2.0 here fo.2.2 fo.2.1, carries_enters h 1 y fo.3.0 here fo.3.2 fo.3.1), region-whole x fo.2.0 fo.2.2 (carries_next h 0 fo.2.0 here fo.2.1), region-whole y fo.3.0 fo.3.2 (carries_next h 1 fo.3.0 here fo.3.1))
+    item-whole (loose h x y) here fo = ((here, by_condition fo.0), (carries_enters h 0 x fo.2.0 here fo.2.2 fo.2.1, carries_enters h 1 y fo.3.0 here fo.3.2 fo.3.1), region-whole x fo.2.0 fo.2.2 (carries_next h 0 fo.2.0 here fo.2.1), region-whole y fo.3.0 fo.3.2 (carries_next h 1 fo.3.0 here fo.3.1))
     item-whole (loop h x) here fo = region-whole x (At (Body h)) fo.1 here
     item-whole (loop_on h z x) here fo = (region-whole z (At (Block fo.0.0)) fo.0.2 (other_reached h (continue_target g h) fo.0.0 fo.0.1), region-whole x (At (Body h)) fo.1 here)
     item-whole (switch h gs) here fo = ((here, by_selector fo.0), has_first h here fo.0 gs fo.1, groups-whole h here fo.0 gs (leads_of h here fo.0 gs fo.1) fo.2)
 
-    groups-whole : (h : ℕ) → Here h → is_switch (nth g h).exit ≡ true → (gs : Groups) → ((t : ℕ) → IsTarget t gs → leads_to t (nth g h) ≡ true) → FollowsGroups f g gs h → AreWhole w Here Asks gs
+    groups-whole : (h : ℕ) → Here h → is_switch (nth g h).exit ≡ true → (gs : Groups) → ((t : ℕ) → IsTarget t gs → leads_to t (nth g h) ≡ true) → FollowsGroups f g gs h → AreWhole w Here Asks Edges h gs
     groups-whole h here on none leads fo = tt
     groups-whole h here on (group t labels default x gs) leads fo =
         let lead = leads t (inl refl) in (
           (subst (λ (ls : List ℕ). HasLabel ls default) (sym fo.0) (subst (HasLabel (labels_to (cases f g h) t)) (sym fo.1) (labelled h here on t lead)), subst FitWords (sym fo.0) (fit h here on t)),
-          region-whole x fo.2.0 fo.2.2 (carried_next h t fo.2.0 here (sound.reached h t here lead) fo.2.1),
+          carried_enters h t x fo.2.0 lead fo.2.2 fo.2.1,
+          region-whole x fo.2.0 fo.2.2 (carried_next h t fo.2.0 here lead fo.2.1),
           groups-whole h here on gs (λ u there. leads u (inr there)) fo.3,
         )
 
   -- the law
-  pub tree-whole : (r : Region) → IsTree f r → IsWhole w Here Asks r
+  pub tree-whole : (r : Region) → IsTree f r → IsWhole w Here Asks Edges r
   tree-whole r tree = region-whole r (first (graph f)) tree (by_graph (graph f) (λ some. first_reached f some))
     where
       by_graph : (k : List Node) → (0 < length k → Here 0) → IsReachedNext (first k)

@@ -3,7 +3,7 @@ use Rattle.std.specs.Prelude.{◌≡◌, ℕ, true, List, ◌∷◌, map, Some, 
 use Rattle.spv_module.specs.declared.inst.Inst.{Inst}
 use Rattle.spv_module.specs.declared.inst.Function.{Function}
 use Rattle.structure_rules.specs.declared.graph.Node.{Node}
-use Rattle.structure_rules.specs.Graph.{nth, index_of, is_conditional, is_switch, seconds}
+use Rattle.structure_rules.specs.Graph.{nth, leads_to, index_of, is_conditional, is_switch, seconds}
 use Rattle.structure_recover.specs.Follows.{last_inst}
 use Rattle.spell_law.specs.Blocks.{FitWords}
 
@@ -18,9 +18,12 @@ pub record IsSwitchAt (f : Function) (g : List Node) (h : ℕ) : Type 0 where
   pub leads : (nth g h).targets ≡ map (index_of f) (seconds last.args)
   pub fit : FitWords words
 
--- the block is reached; it ends in OpBranchConditional or OpSwitch
+-- the block is reached; an edge leads from it to another; it ends in OpBranchConditional or OpSwitch
 abbrev pub IsReached : List Node → ℕ → Type 0
 IsReached g b = (nth g b).reached ≡ true
+
+abbrev pub Leads : List Node → ℕ → ℕ → Type 0
+Leads g b t = leads_to t (nth g b) ≡ true
 
 pub data Chooses (g : List Node) (b : ℕ) : Type 0 where
   by_condition : is_conditional (nth g b).exit ≡ true → Chooses g b

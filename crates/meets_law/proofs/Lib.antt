@@ -1,0 +1,14 @@
+pub mod Tests
+pub mod LiveOrGone
+pub mod PlaceMeets
+pub mod LogicalCopies
+pub mod CompositeMeets
+pub mod CallMeets
+pub mod ArrayLengths
+pub mod GlobalReads
+pub mod OperandNames
+pub mod Roots
+pub mod OuterRoots
+pub mod PointerRoots
+pub mod BlocksMade
+pub mod Known
