@@ -1,0 +1,13 @@
+pub mod OfWords
+pub mod Short
+pub mod Asked
+pub mod Text
+pub mod Begins
+pub mod Globals
+pub mod Locals
+pub mod Constants
+pub mod Starts
+pub mod Typed
+pub mod Indexed
+pub mod Firsts
+pub mod Tops

@@ -1,0 +1,398 @@
+-- No array in the type of a constant with a value is so long that an int does not lead to each of its elements: by the limit on scalars, which counts those of each constant that may be a composite.
+use Rattle.std.proofs.Common.{◌≡◌, ◌⊎◌, ◌<◌, ◌≤◌, ◌+◌, ◌*◌, ◌^◌, ◌==◌, ◌&&◌, ℕ, zero, suc, Bool, true, false, List, [], ◌∷◌, length, not, Option, Some, None, inl, inr, refl, sym, ap, ◌∙◌, subst, if◌then◌else◌, arith}
+use Rattle.std.specs.Prelude.{nat_le, nat_lt, option_map, slice_index, sum_by, fold}
+use Rattle.std.specs.Option.{option_map_or}
+use Rattle.std.specs.List.{list_any}
+use Rattle.std.proofs.lemmas.Bool.Decides.{eqb_tells, nat_tests}
+use Rattle.std.proofs.lemmas.List.Sums.{sum_by-cons}
+use Rattle.spv_words.specs.declared.rule.Limit.TheVariants.{Leaves}
+use Rattle.spv_words.specs.Limit.{limit_number}
+use Rattle.spv_ops.specs.Opcode.{is, number}
+use Rattle.spv_ops.specs.Groups.{is_constant as is_constant_op, is_specialization}
+use Rattle.spv_ops.specs.declared.Op.{Op}
+use Rattle.spv_ops.specs.declared.Op.TheVariants as code
+use Rattle.spv_module.specs.Held.{global}
+use Rattle.spv_module.specs.State.{ModuleState}
+use Rattle.spv_module.specs.declared.inst.Inst.{Inst}
+use Rattle.spv_module.specs.declared.tree.Elem.{Elem}
+use Rattle.spv_module.specs.declared.tree.Length.{Length}
+use Rattle.spv_module.specs.declared.tree.Length.TheVariants.{Fixed, Spec}
+use Rattle.spv_types.specs.declared.kind.TypeKind.{TypeKind}
+use Rattle.spv_types.specs.declared.kind.TypeKind.TheVariants as type_kinds
+use Rattle.spv_types.specs.Tree as plain
+use Rattle.spv_types.specs.Tree.{Tree, Trees, no_trees, tree, ValueTree}
+use Rattle.spv_types.specs.Types.{kind, elem_of, sized_vector, vector_tree, length_of, length_by, array_tree, both, all_trees, tree_by_kind, tree_before, tree_at, type_tree, earlier}
+use Rattle.spv_types.specs.Leaves.{IsSized, AreSized}
+use Rattle.spv_types.proofs.Below.{tree_before_is}
+use Rattle.spv_index.specs.Pointers.{pointee}
+use Rattle.spv_decor.specs.Decorations.{local_insts}
+use Rattle.spv_decor.specs.Rows.{word}
+use Rattle.profile_rules.specs.Leaves.{said_with, constant_length, leaves_by_kind, leaves_step, type_leaves, is_composite_kind, is_composite, is_own_variable, may_be_composite, inst_leaves, leaves_of_module}
+use Rattle.profile_rules.specs.Places.{is_defined_elsewhere}
+use Rattle.profile_rules.specs.TypeForm.{is_no_data, parts_of, is_signed, is_above_zero, is_workgroup_length, is_length, is_other_int, is_other_vector, is_other_array, is_empty_struct}
+use Rattle.profile_rules.specs.declared.constant.ConstantKind.{ConstantKind}
+use Rattle.profile_rules.specs.declared.constant.ConstantKind.TheVariants as kinds
+use Rattle.profile_rules.specs.Constants.{constant_kind, value_by_kind}
+use Rattle.module_semantics.specs.Setting.{Setting}
+use Rattle.text_rules.specs.Constants.{is_scalar}
+use Rattle.plan_law.specs.InOrder.{IsAmong, AreRising}
+use Rattle.plan_law.proofs.Order.{among_left as inst_left}
+use Rattle.fits_law.proofs.Steps.{named}
+use Rattle.type_law.proofs.Vectors.{five_off}
+use Rattle.type_law.specs.Shaped.{HasConstants}
+use Rattle.typed_law.specs.Conforms.{IsConforming}
+use Rattle.typed_law.proofs.Lists.{and_left, and_off, not_off, same_some, found_in, earlier_some}
+use Rattle.typed_law.proofs.Rules.{formed_type}
+use Rattle.typed_law.proofs.Sized.{rising_low}
+use Rattle.typed_law.proofs.Used.{global_found, used_sized}
+use Rattle.constant_law.specs.Items.{IsShort, AreShort}
+use Rattle.constant_law.proofs.Valued.{IsValued, valued}
+use Rattle.constant_law.proofs.Within.{constant_no_variable}
+use Rattle.constant_law.proofs.Standing.{IsSingle, scalar_fit}
+
+none_some : {A B : Type 0} {a : A} → None ≡ Some a → B
+none_some e = cc
+
+-- numbers
+le_first : (n a : ℕ) → 1 ≤ n → a ≤ n * a
+le_first zero a le = absurd (omega (arith, le))
+le_first (suc n) a le = omega arith
+
+le_second : (n a : ℕ) → 1 ≤ a → n ≤ n * a
+le_second zero a le = omega arith
+le_second (suc n) a le = let rest = le_second n a le in omega (arith, le, rest)
+
+-- a part of a sum is no more than the sum
+one_in : (f : Inst → ℕ) (gs : List Inst) (g : Inst) → IsAmong g gs → f g ≤ sum_by f gs
+one_in f [] g there = absurd there
+one_in f (x ∷ gs) g (inl same) = subst (λ n. f g ≤ n) (sym (sum_by-cons f x gs)) (subst (λ (y : Inst). f g ≤ f y + sum_by f gs) (sym same) (let le : f g ≤ f g + sum_by f gs = omega arith in le))
+one_in f (x ∷ gs) g (inr there) = let rest = one_in f gs g there in subst (λ n. f g ≤ n) (sym (sum_by-cons f x gs)) (let le : f g ≤ f x + sum_by f gs = omega (arith, rest) in le)
+
+-- opcodes: a length that is a number is that of OpConstant
+fixed_length : (o : Op) (id w : ℕ) (n : ℕ) → length_of o id w ≡ Some (Fixed n) → (is o code.Constant ≡ true) × (w ≡ n)
+unfolding number
+fixed_length code.Constant id w n e = (refl, let same : w ≡ n = cc in same)
+fixed_length code.SpecConstantTrue id w n e = cc
+fixed_length code.SpecConstantFalse id w n e = cc
+fixed_length code.SpecConstant id w n e = cc
+fixed_length code.SpecConstantComposite id w n e = cc
+fixed_length code.SpecConstantOp id w n e = cc
+fixed_length o id w n e = cc
+
+array_op : (o : Op) → kind o ≡ type_kinds.Array → is o code.TypeArray ≡ true
+unfolding kind number
+array_op code.TypeArray e = refl
+array_op o e = cc
+
+struct_op : (o : Op) → kind o ≡ type_kinds.Struct → is o code.TypeStruct ≡ true
+unfolding kind number
+struct_op code.TypeStruct e = refl
+struct_op o e = cc
+
+-- a constant that is no composite is a scalar
+abbrev IsScalarKind : ConstantKind → Type 0
+IsScalarKind kinds.True = Unit {0}
+IsScalarKind kinds.False = Unit {0}
+IsScalarKind kinds.Word = Unit {0}
+IsScalarKind kinds.SpecTrue = Unit {0}
+IsScalarKind kinds.SpecFalse = Unit {0}
+IsScalarKind kinds.SpecWord = Unit {0}
+IsScalarKind _ = ⊥
+
+kind_of_constant : (o : Op) → is_constant_op o ≡ true → (may_be_composite o ≡ true) ⊎ IsScalarKind (constant_kind o)
+unfolding constant_kind
+kind_of_constant code.ConstantTrue on = inr tt
+kind_of_constant code.ConstantFalse on = inr tt
+kind_of_constant code.Constant on = inr tt
+kind_of_constant code.ConstantComposite on = inl refl
+kind_of_constant code.SpecConstantComposite on = inl refl
+kind_of_constant code.ConstantNull on = inl refl
+kind_of_constant code.Undef on = inl refl
+kind_of_constant code.SpecConstantTrue on = inr tt
+kind_of_constant code.SpecConstantFalse on = inr tt
+kind_of_constant code.SpecConstant on = inr tt
+kind_of_constant code.SpecConstantOp on = inl refl
+kind_of_constant o on = cc
+
+single_value : (k : ConstantKind) (from : ℕ → Option ValueTree) (c : Option ℕ) (t : Tree) (args : List ℕ) (v : ValueTree) → IsScalarKind k → value_by_kind from c t args k ≡ Some v → IsSingle v
+single_value kinds.True from c t args v on e = subst IsSingle (same_some _ v e) tt
+single_value kinds.False from c t args v on e = subst IsSingle (same_some _ v e) tt
+single_value kinds.Word from c t args v on e = subst IsSingle (same_some _ v e) tt
+single_value kinds.SpecTrue from c t args v on e = subst IsSingle (same_some _ v e) tt
+single_value kinds.SpecFalse from c t args v on e = subst IsSingle (same_some _ v e) tt
+single_value kinds.SpecWord from c t args v on e = subst IsSingle (same_some _ v e) tt
+single_value kinds.Composite from c t args v on e = absurd on
+single_value kinds.Zero from c t args v on e = absurd on
+single_value kinds.Operation from c t args v on e = absurd on
+single_value kinds.Other from c t args v on e = absurd on
+
+-- a type of another kind has no array in it
+plain_short : (gs : List Inst) (f : ℕ → Option Tree) (h : Inst) (k : TypeKind) (t : Tree) → tree_by_kind gs f h k ≡ Some t → (is_composite_kind k ≡ true) ⊎ IsShort t
+plain_short gs f h type_kinds.Bool t e = inr (subst IsShort (same_some plain.boolean t e) tt)
+plain_short gs f h type_kinds.Int t e = inr (by_width (slice_index h.args 0 == 32) (slice_index h.args 1 == 0) (slice_index h.args 1 == 1) e)
+  where
+    by_width : (w a b : Bool) → (if w then (if a then Some plain.uint else (if b then Some plain.int else None)) else None) ≡ Some t → IsShort t
+    by_width true true b e = subst IsShort (same_some plain.uint t e) tt
+    by_width true false true e = subst IsShort (same_some plain.int t e) tt
+    by_width true false false e = none_some e
+    by_width false a b e = none_some e
+plain_short gs f h type_kinds.Vector t e = inl refl
+plain_short gs f h type_kinds.Array t e = inl refl
+plain_short gs f h type_kinds.Runtime t e = inl refl
+plain_short gs f h type_kinds.Struct t e = inl refl
+plain_short gs f h type_kinds.Other t e = none_some e
+
+-- what is told of ids, one instruction after another: of an id that no instruction behind has, what was told before
+module _ (step : (ℕ → ℕ) → Inst → ℕ) where
+  unsaid : (gs : List Inst) (f : ℕ → ℕ) (n : ℕ) → ((h : Inst) → IsAmong h gs → h.result ≡ n → ⊥) → fold (said_with step) f gs n ≡ f n
+  unsaid [] f n none = refl
+  unsaid (x ∷ gs) f n none = unsaid gs (said_with step f x) n (λ h there. none h (inr there)) ∙ by_test (x.result == n) (eqb_tells x.result n)
+    where
+      by_test : (b : Bool) → ((b ≡ true) × (x.result ≡ n)) ⊎ ((b ≡ false) × (x.result ≡ n → ⊥)) → elim b as (λ q. ℕ) [ true ↦ step f x | false ↦ f n ] ≡ f n
+      by_test b (inl w) = absurd (none x (inl refl) w.1)
+      by_test true (inr w) = cc
+      by_test false (inr w) = refl
+
+  -- of an instruction's own id what the step says from what was told before it, which is told in the end of what stands before it
+  record IsSaid (gs : List Inst) (f : ℕ → ℕ) (g : Inst) : Type 0 where
+    from : ℕ → ℕ
+    is : fold (said_with step) f gs g.result ≡ step from g
+    same : (p : ℕ) → ((h : Inst) → IsAmong h gs → g.at ≤ h.at → h.result ≡ p → ⊥) → from p ≡ fold (said_with step) f gs p
+
+  said_at : (gs : List Inst) (k : ℕ) (f : ℕ → ℕ) (g : Inst) → AreRising k gs → ((h : Inst) → IsAmong h gs → h.result ≡ g.result → h.at ≡ g.at) → IsAmong g gs → IsSaid gs f g
+  said_at [] k f g rise once there = absurd there
+  said_at (x ∷ gs) k f g rise once (inl same) = record {
+    from = f;
+    is =
+        unsaid gs (said_with step f x) g.result (λ h later one. let far = rising_low (x.at + 1) gs h rise.1 later in let at : h.at ≡ g.at = once h (inr later) one in let here : x.at ≡ g.at = ap (λ (y : Inst). y.at) same in omega (arith, far, at, here))
+        ∙ by_test (x.result == g.result) (eqb_tells x.result g.result);
+    same = λ p none. sym (unsaid (x ∷ gs) f p (λ h there. none h there (low h there)));
+  }
+    where
+      by_test : (b : Bool) → ((b ≡ true) × (x.result ≡ g.result)) ⊎ ((b ≡ false) × (x.result ≡ g.result → ⊥)) → elim b as (λ q. ℕ) [ true ↦ step f x | false ↦ f g.result ] ≡ step f g
+      by_test true (inl w) = ap (step f) same
+      by_test false (inl w) = cc
+      by_test b (inr w) = absurd (w.1 (ap (λ (y : Inst). y.result) same))
+
+      low : (h : Inst) → IsAmong h (x ∷ gs) → g.at ≤ h.at
+      low h (inl other) = let here : x.at ≡ g.at = ap (λ (y : Inst). y.at) same in let at : x.at ≡ h.at = ap (λ (y : Inst). y.at) other in omega (arith, here, at)
+      low h (inr later) = let far = rising_low (x.at + 1) gs h rise.1 later in let here : x.at ≡ g.at = ap (λ (y : Inst). y.at) same in omega (arith, far, here)
+  said_at (x ∷ gs) k f g rise once (inr there) =
+      let w = said_at gs (x.at + 1) (said_with step f x) g rise.1 (λ h later. once h (inr later)) there in
+      record { from = w.from; is = w.is; same = λ p none. w.same p (λ h later. none h (inr later)) }
+
+module _ (m : ModuleState) (entry : Option (List ℕ)) (right : IsConforming m entry) where
+  abbrev Gs : List Inst
+  Gs = m.globals
+
+  abbrev L : ℕ → ℕ
+  L = type_leaves m.globals
+
+  -- the scalars of a type are counted from those of the types before it
+  record IsCounted (g : Inst) : Type 0 where
+    from : ℕ → ℕ
+    is : L g.result ≡ leaves_by_kind Gs from g.args (kind g.op)
+    same : (p : ℕ) (h : Inst) → global Gs p ≡ Some h → h.at < g.at → from p ≡ L p
+
+  own : (h : Inst) → IsAmong h Gs → global Gs h.result ≡ Some h
+  own h there = global_found m entry right h there
+
+  counted : (g : Inst) → IsAmong g Gs → IsCounted g
+  counted g there =
+      let w = said_at (leaves_step Gs) Gs 0 (λ id. 0) g right.rising (λ h h_in same. ap (λ (x : Inst). x.at) (same_some h g (sym (own h h_in) ∙ ap (global Gs) same ∙ own g there))) there in
+      record {
+        from = w.from;
+        is = w.is;
+        same = λ p h at less. w.same p (λ k k_in le same. let one : k.at ≡ h.at = ap (λ (x : Inst). x.at) (same_some k h (sym (own k k_in) ∙ ap (global Gs) same ∙ at)) in omega (arith, less, le, one));
+      }
+
+  -- what is known of a type with so few scalars: it is short, and it has some
+  abbrev IsFew : ℕ → Tree → Type 0
+  IsFew n t = n ≤ 2 ^ 31 → IsShort t × (1 ≤ n)
+
+  module _ (g : Inst) (there : IsAmong g Gs) (known : (h : Inst) → IsAmong h Gs → h.at < g.at → (u : Tree) → tree_at Gs h ≡ Some u → IsSized u → IsFew (L h.result) u) where
+    c : IsCounted g
+    c = counted g there
+
+    part : (p : ℕ) (u : Tree) → tree_before Gs g.at p ≡ Some u → IsSized u → IsFew (c.from p) u
+    part p u e sized = by_earlier (earlier Gs g.at p) refl (sym (tree_before_is Gs g.at p) ∙ e)
+      where
+        by_earlier : (o : Option Inst) → earlier Gs g.at p ≡ o → option_map_or (tree_at Gs) o None ≡ Some u → IsFew (c.from p) u
+        by_earlier None at e = none_some e
+        by_earlier (Some h) at e =
+            let w = earlier_some Gs g.at p h at in
+            subst (λ n. IsFew n u) (sym (c.same p h w.0 w.1 ∙ ap L (sym (named Gs p h w.0)))) (known h (found_in Gs p h w.0) w.1 u e sized)
+
+    -- P18
+    off : (is_other_array m g ≡ false) × (is_empty_struct g ≡ false)
+    off = let w = five_off (is_other_int g) (is_other_vector m g) (is_other_array m g) (is_empty_struct g) (list_any (is_no_data Gs) (parts_of g)) (formed_type m entry right g there) in (w.2, w.3)
+
+    abbrev Goal : Tree → Type 0
+    Goal t = IsFew (L g.result) t
+
+    by_count : (k : TypeKind) → kind g.op ≡ k → (t : Tree) → IsFew (leaves_by_kind Gs c.from g.args k) t → Goal t
+    by_count k at t few = subst (λ n. IsFew n t) (sym (c.is ∙ ap (leaves_by_kind Gs c.from g.args) at)) few
+
+    scalar_few : (k : TypeKind) → kind g.op ≡ k → (t : Tree) → IsShort t → leaves_by_kind Gs c.from g.args k ≡ 1 → Goal t
+    scalar_few k at t short one = by_count k at t (λ le. (short, let some : 1 ≤ leaves_by_kind Gs c.from g.args k = omega (arith, one) in some))
+
+    int_few : kind g.op ≡ type_kinds.Int → (w a b : Bool) (t : Tree) → (if w then (if a then Some plain.uint else (if b then Some plain.int else None)) else None) ≡ Some t → Goal t
+    int_few at true true b t e = scalar_few type_kinds.Int at t (subst IsShort (same_some plain.uint t e) tt) refl
+    int_few at true false true t e = scalar_few type_kinds.Int at t (subst IsShort (same_some plain.int t e) tt) refl
+    int_few at true false false t e = none_some e
+    int_few at false a b t e = none_some e
+
+    vector_few : kind g.op ≡ type_kinds.Vector → (o : Option Tree) → tree_before Gs g.at (slice_index g.args 0) ≡ o → (t : Tree) → vector_tree o (slice_index g.args 1) ≡ Some t → Goal t
+    vector_few at None first t e = none_some e
+    vector_few at (Some u) first t e = by_elem (elem_of u) refl e
+      where
+        sized : (u : Tree) (d : Elem) → elem_of u ≡ Some d → IsSized u
+        sized plain.boolean d e = tt
+        sized plain.int d e = tt
+        sized plain.uint d e = tt
+        sized (plain.vector d n) q e = none_some e
+        sized (plain.array t l) q e = none_some e
+        sized (plain.runtime t) q e = none_some e
+        sized (plain.struct k ts) q e = none_some e
+
+        by_size : (d : Elem) → elem_of u ≡ Some d → (a b : Bool) → nat_le 2 (slice_index g.args 1) ≡ a → (if a && b then Some (plain.vector d (slice_index g.args 1)) else None) ≡ Some t → Goal t
+        by_size d scalar true true low e =
+            let two : 2 ≤ slice_index g.args 1 = grind (arith, nat_tests, low) in
+            by_count type_kinds.Vector at t (λ le.
+            let least = le_first (slice_index g.args 1) (c.from (slice_index g.args 0)) (let one : 1 ≤ slice_index g.args 1 = omega (arith, two) in one) in
+            let some = (part (slice_index g.args 0) u first (sized u d scalar) (let few : c.from (slice_index g.args 0) ≤ 2 ^ 31 = omega (arith, le, least) in few)).1 in
+            (subst IsShort (same_some (plain.vector d (slice_index g.args 1)) t e) tt, let all : 1 ≤ slice_index g.args 1 * c.from (slice_index g.args 0) = omega (arith, least, some) in all))
+        by_size d scalar true false low e = none_some e
+        by_size d scalar false b low e = none_some e
+
+        by_elem : (q : Option Elem) → elem_of u ≡ q → option_map_or (sized_vector (slice_index g.args 1)) q None ≡ Some t → Goal t
+        by_elem None scalar e = none_some e
+        by_elem (Some d) scalar e = by_size d scalar (nat_le 2 (slice_index g.args 1)) (nat_le (slice_index g.args 1) 4) refl e
+
+    array_few : kind g.op ≡ type_kinds.Array → (o : Option Tree) → tree_before Gs g.at (slice_index g.args 0) ≡ o → (q : Option Inst) → global Gs (slice_index g.args 1) ≡ q → (t : Tree) → IsSized t → array_tree o (length_by (slice_index g.args 1) q) ≡ Some t → Goal t
+    array_few at None first q second t sized e = none_some e
+    array_few at (Some u) first None second t sized e = none_some e
+    array_few at (Some u) first (Some k) second t sized e = by_length (length_of k.op (slice_index g.args 1) (slice_index k.args 0)) refl e
+      where
+        by_number : (n : ℕ) → length_of k.op (slice_index g.args 1) (slice_index k.args 0) ≡ Some (Fixed n) → plain.array u (Fixed n) ≡ t → Goal t
+        by_number n l_is same =
+            let fixed = fixed_length k.op (slice_index g.args 1) (slice_index k.args 0) n l_is in
+            let count : constant_length (global Gs (slice_index g.args 1)) ≡ n = ap constant_length second ∙ (ap (λ (b : Bool). if b then slice_index k.args 0 else 0) fixed.0 ∙ fixed.1) in
+            let is_it : is_length m g.result k ≡ true = not_off (is_length m g.result k)
+            (ap (λ o. option_map_or (λ (x : Inst). not (is_length m g.result x)) o (is_defined_elsewhere m (word g 1))) (sym second)
+            ∙ and_off (is g.op code.TypeArray) (option_map_or (λ (x : Inst). not (is_length m g.result x)) (global Gs (word g 1)) (is_defined_elsewhere m (word g 1))) off.0 (array_op g.op at)) in
+            let above : is_above_zero Gs k ≡ true = sym (ap (λ (b : Bool). if b then is_above_zero Gs k else (is_specialization k.op && is_workgroup_length m k g.result)) fixed.0) ∙ is_it in
+            let less : nat_lt 0 (word k 0) ≡ true = and_left (nat_lt 0 (word k 0)) (not (is_signed Gs k.ty && nat_le 0x80000000 (word k 0))) above in
+            let one : 1 ≤ n = subst (λ x. 1 ≤ x) fixed.1 (let some : 1 ≤ word k 0 = grind (arith, nat_tests, less) in some) in
+            let whole : IsSized u = subst IsSized (sym same) sized in
+            by_count type_kinds.Array at t (λ le.
+            let most : n * c.from (slice_index g.args 0) ≤ 2 ^ 31 = subst (λ x. x * c.from (slice_index g.args 0) ≤ 2 ^ 31) count le in
+            let least = le_first n (c.from (slice_index g.args 0)) one in
+            let w = part (slice_index g.args 0) u first whole (let few : c.from (slice_index g.args 0) ≤ 2 ^ 31 = omega (arith, most, least) in few) in
+            let long = le_second n (c.from (slice_index g.args 0)) w.1 in
+            (subst IsShort same ((let few : n ≤ 2 ^ 31 = omega (arith, most, long) in few), w.0), subst (λ x. 1 ≤ x * c.from (slice_index g.args 0)) (sym count) (let some : 1 ≤ n * c.from (slice_index g.args 0) = omega (arith, one, long) in some)))
+
+        by_length : (l : Option Length) → length_of k.op (slice_index g.args 1) (slice_index k.args 0) ≡ l → array_tree (Some u) l ≡ Some t → Goal t
+        by_length None l_is e = none_some e
+        by_length (Some (Fixed n)) l_is e = by_number n l_is (same_some (plain.array u (Fixed n)) t e)
+        by_length (Some (Spec l)) l_is e = absurd (subst IsSized (sym (same_some (plain.array u (Spec l)) t e)) sized)
+
+    -- the members of a struct
+    members_few : (ids : List ℕ) (ts : Trees) → all_trees (tree_before Gs g.at) ids ≡ Some ts → AreSized ts → sum_by c.from ids ≤ 2 ^ 31 → AreShort ts × ((length ids == 0) ≡ false → 1 ≤ sum_by c.from ids)
+    members_few [] ts all sized le = (subst AreShort (same_some no_trees ts all) tt, λ some. absurd (never some))
+      where
+        never : (0 == 0) ≡ false → ⊥
+        never e = let same : (0 == 0) ≡ true = grind (arith, nat_tests) in let clash : true ≡ false = sym same ∙ e in cc
+    members_few (p ∷ ps) ts all sized le = by_parts (tree_before Gs g.at p) refl (all_trees (tree_before Gs g.at) ps) refl all (λ us more rest few. (members_few ps us more rest few).0)
+      where
+        total : c.from p + sum_by c.from ps ≤ 2 ^ 31
+        total = subst (λ n. n ≤ 2 ^ 31) (sum_by-cons c.from p ps) le
+
+        by_parts : (o : Option Tree) → tree_before Gs g.at p ≡ o → (q : Option Trees) → all_trees (tree_before Gs g.at) ps ≡ q → both o q ≡ Some ts → ((us : Trees) → all_trees (tree_before Gs g.at) ps ≡ Some us → AreSized us → sum_by c.from ps ≤ 2 ^ 31 → AreShort us)
+            → AreShort ts × ((length (p ∷ ps) == 0) ≡ false → 1 ≤ sum_by c.from (p ∷ ps))
+        by_parts None at q more e later = none_some e
+        by_parts (Some v) at None more e later = none_some e
+        by_parts (Some v) at (Some us) more e later =
+            let same = same_some (tree v us) ts e in
+            let both_sized : AreSized (tree v us) = subst AreSized (sym same) sized in
+            let w = part p v at both_sized.0 (let few : c.from p ≤ 2 ^ 31 = omega (arith, total) in few) in
+            let one = w.1 in (
+              subst AreShort same (w.0, later us more both_sized.1 (let few : sum_by c.from ps ≤ 2 ^ 31 = omega (arith, total) in few)),
+              λ some. subst (λ n. 1 ≤ n) (sym (sum_by-cons c.from p ps)) (let all : 1 ≤ c.from p + sum_by c.from ps = omega (arith, one) in all),
+            )
+
+    struct_few : kind g.op ≡ type_kinds.Struct → (o : Option Trees) → all_trees (tree_before Gs g.at) g.args ≡ o → (t : Tree) → IsSized t → option_map (plain.struct g.result) o ≡ Some t → Goal t
+    struct_few at None all t sized e = none_some e
+    struct_few at (Some ts) all t sized e =
+        let same = same_some (plain.struct g.result ts) t e in
+        by_count type_kinds.Struct at t (λ le.
+        let w = members_few g.args ts all (subst IsSized (sym same) sized) le in
+        (subst IsShort same w.0, w.1 (and_off (is g.op code.TypeStruct) (length g.args == 0) off.1 (struct_op g.op at))))
+
+    by_kind : (k : TypeKind) → kind g.op ≡ k → (t : Tree) → IsSized t → tree_by_kind Gs (tree_before Gs g.at) g k ≡ Some t → Goal t
+    by_kind type_kinds.Bool at t sized e = scalar_few type_kinds.Bool at t (subst IsShort (same_some plain.boolean t e) tt) refl
+    by_kind type_kinds.Int at t sized e = int_few at (slice_index g.args 0 == 32) (slice_index g.args 1 == 0) (slice_index g.args 1 == 1) t e
+    by_kind type_kinds.Vector at t sized e = vector_few at (tree_before Gs g.at (slice_index g.args 0)) refl t e
+    by_kind type_kinds.Array at t sized e = array_few at (tree_before Gs g.at (slice_index g.args 0)) refl (global Gs (slice_index g.args 1)) refl t sized e
+    by_kind type_kinds.Runtime at t sized e = by_part (tree_before Gs g.at (slice_index g.args 0)) e
+      where
+        by_part : (o : Option Tree) → option_map plain.runtime o ≡ Some t → Goal t
+        by_part None e = none_some e
+        by_part (Some u) e = absurd (subst IsSized (sym (same_some (plain.runtime u) t e)) sized)
+    by_kind type_kinds.Struct at t sized e = struct_few at (all_trees (tree_before Gs g.at) g.args) refl t sized e
+    by_kind type_kinds.Other at t sized e = none_some e
+
+  few_by : (n : ℕ) (g : Inst) → IsAmong g Gs → g.at < n → (t : Tree) → tree_at Gs g ≡ Some t → IsSized t → IsFew (L g.result) t
+  few_by zero g there less t e sized = absurd (omega (arith, less))
+  few_by (suc n) g there less t e sized = by_kind g there (λ h among before u whole of_it. few_by n h among (let low : h.at < n = omega (arith, less, before) in low) u whole of_it) (kind g.op) refl t sized e
+
+  -- the scalars of a constant that may be a composite are counted
+  type_few : leaves_of_module m ≤ limit_number Leaves → (g h : Inst) → IsAmong g Gs → may_be_composite g.op ≡ true → global Gs g.ty ≡ Some h → is_composite_kind (kind h.op) ≡ true → L g.ty ≤ 2 ^ 31
+  type_few few g h there on at composite =
+      let here : inst_leaves Gs L g ≡ L g.ty = ap (λ (b : Bool). if b then (if is_composite Gs g.ty then L g.ty else 0) else (if is_own_variable g then option_map_or L (pointee Gs g.ty) 0 else (if is g.op code.CopyLogical then L g.ty else 0))) on ∙ ap (λ (b : Bool). if b then L g.ty else 0) (ap (λ o. option_map_or (λ (x : Inst). is_composite_kind (kind x.op)) o false) at ∙ composite) in
+      let one = one_in (inst_leaves Gs L) Gs g there in
+      omega (arith, here, one, few)
+
+module _ (s : Setting) (entry : Option (List ℕ)) (right : IsConforming s.of entry) (chosen : ℕ → Option ℕ) (have : HasConstants s chosen) (few : leaves_of_module s.of ≤ limit_number Leaves) where
+  abbrev Gs' : List Inst
+  Gs' = s.of.globals
+
+  pub constants_short : (g : Inst) (t : Tree) (v : ValueTree) → IsAmong g s.of.globals → is_constant_op g.op ≡ true → s.constants g.result ≡ Some v → type_tree s.of.globals g.ty ≡ Some t → IsShort t
+  constants_short g t v there on has shape = elim (kind_of_constant g.op on) [ inl composite ↦ by_type (global Gs' g.ty) refl composite shape | inr scalar ↦ by_value scalar ]
+    where
+      w : IsValued s chosen have right.results right.rising g.result v
+      w = valued s chosen have right.results right.rising g.result v has
+
+      same : w.inst ≡ g
+      same = same_some w.inst g (sym w.there ∙ global_found s.of entry right g there)
+
+      shape_same : w.shape ≡ t
+      shape_same = same_some w.shape t (sym w.typed_as ∙ ap (λ (x : Inst). type_tree Gs' x.ty) same ∙ shape)
+
+      scalar_short : (u : Tree) → is_scalar u ≡ true → IsShort u
+      scalar_short plain.boolean on = tt
+      scalar_short plain.int on = tt
+      scalar_short plain.uint on = tt
+      scalar_short (plain.vector d n) on = tt
+      scalar_short (plain.array u l) on = cc
+      scalar_short (plain.runtime u) on = cc
+      scalar_short (plain.struct k ts) on = cc
+
+      by_value : IsScalarKind (constant_kind g.op) → IsShort t
+      by_value scalar =
+          scalar_short t
+          (subst (λ u. is_scalar u ≡ true) shape_same
+          (scalar_fit w.shape v (single_value (constant_kind w.inst.op) w.from (chosen w.inst.result) w.shape w.inst.args v (subst (λ (x : Inst). IsScalarKind (constant_kind x.op)) (sym same) scalar) w.made) w.fit))
+
+      sized : IsSized t
+      sized = used_sized s.of entry right g (inst_left g Gs' (local_insts s.of) there) (constant_no_variable g.op on) t shape
+
+      by_type : (o : Option Inst) → global Gs' g.ty ≡ o → may_be_composite g.op ≡ true → option_map_or (tree_at Gs') o None ≡ Some t → IsShort t
+      by_type None at composite e = none_some e
+      by_type (Some h) at composite e = elim (plain_short Gs' (tree_before Gs' h.at) h (kind h.op) t e) [
+        | inl arrays ↦
+            let among = found_in Gs' g.ty h at in
+            let low = type_few s.of entry right few g h there composite at arrays in
+            (few_by s.of entry right (suc h.at) h among (let less : h.at < suc h.at = omega arith in less) t e sized (subst (λ n. type_leaves Gs' n ≤ 2 ^ 31) (sym (named Gs' g.ty h at)) low)).0
+        | inr short ↦ short
+      ]
