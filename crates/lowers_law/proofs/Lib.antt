@@ -1,0 +1,4 @@
+pub mod Types
+pub mod Opcodes
+pub mod Meant
+pub mod Operations
