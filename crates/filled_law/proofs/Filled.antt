@@ -1,0 +1,126 @@
+-- Of the text of an accepted module nothing is left but: that its words are octets, its overrides words, no rule on decorations is broken, and lengths of arrays are lengths (`IsLeftOfGlobals`); and what is asked of instructions, of the moves of edges, and of operands of terminators (`IsLeftOfPlan`).
+use Rattle.std.proofs.Common.{◌≡◌, ◌++◌, ℕ, Bool, true, false, List, map, Option, Some, refl, sym, subst}
+use Rattle.spv_words.specs.Words.{words}
+use Rattle.spv_module.specs.Inst.{has_type}
+use Rattle.spv_module.specs.State.{ModuleState}
+use Rattle.spv_module.specs.declared.inst.Inst.{Inst}
+use Rattle.spv_types.specs.Tree.{Tree}
+use Rattle.spv_types.specs.Types.{type_tree}
+use Rattle.spv_index.specs.Locals.{insts_of}
+use Rattle.conformance.specs.Rules.{Options}
+use Rattle.module_check.specs.Judged.{IsFine}
+use Rattle.module_check.specs.ReadFrom.{IsReadFrom}
+use Rattle.traces.specs.Invocations.{Invocation, IsInvocation}
+use Rattle.module_semantics.specs.Setting.{setting}
+use Rattle.module_semantics.specs.State.{Held, Frame}
+use Rattle.name_alloc.specs.Naming.{name_of}
+use Rattle.glsl_ast.specs.Tree.{Text, Decl, TranslationUnit}
+use Rattle.glsl_semantics.specs.States.{Thing}
+use Rattle.text_rules.specs.Constants.{sizes}
+use Rattle.function_text.specs.Functions.{FunctionPlan, written, is_hoisted, function_decl}
+use Rattle.unit_rules.specs.Unit.{source_of, IsUnitOf}
+use Rattle.write_law.specs.Writes.{IsWithin}
+use Rattle.typed_law.specs.Words.{IsSettingOfWords}
+use Rattle.typed_law.proofs.OfWords.{words_of_bytes, setting_of_words}
+use Rattle.accepted_law.proofs.Accepted.{break_none}
+use Rattle.function_law.specs.Texts.{FunctionText, decl_of}
+use Rattle.claim_law.specs.Apart.{AreOfKeys}
+use Rattle.claim_law.specs.Claimed.{IsIn}
+use Rattle.naming_law.proofs.Fine.{each_found}
+use Rattle.naming_law.proofs.Functions.{planned_of}
+use Rattle.formed_law.proofs.Inner.{accepted_inner}
+use Rattle.naming_law.proofs.Keys.{S, keys_are}
+use Rattle.naming_law.proofs.Once.{a_value, among_in}
+use Rattle.formed_law.proofs.Shaped.{AreGlobals, accepted_shaped}
+use Rattle.naming_law.proofs.Unit.{items, ordered}
+use Rattle.naming_law.proofs.Whole.{stands_reached}
+use Rattle.unit_law.proofs.Lists.{as_in}
+use Rattle.unit_law.proofs.Ways.{HaveKinds}
+use Rattle.unit_law.proofs.Kinded.{have_kinds}
+use Rattle.outside_law.specs.Left.{IsLeftOfGlobals}
+use Rattle.outside_law.proofs.Begins.{not_stuck, private_first, outside_first}
+use Rattle.outside_law.proofs.Typed.{types_of_text}
+use Rattle.outside_law.proofs.Tops.{tops_say}
+use Rattle.safe_law.specs.Flags.{IsFlag as IsFlagOf, IsNoFlag}
+use Rattle.written_law.proofs.Asked.{IsLeftOfPlan, asked as asked_of}
+use Rattle.preservation.specs.Preserves.{Preserves}
+use Rattle.meaning_law.proofs.Accepted.{right, ruled, N, is_one, formed_so, few_so, labels_so, alone_so, apart_so, kept_so}
+use Rattle.meaning_law.proofs.Left.{P, others, calls_in, StandBefore, HasBlocks, IsLeft}
+use Rattle.filled_law.proofs.Things.{things_within}
+use Rattle.meaning_law.proofs.Whole.{text_preserves}
+
+not_off : (b : Bool) → (b ≡ false → ⊥) → b ≡ true
+not_off true far = refl
+not_off false far = absurd (far refl)
+
+module _ (bytes : List ℕ) (m : ModuleState) (o : Options) (read : IsReadFrom bytes m) (fine : IsFine m o) (unit : TranslationUnit) (u : IsUnitOf m o unit) where
+  -- what stands outside of functions and has a type is a constant or a variable
+  kinds_so : AreGlobals m.globals
+  kinds_so g there some = subst (λ (n : ModuleState). HaveKinds n.globals) (sym read.made) (have_kinds (words bytes) o.entry (break_none bytes m o read fine)) g (as_in m.globals g there) some
+
+  module _ (inv : Invocation) (told : IsInvocation inv) (outer : IsLeftOfGlobals bytes m o u.entry inv) where
+    -- its constants and the invocation are of words
+    pub of_words : IsSettingOfWords (S m o unit u inv)
+    of_words = subst (λ (n : ModuleState). IsSettingOfWords (setting n u.entry o.overrides inv)) (sym read.made) (setting_of_words (words bytes) (words_of_bytes bytes outer.octets) u.entry o.overrides outer.given inv told)
+
+    -- no name of what stands outside of functions is a variable, so none is a flag
+    pub flags_outside : (w : Text) (x : Thing) → (P bytes m o read fine unit u inv).things w ≡ Some x → IsWithin (IsNoFlag (name_of u.claimed)) x
+    flags_outside w x at = things_within (IsNoFlag (name_of u.claimed)) inv (sizes (source_of m o u.entry)) (items m o unit u inv ++ map function_decl (ordered m o unit u inv)) w x at
+
+    pub keys_so : (p : FunctionPlan) (among : IsIn p u.plans) → AreOfKeys (name_of u.claimed) (N bytes m o read fine unit u inv p among)
+    keys_so p among =
+        let r = right bytes m o read fine unit u inv in
+        keys_are m o unit u inv p among (alone_so bytes m o read fine unit u inv (written p) (is_one bytes m o read fine unit u inv p among)) (each_found m.globals m.globals r.results.each)
+
+    abbrev items_before : List FunctionText → List Decl
+    items_before ts = map decl_of ts ++ others bytes m o read fine unit u inv
+
+    -- what is left of a planned function, in a call of it
+    abbrev LeftOf : (k : ℕ) (p : FunctionPlan) (among : IsIn p u.plans) → List FunctionText → (ℕ → ℕ → Type 0) → List (Frame × ℕ) → (ℕ → Option Held) → Type 0
+    LeftOf k p among ts IsLent first given =
+        IsLeftOfPlan m o unit u inv p among (right bytes m o read fine unit u inv) (is_one bytes m o read fine unit u inv p among) (keys_so p among) (apart_so bytes m o read fine unit u inv p among) (kept_so bytes m o read fine unit u inv p among) (ruled bytes m o read fine unit u inv of_words)
+        (formed_so bytes m o read fine unit u inv (written p) (is_one bytes m o read fine unit u inv p among)) (few_so bytes m o read fine unit u inv (written p) (is_one bytes m o read fine unit u inv p among)) (labels_so bytes m o read fine unit u inv (written p) (is_one bytes m o read fine unit u inv p among))
+        (P bytes m o read fine unit u inv) k (items_before ts) flags_outside IsLent first given
+
+    -- of each, where those that it calls run as their functions do
+    pub record IsLeftOfBlocks : Type 1 where
+      pub plan : (k : ℕ) (p : FunctionPlan) (among : IsIn p u.plans) (ts : List FunctionText) → StandBefore bytes m o read fine unit u inv of_words k p ts → (IsLent : ℕ → ℕ → Type 0) (first : List (Frame × ℕ)) (given : ℕ → Option Held) → LeftOf k p among ts IsLent first given
+
+    -- what is declared for its value has a shape
+    shaped : (p : FunctionPlan) (among : IsIn p u.plans) (i : Inst) → IsIn i (insts_of (written p)) → is_hoisted (p.scope.form i.result) ≡ true → (t : Tree) × (type_tree m.globals i.ty ≡ Some t)
+    shaped p among i there on =
+        let one = is_one bytes m o read fine unit u inv p among in
+        let stands = among_in (insts_of (written p)) i there in
+        let value = a_value m o unit u inv p among o.entry (right bytes m o read fine unit u inv) one i there on in
+        let w = accepted_shaped bytes m o read fine kinds_so (written p) one i stands (not_off (has_type i.op) (λ off. value.0 ((accepted_inner bytes m read (written p) one i stands).1 off))) value.1 in
+        (w.0, w.1)
+
+    pub is_left : IsLeftOfBlocks → IsLeft bytes m o read fine unit u inv of_words
+    is_left inner = record {
+      goes = λ c at. not_stuck bytes m o read fine unit u inv told outer c at;
+      privates = λ p among c at n on. private_first bytes m o read fine unit u inv told outer p among c at n on;
+      outside = λ p among x on. outside_first bytes m o read fine unit u inv told outer p among x on;
+      types = λ p among. types_of_text bytes m o read fine unit u inv told outer p among;
+      says = λ p among calls. tops_say bytes m o read fine unit u inv told outer p among calls (shaped p among);
+      IsFlag = λ p. IsFlagOf (name_of u.claimed);
+      blocks = λ k p among ts before. blocks_so inner k p among ts before;
+    }
+      where
+        blocks_so : IsLeftOfBlocks → (k : ℕ) (p : FunctionPlan) (among : IsIn p u.plans) (ts : List FunctionText) → StandBefore bytes m o read fine unit u inv of_words k p ts → HasBlocks bytes m o read fine unit u inv of_words k p among (IsFlagOf (name_of u.claimed)) ts
+        blocks_so left k p among ts before =
+            let r = right bytes m o read fine unit u inv in
+            let rules = ruled bytes m o read fine unit u inv of_words in
+            let one = is_one bytes m o read fine unit u inv p among in
+            let apart = apart_so bytes m o read fine unit u inv p among in
+            let kept = kept_so bytes m o read fine unit u inv p among in
+            let form = formed_so bytes m o read fine unit u inv (written p) one in
+            let few = few_so bytes m o read fine unit u inv (written p) one in
+            record {
+              asked = λ IsLent first given.
+                  asked_of m o unit u inv p among r one (keys_so p among) apart kept rules form few (labels_so bytes m o read fine unit u inv (written p) one) (P bytes m o read fine unit u inv) k (items_before ts) flags_outside IsLent first given (left.plan k p among ts before IsLent first given)
+                  (stands_reached (P bytes m o read fine unit u inv) (calls_in bytes m o read fine unit u inv of_words k ts) k (S m o unit u inv) rules (N bytes m o read fine unit u inv p among) apart kept (IsFlagOf (name_of u.claimed)) (source_of m o u.entry) (name_of u.claimed) (written p) form few p (planned_of bytes m o read fine unit u p among) refl IsLent first given);
+            }
+
+  -- So the text of an accepted module preserves what the module does.
+  pub accepted_preserves : ((inv : Invocation) (told : IsInvocation inv) → (outer : IsLeftOfGlobals bytes m o u.entry inv) × IsLeftOfBlocks inv told outer) → Preserves m u.entry o.overrides unit
+  accepted_preserves left = text_preserves bytes m o read fine unit u (λ inv told. let w = left inv told in (of_words inv told w.0, is_left inv told w.0 w.1))
