@@ -13,7 +13,6 @@ use Rattle.command_line.specs.State.{CommandState}
 use Rattle.command_line.specs.declared.endings.Ending.{Ending}
 use Rattle.command_line.specs.declared.endings.Ending.TheVariants.{Done, Usage, Refused, Limit, RunLimit, ReadFault, WriteFault, Memory}
 use Rattle.command_line.specs.declared.endings.RunLimit.{RunLimit as Quantity}
-use Rattle.command_line.specs.declared.endings.RunLimit.TheVariants.{Invocations}
 use Rattle.command_line.specs.Asked.{bytes_by, bytes_of}
 use Rattle.command_line.specs.Endings.{ending_of, status_of, Above, IsFit, IsCause, IsEndOfWriting, IsEndOfTask, HasCause, ReadFails, IsRead, IsReadBy, IsOutput}
 use Rattle.command_line.specs.Carried.{IsComplete, BreaksSome}
@@ -24,25 +23,25 @@ fault_cause o above bytes (LimitFault l) fits h = h
 fault_cause o above bytes NoMemory fits h = tt
 
 -- an ending of what was written, where no run is too much
-pub end_of_task : (above : Above) (ending : Ending) → (above Invocations → ⊥) → IsEndOfWriting ending → IsEndOfTask above ending
-end_of_task above Done few h = few
-end_of_task above Usage few h = h
-end_of_task above (Refused r) few h = h
-end_of_task above (Limit l) few h = h
-end_of_task above (RunLimit l) few h = absurd h
-end_of_task above ReadFault few h = h
-end_of_task above WriteFault few h = few
-end_of_task above Memory few h = tt
+pub end_of_task : (above : Above) (ending : Ending) → ((l : Quantity) → above l → ⊥) → IsEndOfWriting ending → IsEndOfTask above ending
+end_of_task above Done none h = none
+end_of_task above Usage none h = h
+end_of_task above (Refused r) none h = h
+end_of_task above (Limit l) none h = h
+end_of_task above (RunLimit l) none h = absurd h
+end_of_task above ReadFault none h = h
+end_of_task above WriteFault none h = none
+end_of_task above Memory none h = tt
 
 -- an ending of a task on a module that conforms
 pub met_cause : (o : Options) (above : Above) (bytes : List ℕ) (ending : Ending) → IsEndOfTask above ending → Conforms bytes o × IsWithinLimits bytes o → IsCause o above bytes ending
-met_cause o above bytes Done h fine = record { conforms = fine.0; within = fine.1; few = h }
+met_cause o above bytes Done h fine = record { conforms = fine.0; within = fine.1; none = h }
 met_cause o above bytes Usage h fine = absurd h
 met_cause o above bytes (Refused r) h fine = absurd h
 met_cause o above bytes (Limit l) h fine = absurd h
 met_cause o above bytes (RunLimit l) h fine = (fine.0, (fine.1, h))
 met_cause o above bytes ReadFault h fine = absurd h
-met_cause o above bytes WriteFault h fine = record { conforms = fine.0; within = fine.1; few = h }
+met_cause o above bytes WriteFault h fine = record { conforms = fine.0; within = fine.1; none = h }
 met_cause o above bytes Memory h fine = tt
 
 -- what holds of the bytes that were read holds of what was left, where that is told
@@ -61,15 +60,15 @@ module _ (o : Options) (above : Above) (bytes : List ℕ) where
   succeeds f WriteFault h g w m n k = absurd (g (k refl))
   succeeds f Memory h g w m n k = inr refl
 
-  many : (ending : Ending) → IsCause o above bytes ending → above Invocations → (status_of ending ≡ 3) ⊎ ((status_of ending ≡ 6) ⊎ ((status_of ending ≡ 2) × BreaksSome o bytes))
-  many Done h a = absurd (h.few a)
-  many Usage h a = absurd h
-  many (Refused r) h a = inr (inr (refl, (r.rule, r.at, h.1)))
-  many (Limit l) h a = inl refl
-  many (RunLimit l) h a = inl refl
-  many ReadFault h a = absurd h
-  many WriteFault h a = absurd (h.few a)
-  many Memory h a = inr (inl refl)
+  many : (ending : Ending) → IsCause o above bytes ending → (l : Quantity) → above l → (status_of ending ≡ 3) ⊎ ((status_of ending ≡ 6) ⊎ ((status_of ending ≡ 2) × BreaksSome o bytes))
+  many Done h l a = absurd (h.none l a)
+  many Usage h l a = absurd h
+  many (Refused r) h l a = inr (inr (refl, (r.rule, r.at, h.1)))
+  many (Limit k) h l a = inl refl
+  many (RunLimit k) h l a = inl refl
+  many ReadFault h l a = absurd h
+  many WriteFault h l a = absurd (h.none l a)
+  many Memory h l a = inr (inl refl)
 
   refuses : (ending : Ending) → IsCause o above bytes ending → IsWithinLimits bytes o → (Conforms bytes o → ⊥) → (status_of ending ≡ 2) ⊎ (status_of ending ≡ 6)
   refuses Done h w n = absurd (n h.conforms)
@@ -139,7 +138,7 @@ module _ (o : Options) (above : List ℕ → Above) (read_fault : Type 0) where
   complete None ending write_fault status h k is = tt
   complete (Some bytes) ending write_fault status h k is = record {
     succeeds = λ n g w m a. rw is (succeeds o (above bytes) bytes write_fault ending (read_cause bytes ending h n) g w m a k);
-    many = λ n a. rw is (many o (above bytes) bytes ending (read_cause bytes ending h n) a);
+    many = λ n l a. rw is (many o (above bytes) bytes ending (read_cause bytes ending h n) l a);
     refuses = λ n w m. rw is (refuses o (above bytes) bytes ending (read_cause bytes ending h n) w m);
     long = λ n e. rw is (longer o (above bytes) bytes ending (read_cause bytes ending h n) e);
     limited = λ n l e. rw is (limited o (above bytes) bytes ending (read_cause bytes ending h n) l e);

@@ -8,7 +8,6 @@ use Rattle.command_line.specs.State.{CommandState}
 use Rattle.command_line.specs.declared.endings.Ending.{Ending}
 use Rattle.command_line.specs.declared.endings.Ending.TheVariants.{Done, Usage, Memory}
 use Rattle.command_line.specs.declared.endings.RunLimit.{RunLimit as Quantity}
-use Rattle.command_line.specs.declared.endings.RunLimit.TheVariants.{Invocations}
 use Rattle.command_line.specs.Asked.{bytes_of}
 use Rattle.command_line.specs.Endings.{status_of, Above, HasCause, ReadFails, IsReadBy}
 use Rattle.command_line.specs.Lines.{line_of}
@@ -32,7 +31,7 @@ BreaksSome o bytes = (rule : Rule) × (at : ℕ) × Breaks bytes o rule at
 -- when a command on these bytes of a module succeeds, refuses or comes to a limit, but for want of memory; where the limit on bytes is exceeded no rule is named
 pub record IsComplete (o : Options) (above : Above) (bytes : List ℕ) (read_fault write_fault : Type 0) (status : ℕ) : Type 0 where
   pub succeeds : (read_fault → ⊥) → (write_fault → ⊥) → IsWithinLimits bytes o → Conforms bytes o → ((l : Quantity) → above l → ⊥) → (status ≡ 0) ⊎ (status ≡ 6)
-  pub many : (read_fault → ⊥) → above Invocations → (status ≡ 3) ⊎ ((status ≡ 6) ⊎ ((status ≡ 2) × BreaksSome o bytes))
+  pub many : (read_fault → ⊥) → (l : Quantity) → above l → (status ≡ 3) ⊎ ((status ≡ 6) ⊎ ((status ≡ 2) × BreaksSome o bytes))
   pub refuses : (read_fault → ⊥) → IsWithinLimits bytes o → (Conforms bytes o → ⊥) → (status ≡ 2) ⊎ (status ≡ 6)
   pub long : (read_fault → ⊥) → Exceeds bytes o Bytes → (status ≡ 3) ⊎ (status ≡ 6)
   pub limited : (read_fault → ⊥) → (limit : Limit) → Exceeds bytes o limit → (status ≡ 3) ⊎ ((status ≡ 6) ⊎ ((status ≡ 2) × BreaksSome o bytes))

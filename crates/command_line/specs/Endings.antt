@@ -10,7 +10,6 @@ use Rattle.conformance.specs.Rules.{Options, Breaks, Conforms, Exceeds, IsWithin
 use Rattle.command_line.specs.declared.endings.Ending.{Ending}
 use Rattle.command_line.specs.declared.endings.Ending.TheVariants.{Done, Usage, Refused, Limit, RunLimit, ReadFault, WriteFault, Memory}
 use Rattle.command_line.specs.declared.endings.RunLimit.{RunLimit as Quantity}
-use Rattle.command_line.specs.declared.endings.RunLimit.TheVariants.{Invocations}
 
 -- the exit status
 abbrev pub status_of : Ending → ℕ
@@ -37,7 +36,7 @@ Above = Quantity → Type 0
 pub record IsFit (o : Options) (above : Above) (bytes : List ℕ) : Type 0 where
   pub conforms : Conforms bytes o
   pub within : IsWithinLimits bytes o
-  pub few : above Invocations → ⊥
+  pub none : (l : Quantity) → above l → ⊥
 
 -- what the bytes of the module are, where a command ended so over them; a rule is named only where there are no more of them than the limit
 abbrev pub IsCause : Options → Above → List ℕ → Ending → Type 0
@@ -63,13 +62,13 @@ IsEndOfWriting Memory = Unit {0}
 
 -- how a task ends on a module that conforms: what it says was written, or the writing ended; or a run was too much
 abbrev pub IsEndOfTask : Above → Ending → Type 0
-IsEndOfTask above Done = above Invocations → ⊥
+IsEndOfTask above Done = (l : Quantity) → above l → ⊥
 IsEndOfTask above Usage = ⊥
 IsEndOfTask above (Refused r) = ⊥
 IsEndOfTask above (Limit l) = ⊥
 IsEndOfTask above (RunLimit l) = above l
 IsEndOfTask above ReadFault = ⊥
-IsEndOfTask above WriteFault = above Invocations → ⊥
+IsEndOfTask above WriteFault = (l : Quantity) → above l → ⊥
 IsEndOfTask above Memory = Unit {0}
 
 -- why a command ended so, where the bytes of the module are told; `read_fault` says that a read of them failed

@@ -119,6 +119,9 @@ fn copied(alloc: Global, name: Option<&str>) -> Result<Option<String>, Unparsed>
     }
 }
 
+/// A command, or why words are none.
+type Parsed = Result<Command, Unparsed>;
+
 /// The options with this entry point, where one is given, and these words as overrides.
 fn options_with(alloc: Global, entry: Option<&str>, words: &[&str]) -> Result<Options, Unparsed>
     ensures read { IfOk result (λ o. with_entry (option_map (λ n. n.now) entry.entry) (map (λ w. w.now) words.now) ≡ Some (asked o)) }
@@ -130,12 +133,7 @@ fn options_with(alloc: Global, entry: Option<&str>, words: &[&str]) -> Result<Op
 }
 
 /// The command of an action, of this entry point, where one is given, and with these words as overrides.
-fn command_with(
-    alloc: Global,
-    action: Action,
-    entry: Option<&str>,
-    words: &[&str],
-) -> Result<Command, Unparsed>
+fn command_with(alloc: Global, action: Action, entry: Option<&str>, words: &[&str]) -> Parsed
     requires { IsTrue (is_allowed (task_of action)) }
     ensures read { IfOk result (λ c. with_task (option_map (λ n. n.now) entry.entry) (map (λ w. w.now) words.now) (task_of action) ≡ Some c) }
     ensures unread { IfErr result (IsUnread (with_task (option_map (λ n. n.now) entry.entry) (map (λ w. w.now) words.now) (task_of action))) }
@@ -149,7 +147,7 @@ fn command_with(
 }
 
 /// The command that runs a case: the first word, and overrides.
-fn run_command(alloc: Global, entry: Option<&str>, words: &[&str]) -> Result<Command, Unparsed>
+fn run_command(alloc: Global, entry: Option<&str>, words: &[&str]) -> Parsed
     ensures read { IfOk result (λ c. with_case (option_map (λ n. n.now) entry.entry) (map (λ w. w.now) words.now) ≡ Some c) }
     ensures unread { IfErr result (IsUnread (with_case (option_map (λ n. n.now) entry.entry) (map (λ w. w.now) words.now))) }
 {
@@ -161,12 +159,7 @@ fn run_command(alloc: Global, entry: Option<&str>, words: &[&str]) -> Result<Com
 }
 
 /// The command that a verb asks for, of this entry point, where one is given, by the words behind.
-fn verb_command(
-    alloc: Global,
-    verb: Verb,
-    entry: Option<&str>,
-    words: &[&str],
-) -> Result<Command, Unparsed>
+fn verb_command(alloc: Global, verb: Verb, entry: Option<&str>, words: &[&str]) -> Parsed
     ensures read { IfOk result (λ c. with_verb (option_map (λ n. n.now) entry.entry) (map (λ w. w.now) words.now) verb ≡ Some c) }
     ensures unread { IfErr result (IsUnread (with_verb (option_map (λ n. n.now) entry.entry) (map (λ w. w.now) words.now) verb)) }
 {
@@ -179,7 +172,7 @@ fn verb_command(
 }
 
 /// The command that a verb asks for, by the words behind `--entry`.
-fn named_command(alloc: Global, verb: Verb, words: &[&str]) -> Result<Command, Unparsed>
+fn named_command(alloc: Global, verb: Verb, words: &[&str]) -> Parsed
     ensures read { IfOk result (λ c. named (map (λ w. w.now) words.now) verb ≡ Some c) }
     ensures unread { IfErr result (IsUnread (named (map (λ w. w.now) words.now) verb)) }
 {
@@ -190,7 +183,7 @@ fn named_command(alloc: Global, verb: Verb, words: &[&str]) -> Result<Command, U
 }
 
 /// The command that a verb asks for, by the words behind it.
-fn input_command(alloc: Global, verb: Verb, words: &[&str]) -> Result<Command, Unparsed>
+fn input_command(alloc: Global, verb: Verb, words: &[&str]) -> Parsed
     ensures read { IfOk result (λ c. asking (map (λ w. w.now) words.now) verb ≡ Some c) }
     ensures unread { IfErr result (IsUnread (asking (map (λ w. w.now) words.now) verb)) }
 {
@@ -236,7 +229,7 @@ fn pieces_in(word: &str) -> Option<u32>
 }
 
 /// The command that the words behind `gen` are.
-fn generating_command(alloc: Global, words: &[&str]) -> Result<Command, Unparsed>
+fn generating_command(alloc: Global, words: &[&str]) -> Parsed
     ensures read { IfOk result (λ c. generating (map (λ w. w.now) words.now) ≡ Some c) }
     ensures unread { IfErr result (IsUnread (generating (map (λ w. w.now) words.now))) }
 {

@@ -1,5 +1,5 @@
 -- What commands leave in the output.
-use Rattle.std.proofs.Common.{◌≡◌, ◌≤◌, ◌*◌, ◌++◌, arith, inl, inr, length, ℕ, false, List, Option, None, Some, IfSome, refl, sym, subst, ◌∙◌}
+use Rattle.std.proofs.Common.{◌≡◌, ◌++◌, inl, inr, length, ℕ, false, List, Option, None, Some, IfSome, refl, sym, subst, ◌∙◌}
 use Rattle.std.specs.Prelude.{codes, option_map}
 use Rattle.spv_words.specs.declared.rule.Fault.{Fault}
 use Rattle.spv_words.specs.declared.rule.Fault.TheVariants.{Refused as RefusedFault, Limit as LimitFault, Memory as NoMemory}
@@ -19,14 +19,9 @@ use Rattle.command_line.specs.declared.endings.Ending.{Ending}
 use Rattle.command_line.specs.declared.endings.Ending.TheVariants.{Done, Usage, Refused, Limit, RunLimit, ReadFault, WriteFault, Memory}
 use Rattle.command_line.specs.Asked.{bytes_by, bytes_of}
 use Rattle.command_line.specs.Summary.{summary}
-use Rattle.dispatch_semantics.specs.Grid.{product}
 use Rattle.dispatch_case.specs.Cases.{CaseParts}
-use Rattle.profile_rules.specs.Entry.{chosen}
-use Rattle.run_module.specs.Runs.{given_words, workgroup_size}
 use Rattle.run_module.specs.Ends.{IsSaidOf}
-use Rattle.run_module.proofs.Causes.{same_entry}
-use Rattle.command_line.specs.declared.endings.RunLimit.TheVariants.{Invocations}
-use Rattle.cross_core.specs.Answers.{IsAnswer, IsAnswerBy, IsTextOf, IsRunText, above_by}
+use Rattle.cross_core.specs.Answers.{IsAnswer, IsAnswerBy, IsTextOf, IsRunText}
 use Rattle.command_line.specs.Endings.{ending_of, IsOutput}
 
 module _ {K : Type 0} (written : K → Option (List ℕ)) (faults : K → ℕ) where
@@ -118,10 +113,3 @@ run_answer o m c line text of same = subst (λ (t : List ℕ). IsRunText c o (So
   lines = of.said.lines;
   said = of;
 })
-
--- a run that says something has not too many invocations
-pub said_few : (o : Options) (m : ModuleState) (c : CaseParts) (text : List ℕ) → IsSaidOf m o c text → above_by (runs c) o m Invocations → ⊥
-said_few o m c text of too_many =
-    let same : of.entry ≡ too_many.entry = same_entry (chosen o.entry m.heads) of.entry too_many.entry of.is too_many.is in
-    let few = subst (λ (e : ℕ). product c.groups * product (workgroup_size m (given_words o.overrides) e) ≤ 1024) same of.said.few in
-    omega (arith, few, too_many.above)

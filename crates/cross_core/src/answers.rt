@@ -7,10 +7,12 @@ ghost use Rattle.spv_words.specs.declared.rule.Limit.TheVariants.{Bytes};
 ghost use Rattle.glsl_ast.specs.View.{unit_of};
 ghost use Rattle.glsl_grammar.specs.InGrammar.{IsInGrammar};
 ghost use Rattle.glsl_grammar.specs.Layout.{unit_text};
-ghost use Rattle.conformance.specs.Rules.{Conforms, IsRight, IsWithinLimits};
+ghost use Rattle.spv_module.specs.State.{ModuleState};
+ghost use Rattle.conformance.specs.Rules.{Conforms, IsRight, IsWithinLimits, Options as Asked};
 ghost use Rattle.module_check.specs.Asked.{asked};
 ghost use Rattle.module_check.specs.Judged.{IsFault, IsFine, IsRead};
-ghost use Rattle.dispatch_case.specs.Cases.{parts_of, is_fine};
+ghost use Rattle.dispatch_case.specs.Cases.{CaseParts};
+ghost use Rattle.run_module.specs.Ends.{IsRunOf};
 ghost use Rattle.command_line.specs.State.{task_of, is_allowed, runs};
 ghost use Rattle.command_line.specs.Endings.{IsCause, IsEndOfWriting, IsEndOfTask, IsOutput};
 ghost use Rattle.cross_core.specs.Answers.{IsAnswer, IsAnswerBy, above_by, above};
@@ -18,7 +20,6 @@ ghost use Rattle.cross_core.specs.Answers.{IsAnswer, IsAnswerBy, above_by, above
 use crate::summaries::summarized;
 use cc_outside::Sink;
 use command_line::{Action, Command, Ending, ending_of, put};
-use dispatch_case::Case;
 use emit_glsl::{Translation, translate};
 use glsl_ast::Unit;
 use glsl_print::{PrintEnd, print};
@@ -64,27 +65,14 @@ fn tree_of(text: Translation) -> Unit
     unit
 }
 
-/// Writes what a run of a case on a module says, if it is not too much.
-fn run_written<K: Sink>(
-    alloc: Global,
-    module: &Module,
-    decor: &Decor,
-    options: &Options,
-    case: &Case,
-    output: &mut K,
-) -> Result<Ending, Fault>
-    requires heads { decor.now ≡ «module».now.heads }
-    requires read { IsRead «module».now }
-    requires fine { IsTrue (is_fine (parts_of case.now)) }
-    ensures end { IfOk result (IsEndOfTask (above_by (runs (parts_of case.now)) (asked options.now) «module».now)) }
-    ensures passes { OnOk result (IsFine «module».now (asked options.now)) }
-    ensures output { IfOk result (IsOutput K.written K.faults (IsAnswerBy (runs (parts_of case.now)) (asked options.now) (Some «module».now)) output.old output.new) }
-    ensures refused { IfErr result (IsFault «module».now (asked options.now)) }
-    ensures unwritten { OnErr result (output.new ≡ output.old) }
+/// Writes what a run of a case says, if it is not too much.
+fn put_run<K: Sink>(run: CaseRun, output: &mut K) -> Ending
+    ensures end { (m : ModuleState) (o : Asked) (c : CaseParts) → IsRunOf m o c run → IsEndOfTask (above_by (runs c) o m) result }
+    ensures output { (m : ModuleState) (o : Asked) (c : CaseParts) → IsRunOf m o c run → IsOutput K.written K.faults (IsAnswerBy (runs c) o (Some m)) output.old output.new result }
 {
-    match run_case(alloc, module, decor, options, case)? {
-        CaseRun::Said(lines) => Ok(put(lines.as_bytes(), output)),
-        CaseRun::Above(limit) => Ok(Ending::RunLimit(limit)),
+    match run {
+        CaseRun::Said(lines) => put(lines.as_bytes(), output),
+        CaseRun::Above(limit) => Ending::RunLimit(limit),
     }
 }
 
@@ -124,10 +112,14 @@ fn written<K: Sink>(
             Ok(put(line.as_bytes(), output))
         }
         Action::Summary => {
-            let line = summarized(alloc, module, decor, options)?;
+            let translation = translate(alloc, module, decor, options)?;
+            let line = summarized(alloc, module, &translation.unit)?;
             Ok(put(line.as_bytes(), output))
         }
-        Action::Run(case) => run_written(alloc, module, decor, options, case, output),
+        Action::Run(case) => {
+            let run = run_case(alloc, module, decor, options, case)?;
+            Ok(put_run(run, output))
+        }
     }
 }
 

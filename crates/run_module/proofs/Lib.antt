@@ -1,3 +1,4 @@
 pub mod Words
 pub mod Causes
 pub mod Ran
+pub mod Within

@@ -1,14 +1,11 @@
 -- What a run of a case on a module comes to.
-use Rattle.std.specs.Prelude.{ℕ, ◌<◌, ◌*◌, List, string_bytes}
+use Rattle.std.specs.Prelude.{ℕ, List, string_bytes}
 use Rattle.spv_module.specs.State.{ModuleState}
 use Rattle.profile_rules.specs.declared.given.Given.{Given}
 use Rattle.conformance.specs.Rules.{Options}
 use Rattle.module_check.specs.Judged.{IsEntry}
-use Rattle.dispatch_semantics.specs.Grid.{product}
-use Rattle.group_items.specs.Schedule.{IsTooMuch}
 use Rattle.dispatch_case.specs.Cases.{CaseParts}
-use Rattle.group_sched.specs.Start.{setup_of}
-use Rattle.run_lines.specs.Said.{IsSaid}
+use Rattle.run_lines.specs.Said.{IsCrowded, IsHeavy, IsSaid}
 use Rattle.command_line.specs.declared.endings.RunLimit.{RunLimit}
 use Rattle.command_line.specs.declared.endings.RunLimit.TheVariants.{Invocations, Events}
 use Rattle.run_module.specs.Runs.{given_words, workgroup_size, module_runs}
@@ -21,8 +18,8 @@ module _ (m : ModuleState) (pairs : List (ℕ × Given)) (entry : ℕ) (c : Case
   IsSaidFrom text = IsSaid c (workgroup_size m (given_words pairs) entry) (given_words pairs) (module_runs m entry pairs c.steps) text
 
   abbrev pub IsAboveFrom : RunLimit → Type 0
-  IsAboveFrom Invocations = 1024 < product c.groups * product (workgroup_size m (given_words pairs) entry)
-  IsAboveFrom Events = IsTooMuch (setup_of c (workgroup_size m (given_words pairs) entry) (given_words pairs)) (module_runs m entry pairs c.steps) c.first
+  IsAboveFrom Invocations = IsCrowded c (workgroup_size m (given_words pairs) entry)
+  IsAboveFrom Events = IsHeavy c (workgroup_size m (given_words pairs) entry) (given_words pairs) (module_runs m entry pairs c.steps)
 
   abbrev pub IsRunFrom : CaseRun → Type 0
   IsRunFrom (Said text) = IsSaidFrom (string_bytes text)
@@ -39,6 +36,7 @@ pub record IsAboveOf (m : ModuleState) (o : Options) (c : CaseParts) (limit : Ru
   pub is : IsEntry m o entry
   pub above : IsAboveFrom m o.overrides entry c limit
 
+-- the lines, and no quantity is above its largest number; or one that is
 abbrev pub IsRunOf : ModuleState → Options → CaseParts → CaseRun → Type 0
-IsRunOf m o c (Said text) = IsSaidOf m o c (string_bytes text)
+IsRunOf m o c (Said text) = IsSaidOf m o c (string_bytes text) × ((l : RunLimit) → IsAboveOf m o c l → ⊥)
 IsRunOf m o c (Above limit) = IsAboveOf m o c limit

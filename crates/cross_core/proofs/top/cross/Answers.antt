@@ -34,5 +34,5 @@ returns-in-Err-Memory-clause-complete g c =
     let P : CommandState → List ℕ → Type 0 = λ command bytes.
     IsComplete command.options (above command bytes) bytes (ReadFails command.pieces (g.S.Source.faults c.args.input.now) (g.S.Source.faults c.args.input.now)) (Rose (g.K.Sink.faults c.args.output.now) (g.K.Sink.faults c.args.output.now)) 6 in
     let each : (command : CommandState) (bytes : List ℕ) → P command bytes = λ command bytes.
-    record { succeeds = λ n w l m a. inr refl; many = λ n a. inr (inl refl); refuses = λ n l m. inr refl; long = λ n e. inr refl; limited = λ n l e. inr (inl refl) } in
+    record { succeeds = λ n w l m a. inr refl; many = λ n l a. inr (inl refl); refuses = λ n l m. inr refl; long = λ n e. inr refl; limited = λ n l e. inr (inl refl) } in
     of_any (command_of (map (λ w. w.now) c.args.words.now)) _ (λ command. of_any (bytes_of command (g.S.Source.left c.args.input.now)) (P command) (each command))
