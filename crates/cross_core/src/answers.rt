@@ -10,7 +10,9 @@ ghost use Rattle.glsl_grammar.specs.Layout.{unit_text};
 ghost use Rattle.spv_module.specs.State.{ModuleState};
 ghost use Rattle.conformance.specs.Rules.{Conforms, IsRight, IsWithinLimits, Options as Asked};
 ghost use Rattle.module_check.specs.Asked.{asked};
-ghost use Rattle.module_check.specs.Judged.{IsFault, IsFine, IsRead};
+ghost use Rattle.module_check.specs.Judged.{IsFault, IsFine};
+ghost use Rattle.typed_law.specs.Words.{AreGivenWords};
+ghost use Rattle.emit_glsl.specs.Given.{IsGiven};
 ghost use Rattle.dispatch_case.specs.Cases.{CaseParts};
 ghost use Rattle.run_module.specs.Ends.{IsRunOf};
 ghost use Rattle.command_line.specs.State.{task_of, is_allowed, runs};
@@ -86,7 +88,7 @@ fn written<K: Sink>(
     output: &mut K,
 ) -> Result<Ending, Fault>
     requires heads { decor.now ≡ «module».now.heads }
-    requires read { IsRead «module».now }
+    requires given { IsGiven «module».now (asked options.now) }
     requires allowed { IsTrue (is_allowed (task_of action.now)) }
     ensures end { IfOk result (IsEndOfTask (above_by (task_of action.now) (asked options.now) «module».now)) }
     ensures passes { OnOk result (IsFine «module».now (asked options.now)) }
@@ -130,7 +132,8 @@ fn answered<K: Sink>(
     bytes: &[u8],
     output: &mut K,
 ) -> Result<Ending, Fault>
-    requires { length bytes.now ≤ limit_number Bytes }
+    requires short { length bytes.now ≤ limit_number Bytes }
+    requires given { AreGivenWords command.now.options.overrides }
     ensures end { IfOk result (IsEndOfTask (above command.now bytes.now)) }
     ensures passes { OnOk result (Conforms bytes.now command.now.options × IsWithinLimits bytes.now command.now.options) }
     ensures output { IfOk result (IsOutput K.written K.faults (IsAnswer command.now (Some bytes.now)) output.old output.new) }
@@ -155,7 +158,8 @@ fn answered<K: Sink>(
 /// Carries out a command on the bytes of a module.
 #[tactic(auto, using(command_line::proofs::Ends::met_cause, command_line::proofs::Ends::fault_cause))]
 pub fn answer<K: Sink>(alloc: Global, command: &Command, bytes: &[u8], output: &mut K) -> Ending
-    requires { length bytes.now ≤ limit_number Bytes }
+    requires short { length bytes.now ≤ limit_number Bytes }
+    requires given { AreGivenWords command.now.options.overrides }
     ensures cause { IsCause command.now.options (above command.now bytes.now) bytes.now result }
     ensures output { IsOutput K.written K.faults (IsAnswer command.now (Some bytes.now)) output.old output.new result }
 {

@@ -3,6 +3,7 @@ ghost use Rattle.std.specs.Prelude.{◌≡◌, ◌≤◌, map, None, Some, IfSom
 ghost use Rattle.cc_outside.specs.Causes.{Rose};
 ghost use Rattle.spv_words.specs.Words.{octets_of};
 ghost use Rattle.module_gen.specs.Generated.{generated};
+ghost use Rattle.typed_law.specs.Words.{AreGivenWords};
 ghost use Rattle.command_line.specs.Commands.{command_of as command_named};
 ghost use Rattle.command_line.specs.Asked.{bytes_of};
 ghost use Rattle.cross_core.specs.Answers.{IsAnswer, above};
@@ -25,6 +26,7 @@ fn run_on_input<S: Source, K: Sink>(
     input: &mut S,
     output: &mut K,
 ) -> Ending
+    requires { AreGivenWords command.now.options.overrides }
     ensures cause { HasCause command.now.options (above command.now) (S.left input.old) (Rose (S.faults input.old) (S.faults input.new)) result }
     ensures read { IsRead (S.left input.old) (S.left input.new) result }
     ensures output { IsOutput K.written K.faults (IsAnswer command.now (S.left input.old)) output.old output.new result }
@@ -46,6 +48,7 @@ fn run_on_generated<K: Sink>(
 ) -> Ending
     requires positive { 1 ≤ pieces }
     requires small { pieces ≤ 1000 }
+    requires given { AreGivenWords command.now.options.overrides }
     ensures cause { IsCause command.now.options (above command.now (octets_of (generated pieces))) (octets_of (generated pieces)) result }
     ensures output { IsOutput K.written K.faults (IsAnswer command.now (Some (octets_of (generated pieces)))) output.old output.new result }
 {
@@ -67,6 +70,7 @@ fn run<S: Source, K: Sink>(
     input: &mut S,
     output: &mut K,
 ) -> Ending
+    requires { AreGivenWords command.now.options.overrides }
     ensures cause { HasCause command.now.options (above command.now) (bytes_of command.now (S.left input.old)) (ReadFails command.now.pieces (S.faults input.old) (S.faults input.new)) result }
     ensures read { IsReadBy command.now.pieces (input.new ≡ input.old) (S.left input.old) (S.left input.new) result }
     ensures output { IsOutput K.written K.faults (IsAnswer command.now (bytes_of command.now (S.left input.old))) output.old output.new result }
@@ -85,6 +89,7 @@ fn carry_out<S: Source, K: Sink, N: Sink>(
     output: &mut K,
     notes: &mut N,
 ) -> u8
+    requires { AreGivenWords command.now.options.overrides }
     ensures no_usage { result ≡ 1 → ⊥ }
     ensures complete { IfSome (bytes_of command.now (S.left input.old)) (λ bytes.
         IsComplete command.now.options (above command.now bytes) bytes (ReadFails command.now.pieces (S.faults input.old) (S.faults input.new)) (Rose (K.faults output.old) (K.faults output.new)) result) }

@@ -1,31 +1,18 @@
 // The translation.
 ghost use Rattle.std.specs.Prelude.{◌≡◌, IfErr, IfOk, OnOk};
 ghost use Rattle.glsl_ast.specs.View.{unit_of as tree_of_unit};
-ghost use Rattle.glsl_grammar.specs.InGrammar.{IsInGrammar};
 ghost use Rattle.module_check.specs.Asked.{asked};
-ghost use Rattle.module_check.specs.Judged.{IsRead, IsFine, IsFault};
+ghost use Rattle.module_check.specs.Judged.{IsFine, IsFault};
 ghost use Rattle.unit_rules.specs.Text.{IsTranslationOf};
+ghost use Rattle.emit_glsl.specs.Given.{IsGiven};
 
 use crate::unit::{Translation, text_of};
-use glsl_ast::Unit;
 use module_check::check_module;
 use profile_check::Options;
 use spv_decor::Decor;
 use spv_module::Module;
-use spv_words::{Fault, Memory};
+use spv_words::Fault;
 use std::alloc::Global;
-use text_check::is_in_grammar;
-
-/// Says want of memory of a tree that is not in the grammar.
-fn check_unit(alloc: Global, unit: &Unit) -> Result<(), Memory>
-    ensures grammar { OnOk result (IsInGrammar (tree_of_unit unit.now)) }
-{
-    if is_in_grammar(alloc, unit)? {
-        Ok(())
-    } else {
-        Err(Memory)
-    }
-}
 
 /// The text of a module that was read, for the entry point and with the overrides of the options (GLSL 4.60, with the layout
 /// qualifiers of Vulkan).
@@ -39,17 +26,13 @@ pub fn translate<'a>(
     options: &'a Options,
 ) -> Result<Translation<'a>, Fault>
     requires heads { decor.now ≡ «module».now.heads }
-    requires read { IsRead «module».now }
+    requires given { IsGiven «module».now (asked options.now) }
     ensures passes { OnOk result (IsFine «module».now (asked options.now)) }
     ensures translation { IfOk result (λ text. IsTranslationOf «module».now (asked options.now) (tree_of_unit text.unit)) }
     ensures refused { IfErr result (IsFault «module».now (asked options.now)) }
 {
     match check_module(alloc, module, decor, options) {
         Err(fault) => Err(fault),
-        Ok(found) => {
-            let text = text_of(alloc, module, decor, found, &options.overrides)?;
-            check_unit(alloc, &text.unit)?;
-            Ok(text)
-        }
+        Ok(found) => Ok(text_of(alloc, module, decor, found, &options.overrides)?),
     }
 }

@@ -3,7 +3,8 @@ ghost use Rattle.std.specs.Prelude.{◌≡◌, map, option_map, find, string_byt
 ghost use Rattle.std.specs.Option.{option_copied};
 ghost use Rattle.glsl_ast.specs.View.{unit_of};
 ghost use Rattle.module_check.specs.Asked.{asked};
-ghost use Rattle.module_check.specs.Judged.{IsRead, IsFine, IsFault};
+ghost use Rattle.module_check.specs.Judged.{IsFine, IsFault};
+ghost use Rattle.emit_glsl.specs.Given.{IsGiven};
 ghost use Rattle.reflection.specs.Report.{is_entry_point, entry_name as entry_name_in, report_data, IsReport};
 ghost use Rattle.serde_json.specs.View.{view};
 
@@ -81,7 +82,7 @@ pub fn report(
     options: &Options,
 ) -> Result<Value, Fault>
     requires heads { decor.now ≡ «module».now.heads }
-    requires read { IsRead «module».now }
+    requires given { IsGiven «module».now (asked options.now) }
     ensures passes { OnOk result (IsFine «module».now (asked options.now)) }
     ensures report { IfOk result (λ v. IsReport «module».now (asked options.now) (view v)) }
     ensures refused { IfErr result (IsFault «module».now (asked options.now)) }

@@ -2,8 +2,10 @@ use Rattle.std.proofs.Common.{◌≡◌, Err, Result, IfErr, rules, subst, sym}
 use Rattle.spv_words.specs.declared.rule.Fault.{Fault}
 use Rattle.conformance.specs.Rules.{Options, IsRight}
 use Rattle.module_check.specs.Judged.{IsFine, IsFault}
-use Rattle.module_check.proofs.OfBytes.{read_is, faulty, fine}
+use Rattle.module_check.proofs.OfBytes.{faulty, fine}
+use Rattle.typed_law.specs.Words.{AreGivenWords}
 use Rattle.command_line.specs.declared.endings.Ending.{Ending}
+use Rattle.cross_core.proofs.Given.{are_bytes}
 use Rattle.cross_core.proofs.answers.answered.Goals as goal
 
 pub returns-in_err-module-clause-refused : goal.returns-in_err-module-clause-refused
@@ -13,8 +15,12 @@ returns-in_err-module-clause-refused g c =
     let P : Result Ending Fault → Type 0 = λ r. IfErr r (IsRight c.args.bytes.now o) in
     subst P (sym is) (c.in_err-module.ensures.refused.right o)
 
-pub written-requires-clause-read : goal.written-requires-clause-read
-written-requires-clause-read g c = read_is c.args.bytes.now c.in_ok-module.module c.in_ok-module.ensures.read
+pub written-requires-clause-given : goal.written-requires-clause-given
+written-requires-clause-given g c = record {
+  read = record { bytes = c.args.bytes.now; is = c.in_ok-module.ensures.read };
+  octets = are_bytes c.args.bytes.now c.type_inv.bytes;
+  words = subst (λ (p : Options). AreGivenWords p.overrides) (sym c.options.ensures) c.requires.given;
+}
 
 pub returns-in_err-ending-clause-refused : goal.returns-in_err-ending-clause-refused
 returns-in_err-ending-clause-refused g c =
@@ -29,4 +35,4 @@ pub returns-clause-passes : goal.returns-clause-passes
 returns-clause-passes g c =
     let o : Options = c.args.command.now.options in
     let passed = subst (λ (p : Options). IsFine c.in_ok-module.module p) c.options.ensures c.in_ok-ending.ensures.passes in
-    fine c.args.bytes.now c.in_ok-module.module c.in_ok-module.ensures.read o c.in_ok-decor.ensures.passes c.requires passed
+    fine c.args.bytes.now c.in_ok-module.module c.in_ok-module.ensures.read o c.in_ok-decor.ensures.passes c.requires.short passed

@@ -9,7 +9,11 @@ use Rattle.command_line.specs.Endings.{IsOutput, ReadFails}
 use Rattle.command_line.specs.Carried.{Carried, IsComplete}
 use Rattle.command_line.specs.Wrote.{Said}
 use Rattle.command_line.proofs.Ends.{of_any, read_none}
+use Rattle.cross_core.proofs.Given.{given_words}
 use Rattle.cross_core.proofs.top.cross.Goals as goal
+
+pub carry_out-requires : goal.carry_out-requires
+carry_out-requires g c = given_words (map (λ w. w.now) c.args.words.now) c.in-Ok.command c.in-Ok.ensures.read
 
 pub returns-in-Err-Memory-clause-carried : goal.returns-in-Err-Memory-clause-carried
 returns-in-Err-Memory-clause-carried g c =
