@@ -1,9 +1,10 @@
--- Of the text of an accepted module nothing is left but: that its words are octets, its overrides words, no rule on decorations is broken, and lengths of arrays are lengths (`IsLeftOfGlobals`); and what is asked of instructions, of the moves of edges, and of operands of terminators (`IsLeftOfPlan`).
+-- Of the text of an accepted module nothing is left but: that its words are octets, its overrides words, no rule on decorations is broken, and lengths of arrays are lengths (`IsLeftOfGlobals`); and what is asked of instructions, that types of phis have shapes, and that no array is too long for an int to lead to each element (`IsLeftOfFunction`).
 use Rattle.std.proofs.Common.{◌≡◌, ◌++◌, ℕ, Bool, true, false, List, map, Option, Some, refl, sym, subst}
 use Rattle.spv_words.specs.Words.{words}
 use Rattle.spv_module.specs.Inst.{has_type}
 use Rattle.spv_module.specs.State.{ModuleState}
 use Rattle.spv_module.specs.declared.inst.Inst.{Inst}
+use Rattle.spv_module.specs.declared.inst.Function.{Function}
 use Rattle.spv_types.specs.Tree.{Tree}
 use Rattle.spv_types.specs.Types.{type_tree}
 use Rattle.spv_index.specs.Locals.{insts_of}
@@ -12,20 +13,30 @@ use Rattle.module_check.specs.Judged.{IsFine}
 use Rattle.module_check.specs.ReadFrom.{IsReadFrom}
 use Rattle.traces.specs.Invocations.{Invocation, IsInvocation}
 use Rattle.module_semantics.specs.Setting.{setting}
-use Rattle.module_semantics.specs.State.{Held, Frame}
+use Rattle.module_semantics.specs.State.{Held, Frame, Conf}
 use Rattle.name_alloc.specs.Naming.{name_of}
 use Rattle.glsl_ast.specs.Tree.{Text, Decl, TranslationUnit}
 use Rattle.glsl_semantics.specs.States.{Thing}
+use Rattle.glsl_semantics.specs.Expressions.{Program}
+use Rattle.glsl_semantics.specs.Run.{calls_of}
 use Rattle.text_rules.specs.Constants.{sizes}
 use Rattle.function_text.specs.Functions.{FunctionPlan, written, is_hoisted, function_decl}
 use Rattle.unit_rules.specs.Unit.{source_of, IsUnitOf}
 use Rattle.write_law.specs.Writes.{IsWithin}
+use Rattle.agree_law.specs.Agree.{AreApart}
+use Rattle.agree_law.specs.Blocks.{IsOf}
+use Rattle.call_law.specs.Known.{IsFunctionOf}
 use Rattle.typed_law.specs.Words.{IsSettingOfWords}
+use Rattle.typed_law.specs.Conforms.{IsFormed, IsConforming}
 use Rattle.typed_law.proofs.OfWords.{words_of_bytes, setting_of_words}
 use Rattle.accepted_law.proofs.Accepted.{break_none}
 use Rattle.function_law.specs.Texts.{FunctionText, decl_of}
+use Rattle.function_law.specs.UnderWay.{IsUnderWay, IsRuled}
 use Rattle.claim_law.specs.Apart.{AreOfKeys}
 use Rattle.claim_law.specs.Claimed.{IsIn}
+use Rattle.formed_law.specs.Formed.{IsFormedFunction}
+use Rattle.formed_law.specs.Traced.{IsTraced}
+use Rattle.naming_law.specs.Ends.{HasLabels}
 use Rattle.naming_law.proofs.Fine.{each_found}
 use Rattle.naming_law.proofs.Functions.{planned_of}
 use Rattle.formed_law.proofs.Inner.{accepted_inner}
@@ -35,14 +46,23 @@ use Rattle.formed_law.proofs.Shaped.{AreGlobals, accepted_shaped}
 use Rattle.naming_law.proofs.Unit.{items, ordered}
 use Rattle.naming_law.proofs.Whole.{stands_reached}
 use Rattle.unit_law.proofs.Lists.{as_in}
-use Rattle.unit_law.proofs.Ways.{HaveKinds}
+use Rattle.unit_law.proofs.Ways.{HaveKinds, F, R, V}
+use Rattle.grammar_law.proofs.Lives.{lives}
+use Rattle.moves_law.proofs.Planned.{planned_edge}
+use Rattle.formed_law.proofs.Labelled.{label_place}
+use Rattle.values_law.proofs.EdgesLeft.{edge_left}
+use Rattle.use_chains.specs.Slots.{inst_at, IsLive}
+use Rattle.function_plan.specs.Phis.{is_gone}
+use Rattle.module_semantics.specs.Steps.{is_phi}
 use Rattle.unit_law.proofs.Kinded.{have_kinds}
 use Rattle.outside_law.specs.Left.{IsLeftOfGlobals}
 use Rattle.outside_law.proofs.Begins.{not_stuck, private_first, outside_first}
 use Rattle.outside_law.proofs.Typed.{types_of_text}
 use Rattle.outside_law.proofs.Tops.{tops_say}
 use Rattle.safe_law.specs.Flags.{IsFlag as IsFlagOf, IsNoFlag}
-use Rattle.written_law.proofs.Asked.{IsLeftOfPlan, asked as asked_of}
+use Rattle.written_law.proofs.Asked.{AreInstsAsked, AreEdgesAsked, IsLeftOfPlan, one_so, left_of_plan, asked as asked_of}
+use Rattle.written_law.proofs.Placed.{as_of}
+use Rattle.values_law.proofs.Ends.{AreShortIn, left_at_ends}
 use Rattle.preservation.specs.Preserves.{Preserves}
 use Rattle.meaning_law.proofs.Accepted.{right, ruled, N, is_one, formed_so, few_so, labels_so, alone_so, apart_so, kept_so}
 use Rattle.meaning_law.proofs.Left.{P, others, calls_in, StandBefore, HasBlocks, IsLeft}
@@ -55,8 +75,11 @@ not_off false far = absurd (far refl)
 
 module _ (bytes : List ℕ) (m : ModuleState) (o : Options) (read : IsReadFrom bytes m) (fine : IsFine m o) (unit : TranslationUnit) (u : IsUnitOf m o unit) where
   -- what stands outside of functions and has a type is a constant or a variable
+  pub kinds_in : HaveKinds m.globals
+  kinds_in = subst (λ (n : ModuleState). HaveKinds n.globals) (sym read.made) (have_kinds (words bytes) o.entry (break_none bytes m o read fine))
+
   kinds_so : AreGlobals m.globals
-  kinds_so g there some = subst (λ (n : ModuleState). HaveKinds n.globals) (sym read.made) (have_kinds (words bytes) o.entry (break_none bytes m o read fine)) g (as_in m.globals g there) some
+  kinds_so g there some = kinds_in g (as_in m.globals g there) some
 
   module _ (inv : Invocation) (told : IsInvocation inv) (outer : IsLeftOfGlobals bytes m o u.entry inv) where
     -- its constants and the invocation are of words
@@ -75,16 +98,67 @@ module _ (bytes : List ℕ) (m : ModuleState) (o : Options) (read : IsReadFrom b
     abbrev items_before : List FunctionText → List Decl
     items_before ts = map decl_of ts ++ others bytes m o read fine unit u inv
 
-    -- what is left of a planned function, in a call of it
-    abbrev LeftOf : (k : ℕ) (p : FunctionPlan) (among : IsIn p u.plans) → List FunctionText → (ℕ → ℕ → Type 0) → List (Frame × ℕ) → (ℕ → Option Held) → Type 0
-    LeftOf k p among ts IsLent first given =
-        IsLeftOfPlan m o unit u inv p among (right bytes m o read fine unit u inv) (is_one bytes m o read fine unit u inv p among) (keys_so p among) (apart_so bytes m o read fine unit u inv p among) (kept_so bytes m o read fine unit u inv p among) (ruled bytes m o read fine unit u inv of_words)
-        (formed_so bytes m o read fine unit u inv (written p) (is_one bytes m o read fine unit u inv p among)) (few_so bytes m o read fine unit u inv (written p) (is_one bytes m o read fine unit u inv p among)) (labels_so bytes m o read fine unit u inv (written p) (is_one bytes m o read fine unit u inv p among))
-        (P bytes m o read fine unit u inv) k (items_before ts) flags_outside IsLent first given
+    -- a planned function, in a call of it
+    module _ (k : ℕ) (p : FunctionPlan) (among : IsIn p u.plans) (ts : List FunctionText) (IsLent : ℕ → ℕ → Type 0) (first : List (Frame × ℕ)) (given : ℕ → Option Held) where
+      abbrev r : IsConforming m o.entry
+      r = right bytes m o read fine unit u inv
+
+      abbrev one : IsFunctionOf (written p) m.functions
+      one = is_one bytes m o read fine unit u inv p among
+
+      abbrev apart : AreApart (N bytes m o read fine unit u inv p among)
+      apart = apart_so bytes m o read fine unit u inv p among
+
+      abbrev kept : (q j : ℕ) → (N bytes m o read fine unit u inv p among).is_kept q j ≡ true → (N bytes m o read fine unit u inv p among).is_outer q ≡ false
+      kept = kept_so bytes m o read fine unit u inv p among
+
+      abbrev rules : IsRuled (S m o unit u inv) (IsTraced (S m o unit u inv))
+      rules = ruled bytes m o read fine unit u inv of_words
+
+      abbrev form : IsFormedFunction (written p)
+      form = formed_so bytes m o read fine unit u inv (written p) one
+
+      abbrev few : (i : Inst) → IsOf i (insts_of (written p)) → IsFormed i
+      few = few_so bytes m o read fine unit u inv (written p) one
+
+      abbrev labels : HasLabels (written p)
+      labels = labels_so bytes m o read fine unit u inv (written p) one
+
+      abbrev program : Program
+      program = P bytes m o read fine unit u inv
+
+      abbrev Way : Function → Conf → Type 0
+      Way g = IsUnderWay (S m o unit u inv) (IsTraced (S m o unit u inv)) IsLent first g given
+
+      abbrev Fn : Function
+      Fn = F (S m o unit u inv) o.entry r kinds_in o unit u p among
+
+      abbrev here : IsFunctionOf Fn m.functions
+      here = one_so m o unit u inv p among r one (keys_so p among) apart kept rules form few labels program k (items_before ts) flags_outside IsLent first given kinds_in rules.lends
+
+      -- what is left of it: what its instructions do, that the types of its phis have shapes, and that no array of it is too long
+      pub record IsLeftOfFunction : Type 0 where
+        pub insts : AreInstsAsked m o unit u inv p among r one (keys_so p among) apart kept rules form few labels program k (items_before ts) flags_outside IsLent first given
+        pub phis : (i : Inst) → IsIn i (insts_of Fn) → is_phi i ≡ true → (t : Tree) × (type_tree m.globals i.ty ≡ Some t)
+        pub short : AreShortIn bytes m o read fine unit u inv told outer r kinds_in p among rules.lends here (calls_of program k (items_before ts)) Way
+
+      lives_so : (c place : ℕ) (i : Inst) → inst_at Fn c place ≡ Some i → is_gone ((V (S m o unit u inv) o.entry r kinds_in o unit u p among).form i.result) ≡ false → IsLive Fn (R (S m o unit u inv) o.entry r kinds_in o unit u p among) c place
+      lives_so = lives (S m o unit u inv) o.entry r kinds_in o unit u p among
+
+      edges_so : IsLeftOfFunction → AreEdgesAsked m o unit u inv p among r one (keys_so p among) apart kept rules form few labels program k (items_before ts) flags_outside IsLent first given
+      edges_so left b t q at from block values taken g goes same =
+          planned_edge m o r kinds_in unit u inv p among lives_so rules.lends here (keys_so p among) form (label_place bytes m o read fine (written p) one) left.phis program (calls_of program k (items_before ts)) k apart kept (Way (written p)) (λ c way. way.known.fits) b t q at from block values taken g goes same
+          (edge_left bytes m o read fine unit u inv told outer r kinds_in p among lives_so rules.lends here (keys_so p among) form (label_place bytes m o read fine (written p) one) left.phis (calls_of program k (items_before ts)) k apart kept (Way (written p)) (λ c way. way.known.fits) b t)
+
+      plan_left : IsLeftOfFunction → IsLeftOfPlan m o unit u inv p among r one (keys_so p among) apart kept rules form few labels program k (items_before ts) flags_outside IsLent first given
+      plan_left left =
+          left_of_plan m o unit u inv p among r one (keys_so p among) apart kept rules form few labels program k (items_before ts) flags_outside IsLent first given kinds_in rules.lends left.insts (edges_so left)
+          (left_at_ends bytes m o read fine unit u inv told outer r kinds_in p among rules.lends here (calls_of program k (items_before ts)) Way (λ g c way. way.known.fits) (λ g c way. way.known.more.words) rules.fits of_words
+          (λ j there. rules.typed Fn here j (as_of (insts_of Fn) j there)) left.short)
 
     -- of each, where those that it calls run as their functions do
     pub record IsLeftOfBlocks : Type 1 where
-      pub plan : (k : ℕ) (p : FunctionPlan) (among : IsIn p u.plans) (ts : List FunctionText) → StandBefore bytes m o read fine unit u inv of_words k p ts → (IsLent : ℕ → ℕ → Type 0) (first : List (Frame × ℕ)) (given : ℕ → Option Held) → LeftOf k p among ts IsLent first given
+      pub functions : (k : ℕ) (p : FunctionPlan) (among : IsIn p u.plans) (ts : List FunctionText) → StandBefore bytes m o read fine unit u inv of_words k p ts → (IsLent : ℕ → ℕ → Type 0) (first : List (Frame × ℕ)) (given : ℕ → Option Held) → IsLeftOfFunction k p among ts IsLent first given
 
     -- what is declared for its value has a shape
     shaped : (p : FunctionPlan) (among : IsIn p u.plans) (i : Inst) → IsIn i (insts_of (written p)) → is_hoisted (p.scope.form i.result) ≡ true → (t : Tree) × (type_tree m.globals i.ty ≡ Some t)
@@ -117,7 +191,7 @@ module _ (bytes : List ℕ) (m : ModuleState) (o : Options) (read : IsReadFrom b
             let few = few_so bytes m o read fine unit u inv (written p) one in
             record {
               asked = λ IsLent first given.
-                  asked_of m o unit u inv p among r one (keys_so p among) apart kept rules form few (labels_so bytes m o read fine unit u inv (written p) one) (P bytes m o read fine unit u inv) k (items_before ts) flags_outside IsLent first given (left.plan k p among ts before IsLent first given)
+                  asked_of m o unit u inv p among r one (keys_so p among) apart kept rules form few (labels_so bytes m o read fine unit u inv (written p) one) (P bytes m o read fine unit u inv) k (items_before ts) flags_outside IsLent first given (plan_left k p among ts IsLent first given (left.functions k p among ts before IsLent first given))
                   (stands_reached (P bytes m o read fine unit u inv) (calls_in bytes m o read fine unit u inv of_words k ts) k (S m o unit u inv) rules (N bytes m o read fine unit u inv p among) apart kept (IsFlagOf (name_of u.claimed)) (source_of m o u.entry) (name_of u.claimed) (written p) form few p (planned_of bytes m o read fine unit u p among) refl IsLent first given);
             }
 

@@ -20,6 +20,7 @@ pub mod FirstBlocks
 pub mod Accepted
 pub mod Moving
 pub mod PhiNames
+pub mod PairsOf
 pub mod Edges
 pub mod FewPairs
 pub mod Called

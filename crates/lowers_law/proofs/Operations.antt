@@ -67,6 +67,7 @@ use Rattle.typed_law.proofs.Lists.{or_right, clash, same_some, some_part}
 use Rattle.typed_law.proofs.Rules.{value_right, number_right}
 use Rattle.lowers_law.proofs.Types.{basic_by, of_basic, decide_basic, Src, type_is, type_named, parts_are}
 use Rattle.lowers_law.proofs.Opcodes.{is_plain, is_extended, View, undefined, copied, extracted, constructed, logical, extended, plain as plainly, view, values_same, literals_same, operation_same, plain_operation, copy_is, plain_copy, extended_operation, extended_at}
+use Rattle.lowers_law.proofs.Copies.{copied_logical}
 use Rattle.lowers_law.proofs.Meant.{AllBasic, S, Y, Where, IsTextType, IsMeant, AreMeant, meant, meant_of, are_meant, basics_same, exprs_same, tells}
 
 -- shapes of operands by their number: those of scalars and vectors
@@ -479,12 +480,11 @@ module _ (s : Setting) (entry : ℕ) (overrides : List (ℕ × Given)) (found : 
       by_args args [] have takes each = absurd takes
       by_args args (a ∷ b ∷ us) have takes each = absurd takes
 
-  -- The law: of an operation that is not always named, where the expressions of its operands say theirs. Of OpCopyLogical the types are asked to be one but for the ids of structs.
+  -- The law: of an operation that is not always named, where the expressions of its operands say theirs.
   pub operation_says : (entry_of : Option (List ℕ)) (right : IsConforming s.of entry_of) (in_it : Contains s.of.functions f) (there : IsAmong j (insts_of f)) → is_always_named j.op ≡ false → IsTyped s f j steps.operation
       → ((n : ℕ) → In n (value_operands j.op j.args) → (u : Tree) → value_shape s f n ≡ Some u → (w : ValueTree) → value_at s c n ≡ Some w → Meant n u w)
-      → (j.op ≡ code.CopyLogical → (a : Tree) → value_shape s f (slice_index j.args 0) ≡ Some a → IsLogical t a)
       → computed s c j ≡ Some v → Says (expression Wh expr block j) (typed T v)
-  operation_says entry_of right in_it there named typed_so known logic made =
+  operation_says entry_of right in_it there named typed_so known made =
       let of_values = sym (ap (option_and_then (λ (q : Tree). option_and_then (op_value j.op q (literal_operands j.op j.args)) (values_at s c (value_operands j.op j.args)))) typed_as) ∙ made in
       let vs = some_part (op_value j.op t (literal_operands j.op j.args)) (values_at s c (value_operands j.op j.args)) v of_values in
       let o = some_part (λ (q : Operation). value_of_operation q t (literal_operands j.op j.args) vs.0) (operation_of j.op (literal_operands j.op j.args)) v vs.2 in
@@ -492,7 +492,7 @@ module _ (s : Setting) (entry : ℕ) (overrides : List (ℕ × Given)) (found : 
       goal_by j.op (view j.op (literal_operands j.op j.args) o.0 named o.1) o.0 is.shapes vs.0 o.1 is.takes is.have
       (are_meant s entry overrides found f globals form carried p none calls z c expr shape (value_operands j.op j.args) is.shapes vs.0 known is.have vs.1) o.2
       (value_right s.of entry_of right f in_it j there) (number_right s.of entry_of right f in_it j there)
-      (λ same. logical_at j.op same o.0 is.shapes o.1 is.takes is.have (logic same))
+      (λ same. logical_at j.op same o.0 is.shapes o.1 is.takes is.have (λ a value. copied_logical s entry_of right f in_it j there same t a typed_as value))
     where
       copied_takes : (o : Operation) (us : List Tree) → operation_of code.CopyLogical (literal_operands code.CopyLogical j.args) ≡ Some o → Takes o t (literal_operands code.CopyLogical j.args) us → OfOne (Alike t) us
       copied_takes o us at takes = subst (λ (q : Operation). Takes q t (literal_operands code.CopyLogical j.args) us) (copy_operation (literal_operands code.CopyLogical j.args) o at) takes

@@ -144,6 +144,16 @@ module _ (bytes : List ℕ) (m : ModuleState) (o : Options) (read : IsReadFrom b
   unread : (n : ℕ) → global_inst Gs n ≡ None → globals n ≡ None
   unread n none = ap (option_and_then (global_by src (id_text found))) none
 
+  -- nor has the module a value for it
+  pub no_module : (n : ℕ) → global_inst Gs n ≡ None → of_module s n ≡ None
+  no_module n none =
+      ap (λ (a : Option Inst). elim a as (λ a. Option Held) [ Some v ↦ Some (pointer_held (root n) []) | None ↦ option_map value (s.constants n) ]) (ap (λ (a : Option Inst). elim a as (λ a. Option Inst) [ None ↦ None | Some g ↦ as_variable g ]) none)
+      ∙ by_constant (s.constants n) refl
+    where
+      by_constant : (a : Option ValueTree) → s.constants n ≡ a → option_map value (s.constants n) ≡ None
+      by_constant None at = ap (option_map value) at
+      by_constant (Some v) at = let w = valued s (chosen s o.overrides) have right.results right.rising n v at in let never : None ≡ Some w.inst = sym none ∙ w.there in cc
+
   -- the type of what a pointer of this type leads to
   pub shape_of : (n ty q : ℕ) (t : Tree) → type_in Gs f n ≡ Some ty → pointee Gs ty ≡ Some q → type_tree Gs q ≡ Some t → N.shape n ≡ shape_in s (struct_names key) t
   shape_of n ty q t typed points shape =
@@ -230,12 +240,3 @@ module _ (bytes : List ℕ) (m : ModuleState) (o : Options) (read : IsReadFrom b
             no_module n alone.1,
           ));
         }
-      where
-        no_module : (n : ℕ) → global_inst Gs n ≡ None → of_module s n ≡ None
-        no_module n none =
-            ap (λ (a : Option Inst). elim a as (λ a. Option Held) [ Some v ↦ Some (pointer_held (root n) []) | None ↦ option_map value (s.constants n) ]) (ap (λ (a : Option Inst). elim a as (λ a. Option Inst) [ None ↦ None | Some g ↦ as_variable g ]) none)
-            ∙ by_constant (s.constants n) refl
-          where
-            by_constant : (a : Option ValueTree) → s.constants n ≡ a → option_map value (s.constants n) ≡ None
-            by_constant None at = ap (option_map value) at
-            by_constant (Some v) at = let w = valued s (chosen s o.overrides) have right.results right.rising n v at in let never : None ≡ Some w.inst = sym none ∙ w.there in cc

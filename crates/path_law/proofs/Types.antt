@@ -170,7 +170,7 @@ module _ (s : Setting) where
       by_part (Some x) None is h = cc
       by_part (Some x) (Some m) is h = is ∙ (let same : m ≡ l = cc in ap (λ a. Some a) same)
 
-  struct_args : (f : ℕ → Option Tree) (g : Inst) (id : ℕ) (ts : Trees) → tree_by_kind Gs f g kinds.Struct ≡ Some (plain.struct id ts) → all_trees f g.args ≡ Some ts
+  pub struct_args : (f : ℕ → Option Tree) (g : Inst) (id : ℕ) (ts : Trees) → tree_by_kind Gs f g kinds.Struct ≡ Some (plain.struct id ts) → all_trees f g.args ≡ Some ts
   struct_args f g id ts h = by_parts (all_trees f g.args) refl h
     where
       by_parts : (o : Option Trees) → all_trees f g.args ≡ o → option_map (plain.struct g.result) o ≡ Some (plain.struct id ts) → all_trees f g.args ≡ Some ts

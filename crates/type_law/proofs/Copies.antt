@@ -39,7 +39,15 @@ one_on : (a b : Bool) → (a || b) ≡ true → (a ≡ true) ⊎ (b ≡ true)
 one_on true b e = inl refl
 one_on false b e = inr e
 
-module _ (s : Setting) (f : Function) where
+-- a relation of shapes that each sized one has to itself, and arrays and structs have where their parts have it
+pub record IsByParts (R : Tree → Tree → Type 0) (Rs : Trees → Trees → Type 0) : Type 0 where
+  pub self : (t : Tree) → IsSized t → R t t
+  pub arrays : (u t : Tree) (n m : ℕ) → R u t → n ≡ m → R (array u (Fixed n)) (array t (Fixed m))
+  pub structs : (i k : ℕ) (us ts : Trees) → Rs us ts → R (struct i us) (struct k ts)
+  pub none : Rs no_trees no_trees
+  pub more : (u t : Tree) (us ts : Trees) → R u t → Rs us ts → Rs (tree u us) (tree t ts)
+
+module _ (s : Setting) (f : Function) (R : Tree → Tree → Type 0) (Rs : Trees → Trees → Type 0) (kept : IsByParts R Rs) where
   abbrev Gs : List Inst
   Gs = s.of.globals
 
@@ -95,18 +103,18 @@ module _ (s : Setting) (f : Function) where
 
   -- a type of this shape has the values of each type that it matches
   abbrev Matches : Tree → Type 0
-  Matches t = (c b : ℕ) (u : Tree) (g : Inst) → global_inst Gs c ≡ Some g → type_tree Gs c ≡ Some t → type_tree Gs b ≡ Some u → IsSized t → IsSized u → match_at Gs g b ≡ true → Alike u t
+  Matches t = (c b : ℕ) (u : Tree) (g : Inst) → global_inst Gs c ≡ Some g → type_tree Gs c ≡ Some t → type_tree Gs b ≡ Some u → IsSized t → IsSized u → match_at Gs g b ≡ true → R u t
 
   -- arrays, of parts that match
   array_alike : (x : Tree) (n : ℕ) (u : Tree) (g h : Inst) → Matches x → tree_at Gs g ≡ Some (array x (Fixed n)) → tree_at Gs h ≡ Some u → IsSized x → IsSized u → is g.op code.TypeArray ≡ true → is h.op code.TypeArray ≡ true
-      → match_before Gs g.at (word g 0) (word h 0) ≡ true → is_same_length Gs (word g 1) (word h 1) ≡ true → Alike u (array x (Fixed n))
+      → match_before Gs g.at (word g 0) (word h 0) ≡ true → is_same_length Gs (word g 1) (word h 1) ≡ true → R u (array x (Fixed n))
   array_alike x n u g h part gt hu sx su ga ha m l =
       let p = array_parts g (array x (Fixed n)) ga gt sx in
       let q = array_parts h u ha hu su in
       let same = same_array x p.0 (Fixed n) (Fixed p.1) p.3 in
       let before = before_matches g.at (word g 0) (word h 0) p.0 p.2 m in
       let whole = part (word g 0) (word h 0) q.0 before.0 before.1 (earlier_is s f g.at (word g 0) p.0 p.2 ∙ ap (λ y. Some y) (sym same.0)) (earlier_is s f h.at (word h 0) q.0 q.2) sx (subst IsSized q.3 su) before.3 in
-      subst (λ y. Alike y (array x (Fixed n))) {x = array q.0 (Fixed q.1)} (sym q.3) (whole, same_length (word g 1) (word h 1) p.1 q.1 l p.4 q.4 ∙ sym (same_fixed n p.1 same.1))
+      subst (λ y. R y (array x (Fixed n))) {x = array q.0 (Fixed q.1)} (sym q.3) (kept.arrays q.0 x q.1 n whole (same_length (word g 1) (word h 1) p.1 q.1 l p.4 q.4 ∙ sym (same_fixed n p.1 same.1)))
 
   four_on : (a b c d : Bool) → (a && b && c && d) ≡ true → (a ≡ true) × (b ≡ true) × (c ≡ true) × (d ≡ true)
   four_on true true true true e = (refl, refl, refl, refl)
@@ -120,7 +128,7 @@ module _ (s : Setting) (f : Function) where
 
   -- the same type is alike, else the parts tell
   whole_alike : (t : Tree) (c b : ℕ) (u : Tree) (g : Inst) → global_inst Gs c ≡ Some g → type_tree Gs c ≡ Some t → type_tree Gs b ≡ Some u → IsSized t → match_at Gs g b ≡ true
-      → ((h : Inst) → tree_at Gs g ≡ Some t → tree_at Gs h ≡ Some u → (IsArrays g h ≡ true) ⊎ (IsStructs g h ≡ true) → Alike u t) → Alike u t
+      → ((h : Inst) → tree_at Gs g ≡ Some t → tree_at Gs h ≡ Some u → (IsArrays g h ≡ true) ⊎ (IsStructs g h ≡ true) → R u t) → R u t
   whole_alike t c b u g there gt bu st m parts =
       let h = row s f b u bu in
       elim (one_on ((g.result == b) && not (is_void g)) (do_parts_match Gs (match_before Gs g.at) g h.0) (ap (λ o. option_map_or (λ h. ((g.result == b) && not (is_void g)) || do_parts_match Gs (match_before Gs g.at) g h) o true) (sym h.1) ∙ m)) [
@@ -128,12 +136,12 @@ module _ (s : Setting) (f : Function) where
         | inr other ↦ parts h.0 (ap (λ o. option_map_or (tree_at Gs) o None) (sym there) ∙ gt) h.2 (one_on (IsArrays g h.0) (IsStructs g h.0) other)
       ]
     where
-      of_same : (t' : Bool) → ((t' ≡ true) × (g.result ≡ b)) ⊎ ((t' ≡ false) × (g.result ≡ b → ⊥)) → t' ≡ true → Alike u t
-      of_same true (inl w) on = let same = some_same t u (sym gt ∙ (ap (type_tree Gs) (sym (named Gs c g there) ∙ w.1) ∙ bu)) in subst (λ y. Alike y t) {x = t} same (alike_self t st)
+      of_same : (t' : Bool) → ((t' ≡ true) × (g.result ≡ b)) ⊎ ((t' ≡ false) × (g.result ≡ b → ⊥)) → t' ≡ true → R u t
+      of_same true (inl w) on = let same = some_same t u (sym gt ∙ (ap (type_tree Gs) (sym (named Gs c g there) ∙ w.1) ∙ bu)) in subst (λ y. R y t) {x = t} same (kept.self t st)
       of_same true (inr w) on = cc
       of_same false w on = cc
 
-  no_parts : (t : Tree) (u : Tree) (g h : Inst) → ((x : Tree) (l : Length) → t ≡ array x l → ⊥) → ((id : ℕ) (ts : Trees) → t ≡ struct id ts → ⊥) → IsSized t → tree_at Gs g ≡ Some t → (IsArrays g h ≡ true) ⊎ (IsStructs g h ≡ true) → Alike u t
+  no_parts : (t : Tree) (u : Tree) (g h : Inst) → ((x : Tree) (l : Length) → t ≡ array x l → ⊥) → ((id : ℕ) (ts : Trees) → t ≡ struct id ts → ⊥) → IsSized t → tree_at Gs g ≡ Some t → (IsArrays g h ≡ true) ⊎ (IsStructs g h ≡ true) → R u t
   no_parts t u g h no_array no_struct st gt (inl a) =
       let on = four_on (is g.op code.TypeArray) (is h.op code.TypeArray) (match_before Gs g.at (word g 0) (word h 0)) (is_same_length Gs (word g 1) (word h 1)) a in
       let p = array_parts g t on.0 gt st in absurd (no_array p.0 (Fixed p.1) p.3)
@@ -186,13 +194,13 @@ module _ (s : Setting) (f : Function) where
           let on = four_on (is g.op code.TypeStruct) (is h.op code.TypeStruct) (length g.args == length h.args) (list_all (λ (p : ℕ × ℕ). match_before Gs g.at p.0 p.1) (zip g.args h.args)) a in
           let p = struct_parts g (struct id ts) on.0 tg in
           let q = struct_parts h u on.1 hu in
-          subst (λ y. Alike y (struct id ts)) {x = struct h.result q.0} (sym q.2)
-          (members_matched ts q.0 g h g.args h.args (p.1 ∙ ap (λ y. Some y) (sym (same_struct id g.result ts p.0 p.2))) q.1 st (subst IsSized q.2 su) on.2 on.3)
+          subst (λ y. R y (struct id ts)) {x = struct h.result q.0} (sym q.2)
+          (kept.structs h.result id q.0 ts (members_matched ts q.0 g h g.args h.args (p.1 ∙ ap (λ y. Some y) (sym (same_struct id g.result ts p.0 p.2))) q.1 st (subst IsSized q.2 su) on.2 on.3))
     ])
 
     members_matched : (ts us : Trees) (g h : Inst) (ids js : List ℕ) → all_trees (tree_before Gs g.at) ids ≡ Some ts → all_trees (tree_before Gs h.at) js ≡ Some us → AreSized ts → AreSized us → (length ids == length js) ≡ true
-        → list_all (λ (p : ℕ × ℕ). match_before Gs g.at p.0 p.1) (zip ids js) ≡ true → AllAlike us ts
-    members_matched no_trees us g h [] [] a b st su count m = let same = some_same no_trees us b in subst (λ y. AllAlike y no_trees) {x = no_trees} same tt
+        → list_all (λ (p : ℕ × ℕ). match_before Gs g.at p.0 p.1) (zip ids js) ≡ true → Rs us ts
+    members_matched no_trees us g h [] [] a b st su count m = let same = some_same no_trees us b in subst (λ y. Rs y no_trees) {x = no_trees} same kept.none
     members_matched no_trees us g h [] (j ∷ js) a b st su count m = absurd (other_counts 0 (suc (length js)) (λ e. omega (arith, e)) count)
     members_matched no_trees us g h (id ∷ ids) js a b st su count m = absurd (no_both (tree_before Gs g.at id) (all_trees (tree_before Gs g.at) ids) a)
     members_matched (tree t ts) us g h [] js a b st su count m = cc
@@ -203,11 +211,11 @@ module _ (s : Setting) (f : Function) where
         let q = both_parts (tree_before Gs h.at j) (all_trees (tree_before Gs h.at) js) u us b in
         let on = both_on (match_before Gs g.at id j) (list_all (λ (p : ℕ × ℕ). match_before Gs g.at p.0 p.1) (zip ids js)) m in
         let one = before_matches g.at id j t p.0 on.0 in
-        (matched t id j u one.0 one.1 (earlier_is s f g.at id t p.0) (earlier_is s f h.at j u q.0) st.0 su.0 one.3, members_matched ts us g h ids js p.1 q.1 st.1 su.1 (fewer (length ids) (length js) count) on.1)
+        kept.more u t us ts (matched t id j u one.0 one.1 (earlier_is s f g.at id t p.0) (earlier_is s f h.at j u q.0) st.0 su.0 one.3) (members_matched ts us g h ids js p.1 q.1 st.1 su.1 (fewer (length ids) (length js) count) on.1)
 
   -- T12
-  pub logical_takes : (ls : List ℕ) (i : Inst) (t a : Tree) → breaks_t12 Gs (type_in Gs f) i ≡ false → type_tree Gs i.ty ≡ Some t → value_shape s f (word i 0) ≡ Some a → IsSized t → IsSized a → Takes op.Copy t ls (a ∷ [])
-  logical_takes ls i t a right shape value st sa =
+  pub logical_matched : (i : Inst) (t a : Tree) → breaks_t12 Gs (type_in Gs f) i ≡ false → type_tree Gs i.ty ≡ Some t → value_shape s f (word i 0) ≡ Some a → IsSized t → IsSized a → R t a
+  logical_matched i t a right shape value st sa =
       let own = some_first (type_tree Gs) (type_in Gs f (word i 0)) a value in
       let g = row s f own.0 a own.2 in
       let on : do_match Gs own.0 i.ty ≡ true = is_not_off (do_match Gs own.0 i.ty) (ap (λ o. option_map_or (λ ty. not (do_match Gs ty i.ty)) o false) (sym own.1) ∙ right) in
@@ -219,3 +227,10 @@ module _ (s : Setting) (f : Function) where
 
       row_global : (ty : ℕ) (g : Inst) → type_row Gs ty ≡ Some g → global_inst Gs ty ≡ Some g
       row_global ty g e = let x = some_first if_type (global_inst Gs ty) g e in x.1 ∙ ap (λ y. Some y) (row_if x.0 g (is_type x.0) x.2)
+
+alike_by_parts : IsByParts Alike AllAlike
+alike_by_parts = record { self = alike_self; arrays = λ u t n m part same. (part, same); structs = λ i k us ts parts. parts; none = tt; more = λ u t us ts one parts. (one, parts) }
+
+-- so the values of the one are those of the other
+pub logical_takes : (s : Setting) (f : Function) (ls : List ℕ) (i : Inst) (t a : Tree) → breaks_t12 s.of.globals (type_in s.of.globals f) i ≡ false → type_tree s.of.globals i.ty ≡ Some t → value_shape s f (word i 0) ≡ Some a → IsSized t → IsSized a → Takes op.Copy t ls (a ∷ [])
+logical_takes s f ls i t a right shape value st sa = logical_matched s f Alike AllAlike alike_by_parts i t a right shape value st sa

@@ -65,7 +65,7 @@ among_right xs ys id there = among_append xs ys id ∙ or_on_right (is_among xs 
 among_either : (xs ys : List ℕ) (id : ℕ) → is_among (xs ++ ys) id ≡ true → (is_among xs id ≡ true) ⊎ (is_among ys id ≡ true)
 among_either xs ys id there = or_either (is_among xs id) (is_among ys id) (sym (among_append xs ys id) ∙ there)
 
-among_flat : (f : Inst → List ℕ) (xs : List Inst) (x : Inst) (id : ℕ) → IsAmong x xs → is_among (f x) id ≡ true → is_among (flat_map f xs) id ≡ true
+pub among_flat : (f : Inst → List ℕ) (xs : List Inst) (x : Inst) (id : ℕ) → IsAmong x xs → is_among (f x) id ≡ true → is_among (flat_map f xs) id ≡ true
 among_flat f [] x id there own = absurd there
 among_flat f (y ∷ xs) x id (inl same) own = among_left (f y) (flat_map f xs) id (subst (λ z. is_among (f z) id ≡ true) (sym same) own)
 among_flat f (y ∷ xs) x id (inr there) own = among_right (f y) (flat_map f xs) id (among_flat f xs x id there own)
@@ -313,7 +313,7 @@ module _ (m : ModuleState) (entry : Option (List ℕ)) (right : IsConforming m e
           (record { holds = held_own Gs (other_types m) g.result (among_right (pointees m (λ v. not (is_workgroup v))) (value_types m) g.result mine); no_block = w.0; no_runtime = w.1 }) t e
 
   -- so has the type that a variable points to which is neither a block nor of class Workgroup
-  pointee_among : (test : Inst → Bool) (is : List Inst) (v : Inst) (q : ℕ) → IsAmong v is → is_variable v ≡ true → test v ≡ true → pointee Gs v.ty ≡ Some q → is_among (filter_map (pointee_by Gs test) is) q ≡ true
+  pub pointee_among : (test : Inst → Bool) (is : List Inst) (v : Inst) (q : ℕ) → IsAmong v is → is_variable v ≡ true → test v ≡ true → pointee Gs v.ty ≡ Some q → is_among (filter_map (pointee_by Gs test) is) q ≡ true
   pointee_among test [] v q there on passed at = absurd there
   pointee_among test (j ∷ is) v q (inl same) on passed at =
       subst (λ (x : Inst). is_among (filter_map (pointee_by Gs test) (x ∷ is)) q ≡ true) (sym same)

@@ -128,11 +128,18 @@ module _ (m : ModuleState) (opts : Options) (unit : TranslationUnit) (u : IsUnit
     abbrev ReadsFirst : (b : ℕ) → Body f b → Type 0
     ReadsFirst b o = ((t e : ℕ) × (term_of f b ≡ ending.branch t e)) ⊎ ((term_of f b ≡ table) ⊎ (is o.last.op code.ReturnValue ≡ true))
 
+    -- what instructions do, and the moves of edges that are taken
+    abbrev pub AreInstsAsked : Type 0
+    AreInstsAsked = (b : ℕ) (o : Body f b) → body b ≡ Some o → AllAsk program calls k N apart s Holds f b keeps p.scope [] o.insts (o.last ∷ [])
+
+    abbrev pub AreEdgesAsked : Type 0
+    AreEdgesAsked = (b t : ℕ) (o : Body f b) → body b ≡ Some o → (from : Conf) (block : Block) (values : List ValueTree) → IsTaken program calls k N apart chains s Holds f body b t from block values → (g : Body f t) → body t ≡ Some g → g.block ≡ block
+        → IsPlannedEdge program calls k N apart chains s Holds f body m.globals p.scope.form b t o (copies_text p b t)
+
     -- What is left to be shown of a planned function: of its instructions, of the moves of edges that are taken, and that the expression of the operand of a terminator says its value.
     pub record IsLeftOfPlan : Type 0 where
-      pub insts : (b : ℕ) (o : Body f b) → body b ≡ Some o → AllAsk program calls k N apart s Holds f b keeps p.scope [] o.insts (o.last ∷ [])
-      pub edges : (b t : ℕ) (o : Body f b) → body b ≡ Some o → (from : Conf) (block : Block) (values : List ValueTree) → IsTaken program calls k N apart chains s Holds f body b t from block values → (g : Body f t) → body t ≡ Some g → g.block ≡ block
-          → IsPlannedEdge program calls k N apart chains s Holds f body m.globals p.scope.form b t o (copies_text p b t)
+      pub insts : AreInstsAsked
+      pub edges : AreEdgesAsked
       pub says : (b : ℕ) (c : Supplied Conf) (z : State) (stop : Stop b c z) → ReadsFirst b stop.body_of → (v : ValueTree) → value_at s c.at.top (arg stop.body_of.last 0) ≡ Some v → evaluate program calls (value p.scope b (arg stop.body_of.last 0)) z ≡ got [] (typed (N.shape (arg stop.body_of.last 0)) v, z)
 
     -- a value that an id has, where the block ends, is of its type
@@ -181,10 +188,7 @@ module _ (m : ModuleState) (opts : Options) (unit : TranslationUnit) (u : IsUnit
       abbrev pub AreLeftOfEnds : Type 0
       AreLeftOfEnds = AreLeftAtEnds m opts right kinds unit u inv p among lends one_so program calls Way (λ g c way. way.known.fits) ruled.fits
 
-      pub left_of_plan : ((b : ℕ) (o : Body f b) → body b ≡ Some o → AllAsk program calls k N apart s Holds f b keeps p.scope [] o.insts (o.last ∷ []))
-          → ((b t : ℕ) (o : Body f b) → body b ≡ Some o → (from : Conf) (block : Block) (values : List ValueTree) → IsTaken program calls k N apart chains s Holds f body b t from block values → (g : Body f t) → body t ≡ Some g → g.block ≡ block
-          → IsPlannedEdge program calls k N apart chains s Holds f body m.globals p.scope.form b t o (copies_text p b t))
-          → AreLeftOfEnds → IsLeftOfPlan
+      pub left_of_plan : AreInstsAsked → AreEdgesAsked → AreLeftOfEnds → IsLeftOfPlan
       left_of_plan insts edges left = record {
         insts = insts;
         edges = edges;

@@ -15,3 +15,5 @@ pub mod EndOperands
 pub mod Outside
 pub mod EdgePhis
 pub mod PhiLabels
+pub mod KnownValues
+pub mod Lowered

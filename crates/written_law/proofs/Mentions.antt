@@ -101,7 +101,7 @@ terminator_mentions f reached block place i there here on least =
     (first_word i.args (first_least i.op (length i.args) on least)) (first_id i.op i.args on) (first_value i.op on)
 
 -- OpArrayLength reads its first operand
-length_op : (o : Op) → step_kind o ≡ array_length → o ≡ code.ArrayLength
+pub length_op : (o : Op) → step_kind o ≡ array_length → o ≡ code.ArrayLength
 unfolding step_kind group_of
 length_op code.ArrayLength e = refl
 length_op o e = cc

@@ -1,6 +1,6 @@
 -- What the values of a block are written as says what they have: those that an instruction mentions which stands no later than the one that is next.
 use Rattle.std.proofs.Common.{◌≡◌, ◌⊎◌, ◌≤◌, ◌<◌, ◌==◌, ◌&&◌, ℕ, Bool, true, false, List, [], ◌∷◌, ◌++◌, Option, Some, None, unwrap_or, inl, inr, refl, sym, ap, ◌∙◌, subst, arith}
-use Rattle.std.specs.Prelude.{slice_get, option_map, option_and_then}
+use Rattle.std.specs.Prelude.{slice_get, slice_index_or, option_map, option_and_then}
 use Rattle.spv_ops.specs.OpGroups.{group_of}
 use Rattle.spv_module.specs.Held.{global}
 use Rattle.spv_module.specs.Lists.{id}
@@ -91,7 +91,7 @@ measured_pointer s f i h is w has = by_held (held s f (arg i 0)) is has
     by_held (Some (pointer r path)) is has = cc
 
 -- one of these has this result
-have_done : (is : List Inst) (j : Inst) (n : ℕ) → IsOf j is → j.result ≡ n → have_result is n ≡ true
+pub have_done : (is : List Inst) (j : Inst) (n : ℕ) → IsOf j is → j.result ≡ n → have_result is n ≡ true
 have_done [] j n one same = absurd one
 have_done (i ∷ is) j n (inl here) same = by_test (n == i.result) (same_test n i.result (sym (ap (λ (x : Inst). x.result) here ∙ same)))
   where
@@ -205,12 +205,16 @@ module _ (s : Setting) (entry : Option (List ℕ)) (right : IsConforming s.of en
     abbrev pub SaysSo : Expr → ℕ → ValueTree → Type 0
     SaysSo e n v = evaluate program calls e z ≡ got [] (typed (N.shape n) v, z)
 
+    -- the expression of an operation says its value, where those of its operands say theirs
+    abbrev pub AreLowered : Type 0
+    AreLowered = (j : Inst) → IsIn j (insts_of Fn) → (k : ℕ) → inst_at Fn b k ≡ Some j → slice_index_or Marks b false ≡ true → (step_kind j.op ≡ steps.operation → (n : ℕ) → In n (reads j) → IsReady i.at n) → (t : Tree) → type_tree gs j.ty ≡ Some t → Where.form j.result ≡ Forwarded → (v : ValueTree) → outcome (step_kind j.op) s c.at.top j ≡ Some (holds_value v) → ((k : ℕ) → In k (reads j) → (w : ValueTree) → value_at s c.at.top k ≡ Some w → SaysSo (expr k) k w) → SaysSo (expression Where expr b j) j.result v
+
     -- what the expressions of operations say is asked for one by one; what is read of the module says its value; and what stands in expressions is an operation, or the length of an array
     pub record IsLeftOfValues : Type 0 where
       pub own : (n : ℕ) → global gs n ≡ None → of_module s n ≡ None
       pub read : (n : ℕ) (e : Expr) → Where.setting.global n ≡ Some e → IsReady i.at n → (v : ValueTree) → value_at s c.at.top n ≡ Some v → SaysSo (expr n) n v
       pub inner_op : (j : Inst) → IsIn j (insts_of Fn) → is_inner (group_of j.op) ≡ true
-      pub lowers : (j : Inst) → IsIn j (insts_of Fn) → (t : Tree) → type_tree gs j.ty ≡ Some t → Where.form j.result ≡ Forwarded → (v : ValueTree) → outcome (step_kind j.op) s c.at.top j ≡ Some (holds_value v) → ((k : ℕ) → In k (reads j) → (w : ValueTree) → value_at s c.at.top k ≡ Some w → SaysSo (expr k) k w) → SaysSo (expression Where expr b j) j.result v
+      pub lowers : AreLowered
 
     module _ (left : IsLeftOfValues) where
       abbrev IsUsable : ℕ → Type 0
@@ -287,10 +291,17 @@ module _ (s : Setting) (entry : Option (List ℕ)) (right : IsConforming s.of en
             let held_is : held s c.at.top j.result ≡ Some (holds_value v) = ap (held s c.at.top) here.1 ∙ value_held (held s c.at.top n) v has in
             measured_pointer s c.at.top j (holds_value v) (sym (ap (λ (q : steps.StepKind). outcome q s c.at.top j) step) ∙ (sym (stands.settled.still j done_so (ap has_outcome step)) ∙ held_is))
 
+        -- an operation's operands stand in its expression, and are ready
+        operand_of : step_kind j.op ≡ steps.operation → (k : ℕ) → In k (reads j) → IsIn k (operand_ids j)
+        operand_of step k among_them = forwarded_operands s entry right kinds o unit u p among j here.0 r.value.shape own.3 (ap Where.form here.1 ∙ own.1) (left.inner_op j here.0) step k (subst (λ (q : steps.StepKind). In k (read_ids q j)) step among_them)
+
+        readable : step_kind j.op ≡ steps.operation → (k : ℕ) → In k (reads j) → IsReady i.at k
+        readable step k among_them = operand_ready i.at n r j own k (operand_of step k among_them)
+
         operands_by : (v : ValueTree) → value_at s c.at.top n ≡ Some v → (step_kind j.op ≡ steps.operation) ⊎ (step_kind j.op ≡ steps.array_length) → (k : ℕ) → In k (reads j) → IsUsable k × (rank k < rank n)
         operands_by v has (inl step) k among_them =
-            let operand = forwarded_operands s entry right kinds o unit u p among j here.0 r.value.shape own.3 (ap Where.form here.1 ∙ own.1) (left.inner_op j here.0) step k (subst (λ (q : steps.StepKind). In k (read_ids q j)) step among_them) in
-            (inl (operand_ready i.at n r j own k operand), below_in rank (rank n) (operand_ids j) k ((ranked s entry right kinds o unit u p among b).falls n j r.value by_it) operand)
+            let operand = operand_of step k among_them in
+            (inl (readable step k among_them), below_in rank (rank n) (operand_ids j) k ((ranked s entry right kinds o unit u p among b).falls n j r.value by_it) operand)
         operands_by v has (inr step) k among_them =
             let same : arg j 0 ≡ k = only (arg j 0) k (subst (λ (q : steps.StepKind). In k (read_ids q j)) step among_them) in
             (inr (subst (λ (x : ℕ). (w : ValueTree) → value_at s c.at.top x ≡ Some w → ⊥) same (measured_so step v has)), subst (λ (x : ℕ). rank x < rank n) same (pointer_lower step))
@@ -298,7 +309,7 @@ module _ (s : Setting) (entry : Option (List ℕ)) (right : IsConforming s.of en
         lowers : (v : ValueTree) → outcome (step_kind j.op) s c.at.top j ≡ Some (holds_value v) → ((k : ℕ) → In k (reads j) → (w : ValueTree) → value_at s c.at.top k ≡ Some w → SaysSo (expr k) k w) → SaysSo (expr n) n v
         lowers v has each =
             subst (λ (e : Expr). SaysSo e n v) (sym (written_as Where (IsReady i.at) rank (ready_ranked i.at) b n j r by_it))
-            (subst (λ (k : ℕ). SaysSo (expression Where expr b j) k v) here.1 (left.lowers j here.0 r.value.shape own.3 (ap Where.form here.1 ∙ own.1) v has each))
+            (subst (λ (k : ℕ). SaysSo (expression Where expr b j) k v) here.1 (left.lowers j here.0 own.2.0 own.2.1 r.value.mentioned.here readable r.value.shape own.3 (ap Where.form here.1 ∙ own.1) v has each))
 
         forwarded_way : WayOf n
         forwarded_way = by_value (value_at s c.at.top n) refl

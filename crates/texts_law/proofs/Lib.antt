@@ -1,0 +1,4 @@
+pub mod BuiltIns
+pub mod ValueTypes
+pub mod ConstantTypes
+pub mod OperandTypes
