@@ -99,13 +99,13 @@ module _ (p : Program) (calls : Text → List Argument → State → Result (Opt
     SaysAll o = (c : Supplied Conf) (z : State) (here : At m s Holds f b done (i ∷ rest) c z) (g : IsUpdate o s c.at rest i)
         → SaysOperands p calls k m apart s Holds f b keeps done i rest overrides key globals right c z here.stands o (atomic_name o) (exprs_in (comparator w b i o ++ (atomic_operand w b i o ∷ []))) (S t) (λ at. updating (atomic_operation o) at g.operands)
 
-    access_asked : (o : AtomicOp) → SaysAll o → (u : Shape) → u ≡ S t → AsksAccess p calls k m apart s Holds f b keeps w done i rest o u
+    pub access_asked : (o : AtomicOp) → SaysAll o → (u : Shape) → u ≡ S t → AsksAccess p calls k m apart s Holds f b keeps w done i rest o u
     access_asked o says u shape c z here g =
         subst (λ (v : scope.Setting). Updates p calls k m apart s Holds f b keeps done i rest o z (atomic_name o) (exprs_in (place_expr v b (arg i 0) ∷ (comparator w b i o ++ (atomic_operand w b i o ∷ [])))) u (updating (atomic_operation o) (location s g.variable g.target.1) g.operands)) setting_is
         (subst (λ (x : Shape). Updates p calls k m apart s Holds f b keeps done i rest o z (atomic_name o) (exprs_in (place_expr W b (arg i 0) ∷ (comparator w b i o ++ (atomic_operand w b i o ∷ [])))) x (updating (atomic_operation o) (location s g.variable g.target.1) g.operands)) (sym shape)
         (atomic_met p calls k m apart s Holds f b keeps done i rest overrides key globals right c z here.stands (led c.at here.stands.holds) whole rules IsUsable (ways c z here.stands) o t (points c z here.stands) usable (atomic_name o) (exprs_in (comparator w b i o ++ (atomic_operand w b i o ∷ []))) (λ at. updating (atomic_operation o) at g.operands) (says c z here g) g.target g.variable g.pointer_is g.seen_is))
 
-    pub atomic_asked : (o : AtomicOp) → step_kind i.op ≡ steps.atomic o → IsNew i done → (has_result o ≡ true → IsSet p calls k m apart s Holds f b keeps w done i rest × (m.shape i.result ≡ S t)) → (has_result o ≡ false → m.is_local i.result ≡ false) → SaysAll o → AsksAtomic p calls k m apart s Holds f b keeps w done i rest o
+    pub atomic_asked : (o : AtomicOp) → step_kind i.op ≡ steps.atomic o → (has_result o ≡ true → IsNew i done) → (has_result o ≡ true → IsSet p calls k m apart s Holds f b keeps w done i rest × (m.shape i.result ≡ S t)) → (has_result o ≡ false → m.is_local i.result ≡ false) → SaysAll o → AsksAtomic p calls k m apart s Holds f b keeps w done i rest o
     atomic_asked o step new result local says = record {
       step = step;
       new = new;

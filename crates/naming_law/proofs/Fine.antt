@@ -70,6 +70,18 @@ module _ (m : ModuleState) (o : Options) (unit : TranslationUnit) (u : IsUnitOf 
   abbrev shape_by : ℕ → Shape
   shape_by = shape_of s o.overrides (R m o unit u inv) key
 
+  -- types of the text, where it declares them
+  module _ (P : Program) where
+    -- a type stands for its shape
+    pub type_stands : (ty : ℕ) → IsTypeOfText P s o.overrides key ty → type_of P (type_at (source_of m o u.entry) (type_names (found m o unit u inv)) ty) ≡ Some (shape_by ty)
+    type_stands ty w =
+        ap (type_of P) (outline_same (spelling (source_of m o u.entry) (λ n. key (Id (id n)))) m.globals ty w.shape w.is)
+        ∙ (named_type P s (source_of m o u.entry) key w.shape w.declared
+        ∙ ap (λ (a : Option Tree). Some (shape_in s (struct_names key) (unwrap_or a plain.uint))) (sym w.is))
+
+    pub same_type : (ty : ℕ) → IsTypeOfText P s o.overrides key ty → same_shape (shape_by ty) (shape_by ty) ≡ true
+    same_type ty w = ap (λ (a : Option Tree). same_shape (shape_in s (struct_names key) (unwrap_or a plain.uint)) (shape_in s (struct_names key) (unwrap_or a plain.uint))) w.is ∙ shape_itself s key w.shape w.sized
+
   module _ (entry : Option (List ℕ)) (right : IsConforming m entry) where
     -- what stands outside of functions is the same in all of them
     private_type : (f : Function) (n : ℕ) (x : Inst) → global m.globals n ≡ Some x → is_variable x ≡ true → type_in m.globals f n ≡ Some x.ty
@@ -93,16 +105,6 @@ module _ (m : ModuleState) (o : Options) (unit : TranslationUnit) (u : IsUnitOf 
       abbrev W : Scope
       W = scope_of (source_of m o u.entry) (found m o unit u inv) planned.0 planned.1.links
 
-      -- a type stands for its shape
-      type_stands : (ty : ℕ) → IsTypeOfText P s o.overrides key ty → type_of P (type_at (source_of m o u.entry) (type_names (found m o unit u inv)) ty) ≡ Some (shape_by ty)
-      type_stands ty w =
-          ap (type_of P) (outline_same (spelling (source_of m o u.entry) (λ n. key (Id (id n)))) m.globals ty w.shape w.is)
-          ∙ (named_type P s (source_of m o u.entry) key w.shape w.declared
-          ∙ ap (λ (a : Option Tree). Some (shape_in s (struct_names key) (unwrap_or a plain.uint))) (sym w.is))
-
-      same_type : (ty : ℕ) → IsTypeOfText P s o.overrides key ty → same_shape (shape_by ty) (shape_by ty) ≡ true
-      same_type ty w = ap (λ (a : Option Tree). same_shape (shape_in s (struct_names key) (unwrap_or a plain.uint)) (shape_in s (struct_names key) (unwrap_or a plain.uint))) w.is ∙ shape_itself s key w.shape w.sized
-
       -- the parameters
       abbrev Typed' : List (IdOf × IdOf) → Type 0
       Typed' qs = AreTypedParameters P (N p) qs (map (param_text W) qs)
@@ -117,8 +119,8 @@ module _ (m : ModuleState) (o : Options) (unit : TranslationUnit) (u : IsUnitOf 
           = ap (λ (a : Option Inst). option_or (option_and_then typed a) (local_type (written p) q.0.0)) (own.outside q there) ∙ ap (λ (a : Option ℕ). option_or a (option_and_then typed (inst_in (written p) q.0.0))) (own.found q there) in
           let shape_is : shape_by (pointee_at (source_of m o u.entry) q.1.0) ≡ (N p).shape q.0.0
           = ap (λ (a : Option ℕ). shape_by (pointee_at (source_of m o u.entry) (unwrap_or a 0))) (sym type_is) in (
-            type_stands (pointee_at (source_of m o u.entry) q.1.0) w ∙ ap (λ (x : Shape). Some x) shape_is,
-            subst (λ (x : Shape). same_shape x x ≡ true) shape_is (same_type (pointee_at (source_of m o u.entry) q.1.0) w),
+            type_stands P (pointee_at (source_of m o u.entry) q.1.0) w ∙ ap (λ (x : Shape). Some x) shape_is,
+            subst (λ (x : Shape). same_shape x x ≡ true) shape_is (same_type P (pointee_at (source_of m o u.entry) q.1.0) w),
             parameters_from qs (λ r one. all r (inr one)),
           )
 
@@ -132,7 +134,7 @@ module _ (m : ModuleState) (o : Options) (unit : TranslationUnit) (u : IsUnitOf 
       result_by : (f : Function) → (is_void_in m.globals f.result.0 ≡ false → IsTypeOfText P s o.overrides key f.result.0) → (t : Bool) → is_void_in m.globals f.result.0 ≡ t
           → result_shape P (if t then None else Some (type_at (source_of m o u.entry) (type_names (found m o unit u inv)) f.result.0)) ≡ Some (if t then None else Some (shape_by f.result.0))
       result_by f has true e = refl
-      result_by f has false e = gives_type P (type_at (source_of m o u.entry) (type_names (found m o unit u inv)) f.result.0) (shape_by f.result.0) (type_stands f.result.0 (has e))
+      result_by f has false e = gives_type P (type_at (source_of m o u.entry) (type_names (found m o unit u inv)) f.result.0) (shape_by f.result.0) (type_stands P f.result.0 (has e))
 
       result_is : result_shape P (result_type p.scope) ≡ Some (N p).result
       result_is =

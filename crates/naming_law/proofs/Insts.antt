@@ -153,7 +153,7 @@ module _ (p : Program) (calls : Text → List Argument → State → Result (Opt
 
     pub record AsksAtomic (o : AtomicOp) : Type 0 where
       pub step : step_kind i.op ≡ steps.atomic o
-      pub new : IsNew i done
+      pub new : has_result o ≡ true → IsNew i done
       pub result : has_result o ≡ true → IsSet
       pub finds_it : has_result o ≡ true → AsksAccess o (m.shape i.result)
       pub local : has_result o ≡ false → m.is_local i.result ≡ false
@@ -164,7 +164,7 @@ module _ (p : Program) (calls : Text → List Argument → State → Result (Opt
     atomic_runs atomics.Store a = single (Stmt.call (atomic_name atomics.Store) (exprs_in (atomic_arguments w b i atomics.Store))) (λ c z here.
         atomic_store_follows p calls k m apart s Holds f b keeps done i rest c z (atomic_name atomics.Store) (exprs_in (atomic_arguments w b i atomics.Store)) a.shape here a.step (a.local refl) (a.stores_it refl c z here))
     atomic_runs o a = set_follows (a.result refl) (Expr.call (atomic_name o) (exprs_in (atomic_arguments w b i o))) (λ c z here.
-        atomic_evaluates p calls k m apart s Holds f b keeps done i rest o c z (atomic_name o) (exprs_in (atomic_arguments w b i o)) here a.new a.step (finds o refl c.at rest i) (a.finds_it refl c z here))
+        atomic_evaluates p calls k m apart s Holds f b keeps done i rest o c z (atomic_name o) (exprs_in (atomic_arguments w b i o)) here (a.new refl) a.step (finds o refl c.at rest i) (a.finds_it refl c z here))
 
     -- barriers: a call for each event
     pub record AsksBarriers (step : steps.StepKind) (semantics : ℕ) (xs : List Stmt) (events : ℕ → List Event) : Type 0 where
@@ -215,7 +215,7 @@ module _ (p : Program) (calls : Text → List Argument → State → Result (Opt
         a.unset.outer a.unset.local a.unset.lent a.all (a.says c z here))
 
     -- a composite or a vector with another part: a copy, and the part assigned to
-    abbrev Inserts : ℕ → List LStep → ℕ → (State → ValueTree → State) → Type 0
+    abbrev pub Inserts : ℕ → List LStep → ℕ → (State → ValueTree → State) → Type 0
     Inserts whole behind object copied = (c : Supplied Conf) (z : State) → Here c z → (v : ValueTree) → computed s c.at.top i ≡ Some v → Inserting p calls k m apart s Holds f b keeps done i rest z (value w b whole) behind (value w b object) v (copied z)
 
     pub record AsksInsert (whole : ℕ) (behind : List LStep) (object : ℕ) : Type 0 where

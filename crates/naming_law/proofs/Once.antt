@@ -189,7 +189,7 @@ module _ (IsKeyOf : Inst → Text → Type 0) (tells : (i j : Inst) (x : Text) �
 variable_result : (o : Op) → is o code.Variable ≡ true → has_result o ≡ true
 variable_result o on = typed_result o (variable_has o on)
 
-chain_result : (o : Op) → is_chain o ≡ true → has_result o ≡ true
+pub chain_result : (o : Op) → is_chain o ≡ true → has_result o ≡ true
 unfolding shape
 chain_result code.AccessChain on = refl
 chain_result code.InBoundsAccessChain on = refl

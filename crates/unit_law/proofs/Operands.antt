@@ -87,10 +87,10 @@ same_ids kind.Plain i = refl
 same_ids kind.Other i = refl
 
 -- an id is one of these
-abbrev has_id : ℕ → List ℕ → Bool
+abbrev pub has_id : ℕ → List ℕ → Bool
 has_id id xs = list_any (λ (x : ℕ). x == id) xs
 
-has_of : (id : ℕ) (xs : List ℕ) → IsIn id xs → has_id id xs ≡ true
+pub has_of : (id : ℕ) (xs : List ℕ) → IsIn id xs → has_id id xs ≡ true
 has_of id xs among = any_in (λ (x : ℕ). x == id) xs id among (same_test id id refl)
 
 of_has : (id : ℕ) (xs : List ℕ) → has_id id xs ≡ true → IsIn id xs
@@ -122,7 +122,7 @@ among_at code.CompositeExtract args id least on = first_has_one args id (omega (
 among_at o args id least on = cc
 
 -- where an operand stands
-dropped_at : (n : ℕ) (ws : List ℕ) (id : ℕ) → has_id id (drop n ws) ≡ true → (k : ℕ) × (slice_get ws k ≡ Some id) × (n ≤ k)
+pub dropped_at : (n : ℕ) (ws : List ℕ) (id : ℕ) → has_id id (drop n ws) ≡ true → (k : ℕ) × (slice_get ws k ≡ Some id) × (n ≤ k)
 dropped_at zero [] id on = cc
 dropped_at zero (w ∷ ws) id on = by_test (w == id) refl on (dropped_at zero ws id)
   where
@@ -141,7 +141,7 @@ taken_at (suc n) (w ∷ ws) id on = by_test (w == id) refl on (taken_at n ws id)
     by_test true same on later = (zero, ap (λ x. Some x) (test_same w id same), (let low : zero < suc n = omega arith in low))
     by_test false other on later = let w' = later on in (suc w'.0, w'.1, (let less = w'.2 in let low : suc w'.0 < suc n = omega (arith, less) in low))
 
-among_slot : (q : Operands) (ws : List ℕ) (id : ℕ) → has_id id (ids_among q ws) ≡ true → (k : ℕ) × (slice_get ws k ≡ Some id) × (is_id_among q ws k ≡ true)
+pub among_slot : (q : Operands) (ws : List ℕ) (id : ℕ) → has_id id (ids_among q ws) ≡ true → (k : ℕ) × (slice_get ws k ≡ Some id) × (is_id_among q ws k ≡ true)
 among_slot (IdsFirst n) ws id on = let w = taken_at n ws id on in (w.0, w.1, (let less = w.2 in let test : nat_lt w.0 n ≡ true = grind (arith, nat_tests, less) in test))
 among_slot (LiteralsFirst n) ws id on = let w = dropped_at n ws id on in (w.0, w.1, (let less = w.2 in let test : nat_le n w.0 ≡ true = grind (arith, nat_tests, less) in test))
 among_slot IdLiteralIds ws id on = cc
@@ -154,10 +154,10 @@ unfolding operation_kind_of kind_of group_of takes_of number
 value_by code.ExtInst k values other = cc
 value_by o k values other = cc
 
-not_one : (k : ℕ) → 2 ≤ k → not (k == 1) ≡ true
+pub not_one : (k : ℕ) → 2 ≤ k → not (k == 1) ≡ true
 not_one k low = grind (arith, nat_tests, low)
 
-not_zero : (k : ℕ) → 2 ≤ k → not (k == 0) ≡ true
+pub not_zero : (k : ℕ) → 2 ≤ k → not (k == 0) ≡ true
 not_zero k low = grind (arith, nat_tests, low)
 
 value_slot : (o : Op) (args : List ℕ) (id : ℕ) → takes_values (operation_kind_of o) ≡ true → has_id id (value_operands o args) ≡ true → (k : ℕ) × (slice_get args k ≡ Some id) × (is_id o args k ≡ true) × (is_value o k ≡ true)

@@ -50,7 +50,7 @@ rising_left : (n : ℕ) (xs ys : List Inst) → AreRising n (xs ++ ys) → AreRi
 rising_left n [] ys rising = tt
 rising_left n (x ∷ xs) ys rising = (rising.0, rising_left (x.at + 1) xs ys rising.1)
 
-rising_in : (n : ℕ) (bs : List Block) (b : ℕ) (block : Block) → AreRising n (flat_map (λ (x : Block). x.insts) bs) → slice_get bs b ≡ Some block → (k : ℕ) × AreRising k block.insts
+pub rising_in : (n : ℕ) (bs : List Block) (b : ℕ) (block : Block) → AreRising n (flat_map (λ (x : Block). x.insts) bs) → slice_get bs b ≡ Some block → (k : ℕ) × AreRising k block.insts
 rising_in n [] b block rising at = cc
 rising_in n (x ∷ bs) zero block rising at =
     let same : x ≡ block = cc in
@@ -59,7 +59,7 @@ rising_in n (x ∷ bs) (suc b) block rising at =
     let later = rising_right n x.insts (flat_map (λ (y : Block). y.insts) bs) rising in
     rising_in later.0 bs b block later.1 at
 
-rising_low : (n : ℕ) (is : List Inst) (j : Inst) → AreRising n is → IsIn j is → n ≤ j.at
+pub rising_low : (n : ℕ) (is : List Inst) (j : Inst) → AreRising n is → IsIn j is → n ≤ j.at
 rising_low n [] j rising at = absurd at
 rising_low n (i ∷ is) j rising (inl same) = subst (λ (x : Inst). n ≤ x.at) same rising.0
 rising_low n (i ∷ is) j rising (inr at) = let more = rising_low (i.at + 1) is j rising.1 at in let first = rising.0 in omega (arith, more, first)

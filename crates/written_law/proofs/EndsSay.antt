@@ -37,7 +37,7 @@ use Rattle.written_law.proofs.Done.{all_behind}
 use Rattle.written_law.proofs.Mentions.{reads_first, first_no_phi, terminator_mentions}
 use Rattle.written_law.proofs.Says.{IsReady, AreNamesOf, SaysSo, IsLeftOfValues, ready_says}
 
-in_middle : (xs : List Inst) (i : Inst) (ys : List Inst) → IsIn i (xs ++ i ∷ ys)
+pub in_middle : (xs : List Inst) (i : Inst) (ys : List Inst) → IsIn i (xs ++ i ∷ ys)
 in_middle [] i ys = inl refl
 in_middle (x ∷ xs) i ys = inr (in_middle xs i ys)
 

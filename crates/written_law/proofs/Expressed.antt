@@ -1,12 +1,12 @@
 -- What stands in expressions is an operation or the length of an array: its operands stand in its expression; a phi never has a variable of its block alone.
-use Rattle.std.proofs.Common.{◌≡◌, ◌⊎◌, ◌≤◌, ◌+◌, ◌==◌, ◌&&◌, ◌||◌, ℕ, Bool, true, false, List, [], ◌∷◌, drop, take, length, Option, Some, None, inl, inr, refl, sym, ap, ◌∙◌, subst, arith, if◌then◌else◌}
-use Rattle.std.specs.Prelude.{slice_get, slice_index, nat_le}
+use Rattle.std.proofs.Common.{◌≡◌, ◌⊎◌, ◌≤◌, ◌+◌, ◌==◌, ◌&&◌, ◌||◌, not, ℕ, Bool, true, false, List, [], ◌∷◌, drop, take, length, Option, Some, None, inl, inr, refl, sym, ap, ◌∙◌, subst, arith, if◌then◌else◌}
+use Rattle.std.specs.Prelude.{slice_get, slice_index, nat_le, nat_lt}
 use Rattle.std.specs.List.{list_any}
 use Rattle.std.specs.Option.{option_map_or}
 use Rattle.spv_ops.specs.Opcode.{is, number}
 use Rattle.spv_ops.specs.OpGroups.{group_of}
 use Rattle.spv_ops.specs.Groups.{is_chain}
-use Rattle.spv_ops.specs.Shape.{shape, count_of}
+use Rattle.spv_ops.specs.Shape.{shape, count_of, is_pure}
 use Rattle.spv_ops.specs.Operands.{operands, ids_among}
 use Rattle.spv_ops.specs.declared.Op.{Op}
 use Rattle.spv_ops.specs.declared.Op.TheVariants as code
@@ -25,10 +25,11 @@ use Rattle.module_semantics.specs.Steps as steps
 use Rattle.module_semantics.specs.Steps.{step_kind, is_phi}
 use Rattle.hoist_plan.specs.declared.form.Form.{Form}
 use Rattle.hoist_plan.specs.declared.form.Form.TheVariants.{Gone, Forwarded, Local, Hoisted}
-use Rattle.hoist_plan.specs.Plan.{Placed, is_live, is_value, is_always_named, wants_variable, is_named_by_use, own_height, is_named, is_elsewhere, is_hoisted, form_with, results}
+use Rattle.hoist_plan.specs.Plan.{Placed, is_live, is_value, is_always_named, wants_variable, is_named_by_use, own_height, is_named, is_elsewhere, is_hoisted, form_with, results, mentions_of}
 use Rattle.glsl_ast.specs.Tree.{TranslationUnit}
 use Rattle.expr_forward.specs.Kinds.{kind_of, operation_kind_of}
 use Rattle.expr_forward.specs.Scope.{Scope}
+use Rattle.expr_forward.specs.Statements.{is_variable_form}
 use Rattle.function_text.specs.Functions.{FunctionPlan}
 use Rattle.unit_rules.specs.Unit.{IsUnitOf}
 use Rattle.region_law.specs.Leads.{In}
@@ -90,7 +91,7 @@ kind_by code.ArrayLength typed chain variable named = (inr refl, refl)
 kind_by o typed chain variable named = (inl refl, refl)
 
 -- a word among words
-as_in : (k : ℕ) (xs : List ℕ) → In k xs → IsIn k xs
+pub as_in : (k : ℕ) (xs : List ℕ) → In k xs → IsIn k xs
 as_in k [] among = absurd among
 as_in k (x ∷ xs) (inl same) = inl (sym same)
 as_in k (x ∷ xs) (inr among) = inr (as_in k xs among)
@@ -111,7 +112,7 @@ is_operation steps.operation = true
 is_operation _ = false
 
 -- their operands that are values stand in the expression
-operands_by : (o : Op) (args : List ℕ) (k : ℕ) → is_inner (group_of o) ≡ true → is_always_named o ≡ false → is_operation (step_kind o) ≡ true → 1 + count_of (has_type o) + count_of (has_result o) + length args ≤ (shape o).most → In k (value_operands o args) → IsIn k (ids_at (operation_kind_of o) o args)
+pub operands_by : (o : Op) (args : List ℕ) (k : ℕ) → is_inner (group_of o) ≡ true → is_always_named o ≡ false → is_operation (step_kind o) ≡ true → 1 + count_of (has_type o) + count_of (has_result o) + length args ≤ (shape o).most → In k (value_operands o args) → IsIn k (ids_at (operation_kind_of o) o args)
 unfolding step_kind group_of shape operation_kind_of kind_of
 operands_by code.Nop args k inner named step most among = clash (sym inner)
 operands_by code.SourceContinued args k inner named step most among = clash (sym inner)
@@ -221,6 +222,33 @@ forwarded_unnamed true true true is = cc
 forwarded_unnamed true true false is = cc
 forwarded_unnamed false true hoisted is = cc
 
+variable_named : (live named hoisted : Bool) → is_variable_form (form_of live named hoisted) ≡ true → named ≡ true
+variable_named live true hoisted on = refl
+variable_named true false hoisted on = cc
+variable_named false false hoisted on = cc
+
+live_variable : (live named hoisted : Bool) → is_variable_form (form_of live named hoisted) ≡ true → live ≡ true
+live_variable true named hoisted on = refl
+live_variable false named hoisted on = cc
+
+formed_variable : (live named hoisted : Bool) → live ≡ true → named ≡ true → is_variable_form (form_of live named hoisted) ≡ true
+formed_variable true true true on is = refl
+formed_variable true true false on is = refl
+formed_variable true false hoisted on is = cc
+formed_variable false named hoisted on is = cc
+
+both_true : (a b : Bool) → a ≡ true → b ≡ true → (a && b) ≡ true
+both_true true b on is = is
+both_true false b on is = cc
+
+first_true : (a b : Bool) → a ≡ true → (a || b) ≡ true
+first_true true b on = refl
+first_true false b on = cc
+
+left_on : (a b : Bool) → (a && b) ≡ true → a ≡ true
+left_on true b on = refl
+left_on false b on = cc
+
 no_some : {A : Type 0} (a : A) → None ≡ Some a → ⊥
 no_some a e = cc
 
@@ -259,6 +287,27 @@ module _ (s : Setting) (entry : Option (List ℕ)) (right : IsConforming s.of en
 
       no_local : is j.op code.Phi ≡ true → Where.form j.result ≡ Local → ⊥
       no_local on form = hoisted_form (is_live P) (is_named gs Fn told.0 P) (is j.op code.Phi) (list_any (is_elsewhere Fn P.block) P.mentions) on (sym told.1 ∙ form)
+
+      -- what has a variable is a value
+      pub variable_value : is_variable_form (Where.form j.result) ≡ true → is_value gs j.ty ≡ true
+      variable_value on =
+          left_on (is_value gs j.ty) (is_live P && (is_named_by_use gs Fn P || (own_height told.0 P == 17)))
+          (variable_named (is_live P) (is_named gs Fn told.0 P) (is_hoisted Fn P) (sym (ap is_variable_form told.1) ∙ on))
+
+      -- and it is live
+      pub variable_live : is_variable_form (Where.form j.result) ≡ true → (not (is_pure j.op) || nat_lt 0 (length (mentions_of (plan_is s entry right kinds o unit u p among).links j.result))) ≡ true
+      variable_live on = live_variable (is_live P) (is_named gs Fn told.0 P) (is_hoisted Fn P) (sym (ap is_variable_form told.1) ∙ on)
+
+      -- a value that is named wherever it is live has one, where it is live by its effect
+      pub always_variable : is_always_named j.op ≡ true → is_pure j.op ≡ false → is_value gs j.ty ≡ true → is_variable_form (Where.form j.result) ≡ true
+      always_variable named effect value =
+          ap is_variable_form told.1 ∙ formed_variable (is_live P) (is_named gs Fn told.0 P) (is_hoisted Fn P) live
+          (both_true (is_value gs j.ty) (is_live P && (is_named_by_use gs Fn P || (own_height told.0 P == 17))) value
+          (both_true (is_live P) (is_named_by_use gs Fn P || (own_height told.0 P == 17)) live
+          (first_true (is_named_by_use gs Fn P) (own_height told.0 P == 17) (first_true (is_always_named j.op) (nat_le 2 (length P.mentions) || list_any (wants_variable gs Fn P.block) P.mentions) named))))
+        where
+          live : is_live P ≡ true
+          live = first_true (not (is_pure j.op)) (nat_lt 0 (length P.mentions)) (ap not effect)
 
       -- what stands in expressions is not always named
       unnamed : Where.form j.result ≡ Forwarded → is_value gs j.ty ≡ true → is_always_named j.op ≡ false

@@ -89,7 +89,7 @@ first_least code.Switch n on le = omega (arith, le)
 first_least code.ReturnValue n on le = omega (arith, le)
 first_least o n on le = cc
 
-first_word : (args : List ℕ) → 1 ≤ length args → slice_get args 0 ≡ Some (slice_index args 0)
+pub first_word : (args : List ℕ) → 1 ≤ length args → slice_get args 0 ≡ Some (slice_index args 0)
 first_word [] le = absurd (omega (arith, le))
 first_word (a ∷ args) le = refl
 
@@ -110,15 +110,15 @@ length_no_phi : (o : Op) → o ≡ code.ArrayLength → is o code.Phi ≡ false
 unfolding number
 length_no_phi o e = ap (λ (q : Op). is q code.Phi) e
 
-length_value : (o : Op) → o ≡ code.ArrayLength → is_value o 0 ≡ true
+pub length_value : (o : Op) → o ≡ code.ArrayLength → is_value o 0 ≡ true
 unfolding takes_of group_of
 length_value o e = ap (λ (q : Op). is_value q 0) e
 
-length_id : (o : Op) (args : List ℕ) → o ≡ code.ArrayLength → is_id o args 0 ≡ true
+pub length_id : (o : Op) (args : List ℕ) → o ≡ code.ArrayLength → is_id o args 0 ≡ true
 unfolding is_id
 length_id o args e = ap (λ (q : Op). is_id q args 0) e
 
-length_least : (n : ℕ) → (shape code.ArrayLength).least ≤ 1 + count_of (has_type code.ArrayLength) + count_of (has_result code.ArrayLength) + n → 1 ≤ n
+pub length_least : (n : ℕ) → (shape code.ArrayLength).least ≤ 1 + count_of (has_type code.ArrayLength) + count_of (has_result code.ArrayLength) + n → 1 ≤ n
 unfolding shape
 length_least n le = omega (arith, le)
 

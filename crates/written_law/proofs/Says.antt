@@ -82,7 +82,7 @@ no_value : (v : ValueTree) → None ≡ Some v → ⊥
 no_value v e = cc
 
 -- what has the length of an array has a pointer to it
-measured_pointer : (s : Setting) (f : Frame) (i : Inst) (h : Held) → measured s f i ≡ Some h → (w : ValueTree) → value_at s f (arg i 0) ≡ Some w → ⊥
+pub measured_pointer : (s : Setting) (f : Frame) (i : Inst) (h : Held) → measured s f i ≡ Some h → (w : ValueTree) → value_at s f (arg i 0) ≡ Some w → ⊥
 measured_pointer s f i h is w has = by_held (held s f (arg i 0)) is has
   where
     by_held : (x : Option Held) → option_and_then (λ (p : Target). option_map (λ (v : Inst). holds_value (word (elements s v (arg i 1)))) (seen s p.0)) (as_pointer x) ≡ Some h → as_value x ≡ Some w → ⊥

@@ -1,0 +1,10 @@
+pub mod Slots
+pub mod New
+pub mod KindSteps
+pub mod Sets
+pub mod Asks
+pub mod Barriers
+pub mod Values
+pub mod Said
+pub mod Accessed
+pub mod Indexes
