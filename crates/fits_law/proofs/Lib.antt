@@ -1,3 +1,4 @@
+pub mod Literals
 pub mod Parts
 pub mod Operations
 pub mod Words

@@ -17,10 +17,11 @@ use Rattle.op_semantics.specs.declared.operation.Operation.{Operation}
 use Rattle.op_semantics.specs.declared.operation.Operation.TheVariants as op
 use Rattle.op_semantics.specs.Word.{binary_word, bit_field_signed, bit_field_unsigned, bit_field_insert}
 use Rattle.op_semantics.specs.Component.{listed, composite, before, each_one, each_two, each_three, by_one, by_two, by_three, unary_scalar, binary_scalar, comparison_scalar, logical_scalar, not_scalar, clamp_scalar, chosen, field_scalar, insert_scalar, bit_field, inserted_field}
-use Rattle.op_semantics.specs.Composite.{as_truth, over_truths, extracted, inserted, extracted_at, inserted_at, picked, shuffled, components, constructed}
+use Rattle.op_semantics.specs.Composite.{as_truth, over_truths, extracted_by, inserted_by, extracted_at, inserted_at, picked, shuffled, components, constructed}
 use Rattle.op_semantics.specs.Value.{of_one, of_two, of_three, of_four, value_of_operation}
 use Rattle.op_semantics.specs.Fits.{elem_tree, fits}
 use Rattle.fits_law.specs.Takes.{Sort, numbers, truths, IsOfSort, Has, Alike, shape_at, Gives, GiveAll, AreOfShape, AreMembers, AreParts, IsCondition, IsShuffle, IsField, OfOne, OfTwo, OfThree, OfFour, Takes, AllFit}
+use Rattle.fits_law.proofs.Literals.{extracted_along, inserted_along}
 use Rattle.fits_law.proofs.Parts.{listed_values, listed_back, EachFits, many_of, of_many, each_at, MembersFit, of_members, set_of, each_with, extracted_fits, inserted_fits, alike_fits, zero_elem_fits, zero_fits}
 
 pub before_some : {A : Type 0} (o : Option A) (q : Option (List A)) (rs : List A) → before o q ≡ Some rs → (y : A) × (ys : List A) × (o ≡ Some y) × (q ≡ Some ys) × (rs ≡ y ∷ ys)
@@ -513,7 +514,7 @@ op_fits op.VectorInsertDynamic t ls us vs r takes fit h =
     subst (λ x. fits x r ≡ true) (sym q.2) (set_at_fits q.0 q.1 p.3 p.4 p.5 r (subst (λ x. fits x p.3 ≡ true) (q.3 ∙ q.2) p.7) (subst (λ x. fits x p.4 ≡ true) q.4 p.8) p.10)
 op_fits op.VectorShuffle t ls us vs r takes fit e = let p = two_operands (IsShuffle t ls) (shuffled t ls) us vs r takes fit e in shuffle_fits t p.0 p.1 ls p.2 p.3 r p.4 p.5 p.6 p.7
 op_fits op.CompositeConstruct t ls us vs r takes fit e = let same : constructed t vs ≡ r = some_same (constructed t vs) r e in subst (λ x. fits t x ≡ true) same (parts_fit t us vs takes fit)
-op_fits op.CompositeExtract t ls us vs r takes fit e = let p = one_operand (λ a. shape_at a ls ≡ Some t) (extracted ls) us vs r takes fit e in extracted_fits ls p.0 t p.1 r p.2 p.3 p.4
+op_fits op.CompositeExtract t ls us vs r takes fit e = let p = one_operand (λ a. shape_at a ls ≡ Some t) (extracted_by ls) us vs r takes fit e in extracted_fits ls p.0 t p.1 r p.2 p.3 (extracted_along ls p.1 r p.4).1
 op_fits op.CompositeInsert t ls us vs r takes fit e =
-    let p = two_operands (λ object a. (a ≡ t) × (shape_at t ls ≡ Some object)) (λ object composite. inserted object ls composite) us vs r takes fit e in
-    inserted_fits ls t p.0 p.2 p.3 r p.4.1 p.5 (subst (λ x. fits x p.3 ≡ true) p.4.0 p.6) p.7
+    let p = two_operands (λ object a. (a ≡ t) × (shape_at t ls ≡ Some object)) (λ object composite. inserted_by object ls composite) us vs r takes fit e in
+    inserted_fits ls t p.0 p.2 p.3 r p.4.1 p.5 (subst (λ x. fits x p.3 ≡ true) p.4.0 p.6) (inserted_along p.2 ls p.3 r p.7).1

@@ -23,6 +23,7 @@ use Rattle.op_semantics.specs.Component.{listed, composite, by_three, chosen}
 use Rattle.op_semantics.specs.Composite.{components, over_truths, extracted_at, constructed as made}
 use Rattle.op_semantics.specs.Value.{value_of_operation, operation_of, op_value}
 use Rattle.op_semantics.specs.Fits.{elem_tree, fits, IsOfWords, AreOfWords}
+use Rattle.fits_law.proofs.Literals.{extracted_along}
 use Rattle.fits_law.specs.Takes.{Sort, numbers, truths, IsOfSort, Has, AreAlike, shape_at, Gives, GiveAll, AreOfShape, AreMembers, AreParts, IsCondition, IsShuffle, OfOne, OfTwo, OfThree, OfFour, Takes, AllFit}
 use Rattle.fits_law.proofs.Parts.{listed_back, EachFits, many_of}
 use Rattle.fits_law.proofs.Operations.{op_fits, all_give, all_of_shape, all_members}
@@ -489,7 +490,7 @@ module _ (p : Program) (none : NoneDeclared p) (names : Naming) (calls : Text �
       by_operation op.VectorInsertDynamic takes is = absurd is
       by_operation op.VectorShuffle takes is = with_two _ (Tells opcode op.VectorShuffle t ls r) (λ x y a b v u q n k. shuffle_tells opcode ls x y t a b v u r w q.1 q.2 q.0 n k) xs us vs (two_written (IsShuffle t ls) us wu takes) m
       by_operation op.CompositeConstruct takes is = λ e f. subst (λ q. S (constructed names t xs) (typed_as names t q)) (some_same (made t vs) r e) (made_tells t xs us vs w takes m)
-      by_operation op.CompositeExtract takes is = with_one _ (Tells opcode op.CompositeExtract t ls r) (λ x a v q n e f. subst (λ k. S (extracted names k ls x.of) (typed_as names t r)) (sym n.shape) (extracted_says p names calls s ls a t x.of v r q.1 q.0 n.says e)) xs us vs (one_written (λ a. shape_at a ls ≡ Some t) us wu takes) m
+      by_operation op.CompositeExtract takes is = with_one _ (Tells opcode op.CompositeExtract t ls r) (λ x a v q n e f. subst (λ k. S (extracted names k ls x.of) (typed_as names t r)) (sym n.shape) (extracted_says p names calls s ls a t x.of v r q.1 q.0 n.says (extracted_along ls v r e).1)) xs us vs (one_written (λ a. shape_at a ls ≡ Some t) us wu takes) m
       by_operation op.CompositeInsert takes is = absurd is
 
   -- the same by opcode: of OpExtInst the first literal is the number of the operation

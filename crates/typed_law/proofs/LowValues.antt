@@ -16,9 +16,10 @@ use Rattle.op_semantics.specs.declared.operation.Operation.TheVariants as op
 use Rattle.op_semantics.specs.Fits.{IsOfWords, AreOfWords}
 use Rattle.op_semantics.specs.Word.{unary_word, binary_word, clamp_word, bit_field_signed, bit_field_unsigned, bit_field_insert}
 use Rattle.op_semantics.specs.Component.{listed, composite, each_one, each_two, each_three, by_one, by_two, by_three, unary_scalar, binary_scalar, comparison_scalar, logical_scalar, not_scalar, clamp_scalar, chosen, field_scalar, insert_scalar, bit_field, inserted_field}
-use Rattle.op_semantics.specs.Composite.{as_truth, over_truths, part_at, with_part, extracted, inserted, extracted_at, inserted_at, picked, shuffled, components, constructed}
+use Rattle.op_semantics.specs.Composite.{as_truth, over_truths, part_at, with_part, extracted, inserted, extracted_at, inserted_at, picked, shuffled, components, constructed, extracted_by, inserted_by}
 use Rattle.op_semantics.specs.Value.{of_one, of_two, of_three, of_four, value_of_operation}
 use Rattle.value_words.specs.Words.{elem_from, parts_from, value_from, values_from}
+use Rattle.fits_law.proofs.Literals.{extracted_along, inserted_along}
 use Rattle.fits_law.proofs.Operations.{before_some}
 use Rattle.typed_law.specs.Words.{AllOfWords, AreAllWords}
 use Rattle.typed_law.proofs.LowWords.{unary_low, binary_low, clamp_low, unsigned_field_low, signed_field_low, insert_low}
@@ -379,5 +380,5 @@ op_low op.VectorExtractDynamic t ls vs r h e = two_of extracted_at (λ v i q low
 op_low op.VectorInsertDynamic t ls vs r h e = three_of inserted_at (λ v object i q low of_object index at. inserted_at_low v object i q low of_object at) vs r h e
 op_low op.VectorShuffle t ls vs r h e = two_of (shuffled t ls) (shuffled_low t ls) vs r h e
 op_low op.CompositeConstruct t ls vs r h e = subst IsOfWords (same_some (constructed t vs) r e) (constructed_low t vs h)
-op_low op.CompositeExtract t ls vs r h e = one_of (extracted ls) (extracted_low ls) vs r h e
-op_low op.CompositeInsert t ls vs r h e = two_of (λ object whole. inserted object ls whole) (λ object whole q low of_whole at. inserted_low object ls whole q low of_whole at) vs r h e
+op_low op.CompositeExtract t ls vs r h e = one_of (extracted_by ls) (λ v q low at. extracted_low ls v q low (extracted_along ls v q at).1) vs r h e
+op_low op.CompositeInsert t ls vs r h e = two_of (λ object whole. inserted_by object ls whole) (λ object whole q low of_whole at. inserted_low object ls whole q low of_whole (inserted_along object ls whole q at).1) vs r h e

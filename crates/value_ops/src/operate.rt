@@ -10,7 +10,7 @@ use crate::bits::Sign;
 use crate::compose::constructed;
 use crate::copies::copied;
 use crate::outcome::Computed;
-use crate::parts::{extracted_at, extracted_part, inserted, inserted_at};
+use crate::parts::{extracted_at, extracted_by, inserted_at, inserted_by};
 use crate::scalars::{
     OneScalar, ThreeValues, TwoScalars, of_one_operand, of_three_operands, of_two_operands,
 };
@@ -105,8 +105,8 @@ fn value_of_operation(
             shuffled(alloc, shape, literals, first, second)
         }
         (Operation::CompositeConstruct, _) => Ok(Some(constructed(alloc, shape, operands)?)),
-        (Operation::CompositeExtract, [whole]) => extracted_part(alloc, literals, whole),
-        (Operation::CompositeInsert, [part, whole]) => inserted(alloc, whole, literals, part),
+        (Operation::CompositeExtract, [whole]) => extracted_by(alloc, literals, whole),
+        (Operation::CompositeInsert, [part, whole]) => inserted_by(alloc, whole, literals, part),
         _ => Ok(None),
     }
 }

@@ -2,7 +2,7 @@
 ghost use Rattle.std.specs.Prelude.{◌≡◌, ◌∷◌, IfOk, Some, None, false, option_map, map, if◌then◌else◌};
 ghost use Rattle.spv_types.specs.Tree.{many, values_in};
 ghost use Rattle.spv_types.specs.View.{value_of};
-ghost use Rattle.op_semantics.specs.Composite.{part_at as part_at_index, extracted, inserted as inserted_value, extracted_at as extracted_at_value, inserted_at as inserted_at_value};
+ghost use Rattle.op_semantics.specs.Composite.{part_at as part_at_index, extracted, are_indexes as may_lead, extracted_by as extracted_by_literals, inserted_by as inserted_by_literals, inserted as inserted_value, extracted_at as extracted_at_value, inserted_at as inserted_at_value};
 
 use crate::copies::copied;
 use crate::outcome::Computed;
@@ -97,6 +97,32 @@ pub fn extracted_part(alloc: Global, indexes: &[u32], whole: &Value) -> Computed
         None => Ok(None),
         Some(part) => Ok(Some(copied(alloc, part)?)),
     }
+}
+
+fn are_indexes(literals: &[u32]) -> bool
+    ensures { result ≡ may_lead literals.now }
+{
+    literals.iter().all(|literal| *literal < 1 << 31)
+}
+
+/// OpCompositeExtract; there is no value where a literal has its top bit set.
+pub fn extracted_by(alloc: Global, literals: &[u32], whole: &Value) -> Computed
+    ensures { IfOk result (λ v. option_map value_of v ≡ extracted_by_literals literals.now (value_of whole.now)) }
+{
+    if !are_indexes(literals) {
+        return Ok(None);
+    }
+    extracted_part(alloc, literals, whole)
+}
+
+/// OpCompositeInsert; there is no value where a literal has its top bit set.
+pub fn inserted_by(alloc: Global, whole: &Value, literals: &[u32], part: &Value) -> Computed
+    ensures { IfOk result (λ v. option_map value_of v ≡ inserted_by_literals (value_of part.now) literals.now (value_of whole.now)) }
+{
+    if !are_indexes(literals) {
+        return Ok(None);
+    }
+    inserted(alloc, whole, literals, part)
 }
 
 /// OpVectorExtractDynamic.
