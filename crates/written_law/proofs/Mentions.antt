@@ -23,7 +23,7 @@ first_off false b off = refl
 first_off true b off = cc
 
 -- an operand that is an id of a value, of a live instruction of a reached block that is no phi
-live_mentions : (f : Function) (reached : List Bool) (block place : ℕ) (i : Inst) → inst_at f block place ≡ Some i → slice_index_or reached block false ≡ true → IsLive f reached block place → is i.op code.Phi ≡ false
+pub live_mentions : (f : Function) (reached : List Bool) (block place : ℕ) (i : Inst) → inst_at f block place ≡ Some i → slice_index_or reached block false ≡ true → IsLive f reached block place → is i.op code.Phi ≡ false
     → (k n : ℕ) → slice_get i.args k ≡ Some n → is_id i.op i.args k ≡ true → is_value i.op k ≡ true → IsMentioned f reached block i n
 live_mentions f reached block place i there here live no_phi k n word names value = record {
   place = place;
