@@ -7,17 +7,16 @@ use Rattle.module_check.specs.ReadFrom.{IsReadFrom}
 use Rattle.traces.specs.Invocations.{Invocation, IsInvocation}
 use Rattle.traces.specs.Preservation.{PreservesEvents}
 use Rattle.module_semantics.specs.Setting.{Setting}
-use Rattle.module_semantics.specs.Run.{first_state, start, run_from, module_run}
+use Rattle.module_semantics.specs.Run.{first_state, start, run_from}
 use Rattle.glsl_ast.specs.Tree.{Decl, TranslationUnit}
 use Rattle.glsl_semantics.specs.Run.{text_run}
 use Rattle.text_rules.specs.Constants.{sizes}
 use Rattle.function_text.specs.Functions.{function_decl}
 use Rattle.unit_rules.specs.Unit.{source_of, IsUnitOf}
-use Rattle.agree_law.specs.Answers.{AreWorded}
 use Rattle.function_law.specs.First.{IsFirst}
 use Rattle.function_law.specs.Texts.{FunctionText}
 use Rattle.function_law.proofs.Preserving.{IsKnownUnit, unit_preserves}
-use Rattle.preservation.specs.Preserves.{Preserves}
+use Rattle.preservation.specs.Preserves.{PreservesIn, Preserves}
 use Rattle.typed_law.specs.Words.{IsSettingOfWords}
 use Rattle.accepted_law.proofs.Accepted.{accepted_start}
 use Rattle.naming_law.specs.Names.{shape_of}
@@ -75,10 +74,10 @@ module _ (bytes : List ℕ) (m : ModuleState) (o : Options) (read : IsReadFrom b
       first = first_is;
     }
 
-    pub invocation_preserved : (answers : List (List ℕ)) → AreWorded answers → PreservesEvents (module_run m u.entry o.overrides inv answers) (text_run unit inv answers)
-    invocation_preserved answers worded =
+    pub invocation_preserved : PreservesIn m u.entry o.overrides unit inv
+    invocation_preserved answers words =
         subst (λ (x : TranslationUnit). PreservesEvents (run_from s (start s) answers) (text_run x inv answers)) (sym u.unit_is)
-        (unit_preserves s (IsTraced s) (ruled bytes m o read fine unit u inv of_words) (sizes (source_of m o u.entry)) decls (others bytes m o read fine unit u inv) inv answers (texts m o unit u inv) T (known_unit answers) worded)
+        (unit_preserves s (IsTraced s) (ruled bytes m o read fine unit u inv of_words) (sizes (source_of m o u.entry)) decls (others bytes m o read fine unit u inv) inv answers (texts m o unit u inv) T (known_unit answers) (worded_of answers words))
 
   pub text_preserves : ((inv : Invocation) → IsInvocation inv → (of_words : IsSettingOfWords (S m o unit u inv)) × IsLeft bytes m o read fine unit u inv of_words) → Preserves m u.entry o.overrides unit
-  text_preserves left = record { events = λ inv told answers words. let w = left inv told in invocation_preserved inv w.0 w.1 answers (worded_of answers words) }
+  text_preserves left = record { events = λ inv told. let w = left inv told in invocation_preserved inv w.0 w.1 }

@@ -1,4 +1,4 @@
--- A dispatch of a module, by any schedule, is one of a text that preserves it: the same events in the same order, and the same memory.
+-- A dispatch of a module, by any schedule, is one of a text that preserves it in each of its invocations: the same events in the same order, and the same memory.
 use Rattle.std.proofs.Common.{◌≡◌, ℕ, ◌+◌, ◌<◌, ◌≤◌, true, false, List, Option, Some, None, refl, sym, subst}
 use Rattle.spv_module.specs.State.{ModuleState}
 use Rattle.profile_rules.specs.declared.given.Given.{Given}
@@ -18,7 +18,7 @@ use Rattle.dispatch_semantics.specs.Store.{Store, AreAnswers}
 use Rattle.dispatch_semantics.specs.Grid.{Grid, group_of, count, invocation}
 use Rattle.dispatch_semantics.specs.Dispatch.{of_module, of_text, DispatchRun}
 use Rattle.dispatch_semantics.proofs.Carried.{Carries, carries_from, every_interleaving}
-use Rattle.preservation.specs.Preserves.{Preserves, module_side, text_side, IsGrid, first_state}
+use Rattle.preservation.specs.Preserves.{PreservesIn, module_side, text_side, first_state}
 
 -- a run of a text with more turns has at least its events
 more_events : (e : List Event) (end : TextEnd) (t : TextRun) → MoreText e end t → IsPrefix e t.events
@@ -33,12 +33,12 @@ module _ (s : Setting) (answers : List (List ℕ)) (text : ℕ → TextRun) (mor
   carried_by None keeps n = record { events = ((text (n + 1)).events, refl); ends = λ e. let never : false ≡ true = e in cc }
   carried_by (Some c) keeps n = carries_from _ (step_of (act s)) (supplied c answers) text keeps more n
 
-module _ (m : ModuleState) (entry : ℕ) (overrides : List (ℕ × Given)) (unit : TranslationUnit) (keeps : Preserves m entry overrides unit) (g : Grid) (told : IsGrid g) (n : ℕ) where
+module _ (m : ModuleState) (entry : ℕ) (overrides : List (ℕ × Given)) (unit : TranslationUnit) (g : Grid) (keeps : (i : ℕ) → i < count g → PreservesIn m entry overrides unit (invocation g i)) (n : ℕ) where
   one_carried : (i : ℕ) (answers : List (List ℕ)) → i < count g → AreAnswers answers → Carries (module_side m entry overrides g n i answers) (text_side unit g (n + 1) i answers)
   one_carried i answers lt words =
       carried_by (setting m entry overrides (invocation g i)) answers (text_run unit (invocation g i) answers)
       (λ k l le. more_events _ _ _ (more_turns unit (invocation g i) answers k l le))
-      (start (setting m entry overrides (invocation g i))) (keeps.events (invocation g i) (told i lt) answers words) n
+      (start (setting m entry overrides (invocation g i))) (keeps i lt answers words) n
 
   pub dispatches_agree : (store : Store) (schedule : List ℕ) (events : List (ℕ × Event)) (last : Store)
       → DispatchRun (count g) (group_of g) (module_side m entry overrides g n) (first_state store) schedule events last

@@ -11,9 +11,13 @@ use Rattle.dispatch_semantics.specs.Store.{Store, AreAnswers}
 use Rattle.dispatch_semantics.specs.Grid.{Grid, invocation, count}
 use Rattle.dispatch_semantics.specs.Dispatch.{Side, of_module, of_text, State}
 
--- For the function of an entry point, and with overrides of specialization constants, which go over what the invocation is told on the module's side alone: for every invocation and every sequence of answers, wherever the module's meaning is defined, the text makes the same events in the same order, and ends exactly when the module ends.
+-- For the function of an entry point, and with overrides of specialization constants, which go over what the invocation is told on the module's side alone: in one invocation, for every sequence of answers, wherever the module's meaning is defined, the text makes the same events in the same order, and ends exactly when the module ends.
+abbrev pub PreservesIn : ModuleState → ℕ → List (ℕ × Given) → TranslationUnit → Invocation → Type 0
+PreservesIn m entry overrides unit inv = (answers : List (List ℕ)) → AreAnswers answers → PreservesEvents (module_run m entry overrides inv answers) (text_run unit inv answers)
+
+-- in every invocation
 pub record Preserves (m : ModuleState) (entry : ℕ) (overrides : List (ℕ × Given)) (unit : TranslationUnit) : Type 0 where
-  pub events : (inv : Invocation) → IsInvocation inv → (answers : List (List ℕ)) → AreAnswers answers → PreservesEvents (module_run m entry overrides inv answers) (text_run unit inv answers)
+  pub events : (inv : Invocation) → IsInvocation inv → PreservesIn m entry overrides unit inv
 
 -- the two sides of a dispatch: the module within so many steps, the text within so many turns of each loop
 abbrev pub module_side : ModuleState → ℕ → List (ℕ × Given) → Grid → ℕ → Side
