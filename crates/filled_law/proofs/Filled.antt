@@ -1,4 +1,4 @@
--- Of the text of an accepted module nothing is left but: that its words are octets, its overrides words, no rule on decorations is broken, and lengths of arrays are lengths (`IsLeftOfGlobals`); and what is asked of instructions, that types of phis have shapes, and that no array is too long for an int to lead to each element (`IsLeftOfFunction`).
+-- Of the text of an accepted module nothing is left but: that its words are octets, its overrides words, no rule on decorations is broken, and lengths of arrays are lengths (`IsLeftOfGlobals`); and what is asked of instructions, and that no array is too long for an int to lead to each element (`IsLeftOfFunction`).
 use Rattle.std.proofs.Common.{◌≡◌, ◌++◌, ℕ, Bool, true, false, List, map, Option, Some, refl, sym, subst}
 use Rattle.spv_words.specs.Words.{words}
 use Rattle.spv_module.specs.Inst.{has_type}
@@ -45,8 +45,9 @@ use Rattle.naming_law.proofs.Once.{a_value, among_in}
 use Rattle.formed_law.proofs.Shaped.{AreGlobals, accepted_shaped}
 use Rattle.naming_law.proofs.Unit.{items, ordered}
 use Rattle.naming_law.proofs.Whole.{stands_reached}
-use Rattle.unit_law.proofs.Lists.{as_in}
-use Rattle.unit_law.proofs.Ways.{HaveKinds, F, R, V}
+use Rattle.unit_law.proofs.Lists.{as_in, as_among, of_contained}
+use Rattle.unit_law.proofs.Ways.{HaveKinds, F, R, V, in_module}
+use Rattle.grammar_law.proofs.Inner.{stands_within}
 use Rattle.grammar_law.proofs.Lives.{lives}
 use Rattle.moves_law.proofs.Planned.{planned_edge}
 use Rattle.formed_law.proofs.Labelled.{label_place}
@@ -63,11 +64,12 @@ use Rattle.safe_law.specs.Flags.{IsFlag as IsFlagOf, IsNoFlag}
 use Rattle.written_law.proofs.Asked.{AreInstsAsked, AreEdgesAsked, IsLeftOfPlan, one_so, left_of_plan, asked as asked_of}
 use Rattle.written_law.proofs.Placed.{as_of}
 use Rattle.values_law.proofs.Ends.{AreShortIn, left_at_ends}
-use Rattle.preservation.specs.Preserves.{Preserves}
+use Rattle.preservation.specs.Preserves.{PreservesIn}
 use Rattle.meaning_law.proofs.Accepted.{right, ruled, N, is_one, formed_so, few_so, labels_so, alone_so, apart_so, kept_so}
 use Rattle.meaning_law.proofs.Left.{P, others, calls_in, StandBefore, HasBlocks, IsLeft}
 use Rattle.filled_law.proofs.Things.{things_within}
-use Rattle.meaning_law.proofs.Whole.{text_preserves}
+use Rattle.filled_law.proofs.Phis.{phi_shaped}
+use Rattle.meaning_law.proofs.Whole.{invocation_preserved}
 
 not_off : (b : Bool) → (b ≡ false → ⊥) → b ≡ true
 not_off true far = refl
@@ -136,23 +138,28 @@ module _ (bytes : List ℕ) (m : ModuleState) (o : Options) (read : IsReadFrom b
       abbrev here : IsFunctionOf Fn m.functions
       here = one_so m o unit u inv p among r one (keys_so p among) apart kept rules form few labels program k (items_before ts) flags_outside IsLent first given kinds_in rules.lends
 
-      -- what is left of it: what its instructions do, that the types of its phis have shapes, and that no array of it is too long
+      -- what is left of it: what its instructions do, and that no array of it is too long
       pub record IsLeftOfFunction : Type 0 where
         pub insts : AreInstsAsked m o unit u inv p among r one (keys_so p among) apart kept rules form few labels program k (items_before ts) flags_outside IsLent first given
-        pub phis : (i : Inst) → IsIn i (insts_of Fn) → is_phi i ≡ true → (t : Tree) × (type_tree m.globals i.ty ≡ Some t)
         pub short : AreShortIn bytes m o read fine unit u inv told outer r kinds_in p among rules.lends here (calls_of program k (items_before ts)) Way
+
+      -- the types of its phis have shapes
+      phis_so : (i : Inst) → IsIn i (insts_of Fn) → is_phi i ≡ true → (t : Tree) × (type_tree m.globals i.ty ≡ Some t)
+      phis_so i there on =
+          phi_shaped (S m o unit u inv) o.entry r kinds_in Fn (in_module (S m o unit u inv) o.entry r kinds_in o unit u p among)
+          (λ j j_in. stands_within bytes m read Fn (of_contained m.functions Fn (in_module (S m o unit u inv) o.entry r kinds_in o unit u p among)) j (as_in (insts_of Fn) j j_in)) i (as_among (insts_of Fn) i there) on
 
       lives_so : (c place : ℕ) (i : Inst) → inst_at Fn c place ≡ Some i → is_gone ((V (S m o unit u inv) o.entry r kinds_in o unit u p among).form i.result) ≡ false → IsLive Fn (R (S m o unit u inv) o.entry r kinds_in o unit u p among) c place
       lives_so = lives (S m o unit u inv) o.entry r kinds_in o unit u p among
 
-      edges_so : IsLeftOfFunction → AreEdgesAsked m o unit u inv p among r one (keys_so p among) apart kept rules form few labels program k (items_before ts) flags_outside IsLent first given
-      edges_so left b t q at from block values taken g goes same =
-          planned_edge m o r kinds_in unit u inv p among lives_so rules.lends here (keys_so p among) form (label_place bytes m o read fine (written p) one) left.phis program (calls_of program k (items_before ts)) k apart kept (Way (written p)) (λ c way. way.known.fits) b t q at from block values taken g goes same
-          (edge_left bytes m o read fine unit u inv told outer r kinds_in p among lives_so rules.lends here (keys_so p among) form (label_place bytes m o read fine (written p) one) left.phis (calls_of program k (items_before ts)) k apart kept (Way (written p)) (λ c way. way.known.fits) b t)
+      edges_so : AreEdgesAsked m o unit u inv p among r one (keys_so p among) apart kept rules form few labels program k (items_before ts) flags_outside IsLent first given
+      edges_so b t q at from block values taken g goes same =
+          planned_edge m o r kinds_in unit u inv p among lives_so rules.lends here (keys_so p among) form (label_place bytes m o read fine (written p) one) phis_so program (calls_of program k (items_before ts)) k apart kept (Way (written p)) (λ c way. way.known.fits) b t q at from block values taken g goes same
+          (edge_left bytes m o read fine unit u inv told outer r kinds_in p among lives_so rules.lends here (keys_so p among) form (label_place bytes m o read fine (written p) one) phis_so (calls_of program k (items_before ts)) k apart kept (Way (written p)) (λ c way. way.known.fits) b t)
 
       plan_left : IsLeftOfFunction → IsLeftOfPlan m o unit u inv p among r one (keys_so p among) apart kept rules form few labels program k (items_before ts) flags_outside IsLent first given
       plan_left left =
-          left_of_plan m o unit u inv p among r one (keys_so p among) apart kept rules form few labels program k (items_before ts) flags_outside IsLent first given kinds_in rules.lends left.insts (edges_so left)
+          left_of_plan m o unit u inv p among r one (keys_so p among) apart kept rules form few labels program k (items_before ts) flags_outside IsLent first given kinds_in rules.lends left.insts edges_so
           (left_at_ends bytes m o read fine unit u inv told outer r kinds_in p among rules.lends here (calls_of program k (items_before ts)) Way (λ g c way. way.known.fits) (λ g c way. way.known.more.words) rules.fits of_words
           (λ j there. rules.typed Fn here j (as_of (insts_of Fn) j there)) left.short)
 
@@ -169,7 +176,7 @@ module _ (bytes : List ℕ) (m : ModuleState) (o : Options) (read : IsReadFrom b
         let w = accepted_shaped bytes m o read fine kinds_so (written p) one i stands (not_off (has_type i.op) (λ off. value.0 ((accepted_inner bytes m read (written p) one i stands).1 off))) value.1 in
         (w.0, w.1)
 
-    pub is_left : IsLeftOfBlocks → IsLeft bytes m o read fine unit u inv of_words
+    is_left : IsLeftOfBlocks → IsLeft bytes m o read fine unit u inv of_words
     is_left inner = record {
       goes = λ c at. not_stuck bytes m o read fine unit u inv told outer c at;
       privates = λ p among c at n on. private_first bytes m o read fine unit u inv told outer p among c at n on;
@@ -195,6 +202,6 @@ module _ (bytes : List ℕ) (m : ModuleState) (o : Options) (read : IsReadFrom b
                   (stands_reached (P bytes m o read fine unit u inv) (calls_in bytes m o read fine unit u inv of_words k ts) k (S m o unit u inv) rules (N bytes m o read fine unit u inv p among) apart kept (IsFlagOf (name_of u.claimed)) (source_of m o u.entry) (name_of u.claimed) (written p) form few p (planned_of bytes m o read fine unit u p among) refl IsLent first given);
             }
 
-  -- So the text of an accepted module preserves what the module does.
-  pub accepted_preserves : ((inv : Invocation) (told : IsInvocation inv) → (outer : IsLeftOfGlobals bytes m o u.entry inv) × IsLeftOfBlocks inv told outer) → Preserves m u.entry o.overrides unit
-  accepted_preserves left = text_preserves bytes m o read fine unit u (λ inv told. let w = left inv told in (of_words inv told w.0, is_left inv told w.0 w.1))
+    -- So the text of an accepted module preserves what the module does.
+    pub accepted_preserves : IsLeftOfBlocks → PreservesIn m u.entry o.overrides unit inv
+    accepted_preserves left = invocation_preserved bytes m o read fine unit u inv of_words (is_left left)

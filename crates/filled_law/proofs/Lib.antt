@@ -1,2 +1,3 @@
 pub mod Things
+pub mod Phis
 pub mod Filled

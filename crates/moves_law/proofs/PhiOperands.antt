@@ -88,12 +88,12 @@ no_flip : {A : Type 0} → false ≡ true → A
 no_flip e = cc
 
 -- opcodes
-phi_group : (o : Op) → is o code.Phi ≡ true → group_of o ≡ groups.Phi
+pub phi_group : (o : Op) → is o code.Phi ≡ true → group_of o ≡ groups.Phi
 unfolding number group_of
 phi_group code.Phi on = refl
 phi_group o on = cc
 
-phi_typed : (o : Op) → is o code.Phi ≡ true → (has_type o ≡ true) × (has_result o ≡ true)
+pub phi_typed : (o : Op) → is o code.Phi ≡ true → (has_type o ≡ true) × (has_result o ≡ true)
 unfolding number shape
 phi_typed code.Phi on = (refl, refl)
 phi_typed o on = cc
