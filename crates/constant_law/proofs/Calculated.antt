@@ -56,7 +56,7 @@ use Rattle.global_law.proofs.Plain.{plain_has}
 use Rattle.global_law.proofs.Zeros.{HasZero, HaveZeros}
 use Rattle.typed_law.specs.Words.{HoldWords}
 use Rattle.typed_law.proofs.Lists.{and_left, and_right, same_some, some_part}
-use Rattle.constant_law.specs.Items.{key_text, IsShort, AreShort}
+use Rattle.constant_law.specs.Items.{key_text}
 use Rattle.constant_law.proofs.Valued.{IsOperand, AreOperands}
 use Rattle.constant_law.proofs.Constituents.{have_shapes, all_fit, operation_right}
 use Rattle.constant_law.proofs.Inner.{AllSized, inner_operation, inner_given}
@@ -134,28 +134,28 @@ module _ (p : Program) (s : Setting) (source : Source) (found : Key → Option T
     zeros_sized (tree t ts) z = (zero_sized t z.0, zeros_sized ts z.1)
 
   mutual
-    pub type_written : (t : Tree) → HasZero p s source (key_text found) t → IsShort t → HasMembersApart (struct_names (key_text found)) t → IsWritten p found t
-    type_written plain.boolean z short apart = tt
-    type_written plain.int z short apart = tt
-    type_written plain.uint z short apart = tt
-    type_written (plain.vector e n) z short apart = sized n z
+    pub type_written : (t : Tree) → HasZero p s source (key_text found) t → HasMembersApart (struct_names (key_text found)) t → IsWritten p found t
+    type_written plain.boolean z apart = tt
+    type_written plain.int z apart = tt
+    type_written plain.uint z apart = tt
+    type_written (plain.vector e n) z apart = sized n z
       where
         sized : (n : ℕ) → (n ≡ 2) ⊎ ((n ≡ 3) ⊎ (n ≡ 4)) → (n ≤ 4) × ((n == 1) ≡ false)
         sized n (inl two) = (omega (arith, two), grind (arith, nat_tests, two))
         sized n (inr (inl three)) = (omega (arith, three), grind (arith, nat_tests, three))
         sized n (inr (inr four)) = (omega (arith, four), grind (arith, nat_tests, four))
-    type_written (plain.array t (Fixed n)) z short apart = (short.0, type_written t z short.1 apart)
-    type_written (plain.array t (Spec l)) z short apart = absurd z
-    type_written (plain.runtime t) z short apart = absurd z
-    type_written (plain.struct k ts) z short apart =
-        (ap p.structs (text_same (found (Id (id k)))) ∙ z.0 ∙ ap (λ fs. Some fs) (sym (fields_same k 0 ts z.1)), members_apart, types_written ts z.1 short apart.1)
+    type_written (plain.array t (Fixed n)) z apart = type_written t z apart
+    type_written (plain.array t (Spec l)) z apart = absurd z
+    type_written (plain.runtime t) z apart = absurd z
+    type_written (plain.struct k ts) z apart =
+        (ap p.structs (text_same (found (Id (id k)))) ∙ z.0 ∙ ap (λ fs. Some fs) (sym (fields_same k 0 ts z.1)), members_apart, types_written ts z.1 apart.1)
       where
         members_apart : (i j : ℕ) (t : Tree) → i < j → nth_of ts j ≡ Some t → bytes_eq (text_or_none (found (Member (id k) i))) (text_or_none (found (Member (id k) j))) ≡ false
         members_apart i j t less at = ap₂ (λ a b. bytes_eq a b) (text_same (found (Member (id k) i))) (text_same (found (Member (id k) j))) ∙ apart.0 i j t less at
 
-    types_written : (ts : Trees) → HaveZeros p s source (key_text found) ts → AreShort ts → HaveMembersApart (struct_names (key_text found)) ts → AreWritten p found ts
-    types_written no_trees z short apart = tt
-    types_written (tree t ts) z short apart = (type_written t z.0 short.0 apart.0, types_written ts z.1 short.1 apart.1)
+    types_written : (ts : Trees) → HaveZeros p s source (key_text found) ts → HaveMembersApart (struct_names (key_text found)) ts → AreWritten p found ts
+    types_written no_trees z apart = tt
+    types_written (tree t ts) z apart = (type_written t z.0 apart.0, types_written ts z.1 apart.1)
 
 -- an operand that is written as a literal has its word
 plain_reading : (r : Reading) → is_plain r ≡ true → r ≡ Plain
@@ -212,7 +212,6 @@ module _ (s : Setting) (overrides : List (ℕ × Given)) (found : Key → Option
       pub is_one : IsOne at n t v
       pub says : Says p calls z (constant_expr source names is_one.inst) (typed (shape_in s YS t) v)
       pub zero : HasZero p s source key t
-      pub short : IsShort t
       pub apart : HasMembersApart (struct_names (key_text found)) t
 
     abbrev pub AreRead : ℕ → List ℕ → List Tree → List ValueTree → Type 0
@@ -241,7 +240,7 @@ module _ (s : Setting) (overrides : List (ℕ × Given)) (found : Key → Option
 
     all_written : (at : ℕ) (ns : List ℕ) (ts : List Tree) (vs : List ValueTree) → AreRead at ns ts vs → AllWritten p found ts
     all_written at [] [] [] are = tt
-    all_written at (n ∷ ns) (t ∷ ts) (v ∷ vs) are = let w = are.0 in (type_written p s source found t w.zero w.short w.apart, all_written at ns ts vs are.1)
+    all_written at (n ∷ ns) (t ∷ ts) (v ∷ vs) are = let w = are.0 in (type_written p s source found t w.zero w.apart, all_written at ns ts vs are.1)
     all_written at [] [] (v ∷ vs) are = absurd are
     all_written at [] (t ∷ ts) vs are = absurd are
     all_written at (n ∷ ns) [] vs are = absurd are
@@ -265,8 +264,8 @@ module _ (s : Setting) (overrides : List (ℕ × Given)) (found : Key → Option
 
     -- So its expression says its value.
     pub calculated_says : NoneDeclared p → (g : Inst) (t : Tree) (from : ℕ → Option ValueTree) (v : ValueTree) → is_sound s.of g ≡ true → constant_kind g.op ≡ kinds.Operation → type_tree s.of.globals g.ty ≡ Some t
-        → HasZero p s source key t → IsShort t → HasMembersApart (struct_names (key_text found)) t → (w : IsCalculated g t from v) (us : List Tree) → AreRead g.at (inner_operands w.opcode (drop 1 g.args)) us w.values → Says p calls z (calculated_with source found names g) (typed (shape_in s YS t) v)
-    calculated_says none g t from v sound kind shape zero_is short apart w us are =
+        → HasZero p s source key t → HasMembersApart (struct_names (key_text found)) t → (w : IsCalculated g t from v) (us : List Tree) → AreRead g.at (inner_operands w.opcode (drop 1 g.args)) us w.values → Says p calls z (calculated_with source found names g) (typed (shape_in s YS t) v)
+    calculated_says none g t from v sound kind shape zero_is apart w us are =
         let operands_are = all_ones g.at (inner_operands w.opcode (drop 1 g.args)) us w.values are in
         let right = operation_right s g w.opcode sound kind w.numbered in
         let given = inner_given s (inner g) t shape us w.values v (all_fit s (chosen s overrides) have results rising g.at (inner_operands w.opcode (drop 1 g.args)) us w.values operands_are) (all_sized g.at (inner_operands w.opcode (drop 1 g.args)) us w.values are) w.opcode w.makes w.inside right.0 right.1 w.named w.value
@@ -277,6 +276,6 @@ module _ (s : Setting) (overrides : List (ℕ × Given)) (found : Key → Option
         ap (λ o. option_map_or (calculated_by source found names g (drop 1 g.args)) o (zero (basic_type (shape_at source g.ty)))) (inner_is (slice_index g.args 0) w.opcode w.numbered w.inside)
         ∙ ap (λ o. lowered_vector found w.opcode 0 (unwrap_or o plain.uint) literals xs) shape ∙ ap (λ o. written_if_any found w.opcode o t literals xs) (inner_operation w.opcode w.inside ∙ w.named) in
         let says : Says p calls z (written found w.opcode w.makes t literals xs) (typed (text_shape found t) v) =
-        written_says p none found calls z w.opcode w.makes t literals xs us w.values v (type_written p s source found t zero_is short apart) (all_written g.at (inner_operands w.opcode (drop 1 g.args)) us w.values are) given.0 given.1
+        written_says p none found calls z w.opcode w.makes t literals xs us w.values v (type_written p s source found t zero_is apart) (all_written g.at (inner_operands w.opcode (drop 1 g.args)) us w.values are) given.0 given.1
         (all_mean g.at (inner_operands w.opcode (drop 1 g.args)) us w.values are) w.value in
         subst (λ e. Says p calls z e (typed (shape_in s YS t) v)) (sym text) (subst (λ u. Says p calls z (written found w.opcode w.makes t literals xs) (typed u v)) (shape_same p s source found t zero_is) says)

@@ -72,7 +72,7 @@ use Rattle.global_law.proofs.Privates.{AreOtherVariables, items_find, own_value}
 use Rattle.global_law.proofs.Extents.{plain_extent, named_extent}
 use Rattle.global_law.proofs.Zeros.{HasZero, HaveZeros, is_declared}
 use Rattle.constant_law.specs.Within.{IsSpecBefore, IsStructBefore, IsWithin, AreWithin, IsNoBlock}
-use Rattle.constant_law.specs.Items.{key_text, is_item, IsScalarSpec, AreAsked, IsShort}
+use Rattle.constant_law.specs.Items.{key_text, is_item, IsScalarSpec, AreAsked}
 use Rattle.constant_law.proofs.Valued.{IsValued, valued, IsOperand, AreOperands, operands}
 use Rattle.constant_law.proofs.Within.{wider, constant_no_variable, constant_within, members_unblocked}
 use Rattle.constant_law.proofs.Needed.{AllOperands, all_operands, inner_operands_are, operand_needed}
@@ -450,10 +450,10 @@ module _ (s : Setting) (entry : Option (List ℕ)) (overrides : List (ℕ × Giv
     all_declared (tree t ts) w held = (declared_stands t w.0 (λ j has. held j (or_on_left (has_struct j t) (have_struct j ts) has)), all_declared ts w.1 (λ j has. held j (or_on_right (has_struct j t) (have_struct j ts) has)))
 
   -- what is known of a scalar type
-  scalar_known : (p : Program) (t : Tree) → is_scalar t ≡ true → HasZero p s source key t × IsShort t × HasMembersApart (struct_names key) t
-  scalar_known p plain.boolean on = (tt, tt, tt)
-  scalar_known p plain.int on = (tt, tt, tt)
-  scalar_known p plain.uint on = (tt, tt, tt)
+  scalar_known : (p : Program) (t : Tree) → is_scalar t ≡ true → HasZero p s source key t × HasMembersApart (struct_names key) t
+  scalar_known p plain.boolean on = (tt, tt)
+  scalar_known p plain.int on = (tt, tt)
+  scalar_known p plain.uint on = (tt, tt)
   scalar_known p (plain.vector e n) on = cc
   scalar_known p (plain.array t l) on = cc
   scalar_known p (plain.runtime t) on = cc
@@ -509,7 +509,7 @@ module _ (s : Setting) (entry : Option (List ℕ)) (overrides : List (ℕ × Giv
     IsOne n t v = IsOperand s C asked.have asked.right.results asked.right.rising g.at n t v
 
     reads : (n : ℕ) (t : Tree) (v : ValueTree) → IsOne n t v → has_operand g n ≡ true → IsRead s overrides found_key asked.have asked.right.results asked.right.rising asked.low d.program no_calls Z g.at n t v
-    reads n t v w operand = record { is_one = w; says = says; zero = known.0; short = known.1; apart = known.2 }
+    reads n t v w operand = record { is_one = w; says = says; zero = known.0; apart = known.1 }
       where
         h : Inst
         h = w.inst
@@ -535,23 +535,22 @@ module _ (s : Setting) (entry : Option (List ℕ)) (overrides : List (ℕ × Giv
         same_type : (u : Tree) → type_tree Gs h.ty ≡ Some u → u ≡ t
         same_type u e = same_some u t (sym e ∙ w.typed_as)
 
-        by_reading : (q : Reading) → reading source h ≡ q → HasZero d.program s source key t × IsShort t × HasMembersApart (struct_names key) t
+        by_reading : (q : Reading) → reading source h ≡ q → HasZero d.program s source key t × HasMembersApart (struct_names key) t
         by_reading Plain reads = let c = plain_is s overrides h reads in scalar_known d.program t (subst (λ u. is_scalar u ≡ true) (same_type c.shape c.typed_as) c.scalar)
         by_reading Named reads =
             let declared = operand_declared h n itself operand constant reads in
             let less = w.less in (
               zero_stands g.at d stands t (wider (IsNoBlock s.of) s.of h.at g.at (let low : h.at ≤ g.at = omega (arith, less) in low) t (constant_within s.of entry asked.right h t among constant w.typed_as)) (constant_sized h t among constant w.typed_as) (constant_held h t among declared w.typed_as),
-              asked.short h t v among declared has w.typed_as,
               asked.members h t among declared w.typed_as,
             )
         by_reading GroupSize reads =
             let c = size_has s overrides asked.have asked.right.results asked.right.rising asked.spec_ids asked.sizes h v among (own h among) (size_reading source h reads) has in
-            subst (λ u. HasZero d.program s source key u × IsShort u × HasMembersApart (struct_names key) u) (same_type (plain.vector elem.Uint 3) c.0) (inr (inl refl), tt, tt)
+            subst (λ u. HasZero d.program s source key u × HasMembersApart (struct_names key) u) (same_type (plain.vector elem.Uint 3) c.0) (inr (inl refl), tt)
         by_reading (GroupSizePart axis) reads =
             let c = part_is_of s overrides asked.have asked.right.results asked.right.rising asked.spec_ids asked.sizes h axis v (own h among) has (part_reading source h axis reads) in
-            subst (λ u. HasZero d.program s source key u × IsShort u × HasMembersApart (struct_names key) u) (same_type plain.uint c.typed_as) (tt, tt, tt)
+            subst (λ u. HasZero d.program s source key u × HasMembersApart (struct_names key) u) (same_type plain.uint c.typed_as) (tt, tt)
 
-        known : HasZero d.program s source key t × IsShort t × HasMembersApart (struct_names key) t
+        known : HasZero d.program s source key t × HasMembersApart (struct_names key) t
         known = by_reading (reading source h) refl
 
     all_read : (ns : List ℕ) (ts : List Tree) (vs : List ValueTree) → AreOperands s C asked.have asked.right.results asked.right.rising g.at ns ts vs → AllOperands g ns → AreRead s overrides found_key asked.have asked.right.results asked.right.rising asked.low d.program no_calls Z g.at ns ts vs
@@ -632,7 +631,7 @@ module _ (s : Setting) (entry : Option (List ℕ)) (overrides : List (ℕ × Giv
             let w = calculated_is g t from (C g.result) v kind made in
             let ops = operands s C asked.have asked.right.results asked.right.rising g.at from last earlier (inner_operands w.opcode (drop 1 g.args)) w.values w.each in
             let are = all_read (inner_operands w.opcode (drop 1 g.args)) ops.0 w.values ops.1 (inner_operands_are g w.opcode (calculated_op g.op kind) (inner_is (slice_index g.args 0) w.opcode w.numbered w.inside)) in
-            said_there kinds.Operation kind free (calculated_says s overrides found_key asked.have asked.right.results asked.right.rising asked.low d.program no_calls Z (λ f. stands.functions (built_in_name f)) g t from v sound kind shape zero_is (asked.short g t v there on has shape) (asked.members g t there on shape) w ops.0 are)
+            said_there kinds.Operation kind free (calculated_says s overrides found_key asked.have asked.right.results asked.right.rising asked.low d.program no_calls Z (λ f. stands.functions (built_in_name f)) g t from v sound kind shape zero_is (asked.members g t there on shape) w ops.0 are)
 
         by_kind : (k : ConstantKind) → constant_kind g.op ≡ k → value_by_kind from (C g.result) t g.args k ≡ Some v → Goal
         by_kind kinds.True kind e = absurd (literal_none (subst IsSingle (same_some _ v e) tt) fit (λ o. no_kind (sym kind ∙ o)) (no_free g there (λ spec. subst IsScalarSpec kind spec)))

@@ -1,5 +1,5 @@
 -- What is asked of the items of a text, besides that its module conforms.
-use Rattle.std.specs.Prelude.{◌≡◌, ◌⊎◌, ◌≤◌, ◌^◌, ◌||◌, ◌==◌, ℕ, Bool, true, false, List, [], ◌∷◌, Option, Some, is_some, unwrap_or}
+use Rattle.std.specs.Prelude.{◌≡◌, ◌⊎◌, ◌||◌, ◌==◌, ℕ, Bool, true, false, List, [], ◌∷◌, Option, Some, is_some, unwrap_or}
 use Rattle.std.specs.List.{list_any}
 use Rattle.spv_ops.specs.Opcode.{is}
 use Rattle.spv_ops.specs.declared.Op.TheVariants as code
@@ -7,9 +7,8 @@ use Rattle.spv_module.specs.Held.{global}
 use Rattle.spv_module.specs.Lists.{id}
 use Rattle.spv_module.specs.declared.inst.Inst.{Inst}
 use Rattle.spv_module.specs.declared.tree.Elem.TheVariants as elem
-use Rattle.spv_module.specs.declared.tree.Length.TheVariants.{Fixed}
 use Rattle.spv_types.specs.Tree as plain
-use Rattle.spv_types.specs.Tree.{Tree, Trees, no_trees, tree, ValueTree, word as value_word}
+use Rattle.spv_types.specs.Tree.{Tree, word as value_word}
 use Rattle.spv_types.specs.Types.{type_tree}
 use Rattle.spv_decor.specs.Rows.{word}
 use Rattle.profile_rules.specs.declared.given.Given.{Given}
@@ -40,17 +39,6 @@ key_text found key = unwrap_or (found key) []
 abbrev pub is_item : Source → Reached → Inst → Bool
 is_item source r g = is_written_struct source r g || (is_declared_constant source r g || is_written_variable r g)
 
--- no array is so long that an int does not lead to each element
-abbrev mutual
-  pub IsShort : Tree → Type 0
-  IsShort (plain.array t (Fixed n)) = (n ≤ 2 ^ 31) × IsShort t
-  IsShort (plain.struct k ts) = AreShort ts
-  IsShort _ = Unit {0}
-
-  pub AreShort : Trees → Type 0
-  AreShort no_trees = Unit {0}
-  AreShort (tree t ts) = IsShort t × AreShort ts
-
 -- the items have names apart (names), and none that of the size of workgroups
 pub record HaveNames (source : Source) (r : Reached) (key : Key → Text) : Type 0 where
   pub apart : (g h : Inst) → IsAmong g source.of.globals → IsAmong h source.of.globals → is_item source r g ≡ true → is_item source r h ≡ true → key (Id (id g.result)) ≡ key (Id (id h.result)) → g.result ≡ h.result
@@ -76,7 +64,7 @@ pub record AreSizes (source : Source) : Type 0 where
 abbrev pub HaveLengths : Setting → Type 0
 HaveLengths s = (g : Inst) (c : Inst) → IsAmong g s.of.globals → is g.op code.TypeArray ≡ true → global s.of.globals (word g 1) ≡ Some c → is c.op code.Constant ≡ false → (w : ℕ) × (s.constants (word g 1) ≡ Some (value_word w)) × (array_length s (word g 1) ≡ Some w)
 
--- What is asked of a module and of the names of its text, so that the constants in it say what the module has: the module conforms, its constants are of words; names are apart; and where a calculated constant is made of composites, no array is too long and members have names apart.
+-- What is asked of a module and of the names of its text, so that the constants in it say what the module has: the module conforms, its constants are of words; names are apart; and where a calculated constant is made of composites, members have names apart.
 pub record AreAsked (s : Setting) (entry : Option (List ℕ)) (overrides : List (ℕ × Given)) (found : Key → Option Text) (r : Reached) : Type 0 where
   pub right : IsConforming s.of entry
   pub have : HasConstants s (chosen s overrides)
@@ -85,5 +73,4 @@ pub record AreAsked (s : Setting) (entry : Option (List ℕ)) (overrides : List 
   pub spec_ids : AreSpecIds (source_of s overrides)
   pub sizes : AreSizes (source_of s overrides)
   pub lengths : HaveLengths s
-  pub short : (g : Inst) (t : Tree) (v : ValueTree) → IsAmong g s.of.globals → is_declared_constant (source_of s overrides) r g ≡ true → s.constants g.result ≡ Some v → type_tree s.of.globals g.ty ≡ Some t → IsShort t
   pub members : (g : Inst) (t : Tree) → IsAmong g s.of.globals → is_declared_constant (source_of s overrides) r g ≡ true → type_tree s.of.globals g.ty ≡ Some t → HasMembersApart (struct_names (key_text found)) t

@@ -1,4 +1,4 @@
--- Of the text of an accepted module nothing is left but: that its words are octets, its overrides words, no rule on decorations is broken, and lengths of arrays are lengths (`IsLeftOfGlobals`); and what is asked of instructions, and that no array is too long for an int to lead to each element (`IsLeftOfFunction`).
+-- Of the text of an accepted module nothing is left but: that its words are octets, its overrides words, no rule on decorations is broken, and lengths of arrays are lengths (`IsLeftOfGlobals`); and what is asked of instructions (`IsLeftOfFunction`).
 use Rattle.std.proofs.Common.{◌≡◌, ◌++◌, ℕ, Bool, true, false, List, map, Option, Some, refl, sym, subst}
 use Rattle.spv_words.specs.Words.{words}
 use Rattle.spv_module.specs.Inst.{has_type}
@@ -63,7 +63,7 @@ use Rattle.outside_law.proofs.Tops.{tops_say}
 use Rattle.safe_law.specs.Flags.{IsFlag as IsFlagOf, IsNoFlag}
 use Rattle.written_law.proofs.Asked.{AreInstsAsked, AreEdgesAsked, IsLeftOfPlan, one_so, left_of_plan, asked as asked_of}
 use Rattle.written_law.proofs.Placed.{as_of}
-use Rattle.values_law.proofs.Ends.{AreShortIn, left_at_ends}
+use Rattle.values_law.proofs.Ends.{left_at_ends}
 use Rattle.preservation.specs.Preserves.{PreservesIn}
 use Rattle.meaning_law.proofs.Accepted.{right, ruled, N, is_one, formed_so, few_so, labels_so, alone_so, apart_so, kept_so}
 use Rattle.meaning_law.proofs.Left.{P, others, calls_in, StandBefore, HasBlocks, IsLeft}
@@ -138,10 +138,9 @@ module _ (bytes : List ℕ) (m : ModuleState) (o : Options) (read : IsReadFrom b
       abbrev here : IsFunctionOf Fn m.functions
       here = one_so m o unit u inv p among r one (keys_so p among) apart kept rules form few labels program k (items_before ts) flags_outside IsLent first given kinds_in rules.lends
 
-      -- what is left of it: what its instructions do, and that no array of it is too long
+      -- what is left of it: what its instructions do
       pub record IsLeftOfFunction : Type 0 where
         pub insts : AreInstsAsked m o unit u inv p among r one (keys_so p among) apart kept rules form few labels program k (items_before ts) flags_outside IsLent first given
-        pub short : AreShortIn bytes m o read fine unit u inv told outer r kinds_in p among rules.lends here (calls_of program k (items_before ts)) Way
 
       -- the types of its phis have shapes
       phis_so : (i : Inst) → IsIn i (insts_of Fn) → is_phi i ≡ true → (t : Tree) × (type_tree m.globals i.ty ≡ Some t)
@@ -161,7 +160,7 @@ module _ (bytes : List ℕ) (m : ModuleState) (o : Options) (read : IsReadFrom b
       plan_left left =
           left_of_plan m o unit u inv p among r one (keys_so p among) apart kept rules form few labels program k (items_before ts) flags_outside IsLent first given kinds_in rules.lends left.insts edges_so
           (left_at_ends bytes m o read fine unit u inv told outer r kinds_in p among rules.lends here (calls_of program k (items_before ts)) Way (λ g c way. way.known.fits) (λ g c way. way.known.more.words) rules.fits of_words
-          (λ j there. rules.typed Fn here j (as_of (insts_of Fn) j there)) left.short)
+          (λ j there. rules.typed Fn here j (as_of (insts_of Fn) j there)))
 
     -- of each, where those that it calls run as their functions do
     pub record IsLeftOfBlocks : Type 1 where

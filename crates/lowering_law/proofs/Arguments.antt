@@ -382,7 +382,7 @@ module _ (p : Program) (none : NoneDeclared p) (names : Naming) (calls : Text �
   copy_tells opcode ls x t a v r w wa c m e f = by_test (is_op opcode code.CopyLogical) c
     where
       by_test : (b : Bool) → IsCopy b t a → S (if b then copied names t x.shape x.of else on_arguments op.Copy t (x ∷ [])) (typed_as names t r)
-      by_test true c = subst (λ q. S (copied names t q x.of) (typed_as names t r)) (sym m.shape) (subst (λ q. S (copied names t a x.of) (typed_as names t q)) (some_same v r e) (copied_says p names calls s t a x.of v w wa c m.fit m.says))
+      by_test true c = subst (λ q. S (copied names t q x.of) (typed_as names t r)) (sym m.shape) (subst (λ q. S (copied names t a x.of) (typed_as names t q)) (some_same v r e) (copied_says p names calls s t a x.of v w wa c.1 c.0 m.fit m.says))
       by_test false c = plain_tells ls x t a v r w c m e f
 
   -- a component at an index that is computed
@@ -490,7 +490,7 @@ module _ (p : Program) (none : NoneDeclared p) (names : Naming) (calls : Text �
       by_operation op.VectorInsertDynamic takes is = absurd is
       by_operation op.VectorShuffle takes is = with_two _ (Tells opcode op.VectorShuffle t ls r) (λ x y a b v u q n k. shuffle_tells opcode ls x y t a b v u r w q.1 q.2 q.0 n k) xs us vs (two_written (IsShuffle t ls) us wu takes) m
       by_operation op.CompositeConstruct takes is = λ e f. subst (λ q. S (constructed names t xs) (typed_as names t q)) (some_same (made t vs) r e) (made_tells t xs us vs w takes m)
-      by_operation op.CompositeExtract takes is = with_one _ (Tells opcode op.CompositeExtract t ls r) (λ x a v q n e f. subst (λ k. S (extracted names k ls x.of) (typed_as names t r)) (sym n.shape) (extracted_says p names calls s ls a t x.of v r q.1 q.0 n.says (extracted_along ls v r e).1)) xs us vs (one_written (λ a. shape_at a ls ≡ Some t) us wu takes) m
+      by_operation op.CompositeExtract takes is = with_one _ (Tells opcode op.CompositeExtract t ls r) (λ x a v q n e f. subst (λ k. S (extracted names k ls x.of) (typed_as names t r)) (sym n.shape) (extracted_says p names calls s ls a t x.of v r q.1 q.0 (extracted_along ls v r e).0 n.says (extracted_along ls v r e).1)) xs us vs (one_written (λ a. shape_at a ls ≡ Some t) us wu takes) m
       by_operation op.CompositeInsert takes is = absurd is
 
   -- the same by opcode: of OpExtInst the first literal is the number of the operation

@@ -2,17 +2,18 @@
 use Rattle.std.proofs.Common.{◌≡◌, ◌<◌, ◌≤◌, ◌+◌, ◌^◌, ◌==◌, ℕ, zero, suc, Bool, true, false, List, [], ◌∷◌, length, map, take, Option, Some, None, inl, inr, refl, sym, ap, ◌∙◌, subst, arith}
 use Rattle.std.specs.Prelude.{◌&&◌, nat_lt, option_map, option_and_then, slice_get, bytes_eq, if◌then◌else◌}
 use Rattle.std.specs.List.{list_all}
+use Rattle.std.proofs.lemmas.Bool.{and_parts}
 use Rattle.std.proofs.lemmas.Bool.Decides.{nat_tests, eqb_tells}
 use Rattle.std.proofs.lemmas.Slice.Eq.{bytes_eq-Decides}
 use Rattle.spv_module.specs.declared.tree.Elem.{Elem}
 use Rattle.spv_module.specs.declared.tree.Elem.TheVariants as elem
 use Rattle.spv_module.specs.declared.tree.Length.TheVariants.{Fixed, Spec}
 use Rattle.spv_types.specs.Tree as plain
-use Rattle.spv_types.specs.Tree.{Tree, Trees, no_trees, tree, ValueTree, word, truth, many, ValueTrees, value}
+use Rattle.spv_types.specs.Tree.{Tree, Trees, no_trees, tree, ValueTree, word, truth, many, ValueTrees}
 use Rattle.glsl_ast.specs.Tree.{Text, TypeName, type_name, number, Expr, exprs_in, literal, build}
 use Rattle.glsl_ast.specs.declared.expressions.Literal.TheVariants as lit
 use Rattle.op_semantics.specs.Component.{listed, composite}
-use Rattle.op_semantics.specs.Composite.{part_at, extracted as part_extracted}
+use Rattle.op_semantics.specs.Composite.{part_at, extracted as part_extracted, are_indexes}
 use Rattle.op_semantics.specs.Fits.{fits, elem_tree}
 use Rattle.fits_law.specs.Takes.{AreAlike, Alike, AllAlike, nth_of, part_shape, shape_at}
 use Rattle.fits_law.proofs.Parts.{MembersFit, many_of, members_of, each_at, all_alike, listed_back}
@@ -25,7 +26,7 @@ use Rattle.glsl_semantics.specs.Functions.{are_of, is_of, whole_of, built}
 use Rattle.glsl_semantics.specs.States.{State}
 use Rattle.glsl_semantics.specs.Expressions.{Program, Argument, with_extents, base_shape, type_of}
 use Rattle.lowering_law.specs.Says.{Says, AllSay}
-use Rattle.lowering_law.specs.Written.{text_shape, text_fields, IsWritten, AreWritten, typed_as, members_as, IsLogical, AreLogical}
+use Rattle.lowering_law.specs.Written.{text_shape, text_fields, IsWritten, AreWritten, typed_as, members_as, IsShort, AreShort, IsLogical, AreLogical}
 use Rattle.lowering_law.proofs.Saying.{all_end, says_build, says_literal}
 use Rattle.lowering_law.proofs.Parts.{says_member, says_element}
 use Rattle.lowering_law.proofs.Components.{at_below, axis_part, type_is, take_end, map_end, take_whole}
@@ -52,7 +53,7 @@ module _ (p : Program) (names : Naming) where
   shape_itself plain.int w = refl
   shape_itself plain.uint w = refl
   shape_itself (plain.vector e n) w = both_are (same_elem e e) (n == n) (elem_itself e) (number_itself n)
-  shape_itself (plain.array t (Fixed n)) w = both_are (same_shape (text_shape names t) (text_shape names t)) (n == n) (shape_itself t w.1) (number_itself n)
+  shape_itself (plain.array t (Fixed n)) w = both_are (same_shape (text_shape names t) (text_shape names t)) (n == n) (shape_itself t w) (number_itself n)
   shape_itself (plain.array t (Spec id)) w = absurd w
   shape_itself (plain.runtime t) w = absurd w
   shape_itself (plain.struct id ts) w = bytes_same (id_name names id)
@@ -70,7 +71,7 @@ module _ (p : Program) (names : Naming) where
   written_is plain.int w = refl
   written_is plain.uint w = refl
   written_is (plain.vector e n) w = type_is p e n
-  written_is (plain.array t (Fixed n)) w = array_is n (shape_type names t) (text_shape names t) (written_is t w.1)
+  written_is (plain.array t (Fixed n)) w = array_is n (shape_type names t) (text_shape names t) (written_is t w)
   written_is (plain.array t (Spec id)) w = absurd w
   written_is (plain.runtime t) w = absurd w
   written_is (plain.struct id ts) w = ap (λ o. option_map (with_extents p []) (option_map (struct (id_name names id)) o)) w.0
@@ -144,7 +145,7 @@ module _ (p : Program) (names : Naming) where
         → S (constructed names (plain.array t (Fixed n)) xs) (typed_as names (plain.array t (Fixed n)) (composite vs))
     array_says t n xs vs w count say =
         says_build p calls s (shape_type names (plain.array t (Fixed n))) (array (text_shape names t) (Some n)) (exprs_in (map (λ (x : Operand). x.of) xs)) (map (typed_as names t) vs) (typed (array (text_shape names t) (Some n)) (composite vs))
-        (written_is (plain.array t (Fixed n)) w) say (array_made t n vs w.1 count)
+        (written_is (plain.array t (Fixed n)) w) say (array_made t n vs w count)
 
     pub struct_says : (id : ℕ) (ts : Trees) (xs : List Operand) (vs : List ValueTree) → IsWritten p names (plain.struct id ts) → MembersFit ts vs → AllSay p calls s (exprs_in (map (λ (x : Operand). x.of) xs)) (members_as names ts vs)
         → S (constructed names (plain.struct id ts) xs) (typed_as names (plain.struct id ts) (composite vs))
@@ -166,11 +167,10 @@ module _ (p : Program) (names : Naming) where
         by_test true is e = (below_of i n is, let same : t ≡ u = cc in same)
         by_test false is e = cc
 
-    element_says : (t : Tree) (n : ℕ) (e : Expr) (i : ℕ) (v c : ValueTree) → IsWritten p names (plain.array t (Fixed n)) → i < n → S e (typed_as names (plain.array t (Fixed n)) v) → part_at v i ≡ Some c → S (element e i) (typed_as names t c)
-    element_says t n e i v c w less say at =
-        let short = w.0 in
+    element_says : (t : Tree) (n : ℕ) (e : Expr) (i : ℕ) (v c : ValueTree) → nat_lt i (2 ^ 31) ≡ true → i < n → S e (typed_as names (plain.array t (Fixed n)) v) → part_at v i ≡ Some c → S (element e i) (typed_as names t c)
+    element_says t n e i v c low less say at =
         says_element p calls s e (literal (lit.Int i)) (array (text_shape names t) (Some n)) (text_shape names t) i v c (typed int (word i)) say (says_literal p calls s (lit.Int i)) refl
-        (is_below i (2 ^ 31) (let low : i < 2 ^ 31 = omega (arith, less, short) in low)) (ap (λ b. if b then Some (text_shape names t) else None) (is_below i n less)) at
+        low (ap (λ b. if b then Some (text_shape names t) else None) (is_below i n less)) at
 
     member_says : (id : ℕ) (ts : Trees) (e : Expr) (i : ℕ) (t : Tree) (v c : ValueTree) → IsWritten p names (plain.struct id ts) → nth_of ts i ≡ Some t → S e (typed_as names (plain.struct id ts) v) → part_at v i ≡ Some c → S (member_of names e id i) (typed_as names t c)
     member_says id ts e i t v c w is say at =
@@ -193,30 +193,32 @@ module _ (p : Program) (names : Naming) where
     scalar_as elem.Uint = refl
 
     -- OpCompositeExtract along literals
-    pub extracted_says : (is : List ℕ) (t u : Tree) (e : Expr) (v r : ValueTree) → IsWritten p names t → shape_at t is ≡ Some u → S e (typed_as names t v) → part_extracted is v ≡ Some r → S (extracted names t is e) (typed_as names u r)
-    extracted_says [] t u e v r w shape say at = let one : t ≡ u = cc in let same : v ≡ r = cc in subst (λ x. S e (typed_as names u x)) same (subst (λ x. S e (typed_as names x v)) one say)
-    extracted_says (i ∷ is) (plain.vector d n) u e v r w shape say at =
+    pub extracted_says : (is : List ℕ) (t u : Tree) (e : Expr) (v r : ValueTree) → IsWritten p names t → shape_at t is ≡ Some u → are_indexes is ≡ true → S e (typed_as names t v) → part_extracted is v ≡ Some r → S (extracted names t is e) (typed_as names u r)
+    extracted_says [] t u e v r w shape low say at = let one : t ≡ u = cc in let same : v ≡ r = cc in subst (λ x. S e (typed_as names u x)) same (subst (λ x. S e (typed_as names x v)) one say)
+    extracted_says (i ∷ is) (plain.vector d n) u e v r w shape low say at =
         let inner = some_first (λ x. shape_at x is) (part_shape (plain.vector d n) i) u shape in
         let part = some_first (part_extracted is) (part_at v i) r at in
-        let low = below_some i n (elem_tree d) inner.0 inner.1 in
-        let rest = no_more d is u part.0 r (subst (λ x. shape_at x is ≡ Some u) (sym low.1) inner.2) part.2 in
-        let here : S (axis e i) (typed (scalar d) part.0) = says_member p calls s e (axis_name i) (vector d n) (scalar d) i v part.0 say (axis_part d n i low.0 w.0) part.1 in
+        let less = below_some i n (elem_tree d) inner.0 inner.1 in
+        let rest = no_more d is u part.0 r (subst (λ x. shape_at x is ≡ Some u) (sym less.1) inner.2) part.2 in
+        let here : S (axis e i) (typed (scalar d) part.0) = says_member p calls s e (axis_name i) (vector d n) (scalar d) i v part.0 say (axis_part d n i less.0 w.0) part.1 in
         subst (λ x. S (axis e i) (typed_as names u x)) rest.1 (subst (λ x. S (axis e i) (typed_as names x part.0)) rest.0 (subst (λ q. S (axis e i) (typed q part.0)) (sym (scalar_as d)) here))
-    extracted_says (i ∷ is) (plain.array t (Fixed n)) u e v r w shape say at =
+    extracted_says (i ∷ is) (plain.array t (Fixed n)) u e v r w shape low say at =
         let inner = some_first (λ x. shape_at x is) (part_shape (plain.array t (Fixed n)) i) u shape in
         let part = some_first (part_extracted is) (part_at v i) r at in
-        let low = below_some i n t inner.0 inner.1 in
-        extracted_says is t u (element e i) part.0 r w.1 (subst (λ x. shape_at x is ≡ Some u) (sym low.1) inner.2) (element_says t n e i v part.0 w low.0 say part.1) part.2
-    extracted_says (i ∷ is) (plain.struct id ts) u e v r w shape say at =
+        let less = below_some i n t inner.0 inner.1 in
+        let lows = and_parts (nat_lt i (2 ^ 31)) (are_indexes is) low in
+        extracted_says is t u (element e i) part.0 r w (subst (λ x. shape_at x is ≡ Some u) (sym less.1) inner.2) lows.1 (element_says t n e i v part.0 lows.0 less.0 say part.1) part.2
+    extracted_says (i ∷ is) (plain.struct id ts) u e v r w shape low say at =
         let inner = some_first (λ x. shape_at x is) (nth_of ts i) u shape in
         let part = some_first (part_extracted is) (part_at v i) r at in
+        let lows = and_parts (nat_lt i (2 ^ 31)) (are_indexes is) low in
         subst (λ x. S (extracted names x is (member_of names e id i)) (typed_as names u r)) (sym (nth_is ts i inner.0 plain.boolean inner.1))
-        (extracted_says is inner.0 u (member_of names e id i) part.0 r (written_at ts i inner.0 w.2 inner.1) inner.2 (member_says id ts e i inner.0 v part.0 w inner.1 say part.1) part.2)
-    extracted_says (i ∷ is) (plain.array t (Spec id)) u e v r w shape say at = absurd w
-    extracted_says (i ∷ is) (plain.runtime t) u e v r w shape say at = absurd w
-    extracted_says (i ∷ is) plain.boolean u e v r w shape say at = cc
-    extracted_says (i ∷ is) plain.int u e v r w shape say at = cc
-    extracted_says (i ∷ is) plain.uint u e v r w shape say at = cc
+        (extracted_says is inner.0 u (member_of names e id i) part.0 r (written_at ts i inner.0 w.2 inner.1) inner.2 lows.1 (member_says id ts e i inner.0 v part.0 w inner.1 say part.1) part.2)
+    extracted_says (i ∷ is) (plain.array t (Spec id)) u e v r w shape low say at = absurd w
+    extracted_says (i ∷ is) (plain.runtime t) u e v r w shape low say at = absurd w
+    extracted_says (i ∷ is) plain.boolean u e v r w shape low say at = cc
+    extracted_says (i ∷ is) plain.int u e v r w shape low say at = cc
+    extracted_says (i ∷ is) plain.uint u e v r w shape low say at = cc
 
     -- OpCopyLogical: part by part where structs have other ids
     logical_elem : (e d : Elem) → e ≡ d → AreAlike e d
@@ -261,10 +263,10 @@ module _ (p : Program) (names : Naming) where
         (all_end p calls s (each_below n Q) (map (typed_as names t) (take n vs)) (Q n) (typed_as names t last.0) (each_below_say Q t vs each n (let low : n ≤ length vs = omega (arith, le) in low)) (each n last.0 last.1))
 
     -- an array whose elements are copied one by one
-    elements_say : (t u : Tree) (n m : ℕ) (e : Expr) (vs : ValueTrees) → IsWritten p names (plain.array t (Fixed n)) → IsWritten p names (plain.array u (Fixed m)) → n ≡ m → fits (plain.array u (Fixed m)) (many vs) ≡ true → S e (typed_as names (plain.array u (Fixed m)) (many vs))
+    elements_say : (t u : Tree) (n m : ℕ) (e : Expr) (vs : ValueTrees) → IsWritten p names (plain.array t (Fixed n)) → n ≤ 2 ^ 31 → n ≡ m → fits (plain.array u (Fixed m)) (many vs) ≡ true → S e (typed_as names (plain.array u (Fixed m)) (many vs))
         → ((e : Expr) (v : ValueTree) → fits u v ≡ true → S e (typed_as names u v) → S (copied names t u e) (typed_as names t v))
         → S (build (shape_type names (plain.array t (Fixed n))) (exprs_in (each_below n (λ k. copied names t u (element e k))))) (typed_as names (plain.array t (Fixed n)) (many vs))
-    elements_say t u n m e vs wt wu same fit say one =
+    elements_say t u n m e vs wt few same fit say one =
         let parts = many_of u m vs fit in
         let count : length (listed vs) ≡ n = parts.0 ∙ sym same in
         subst (λ us. S (build (shape_type names (plain.array t (Fixed n))) (exprs_in (each_below n (λ k. copied names t u (element e k))))) (typed_as names (plain.array t (Fixed n)) (many us))) (listed_back vs)
@@ -273,47 +275,47 @@ module _ (p : Program) (names : Naming) where
         (subst (λ us. AllSay p calls s (exprs_in (each_below n (λ k. copied names t u (element e k)))) (map (typed_as names t) us)) (take_whole (listed vs) n count)
         (each_below_say (λ k. copied names t u (element e k)) t (listed vs) (λ k c at.
         let less = at_below (listed vs) k c at in
-        one (element e k) c (each_at u (listed vs) k c parts.1 at) (element_says u m e k (many vs) c wu (subst (λ q. k < q) parts.0 less) say at)) n (let le : n ≤ length (listed vs) = omega (arith, count) in le)))
-        (array_made t n (listed vs) wt.1 count))
+        one (element e k) c (each_at u (listed vs) k c parts.1 at) (element_says u m e k (many vs) c (is_below k (2 ^ 31) (let low : k < 2 ^ 31 = omega (arith, less, count, few) in low)) (subst (λ q. k < q) parts.0 less) say at)) n (let le : n ≤ length (listed vs) = omega (arith, count) in le)))
+        (array_made t n (listed vs) wt count))
 
     -- a value copied part by part; and the members of a struct from one on, whose trees and values are those of the whole from there on
     mutual
-      pub copied_says : (t u : Tree) (e : Expr) (v : ValueTree) → IsWritten p names t → IsWritten p names u → IsLogical t u → fits u v ≡ true → S e (typed_as names u v) → S (copied names t u e) (typed_as names t v)
-      copied_says plain.boolean plain.boolean e v wt wu l fit say = say
-      copied_says plain.int plain.int e v wt wu l fit say = say
-      copied_says plain.uint plain.uint e v wt wu l fit say = say
-      copied_says (plain.vector d n) (plain.vector f m) e v wt wu l fit say = subst (λ q. S e (typed q v)) (sym (same_type (plain.vector d n) (plain.vector f m) refl l)) say
-      copied_says (plain.array t (Fixed n)) (plain.array u (Fixed m)) e (many vs) wt wu l fit say = by_struct (has_struct t) refl (λ d c. copied_says t u d c wt.1 wu.1 l.0)
+      pub copied_says : (t u : Tree) (e : Expr) (v : ValueTree) → IsWritten p names t → IsWritten p names u → IsShort t → IsLogical t u → fits u v ≡ true → S e (typed_as names u v) → S (copied names t u e) (typed_as names t v)
+      copied_says plain.boolean plain.boolean e v wt wu short l fit say = say
+      copied_says plain.int plain.int e v wt wu short l fit say = say
+      copied_says plain.uint plain.uint e v wt wu short l fit say = say
+      copied_says (plain.vector d n) (plain.vector f m) e v wt wu short l fit say = subst (λ q. S e (typed q v)) (sym (same_type (plain.vector d n) (plain.vector f m) refl l)) say
+      copied_says (plain.array t (Fixed n)) (plain.array u (Fixed m)) e (many vs) wt wu short l fit say = by_struct (has_struct t) refl (λ d c. copied_says t u d c wt wu short.1 l.0)
         where
           by_struct : (b : Bool) → has_struct t ≡ b → ((d : Expr) (c : ValueTree) → fits u c ≡ true → S d (typed_as names u c) → S (copied names t u d) (typed_as names t c))
               → S (if b then build (shape_type names (plain.array t (Fixed n))) (exprs_in (each_below n (λ k. copied names t u (element e k)))) else e) (typed_as names (plain.array t (Fixed n)) (many vs))
-          by_struct true has one = elements_say t u n m e vs wt wu l.1 fit say one
+          by_struct true has one = elements_say t u n m e vs wt short.0 l.1 fit say one
           by_struct false has one = subst (λ q. S e (typed q (many vs))) (sym (same_type (plain.array t (Fixed n)) (plain.array u (Fixed m)) has l)) say
-      copied_says (plain.array t (Fixed n)) (plain.array u (Fixed m)) e (word a) wt wu l fit say = cc
-      copied_says (plain.array t (Fixed n)) (plain.array u (Fixed m)) e (truth b) wt wu l fit say = cc
-      copied_says (plain.struct id ts) (plain.struct other us) e (many vs) wt wu l fit say =
+      copied_says (plain.array t (Fixed n)) (plain.array u (Fixed m)) e (word a) wt wu short l fit say = cc
+      copied_says (plain.array t (Fixed n)) (plain.array u (Fixed m)) e (truth b) wt wu short l fit say = cc
+      copied_says (plain.struct id ts) (plain.struct other us) e (many vs) wt wu short l fit say =
           subst (λ x. S (build (shape_type names (plain.struct id ts)) (copied_parts names ts other us 0 e)) (typed_as names (plain.struct id ts) (many x))) (listed_back vs)
           (says_build p calls s (shape_type names (plain.struct id ts)) (struct (id_name names id) (text_fields names id 0 ts)) (copied_parts names ts other us 0 e) (members_as names ts (listed vs)) (typed (struct (id_name names id) (text_fields names id 0 ts)) (composite (listed vs)))
           (written_is (plain.struct id ts) wt)
-          (parts_say ts us other us 0 e vs (listed vs) wt.2 wu l (members_of us vs fit) say (λ i. ap (nth_of us) (let at : 0 + i ≡ i = omega arith in at)) (λ i. ap (slice_get (listed vs)) (let at : 0 + i ≡ i = omega arith in at)))
+          (parts_say ts us other us 0 e vs (listed vs) wt.2 wu short l (members_of us vs fit) say (λ i. ap (nth_of us) (let at : 0 + i ≡ i = omega arith in at)) (λ i. ap (slice_get (listed vs)) (let at : 0 + i ≡ i = omega arith in at)))
           (struct_made id ts (listed vs) wt.2 (members_of ts vs (all_alike ts us (all_logical ts us l) vs fit))))
-      copied_says (plain.struct id ts) (plain.struct other us) e (word a) wt wu l fit say = cc
-      copied_says (plain.struct id ts) (plain.struct other us) e (truth b) wt wu l fit say = cc
-      copied_says _ _ e v wt wu l fit say = absurd l
+      copied_says (plain.struct id ts) (plain.struct other us) e (word a) wt wu short l fit say = cc
+      copied_says (plain.struct id ts) (plain.struct other us) e (truth b) wt wu short l fit say = cc
+      copied_says _ _ e v wt wu short l fit say = absurd l
 
-      pub parts_say : (ts rest : Trees) (other : ℕ) (us : Trees) (k : ℕ) (e : Expr) (all : ValueTrees) (vs : List ValueTree) → AreWritten p names ts → IsWritten p names (plain.struct other us) → AreLogical ts rest → MembersFit rest vs → S e (typed_as names (plain.struct other us) (many all))
+      pub parts_say : (ts rest : Trees) (other : ℕ) (us : Trees) (k : ℕ) (e : Expr) (all : ValueTrees) (vs : List ValueTree) → AreWritten p names ts → IsWritten p names (plain.struct other us) → AreShort ts → AreLogical ts rest → MembersFit rest vs → S e (typed_as names (plain.struct other us) (many all))
           → ((i : ℕ) → nth_of us (k + i) ≡ nth_of rest i) → ((i : ℕ) → slice_get (listed all) (k + i) ≡ slice_get vs i) → AllSay p calls s (copied_parts names ts other us k e) (members_as names ts vs)
-      parts_say no_trees no_trees other us k e all vs wt wu l fit say trees values = tt
-      parts_say (tree t ts) (tree u rest) other us k e all [] wt wu l fit say trees values = absurd fit
-      parts_say (tree t ts) (tree u rest) other us k e all (v ∷ vs) wt wu l fit say trees values =
+      parts_say no_trees no_trees other us k e all vs wt wu short l fit say trees values = tt
+      parts_say (tree t ts) (tree u rest) other us k e all [] wt wu short l fit say trees values = absurd fit
+      parts_say (tree t ts) (tree u rest) other us k e all (v ∷ vs) wt wu short l fit say trees values =
           let first : k + 0 ≡ k = omega arith in
           let here : nth_of us k ≡ Some u = ap (nth_of us) (sym first) ∙ trees 0 in
           let at : slice_get (listed all) k ≡ Some v = ap (slice_get (listed all)) (sym first) ∙ values 0 in
-          let own : S (copied names t u (member_of names e other k)) (typed_as names t v) = copied_says t u (member_of names e other k) v wt.0 (written_at us k u wu.2 here) l.0 fit.0 (member_says other us e k u (many all) v wu here say at) in (
+          let own : S (copied names t u (member_of names e other k)) (typed_as names t v) = copied_says t u (member_of names e other k) v wt.0 (written_at us k u wu.2 here) short.0 l.0 fit.0 (member_says other us e k u (many all) v wu here say at) in (
             subst (λ x. S (copied names t x (member_of names e other k)) (typed_as names t v)) (sym (nth_is us k u plain.boolean here)) own,
-            parts_say ts rest other us (k + 1) e all vs wt.1 wu l.1 fit.1 say
+            parts_say ts rest other us (k + 1) e all vs wt.1 wu short.1 l.1 fit.1 say
                 (λ i. ap (nth_of us) (let next : k + 1 + i ≡ k + suc i = omega arith in next) ∙ trees (suc i))
                 (λ i. ap (slice_get (listed all)) (let next : k + 1 + i ≡ k + suc i = omega arith in next) ∙ values (suc i)),
           )
-      parts_say no_trees (tree u rest) other us k e all vs wt wu l fit say trees values = absurd l
-      parts_say (tree t ts) no_trees other us k e all vs wt wu l fit say trees values = absurd l
+      parts_say no_trees (tree u rest) other us k e all vs wt wu short l fit say trees values = absurd l
+      parts_say (tree t ts) no_trees other us k e all vs wt wu short l fit say trees values = absurd l

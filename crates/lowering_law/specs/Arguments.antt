@@ -17,7 +17,7 @@ use Rattle.glsl_semantics.specs.Shapes.{Typed}
 use Rattle.glsl_semantics.specs.States.{State}
 use Rattle.glsl_semantics.specs.Expressions.{Program, Argument as Given}
 use Rattle.lowering_law.specs.Says.{Says}
-use Rattle.lowering_law.specs.Written.{IsWritten, typed_as, IsLogical}
+use Rattle.lowering_law.specs.Written.{IsWritten, typed_as, IsShort, IsLogical}
 
 module _ (p : Program) (names : Naming) (calls : Text → List Given → State → Result (Option Typed × State)) (s : State) where
   -- an operand of a shape that stands for a value of it; only of a word the literal is known
@@ -45,7 +45,7 @@ IsBasic plain.uint = Unit {0}
 IsBasic (plain.vector e n) = Unit {0}
 IsBasic _ = ⊥
 
--- what is copied has the type of the result, or is of numbers of another type; OpCopyLogical copies structs of other ids
+-- what is copied has the type of the result, or is of numbers of another type; OpCopyLogical copies structs of other ids, and arrays of them element by element
 abbrev pub IsPlainCopy : Tree → Tree → Type 0
 IsPlainCopy (plain.array t l) a = a ≡ plain.array t l
 IsPlainCopy (plain.struct id ts) a = a ≡ plain.struct id ts
@@ -53,7 +53,7 @@ IsPlainCopy (plain.runtime t) a = ⊥
 IsPlainCopy t a = Alike t a
 
 abbrev pub IsCopy : Bool → Tree → Tree → Type 0
-IsCopy true t a = IsLogical t a
+IsCopy true t a = IsLogical t a × IsShort t
 IsCopy false t a = IsPlainCopy t a
 
 -- The operation is an expression: a vector or a composite with another part is assigned part by part, and an undefined composite has no expression of its own.

@@ -28,11 +28,11 @@ abbrev mutual
 abbrev pub AreMembersApart : Naming → ℕ → Trees → Type 0
 AreMembersApart names id ts = (j k : ℕ) (t : Tree) → j < k → nth_of ts k ≡ Some t → bytes_eq (member_name names id j) (member_name names id k) ≡ false
 
--- The type of a value stands in the text: each struct is declared by its name with its members, which have names apart; a vector has two to four components; and an int leads to each element of an array.
+-- The type of a value stands in the text: each struct is declared by its name with its members, which have names apart; and a vector has two to four components.
 abbrev mutual
   pub IsWritten : Program → Naming → Tree → Type 0
   IsWritten p names (plain.vector e n) = (n ≤ 4) × ((n == 1) ≡ false)
-  IsWritten p names (plain.array t (Fixed n)) = (n ≤ 2 ^ 31) × IsWritten p names t
+  IsWritten p names (plain.array t (Fixed n)) = IsWritten p names t
   IsWritten p names (plain.array t (Spec id)) = ⊥
   IsWritten p names (plain.runtime t) = ⊥
   IsWritten p names (plain.struct id ts) = (p.structs (id_name names id) ≡ Some (text_fields names id 0 ts)) × AreMembersApart names id ts × AreWritten p names ts
@@ -49,6 +49,17 @@ typed_as names t v = typed (text_shape names t) v
 abbrev pub members_as : Naming → Trees → List ValueTree → List Typed
 members_as names (tree t ts) (v ∷ vs) = typed_as names t v ∷ members_as names ts vs
 members_as names _ _ = []
+
+-- no array is so long that an int does not lead to each element
+abbrev mutual
+  pub IsShort : Tree → Type 0
+  IsShort (plain.array t (Fixed n)) = (n ≤ 2 ^ 31) × IsShort t
+  IsShort (plain.struct k ts) = AreShort ts
+  IsShort _ = Unit {0}
+
+  pub AreShort : Trees → Type 0
+  AreShort no_trees = Unit {0}
+  AreShort (tree t ts) = IsShort t × AreShort ts
 
 -- The shapes are one but for the ids of structs, as those of which OpCopyLogical makes a value (SPIR-V 1.6).
 abbrev mutual

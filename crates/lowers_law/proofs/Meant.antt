@@ -92,7 +92,7 @@ module _ (s : Setting) (entry : ℕ) (overrides : List (ℕ × Given)) (found : 
   meant_of _ _ = []
 
   in_text : (t : Tree) → IsTextType t → IsWritten p found t
-  in_text t x = type_written p s (Src s entry overrides found f globals form carried) found t x.0 x.1 x.2
+  in_text t x = type_written p s (Src s entry overrides found f globals form carried) found t x.0 x.1
 
   means : (n : ℕ) (t : Tree) (v : ValueTree) → IsMeant n t v → MeansAs p found calls z (meant n t) t v
   means n t v m = record {

@@ -57,7 +57,7 @@ use Rattle.fits_law.specs.Typed.{HaveShapes, IsTyped}
 use Rattle.type_law.proofs.Operands as numbers_law
 use Rattle.type_law.proofs.Operands.{same_shape_of}
 use Rattle.lowering_law.specs.BuiltIns.{NoneDeclared}
-use Rattle.lowering_law.specs.Written.{IsLogical}
+use Rattle.lowering_law.specs.Written.{IsShort}
 use Rattle.lowering_law.specs.Arguments.{IsBasic, IsPlainCopy, IsCopy, IsExpression}
 use Rattle.lowering_law.proofs.Saying.{read}
 use Rattle.path_law.specs.Parts.{shape_in}
@@ -244,7 +244,7 @@ module _ (s : Setting) (entry : ℕ) (overrides : List (ℕ × Given)) (found : 
 
   abbrev Goal : Op → Type 0
   Goal q = (o : Operation) (us : List Tree) (vs : List ValueTree) → operation_of q (literal_operands q j.args) ≡ Some o → Takes o t (literal_operands q j.args) us → HaveShapes s f (value_operands q j.args) us → Are (value_operands q j.args) us vs
-      → value_of_operation o t (literal_operands q j.args) vs ≡ Some v → is_value_broken s.of Types j (group_of q) ≡ false → is_number_broken Gs Types j (group_of q) ≡ false → (q ≡ code.CopyLogical → OfOne (IsLogical t) us) → IsSaid q
+      → value_of_operation o t (literal_operands q j.args) vs ≡ Some v → is_value_broken s.of Types j (group_of q) ≡ false → is_number_broken Gs Types j (group_of q) ≡ false → (q ≡ code.CopyLogical → OfOne (IsCopy true t) us) → IsSaid q
 
   undefined_says : Goal code.Undef
   unfolding operation_of operation operation_kind_of kind_of group_of
@@ -305,7 +305,7 @@ module _ (s : Setting) (entry : ℕ) (overrides : List (ℕ × Given)) (found : 
       (subst (λ (q : Operation). Takes q t (literal_operands code.CompositeConstruct j.args) us) (sym same) takes) tt are
       (subst (λ (q : Operation). value_of_operation q t (literal_operands code.CompositeConstruct j.args) vs ≡ Some v) (sym same) made))
 
-  logical_text : (args : List ℕ) (us : List Tree) → HaveShapes s f args us → OfOne (IsLogical t) us → as_copied found (unwrap_or (type_tree Gs j.ty) plain.uint) (unwrap_or (type_tree Gs (type_of Wh (slice_index args 0))) plain.uint) (expr (slice_index args 0)) ≡ written found code.CopyLogical op.Copy t [] (Args args us)
+  logical_text : (args : List ℕ) (us : List Tree) → HaveShapes s f args us → OfOne (IsCopy true t) us → as_copied found (unwrap_or (type_tree Gs j.ty) plain.uint) (unwrap_or (type_tree Gs (type_of Wh (slice_index args 0))) plain.uint) (expr (slice_index args 0)) ≡ written found code.CopyLogical op.Copy t [] (Args args us)
   unfolding number
   logical_text (x ∷ []) (a ∷ []) have is =
       ap₂ (λ (q : Option Tree) (r : Option Tree). as_copied found (unwrap_or q plain.uint) (unwrap_or r plain.uint) (expr x)) typed_as (type_is s entry overrides found f globals form carried x a have.0)
@@ -470,21 +470,21 @@ module _ (s : Setting) (entry : ℕ) (overrides : List (ℕ × Given)) (found : 
   abbrev Meant : ℕ → Tree → ValueTree → Type 0
   Meant = IsMeant s entry overrides found f globals form carried p none calls z c expr shape
 
-  -- what OpCopyLogical takes is one but for the ids of structs
-  pub logical_one : (us : List Tree) → HaveShapes s f (value_operands code.CopyLogical j.args) us → OfOne (Alike t) us → ((a : Tree) → value_shape s f (slice_index j.args 0) ≡ Some a → IsLogical t a) → OfOne (IsLogical t) us
+  -- what OpCopyLogical takes, by what it takes one by one
+  pub logical_one : (us : List Tree) → HaveShapes s f (value_operands code.CopyLogical j.args) us → OfOne (Alike t) us → ((a : Tree) → value_shape s f (slice_index j.args 0) ≡ Some a → IsCopy true t a) → OfOne (IsCopy true t) us
   logical_one us have takes each = by_args j.args us have takes each
     where
-      by_args : (args : List ℕ) (us : List Tree) → HaveShapes s f args us → OfOne (Alike t) us → ((a : Tree) → value_shape s f (slice_index args 0) ≡ Some a → IsLogical t a) → OfOne (IsLogical t) us
+      by_args : (args : List ℕ) (us : List Tree) → HaveShapes s f args us → OfOne (Alike t) us → ((a : Tree) → value_shape s f (slice_index args 0) ≡ Some a → IsCopy true t a) → OfOne (IsCopy true t) us
       by_args (x ∷ args) (a ∷ []) have takes each = each a have.0
       by_args [] (a ∷ us) have takes each = absurd have
       by_args args [] have takes each = absurd takes
       by_args args (a ∷ b ∷ us) have takes each = absurd takes
 
-  -- The law: of an operation that is not always named, where the expressions of its operands say theirs.
-  pub operation_says : (entry_of : Option (List ℕ)) (right : IsConforming s.of entry_of) (in_it : Contains s.of.functions f) (there : IsAmong j (insts_of f)) → is_always_named j.op ≡ false → IsTyped s f j steps.operation
+  -- The law: of an operation that is not always named, where the expressions of its operands say theirs; what OpCopyLogical gives has no array too long for an int.
+  pub operation_says : (entry_of : Option (List ℕ)) (right : IsConforming s.of entry_of) (in_it : Contains s.of.functions f) (there : IsAmong j (insts_of f)) → is_always_named j.op ≡ false → (j.op ≡ code.CopyLogical → IsShort t) → IsTyped s f j steps.operation
       → ((n : ℕ) → In n (value_operands j.op j.args) → (u : Tree) → value_shape s f n ≡ Some u → (w : ValueTree) → value_at s c n ≡ Some w → Meant n u w)
       → computed s c j ≡ Some v → Says (expression Wh expr block j) (typed T v)
-  operation_says entry_of right in_it there named typed_so known made =
+  operation_says entry_of right in_it there named short typed_so known made =
       let of_values = sym (ap (option_and_then (λ (q : Tree). option_and_then (op_value j.op q (literal_operands j.op j.args)) (values_at s c (value_operands j.op j.args)))) typed_as) ∙ made in
       let vs = some_part (op_value j.op t (literal_operands j.op j.args)) (values_at s c (value_operands j.op j.args)) v of_values in
       let o = some_part (λ (q : Operation). value_of_operation q t (literal_operands j.op j.args) vs.0) (operation_of j.op (literal_operands j.op j.args)) v vs.2 in
@@ -492,12 +492,12 @@ module _ (s : Setting) (entry : ℕ) (overrides : List (ℕ × Given)) (found : 
       goal_by j.op (view j.op (literal_operands j.op j.args) o.0 named o.1) o.0 is.shapes vs.0 o.1 is.takes is.have
       (are_meant s entry overrides found f globals form carried p none calls z c expr shape (value_operands j.op j.args) is.shapes vs.0 known is.have vs.1) o.2
       (value_right s.of entry_of right f in_it j there) (number_right s.of entry_of right f in_it j there)
-      (λ same. logical_at j.op same o.0 is.shapes o.1 is.takes is.have (λ a value. copied_logical s entry_of right f in_it j there same t a typed_as value))
+      (λ same. logical_at j.op same o.0 is.shapes o.1 is.takes is.have (λ a value. (copied_logical s entry_of right f in_it j there same t a typed_as value, short same)))
     where
       copied_takes : (o : Operation) (us : List Tree) → operation_of code.CopyLogical (literal_operands code.CopyLogical j.args) ≡ Some o → Takes o t (literal_operands code.CopyLogical j.args) us → OfOne (Alike t) us
       copied_takes o us at takes = subst (λ (q : Operation). Takes q t (literal_operands code.CopyLogical j.args) us) (copy_operation (literal_operands code.CopyLogical j.args) o at) takes
 
-      logical_at : (q : Op) → q ≡ code.CopyLogical → (o : Operation) (us : List Tree) → operation_of q (literal_operands q j.args) ≡ Some o → Takes o t (literal_operands q j.args) us → HaveShapes s f (value_operands q j.args) us → ((a : Tree) → value_shape s f (slice_index j.args 0) ≡ Some a → IsLogical t a) → OfOne (IsLogical t) us
+      logical_at : (q : Op) → q ≡ code.CopyLogical → (o : Operation) (us : List Tree) → operation_of q (literal_operands q j.args) ≡ Some o → Takes o t (literal_operands q j.args) us → HaveShapes s f (value_operands q j.args) us → ((a : Tree) → value_shape s f (slice_index j.args 0) ≡ Some a → IsCopy true t a) → OfOne (IsCopy true t) us
       logical_at q same o us at takes have each =
           logical_one us (subst (λ (r : Op). HaveShapes s f (value_operands r j.args) us) same have)
           (copied_takes o us (subst (λ (r : Op). operation_of r (literal_operands r j.args) ≡ Some o) same at) (subst (λ (r : Op). Takes o t (literal_operands r j.args) us) same takes)) each

@@ -23,7 +23,7 @@ use Rattle.module_semantics.specs.Memory as module_memory
 use Rattle.name_alloc.specs.declared.claims.Key.{Key}
 use Rattle.name_alloc.specs.declared.claims.Key.TheVariants.{Id, Member}
 use Rattle.glsl_ast.specs.Tree as ast
-use Rattle.glsl_ast.specs.Tree.{Text, Expr, TypeName, type_name, Extent, LStep}
+use Rattle.glsl_ast.specs.Tree.{Text, Expr, TypeName, type_name, Extent}
 use Rattle.glsl_ast.specs.declared.expressions.Literal.TheVariants as literals
 use Rattle.glsl_semantics.specs.Expressions.{Program}
 use Rattle.vec_lowering.specs.Named.{text_or_none, shape_type, array_of}
@@ -47,7 +47,6 @@ use Rattle.path_law.proofs.Bytes.{declared_by}
 use Rattle.path_law.proofs.Types.{op_of, declared_as}
 use Rattle.global_law.proofs.Declared.{outline_same}
 use Rattle.global_law.proofs.Zeros.{HasZero}
-use Rattle.constant_law.specs.Items.{IsShort}
 
 -- scalars and vectors
 pub of_basic : (t : Tree) → IsBasic t → basic_of (Some t) ≡ t
@@ -114,9 +113,9 @@ module _ (s : Setting) (entry : ℕ) (overrides : List (ℕ × Given)) (found : 
   abbrev Gs : List Inst
   Gs = s.of.globals
 
-  -- a type whose name stands for it in the text: its structs are declared, with members apart, and an int leads to each element of its arrays
+  -- a type whose name stands for it in the text: its structs are declared, with members apart
   abbrev pub IsText : Program → Tree → Type 0
-  IsText p t = HasZero p s Src (text_of found) t × IsShort t × HasMembersApart (struct_names (text_of found)) t
+  IsText p t = HasZero p s Src (text_of found) t × HasMembersApart (struct_names (text_of found)) t
 
   -- the type of a value
   pub type_is : (n : ℕ) (t : Tree) → value_shape s f n ≡ Some t → type_tree Gs (type_of W n) ≡ Some t

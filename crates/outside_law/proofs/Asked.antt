@@ -1,7 +1,6 @@
 -- An accepted module, and the names of its text, are as the laws of constants ask.
 use Rattle.std.proofs.Common.{◌≡◌, ℕ, List, Option, Some, None, refl}
 use Rattle.std.specs.Prelude.{IsSomeAnd}
-use Rattle.std.proofs.lemmas.Bool.{and_parts}
 use Rattle.spv_module.specs.State.{ModuleState}
 use Rattle.spv_module.specs.declared.inst.Inst.{Inst}
 use Rattle.spv_decor.specs.Rows.{word}
@@ -13,7 +12,6 @@ use Rattle.traces.specs.Invocations.{Invocation, IsInvocation}
 use Rattle.module_semantics.specs.Setting.{Setting}
 use Rattle.name_alloc.specs.declared.claims.Key.{Key}
 use Rattle.glsl_ast.specs.Tree.{Text, TranslationUnit}
-use Rattle.text_rules.specs.Constants.{is_constant}
 use Rattle.text_rules.specs.Printed.{Reached}
 use Rattle.text_rules.specs.Claims.{claims}
 use Rattle.unit_rules.specs.Unit.{source_of, IsUnitOf}
@@ -29,7 +27,6 @@ use Rattle.item_law.proofs.Named.{have_names, constant_members}
 use Rattle.naming_law.proofs.Keys.{S, found as names_found, R}
 use Rattle.outside_law.specs.Left.{IsLeftOfGlobals}
 use Rattle.outside_law.proofs.OfWords.{setting_of_bytes}
-use Rattle.outside_law.proofs.Short.{constants_short}
 
 module _ (bytes : List ℕ) (m : ModuleState) (o : Options) (read : IsReadFrom bytes m) (fine : IsFine m o) (unit : TranslationUnit) (u : IsUnitOf m o unit) (inv : Invocation) (told : IsInvocation inv) (left : IsLeftOfGlobals bytes m o u.entry inv) where
   abbrev s : Setting
@@ -67,6 +64,5 @@ module _ (bytes : List ℕ) (m : ModuleState) (o : Options) (read : IsReadFrom b
         spec_ids = spec_ids_are s o.entry right o.overrides left.decorated.0;
         sizes = sizes_conform s o.entry right o.overrides e.0 e.1 e.2;
         lengths = left.lengths;
-        short = λ g t v there on has shape. constants_short s o.entry right (chosen s o.overrides) have fine.later.leaves g t v there (and_parts (is_constant g) _ on).0 has shape;
         members = constant_members s o.entry right o.overrides found r (Plans m o unit u) u.lawful claimed;
       }

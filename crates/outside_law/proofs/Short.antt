@@ -1,54 +1,47 @@
--- No array in the type of a constant with a value is so long that an int does not lead to each of its elements: by the limit on scalars, which counts those of each constant that may be a composite.
+-- No array in what OpCopyLogical gives is so long that an int does not lead to each of its elements: by the limit on scalars, which counts those of its result.
 use Rattle.std.proofs.Common.{◌≡◌, ◌⊎◌, ◌<◌, ◌≤◌, ◌+◌, ◌*◌, ◌^◌, ◌==◌, ◌&&◌, ℕ, zero, suc, Bool, true, false, List, [], ◌∷◌, length, not, Option, Some, None, inl, inr, refl, sym, ap, ◌∙◌, subst, if◌then◌else◌, arith}
-use Rattle.std.specs.Prelude.{nat_le, nat_lt, option_map, slice_index, sum_by, fold}
+use Rattle.std.specs.Prelude.{nat_le, nat_lt, option_map, slice_index, sum_by, fold, flat_map, Contains}
 use Rattle.std.specs.Option.{option_map_or}
 use Rattle.std.specs.List.{list_any}
 use Rattle.std.proofs.lemmas.Bool.Decides.{eqb_tells, nat_tests}
-use Rattle.std.proofs.lemmas.List.Sums.{sum_by-cons}
+use Rattle.std.proofs.lemmas.List.Sums.{sum_by-cons, sum_by-append, get_or-le-sum_by}
 use Rattle.spv_words.specs.declared.rule.Limit.TheVariants.{Leaves}
 use Rattle.spv_words.specs.Limit.{limit_number}
 use Rattle.spv_ops.specs.Opcode.{is, number}
-use Rattle.spv_ops.specs.Groups.{is_constant as is_constant_op, is_specialization}
+use Rattle.spv_ops.specs.Groups.{is_specialization}
 use Rattle.spv_ops.specs.declared.Op.{Op}
 use Rattle.spv_ops.specs.declared.Op.TheVariants as code
 use Rattle.spv_module.specs.Held.{global}
 use Rattle.spv_module.specs.State.{ModuleState}
 use Rattle.spv_module.specs.declared.inst.Inst.{Inst}
+use Rattle.spv_module.specs.declared.inst.Block.{Block}
+use Rattle.spv_module.specs.declared.inst.Function.{Function}
 use Rattle.spv_module.specs.declared.tree.Elem.{Elem}
 use Rattle.spv_module.specs.declared.tree.Length.{Length}
 use Rattle.spv_module.specs.declared.tree.Length.TheVariants.{Fixed, Spec}
 use Rattle.spv_types.specs.declared.kind.TypeKind.{TypeKind}
 use Rattle.spv_types.specs.declared.kind.TypeKind.TheVariants as type_kinds
 use Rattle.spv_types.specs.Tree as plain
-use Rattle.spv_types.specs.Tree.{Tree, Trees, no_trees, tree, ValueTree}
+use Rattle.spv_types.specs.Tree.{Tree, Trees, no_trees, tree}
 use Rattle.spv_types.specs.Types.{kind, elem_of, sized_vector, vector_tree, length_of, length_by, array_tree, both, all_trees, tree_by_kind, tree_before, tree_at, type_tree, earlier}
 use Rattle.spv_types.specs.Leaves.{IsSized, AreSized}
 use Rattle.spv_types.proofs.Below.{tree_before_is}
-use Rattle.spv_index.specs.Pointers.{pointee}
-use Rattle.spv_decor.specs.Decorations.{local_insts}
+use Rattle.spv_index.specs.Locals.{insts_of}
 use Rattle.spv_decor.specs.Rows.{word}
-use Rattle.profile_rules.specs.Leaves.{said_with, constant_length, leaves_by_kind, leaves_step, type_leaves, is_composite_kind, is_composite, is_own_variable, may_be_composite, inst_leaves, leaves_of_module}
+use Rattle.profile_rules.specs.Leaves.{said_with, constant_length, leaves_by_kind, leaves_step, type_leaves, inst_leaves, function_leaves, leaves_of_module}
 use Rattle.profile_rules.specs.Places.{is_defined_elsewhere}
 use Rattle.profile_rules.specs.TypeForm.{is_no_data, parts_of, is_signed, is_above_zero, is_workgroup_length, is_length, is_other_int, is_other_vector, is_other_array, is_empty_struct}
-use Rattle.profile_rules.specs.declared.constant.ConstantKind.{ConstantKind}
-use Rattle.profile_rules.specs.declared.constant.ConstantKind.TheVariants as kinds
-use Rattle.profile_rules.specs.Constants.{constant_kind, value_by_kind}
 use Rattle.module_semantics.specs.Setting.{Setting}
-use Rattle.text_rules.specs.Constants.{is_scalar}
 use Rattle.plan_law.specs.InOrder.{IsAmong, AreRising}
-use Rattle.plan_law.proofs.Order.{among_left as inst_left}
 use Rattle.fits_law.proofs.Steps.{named}
 use Rattle.type_law.proofs.Vectors.{five_off}
-use Rattle.type_law.specs.Shaped.{HasConstants}
 use Rattle.typed_law.specs.Conforms.{IsConforming}
 use Rattle.typed_law.proofs.Lists.{and_left, and_off, not_off, same_some, found_in, earlier_some}
 use Rattle.typed_law.proofs.Rules.{formed_type}
 use Rattle.typed_law.proofs.Sized.{rising_low}
-use Rattle.typed_law.proofs.Used.{global_found, used_sized}
-use Rattle.constant_law.specs.Items.{IsShort, AreShort}
-use Rattle.constant_law.proofs.Valued.{IsValued, valued}
-use Rattle.constant_law.proofs.Within.{constant_no_variable}
-use Rattle.constant_law.proofs.Standing.{IsSingle, scalar_fit}
+use Rattle.typed_law.proofs.Used.{global_found}
+use Rattle.typed_law.proofs.Values.{value_sized, own_type, shaped_some}
+use Rattle.lowering_law.specs.Written.{IsShort, AreShort}
 
 none_some : {A B : Type 0} {a : A} → None ≡ Some a → B
 none_some e = cc
@@ -88,59 +81,6 @@ struct_op : (o : Op) → kind o ≡ type_kinds.Struct → is o code.TypeStruct �
 unfolding kind number
 struct_op code.TypeStruct e = refl
 struct_op o e = cc
-
--- a constant that is no composite is a scalar
-abbrev IsScalarKind : ConstantKind → Type 0
-IsScalarKind kinds.True = Unit {0}
-IsScalarKind kinds.False = Unit {0}
-IsScalarKind kinds.Word = Unit {0}
-IsScalarKind kinds.SpecTrue = Unit {0}
-IsScalarKind kinds.SpecFalse = Unit {0}
-IsScalarKind kinds.SpecWord = Unit {0}
-IsScalarKind _ = ⊥
-
-kind_of_constant : (o : Op) → is_constant_op o ≡ true → (may_be_composite o ≡ true) ⊎ IsScalarKind (constant_kind o)
-unfolding constant_kind
-kind_of_constant code.ConstantTrue on = inr tt
-kind_of_constant code.ConstantFalse on = inr tt
-kind_of_constant code.Constant on = inr tt
-kind_of_constant code.ConstantComposite on = inl refl
-kind_of_constant code.SpecConstantComposite on = inl refl
-kind_of_constant code.ConstantNull on = inl refl
-kind_of_constant code.Undef on = inl refl
-kind_of_constant code.SpecConstantTrue on = inr tt
-kind_of_constant code.SpecConstantFalse on = inr tt
-kind_of_constant code.SpecConstant on = inr tt
-kind_of_constant code.SpecConstantOp on = inl refl
-kind_of_constant o on = cc
-
-single_value : (k : ConstantKind) (from : ℕ → Option ValueTree) (c : Option ℕ) (t : Tree) (args : List ℕ) (v : ValueTree) → IsScalarKind k → value_by_kind from c t args k ≡ Some v → IsSingle v
-single_value kinds.True from c t args v on e = subst IsSingle (same_some _ v e) tt
-single_value kinds.False from c t args v on e = subst IsSingle (same_some _ v e) tt
-single_value kinds.Word from c t args v on e = subst IsSingle (same_some _ v e) tt
-single_value kinds.SpecTrue from c t args v on e = subst IsSingle (same_some _ v e) tt
-single_value kinds.SpecFalse from c t args v on e = subst IsSingle (same_some _ v e) tt
-single_value kinds.SpecWord from c t args v on e = subst IsSingle (same_some _ v e) tt
-single_value kinds.Composite from c t args v on e = absurd on
-single_value kinds.Zero from c t args v on e = absurd on
-single_value kinds.Operation from c t args v on e = absurd on
-single_value kinds.Other from c t args v on e = absurd on
-
--- a type of another kind has no array in it
-plain_short : (gs : List Inst) (f : ℕ → Option Tree) (h : Inst) (k : TypeKind) (t : Tree) → tree_by_kind gs f h k ≡ Some t → (is_composite_kind k ≡ true) ⊎ IsShort t
-plain_short gs f h type_kinds.Bool t e = inr (subst IsShort (same_some plain.boolean t e) tt)
-plain_short gs f h type_kinds.Int t e = inr (by_width (slice_index h.args 0 == 32) (slice_index h.args 1 == 0) (slice_index h.args 1 == 1) e)
-  where
-    by_width : (w a b : Bool) → (if w then (if a then Some plain.uint else (if b then Some plain.int else None)) else None) ≡ Some t → IsShort t
-    by_width true true b e = subst IsShort (same_some plain.uint t e) tt
-    by_width true false true e = subst IsShort (same_some plain.int t e) tt
-    by_width true false false e = none_some e
-    by_width false a b e = none_some e
-plain_short gs f h type_kinds.Vector t e = inl refl
-plain_short gs f h type_kinds.Array t e = inl refl
-plain_short gs f h type_kinds.Runtime t e = inl refl
-plain_short gs f h type_kinds.Struct t e = inl refl
-plain_short gs f h type_kinds.Other t e = none_some e
 
 -- what is told of ids, one instruction after another: of an id that no instruction behind has, what was told before
 module _ (step : (ℕ → ℕ) → Inst → ℕ) where
@@ -346,53 +286,35 @@ module _ (m : ModuleState) (entry : Option (List ℕ)) (right : IsConforming m e
   few_by zero g there less t e sized = absurd (omega (arith, less))
   few_by (suc n) g there less t e sized = by_kind g there (λ h among before u whole of_it. few_by n h among (let low : h.at < n = omega (arith, less, before) in low) u whole of_it) (kind g.op) refl t sized e
 
-  -- the scalars of a constant that may be a composite are counted
-  type_few : leaves_of_module m ≤ limit_number Leaves → (g h : Inst) → IsAmong g Gs → may_be_composite g.op ≡ true → global Gs g.ty ≡ Some h → is_composite_kind (kind h.op) ≡ true → L g.ty ≤ 2 ^ 31
-  type_few few g h there on at composite =
-      let here : inst_leaves Gs L g ≡ L g.ty = ap (λ (b : Bool). if b then (if is_composite Gs g.ty then L g.ty else 0) else (if is_own_variable g then option_map_or L (pointee Gs g.ty) 0 else (if is g.op code.CopyLogical then L g.ty else 0))) on ∙ ap (λ (b : Bool). if b then L g.ty else 0) (ap (λ o. option_map_or (λ (x : Inst). is_composite_kind (kind x.op)) o false) at ∙ composite) in
-      let one = one_in (inst_leaves Gs L) Gs g there in
-      omega (arith, here, one, few)
+-- the scalars of all instructions of a function are those of its blocks
+blocks_sum : (f : Inst → ℕ) (bs : List Block) → sum_by f (flat_map (λ (b : Block). b.insts) bs) ≡ sum_by (λ (b : Block). sum_by f b.insts) bs
+blocks_sum f [] = refl
+blocks_sum f (b ∷ bs) = sum_by-append f b.insts (flat_map (λ (c : Block). c.insts) bs) ∙ ap (λ n. sum_by f b.insts + n) (blocks_sum f bs) ∙ sym (sum_by-cons (λ (c : Block). sum_by f c.insts) b bs)
 
-module _ (s : Setting) (entry : Option (List ℕ)) (right : IsConforming s.of entry) (chosen : ℕ → Option ℕ) (have : HasConstants s chosen) (few : leaves_of_module s.of ≤ limit_number Leaves) where
-  abbrev Gs' : List Inst
-  Gs' = s.of.globals
+-- OpCopyLogical counts those of its result
+copied_leaves : (gs : List Inst) (leaves : ℕ → ℕ) (j : Inst) → j.op ≡ code.CopyLogical → inst_leaves gs leaves j ≡ leaves j.ty
+unfolding number
+copied_leaves gs leaves j copies = subst (λ (o : Op). inst_leaves gs leaves (record j { op = o }) ≡ leaves j.ty) (sym copies) refl
 
-  pub constants_short : (g : Inst) (t : Tree) (v : ValueTree) → IsAmong g s.of.globals → is_constant_op g.op ≡ true → s.constants g.result ≡ Some v → type_tree s.of.globals g.ty ≡ Some t → IsShort t
-  constants_short g t v there on has shape = elim (kind_of_constant g.op on) [ inl composite ↦ by_type (global Gs' g.ty) refl composite shape | inr scalar ↦ by_value scalar ]
+module _ (s : Setting) (entry : Option (List ℕ)) (right : IsConforming s.of entry) (few : leaves_of_module s.of ≤ limit_number Leaves) where
+  abbrev Globals : List Inst
+  Globals = s.of.globals
+
+  pub copies_short : (f : Function) (in_it : Contains s.of.functions f) (j : Inst) → IsAmong j (insts_of f) → j.op ≡ code.CopyLogical → (t : Tree) → type_tree s.of.globals j.ty ≡ Some t → IsShort t
+  copies_short f in_it j there copies t shape = by_type (global Globals j.ty) refl shape
     where
-      w : IsValued s chosen have right.results right.rising g.result v
-      w = valued s chosen have right.results right.rising g.result v has
-
-      same : w.inst ≡ g
-      same = same_some w.inst g (sym w.there ∙ global_found s.of entry right g there)
-
-      shape_same : w.shape ≡ t
-      shape_same = same_some w.shape t (sym w.typed_as ∙ ap (λ (x : Inst). type_tree Gs' x.ty) same ∙ shape)
-
-      scalar_short : (u : Tree) → is_scalar u ≡ true → IsShort u
-      scalar_short plain.boolean on = tt
-      scalar_short plain.int on = tt
-      scalar_short plain.uint on = tt
-      scalar_short (plain.vector d n) on = tt
-      scalar_short (plain.array u l) on = cc
-      scalar_short (plain.runtime u) on = cc
-      scalar_short (plain.struct k ts) on = cc
-
-      by_value : IsScalarKind (constant_kind g.op) → IsShort t
-      by_value scalar =
-          scalar_short t
-          (subst (λ u. is_scalar u ≡ true) shape_same
-          (scalar_fit w.shape v (single_value (constant_kind w.inst.op) w.from (chosen w.inst.result) w.shape w.inst.args v (subst (λ (x : Inst). IsScalarKind (constant_kind x.op)) (sym same) scalar) w.made) w.fit))
-
       sized : IsSized t
-      sized = used_sized s.of entry right g (inst_left g Gs' (local_insts s.of) there) (constant_no_variable g.op on) t shape
+      sized = value_sized s entry right f in_it j.result j.ty (own_type s entry right f in_it j there (shaped_some s entry right f in_it j.ty t shape)) t shape
 
-      by_type : (o : Option Inst) → global Gs' g.ty ≡ o → may_be_composite g.op ≡ true → option_map_or (tree_at Gs') o None ≡ Some t → IsShort t
-      by_type None at composite e = none_some e
-      by_type (Some h) at composite e = elim (plain_short Gs' (tree_before Gs' h.at) h (kind h.op) t e) [
-        | inl arrays ↦
-            let among = found_in Gs' g.ty h at in
-            let low = type_few s.of entry right few g h there composite at arrays in
-            (few_by s.of entry right (suc h.at) h among (let less : h.at < suc h.at = omega arith in less) t e sized (subst (λ n. type_leaves Gs' n ≤ 2 ^ 31) (sym (named Gs' g.ty h at)) low)).0
-        | inr short ↦ short
-      ]
+      low : type_leaves Globals j.ty ≤ 2 ^ 31
+      low =
+          let leaves : Inst → ℕ = inst_leaves Globals (type_leaves Globals) in
+          let own = copied_leaves Globals (type_leaves Globals) j copies in
+          let one = one_in leaves (insts_of f) j there in
+          let blocks = blocks_sum leaves f.blocks in
+          let functions = subst (λ g. function_leaves Globals (type_leaves Globals) g ≤ sum_by (function_leaves Globals (type_leaves Globals)) s.of.functions) in_it.2 (get_or-le-sum_by (function_leaves Globals (type_leaves Globals)) s.of.functions in_it.0 f in_it.1) in
+          omega (arith, own, one, blocks, functions, few)
+
+      by_type : (o : Option Inst) → global Globals j.ty ≡ o → option_map_or (tree_at Globals) o None ≡ Some t → IsShort t
+      by_type None at e = none_some e
+      by_type (Some h) at e = (few_by s.of entry right (suc h.at) h (found_in Globals j.ty h at) (let less : h.at < suc h.at = omega arith in less) t e sized (subst (λ n. type_leaves Globals n ≤ 2 ^ 31) (sym (named Globals j.ty h at)) low)).0

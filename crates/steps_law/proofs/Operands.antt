@@ -60,7 +60,6 @@ use Rattle.written_law.proofs.NamesOf.{names_are}
 use Rattle.written_law.proofs.Says.{IsReady, ready_says}
 use Rattle.written_law.proofs.Shapes.{value_has, has_shape}
 use Rattle.insts_law.proofs.New.{split_behind, stands_in, stands_among, no_phi}
-use Rattle.values_law.proofs.Ends.{AreShortIn}
 use Rattle.values_law.proofs.Values.{left_of_values}
 
 module _ (bytes : List ℕ) (m : ModuleState) (o : Options) (read : IsReadFrom bytes m) (fine : IsFine m o) (unit : TranslationUnit) (u : IsUnitOf m o unit) (inv : Invocation) (told : IsInvocation inv) (left : IsLeftOfGlobals bytes m o u.entry inv)
@@ -136,7 +135,7 @@ module _ (bytes : List ℕ) (m : ModuleState) (o : Options) (read : IsReadFrom b
 
     -- where states fit
     module _ (calls : Text → List Argument → State → Result (Option Typed × State)) (Holds : Function → Conf → Type 0) (fitting : (g : Function) (c : Conf) → Holds g c → ConfFits s c) (low : (g : Function) (c : Conf) → Holds g c → IsStateOfWords c) (suits : ModuleFits s) (words : IsSettingOfWords s)
-        (typed_so : (j : Inst) → IsIn j (insts_of Fn) → IsTyped s Fn j (step_kind j.op)) (short : AreShortIn bytes m o read fine unit u inv told left right kinds p among lends one calls Holds) where
+        (typed_so : (j : Inst) → IsIn j (insts_of Fn) → IsTyped s Fn j (step_kind j.op)) where
       -- an operand that is a value says it
       abbrev pub SayOperands : Scope → Type 0
       SayOperands v = (form : IsFormedFunction v.setting.function) (b : ℕ) (body : Body v.setting.function b) → reached_body v.setting.function form b ≡ Some body → (done befores : List Inst) (i : Inst) (rest : List Inst) → body.insts ≡ befores ++ i ∷ rest → ((j : Inst) → IsOf j befores → IsOf j done) → IsKeptBy v i
@@ -150,7 +149,7 @@ module _ (bytes : List ℕ) (m : ModuleState) (o : Options) (read : IsReadFrom b
           let formed = form.blocks b body.block body.there in
           let split_so = split_behind m Fn in_it.order in_it.formed inner b body formed befores i rest split in
           ready_says s o.entry right kinds o unit u p among lends b one P calls N (names_are m o right kinds unit u inv p among lends b) (Holds Fn) done c z stands body formed befores i (rest ++ body.last ∷ []) split_so all
-          (left_of_values bytes m o read fine unit u inv told left right kinds p among lends b one calls (names_are m o right kinds unit u inv p among lends b) (Holds Fn) (fitting Fn) done c z stands body formed befores i (rest ++ body.last ∷ []) split_so all suits words (low Fn c.at stands.holds) typed_so (short b))
+          (left_of_values bytes m o read fine unit u inv told left right kinds p among lends b one calls (names_are m o right kinds unit u inv p among lends b) (Holds Fn) (fitting Fn) done c z stands body formed befores i (rest ++ body.last ∷ []) split_so all suits words (low Fn c.at stands.holds) typed_so)
           n (ready form b body has befores i rest split kept k n word names_id value_is shape.0 shape.1) x has_it
 
       -- the law

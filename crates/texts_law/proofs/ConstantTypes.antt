@@ -74,9 +74,9 @@ module _ (bytes : List ℕ) (m : ModuleState) (o : Options) (read : IsReadFrom b
   IsText = IsTextType bytes m o read fine unit u inv told left p planned
 
   scalar_text : (t : Tree) → is_scalar t ≡ true → IsText t
-  scalar_text plain.boolean on = (tt, tt, tt)
-  scalar_text plain.int on = (tt, tt, tt)
-  scalar_text plain.uint on = (tt, tt, tt)
+  scalar_text plain.boolean on = (tt, tt)
+  scalar_text plain.int on = (tt, tt)
+  scalar_text plain.uint on = (tt, tt)
   scalar_text (plain.vector e n) on = cc
   scalar_text (plain.array t l) on = cc
   scalar_text (plain.runtime t) on = cc
@@ -108,10 +108,10 @@ module _ (bytes : List ℕ) (m : ModuleState) (o : Options) (read : IsReadFrom b
     by_reading Plain reads = let c = plain_is s o.overrides it.inst reads in scalar_text it.shape (subst (λ (t : Tree). is_scalar t ≡ true) (same_type c.shape c.typed_as) c.scalar)
     by_reading GroupSize reads =
         let c = size_has s o.overrides asked.have asked.right.results asked.right.rising asked.spec_ids asked.sizes it.inst v among own (size_reading src it.inst reads) own_has in
-        subst IsText (same_type (plain.vector elem.Uint 3) c.0) (inr (inl refl), tt, tt)
+        subst IsText (same_type (plain.vector elem.Uint 3) c.0) (inr (inl refl), tt)
     by_reading (GroupSizePart axis) reads =
         let c = part_is_of s o.overrides asked.have asked.right.results asked.right.rising asked.spec_ids asked.sizes it.inst axis v own own_has (part_reading src it.inst axis reads) in
-        subst IsText (same_type plain.uint c.typed_as) (tt, tt, tt)
+        subst IsText (same_type plain.uint c.typed_as) (tt, tt)
     by_reading Named reads =
         let needed : is_needed src r it.inst.result ≡ true = subst (λ (k : ℕ). is_needed src r k ≡ true) (sym itself) (mentioned_needed s o.entry o.overrides found r asked fs functions n mentioned) in
         let declared : is_declared_constant src r it.inst ≡ true = declared_by s o.entry o.overrides found r asked it.inst constant reads needed in
@@ -119,7 +119,6 @@ module _ (bytes : List ℕ) (m : ModuleState) (o : Options) (read : IsReadFrom b
         let held : (j : ℕ) → has_struct j it.shape ≡ true → IsHeld s o.entry asked.right o.overrides r j =
         λ j on. held_by s o.entry asked.right o.overrides r it.inst j among (or_on_right (is_written_variable r it.inst) (is_declared_constant src r it.inst) declared) (own_type s o.entry asked.right o.overrides r it.inst.ty j it.shape it.typed_as on) in (
           zero_declared s o.entry o.overrides found r asked fs functions it.inst.at it.shape (constant_within m o.entry asked.right it.inst it.shape among constant it.typed_as) sized held,
-          asked.short it.inst it.shape v among declared own_has it.typed_as,
           asked.members it.inst it.shape among declared it.typed_as,
         )
 

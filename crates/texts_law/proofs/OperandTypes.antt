@@ -36,7 +36,6 @@ use Rattle.typed_law.specs.Conforms.{IsConforming, IsParameter}
 use Rattle.typed_law.proofs.Lists.{and_left, same_some, some_part}
 use Rattle.typed_law.proofs.Types.{pointee_shaped}
 use Rattle.typed_law.proofs.Values.{local_row, shaped_some, variable_type_is}
-use Rattle.constant_law.specs.Items.{IsShort}
 use Rattle.constant_law.proofs.Written.{no_pointee}
 use Rattle.structure_rules.specs.declared.graph.Node.{Node}
 use Rattle.function_plan.specs.Planned.{is_reached_node}
@@ -121,7 +120,7 @@ module _ (bytes : List ℕ) (m : ModuleState) (o : Options) (read : IsReadFrom b
           no_some q.0 (sym (no_pointee Gs j.ty t shaped) ∙ q.2)
 
   -- what is mentioned in the block and made by an instruction
-  module _ (b n : ℕ) (v : IsValueIn Where Marks b n) (j : Inst) (made : inst_in Fn n ≡ Some j) (some : j.ty ≡ 0 → ⊥) (t : Tree) (shaped : type_tree Gs j.ty ≡ Some t) (far : IsBasic t → ⊥) (short : IsShort t) where
+  module _ (b n : ℕ) (v : IsValueIn Where Marks b n) (j : Inst) (made : inst_in Fn n ≡ Some j) (some : j.ty ≡ 0 → ⊥) (t : Tree) (shaped : type_tree Gs j.ty ≡ Some t) (far : IsBasic t → ⊥) where
     abbrev counts : CountsIn s o.entry right kinds o unit u p planned b v.user n v.mentioned b
     counts = counts_here s o.entry right kinds o unit u p planned b v.user n v.mentioned v.no_phi
 
@@ -144,37 +143,37 @@ module _ (bytes : List ℕ) (m : ModuleState) (o : Options) (read : IsReadFrom b
     reached here = reached_nth p.graph place.0 ∙ reached_here s o.entry right kinds o unit u p planned b n v.user j v.mentioned b counts made some (shaped_value Gs j.ty t shaped) here
 
     by_stands : Stands (Where.form n) place.0 b → IsText t
-    by_stands (inl top) = top_text bytes m o read fine unit u inv told left p planned j there (no_variable j it.0 some t shaped) t shaped short of_it (form_is Hoisted top) (composite_is j.ty t shaped far)
-    by_stands (inr (inl form, here)) = live_text bytes m o read fine unit u inv told left p planned j there (no_variable j it.0 some t shaped) t shaped short of_it (reached here) (ap is_gone (form_is Local form))
-    by_stands (inr (inr form, here)) = live_text bytes m o read fine unit u inv told left p planned j there (no_variable j it.0 some t shaped) t shaped short of_it (reached here) (ap is_gone (form_is Forwarded form))
+    by_stands (inl top) = top_text bytes m o read fine unit u inv told left p planned j there (no_variable j it.0 some t shaped) t shaped of_it (form_is Hoisted top) (composite_is j.ty t shaped far)
+    by_stands (inr (inl form, here)) = live_text bytes m o read fine unit u inv told left p planned j there (no_variable j it.0 some t shaped) t shaped of_it (reached here) (ap is_gone (form_is Local form))
+    by_stands (inr (inr form, here)) = live_text bytes m o read fine unit u inv told left p planned j there (no_variable j it.0 some t shaped) t shaped of_it (reached here) (ap is_gone (form_is Forwarded form))
 
     made_text : IsText t
     made_text = by_stands (stands s o.entry right kinds o unit u p planned b n v.user j v.mentioned b counts made some (shaped_value Gs j.ty t shaped))
 
   -- what stands in expressions in the block
-  pub result_text : (b k : ℕ) (j : Inst) → inst_at Fn b k ≡ Some j → slice_index_or Marks b false ≡ true → IsIn j (insts_of Fn) → Where.form j.result ≡ Forwarded → (t : Tree) → type_tree Gs j.ty ≡ Some t → IsShort t → IsText t
-  result_text b k j at here among form t shaped short =
+  pub result_text : (b k : ℕ) (j : Inst) → inst_at Fn b k ≡ Some j → slice_index_or Marks b false ≡ true → IsIn j (insts_of Fn) → Where.form j.result ≡ Forwarded → (t : Tree) → type_tree Gs j.ty ≡ Some t → IsText t
+  result_text b k j at here among form t shaped =
       let block = some_part (λ (x : Block). slice_get x.insts k) (slice_get Fn.blocks b) j at in
       let some : j.ty ≡ 0 → ⊥ = shaped_some s o.entry right Fn (in_module s o.entry right kinds o unit u p planned) j.ty t shaped in
-      live_text bytes m o read fine unit u inv told left p planned j (subst (λ (g : Function). IsIn j (insts_of g)) (sym same) among) (no_variable j among some t shaped) t shaped short
+      live_text bytes m o read fine unit u inv told left p planned j (subst (λ (g : Function). IsIn j (insts_of g)) (sym same) among) (no_variable j among some t shaped) t shaped
       (record { number = b; block = block.0; there = subst (λ (g : Function). slice_get g.blocks b ≡ Some block.0) (sym same) block.1; among = at_place block.0.insts k j block.2 })
       (ap (λ (g : List Node). slice_index_or (map is_reached_node g) b false) (plan_is s o.entry right kinds o unit u p planned).graph_is ∙ here)
       (ap is_gone (ap (λ (w : Scope). w.form j.result) (plan_is s o.entry right kinds o unit u p planned).scope_is ∙ form))
 
   -- a value parameter
-  parameter_type_text : (n ty : ℕ) (t : Tree) → parameter_in Fn n ≡ Some ty → type_tree Gs ty ≡ Some t → IsShort t → IsText t
-  parameter_type_text n ty t is shaped short =
+  parameter_type_text : (n ty : ℕ) (t : Tree) → parameter_in Fn n ≡ Some ty → type_tree Gs ty ≡ Some t → IsText t
+  parameter_type_text n ty t is shaped =
       let q = parameter_found Fn n ty is in
       let one : IsParameter q.0 (written p).params = subst (λ (g : Function). IsParameter q.0 g.params) (sym same) q.1 in
       let w = typed_parameter bytes m o read fine unit u inv told left p planned q.0 one in
       let own : type_tree Gs q.0.1.0 ≡ Some t = ap (type_tree Gs) q.2 ∙ shaped in
       let itself : q.0.1.0 ≡ w.type = sym (ap (λ (x : Option ℕ). option_map_or (λ (k : ℕ). k) x q.0.1.0) (no_pointee Gs q.0.1.0 t own)) ∙ w.self in
       let shape_is : w.shape ≡ t = same_some w.shape t (sym w.typed_as ∙ (ap (type_tree Gs) (sym itself) ∙ own)) in
-      subst IsText shape_is (parameter_text bytes m o read fine unit u inv told left p planned q.0 one (subst IsShort (sym shape_is) short))
+      subst IsText shape_is (parameter_text bytes m o read fine unit u inv told left p planned q.0 one)
 
   -- The law: of any value that the block mentions, where those of the module that are composites have types in the text.
-  pub operand_text : (lends : LendsWhole s) (b n : ℕ) → IsValueIn Where Marks b n → (t : Tree) → value_shape s Fn n ≡ Some t → IsShort t → ((g : Inst) → global Gs n ≡ Some g → (IsBasic t → ⊥) → IsText t) → IsText t
-  operand_text lends b n v t shaped short of_module = by_basic (decide_basic t)
+  pub operand_text : (lends : LendsWhole s) (b n : ℕ) → IsValueIn Where Marks b n → (t : Tree) → value_shape s Fn n ≡ Some t → ((g : Inst) → global Gs n ≡ Some g → (IsBasic t → ⊥) → IsText t) → IsText t
+  operand_text lends b n v t shaped of_module = by_basic (decide_basic t)
     where
       by_type : (x : Option ℕ) → option_and_then (type_tree Gs) x ≡ Some t → (ty : ℕ) × (x ≡ Some ty) × (type_tree Gs ty ≡ Some t)
       by_type None e = cc
@@ -184,11 +183,11 @@ module _ (bytes : List ℕ) (m : ModuleState) (o : Options) (read : IsReadFrom b
       of_parameter local None is on = cc
       of_parameter local (Some ty) is on =
           let type_is : type_in Gs Fn n ≡ Some ty = ap (λ (g : Option Inst). option_or (option_and_then typed g) (local_type Fn n)) local ∙ ap (λ (y : Option ℕ). option_or y (option_and_then typed (inst_in Fn n))) is in
-          parameter_type_text n ty t is (sym (ap (option_and_then (type_tree Gs)) type_is) ∙ shaped) short
+          parameter_type_text n ty t is (sym (ap (option_and_then (type_tree Gs)) type_is) ∙ shaped)
 
       by_maker : (IsBasic t → ⊥) → global Gs n ≡ None → (is_value_parameter Gs Fn n ≡ true) ⊎ ((j : Inst) × IsMadeBy s o.entry right kinds o unit u p planned lends n t j) → IsText t
       by_maker far local (inl on) = of_parameter local (parameter_in Fn n) refl (and_left (is_some (parameter_in Fn n)) (not (is_pointer Gs Fn n)) on)
-      by_maker far local (inr k) = let by = k.1 in made_text b n v k.0 by.made by.some_type t by.shaped far short
+      by_maker far local (inr k) = let by = k.1 in made_text b n v k.0 by.made by.some_type t by.shaped far
 
       by_global : (IsBasic t → ⊥) → (x : Option Inst) → global Gs n ≡ x → IsText t
       by_global far (Some g) is = of_module g is far

@@ -37,7 +37,7 @@ use Rattle.lowering_law.specs.Arguments.{IsBasic}
 use Rattle.path_law.specs.Parts.{HasMembersApart}
 use Rattle.path_law.specs.Walks.{struct_names}
 use Rattle.global_law.proofs.Zeros.{HasZero}
-use Rattle.constant_law.specs.Items.{AreAsked, IsShort}
+use Rattle.constant_law.specs.Items.{AreAsked}
 use Rattle.constant_law.specs.Within.{IsWithin, IsNoBlock}
 use Rattle.constant_law.proofs.Constants.{AreFunctions}
 use Rattle.constant_law.proofs.Types.{zero_declared}
@@ -96,30 +96,30 @@ module _ (bytes : List ℕ) (m : ModuleState) (o : Options) (read : IsReadFrom b
 
   -- what is asked of the types of values that stand in expressions
   abbrev pub IsTextType : Tree → Type 0
-  IsTextType t = HasZero P s src key t × IsShort t × HasMembersApart (struct_names key) t
+  IsTextType t = HasZero P s src key t × HasMembersApart (struct_names key) t
 
   -- a type without blocks whose structs are held by what is written
-  held_text : (n : ℕ) (t : Tree) → IsWithin (IsNoBlock m) m n t → IsSized t → IsShort t → ((j : ℕ) → has_struct j t ≡ true → IsHeld s o.entry right o.overrides r j) → IsTextType t
-  held_text n t w sized short held =
-      (zero_declared s o.entry o.overrides found r asked fs functions n t w sized held, short, members_apart s o.entry right o.overrides found r (Plans m o unit u) u.lawful (claimed bytes m o read fine unit u inv told left) n t w held)
+  held_text : (n : ℕ) (t : Tree) → IsWithin (IsNoBlock m) m n t → IsSized t → ((j : ℕ) → has_struct j t ≡ true → IsHeld s o.entry right o.overrides r j) → IsTextType t
+  held_text n t w sized held =
+      (zero_declared s o.entry o.overrides found r asked fs functions n t w sized held, members_apart s o.entry right o.overrides found r (Plans m o unit u) u.lawful (claimed bytes m o read fine unit u inv told left) n t w held)
 
   -- a type that is written is one whose structs are
-  listed_text : (ty n : ℕ) (t : Tree) → IsIn ty (written_types src r) → type_tree Gs ty ≡ Some t → IsWithin (IsNoBlock m) m n t → IsSized t → IsShort t → IsTextType t
-  listed_text ty n t listed shape w sized short =
-      held_text n t w sized short (λ j has. held_in bytes m o read fine unit u inv told left p planned ty ty t listed (ap (λ (a : Option ℕ). option_map_or (λ (k : ℕ). k) a ty) (no_pointee Gs ty t shape)) shape j has)
+  listed_text : (ty n : ℕ) (t : Tree) → IsIn ty (written_types src r) → type_tree Gs ty ≡ Some t → IsWithin (IsNoBlock m) m n t → IsSized t → IsTextType t
+  listed_text ty n t listed shape w sized =
+      held_text n t w sized (λ j has. held_in bytes m o read fine unit u inv told left p planned ty ty t listed (ap (λ (a : Option ℕ). option_map_or (λ (k : ℕ). k) a ty) (no_pointee Gs ty t shape)) shape j has)
 
   -- scalars and vectors
   pub basic_text : (ty : ℕ) (t : Tree) → type_tree Gs ty ≡ Some t → IsBasic t → IsTextType t
-  basic_text ty plain.boolean shape basic = (tt, tt, tt)
-  basic_text ty plain.int shape basic = (tt, tt, tt)
-  basic_text ty plain.uint shape basic = (tt, tt, tt)
-  basic_text ty (plain.vector e n) shape basic = ((any_within m o.entry right ty (plain.vector e n) shape).1, tt, tt)
+  basic_text ty plain.boolean shape basic = (tt, tt)
+  basic_text ty plain.int shape basic = (tt, tt)
+  basic_text ty plain.uint shape basic = (tt, tt)
+  basic_text ty (plain.vector e n) shape basic = ((any_within m o.entry right ty (plain.vector e n) shape).1, tt)
   basic_text ty (plain.array t l) shape basic = absurd basic
   basic_text ty (plain.runtime t) shape basic = absurd basic
   basic_text ty (plain.struct k ts) shape basic = absurd basic
 
   -- results
-  module _ (i : Inst) (there : IsIn i (insts_of f)) (off : is_variable i ≡ false) (t : Tree) (shape : type_tree Gs i.ty ≡ Some t) (short : IsShort t) where
+  module _ (i : Inst) (there : IsIn i (insts_of f)) (off : is_variable i ≡ false) (t : Tree) (shape : type_tree Gs i.ty ≡ Some t) where
     among : IsAmong i (insts_of f)
     among = as_among (insts_of f) i there
 
@@ -132,7 +132,7 @@ module _ (bytes : List ℕ) (m : ModuleState) (o : Options) (read : IsReadFrom b
     written_text : IsIn i.ty (written_types src r) → IsTextType t
     written_text listed =
         let w = misused_within m o.entry right i.ty t (value_misused m o.entry right i body off) shape in
-        listed_text i.ty w.0 t listed shape w.1 sized short
+        listed_text i.ty w.0 t listed shape w.1 sized
 
     -- of a live instruction of a reached block
     pub live_text : (of_it : IsOf (claims_by src p) i) → slice_index_or (liveness_of src p).reached of_it.number false ≡ true → is_gone (p.scope.form i.result) ≡ false → IsTextType t
@@ -144,7 +144,7 @@ module _ (bytes : List ℕ) (m : ModuleState) (o : Options) (read : IsReadFrom b
 
   -- parameters, or what they point to
   module _ (q : IdOf × IdOf) (there : IsParameter q f.params) where
-    pub parameter_text : IsShort (typed_parameter bytes m o read fine unit u inv told left p planned q there).shape → IsTextType (typed_parameter bytes m o read fine unit u inv told left p planned q there).shape
-    parameter_text short =
+    pub parameter_text : IsTextType (typed_parameter bytes m o read fine unit u inv told left p planned q there).shape
+    parameter_text =
         let w = typed_parameter bytes m o read fine unit u inv told left p planned q there in
-        held_text w.word_at w.shape w.within w.sized short w.held
+        held_text w.word_at w.shape w.within w.sized w.held

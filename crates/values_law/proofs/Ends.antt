@@ -36,7 +36,6 @@ use Rattle.written_law.proofs.NamesOf.{names_are}
 use Rattle.written_law.proofs.EndsSay.{split}
 use Rattle.written_law.proofs.EndOperands.{AreLeftAtEnds}
 use Rattle.values_law.proofs.Values.{left_of_values}
-use Rattle.values_law.proofs.Known.{AreShort}
 
 module _ (bytes : List ℕ) (m : ModuleState) (o : Options) (read : IsReadFrom bytes m) (fine : IsFine m o) (unit : TranslationUnit) (u : IsUnitOf m o unit) (inv : Invocation) (told : IsInvocation inv) (left : IsLeftOfGlobals bytes m o u.entry inv)
     (right : IsConforming m o.entry) (kinds : HaveKinds m.globals) (p : FunctionPlan) (among : IsIn p u.plans) (lends : LendsWhole (S m o unit u inv)) where
@@ -56,14 +55,10 @@ module _ (bytes : List ℕ) (m : ModuleState) (o : Options) (read : IsReadFrom b
   P = program_in bytes m o read fine unit u inv told left
 
   module _ (one : IsFunctionOf Fn m.functions) (calls : Text → List Argument → State → Result (Option Typed × State)) (Holds : Function → Conf → Type 0) where
-    -- no array is too long, in each block
-    abbrev pub AreShortIn : Type 0
-    AreShortIn = (b : ℕ) → AreShort bytes m o read fine unit u inv told left right kinds p among lends b
-
     -- the law
     pub left_at_ends : (fitting : (g : Function) (c : Conf) → Holds g c → ConfFits s c) (low : (g : Function) (c : Conf) → Holds g c → IsStateOfWords c) (suits : ModuleFits s) (words : IsSettingOfWords s) → ((j : Inst) → IsIn j (insts_of Fn) → IsTyped s Fn j (step_kind j.op))
-        → AreShortIn → AreLeftAtEnds m o right kinds unit u inv p among lends one P calls Holds fitting suits
-    left_at_ends fitting low suits words typed_so short form b c z stop =
+        → AreLeftAtEnds m o right kinds unit u inv p among lends one P calls Holds fitting suits
+    left_at_ends fitting low suits words typed_so form b c z stop =
         let formed = form.blocks b stop.body_of.block stop.body_of.there in
         left_of_values bytes m o read fine unit u inv told left right kinds p among lends b one calls (names_are m o right kinds unit u inv p among lends b) (Holds Fn) (fitting Fn) (behind [] stop.body_of.insts) c z stop.at.stands stop.body_of formed stop.body_of.insts stop.body_of.last []
-        (split s o.entry right kinds o unit u p among lends b stop.body_of formed) (all_behind [] stop.body_of.insts) suits words (low Fn c.at stop.at.stands.holds) typed_so (short b)
+        (split s o.entry right kinds o unit u p among lends b stop.body_of formed) (all_behind [] stop.body_of.insts) suits words (low Fn c.at stop.at.stands.holds) typed_so

@@ -1,4 +1,4 @@
--- Of what is known of the text and of the values of a function (`AreKnown`), nothing is left of an accepted module but that no array is too long for an int to lead to each element, and that the lengths of arrays are said.
+-- Of what is known of the text and of the values of a function (`AreKnown`), nothing is left of an accepted module but that the lengths of arrays are said.
 use Rattle.std.proofs.Common.{◌≡◌, ℕ, List, [], Option, Some, sym, ap, ◌∙◌}
 use Rattle.std.specs.Prelude.{option_and_then}
 use Rattle.std.specs.Option.{option_or}
@@ -33,14 +33,14 @@ use Rattle.agree_law.specs.Blocks.{outcome}
 use Rattle.call_law.specs.Known.{IsFunctionOf, LendsWhole}
 use Rattle.typed_law.specs.Conforms.{IsConforming}
 use Rattle.typed_law.specs.Words.{IsSettingOfWords, IsStateOfWords}
-use Rattle.typed_law.proofs.Values.{typed_is, own_shape, shaped_some}
-use Rattle.constant_law.specs.Items.{IsShort}
+use Rattle.typed_law.proofs.Values.{typed_is, shaped_some}
 use Rattle.claim_law.specs.Claimed.{IsIn}
 use Rattle.unit_law.specs.Mentioned.{IsValueIn}
 use Rattle.unit_law.proofs.Lists.{as_among}
 use Rattle.unit_law.proofs.Ways.{HaveKinds, F, R as Marks, V, in_module}
 use Rattle.naming_law.proofs.Keys.{S, names}
 use Rattle.outside_law.specs.Left.{IsLeftOfGlobals}
+use Rattle.outside_law.proofs.Short.{copies_short}
 use Rattle.outside_law.proofs.Constants.{it as valued_at}
 use Rattle.outside_law.proofs.Text.{P as program_in}
 use Rattle.texts_law.proofs.BuiltIns.{none_declared}
@@ -67,10 +67,6 @@ module _ (bytes : List ℕ) (m : ModuleState) (o : Options) (read : IsReadFrom b
   abbrev P : Program
   P = program_in bytes m o read fine unit u inv told left
 
-  -- no value of the function is an array so long that an int does not lead to each element
-  pub record AreShort : Type 0 where
-    pub of_value : (n : ℕ) (t : Tree) → value_shape s Fn n ≡ Some t → IsShort t
-
   -- the type of a constant that the block reads
   constant_type : (n : ℕ) (v : IsValueIn Where (Marks s o.entry right kinds o unit u p among) b n) (t : Tree) → value_shape s Fn n ≡ Some t → (w : ValueTree) → s.constants n ≡ Some w → IsTextType s o.entry right kinds o unit u p among lends b P t
   constant_type n v t shaped w has =
@@ -86,18 +82,18 @@ module _ (bytes : List ℕ) (m : ModuleState) (o : Options) (read : IsReadFrom b
     AreLengthsSaid = (j : Inst) → IsIn j (insts_of Fn) → step_kind j.op ≡ steps.array_length → Where.form j.result ≡ Forwarded → (v : ValueTree) → outcome steps.array_length s c.top j ≡ Some (holds_value v) → evaluate P calls (expression Where expr b j) z ≡ got [] (typed (N.shape j.result) v, z)
 
     pub known : (suits : ModuleFits s) (words : IsSettingOfWords s) (fit : ConfFits s c) (low : IsStateOfWords c) (same : c.top.function ≡ Fn) → ((j : Inst) → IsIn j (insts_of Fn) → IsTyped s Fn j (step_kind j.op))
-        → AreShort → AreLengthsSaid → AreKnown s o.entry right kinds o unit u p among lends b one P calls N c.top z expr
-    known suits words fit low same typed_so short lengths = record {
+        → AreLengthsSaid → AreKnown s o.entry right kinds o unit u p among lends b one P calls N c.top z expr
+    known suits words fit low same typed_so lengths = record {
       none = none_declared bytes m o read fine unit u inv told left;
       shapes = shapes_are m o right kinds unit u inv p among;
       fitting = fitting m o right kinds unit u inv p among suits words c fit low same;
       low = low_values m o right kinds unit u inv p among suits words c fit low same;
       literals = literals m o right kinds unit u inv p among suits words c fit low same;
       result_texts = λ j there k at here form t shaped.
-          result_text bytes m o read fine unit u inv told left p among right kinds b k j at here there form t shaped
-          (short.of_value j.result t (own_shape s o.entry right Fn (in_module s o.entry right kinds o unit u p among) j (as_among (insts_of Fn) j there) t shaped));
+          result_text bytes m o read fine unit u inv told left p among right kinds b k j at here there form t shaped;
       operand_texts = λ n v t shaped w has.
-          operand_text bytes m o read fine unit u inv told left p among right kinds lends b n v t shaped (short.of_value n t shaped) (λ g there far. constant_type n v t shaped w (constant_value s c fit n g there w has));
+          operand_text bytes m o read fine unit u inv told left p among right kinds lends b n v t shaped (λ g there far. constant_type n v t shaped w (constant_value s c fit n g there w has));
+      copies = λ j there copies t shaped. copies_short s o.entry right fine.later.leaves Fn (in_module s o.entry right kinds o unit u p among) j (as_among (insts_of Fn) j there) copies t shaped;
       typed_so = typed_so;
       lengths = lengths;
     }

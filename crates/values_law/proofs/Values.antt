@@ -41,7 +41,7 @@ use Rattle.outside_law.proofs.Starts.{no_module}
 use Rattle.written_law.proofs.Says.{AreNamesOf, AreLowered, IsLeftOfValues}
 use Rattle.written_law.proofs.Lowered.{lowered_so}
 use Rattle.values_law.proofs.Read.{read_says}
-use Rattle.values_law.proofs.Known.{AreShort, known}
+use Rattle.values_law.proofs.Known.{known}
 use Rattle.values_law.proofs.Lengths.{lengths_said}
 
 module _ (bytes : List ℕ) (m : ModuleState) (o : Options) (read : IsReadFrom bytes m) (fine : IsFine m o) (unit : TranslationUnit) (u : IsUnitOf m o unit) (inv : Invocation) (told : IsInvocation inv) (left : IsLeftOfGlobals bytes m o u.entry inv)
@@ -75,11 +75,10 @@ module _ (bytes : List ℕ) (m : ModuleState) (o : Options) (read : IsReadFrom b
 
     -- the law
     pub left_of_values : (suits : ModuleFits s) (words : IsSettingOfWords s) (low : IsStateOfWords c.at) → ((j : Inst) → IsIn j (insts_of Fn) → IsTyped s Fn j (step_kind j.op))
-        → AreShort bytes m o read fine unit u inv told left right kinds p among lends b
         → IsLeftOfValues s o.entry right kinds o unit u p among lends b one P calls N are Holds done c z stands body formed befores i rest split all_done
-    left_of_values suits words low typed_so short =
+    left_of_values suits words low typed_so =
         left_of_operations (λ j there k at here ready t shaped form v has each.
         lowered_so s o.entry right kinds o unit u p among lends b one P calls N c.at.top z (value Where b)
-        (known bytes m o read fine unit u inv told left right kinds p among lends b one calls c.at z (value Where b) suits words (fitting c.at stands.holds) low stands.function typed_so short
+        (known bytes m o read fine unit u inv told left right kinds p among lends b one calls c.at z (value Where b) suits words (fitting c.at stands.holds) low stands.function typed_so
         (lengths_said bytes m o read fine unit u inv told left right kinds p among lends b one calls c.at z (value Where b) stands.agree.all (fitting c.at stands.holds)))
         j there k at here (λ step n n_in. (ready step n n_in).value) t shaped form v has each)

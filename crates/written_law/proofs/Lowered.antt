@@ -1,6 +1,7 @@
 -- What stands in expressions says what it gives: operations by the law of their texts, and the lengths of arrays.
 use Rattle.std.proofs.Common.{◌≡◌, ◌⊎◌, ℕ, Bool, true, false, List, [], Option, Some, None, inl, inr, sym, ap, subst}
 use Rattle.std.specs.Prelude.{option_map, slice_index_or}
+use Rattle.spv_ops.specs.declared.Op.TheVariants as code
 use Rattle.spv_module.specs.declared.inst.Inst.{Inst}
 use Rattle.spv_module.specs.declared.inst.Function.{Function}
 use Rattle.spv_types.specs.Tree.{Tree, ValueTree, word}
@@ -33,6 +34,7 @@ use Rattle.call_law.specs.Known.{IsFunctionOf, LendsWhole}
 use Rattle.fits_law.specs.State.{value_shape}
 use Rattle.fits_law.specs.Typed.{IsTyped}
 use Rattle.lowering_law.specs.BuiltIns.{NoneDeclared}
+use Rattle.lowering_law.specs.Written.{IsShort}
 use Rattle.path_law.specs.Parts.{shape_in}
 use Rattle.path_law.specs.Walks.{struct_names}
 use Rattle.typed_law.specs.Conforms.{IsConforming}
@@ -70,7 +72,7 @@ module _ (s : Setting) (entry : Option (List ℕ)) (right : IsConforming s.of en
     abbrev SaysSo : Expr → ℕ → ValueTree → Type 0
     SaysSo e n v = evaluate program calls e z ≡ got [] (typed (N.shape n) v, z)
 
-    -- What is known of the text and of the values of the function: none of the text's own functions is called as what is built in; names have the shapes of their types, values fit these and are of words, and constants that are written as literals have their words; the types of what the block reads, and of what its operations give, stand in the text; each instruction is typed; and the length of an array is said.
+    -- What is known of the text and of the values of the function: none of the text's own functions is called as what is built in; names have the shapes of their types, values fit these and are of words, and constants that are written as literals have their words; the types of what the block reads, and of what its operations give, stand in the text, and no array that OpCopyLogical gives is too long for an int to lead to each element; each instruction is typed; and the length of an array is said.
     pub record AreKnown : Type 0 where
       pub none : NoneDeclared program
       pub shapes : (n : ℕ) (t : Tree) → value_shape s Fn n ≡ Some t → N.shape n ≡ shape_in s (struct_names (text_of (Found s entry right kinds o unit u p among))) t
@@ -79,6 +81,7 @@ module _ (s : Setting) (entry : Option (List ℕ)) (right : IsConforming s.of en
       pub literals : (n : ℕ) (v : ValueTree) → value_at s c n ≡ Some v → (w : ℕ) → word_at Where.setting n ≡ Some w → v ≡ word w
       pub result_texts : (j : Inst) → IsIn j (insts_of Fn) → (k : ℕ) → inst_at Fn b k ≡ Some j → slice_index_or Marks b false ≡ true → Where.form j.result ≡ Forwarded → (t : Tree) → type_tree s.of.globals j.ty ≡ Some t → IsTextType program t
       pub operand_texts : (n : ℕ) → IsValueIn Where Marks b n → (t : Tree) → value_shape s Fn n ≡ Some t → (v : ValueTree) → value_at s c n ≡ Some v → IsTextType program t
+      pub copies : (j : Inst) → IsIn j (insts_of Fn) → j.op ≡ code.CopyLogical → (t : Tree) → type_tree s.of.globals j.ty ≡ Some t → IsShort t
       pub typed_so : (j : Inst) → IsIn j (insts_of Fn) → IsTyped s Fn j (step_kind j.op)
       pub lengths : (j : Inst) → IsIn j (insts_of Fn) → step_kind j.op ≡ steps.array_length → Where.form j.result ≡ Forwarded → (v : ValueTree) → outcome steps.array_length s c j ≡ Some (holds_value v) → SaysSo (expression Where expr b j) j.result v
 
@@ -89,7 +92,7 @@ module _ (s : Setting) (entry : Option (List ℕ)) (right : IsConforming s.of en
           let own = own_shape s entry right Fn in_it j (as_among (insts_of Fn) j there) t shaped in
           subst (λ (q : Shape). evaluate program calls (expression Where expr b j) z ≡ got [] (typed q v, z)) (sym (known.shapes j.result t own))
           (operation_says s u.entry o.overrides (Found s entry right kinds o unit u p among) Fn globals Where.form Where.carried program known.none calls z c expr N.shape j t shaped (known.result_texts j there k at here form t shaped) b v
-          entry right in_it (as_among (insts_of Fn) j there) (unnamed_so s entry right kinds o unit u p among j there t shaped form)
+          entry right in_it (as_among (insts_of Fn) j there) (unnamed_so s entry right kinds o unit u p among j there t shaped form) (λ copies. known.copies j there copies t shaped)
           (subst (λ (q : steps.StepKind). IsTyped s Fn j q) step (known.typed_so j there))
           (λ n n_in a a_is w w_is. record {
             says = each n (subst (λ (q : steps.StepKind). In n (read_ids q j)) (sym step) n_in) w w_is;
