@@ -148,12 +148,12 @@ module _ (s : Setting) (entry : ℕ) (overrides : List (ℕ × Given)) (found : 
       by_parts g None e = cc
       by_parts g (Some us) e = cc
 
-  op_at : (ty : ℕ) (a : Tree) → type_tree Gs ty ≡ Some a → composite_op_in Gs ty ≡ op_of a
+  pub op_at : (ty : ℕ) (a : Tree) → type_tree Gs ty ≡ Some a → composite_op_in Gs ty ≡ op_of a
   op_at ty a shaped =
       let d = declared_as s ty a shaped in
       ap (λ (o : Option Inst). option_map_or (λ (g : Inst). g.op) o code.TypeArray) d.1 ∙ d.2
 
-  part_at : (ty k : ℕ) → part_type W.setting ty k ≡ module_memory.part_type s ty k
+  pub part_at : (ty k : ℕ) → part_type W.setting ty k ≡ module_memory.part_type s ty k
   part_at ty k = by_global (global Gs ty)
     where
       by_global : (o : Option Inst) → option_map_or (λ (g : Inst). slice_index g.args (if is g.op code.TypeStruct then k else 0)) o 0 ≡ option_map_or (λ (g : Inst). part_by g.op g.args k) o 0

@@ -115,7 +115,7 @@ store_unmade code.AtomicStore a is_it on = refl
 store_unmade o a is_it on = cc
 
 -- T25: the operand is of the type to which the pointer leads
-content_of : (gs : List Inst) (t : ℕ → Option ℕ) (i : Inst) (a : AtomicOp) → has_operand a ≡ true → breaks_t25 gs t i a ≡ false → is_no_content gs t (word i 0) (word i 3) ≡ false
+pub content_of : (gs : List Inst) (t : ℕ → Option ℕ) (i : Inst) (a : AtomicOp) → has_operand a ≡ true → breaks_t25 gs t i a ≡ false → is_no_content gs t (word i 0) (word i 3) ≡ false
 content_of gs t i atomic.Load on off = cc
 content_of gs t i atomic.IIncrement on off = cc
 content_of gs t i atomic.IDecrement on off = cc
@@ -124,7 +124,7 @@ content_of gs t i atomic.Store on off = or_left (is_no_content gs t (word i 0) (
 content_of gs t i a on off = or_right (breaks_t25_load gs t i) (is_no_content gs t (word i 0) (word i 3)) off
 
 -- the pointer is one
-pointer_of : (gs : List Inst) (t : ℕ → Option ℕ) (i : Inst) (a : AtomicOp) → breaks_t25 gs t i a ≡ false → value_fails is_pointer gs t (word i 0) ≡ false
+pub pointer_of : (gs : List Inst) (t : ℕ → Option ℕ) (i : Inst) (a : AtomicOp) → breaks_t25 gs t i a ≡ false → value_fails is_pointer gs t (word i 0) ≡ false
 pointer_of gs t i atomic.Load off = or_left (value_fails is_pointer gs t (word i 0)) _ (or_left (points_to_other gs t (word i 0) i.ty) (has_no_int gs t (take 2 (drop 1 i.args))) off)
 pointer_of gs t i atomic.IIncrement off = or_left (value_fails is_pointer gs t (word i 0)) _ (or_left (points_to_other gs t (word i 0) i.ty) (has_no_int gs t (take 2 (drop 1 i.args))) off)
 pointer_of gs t i atomic.IDecrement off = or_left (value_fails is_pointer gs t (word i 0)) _ (or_left (points_to_other gs t (word i 0) i.ty) (has_no_int gs t (take 2 (drop 1 i.args))) off)

@@ -34,7 +34,7 @@ bytes_same : (w : Text) → bytes_eq w w ≡ true
 bytes_same w = (bytes_eq-Decides w w).1 refl
 
 -- there is a part below the number of parts
-there_below : {A : Type 0} (xs : List A) (i : ℕ) → i < length xs → (x : A) × (slice_get xs i ≡ Some x)
+pub there_below : {A : Type 0} (xs : List A) (i : ℕ) → i < length xs → (x : A) × (slice_get xs i ≡ Some x)
 there_below [] i less = absurd (none i less)
   where
     none : (i : ℕ) → i < 0 → ⊥

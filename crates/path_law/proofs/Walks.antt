@@ -79,7 +79,7 @@ nth_apart y plain.no_trees i u h at = cc
 nth_apart y (plain.tree t ts) zero u h at = subst (HasMembersApart y) (some_same t u at) h.0
 nth_apart y (plain.tree t ts) (suc i) u h at = nth_apart y ts i u h.1 at
 
-part_apart : (y : StructNames) (t u : Tree) (i : ℕ) → HasMembersApart y t → element_shape t i ≡ Some u → HasMembersApart y u
+pub part_apart : (y : StructNames) (t u : Tree) (i : ℕ) → HasMembersApart y t → element_shape t i ≡ Some u → HasMembersApart y u
 part_apart y (plain.vector e n) u i h at = subst (HasMembersApart y) (some_same (elem_tree e) u at) (scalar_apart y e)
 part_apart y (plain.array t l) u i h at = subst (HasMembersApart y) (some_same t u at) h
 part_apart y (plain.runtime t) u i h at = subst (HasMembersApart y) (some_same t u at) h

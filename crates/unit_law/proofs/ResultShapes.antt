@@ -189,7 +189,7 @@ abbrev pub stores : AtomicOp → Bool
 stores atomic.Store = true
 stores _ = false
 
-points_by : (gs : List Inst) (t : ℕ → Option ℕ) (i : Inst) (o : AtomicOp) → stores o ≡ false → breaks_t25 gs t i o ≡ false → points_to_other gs t (word i 0) i.ty ≡ false
+pub points_by : (gs : List Inst) (t : ℕ → Option ℕ) (i : Inst) (o : AtomicOp) → stores o ≡ false → breaks_t25 gs t i o ≡ false → points_to_other gs t (word i 0) i.ty ≡ false
 points_by gs t i atomic.Store off broken = cc
 points_by gs t i atomic.Load off broken = or_left (points_to_other gs t (word i 0) i.ty) (has_no_int gs t (take 2 (drop 1 i.args))) broken
 points_by gs t i atomic.IIncrement off broken = or_left (points_to_other gs t (word i 0) i.ty) (has_no_int gs t (take 2 (drop 1 i.args))) broken
