@@ -78,26 +78,32 @@ none_other built_in.BitfieldReverse = refl
 none_other built_in.Any = refl
 none_other built_in.All = refl
 
-free_other : (f : BuiltIn) (w : Text) → IsFree w → bytes_eq (built_in_name f) w ≡ false
-free_other f w free = by_test (bytes_eq (built_in_name f) w) refl
+-- a name that no function of a text has: it is reserved, and is neither that of the entry point nor none at all
+pub record IsReserved (v : Text) : Type 0 where
+  pub reserved : (is_word v || has_prefix v) ≡ true
+  pub no_main : bytes_eq v (codes "main") ≡ false
+  pub no_none : bytes_eq v [] ≡ false
+
+free_other : (v : Text) → IsReserved v → (w : Text) → IsFree w → bytes_eq v w ≡ false
+free_other v is w free = by_test (bytes_eq v w) refl
   where
     both_off : (a b : Bool) → a ≡ false → b ≡ false → (a || b) ≡ true → ⊥
     both_off a b no_a no_b on = cc
 
-    by_test : (t : Bool) → bytes_eq (built_in_name f) w ≡ t → t ≡ false
-    by_test false is = refl
-    by_test true is = absurd (both_off (is_word w) (has_prefix w) free.word free.prefix (subst (λ (x : Text). (is_word x || has_prefix x) ≡ true) ((bytes_eq-Decides (built_in_name f) w).0 is) (built_reserved f)))
+    by_test : (t : Bool) → bytes_eq v w ≡ t → t ≡ false
+    by_test false same = refl
+    by_test true same = absurd (both_off (is_word w) (has_prefix w) free.word free.prefix (subst (λ (x : Text). (is_word x || has_prefix x) ≡ true) ((bytes_eq-Decides v w).0 same) is.reserved))
 
-key_other : (found : Key → Option Text) → AreNames found → (f : BuiltIn) (k : Key) → bytes_eq (built_in_name f) (text_of found k) ≡ false
-key_other found names f k = by_name (found k) refl
+key_other : (found : Key → Option Text) → AreNames found → (v : Text) → IsReserved v → (k : Key) → bytes_eq v (text_of found k) ≡ false
+key_other found names v is k = by_name (found k) refl
   where
-    by_free : (w : Text) → ((k ≡ Main) × (w ≡ codes "main")) ⊎ IsFree w → bytes_eq (built_in_name f) w ≡ false
-    by_free w (inl main) = ap (bytes_eq (built_in_name f)) main.1 ∙ main_other f
-    by_free w (inr free) = free_other f w free
+    by_free : (w : Text) → ((k ≡ Main) × (w ≡ codes "main")) ⊎ IsFree w → bytes_eq v w ≡ false
+    by_free w (inl main) = ap (bytes_eq v) main.1 ∙ is.no_main
+    by_free w (inr free) = free_other v is w free
 
-    by_name : (o : Option Text) → found k ≡ o → bytes_eq (built_in_name f) (unwrap_or o []) ≡ false
-    by_name None is = none_other f
-    by_name (Some w) is = by_free w (names.each k w is).free
+    by_name : (o : Option Text) → found k ≡ o → bytes_eq v (unwrap_or o []) ≡ false
+    by_name None named = is.no_none
+    by_name (Some w) named = by_free w (names.each k w named).free
 
 -- functions of other names
 functions_other : (ps : List FunctionPlan) (d : Declared) (w : Text) → ((p : FunctionPlan) → IsIn p ps → bytes_eq w (function_name p.scope) ≡ false) → d.program.is_function w ≡ false → (with_items d (map function_decl ps)).program.is_function w ≡ false
@@ -136,17 +142,21 @@ module _ (bytes : List ℕ) (m : ModuleState) (o : Options) (read : IsReadFrom b
   functions = are_functions bytes m o read fine unit u inv told left
 
   -- the name of a planned function is that of its key
-  name_other : (f : BuiltIn) (p : FunctionPlan) → IsIn p u.plans → bytes_eq (built_in_name f) (function_name p.scope) ≡ false
-  name_other f p among =
+  name_other : (v : Text) → IsReserved v → (p : FunctionPlan) → IsIn p u.plans → bytes_eq v (function_name p.scope) ≡ false
+  name_other v is p among =
       let w = planned_as (IsPlanOf src found) (called u.order m.functions) u.plans p u.planned among in
-      ap (λ (x : Scope). bytes_eq (built_in_name f) (function_name x)) w.2.scope_is ∙ key_other found u.lawful f (function_key u.entry w.0.id)
+      ap (λ (x : Scope). bytes_eq v (function_name x)) w.2.scope_is ∙ key_other found u.lawful v is (function_key u.entry w.0.id)
 
   abbrev Items : Declared
   Items = with_items (first (S m o unit u inv) o.overrides) (declarations src r (item_names_of src found))
 
-  -- The law.
-  pub none_declared : NoneDeclared (program_in bytes m o read fine unit u inv told left)
+  -- The law: no function of the text has a reserved name.
+  pub no_function : (v : Text) → IsReserved v → (program_in bytes m o read fine unit u inv told left).is_function v ≡ false
   unfolding declared_by
-  none_declared f =
-      ap (λ (d : Declared). d.program.is_function (built_in_name f)) (items_more (declarations src r (item_names_of src found)) fs (first (S m o unit u inv) o.overrides))
-      ∙ functions_other (in_order u.order u.plans) Items (built_in_name f) (λ p among. name_other f p (in_plans u.order u.plans p among)) ((last (S m o unit u inv) o.entry o.overrides found r asked fs functions).stands.functions (built_in_name f))
+  no_function v is =
+      ap (λ (d : Declared). d.program.is_function v) (items_more (declarations src r (item_names_of src found)) fs (first (S m o unit u inv) o.overrides))
+      ∙ functions_other (in_order u.order u.plans) Items v (λ p among. name_other v is p (in_plans u.order u.plans p among)) ((last (S m o unit u inv) o.entry o.overrides found r asked fs functions).stands.functions v)
+
+  -- so none is called as a built-in function
+  pub none_declared : NoneDeclared (program_in bytes m o read fine unit u inv told left)
+  none_declared f = no_function (built_in_name f) (record { reserved = built_reserved f; no_main = main_other f; no_none = none_other f })
