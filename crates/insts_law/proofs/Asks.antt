@@ -96,7 +96,7 @@ variable_other false b on = cc
 abbrev is_variable_op : Inst → Bool
 is_variable_op i = is i.op code.Variable
 
-not_off : (t : Bool) → (t ≡ false → ⊥) → t ≡ true
+pub not_off : (t : Bool) → (t ≡ false → ⊥) → t ≡ true
 not_off true never = refl
 not_off false never = absurd (never refl)
 
@@ -189,10 +189,10 @@ module _ (m : ModuleState) (opts : Options) (right : IsConforming m opts.entry) 
     LeftBy (kind.Value q) = is_variable_form (w.form i.result) ≡ true → (c : Supplied Conf) (z : State) → Here c z → (v : ValueTree) → outcome (step_kind i.op) s c.at.top i ≡ Some (holds_value v) → evaluate program calls (expression w (value w b) b i) z ≡ got [] (typed (N.shape i.result) v, z)
     LeftBy kind.Silent = Unit {0}
 
-  -- of each instruction of a reached block, behind those before it; and that the text declares the types of results that it declares where they are made
+  -- of each instruction of a reached block, behind those before it; and that the text declares the types of results that it declares there
   pub record IsLeftOfInsts : Type 0 where
     pub insts : (b : ℕ) (o : Body f b) → reached_body f form b ≡ Some o → (done befores : List Inst) (i : Inst) (rest : List Inst) → o.insts ≡ befores ++ i ∷ rest → ((j : Inst) → IsOf j done → IsOf j befores) → ((j : Inst) → IsOf j befores → IsOf j done) → LeftBy b o done i rest (kind_of i.op)
-    pub types : (i : Inst) → IsAmong i (insts_of f) → w.form i.result ≡ Local → IsTypeOfText program s opts.overrides (key m opts unit u inv) i.ty
+    pub types : (b : ℕ) (o : Body f b) → reached_body f form b ≡ Some o → (i : Inst) → IsIn i o.block.insts → w.form i.result ≡ Local → IsTypeOfText program s opts.overrides (key m opts unit u inv) i.ty
 
   -- the rules on instructions in blocks, and on the types of results
   module _ (inner : (j : Inst) → IsAmong j (insts_of f) → (is_inner (group_of j.op) ≡ true) × (has_type j.op ≡ false → j.result ≡ 0))
@@ -403,7 +403,7 @@ module _ (m : ModuleState) (opts : Options) (right : IsConforming m opts.entry) 
       asks_from : (is done befores : List Inst) → o.insts ≡ befores ++ is → ((j : Inst) → IsOf j done → IsOf j befores) → ((j : Inst) → IsOf j befores → IsOf j done) → AllAsk program calls k N apart s Holds f b keeps w done is (o.last ∷ [])
       asks_from [] done befores split only all = tt
       asks_from (i ∷ is) done befores split only all = (
-        asks_of b o has done befores i is split only (left.types i (stands_among m f inside_it.order inside_it.formed inner_of b o (form.blocks b o.block o.there) befores i is split)) (kind_of i.op) refl (left.insts b o has done befores i is split only all),
+        asks_of b o has done befores i is split only (left.types b o has i (stands_in m f inside_it.order inside_it.formed inner_of b o (form.blocks b o.block o.there) befores i is split)) (kind_of i.op) refl (left.insts b o has done befores i is split only all),
         asks_from is (i ∷ done) (befores ++ i ∷ []) (split ∙ sym (append_assoc befores (i ∷ []) is)) (λ j one. elim one [ inl same ↦ more_last befores i j same | inr old ↦ more_left befores i j (only j old) ])
             (λ j one. elim (of_more befores i j one) [ inl old ↦ inr (all j old) | inr same ↦ inl same ]),
       )

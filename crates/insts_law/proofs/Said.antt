@@ -142,7 +142,7 @@ module _ (m : ModuleState) (opts : Options) (right : IsConforming m opts.entry) 
 
       pub record IsLeftOfPlaces : Type 0 where
         pub places : (b : ℕ) (o : Body (written p) b) → reached_body (written p) form b ≡ Some o → (done befores : List Inst) (i : Inst) (rest : List Inst) → o.insts ≡ befores ++ i ∷ rest → ((j : Inst) → IsOf j done → IsOf j befores) → ((j : Inst) → IsOf j befores → IsOf j done) → PlaceBy b o done i rest (kind_of i.op)
-        pub types : (i : Inst) → IsAmong i (insts_of (written p)) → p.scope.form i.result ≡ Local → IsTypeOfText program s opts.overrides (key m opts unit u inv) i.ty
+        pub types : (b : ℕ) (o : Body (written p) b) → reached_body (written p) form b ≡ Some o → (i : Inst) → IsIn i o.block.insts → p.scope.form i.result ≡ Local → IsTypeOfText program s opts.overrides (key m opts unit u inv) i.ty
 
       module _ (says : SayOperations p.scope) (b : ℕ) (o : Body (written p) b) (has : reached_body (written p) form b ≡ Some o) (done befores : List Inst) (i : Inst) (rest : List Inst) (split : o.insts ≡ befores ++ i ∷ rest) (only : (j : Inst) → IsOf j done → IsOf j befores) (all : (j : Inst) → IsOf j befores → IsOf j done) where
         inside_it : IsConformingIn m (written p)
