@@ -103,7 +103,7 @@ load_typed code.Load on = refl
 load_typed o on = cc
 
 -- an atomic instruction with a result has a type
-atomic_typed : (o : Op) (a : AtomicOp) → group_of o ≡ groups.Atomic a → stores a ≡ false → has_type o ≡ true
+pub atomic_typed : (o : Op) (a : AtomicOp) → group_of o ≡ groups.Atomic a → stores a ≡ false → has_type o ≡ true
 unfolding group_of shape
 atomic_typed code.AtomicStore a is_it off = cc
 atomic_typed o a is_it off = cc

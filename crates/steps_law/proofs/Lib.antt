@@ -4,3 +4,6 @@ pub mod NoBarriers
 pub mod LocalTypes
 pub mod PartSteps
 pub mod InsertParts
+pub mod NoBlocks
+pub mod Writable
+pub mod Stores
