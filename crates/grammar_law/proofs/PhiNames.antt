@@ -286,7 +286,7 @@ module _ (s : Setting) (entry : Option (List ℕ)) (right : IsConforming s.of en
       variable_value : is_constant_id Gs n ≡ false → W.value (text_of Found (Id (id n)))
       variable_value other =
           own_text s entry right kinds o unit u p among names structs (Id (id n))
-          (wanted_named s entry right kinds o unit u p among t n i mentioned b counts wants shaped.0 whole (reads_none other)) refl
+          (wanted_named s entry right kinds o unit u p among t n i mentioned b counts wants shaped.0 whole (reads_none other)).0 refl
           (value_other s entry right kinds o unit u p among names structs n type_is.0 type_is.1)
 
       -- a constant is written of declared words

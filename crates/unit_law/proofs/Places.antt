@@ -54,20 +54,20 @@ use Rattle.unit_law.proofs.Kept.{dropped, here_writable, kept_writable}
 use Rattle.unit_law.proofs.Carried.{carried_by_use}
 use Rattle.unit_law.proofs.Bases.{base_carried, carried_at}
 
-both_on : (a b : Bool) → a ≡ true → b ≡ true → (a && b) ≡ true
+pub both_on : (a b : Bool) → a ≡ true → b ≡ true → (a && b) ≡ true
 both_on true b on e = e
 both_on false b on e = cc
 
-second_on : (a b : Bool) → b ≡ true → (a || b) ≡ true
+pub second_on : (a b : Bool) → b ≡ true → (a || b) ≡ true
 second_on true b on = refl
 second_on false b on = on
 
 -- chains that make a pointer
 module _ (n : ℕ) where
-  abbrev Found : List Inst → Type 0
+  abbrev pub Found : List Inst → Type 0
   Found is = ((j : Inst) × (IsIn j is × (is_chain j.op ≡ true) × (j.result ≡ n))) ⊎ NoneMakes n is
 
-  makes_in : (is : List Inst) → Found is
+  pub makes_in : (is : List Inst) → Found is
   makes_in [] = inr tt
   makes_in (i ∷ is) = by_chain (is_chain i.op) refl (makes_in is)
     where
@@ -170,22 +170,21 @@ module _ (s : Setting) (entry : Option (List ℕ)) (right : IsConforming s.of en
     pub members : HasMembers s entry right Fn o unit u names Where.setting.global ty t
     pub named : W.value (base_text Where.setting n)
 
-  module _ (rise : ChainsRise (insts_of Fn)) (chains : (i : Inst) → IsIn i (insts_of Fn) → is_chain i.op ≡ true → IsRuled i) (readable : (i : Inst) → IsIn i (insts_of Fn) → is_chain i.op ≡ true → (n : ℕ) → IsIn n (indexes i) → (c : ℕ) → IsMentioned Fn Marks c i n ⊎ IsCaptured Where Marks c i → IsReadable n)
-      (roots : (n ty : ℕ) (t : Tree) → NoneMakes n (insts_of Fn) → (c : ℕ) (i : Inst) → IsLinked Fn Marks c i n → pointee_of Gs Fn n ≡ Some ty → type_tree Gs ty ≡ Some t → IsRoot n ty t) where
+  module _ (chains : (i : Inst) → IsIn i (insts_of Fn) → is_chain i.op ≡ true → IsRuled i) where
     order : AreOrdered Fn (results links Fn)
     order = in_order s.of Fn (ordered s entry right kinds o unit u p among) Marks links (plan_is s entry right kinds o unit u p among).live
 
-    -- in the block where paths are printed
-    module _ (b : ℕ) (printed : slice_index_or Marks b false ≡ true) where
+    -- for a block where paths are printed
+    module _ (b : ℕ) where
       -- a mention there, or by a carried chain that is based on the pointer
-      abbrev IsSeen : (c n : ℕ) (i : Inst) → IsLinked Fn Marks c i n → Type 0
+      abbrev pub IsSeen : (c n : ℕ) (i : Inst) → IsLinked Fn Marks c i n → Type 0
       IsSeen c n i m = (c ≡ b) ⊎ ((is_chain i.op ≡ true) × ((m.arg == 0) ≡ true) × (Where.carried i.result ≡ true))
 
       module _ (c0 : ℕ) (user : Inst) (j : Inst) (m : IsLinked Fn Marks c0 user j.result) (no_phi : is user.op code.Phi ≡ false) (seen : IsSeen c0 j.result user m) (chain : is_chain j.op ≡ true) (j_in : IsIn j (insts_of Fn)) where
-        home : (c : ℕ) × (holder : Block) × (slice_get Fn.blocks c ≡ Some holder) × IsIn j holder.insts
+        pub home : (c : ℕ) × (holder : Block) × (slice_get Fn.blocks c ≡ Some holder) × IsIn j holder.insts
         home = in_block Fn.blocks j j_in
 
-        abbrev ruled : IsRuled j
+        abbrev pub ruled : IsRuled j
         ruled = chains j j_in chain
 
         abbrev P : Placed
@@ -197,19 +196,19 @@ module _ (s : Setting) (entry : Option (List ℕ)) (right : IsConforming s.of en
         mentioned : IsIn (link_at Fn Marks c0 user j.result m) (mentions_of links j.result)
         mentioned = link_stands Fn Marks c0 user j.result m links (plan_is s entry right kinds o unit u p among).live
 
-        place : (k : ℕ) × (inst_at Fn home.0 k ≡ Some j)
+        pub place : (k : ℕ) × (inst_at Fn home.0 k ≡ Some j)
         place = placed_in Fn home.0 home.1 j home.2 home.3
 
-        live : IsLive Fn Marks home.0 place.0
+        pub live : IsLive Fn Marks home.0 place.0
         live = linked_live Fn Marks c0 user j.result m home.0 place.0 j place.1 refl
 
-        value_at : (k : ℕ) → is_slot Fn Marks j k ≡ true
+        pub value_at : (k : ℕ) → is_slot Fn Marks j k ≡ true
         value_at k =
             both_on (is_id j.op j.args k) (is_value j.op k && is_taken Fn Marks j k) (chain_id j.op j.args k chain)
             (both_on (is_value j.op k) (is_taken Fn Marks j k) (chain_value j.op k chain) (ap (λ (x : Bool). not x || is_label_reached Fn Marks (slice_index j.args (k + 1))) (chain_no_phi j.op chain)))
 
         -- it mentions its base
-        abbrev base_link : IsLinked Fn Marks home.0 j (base j)
+        abbrev pub base_link : IsLinked Fn Marks home.0 j (base j)
         base_link = record {
           place = place.0;
           arg = 0;
@@ -222,16 +221,10 @@ module _ (s : Setting) (entry : Option (List ℕ)) (right : IsConforming s.of en
         }
 
         -- and in a reached block its indexes
-        index_mention : slice_index_or Marks home.0 false ≡ true → (n k : ℕ) → slice_get j.args (suc k) ≡ Some n → IsMentioned Fn Marks home.0 j n
+        pub index_mention : slice_index_or Marks home.0 false ≡ true → (n k : ℕ) → slice_get j.args (suc k) ≡ Some n → IsMentioned Fn Marks home.0 j n
         index_mention here n k arg = record { place = place.0; arg = suc k; there = place.1; here = here; live = live; slot = value_at (suc k); word = arg }
 
-        uses : slice_index_or Marks home.0 false ≡ true → (n : ℕ) → IsIn n (indexes j) → UsesExpr W (index_expr Where.setting n)
-        uses here n n_in =
-            let at = at_some (indexes j) n n_in in
-            let r = readable j j_in chain n n_in home.0 (inl (index_mention here n at.0 (dropped j.args at.0 n at.1))) in
-            index_uses s entry right kinds o unit u p among names structs home.0 home.1 j home.2 home.3 ruled.some place.0 at.0 n chain place.1 here live (dropped j.args at.0 n at.1) r.shape r.shaped r.other r.read
-
-        carried : (home.0 ≡ b → ⊥) → Where.carried j.result ≡ true
+        pub carried : (home.0 ≡ b → ⊥) → Where.carried j.result ≡ true
         carried apart = by_seen seen
           where
             by_seen : IsSeen c0 j.result user m → Where.carried j.result ≡ true
@@ -240,70 +233,89 @@ module _ (s : Setting) (entry : Option (List ℕ)) (right : IsConforming s.of en
                 let at = carried_at Fn (results links Fn) user.result w.2 in
                 base_carried Fn (results links Fn) order P (link_at Fn Marks c0 user j.result m) user listed chain mentioned (linked_user Fn Marks c0 user j.result m) w.1 w.0 at (chain_no_phi at.by.op at.chain)
 
-        -- of a chain that is printed in another block the constants among its indexes are written as they are, be its own block reached or not
-        constant_uses : (home.0 ≡ b → ⊥) → (n : ℕ) → IsIn n (indexes j) → is_constant_index Gs n ≡ true → UsesExpr W (index_expr Where.setting n)
-        constant_uses apart n n_in constant = by_reached (slice_index_or Marks home.0 false) refl
+        -- so its base is seen there too
+        pub based_seen : IsSeen home.0 (base j) j base_link
+        based_seen = elim (eqb_tells home.0 b) [ inl w ↦ inl w.1 | inr w ↦ inr (chain, same_test 0 0 refl, carried w.1) ]
+
+    module _ (rise : ChainsRise (insts_of Fn)) (readable : (i : Inst) → IsIn i (insts_of Fn) → is_chain i.op ≡ true → (n : ℕ) → IsIn n (indexes i) → (c : ℕ) → IsMentioned Fn Marks c i n ⊎ IsCaptured Where Marks c i → IsReadable n)
+        (roots : (n ty : ℕ) (t : Tree) → NoneMakes n (insts_of Fn) → (c : ℕ) (i : Inst) → IsLinked Fn Marks c i n → pointee_of Gs Fn n ≡ Some ty → type_tree Gs ty ≡ Some t → IsRoot n ty t) where
+      module _ (b : ℕ) (printed : slice_index_or Marks b false ≡ true) where
+        module _ (c0 : ℕ) (user : Inst) (j : Inst) (m : IsLinked Fn Marks c0 user j.result) (no_phi : is user.op code.Phi ≡ false) (seen : IsSeen b c0 j.result user m) (chain : is_chain j.op ≡ true) (j_in : IsIn j (insts_of Fn)) where
+          abbrev its_home : (c : ℕ) × (holder : Block) × (slice_get Fn.blocks c ≡ Some holder) × IsIn j holder.insts
+          its_home = home b c0 user j m no_phi seen chain j_in
+
+          abbrev its_rules : IsRuled j
+          its_rules = ruled b c0 user j m no_phi seen chain j_in
+
+          abbrev its_place : (k : ℕ) × (inst_at Fn its_home.0 k ≡ Some j)
+          its_place = place b c0 user j m no_phi seen chain j_in
+
+          uses : slice_index_or Marks its_home.0 false ≡ true → (n : ℕ) → IsIn n (indexes j) → UsesExpr W (index_expr Where.setting n)
+          uses here n n_in =
+              let at = at_some (indexes j) n n_in in
+              let r = readable j j_in chain n n_in its_home.0 (inl (index_mention b c0 user j m no_phi seen chain j_in here n at.0 (dropped j.args at.0 n at.1))) in
+              index_uses s entry right kinds o unit u p among names structs its_home.0 its_home.1 j its_home.2 its_home.3 its_rules.some its_place.0 at.0 n chain its_place.1 here (live b c0 user j m no_phi seen chain j_in) (dropped j.args at.0 n at.1) r.shape r.shaped r.other r.read
+
+          -- of a chain that is printed in another block the constants among its indexes are written as they are, be its own block reached or not
+          constant_uses : (its_home.0 ≡ b → ⊥) → (n : ℕ) → IsIn n (indexes j) → is_constant_index Gs n ≡ true → UsesExpr W (index_expr Where.setting n)
+          constant_uses apart n n_in constant = by_reached (slice_index_or Marks its_home.0 false) refl
+            where
+              by_reached : (here : Bool) → slice_index_or Marks its_home.0 false ≡ here → UsesExpr W (index_expr Where.setting n)
+              by_reached true here = uses here n n_in
+              by_reached false off =
+                  let r = readable j j_in chain n n_in its_home.0 (inr (record { holder = its_home.1; there = its_home.2; among = its_home.3; off = off; chain = chain; carried = carried b c0 user j m no_phi seen chain j_in apart })) in
+                  let read = constant_read (S s entry right kinds o unit u p among) (id_text (name_of u.claimed)) (global Gs n) constant in
+                  subst (λ (q : Option Expr). UsesExpr W (unwrap_or q (name (text_of (name_of u.claimed) (Id (id n)))))) (sym read.1) (r.read read.0 read.1)
+
+          abbrev Written : Type 0
+          Written = AreWritable s entry right Fn o unit u names Where.setting.global (spot_of b (its_home.0, j)) 0 (indexes j)
+
+          -- so its indexes are written
+          all_written : Written
+          all_written = elim (eqb_tells its_home.0 b) [
+            | inl w ↦
+                subst (λ (x : ℕ). AreWritable s entry right Fn o unit u names Where.setting.global (spot_of x (its_home.0, j)) 0 (indexes j)) w.1
+                (here_writable s entry right kinds o unit u p among names structs its_home.0 its_home.1 j its_home.2 its_home.3 (uses (ap (λ (x : ℕ). slice_index_or Marks x false) w.1 ∙ printed)))
+            | inr w ↦
+                kept_writable s entry right kinds o unit u p among names structs its_home.0 its_home.1 j its_home.2 its_home.3 chain (carried b c0 user j m no_phi seen chain j_in w.1) b
+                (λ n n_in on. constant_uses w.1 n n_in (constant_on (is_constant_index Gs n) (its_home.0 == b) on w.0))
+          ]
+
+          chain_way : Way b (base j) → Way b j.result
+          chain_way way = chain_has s entry right Fn o unit u names Where.setting.global b its_home.0 its_home.1 j rise its_home.2 (as_among its_home.1.insts j its_home.3) chain way all_written its_rules.typed its_rules.sound its_rules.own its_rules.points
+
+        -- along the instructions of the function
+        made_way : (front back : List Inst) → insts_of Fn ≡ front ++ back → (c n : ℕ) (i : Inst) (m : IsLinked Fn Marks c i n) → is i.op code.Phi ≡ false → IsSeen b c n i m → (ty : ℕ) (t : Tree) → pointee_of Gs Fn n ≡ Some ty → type_tree Gs ty ≡ Some t → NoneMakes n back
+            → ((xs ys : List Inst) → insts_of Fn ≡ xs ++ ys → length xs < length front → (d h : ℕ) (j : Inst) (v : IsLinked Fn Marks d j h) → is j.op code.Phi ≡ false → IsSeen b d h j v → (q : ℕ) (x : Tree) → pointee_of Gs Fn h ≡ Some q → type_tree Gs q ≡ Some x → NoneMakes h ys → Way b h) → Way b n
+        made_way front back whole c n i m no_phi seen ty t points shaped none later = by_found (makes_in n front)
           where
-            by_reached : (here : Bool) → slice_index_or Marks home.0 false ≡ here → UsesExpr W (index_expr Where.setting n)
-            by_reached true here = uses here n n_in
-            by_reached false off =
-                let r = readable j j_in chain n n_in home.0 (inr (record { holder = home.1; there = home.2; among = home.3; off = off; chain = chain; carried = carried apart })) in
-                let read = constant_read (S s entry right kinds o unit u p among) (id_text (name_of u.claimed)) (global Gs n) constant in
-                subst (λ (q : Option Expr). UsesExpr W (unwrap_or q (name (text_of (name_of u.claimed) (Id (id n)))))) (sym read.1) (r.read read.0 read.1)
+            root_way : NoneMakes n front → Way b n
+            root_way first =
+                let makes_none = subst (NoneMakes n) (sym whole) (none_joined n front back first none) in
+                let r = roots n ty t makes_none c i m points shaped in
+                start_has s entry right Fn o unit u names Where.setting.global b n ty t makes_none points r.members r.named
 
-        abbrev Written : Type 0
-        Written = AreWritable s entry right Fn o unit u names Where.setting.global (spot_of b (home.0, j)) 0 (indexes j)
+            by_split : (j : Inst) (xs ys : List Inst) → front ≡ xs ++ j ∷ ys → is_chain j.op ≡ true → (v : IsLinked Fn Marks c i j.result) → IsSeen b c j.result i v → Way b j.result
+            by_split j xs ys is_it chain v v_seen =
+                let joined : insts_of Fn ≡ xs ++ (j ∷ (ys ++ back)) = whole ∙ (ap (λ (l : List Inst). l ++ back) is_it ∙ more_back xs (j ∷ ys) back) in
+                let j_in : IsIn j (insts_of Fn) = subst (IsIn j) (sym joined) (in_middle xs j (ys ++ back)) in
+                let leads = (chains j j_in chain).leads in
+                chain_way c i j v no_phi v_seen chain j_in
+                (later xs (j ∷ (ys ++ back)) joined (subst (λ (l : List Inst). length xs < length l) (sym is_it) (shorter xs j ys)) (home b c i j v no_phi v_seen chain j_in).0 (base j) j (base_link b c i j v no_phi v_seen chain j_in) (chain_no_phi j.op chain)
+                (based_seen b c i j v no_phi v_seen chain j_in) leads.0 leads.1 leads.2 leads.3 (rise_at xs j (ys ++ back) (subst ChainsRise joined rise) chain))
 
-        -- so its base is seen there too, and its indexes are written
-        base_seen : (IsSeen home.0 (base j) j base_link) × Written
-        base_seen = elim (eqb_tells home.0 b) [
-          | inl w ↦ (
-            inl w.1,
-            subst (λ (x : ℕ). AreWritable s entry right Fn o unit u names Where.setting.global (spot_of x (home.0, j)) 0 (indexes j)) w.1
-                (here_writable s entry right kinds o unit u p among names structs home.0 home.1 j home.2 home.3 (uses (ap (λ (x : ℕ). slice_index_or Marks x false) w.1 ∙ printed))),
-          )
-          | inr w ↦ (
-            inr (chain, same_test 0 0 refl, carried w.1),
-            kept_writable s entry right kinds o unit u p among names structs home.0 home.1 j home.2 home.3 chain (carried w.1) b
-                (λ n n_in on. constant_uses w.1 n n_in (constant_on (is_constant_index Gs n) (home.0 == b) on w.0)),
-          )
-        ]
+            by_found : Found n front → Way b n
+            by_found (inr first) = root_way first
+            by_found (inl w) =
+                let x = split_at front w.0 w.1.0 in
+                subst (λ (h : ℕ). (v : IsLinked Fn Marks c i h) → IsSeen b c h i v → Way b h) w.1.2 (by_split w.0 x.0 x.1 x.2 w.1.1) m seen
 
-        chain_way : Way b (base j) → Way b j.result
-        chain_way way = chain_has s entry right Fn o unit u names Where.setting.global b home.0 home.1 j rise home.2 (as_among home.1.insts j home.3) chain way base_seen.1 ruled.typed ruled.sound ruled.own ruled.points
+        seen_way : (k : ℕ) (front back : List Inst) → insts_of Fn ≡ front ++ back → length front < k → (c n : ℕ) (i : Inst) (m : IsLinked Fn Marks c i n) → is i.op code.Phi ≡ false → IsSeen b c n i m → (ty : ℕ) (t : Tree) → pointee_of Gs Fn n ≡ Some ty → type_tree Gs ty ≡ Some t → NoneMakes n back → Way b n
+        seen_way zero front back whole low c n i m no_phi seen ty t points shaped none = absurd (omega (arith, low))
+        seen_way (suc k) front back whole low c n i m no_phi seen ty t points shaped none =
+            made_way front back whole c n i m no_phi seen ty t points shaped none (λ xs ys is_it less d h j v v_phi v_seen q x v_points v_shaped v_none. seen_way k xs ys is_it (let fewer : length xs < k = omega (arith, less, low) in fewer) d h j v v_phi v_seen q x v_points v_shaped v_none)
 
-      -- along the instructions of the function
-      made_way : (front back : List Inst) → insts_of Fn ≡ front ++ back → (c n : ℕ) (i : Inst) (m : IsLinked Fn Marks c i n) → is i.op code.Phi ≡ false → IsSeen c n i m → (ty : ℕ) (t : Tree) → pointee_of Gs Fn n ≡ Some ty → type_tree Gs ty ≡ Some t → NoneMakes n back
-          → ((xs ys : List Inst) → insts_of Fn ≡ xs ++ ys → length xs < length front → (d h : ℕ) (j : Inst) (v : IsLinked Fn Marks d j h) → is j.op code.Phi ≡ false → IsSeen d h j v → (q : ℕ) (x : Tree) → pointee_of Gs Fn h ≡ Some q → type_tree Gs q ≡ Some x → NoneMakes h ys → Way b h) → Way b n
-      made_way front back whole c n i m no_phi seen ty t points shaped none later = by_found (makes_in n front)
-        where
-          root_way : NoneMakes n front → Way b n
-          root_way first =
-              let makes_none = subst (NoneMakes n) (sym whole) (none_joined n front back first none) in
-              let r = roots n ty t makes_none c i m points shaped in
-              start_has s entry right Fn o unit u names Where.setting.global b n ty t makes_none points r.members r.named
-
-          by_split : (j : Inst) (xs ys : List Inst) → front ≡ xs ++ j ∷ ys → is_chain j.op ≡ true → (v : IsLinked Fn Marks c i j.result) → IsSeen c j.result i v → Way b j.result
-          by_split j xs ys is_it chain v v_seen =
-              let joined : insts_of Fn ≡ xs ++ (j ∷ (ys ++ back)) = whole ∙ (ap (λ (l : List Inst). l ++ back) is_it ∙ more_back xs (j ∷ ys) back) in
-              let j_in : IsIn j (insts_of Fn) = subst (IsIn j) (sym joined) (in_middle xs j (ys ++ back)) in
-              let leads = (chains j j_in chain).leads in
-              chain_way c i j v no_phi v_seen chain j_in
-              (later xs (j ∷ (ys ++ back)) joined (subst (λ (l : List Inst). length xs < length l) (sym is_it) (shorter xs j ys)) (home c i j v no_phi v_seen chain j_in).0 (base j) j (base_link c i j v no_phi v_seen chain j_in) (chain_no_phi j.op chain)
-              (base_seen c i j v no_phi v_seen chain j_in).0 leads.0 leads.1 leads.2 leads.3 (rise_at xs j (ys ++ back) (subst ChainsRise joined rise) chain))
-
-          by_found : Found n front → Way b n
-          by_found (inr first) = root_way first
-          by_found (inl w) =
-              let x = split_at front w.0 w.1.0 in
-              subst (λ (h : ℕ). (v : IsLinked Fn Marks c i h) → IsSeen c h i v → Way b h) w.1.2 (by_split w.0 x.0 x.1 x.2 w.1.1) m seen
-
-      seen_way : (k : ℕ) (front back : List Inst) → insts_of Fn ≡ front ++ back → length front < k → (c n : ℕ) (i : Inst) (m : IsLinked Fn Marks c i n) → is i.op code.Phi ≡ false → IsSeen c n i m → (ty : ℕ) (t : Tree) → pointee_of Gs Fn n ≡ Some ty → type_tree Gs ty ≡ Some t → NoneMakes n back → Way b n
-      seen_way zero front back whole low c n i m no_phi seen ty t points shaped none = absurd (omega (arith, low))
-      seen_way (suc k) front back whole low c n i m no_phi seen ty t points shaped none =
-          made_way front back whole c n i m no_phi seen ty t points shaped none (λ xs ys is_it less d h j v v_phi v_seen q x v_points v_shaped v_none. seen_way k xs ys is_it (let fewer : length xs < k = omega (arith, less, low) in fewer) d h j v v_phi v_seen q x v_points v_shaped v_none)
-
-    -- so is each pointer that a live instruction mentions, in its block
-    pub mentioned_way : (b n : ℕ) (i : Inst) (m : IsMentioned Fn Marks b i n) → is i.op code.Phi ≡ false → (ty : ℕ) (t : Tree) → pointee_of Gs Fn n ≡ Some ty → type_tree Gs ty ≡ Some t → Way b n
-    mentioned_way b n i m no_phi ty t points shaped =
-        seen_way b m.here (suc (length (insts_of Fn))) (insts_of Fn) [] (sym (no_more (insts_of Fn))) (let less : length (insts_of Fn) < suc (length (insts_of Fn)) = omega arith in less) b n i (as_linked Fn Marks b i n m) no_phi (inl refl) ty t points shaped tt
+      -- so is each pointer that a live instruction mentions, in its block
+      pub mentioned_way : (b n : ℕ) (i : Inst) (m : IsMentioned Fn Marks b i n) → is i.op code.Phi ≡ false → (ty : ℕ) (t : Tree) → pointee_of Gs Fn n ≡ Some ty → type_tree Gs ty ≡ Some t → Way b n
+      mentioned_way b n i m no_phi ty t points shaped =
+          seen_way b m.here (suc (length (insts_of Fn))) (insts_of Fn) [] (sym (no_more (insts_of Fn))) (let less : length (insts_of Fn) < suc (length (insts_of Fn)) = omega arith in less) b n i (as_linked Fn Marks b i n m) no_phi (inl refl) ty t points shaped tt

@@ -105,10 +105,10 @@ module _ (s : Setting) (entry : Option (List ℕ)) (right : IsConforming s.of en
     pub chain_ruled : is_chain i.op ≡ true → IsRuled s entry right kinds o unit u p among names structs i
     chain_ruled on = by_op i.op refl on facts_of
 
-  chains : (i : Inst) → IsIn i (insts_of Fn) → is_chain i.op ≡ true → IsRuled s entry right kinds o unit u p among names structs i
+  pub chains : (i : Inst) → IsIn i (insts_of Fn) → is_chain i.op ≡ true → IsRuled s entry right kinds o unit u p among names structs i
   chains i i_in on = chain_ruled i (as_among (insts_of Fn) i i_in) on
 
-  rise : ChainsRise (insts_of Fn)
+  pub rise : ChainsRise (insts_of Fn)
   rise = chains_rise s.of Fn (ordered s entry right kinds o unit u p among) (λ i i_in on. (chain_ruled i i_in on).some)
 
   -- where what is read of indexes as globals is written, and roots are named
@@ -117,5 +117,5 @@ module _ (s : Setting) (entry : Option (List ℕ)) (right : IsConforming s.of en
       → (roots : (n ty : ℕ) (t : Tree) → NoneMakes n (insts_of Fn) → (c : ℕ) (i : Inst) → IsLinked Fn (R s entry right kinds o unit u p among) c i n → pointee_of Gs Fn n ≡ Some ty → type_tree Gs ty ≡ Some t → IsRoot s entry right kinds o unit u p among names structs n ty t)
       → (b n : ℕ) (i : Inst) → IsMentioned Fn (R s entry right kinds o unit u p among) b i n → is i.op code.Phi ≡ false → (ty : ℕ) (t : Tree) → pointee_of Gs Fn n ≡ Some ty → type_tree Gs ty ≡ Some t → HasWay s entry right Fn o unit u names (V s entry right kinds o unit u p among).setting.global b n
   pointer_way reads roots b n i m no_phi ty t points shaped =
-      mentioned_way s entry right kinds o unit u p among names structs rise chains
+      mentioned_way s entry right kinds o unit u p among names structs chains rise
       (λ j j_in on k k_in c v. index_readable s entry right kinds o unit u p among names structs j (chains j j_in on) k k_in (reads j on k k_in c v)) roots b n i m no_phi ty t points shaped

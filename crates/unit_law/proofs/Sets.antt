@@ -165,7 +165,7 @@ module _ (s : Setting) (entry : Option (List ℕ)) (right : IsConforming s.of en
 
     -- an index of a live chain is written in its block: it is read as a global, or has a name
     module _ (place k n : ℕ) (on : is_chain i.op ≡ true) (at : inst_at Fn block place ≡ Some i) (here : slice_index_or Marks block false ≡ true) (live : IsLive Fn Marks block place) (arg : slice_get i.args (suc k) ≡ Some n) where
-      abbrev mention : IsMentioned Fn Marks block i n
+      pub mention : IsMentioned Fn Marks block i n
       mention = record {
         place = place;
         arg = suc k;
@@ -178,14 +178,22 @@ module _ (s : Setting) (entry : Option (List ℕ)) (right : IsConforming s.of en
       }
 
       wanted : (c : ℕ) → wants_by Gs Fn c (mention_at Fn Marks block i n mention) i ≡ true
+      unfolding mention
       wanted c =
           second_on (is_elsewhere_by Fn c (mention_at Fn Marks block i n mention) i) (is i.op code.Phi || ((is_chain i.op && not (suc k == 0)) || repeats_operands Gs Fn i))
           (second_on (is i.op code.Phi) ((is_chain i.op && not (suc k == 0)) || repeats_operands Gs Fn i)
           (first_on (is_chain i.op && not (suc k == 0)) (repeats_operands Gs Fn i) (both_on (is_chain i.op) (not (suc k == 0)) on (no_zero k))))
+
+      -- what is no global has a variable
+      index_named : (t : Tree) → type_tree Gs (type_of Where n) ≡ Some t → Where.setting.global n ≡ None → HasName Found (Id (id n)) × (Where.form n ≡ Forwarded → ⊥)
+      index_named t whole is_it = wanted_named s entry right kinds o unit u p among block n i mention block (counts_here s entry right kinds o unit u p among block i n mention (chain_no_phi i.op on)) wanted t whole is_it
+
+      pub index_apart : (t : Tree) → type_tree Gs (type_of Where n) ≡ Some t → Where.setting.global n ≡ None → Where.form n ≡ Forwarded → ⊥
+      index_apart t whole is_it = (index_named t whole is_it).1
 
       pub index_uses : (t : Tree) → type_tree Gs (type_of Where n) ≡ Some t → is_struct_key Gs (Id (id n)) ≡ false → ((e : Expr) → Where.setting.global n ≡ Some e → UsesExpr W e) → UsesExpr W (index_expr Where.setting n)
       index_uses t whole other read = by_global (Where.setting.global n) refl
         where
           by_global : (q : Option Expr) → Where.setting.global n ≡ q → UsesExpr W (unwrap_or q (name (text_of Found (Id (id n)))))
           by_global (Some e) is_it = read e is_it
-          by_global None is_it = own_text (Id (id n)) (wanted_named s entry right kinds o unit u p among block n i mention block (counts_here s entry right kinds o unit u p among block i n mention (chain_no_phi i.op on)) wanted t whole is_it) refl other
+          by_global None is_it = own_text (Id (id n)) (index_named t whole is_it).0 refl other

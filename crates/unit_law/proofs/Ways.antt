@@ -200,22 +200,23 @@ module _ (s : Setting) (entry : Option (List ℕ)) (right : IsConforming s.of en
     pub result_way : Way b n j
     result_way = by_stands stands
 
-    -- where the mention asks for a variable, it has a name
+    -- where the mention asks for a variable, it has one
+    pub result_apart : wants_by s.of.globals F home.0 (mention_at F R block i n m) i ≡ true → V.form n ≡ Forwarded → ⊥
+    result_apart wants form =
+        wanted_form s.of.globals F P told.0 (mention_at F R block i n m) i
+        (subst (λ (k : ℕ). IsIn (mention_at F R block i n m) (mentions_of plan_is.links k)) (sym result.1) (mention_stands F R block i n m plan_is.links plan_is.live)) (user_is F R block i n m) value wants (sym told.1 ∙ (ap V.form result.1 ∙ form))
+
+    -- and a name
     pub result_wanted : wants_by s.of.globals F home.0 (mention_at F R block i n m) i ≡ true → HasName Found (Id (id n))
     result_wanted wants = by_way stands
       where
-        never : V.form n ≡ Forwarded → ⊥
-        never form =
-            wanted_form s.of.globals F P told.0 (mention_at F R block i n m) i
-            (subst (λ (k : ℕ). IsIn (mention_at F R block i n m) (mentions_of plan_is.links k)) (sym result.1) (mention_stands F R block i n m plan_is.links plan_is.live)) (user_is F R block i n m) value wants (sym told.1 ∙ (ap V.form result.1 ∙ form))
-
         by_way : Stands (V.form n) home.0 b → HasName Found (Id (id n))
         by_way (inl top) = named_by Hoisted top refl
         by_way (inr own) = by_form own.0 own.1
           where
             by_form : (V.form n ≡ Local) ⊎ (V.form n ≡ Forwarded) → home.0 ≡ b → HasName Found (Id (id n))
             by_form (inl local) same = named_by Local local (first_on (nth p.graph home.0).reached (is j.op code.Variable) (reached_here same))
-            by_form (inr forwarded) same = absurd (never forwarded)
+            by_form (inr forwarded) same = absurd (result_apart wants forwarded)
 
   abbrev Gs : List Inst
   Gs = s.of.globals
@@ -310,11 +311,13 @@ module _ (s : Setting) (entry : Option (List ℕ)) (right : IsConforming s.of en
     pub ways : Goal
     ways = by_maker (maker n v.shape v.shaped local)
 
-  -- where the mention asks for a variable, as that of a phi and of an index does, the value has a name
+  -- where the mention asks for a variable, as that of a phi and of an index does, the value has a name, and stands in no expression
   module _ (block n : ℕ) (i : Inst) (m : IsMentioned F R block i n) (b : ℕ) (counts : CountsIn block i n m b) (wants : (c : ℕ) → wants_by s.of.globals F c (mention_at F R block i n m) i ≡ true) (t : Tree) (whole : type_tree s.of.globals (type_of V n) ≡ Some t) (local : V.setting.global n ≡ None) where
-    by_wanted : IsMadeSo n t whole local → HasName Found (Id (id n))
-    by_wanted (inl named) = named.0
-    by_wanted (inr w) = result_wanted block n i w.0 m b counts w.1.0 w.1.1 (shaped_value Gs w.0.ty t w.1.2) (wants (home block n i w.0 m b counts w.1.0 w.1.1 (shaped_value Gs w.0.ty t w.1.2)).0)
+    by_wanted : IsMadeSo n t whole local → HasName Found (Id (id n)) × (V.form n ≡ Forwarded → ⊥)
+    by_wanted (inl named) = named
+    by_wanted (inr w) =
+        let asks = wants (home block n i w.0 m b counts w.1.0 w.1.1 (shaped_value Gs w.0.ty t w.1.2)).0 in
+        (result_wanted block n i w.0 m b counts w.1.0 w.1.1 (shaped_value Gs w.0.ty t w.1.2) asks, result_apart block n i w.0 m b counts w.1.0 w.1.1 (shaped_value Gs w.0.ty t w.1.2) asks)
 
-    pub wanted_named : HasName Found (Id (id n))
+    pub wanted_named : HasName Found (Id (id n)) × (V.form n ≡ Forwarded → ⊥)
     wanted_named = by_wanted (maker n t whole local)
