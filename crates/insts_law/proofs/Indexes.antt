@@ -100,7 +100,7 @@ joined_count : (xs ys : List ℕ) → length (xs ++ ys) ≡ length xs + length y
 joined_count [] ys = let none : length ys ≡ 0 + length ys = omega arith in none
 joined_count (x ∷ xs) ys = let more = joined_count xs ys in let next : suc (length (xs ++ ys)) ≡ suc (length xs) + length ys = omega (arith, more) in next
 
-at_end : (xs ys : List ℕ) (n : ℕ) → length ys ≡ n → drop (length (xs ++ ys) - n) (xs ++ ys) ≡ ys
+pub at_end : (xs ys : List ℕ) (n : ℕ) → length ys ≡ n → drop (length (xs ++ ys) - n) (xs ++ ys) ≡ ys
 at_end xs ys n same = drop_front xs ys (length (xs ++ ys) - n) (let whole = joined_count xs ys in omega (arith, whole, same))
 
 module _ (m : ModuleState) (opts : Options) (right : IsConforming m opts.entry) (kinds : HaveKinds m.globals) (unit : TranslationUnit) (u : IsUnitOf m opts unit) (inv : Invocation) (p : FunctionPlan) (among : IsIn p u.plans) (lends : LendsWhole (S m opts unit u inv)) (is_one : IsFunctionOf (written p) m.functions)

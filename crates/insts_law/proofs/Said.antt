@@ -105,7 +105,7 @@ module _ (m : ModuleState) (opts : Options) (right : IsConforming m opts.entry) 
     pub record IsLeftOfOperation (form : IsFormedFunction Fn) (b : ℕ) (o : Body Fn b) (has : reached_body Fn form b ≡ Some o) (done befores : List Inst) (i : Inst) (rest : List Inst) (split : o.insts ≡ befores ++ i ∷ rest) (all : (j : Inst) → IsOf j befores → IsOf j done)
         (c : Supplied Conf) (z : State) (at : At N s (Holds Fn) Fn b done (i ∷ (rest ++ o.last ∷ [])) c z) : Type 0 where
       pub values : LeftAt m opts right kinds unit u inv p among lends one inner_of program calls (Holds Fn) form b o has done befores i rest split all c z at
-      pub lowers : (q : OperationKind) → kind_of i.op ≡ kind.Value q → (t : Tree) → type_tree m.globals i.ty ≡ Some t → (x : ValueTree) → outcome (step_kind i.op) s c.at.top i ≡ Some (holds_value x)
+      pub lowers : (q : OperationKind) → kind_of i.op ≡ kind.Value q → is_variable_form (Where.form i.result) ≡ true → (t : Tree) → type_tree m.globals i.ty ≡ Some t → (x : ValueTree) → outcome (step_kind i.op) s c.at.top i ≡ Some (holds_value x)
           → ((k : ℕ) → In k (reads i) → (w : ValueTree) → value_at s c.at.top k ≡ Some w → Says m opts right kinds unit u inv p among lends one inner_of program calls (Holds Fn) form b o has done befores i rest split all c z at k k w)
           → evaluate program calls (expression Where (value Where b) b i) z ≡ got [] (typed (N.shape i.result) x, z)
 
@@ -119,7 +119,7 @@ module _ (m : ModuleState) (opts : Options) (right : IsConforming m opts.entry) 
         let there = stands_among m Fn in_it.order in_it.formed inner_of b o (form.blocks b o.block o.there) befores i rest split in
         let result = (in_it.formed i there).result (gives_result i.op (ap gives e)) in
         let t = shapes i there (not_off (has_type i.op) (λ off. result ((inner i there).1 off))) (variable_value s opts.entry right kinds opts unit u p among i (as_in (insts_of Fn) i there) result on) in
-        l.lowers q e t.0 t.1 x told (operands_say m opts right kinds unit u inv p among lends one inner_of program calls (Holds Fn) form b o has done befores i rest split all q e on t.0 t.1 c z at l.values x told)
+        l.lowers q e on t.0 t.1 x told (operands_say m opts right kinds unit u inv p among lends one inner_of program calls (Holds Fn) form b o has done befores i rest split all q e on t.0 t.1 c z at l.values x told)
 
     pub say_operations : AreLeftOfOperations → SayOperations p.scope
     say_operations left = subst SayOperations (sym (plan_is s opts.entry right kinds opts unit u p among).scope_is) (say_there left)

@@ -91,13 +91,13 @@ module _ (m : ModuleState) (opts : Options) (right : IsConforming m opts.entry) 
     pub split_so : block.behind ≡ befores ++ i ∷ R'
     split_so = split_behind m Fn in_it.order in_it.formed inner b o block befores i rest split
 
-    there : IsAmong i (insts_of Fn)
+    pub there : IsAmong i (insts_of Fn)
     there = stands_among m Fn in_it.order in_it.formed inner b o block befores i rest split
 
-    here : slice_index_or Marks b false ≡ true
+    pub here : slice_index_or Marks b false ≡ true
     here = reached_nth (graph Fn) b ∙ reached_only Fn form b o has
 
-    place : (n : ℕ) × (inst_at Fn b n ≡ Some i)
+    pub place : (n : ℕ) × (inst_at Fn b n ≡ Some i)
     place = placed_in Fn b o.block i o.there (stands_in m Fn in_it.order in_it.formed inner b o block befores i rest split)
 
     -- what is left at a state
@@ -116,7 +116,7 @@ module _ (m : ModuleState) (opts : Options) (right : IsConforming m opts.entry) 
           placed_live s opts.entry right kinds opts unit u p among b place.0 i place.1
           (variable_live s opts.entry right kinds opts unit u p among i (as_in (insts_of Fn) i there) some on)
 
-      ready : (k : ℕ) → IsIn k (operand_ids i) → IsReady s opts.entry right kinds opts unit u p among lends b i.at k
+      pub ready : (k : ℕ) → IsIn k (operand_ids i) → IsReady s opts.entry right kinds opts unit u p among lends b i.at k
       ready k operand =
           let shape = operand_shaped s opts.entry right Fn (in_module s opts.entry right kinds opts unit u p among) i there t shaped k operand in
           record {
@@ -130,7 +130,7 @@ module _ (m : ModuleState) (opts : Options) (right : IsConforming m opts.entry) 
             early = (let itself : i.at ≤ i.at = omega arith in itself);
           }
 
-      operand : step_kind i.op ≡ steps.operation → (k : ℕ) → In k (reads i) → IsIn k (operand_ids i)
+      pub operand : step_kind i.op ≡ steps.operation → (k : ℕ) → In k (reads i) → IsIn k (operand_ids i)
       operand step k read =
           subst (IsIn k) (sym (same_ids (operation_kind_of i.op) i))
           (operands_by i.op i.args k (inner i there) (value_unnamed i.op q is) (ap is_operation step) (in_it.formed i there).most (subst (λ (x : steps.StepKind). In k (read_ids x i)) step read))

@@ -150,15 +150,15 @@ module _ (bytes : List ℕ) (m : ModuleState) (o : Options) (read : IsReadFrom b
     made_text : IsText t
     made_text = by_stands (stands s o.entry right kinds o unit u p planned b n v.user j v.mentioned b counts made some (shaped_value Gs j.ty t shaped))
 
-  -- what stands in expressions in the block
-  pub result_text : (b k : ℕ) (j : Inst) → inst_at Fn b k ≡ Some j → slice_index_or Marks b false ≡ true → IsIn j (insts_of Fn) → Where.form j.result ≡ Forwarded → (t : Tree) → type_tree Gs j.ty ≡ Some t → IsText t
-  result_text b k j at here among form t shaped =
+  -- what the block makes that is not gone
+  pub result_text : (b k : ℕ) (j : Inst) → inst_at Fn b k ≡ Some j → slice_index_or Marks b false ≡ true → IsIn j (insts_of Fn) → is_gone (Where.form j.result) ≡ false → (t : Tree) → type_tree Gs j.ty ≡ Some t → IsText t
+  result_text b k j at here among kept t shaped =
       let block = some_part (λ (x : Block). slice_get x.insts k) (slice_get Fn.blocks b) j at in
       let some : j.ty ≡ 0 → ⊥ = shaped_some s o.entry right Fn (in_module s o.entry right kinds o unit u p planned) j.ty t shaped in
       live_text bytes m o read fine unit u inv told left p planned j (subst (λ (g : Function). IsIn j (insts_of g)) (sym same) among) (no_variable j among some t shaped) t shaped
       (record { number = b; block = block.0; there = subst (λ (g : Function). slice_get g.blocks b ≡ Some block.0) (sym same) block.1; among = at_place block.0.insts k j block.2 })
       (ap (λ (g : List Node). slice_index_or (map is_reached_node g) b false) (plan_is s o.entry right kinds o unit u p planned).graph_is ∙ here)
-      (ap is_gone (ap (λ (w : Scope). w.form j.result) (plan_is s o.entry right kinds o unit u p planned).scope_is ∙ form))
+      (ap (λ (w : Scope). is_gone (w.form j.result)) (plan_is s o.entry right kinds o unit u p planned).scope_is ∙ kept)
 
   -- a value parameter
   parameter_type_text : (n ty : ℕ) (t : Tree) → parameter_in Fn n ≡ Some ty → type_tree Gs ty ≡ Some t → IsText t

@@ -17,7 +17,6 @@ use Rattle.module_semantics.specs.Setting.{Setting}
 use Rattle.module_semantics.specs.State.{value as holds_value, Conf}
 use Rattle.module_semantics.specs.Steps as steps
 use Rattle.module_semantics.specs.Steps.{step_kind}
-use Rattle.hoist_plan.specs.declared.form.Form.TheVariants.{Forwarded}
 use Rattle.glsl_ast.specs.Tree.{Text, Expr, TranslationUnit}
 use Rattle.glsl_semantics.specs.Shapes.{Typed, typed}
 use Rattle.glsl_semantics.specs.States.{State}
@@ -79,7 +78,7 @@ module _ (bytes : List ℕ) (m : ModuleState) (o : Options) (read : IsReadFrom b
   module _ (one : IsFunctionOf Fn m.functions) (calls : Text → List Argument → State → Result (Option Typed × State)) (c : Conf) (z : State) (expr : ℕ → Expr) where
     -- the length of an array is said
     abbrev pub AreLengthsSaid : Type 0
-    AreLengthsSaid = (j : Inst) → IsIn j (insts_of Fn) → step_kind j.op ≡ steps.array_length → Where.form j.result ≡ Forwarded → (v : ValueTree) → outcome steps.array_length s c.top j ≡ Some (holds_value v) → evaluate P calls (expression Where expr b j) z ≡ got [] (typed (N.shape j.result) v, z)
+    AreLengthsSaid = (j : Inst) → IsIn j (insts_of Fn) → step_kind j.op ≡ steps.array_length → (v : ValueTree) → outcome steps.array_length s c.top j ≡ Some (holds_value v) → evaluate P calls (expression Where expr b j) z ≡ got [] (typed (N.shape j.result) v, z)
 
     pub known : (suits : ModuleFits s) (words : IsSettingOfWords s) (fit : ConfFits s c) (low : IsStateOfWords c) (same : c.top.function ≡ Fn) → ((j : Inst) → IsIn j (insts_of Fn) → IsTyped s Fn j (step_kind j.op))
         → AreLengthsSaid → AreKnown s o.entry right kinds o unit u p among lends b one P calls N c.top z expr
@@ -89,8 +88,8 @@ module _ (bytes : List ℕ) (m : ModuleState) (o : Options) (read : IsReadFrom b
       fitting = fitting m o right kinds unit u inv p among suits words c fit low same;
       low = low_values m o right kinds unit u inv p among suits words c fit low same;
       literals = literals m o right kinds unit u inv p among suits words c fit low same;
-      result_texts = λ j there k at here form t shaped.
-          result_text bytes m o read fine unit u inv told left p among right kinds b k j at here there form t shaped;
+      result_texts = λ j there k at here kept t shaped.
+          result_text bytes m o read fine unit u inv told left p among right kinds b k j at here there kept t shaped;
       operand_texts = λ n v t shaped w has.
           operand_text bytes m o read fine unit u inv told left p among right kinds lends b n v t shaped (λ g there far. constant_type n v t shaped w (constant_value s c fit n g there w has));
       copies = λ j there copies t shaped. copies_short s o.entry right fine.later.leaves Fn (in_module s o.entry right kinds o unit u p among) j (as_among (insts_of Fn) j there) copies t shaped;

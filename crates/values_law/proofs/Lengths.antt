@@ -315,7 +315,7 @@ module _ (bytes : List ℕ) (m : ModuleState) (o : Options) (read : IsReadFrom b
 
   -- The law.
   pub lengths_said : (one : IsFunctionOf Fn m.functions) (calls : Text → List Argument → State → Result (Option Typed × State)) (c : Conf) (z : State) (expr : ℕ → Expr) → Agree N c z → ConfFits s c → AreLengthsSaid bytes m o read fine unit u inv told left right kinds p among lends b one calls c z expr
-  lengths_said one calls c z expr agree fits j there step form x has =
+  lengths_said one calls c z expr agree fits j there step x has =
       let opcode = length_op j.op step in
       subst (λ (q : Shape). evaluate P calls (expression Where expr b j) z ≡ got [] (typed q x, z)) (sym (shape_is j there opcode (length_typed j.op opcode))) (by_global j there opcode (global Gs (word j 0)) refl (found_block j there opcode) has)
     where

@@ -81,4 +81,4 @@ module _ (bytes : List ℕ) (m : ModuleState) (o : Options) (read : IsReadFrom b
         lowered_so s o.entry right kinds o unit u p among lends b one P calls N c.at.top z (value Where b)
         (known bytes m o read fine unit u inv told left right kinds p among lends b one calls c.at z (value Where b) suits words (fitting c.at stands.holds) low stands.function typed_so
         (lengths_said bytes m o read fine unit u inv told left right kinds p among lends b one calls c.at z (value Where b) stands.agree.all (fitting c.at stands.holds)))
-        j there k at here (λ step n n_in. (ready step n n_in).value) t shaped form v has each)
+        j there k at here (λ step n n_in. (ready step n n_in).value) t shaped v form has each)

@@ -1,6 +1,6 @@
 -- What makes a value stands before what mentions it; so in the block of both it is done before that.
-use Rattle.std.proofs.Common.{◌≡◌, ◌≤◌, ◌<◌, ◌+◌, ◌&&◌, ℕ, zero, suc, Bool, true, false, List, [], ◌∷◌, ◌++◌, append_assoc, length, Some, inl, inr, refl, sym, ap, ◌∙◌, subst, arith}
-use Rattle.std.specs.Prelude.{flat_map, slice_get, slice_index}
+use Rattle.std.proofs.Common.{◌≡◌, ◌≤◌, ◌<◌, ◌+◌, ◌&&◌, ◌||◌, ℕ, zero, suc, Bool, true, false, List, [], ◌∷◌, ◌++◌, append_assoc, length, Some, inl, inr, refl, sym, ap, ◌∙◌, subst, arith}
+use Rattle.std.specs.Prelude.{flat_map, slice_get, slice_index, slice_index_or}
 use Rattle.spv_ops.specs.Opcode.{is}
 use Rattle.spv_ops.specs.Operands.{is_id}
 use Rattle.spv_ops.specs.declared.Op.TheVariants as code
@@ -10,7 +10,7 @@ use Rattle.spv_module.specs.declared.inst.Block.{Block}
 use Rattle.spv_module.specs.declared.inst.Function.{Function}
 use Rattle.spv_index.specs.Locals.{insts_of, inst_in}
 use Rattle.profile_rules.specs.Operands.{need, is_there_in}
-use Rattle.use_chains.specs.Slots.{is_value, is_taken}
+use Rattle.use_chains.specs.Slots.{is_value, is_taken, is_slot, is_base}
 use Rattle.module_semantics.specs.Steps.{is_phi}
 use Rattle.agree_law.specs.Blocks.{IsOf}
 use Rattle.agree_law.specs.Points.{Body, behind}
@@ -19,8 +19,8 @@ use Rattle.plan_law.proofs.Order.{before_of}
 use Rattle.typed_law.proofs.Rules.{operand_there}
 use Rattle.claim_law.specs.Claimed.{IsIn}
 use Rattle.claim_law.proofs.Constants.{found_in}
-use Rattle.unit_law.specs.Mentioned.{IsMentioned}
-use Rattle.unit_law.proofs.Links.{user_in}
+use Rattle.unit_law.specs.Mentioned.{IsMentioned, IsLinked}
+use Rattle.unit_law.proofs.Links.{as_linked, linked_in}
 use Rattle.unit_law.proofs.Lists.{as_among}
 use Rattle.formed_law.specs.Formed.{ArePhis, IsFormedBlock}
 
@@ -96,17 +96,21 @@ all_behind done (i ∷ is) j (inr later) = all_behind (i ∷ done) is j later
 
 module _ (m : ModuleState) (f : Function) (order : AreInOrder m f) where
   -- the law: an instruction whose result another mentions that is no phi stands before it
-  pub maker_before : (reached : List Bool) (block : ℕ) (i : Inst) (n : ℕ) → IsMentioned f reached block i n → is i.op code.Phi ≡ false → (j : Inst) → inst_in f n ≡ Some j → (j.result ≡ 0 → ⊥) → j.at < i.at
-  maker_before reached block i n w no_phi j made some =
+  pub linked_before : (reached : List Bool) (block : ℕ) (i : Inst) (n : ℕ) → IsLinked f reached block i n → is i.op code.Phi ≡ false → (j : Inst) → inst_in f n ≡ Some j → (j.result ≡ 0 → ⊥) → j.at < i.at
+  linked_before reached block i n w no_phi j made some =
       let own = found_in (insts_of f) n j made in
-      let names = both_left (is_id i.op i.args w.arg) (is_value i.op w.arg && is_taken f reached i w.arg) w.slot in
-      let value = both_left (is_value i.op w.arg) (is_taken f reached i w.arg) (both_right (is_id i.op i.args w.arg) (is_value i.op w.arg && is_taken f reached i w.arg) w.slot) in
+      let slot = both_right (slice_index_or reached block false || is_base i w.arg) (is_slot f reached i w.arg) w.slot in
+      let names = both_left (is_id i.op i.args w.arg) (is_value i.op w.arg && is_taken f reached i w.arg) slot in
+      let value = both_left (is_value i.op w.arg) (is_taken f reached i w.arg) (both_right (is_id i.op i.args w.arg) (is_value i.op w.arg && is_taken f reached i w.arg) slot) in
       let word = word_there i.args w.arg n w.word in
       let there : is_there_in m f i.at (need i.op w.arg) (slice_index i.args w.arg) ≡ true
-      = operand_there (is_there_in m f i.at) i (order.there i (as_among (insts_of f) i (user_in f reached block i n w))) w.arg word.0 names in
+      = operand_there (is_there_in m f i.at) i (order.there i (as_among (insts_of f) i (linked_in f reached block i n w))) w.arg word.0 names in
       before_of m f i.at n i.op w.arg j value no_phi
       (subst (IsOwn m f) own.1 (order.own j (as_among (insts_of f) j own.0) some)) made
       (subst (λ (k : ℕ). is_there_in m f i.at (need i.op w.arg) k ≡ true) word.1 there)
+
+  pub maker_before : (reached : List Bool) (block : ℕ) (i : Inst) (n : ℕ) → IsMentioned f reached block i n → is i.op code.Phi ≡ false → (j : Inst) → inst_in f n ≡ Some j → (j.result ≡ 0 → ⊥) → j.at < i.at
+  maker_before reached block i n w = linked_before reached block i n (as_linked f reached block i n w)
 
   -- so it is done where both stand in one block
   pub done_before : (b : ℕ) (o : Body f b) (formed : IsFormedBlock o.block.insts) (befores : List Inst) (i : Inst) (rest : List Inst) → formed.behind ≡ befores ++ i ∷ rest → (j : Inst) → IsIn j o.block.insts → is_phi j ≡ false → j.at < i.at → IsOf j befores

@@ -16,6 +16,7 @@ use Rattle.module_semantics.specs.Operands.{value_at}
 use Rattle.module_semantics.specs.Steps as steps
 use Rattle.module_semantics.specs.Steps.{step_kind, computed}
 use Rattle.use_chains.specs.Slots.{inst_at}
+use Rattle.hoist_plan.specs.Plan.{is_always_named}
 use Rattle.hoist_plan.specs.declared.form.Form.TheVariants.{Forwarded}
 use Rattle.glsl_ast.specs.Tree.{Text, Expr, TranslationUnit}
 use Rattle.glsl_semantics.specs.Shapes.{Shape, Typed, typed}
@@ -24,6 +25,7 @@ use Rattle.glsl_semantics.specs.Expressions.{Program, Argument, evaluate}
 use Rattle.expr_forward.specs.Scope.{Scope}
 use Rattle.expr_forward.specs.Paths.{word_at}
 use Rattle.expr_forward.specs.Values.{expression}
+use Rattle.function_plan.specs.Phis.{is_gone}
 use Rattle.function_text.specs.Functions.{FunctionPlan}
 use Rattle.unit_rules.specs.Translation.{text_of, id_text, global_expr}
 use Rattle.unit_rules.specs.Unit.{IsUnitOf}
@@ -79,20 +81,20 @@ module _ (s : Setting) (entry : Option (List ℕ)) (right : IsConforming s.of en
       pub fitting : (n : ℕ) (t : Tree) → value_shape s Fn n ≡ Some t → (v : ValueTree) → value_at s c n ≡ Some v → fits t v ≡ true
       pub low : (n : ℕ) (v : ValueTree) → value_at s c n ≡ Some v → IsOfWords v
       pub literals : (n : ℕ) (v : ValueTree) → value_at s c n ≡ Some v → (w : ℕ) → word_at Where.setting n ≡ Some w → v ≡ word w
-      pub result_texts : (j : Inst) → IsIn j (insts_of Fn) → (k : ℕ) → inst_at Fn b k ≡ Some j → slice_index_or Marks b false ≡ true → Where.form j.result ≡ Forwarded → (t : Tree) → type_tree s.of.globals j.ty ≡ Some t → IsTextType program t
+      pub result_texts : (j : Inst) → IsIn j (insts_of Fn) → (k : ℕ) → inst_at Fn b k ≡ Some j → slice_index_or Marks b false ≡ true → is_gone (Where.form j.result) ≡ false → (t : Tree) → type_tree s.of.globals j.ty ≡ Some t → IsTextType program t
       pub operand_texts : (n : ℕ) → IsValueIn Where Marks b n → (t : Tree) → value_shape s Fn n ≡ Some t → (v : ValueTree) → value_at s c n ≡ Some v → IsTextType program t
       pub copies : (j : Inst) → IsIn j (insts_of Fn) → j.op ≡ code.CopyLogical → (t : Tree) → type_tree s.of.globals j.ty ≡ Some t → IsShort t
       pub typed_so : (j : Inst) → IsIn j (insts_of Fn) → IsTyped s Fn j (step_kind j.op)
-      pub lengths : (j : Inst) → IsIn j (insts_of Fn) → step_kind j.op ≡ steps.array_length → Where.form j.result ≡ Forwarded → (v : ValueTree) → outcome steps.array_length s c j ≡ Some (holds_value v) → SaysSo (expression Where expr b j) j.result v
+      pub lengths : (j : Inst) → IsIn j (insts_of Fn) → step_kind j.op ≡ steps.array_length → (v : ValueTree) → outcome steps.array_length s c j ≡ Some (holds_value v) → SaysSo (expression Where expr b j) j.result v
 
-    module _ (known : AreKnown) (j : Inst) (there : IsIn j (insts_of Fn)) (k : ℕ) (at : inst_at Fn b k ≡ Some j) (here : slice_index_or Marks b false ≡ true) (ready : step_kind j.op ≡ steps.operation → (n : ℕ) → In n (reads j) → IsValueIn Where Marks b n) (t : Tree) (shaped : type_tree s.of.globals j.ty ≡ Some t) (form : Where.form j.result ≡ Forwarded) (v : ValueTree) where
-      by_operation : step_kind j.op ≡ steps.operation → outcome (step_kind j.op) s c j ≡ Some (holds_value v) → ((k : ℕ) → In k (reads j) → (w : ValueTree) → value_at s c k ≡ Some w → SaysSo (expr k) k w) → SaysSo (expression Where expr b j) j.result v
-      by_operation step has each =
+    module _ (known : AreKnown) (j : Inst) (there : IsIn j (insts_of Fn)) (k : ℕ) (at : inst_at Fn b k ≡ Some j) (here : slice_index_or Marks b false ≡ true) (ready : step_kind j.op ≡ steps.operation → (n : ℕ) → In n (reads j) → IsValueIn Where Marks b n) (t : Tree) (shaped : type_tree s.of.globals j.ty ≡ Some t) (v : ValueTree) where
+      by_operation : is_gone (Where.form j.result) ≡ false → is_always_named j.op ≡ false → step_kind j.op ≡ steps.operation → outcome (step_kind j.op) s c j ≡ Some (holds_value v) → ((k : ℕ) → In k (reads j) → (w : ValueTree) → value_at s c k ≡ Some w → SaysSo (expr k) k w) → SaysSo (expression Where expr b j) j.result v
+      by_operation kept unnamed step has each =
           let in_it = in_module s entry right kinds o unit u p among in
           let own = own_shape s entry right Fn in_it j (as_among (insts_of Fn) j there) t shaped in
           subst (λ (q : Shape). evaluate program calls (expression Where expr b j) z ≡ got [] (typed q v, z)) (sym (known.shapes j.result t own))
-          (operation_says s u.entry o.overrides (Found s entry right kinds o unit u p among) Fn globals Where.form Where.carried program known.none calls z c expr N.shape j t shaped (known.result_texts j there k at here form t shaped) b v
-          entry right in_it (as_among (insts_of Fn) j there) (unnamed_so s entry right kinds o unit u p among j there t shaped form) (λ copies. known.copies j there copies t shaped)
+          (operation_says s u.entry o.overrides (Found s entry right kinds o unit u p among) Fn globals Where.form Where.carried program known.none calls z c expr N.shape j t shaped (known.result_texts j there k at here kept t shaped) b v
+          entry right in_it (as_among (insts_of Fn) j there) unnamed (λ copies. known.copies j there copies t shaped)
           (subst (λ (q : steps.StepKind). IsTyped s Fn j q) step (known.typed_so j there))
           (λ n n_in a a_is w w_is. record {
             says = each n (subst (λ (q : steps.StepKind). In n (read_ids q j)) (sym step) n_in) w w_is;
@@ -104,10 +106,12 @@ module _ (s : Setting) (entry : Option (List ℕ)) (right : IsConforming s.of en
           })
           (given_value (computed s c j) v (subst (λ (q : steps.StepKind). outcome q s c j ≡ Some (holds_value v)) step has)))
 
+      -- an operation, or the length of an array, that is not always named, and that is written
+      pub written_so : is_gone (Where.form j.result) ≡ false → is_always_named j.op ≡ false → (step_kind j.op ≡ steps.operation) ⊎ (step_kind j.op ≡ steps.array_length)
+          → outcome (step_kind j.op) s c j ≡ Some (holds_value v) → ((k : ℕ) → In k (reads j) → (w : ValueTree) → value_at s c k ≡ Some w → SaysSo (expr k) k w) → SaysSo (expression Where expr b j) j.result v
+      written_so kept unnamed (inl step) has each = by_operation kept unnamed step has each
+      written_so kept unnamed (inr step) has each = known.lengths j there step v (subst (λ (q : steps.StepKind). outcome q s c j ≡ Some (holds_value v)) step has)
+
       -- The field `lowers` of what is asked of values.
-      pub lowered_so : outcome (step_kind j.op) s c j ≡ Some (holds_value v) → ((k : ℕ) → In k (reads j) → (w : ValueTree) → value_at s c k ≡ Some w → SaysSo (expr k) k w) → SaysSo (expression Where expr b j) j.result v
-      lowered_so has each = by_kind (forwarded_kind s entry right kinds o unit u p among j there t shaped form lends is_one).0
-        where
-          by_kind : (step_kind j.op ≡ steps.operation) ⊎ (step_kind j.op ≡ steps.array_length) → SaysSo (expression Where expr b j) j.result v
-          by_kind (inl step) = by_operation step has each
-          by_kind (inr step) = known.lengths j there step form v (subst (λ (q : steps.StepKind). outcome q s c j ≡ Some (holds_value v)) step has)
+      pub lowered_so : Where.form j.result ≡ Forwarded → outcome (step_kind j.op) s c j ≡ Some (holds_value v) → ((k : ℕ) → In k (reads j) → (w : ValueTree) → value_at s c k ≡ Some w → SaysSo (expr k) k w) → SaysSo (expression Where expr b j) j.result v
+      lowered_so form = written_so (ap is_gone form) (unnamed_so s entry right kinds o unit u p among j there t shaped form) (forwarded_kind s entry right kinds o unit u p among j there t shaped form lends is_one).0

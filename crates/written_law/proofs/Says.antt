@@ -196,6 +196,41 @@ module _ (s : Setting) (entry : Option (List ℕ)) (right : IsConforming s.of en
     pub hoisted : (n : ℕ) → (is_hoisted (Where.form n) && is_result Fn n) ≡ true → N.is_outer n ≡ true
     pub local : (n : ℕ) → (is_local_form (Where.form n) && (is_result Fn n && is_named_in Where.form p.graph Fn.blocks n)) ≡ true → N.is_local n ≡ true
 
+  -- what has a variable has it at an instruction of the block
+  module _ (is_one : IsFunctionOf Fn s.of.functions) (N : Naming) (names : AreNamesOf N) (done : List Inst) (body : Body Fn b) (formed : IsFormedBlock body.block.insts) (befores : List Inst) (i : Inst) (rest : List Inst) (split : formed.behind ≡ befores ++ i ∷ rest) (all_done : (j : Inst) → IsOf j befores → IsOf j done) where
+    -- what makes a value that is ready is done
+    made_done : (n : ℕ) (r : IsReady i.at n) (j : Inst) → inst_in Fn n ≡ Some j → type_tree gs j.ty ≡ Some r.value.shape → IsIn j body.block.insts → is_phi j ≡ false → IsOf j done
+    made_done n r j made shaped there off =
+        let of_it = found_in (insts_of Fn) n j made in
+        let before = maker_before s.of Fn (ordered s entry right kinds o unit u p among) Marks b r.value.user n r.value.mentioned r.value.no_phi j made (some_result j of_it.0 (no_zero s entry right j.ty r.value.shape shaped)) in
+        let early = r.early in
+        all_done j (done_before s.of Fn (ordered s entry right kinds o unit u p among) b body formed befores i rest split j there off (omega (arith, before, early)))
+
+    -- a value that has a variable
+    module _ (n : ℕ) (r : IsReady i.at n) (local : Where.setting.global n ≡ None) (named : Where.form n ≡ Forwarded → ⊥) where
+      abbrev pub There : Type 0
+      There = (N.is_outer n ≡ true) ⊎ ((N.is_local n ≡ true) × (have_result done n ≡ true))
+
+      pub inner_is : global gs n ≡ None
+      inner_is = no_global s entry right kinds o unit u p among n r.value.shape r.value.shaped local
+
+      by_placed : (j : Inst) (by : IsMadeBy s entry right kinds o unit u p among lends n r.value.shape j) → IsPlaced s entry right kinds o unit u p among lends is_one n r.value.shape j by b r.value.user r.value.mentioned b (counts_here s entry right kinds o unit u p among b r.value.user n r.value.mentioned r.value.no_phi) → There
+      by_placed j by (inl top) = inl (names.hoisted n top)
+      by_placed j by (inr (same, inl form)) =
+          let home = home_is s entry right kinds o unit u p among lends is_one n r.value.shape j by b r.value.user r.value.mentioned b (counts_here s entry right kinds o unit u p among b r.value.user n r.value.mentioned r.value.no_phi) in
+          let of_it = found_in (insts_of Fn) n j by.made in
+          let block_is : home.1 ≡ body.block = same_some home.1 body.block (sym home.2 ∙ (ap (λ (k : ℕ). slice_get Fn.blocks k) same ∙ body.there)) in
+          let local_is : Where.form j.result ≡ Local = ap Where.form of_it.1 ∙ local_form_is (Where.form n) (left_on (is_local_form (Where.form n)) _ form) in
+          inr (names.local n form, have_done done j n (made_done n r j by.made by.shaped (subst (λ (x : Block). IsIn j x.insts) block_is home.3) (local_no_phi s entry right kinds o unit u p among j of_it.0 local_is)) of_it.1)
+      by_placed j by (inr (same, inr form)) = absurd (named form)
+
+      by_maker : (is_value_parameter gs Fn n ≡ true) ⊎ ((j : Inst) × IsMadeBy s entry right kinds o unit u p among lends n r.value.shape j) → There
+      by_maker (inl parameter) = inl (names.parameter n parameter)
+      by_maker (inr w) = by_placed w.0 w.1 (placed s entry right kinds o unit u p among lends is_one n r.value.shape w.0 w.1 b r.value.user r.value.mentioned b (counts_here s entry right kinds o unit u p among b r.value.user n r.value.mentioned r.value.no_phi))
+
+      pub variable_there : There
+      variable_there = by_maker (maker s entry right kinds o unit u p among lends n r.value.shape (whole_of n r.value.shape r.value.shaped) inner_is)
+
   -- at an instruction of the block
   module _ (is_one : IsFunctionOf Fn s.of.functions) (program : Program) (calls : Text → List Argument → State → Result (Option Typed × State)) (N : Naming) (names : AreNamesOf N) (Holds : Conf → Type 0) (done : List Inst) (c : Supplied Conf) (z : State) (stands : Stands N s Holds Fn b done c z)
       (body : Body Fn b) (formed : IsFormedBlock body.block.insts) (befores : List Inst) (i : Inst) (rest : List Inst) (split : formed.behind ≡ befores ++ i ∷ rest) (all_done : (j : Inst) → IsOf j befores → IsOf j done) where
@@ -223,42 +258,13 @@ module _ (s : Setting) (entry : Option (List ℕ)) (right : IsConforming s.of en
       abbrev WayOf : ℕ → Type 0
       WayOf n = Way program calls N s Holds Fn b done c z stands expr rank IsUsable n
 
-      -- what makes a value that is ready is done
-      made_done : (n : ℕ) (r : IsReady i.at n) (j : Inst) → inst_in Fn n ≡ Some j → type_tree gs j.ty ≡ Some r.value.shape → IsIn j body.block.insts → is_phi j ≡ false → IsOf j done
-      made_done n r j made shaped there off =
-          let of_it = found_in (insts_of Fn) n j made in
-          let before = maker_before s.of Fn (ordered s entry right kinds o unit u p among) Marks b r.value.user n r.value.mentioned r.value.no_phi j made (some_result j of_it.0 (no_zero s entry right j.ty r.value.shape shaped)) in
-          let early = r.early in
-          all_done j (done_before s.of Fn (ordered s entry right kinds o unit u p among) b body formed befores i rest split j there off (omega (arith, before, early)))
-
       -- a value that has a variable
-      module _ (n : ℕ) (r : IsReady i.at n) (local : Where.setting.global n ≡ None) (named : Where.form n ≡ Forwarded → ⊥) where
-        abbrev There : Type 0
-        There = (N.is_outer n ≡ true) ⊎ ((N.is_local n ≡ true) × (have_result done n ≡ true))
-
-        inner_is : global gs n ≡ None
-        inner_is = no_global s entry right kinds o unit u p among n r.value.shape r.value.shaped local
-
-        by_placed : (j : Inst) (by : IsMadeBy s entry right kinds o unit u p among lends n r.value.shape j) → IsPlaced s entry right kinds o unit u p among lends is_one n r.value.shape j by b r.value.user r.value.mentioned b (counts_here s entry right kinds o unit u p among b r.value.user n r.value.mentioned r.value.no_phi) → There
-        by_placed j by (inl top) = inl (names.hoisted n top)
-        by_placed j by (inr (same, inl form)) =
-            let home = home_is s entry right kinds o unit u p among lends is_one n r.value.shape j by b r.value.user r.value.mentioned b (counts_here s entry right kinds o unit u p among b r.value.user n r.value.mentioned r.value.no_phi) in
-            let of_it = found_in (insts_of Fn) n j by.made in
-            let block_is : home.1 ≡ body.block = same_some home.1 body.block (sym home.2 ∙ (ap (λ (k : ℕ). slice_get Fn.blocks k) same ∙ body.there)) in
-            let local_is : Where.form j.result ≡ Local = ap Where.form of_it.1 ∙ local_form_is (Where.form n) (left_on (is_local_form (Where.form n)) _ form) in
-            inr (names.local n form, have_done done j n (made_done n r j by.made by.shaped (subst (λ (x : Block). IsIn j x.insts) block_is home.3) (local_no_phi s entry right kinds o unit u p among j of_it.0 local_is)) of_it.1)
-        by_placed j by (inr (same, inr form)) = absurd (named form)
-
-        by_maker : (is_value_parameter gs Fn n ≡ true) ⊎ ((j : Inst) × IsMadeBy s entry right kinds o unit u p among lends n r.value.shape j) → There
-        by_maker (inl parameter) = inl (names.parameter n parameter)
-        by_maker (inr w) = by_placed w.0 w.1 (placed s entry right kinds o unit u p among lends is_one n r.value.shape w.0 w.1 b r.value.user r.value.mentioned b (counts_here s entry right kinds o unit u p among b r.value.user n r.value.mentioned r.value.no_phi))
-
-        named_way : WayOf n
-        named_way = inl (record {
-          written = written_by_name Where b n local named ∙ ap name (sym (names.name_is n));
-          own = left.own n inner_is;
-          there = by_maker (maker s entry right kinds o unit u p among lends n r.value.shape (whole_of n r.value.shape r.value.shaped) inner_is);
-        })
+      named_way : (n : ℕ) → IsReady i.at n → Where.setting.global n ≡ None → (Where.form n ≡ Forwarded → ⊥) → WayOf n
+      named_way n r local named = inl (record {
+        written = written_by_name Where b n local named ∙ ap name (sym (names.name_is n));
+        own = left.own n (inner_is is_one N names done body formed befores i rest split all_done n r local named);
+        there = variable_there is_one N names done body formed befores i rest split all_done n r local named;
+      })
 
       -- and one that stands in expressions
       module _ (n : ℕ) (r : IsReady i.at n) (local : Where.setting.global n ≡ None) (j : Inst) (own : IsOwnResult s entry right kinds o unit u p among b n r.value.shape j) where
@@ -283,7 +289,7 @@ module _ (s : Setting) (entry : Option (List ℕ)) (right : IsConforming s.of en
             b (arg j 0) (length_mentions Fn Marks b own.2.0 j own.2.1 r.value.mentioned.here own.2.2 step formed_so.least)
 
         done_so : IsOf j done
-        done_so = made_done n r j own.0 own.3 (inst_of_block Fn b own.2.0 body.block j body.there own.2.1) kind_is.1
+        done_so = made_done is_one N names done body formed befores i rest split all_done n r j own.0 own.3 (inst_of_block Fn b own.2.0 body.block j body.there own.2.1) kind_is.1
 
         -- what has a length is a pointer
         measured_so : step_kind j.op ≡ steps.array_length → (v : ValueTree) → value_at s c.at.top n ≡ Some v → (w : ValueTree) → value_at s c.at.top (arg j 0) ≡ Some w → ⊥
