@@ -7,3 +7,5 @@ pub mod InsertParts
 pub mod NoBlocks
 pub mod Writable
 pub mod Stores
+pub mod Operations
+pub mod Indexes

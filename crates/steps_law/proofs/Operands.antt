@@ -44,6 +44,7 @@ use Rattle.typed_law.specs.Conforms.{IsConforming, IsConformingIn}
 use Rattle.typed_law.specs.Words.{IsSettingOfWords, IsStateOfWords}
 use Rattle.typed_law.proofs.Values.{inside}
 use Rattle.claim_law.specs.Claimed.{IsIn}
+use Rattle.unit_law.specs.Mentioned.{IsMentioned}
 use Rattle.unit_law.proofs.Lists.{as_in}
 use Rattle.unit_law.proofs.Links.{placed_in}
 use Rattle.unit_law.proofs.Ways.{HaveKinds, F, R, V, in_module, plan_is, reached_nth}
@@ -113,19 +114,23 @@ module _ (bytes : List ℕ) (m : ModuleState) (o : Options) (read : IsReadFrom b
           placed_live s o.entry right kinds o unit u p among b place.0 i place.1
           (variable_live s o.entry right kinds o unit u p among i (as_in (insts_of Fn) i there) variable.0 variable.1)
 
-      no_phi_here : is i.op code.Phi ≡ false
+      pub no_phi_here : is i.op code.Phi ≡ false
       no_phi_here = no_phi m Fn in_it.order in_it.formed inner b body block befores i rest split i (inr (let same : i ≡ i = cc in same))
 
       unwrapped : (x : Option ℕ) (t : Tree) → option_and_then (type_tree m.globals) x ≡ Some t → type_tree m.globals (unwrap_or x 0) ≡ Some t
       unwrapped None t is = cc
       unwrapped (Some ty) t is = is
 
-      -- an operand that is a value is ready there
+      -- an operand is mentioned there
+      pub mentioned : IsKeptBy Where i → (k n : ℕ) → slice_get i.args k ≡ Some n → is_id i.op i.args k ≡ true → is_value i.op k ≡ true → IsMentioned Fn Marks b i n
+      mentioned kept k n word names_id value = live_mentions Fn Marks b place.0 i place.1 here (live kept) no_phi_here k n word names_id value
+
+      -- so one that is a value is ready
       pub ready : IsKeptBy Where i → (k n : ℕ) → slice_get i.args k ≡ Some n → is_id i.op i.args k ≡ true → is_value i.op k ≡ true → (t : Tree) → value_shape s Fn n ≡ Some t → IsReady s o.entry right kinds o unit u p among lends b i.at n
       ready kept k n word names_id value t shaped = record {
         value = record {
           user = i;
-          mentioned = live_mentions Fn Marks b place.0 i place.1 here (live kept) no_phi_here k n word names_id value;
+          mentioned = mentioned kept k n word names_id value;
           no_phi = no_phi_here;
           shape = t;
           shaped = unwrapped (type_in m.globals Fn n) t shaped;
