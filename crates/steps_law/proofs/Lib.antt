@@ -9,3 +9,5 @@ pub mod Writable
 pub mod Stores
 pub mod Operations
 pub mod Indexes
+pub mod Atomics
+pub mod NoAtomics
