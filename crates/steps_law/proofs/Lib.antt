@@ -11,3 +11,4 @@ pub mod Operations
 pub mod Indexes
 pub mod Atomics
 pub mod NoAtomics
+pub mod Ways
