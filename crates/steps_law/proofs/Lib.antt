@@ -12,3 +12,5 @@ pub mod Indexes
 pub mod Atomics
 pub mod NoAtomics
 pub mod Ways
+pub mod Copied
+pub mod Inserts

@@ -1,5 +1,5 @@
 -- The memory semantics of a barrier are an OpConstant (A5), so the text of an accepted module reads their word.
-use Rattle.std.proofs.Common.{◌≡◌, ◌||◌, ◌&&◌, not, ℕ, Bool, true, false, List, ◌∷◌, [], Option, Some, None, inl, refl, sym, ap, ◌∙◌, subst, unwrap_or, if◌then◌else◌}
+use Rattle.std.proofs.Common.{◌≡◌, ◌||◌, ◌&&◌, ◌++◌, not, ℕ, Bool, true, false, List, ◌∷◌, [], Option, Some, None, inl, refl, sym, ap, ◌∙◌, subst, unwrap_or, if◌then◌else◌}
 use Rattle.std.specs.Prelude.{is_some, option_and_then}
 use Rattle.std.specs.Option.{option_map_or}
 use Rattle.std.specs.List.{list_any}
@@ -27,10 +27,14 @@ use Rattle.profile_rules.specs.AccessRules.{breaks, broken_in, broken_at}
 use Rattle.module_check.specs.Judged.{IsFine}
 use Rattle.module_check.specs.ReadFrom.{IsReadFrom}
 use Rattle.traces.specs.Invocations.{Invocation, IsInvocation}
+use Rattle.traces.specs.Outcomes.{Result}
 use Rattle.module_semantics.specs.Setting.{Setting}
 use Rattle.module_semantics.specs.State.{Conf}
 use Rattle.module_semantics.specs.Operands.{value_at, word_at, arg}
-use Rattle.glsl_ast.specs.Tree.{TranslationUnit}
+use Rattle.glsl_ast.specs.Tree.{Text, TranslationUnit}
+use Rattle.glsl_semantics.specs.Shapes.{Typed}
+use Rattle.glsl_semantics.specs.States.{State}
+use Rattle.glsl_semantics.specs.Expressions.{Program, Argument}
 use Rattle.text_rules.specs.declared.readings.Reading.{Reading}
 use Rattle.text_rules.specs.declared.readings.Reading.TheVariants.{Plain, GroupSize}
 use Rattle.text_rules.specs.Constants.{Source, is_constant, is_scalar, if_free, free_spec_id, has_literal, reading_by_literal, reading_by_spec, reading, plain_value}
@@ -41,10 +45,15 @@ use Rattle.expr_forward.specs.Scope as scope
 use Rattle.expr_forward.specs.Scope.{Scope, globals_in}
 use Rattle.expr_forward.specs.Paths.{is_plain, is_number, literal_word}
 use Rattle.expr_forward.specs.Statements.{semantics}
-use Rattle.function_text.specs.Functions.{FunctionPlan}
+use Rattle.function_text.specs.Functions.{FunctionPlan, written}
 use Rattle.unit_rules.specs.Unit.{source_of, IsUnitOf}
 use Rattle.plan_law.specs.InOrder.{IsAmong}
 use Rattle.fits_law.specs.State.{value_shape, HasShape, ConfFits, ModuleFits, functions_of}
+use Rattle.agree_law.specs.Agree.{AreApart}
+use Rattle.agree_law.specs.Evaluates.{IsKept}
+use Rattle.agree_law.specs.Points.{Body}
+use Rattle.agree_law.proofs.Machine.{machine}
+use Rattle.call_law.specs.Known.{IsFunctionOf, LendsWhole}
 use Rattle.type_law.specs.Shaped.{HasConstants}
 use Rattle.type_law.proofs.Constants.{constant_of}
 use Rattle.global_law.specs.Sources.{chosen}
@@ -52,17 +61,23 @@ use Rattle.function_law.proofs.Selectors.{word_value}
 use Rattle.typed_law.specs.Conforms.{IsConforming}
 use Rattle.typed_law.specs.Words.{IsSettingOfWords, IsStateOfWords}
 use Rattle.typed_law.proofs.Lists.{or_left, and_off, not_off, both_on, some_by, some_part, same_some, found_in, none_at_fault}
+use Rattle.typed_law.proofs.Values.{inside}
+use Rattle.ruled_law.proofs.Ruled.{contains_of}
 use Rattle.constant_law.specs.Items.{AreAsked, IsScalarSpec}
 use Rattle.constant_law.proofs.Standing.{scalar_fit}
 use Rattle.claim_law.specs.Claimed.{IsIn}
 use Rattle.claim_law.proofs.Listed.{in_flat}
 use Rattle.unit_law.proofs.Lists.{contained, of_contained}
-use Rattle.unit_law.proofs.Ways.{HaveKinds, F, V, in_module, plan_is}
-use Rattle.naming_law.proofs.Keys.{S, found as names_found, R}
+use Rattle.unit_law.proofs.Ways.{HaveKinds, F, V, in_module, plan_is, written_is}
+use Rattle.formed_law.specs.Formed.{IsFormedFunction}
+use Rattle.formed_law.proofs.Inner.{accepted_inner}
+use Rattle.naming_law.proofs.Keys.{S, found as names_found, R, names}
 use Rattle.outside_law.specs.Left.{IsLeftOfGlobals}
 use Rattle.outside_law.proofs.Text.{asked as asked_of}
 use Rattle.written_law.proofs.Shapes.{value_has}
 use Rattle.written_law.proofs.KnownValues.{literals}
+use Rattle.insts_law.proofs.Barriers.{HasNoBarriers, AreRead}
+use Rattle.insts_law.proofs.New.{stands_among}
 use Rattle.values_law.proofs.Read.{constant_value}
 
 -- A5 of an instruction of a function
@@ -219,3 +234,21 @@ module _ (bytes : List ℕ) (m : ModuleState) (o : Options) (read : IsReadFrom b
 
       pub memory_read : kind_of i.op ≡ kind.MemoryBarrier → AreReadBy p.scope (arg i 1)
       memory_read e = subst (λ (w : Scope). AreReadBy w (arg i 1)) (sym (plan_is s o.entry right kinds o unit u p among).scope_is) (λ c fit low function v has. there_read suits words c fit low function (arg i 1) v has (memory_right i there e))
+
+    -- the law, as it is asked of barriers
+    module _ (lends : LendsWhole s) (suits : ModuleFits s) (words : IsSettingOfWords s) (program : Program) (calls : Text → List Argument → State → Result (Option Typed × State)) (Holds : Conf → Type 0) (fitting : (c : Conf) → Holds c → ConfFits s c) (low : (c : Conf) → Holds c → IsStateOfWords c)
+        (is_one : IsFunctionOf (written p) m.functions) (k : ℕ) (apart : AreApart (names m o unit u inv p)) (keeps : IsKept (machine s) Holds) (form : IsFormedFunction (written p)) (none : HasNoBarriers program) (b : ℕ) (body : Body (written p) b) (done befores : List Inst) (i : Inst) (rest : List Inst) (split : body.insts ≡ befores ++ i ∷ rest) where
+      there : IsAmong i (insts_of Fn)
+      there =
+          let in_it = inside s o.entry right (written p) (contains_of m.functions (written p) is_one) in
+          subst (λ (g : Function). IsAmong i (insts_of g)) (written_is s o.entry right kinds o unit u p among)
+          (stands_among m (written p) in_it.order in_it.formed (λ j j_in. (accepted_inner bytes m read (written p) is_one j j_in).0) b body (form.blocks b body.block body.there) befores i rest split)
+
+      abbrev Are : ℕ → Type 0
+      Are n = AreRead m o right kinds unit u inv p among lends is_one program calls k apart Holds keeps form none b body done i rest n
+
+      pub control_left : kind_of i.op ≡ kind.ControlBarrier → Are (arg i 2)
+      control_left e c z here v is = control_read suits words i there e c.at (fitting c.at here.stands.holds) (low c.at here.stands.holds) here.stands.function v is
+
+      pub memory_left : kind_of i.op ≡ kind.MemoryBarrier → Are (arg i 1)
+      memory_left e c z here v is = memory_read suits words i there e c.at (fitting c.at here.stands.holds) (low c.at here.stands.holds) here.stands.function v is
