@@ -14,3 +14,4 @@ pub mod NoAtomics
 pub mod Ways
 pub mod Copied
 pub mod Inserts
+pub mod Kept
