@@ -221,6 +221,22 @@ both_parts false b on = cc
 pub always_named : (o : Op) → accesses (kind_of o) ≡ true → (is_always_named o ≡ true) × (is_pure o ≡ false)
 always_named o on = both_parts (is_always_named o) (is_pure o) (implies (accesses (kind_of o)) (is_always_named o && not (is_pure o)) (accesses_by o) on)
 
+-- these are kept for their effect
+abbrev pub is_effect : InstKind → Bool
+is_effect kind.Load = true
+is_effect kind.Store = true
+is_effect kind.Call = true
+is_effect (kind.Atomic a) = true
+is_effect _ = false
+
+effect_by : (o : Op) → implied (is_effect (kind_of o)) (not (is_pure o)) ≡ true
+unfolding kind_of group_of shape
+effect_by code.Load = refl
+effect_by o = refl
+
+pub effect_of : (o : Op) → is_effect (kind_of o) ≡ true → is_pure o ≡ false
+effect_of o on = not_true (is_pure o) (implies (is_effect (kind_of o)) (not (is_pure o)) (effect_by o) on)
+
 -- a variable is no chain
 pub variable_no_chain : (o : Op) → is o code.Variable ≡ true → is_chain o ≡ false
 unfolding number

@@ -109,7 +109,7 @@ atomic_in : (g : OpGroup) (a : AtomicOp) → kind_in g ≡ kind.Atomic a → g �
 atomic_in (groups.Atomic b) a e = ap groups.Atomic (same_atomic b a e)
 atomic_in g a e = cc
 
-atomic_group : (o : Op) (a : AtomicOp) → kind_of o ≡ kind.Atomic a → group_of o ≡ groups.Atomic a
+pub atomic_group : (o : Op) (a : AtomicOp) → kind_of o ≡ kind.Atomic a → group_of o ≡ groups.Atomic a
 unfolding kind_of
 atomic_group o a e = atomic_in (group_of o) a e
 

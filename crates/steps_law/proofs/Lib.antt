@@ -15,3 +15,4 @@ pub mod Ways
 pub mod Copied
 pub mod Inserts
 pub mod Kept
+pub mod Pointed

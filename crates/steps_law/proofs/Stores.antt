@@ -86,7 +86,7 @@ load_in : (g : OpGroup) → kind_in g ≡ kind.Load → g ≡ groups.Load
 load_in groups.Load e = refl
 load_in g e = cc
 
-load_group : (o : Op) → kind_of o ≡ kind.Load → group_of o ≡ groups.Load
+pub load_group : (o : Op) → kind_of o ≡ kind.Load → group_of o ≡ groups.Load
 unfolding kind_of
 load_group o e = load_in (group_of o) e
 
@@ -94,7 +94,7 @@ store_in : (g : OpGroup) → kind_in g ≡ kind.Store → g ≡ groups.Store
 store_in groups.Store e = refl
 store_in g e = cc
 
-store_group : (o : Op) → kind_of o ≡ kind.Store → group_of o ≡ groups.Store
+pub store_group : (o : Op) → kind_of o ≡ kind.Store → group_of o ≡ groups.Store
 unfolding kind_of
 store_group o e = store_in (group_of o) e
 
