@@ -16,3 +16,4 @@ pub mod Copied
 pub mod Inserts
 pub mod Kept
 pub mod Pointed
+pub mod Met

@@ -9,6 +9,7 @@ use Rattle.spv_ops.specs.Opcode.{is, number}
 use Rattle.spv_ops.specs.Groups.{is_chain, is_constant}
 use Rattle.spv_ops.specs.Operands.{is_id}
 use Rattle.spv_ops.specs.OpGroups.{group_of}
+use Rattle.spv_ops.specs.Shape.{is_pure}
 use Rattle.spv_ops.specs.declared.Op.{Op}
 use Rattle.spv_ops.specs.declared.Op.TheVariants as code
 use Rattle.spv_module.specs.Held.{global}
@@ -480,3 +481,11 @@ module _ (bytes : List ℕ) (m : ModuleState) (o : Options) (read : IsReadFrom b
       early = (let itself : i.at ≤ i.at = omega arith in itself);
       points = (ty, t, points, shaped);
     }
+
+    abbrev pub AreSeenIn : Function → Type 0
+    AreSeenIn g = (form : IsFormedFunction g) (b : ℕ) (body : Body g b) → reached_body g form b ≡ Some body → (befores : List Inst) (i : Inst) (rest : List Inst) → body.insts ≡ befores ++ i ∷ rest → is_pure i.op ≡ false
+        → (k n : ℕ) → slice_get i.args k ≡ Some n → is_id i.op i.args k ≡ true → is_value i.op k ≡ true → (ty : ℕ) (t : Tree) → pointee_of gs g n ≡ Some ty → type_tree gs ty ≡ Some t → IsSeenAt b i.at n
+
+    -- of one with an effect
+    pub effect_seen : AreSeenIn (written p)
+    effect_seen = subst AreSeenIn (sym same_function) (λ form b body has befores i rest split effect. operand_seen form b body has befores i rest split (inl effect))
