@@ -17,3 +17,4 @@ pub mod Inserts
 pub mod Kept
 pub mod Pointed
 pub mod Met
+pub mod CallValues
