@@ -1,8 +1,9 @@
 -- The indexes of chains are ints (T6). Where a chain is carried, each index that is no constant is kept, in the shape of its type, and a path's word for it is that of the chain; at an instruction behind the chain, in its block, it has a variable.
-use Rattle.std.proofs.Common.{◌≡◌, ◌⊎◌, ◌≤◌, ◌==◌, ◌&&◌, ◌||◌, ◌++◌, ◌-◌, not, ℕ, zero, suc, Bool, true, false, List, [], ◌∷◌, drop, length, Contains, Option, Some, None, unwrap_or, inl, inr, refl, sym, ap, ◌∙◌, subst, arith, if◌then◌else◌}
+use Rattle.std.proofs.Common.{◌≡◌, ◌⊎◌, ◌≤◌, ◌==◌, ◌&&◌, ◌||◌, ◌++◌, ◌-◌, not, ℕ, Bool, true, false, List, [], ◌∷◌, drop, length, Contains, Option, Some, None, unwrap_or, inl, inr, refl, sym, ap, ◌∙◌, subst, if◌then◌else◌}
 use Rattle.std.specs.Prelude.{nat_lt, slice_get, slice_index, slice_index_or, option_and_then}
 use Rattle.std.specs.Option.{option_map_or, option_or}
 use Rattle.std.specs.List.{enumerate_from, list_any}
+use Rattle.std.proofs.lemmas.Bool.{and_parts}
 use Rattle.spv_ops.specs.Opcode.{is}
 use Rattle.spv_ops.specs.Groups.{is_chain, is_constant}
 use Rattle.spv_ops.specs.declared.Op.TheVariants as code
@@ -48,13 +49,14 @@ use Rattle.path_law.specs.Writings.{IsNumber}
 use Rattle.plan_law.specs.InOrder.{IsAmong}
 use Rattle.plan_law.proofs.Order.{found}
 use Rattle.typed_law.specs.Conforms.{IsConforming, IsConformingIn}
-use Rattle.typed_law.proofs.Lists.{same_some}
+use Rattle.typed_law.proofs.Lists.{same_some, both_on, clash}
 use Rattle.typed_law.proofs.Values.{global_row, inside, variable_type_is}
 use Rattle.claim_law.specs.Claimed.{IsIn}
 use Rattle.claim_law.proofs.Constants.{found_in}
 use Rattle.claim_law.proofs.Listed.{any_in}
 use Rattle.unit_law.specs.Words.{AreOfStructs}
 use Rattle.unit_law.proofs.Lists.{as_among, in_filter, numbered_first, same_test, some_length, test_same}
+use Rattle.unit_law.proofs.Kept.{dropped}
 use Rattle.unit_law.proofs.Forms.{made_by}
 use Rattle.unit_law.proofs.Shaped.{pointer_none}
 use Rattle.unit_law.proofs.Sets.{chain_no_phi, mention, index_apart}
@@ -64,40 +66,19 @@ use Rattle.global_law.specs.Sources.{source_of as run_source}
 use Rattle.naming_law.proofs.Keys.{S, key, names, some_in}
 use Rattle.naming_law.proofs.Once.{chain_result}
 use Rattle.outside_law.specs.Left.{IsLeftOfGlobals}
-use Rattle.outside_law.proofs.Indexed.{IsIntId, index_int}
+use Rattle.outside_law.proofs.Indexed.{IsIntId, index_int, place_of}
 use Rattle.outside_law.proofs.Starts.{no_module}
 use Rattle.written_law.proofs.NamesOf.{names_are}
 use Rattle.written_law.proofs.Says.{IsReady, variable_there}
 use Rattle.written_law.proofs.Shapes.{shape_of_type}
 use Rattle.insts_law.proofs.Indexes.{at_end}
 
-clash : {A : Type 0} → true ≡ false → A
-clash e = cc
-
 no_some : {A B : Type 0} (a : A) → None ≡ Some a → B
 no_some a e = cc
-
-split_and : (a b : Bool) → (a && b) ≡ true → (a ≡ true) × (b ≡ true)
-split_and true b e = (refl, e)
-split_and false b e = cc
 
 split_or : (a b : Bool) → (a || b) ≡ true → (a ≡ true) ⊎ (b ≡ true)
 split_or true b e = inl refl
 split_or false b e = inr e
-
-both_on : (a b : Bool) → a ≡ true → b ≡ true → (a && b) ≡ true
-both_on true b on e = e
-both_on false b on e = cc
-
--- an operand behind the first
-pub behind_first : (args : List ℕ) (k n : ℕ) → slice_get (drop 1 args) k ≡ Some n → slice_get args (suc k) ≡ Some n
-behind_first [] k n at = cc
-behind_first (a ∷ args) k n at = at
-
-index_at : (xs : List ℕ) (k n : ℕ) → slice_get xs k ≡ Some n → slice_index xs k ≡ n
-index_at [] k n at = cc
-index_at (x ∷ xs) zero n at = let same : x ≡ n = cc in same
-index_at (x ∷ xs) (suc k) n at = index_at xs k n at
 
 -- the shape of an int
 number_in : (s : Setting) (y : StructNames) (t : Tree) → (t ≡ plain.int) ⊎ (t ≡ plain.uint) → IsNumber (shape_in s y t) × (same_shape (shape_in s y t) (shape_in s y t) ≡ true)
@@ -124,7 +105,7 @@ module _ (f : Function) (links : List Link) where
       by_either is (inl old) later = later n old
       by_either is (inr same) later =
           ap (λ (k : ℕ). nat_lt 0 (length (mentions_of links k))) (test_same n p.result same)
-          ∙ by_own (split_or (carried_from f ps p.result) (list_any (carries f (carried_from f ps) p.block) p.mentions) (split_and (is_chain p.op) (carried_from f ps p.result || list_any (carries f (carried_from f ps) p.block) p.mentions) is).1) later
+          ∙ by_own (split_or (carried_from f ps p.result) (list_any (carries f (carried_from f ps) p.block) p.mentions) (and_parts (is_chain p.op) (carried_from f ps p.result || list_any (carries f (carried_from f ps) p.block) p.mentions) is).1) later
 
       by_test : (b : Bool) → is_carried_with f (carried_from f ps) p ≡ b → elim b as (λ b. Bool) [ true ↦ carried_from f ps n || (n == p.result) | false ↦ carried_from f ps n ] ≡ true → ((k : ℕ) → carried_from f ps k ≡ true → nat_lt 0 (length (mentions_of links k)) ≡ true) → nat_lt 0 (length (mentions_of links n)) ≡ true
       by_test true is told later = by_either is (split_or (carried_from f ps n) (n == p.result) told) later
@@ -223,7 +204,7 @@ module _ (bytes : List ℕ) (m : ModuleState) (o : Options) (read : IsReadFrom b
     pub kept_shape : N.index_shape q.result k ≡ I
     kept_shape =
         ap (λ (x : Option Inst). shape_in s Y (shape_at (run_source s o.overrides) (unwrap_or (type_in gs (written p) (option_map_or (λ (i : Inst). slice_index (drop 1 i.args) k) x 0)) 0))) made
-        ∙ (ap (λ (j : ℕ). shape_in s Y (shape_at (run_source s o.overrides) (unwrap_or (type_in gs (written p) j) 0))) (index_at (drop 1 q.args) k n at)
+        ∙ (ap (λ (j : ℕ). shape_in s Y (shape_at (run_source s o.overrides) (unwrap_or (type_in gs (written p) j) 0))) (place_of (drop 1 q.args) k n at).1
         ∙ (ap (λ (x : Option ℕ). shape_in s Y (shape_at (run_source s o.overrides) (unwrap_or x 0))) (ap (λ (g : Function). type_in gs g n) same_function ∙ int.typed_as)
         ∙ ap (λ (x : Option Tree). shape_in s Y (unwrap_or x plain.uint)) int.shape_is))
 
@@ -267,7 +248,7 @@ module _ (bytes : List ℕ) (m : ModuleState) (o : Options) (read : IsReadFrom b
         ready = record {
           value = record {
             user = q;
-            mentioned = mention s o.entry right kinds o unit u p among no_names no_structs b holder q in_block stands some place k n on there here live (behind_first q.args k n at);
+            mentioned = mention s o.entry right kinds o unit u p among no_names no_structs b holder q in_block stands some place k n on there here live (dropped q.args k n at);
             no_phi = chain_no_phi q.op on;
             shape = int.shape;
             shaped = shaped;
@@ -276,7 +257,7 @@ module _ (bytes : List ℕ) (m : ModuleState) (o : Options) (read : IsReadFrom b
         }
 
         apart : Where.form n ≡ Forwarded → ⊥
-        apart = index_apart s o.entry right kinds o unit u p among no_names no_structs b holder q in_block stands some place k n on there here live (behind_first q.args k n at) int.shape shaped unread
+        apart = index_apart s o.entry right kinds o unit u p among no_names no_structs b holder q in_block stands some place k n on there here live (dropped q.args k n at) int.shape shaped unread
 
         pub stands_there : (N.is_outer n ≡ true) ⊎ ((N.is_local n ≡ true) × (have_result done n ≡ true))
         stands_there = variable_there s o.entry right kinds o unit u p among lends b one N (names_are m o right kinds unit u inv p among lends b) done body formed befores i rest split all n ready unread apart

@@ -1,5 +1,5 @@
 -- The indexes that are kept of a chain where it stands: each has a variable there, of the shape in which it is kept.
-use Rattle.std.proofs.Common.{◌≡◌, ◌⊎◌, ◌≤◌, ◌&&◌, ◌||◌, ◌++◌, not, ℕ, Bool, true, false, List, [], ◌∷◌, drop, length, Option, Some, None, inl, inr, refl, sym, ap, ◌∙◌, subst, arith, if◌then◌else◌}
+use Rattle.std.proofs.Common.{◌≡◌, ◌⊎◌, ◌≤◌, ◌&&◌, ◌++◌, not, ℕ, Bool, true, false, List, [], ◌∷◌, drop, length, Some, None, refl, sym, ◌∙◌, subst, arith, if◌then◌else◌}
 use Rattle.std.specs.Prelude.{nat_lt, slice_get, slice_index_or}
 use Rattle.std.specs.List.{enumerate_from}
 use Rattle.spv_ops.specs.Groups.{is_chain}
@@ -40,6 +40,7 @@ use Rattle.typed_law.proofs.Values.{inside}
 use Rattle.claim_law.specs.Claimed.{IsIn}
 use Rattle.unit_law.proofs.Lists.{as_in, of_filter, of_numbered_first}
 use Rattle.unit_law.proofs.Links.{placed_in}
+use Rattle.unit_law.proofs.Places.{second_on}
 use Rattle.unit_law.proofs.Ways.{HaveKinds, F, R, V, in_module, plan_is, reached_nth}
 use Rattle.meets_law.proofs.LiveOrGone.{placed_live}
 use Rattle.formed_law.specs.Formed.{IsFormedBlock, IsFormedFunction}
@@ -49,15 +50,11 @@ use Rattle.naming_law.proofs.Keys.{S, names}
 use Rattle.outside_law.specs.Left.{IsLeftOfGlobals}
 use Rattle.insts_law.proofs.KindSteps.{chain_step}
 use Rattle.insts_law.proofs.New.{split_behind, stands_in, stands_among}
-use Rattle.steps_law.proofs.Indexes.{carried_mentioned, I, number, own_shape, kept_shape, written_so, own_none, stands_there}
+use Rattle.steps_law.proofs.Indexes.{carried_mentioned, number, own_shape, kept_shape, written_so, own_none, stands_there}
 
 off_of : (b : Bool) → not b ≡ true → b ≡ false
 off_of true e = cc
 off_of false e = refl
-
-second_on : (a b : Bool) → b ≡ true → (a || b) ≡ true
-second_on true b on = refl
-second_on false b on = on
 
 module _ (bytes : List ℕ) (m : ModuleState) (o : Options) (read : IsReadFrom bytes m) (fine : IsFine m o) (unit : TranslationUnit) (u : IsUnitOf m o unit) (inv : Invocation) (told : IsInvocation inv) (left : IsLeftOfGlobals bytes m o u.entry inv)
     (right : IsConforming m o.entry) (kinds : HaveKinds m.globals) (p : FunctionPlan) (among : IsIn p u.plans) (lends : LendsWhole (S m o unit u inv)) (one : IsFunctionOf (F (S m o unit u inv) o.entry right kinds o unit u p among) m.functions) where

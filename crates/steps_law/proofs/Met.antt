@@ -1,13 +1,11 @@
 -- So what is asked of the instructions of a planned function of an accepted module is met, in each call of it, where calls run as their functions do.
-use Rattle.std.proofs.Common.{◌≡◌, ◌++◌, ℕ, true, false, List, [], ◌∷◌, Contains, Option, Some, inl, refl, sym, ap, subst, arith}
-use Rattle.std.specs.Prelude.{slice_get}
+use Rattle.std.proofs.Common.{◌≡◌, ◌++◌, ℕ, true, false, List, [], ◌∷◌, Contains, Option, Some, inl, refl, sym, subst, arith}
 use Rattle.spv_ops.specs.OpGroups.{group_of}
-use Rattle.spv_ops.specs.Operands.{is_id}
 use Rattle.spv_module.specs.Inst.{has_type}
 use Rattle.spv_module.specs.State.{ModuleState}
 use Rattle.spv_module.specs.declared.inst.Inst.{Inst}
 use Rattle.spv_module.specs.declared.inst.Function.{Function}
-use Rattle.spv_types.specs.Tree.{Tree, ValueTree}
+use Rattle.spv_types.specs.Tree.{Tree}
 use Rattle.spv_types.specs.Types.{type_tree}
 use Rattle.spv_types.specs.Leaves.{IsSized}
 use Rattle.spv_index.specs.Locals.{insts_of}
@@ -16,7 +14,6 @@ use Rattle.module_check.specs.Judged.{IsFine}
 use Rattle.module_check.specs.ReadFrom.{IsReadFrom}
 use Rattle.traces.specs.Invocations.{Invocation, IsInvocation}
 use Rattle.traces.specs.Outcomes.{Result}
-use Rattle.use_chains.specs.Slots.{is_value as is_value_slot}
 use Rattle.module_semantics.specs.Operands.{arg}
 use Rattle.module_semantics.specs.Setting.{Setting}
 use Rattle.module_semantics.specs.State.{Held, Frame, Conf}
@@ -43,7 +40,7 @@ use Rattle.agree_law.specs.Blocks.{IsOf}
 use Rattle.agree_law.specs.Evaluates.{IsKept}
 use Rattle.agree_law.specs.Points.{Body}
 use Rattle.agree_law.proofs.Machine.{machine}
-use Rattle.call_law.specs.Known.{IsFunctionOf, LendsWhole}
+use Rattle.call_law.specs.Known.{IsFunctionOf}
 use Rattle.path_law.specs.Chains.{AreLed, ChainsAreRight}
 use Rattle.path_law.specs.Walks.{writing}
 use Rattle.plan_law.specs.InOrder.{IsAmong}

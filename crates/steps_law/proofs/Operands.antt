@@ -1,5 +1,5 @@
 -- What a live instruction of a reached block reads is ready at it; so its expression, as the plan's own scope writes it, says its value.
-use Rattle.std.proofs.Common.{◌≡◌, ◌⊎◌, ◌≤◌, ◌++◌, ℕ, Bool, true, false, List, [], ◌∷◌, Option, Some, None, unwrap_or, inl, inr, sym, ap, ◌∙◌, subst, arith}
+use Rattle.std.proofs.Common.{◌≡◌, ◌⊎◌, ◌≤◌, ◌++◌, ℕ, Bool, true, false, List, [], ◌∷◌, Option, Some, None, unwrap_or, inl, inr, sym, ◌∙◌, subst, arith}
 use Rattle.std.specs.Prelude.{option_and_then, slice_get, slice_index_or}
 use Rattle.spv_ops.specs.Opcode.{is}
 use Rattle.spv_ops.specs.OpGroups.{group_of}

@@ -1,5 +1,5 @@
 -- So an operation that is written to a variable says what it gives: nothing is left of those that insts_law asks of (`IsLeftOfOperation`) but that no array is too long.
-use Rattle.std.proofs.Common.{◌≡◌, ◌++◌, ℕ, Bool, true, false, List, [], ◌∷◌, Option, Some, refl}
+use Rattle.std.proofs.Common.{◌≡◌, ◌++◌, ℕ, true, false, List, [], ◌∷◌, Option, Some, refl}
 use Rattle.spv_ops.specs.OpGroups.{group_of}
 use Rattle.spv_module.specs.Inst.{has_type}
 use Rattle.spv_module.specs.State.{ModuleState}
@@ -14,7 +14,6 @@ use Rattle.module_check.specs.Judged.{IsFine}
 use Rattle.module_check.specs.ReadFrom.{IsReadFrom}
 use Rattle.traces.specs.Invocations.{Invocation, IsInvocation}
 use Rattle.traces.specs.Outcomes.{Result}
-use Rattle.traces.specs.Runs.{Supplied}
 use Rattle.module_semantics.specs.Setting.{Setting}
 use Rattle.module_semantics.specs.State.{Conf}
 use Rattle.module_semantics.specs.Steps.{step_kind}
@@ -34,7 +33,6 @@ use Rattle.unit_rules.specs.Unit.{IsUnitOf}
 use Rattle.fits_law.specs.State.{ConfFits, ModuleFits}
 use Rattle.fits_law.specs.Typed.{IsTyped}
 use Rattle.agree_law.specs.Agree.{Naming}
-use Rattle.agree_law.specs.Points.{Body}
 use Rattle.call_law.specs.Known.{IsFunctionOf, LendsWhole}
 use Rattle.plan_law.specs.InOrder.{IsAmong}
 use Rattle.typed_law.specs.Conforms.{IsConforming}

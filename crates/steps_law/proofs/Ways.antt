@@ -1,16 +1,14 @@
 -- How pointers are written where a live instruction of a reached block mentions them, and so where chains are based on them: as what they begin with, or as chains, in their own block or carried there.
-use Rattle.std.proofs.Common.{◌≡◌, ◌⊎◌, ◌≤◌, ◌<◌, ◌==◌, ◌&&◌, ◌||◌, ◌+◌, ◌++◌, not, ℕ, zero, suc, Bool, true, false, List, [], ◌∷◌, drop, Contains, Option, Some, None, inl, inr, refl, sym, ap, ◌∙◌, subst, arith, if◌then◌else◌}
+use Rattle.std.proofs.Common.{◌≡◌, ◌⊎◌, ◌≤◌, ◌<◌, ◌==◌, ◌&&◌, ◌||◌, ◌+◌, ◌++◌, not, ℕ, suc, Bool, true, false, List, [], ◌∷◌, drop, Contains, Option, Some, None, inl, inr, refl, sym, ap, ◌∙◌, subst, arith, if◌then◌else◌}
 use Rattle.std.specs.Prelude.{is_some, option_map, option_and_then, slice_get, slice_index, slice_index_or}
 use Rattle.std.specs.Option.{option_map_or, option_or}
-use Rattle.std.specs.List.{enumerate_from, list_any}
+use Rattle.std.specs.List.{enumerate_from}
 use Rattle.std.proofs.lemmas.Bool.{and_parts}
-use Rattle.std.proofs.lemmas.Bool.Decides.{eqb_tells}
 use Rattle.spv_ops.specs.Opcode.{is, number}
 use Rattle.spv_ops.specs.Groups.{is_chain, is_constant}
 use Rattle.spv_ops.specs.Operands.{is_id}
 use Rattle.spv_ops.specs.OpGroups.{group_of}
 use Rattle.spv_ops.specs.Shape.{is_pure}
-use Rattle.spv_ops.specs.declared.Op.{Op}
 use Rattle.spv_ops.specs.declared.Op.TheVariants as code
 use Rattle.spv_module.specs.Held.{global}
 use Rattle.spv_module.specs.State.{ModuleState}
@@ -24,27 +22,25 @@ use Rattle.spv_index.specs.Pointers.{as_pointer, pointer, storage_class, pointee
 use Rattle.conformance.specs.Rules.{Options}
 use Rattle.module_check.specs.Judged.{IsFine}
 use Rattle.module_check.specs.ReadFrom.{IsReadFrom}
-use Rattle.profile_rules.specs.TypeRows.{fails, if_type, type_row}
+use Rattle.profile_rules.specs.TypeRows.{fails, if_type}
 use Rattle.profile_rules.specs.TypeRows as rows
 use Rattle.profile_rules.specs.MemoryRules.{is_pointer, is_own_memory}
 use Rattle.traces.specs.Invocations.{Invocation, IsInvocation}
 use Rattle.traces.specs.Outcomes.{Result}
-use Rattle.traces.specs.Runs.{Supplied}
 use Rattle.access_paths.specs.Ways.{is_constant_index, indexes}
 use Rattle.use_chains.specs.Slots.{is_slot, is_base, is_value, is_taken, inst_at, IsLive}
-use Rattle.module_semantics.specs.Setting.{Setting, as_variable, global_variable}
+use Rattle.module_semantics.specs.Setting.{Setting, as_variable}
 use Rattle.module_semantics.specs.State.{Conf}
 use Rattle.module_semantics.specs.Steps as steps
-use Rattle.module_semantics.specs.Steps.{step_kind, base, is_phi}
+use Rattle.module_semantics.specs.Steps.{step_kind, base}
 use Rattle.name_alloc.specs.declared.claims.Key.{Key}
 use Rattle.name_alloc.specs.Naming.{name_of}
 use Rattle.glsl_ast.specs.Tree.{Text, Expr, TranslationUnit}
-use Rattle.glsl_semantics.specs.Shapes.{Typed, Shape}
+use Rattle.glsl_semantics.specs.Shapes.{Typed}
 use Rattle.glsl_semantics.specs.States.{State}
 use Rattle.glsl_semantics.specs.Expressions.{Program, Argument}
 use Rattle.text_rules.specs.Printed.{has_operand}
 use Rattle.expr_forward.specs.Paths.{index_expr, word_at}
-use Rattle.expr_forward.specs.Scope as scope
 use Rattle.expr_forward.specs.Scope.{Scope}
 use Rattle.function_text.specs.Functions.{FunctionPlan, written}
 use Rattle.unit_rules.specs.Translation.{id_text, global_expr}
@@ -57,28 +53,30 @@ use Rattle.call_law.specs.Frames.{makes_pointer}
 use Rattle.call_law.specs.Known.{is_parameter, IsFunctionOf, LendsWhole}
 use Rattle.path_law.specs.Chains.{NoneMakes, ChainsAreRight}
 use Rattle.path_law.specs.Walks.{writing, SaysIndex}
-use Rattle.path_law.specs.Writings.{IsKeptIndex, HasVariable, IsWrittenIndex, AreWrittenIndexes, IsWrittenChain, IsWrittenStart, IsNumber}
+use Rattle.path_law.specs.Writings.{IsWrittenIndex, AreWrittenIndexes, IsWrittenChain, IsWrittenStart, IsNumber}
 use Rattle.path_law.proofs.Reached.{HaveTypes, IsRightChain}
 use Rattle.type_law.proofs.Chains.{HaveTypes as HaveTypesIn}
-use Rattle.plan_law.specs.InOrder.{IsAmong, AreInOrder}
+use Rattle.plan_law.specs.InOrder.{IsAmong}
 use Rattle.plan_law.proofs.Order.{found}
 use Rattle.typed_law.specs.Conforms.{IsConforming, IsConformingIn}
-use Rattle.typed_law.proofs.Lists.{same_some, some_part}
+use Rattle.typed_law.proofs.Lists.{same_some, both_on, clash}
 use Rattle.typed_law.proofs.Values.{inside, own_local}
 use Rattle.claim_law.specs.Claimed.{IsIn}
 use Rattle.claim_law.proofs.Constants.{found_in}
-use Rattle.claim_law.proofs.Listed.{any_in, in_flat, at_place}
-use Rattle.unit_law.specs.Mentioned.{IsMentioned, IsLinked, IsCaptured}
+use Rattle.claim_law.proofs.Listed.{any_in, at_place}
+use Rattle.unit_law.specs.Mentioned.{IsLinked}
 use Rattle.unit_law.specs.Words.{AreOfStructs}
-use Rattle.unit_law.proofs.Lists.{as_among, numbered_first, same_test}
+use Rattle.unit_law.proofs.Lists.{as_among, numbered_first, same_test, test_same}
 use Rattle.unit_law.proofs.Links.{linked_in, as_linked}
 use Rattle.unit_law.proofs.Structs.{Written}
 use Rattle.unit_law.proofs.Sets.{chain_no_phi}
+use Rattle.unit_law.proofs.Kept.{dropped}
+use Rattle.path_law.proofs.Based.{chain_op}
 use Rattle.unit_law.proofs.Places.{Found, makes_in, IsRuled, IsSeen, home, place, live, base_link, index_mention, carried, based_seen}
 use Rattle.unit_law.proofs.Ruled.{chains}
-use Rattle.unit_law.proofs.Ways.{HaveKinds, F, R, V, in_module, plan_is, written_is, own_type_of, local_outside, reached_nth}
+use Rattle.unit_law.proofs.Ways.{HaveKinds, F, R, V, in_module, written_is, own_type_of, local_outside, reached_nth}
 use Rattle.meets_law.proofs.GlobalReads.{mention_listed, captured_listed}
-use Rattle.formed_law.specs.Formed.{IsFormedBlock, IsFormedFunction}
+use Rattle.formed_law.specs.Formed.{IsFormedFunction}
 use Rattle.formed_law.proofs.Pointing.{accepted_chains}
 use Rattle.naming_law.proofs.Keys.{S, key, found as names_found, names}
 use Rattle.outside_law.specs.Left.{IsLeftOfGlobals}
@@ -87,7 +85,7 @@ use Rattle.outside_law.proofs.Starts.{no_module, variable_start, own_start, para
 use Rattle.outside_law.proofs.Text.{P as program_in}
 use Rattle.written_law.proofs.Done.{linked_before, done_before}
 use Rattle.written_law.proofs.Placed.{chain_step, as_of}
-use Rattle.steps_law.proofs.Indexes.{no_names, no_structs, I, number as is_number, own_shape, kept_shape, counted, is_kept, written_so, own_none, stands_there, behind_first}
+use Rattle.steps_law.proofs.Indexes.{no_names, no_structs, number as is_number, own_shape, kept_shape, counted, is_kept, written_so, own_none, stands_there}
 use Rattle.unit_law.proofs.ResultShapes.{constant_shaped}
 use Rattle.constant_law.proofs.Written.{no_pointee}
 use Rattle.formed_law.proofs.Blocks.{reached_body, reached_only}
@@ -96,45 +94,14 @@ use Rattle.structure_rules.specs.Graph.{graph}
 use Rattle.insts_law.proofs.New.{split_behind}
 use Rattle.steps_law.proofs.Operands.{IsKeptBy, mentioned, no_phi_here}
 
-clash : {A : Type 0} → true ≡ false → A
-clash e = cc
-
 no_some : {A B : Type 0} (a : A) → None ≡ Some a → B
 no_some a e = cc
-
-not_true : (b : Bool) → (b ≡ true → ⊥) → b ≡ false
-not_true true never = absurd (never refl)
-not_true false never = refl
-
-both_on : (a b : Bool) → a ≡ true → b ≡ true → (a && b) ≡ true
-both_on true b on e = e
-both_on false b on e = cc
-
-equal : (a b : ℕ) → (a == b) ≡ true → a ≡ b
-equal a b on = elim (eqb_tells a b) [ inl w ↦ w.1 | inr w ↦ clash (sym on ∙ w.0) ]
-
-apart : (a b : ℕ) → (a == b) ≡ false → a ≡ b → ⊥
-apart a b off same = elim (eqb_tells a b) [ inl w ↦ clash (sym w.0 ∙ off) | inr w ↦ w.1 same ]
-
--- what is neither
-not_it : (a b : Bool) → a ≡ true → (a && b) ≡ true → b ≡ true
-not_it true b on e = e
-not_it false b on e = cc
 
 -- what makes a pointer and no chain is a variable
 variable_made : (q : steps.StepKind) → makes_pointer q ≡ true → (q ≡ steps.chain) ⊎ (q ≡ steps.variable)
 variable_made steps.chain on = inl refl
 variable_made steps.variable on = inr refl
 variable_made q on = cc
-
-chain_of : (o : Op) → step_kind o ≡ steps.chain → is_chain o ≡ true
-unfolding step_kind group_of
-chain_of code.AccessChain e = refl
-chain_of code.InBoundsAccessChain e = refl
-chain_of o e = cc
-
-phi_off : (i : Inst) → is i.op code.Phi ≡ false → is_phi i ≡ false
-phi_off i off = off
 
 none_chain : (n : ℕ) (is : List Inst) (j : Inst) → NoneMakes n is → IsIn j is → is_chain j.op ≡ true → j.result ≡ n → ⊥
 none_chain n [] j none among on same = absurd among
@@ -281,7 +248,7 @@ module _ (bytes : List ℕ) (m : ModuleState) (o : Options) (read : IsReadFrom b
             by_reached : (t : Bool) → slice_index_or Marks stands.0 false ≡ t → IsIn n All
             by_reached true here =
                 mention_listed s o.entry right kinds o unit u p among no_names its_structs stands.0 n q
-                (index_mention s o.entry right kinds o unit u p among no_names its_structs Chains b r.block r.user q r.linked r.no_phi r.seen chain q_in here n k (behind_first q.args k n at))
+                (index_mention s o.entry right kinds o unit u p among no_names its_structs Chains b r.block r.user q r.linked r.no_phi r.seen chain q_in here n k (dropped q.args k n at))
             by_reached false off =
                 captured_listed s o.entry right kinds o unit u p among no_names its_structs stands.0 n q
                 (record { holder = stands.1; there = stands.2; among = stands.3; off = off; chain = chain; carried = carried_to (λ same. clash (sym reached ∙ (ap (λ (k : ℕ). slice_index_or Marks k false) (sym same) ∙ off))) })
@@ -306,11 +273,11 @@ module _ (bytes : List ℕ) (m : ModuleState) (o : Options) (read : IsReadFrom b
             here = λ off same. record {
               itself = written_so bytes m o read fine unit u inv told left right kinds p among lends q q_in chain k n at off;
               own = own_none bytes m o read fine unit u inv told left right kinds p among lends q q_in chain k n at off;
-              there = variable_here k n at off (equal stands.0 b same);
+              there = variable_here k n at off (test_same stands.0 b same);
               number = subst IsNumber (sym (own_shape bytes m o read fine unit u inv told left right kinds p among lends q q_in chain k n at)) (is_number bytes m o read fine unit u inv told left right kinds p among lends q q_in chain k n at).0;
             };
             elsewhere = λ off other. record {
-              kept = is_kept bytes m o read fine unit u inv told left right kinds p among lends q q_in chain k n at (carried_to (apart stands.0 b other)) off;
+              kept = is_kept bytes m o read fine unit u inv told left right kinds p among lends q q_in chain k n at (carried_to (λ here. clash (sym (same_test stands.0 b here) ∙ other))) off;
               named = refl;
               number = subst IsNumber (sym (kept_shape bytes m o read fine unit u inv told left right kinds p among lends q q_in chain k n at)) (is_number bytes m o read fine unit u inv told left right kinds p among lends q q_in chain k n at).0;
               counts = counted bytes m o read fine unit u inv told left right kinds p among lends q q_in chain k n at;
@@ -332,7 +299,7 @@ module _ (bytes : List ℕ) (m : ModuleState) (o : Options) (read : IsReadFrom b
             block = stands.1;
             in_block = stands.2;
             inst = as_of stands.1.insts q stands.3;
-            made = λ same. done_here (equal stands.0 b same);
+            made = λ same. done_here (test_same stands.0 b same);
             own = no_module bytes m o read fine unit u inv told left p among q.result (own_local s o.entry right Fn in_mod q (as_among (insts_of Fn) q q_in));
             base_shape = λ ty points. (ruled.leads.1, ap (type_tree gs) (same_some ty ruled.leads.0 (sym points ∙ ruled.leads.2)) ∙ ruled.leads.3);
             indexes = all_indexes 0 (drop 1 q.args) (λ j n at. subst (λ (x : ℕ). IsWrittenIndex P calls z N s o.overrides Fn its_key globals b done q stands.0 x n) (let same : j ≡ 0 + j = omega arith in same) (one_index j n at));
@@ -367,9 +334,6 @@ module _ (bytes : List ℕ) (m : ModuleState) (o : Options) (read : IsReadFrom b
             by_type None is = cc
             by_type (Some ty) is = pointer_some gs ty r.points.0 is
 
-        there : (g : Function) → g ≡ Fn → Begins g → Begins Fn
-        there g same begins = subst Begins same begins
-
         by_parameter : is_parameter Fn n ≡ true → Begins Fn
         by_parameter on =
             subst Begins same_function
@@ -390,7 +354,7 @@ module _ (bytes : List ℕ) (m : ModuleState) (o : Options) (read : IsReadFrom b
             by_step of_it.0 of_it.1 (makes_pointer (step_kind j.op)) refl
           where
             by_kind : IsIn j (insts_of Fn) → j.result ≡ n → (step_kind j.op ≡ steps.chain) ⊎ (step_kind j.op ≡ steps.variable) → Begins Fn
-            by_kind j_in same (inl step) = absurd (none_chain n (insts_of Fn) j none j_in (chain_of j.op step) same)
+            by_kind j_in same (inl step) = absurd (none_chain n (insts_of Fn) j none j_in (chain_op j.op step) same)
             by_kind j_in same (inr step) = by_variable j j_in same step off
 
             by_step : IsIn j (insts_of Fn) → j.result ≡ n → (t : Bool) → makes_pointer (step_kind j.op) ≡ t → Begins Fn
