@@ -1,4 +1,4 @@
--- Of the text of an accepted module nothing is left but: that its words are octets, its overrides words, no rule on decorations is broken, and lengths of arrays are lengths (`IsLeftOfGlobals`); and what is asked of instructions (`IsLeftOfFunction`).
+-- Of the text of an accepted module nothing is left but: that its words are octets, its overrides words, no rule on decorations is broken, and lengths of arrays are lengths (`IsLeftOfGlobals`); and what is asked of calls (`IsLeftOfFunction`).
 use Rattle.std.proofs.Common.{◌≡◌, ◌++◌, ℕ, Bool, true, false, List, map, Option, Some, refl, sym, subst}
 use Rattle.spv_words.specs.Words.{words}
 use Rattle.spv_module.specs.Inst.{has_type}
@@ -52,6 +52,7 @@ use Rattle.grammar_law.proofs.Lives.{lives}
 use Rattle.moves_law.proofs.Planned.{planned_edge}
 use Rattle.formed_law.proofs.Labelled.{label_place}
 use Rattle.values_law.proofs.EdgesLeft.{edge_left}
+use Rattle.steps_law.proofs.Met.{AreCallsMet, insts_met}
 use Rattle.use_chains.specs.Slots.{inst_at, IsLive}
 use Rattle.function_plan.specs.Phis.{is_gone}
 use Rattle.module_semantics.specs.Steps.{is_phi}
@@ -138,9 +139,12 @@ module _ (bytes : List ℕ) (m : ModuleState) (o : Options) (read : IsReadFrom b
       abbrev here : IsFunctionOf Fn m.functions
       here = one_so m o unit u inv p among r one (keys_so p among) apart kept rules form few labels program k (items_before ts) flags_outside IsLent first given kinds_in rules.lends
 
-      -- what is left of it: what its instructions do
+      -- what is left of it: that its calls do what is asked of them
       pub record IsLeftOfFunction : Type 0 where
-        pub insts : AreInstsAsked m o unit u inv p among r one (keys_so p among) apart kept rules form few labels program k (items_before ts) flags_outside IsLent first given
+        pub calls : AreCallsMet bytes m o read fine unit u inv told outer r kinds_in p among rules of_words one form k (calls_of program k (items_before ts)) apart IsLent first given
+
+      insts_so : IsLeftOfFunction → AreInstsAsked m o unit u inv p among r one (keys_so p among) apart kept rules form few labels program k (items_before ts) flags_outside IsLent first given
+      insts_so left b body has = insts_met bytes m o read fine unit u inv told outer r kinds_in p among rules of_words one form k (calls_of program k (items_before ts)) apart IsLent first given left.calls b body has
 
       -- the types of its phis have shapes
       phis_so : (i : Inst) → IsIn i (insts_of Fn) → is_phi i ≡ true → (t : Tree) × (type_tree m.globals i.ty ≡ Some t)
@@ -158,7 +162,7 @@ module _ (bytes : List ℕ) (m : ModuleState) (o : Options) (read : IsReadFrom b
 
       plan_left : IsLeftOfFunction → IsLeftOfPlan m o unit u inv p among r one (keys_so p among) apart kept rules form few labels program k (items_before ts) flags_outside IsLent first given
       plan_left left =
-          left_of_plan m o unit u inv p among r one (keys_so p among) apart kept rules form few labels program k (items_before ts) flags_outside IsLent first given kinds_in rules.lends left.insts edges_so
+          left_of_plan m o unit u inv p among r one (keys_so p among) apart kept rules form few labels program k (items_before ts) flags_outside IsLent first given kinds_in rules.lends (insts_so left) edges_so
           (left_at_ends bytes m o read fine unit u inv told outer r kinds_in p among rules.lends here (calls_of program k (items_before ts)) Way (λ g c way. way.known.fits) (λ g c way. way.known.more.words) rules.fits of_words
           (λ j there. rules.typed Fn here j (as_of (insts_of Fn) j there)))
 
