@@ -1,7 +1,6 @@
 -- What an insert has from its operands: the composite with an object in place of the part to which literals lead, or the vector with a component at an index.
-use Rattle.std.proofs.Common.{◌≡◌, ◌<◌, ℕ, Bool, true, false, List, [], ◌∷◌, drop, length, take, Option, Some, None, inl, inr, refl, sym, ap, ◌∙◌, subst, arith, if◌then◌else◌}
+use Rattle.std.proofs.Common.{◌≡◌, ◌<◌, ℕ, Bool, true, false, List, [], ◌∷◌, drop, length, take, Option, Some, None, inl, inr, refl, sym, ap, ◌∙◌, subst, if◌then◌else◌}
 use Rattle.std.specs.Prelude.{nat_lt, option_and_then, slice_get, slice_set}
-use Rattle.std.proofs.lemmas.Bool.Decides.{nat_tests}
 use Rattle.spv_ops.specs.Operands.{is_id}
 use Rattle.spv_ops.specs.OpGroups.{group_of, takes_of}
 use Rattle.spv_ops.specs.declared.Op.{Op}
@@ -36,6 +35,7 @@ use Rattle.fits_law.proofs.Operations.{before_some}
 use Rattle.fits_law.proofs.Parts.{many_of}
 use Rattle.path_law.proofs.Parts.{there_below}
 use Rattle.typed_law.proofs.Lists.{same_some, some_part}
+use Rattle.steps_law.proofs.PartSteps.{less_of}
 
 insert_op : (o : Op) → kind_of o ≡ kind.CompositeInsert → o ≡ code.CompositeInsert
 unfolding kind_of group_of
@@ -192,9 +192,6 @@ module _ (s : Setting) (f : Function) (c : Frame) where
   number_scalar (struct k ts) is = absurd is
 
   -- with a part at an index: it is below the number of parts
-  less_of : (k n : ℕ) → nat_lt k n ≡ true → k < n
-  less_of k n e = grind (arith, nat_tests, e)
-
   with_there : (was v part : ValueTree) (k : ℕ) → with_part was k part ≡ Some v → (vs : ValueTrees) × (was ≡ many vs) × (nat_lt k (length (listed vs)) ≡ true)
   with_there (word w) v part k e = cc
   with_there (truth w) v part k e = cc

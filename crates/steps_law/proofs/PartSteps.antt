@@ -42,7 +42,7 @@ if_some : {A : Type 0} (b : Bool) (x y : A) → (if b then Some x else None) ≡
 if_some true x y e = (refl, same_some x y e)
 if_some false x y e = cc
 
-less_of : (i n : ℕ) → nat_lt i n ≡ true → i < n
+pub less_of : (i n : ℕ) → nat_lt i n ≡ true → i < n
 less_of i n e = grind (arith, nat_tests, e)
 
 -- a part of a value's shape is one of what lies in memory
