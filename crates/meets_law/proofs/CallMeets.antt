@@ -69,7 +69,7 @@ use Rattle.meets_law.proofs.LiveOrGone.{IsRun, told}
 use Rattle.unit_law.proofs.CallTypes.{call_typed, call_id, d, there_by, right_call, right_type, type_named, given_value, call_row}
 use Rattle.meets_law.proofs.PlaceMeets.{Way}
 
-call_need : (o : Op) (k : ℕ) → is o code.FunctionCall ≡ true → need o (suc k) ≡ Value
+pub call_need : (o : Op) (k : ℕ) → is o code.FunctionCall ≡ true → need o (suc k) ≡ Value
 unfolding number need takes_of group_of
 call_need code.FunctionCall k on = behind k
   where
@@ -77,7 +77,7 @@ call_need code.FunctionCall k on = behind k
     behind k = let off : (suc k == 0) ≡ false = grind (arith, nat_tests) in ap (λ (b : Bool). if b then Callee else Value) off
 call_need o k on = cc
 
-call_value : (o : Op) (k : ℕ) → is o code.FunctionCall ≡ true → is_value o (suc k) ≡ true
+pub call_value : (o : Op) (k : ℕ) → is o code.FunctionCall ≡ true → is_value o (suc k) ≡ true
 unfolding number takes_of group_of
 call_value code.FunctionCall k on = behind k
   where
@@ -90,19 +90,19 @@ unfolding number
 call_no_phi code.FunctionCall on = refl
 call_no_phi o on = cc
 
-inside_list : (xs : List ℕ) (k n : ℕ) → slice_get xs k ≡ Some n → k < length xs
+pub inside_list : (xs : List ℕ) (k n : ℕ) → slice_get xs k ≡ Some n → k < length xs
 inside_list [] k n at = cc
 inside_list (x ∷ xs) zero n at = omega arith
 inside_list (x ∷ xs) (suc k) n at = let less = inside_list xs k n at in omega (arith, less)
 
-value_no_void : (gs : List Inst) (ty : ℕ) (g : Inst) → global gs ty ≡ Some g → plan.is_value gs ty ≡ true → is g.op code.TypeVoid ≡ false
+pub value_no_void : (gs : List Inst) (ty : ℕ) (g : Inst) → global gs ty ≡ Some g → plan.is_value gs ty ≡ true → is g.op code.TypeVoid ≡ false
 value_no_void gs ty g at value = by_void (is g.op code.TypeVoid) (is g.op code.TypePointer) (sym (ap (λ (q : Option Inst). not (option_map_or (λ (x : Inst). is x.op code.TypeVoid) q false || option_map_or (λ (x : Inst). is x.op code.TypePointer) q false)) at) ∙ value)
   where
     by_void : (a b : Bool) → not (a || b) ≡ true → a ≡ false
     by_void false b on = refl
     by_void true b on = cc
 
-behind_first : (args : List ℕ) (k n : ℕ) → slice_get (drop 1 args) k ≡ Some n → slice_get args (suc k) ≡ Some n
+pub behind_first : (args : List ℕ) (k n : ℕ) → slice_get (drop 1 args) k ≡ Some n → slice_get args (suc k) ≡ Some n
 behind_first [] k n at = cc
 behind_first (a ∷ args) k n at = at
 
