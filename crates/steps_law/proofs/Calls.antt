@@ -118,7 +118,7 @@ call_in : (g : OpGroup) → kind_in g ≡ kind.Call → (g ≡ groups.Call) × (
 call_in groups.Call e = (refl, refl)
 call_in g e = cc
 
-call_step : (o : Op) → kind_of o ≡ kind.Call → step_kind o ≡ steps.call
+pub call_step : (o : Op) → kind_of o ≡ kind.Call → step_kind o ≡ steps.call
 unfolding kind_of step_kind
 call_step o e = (call_in (group_of o) e).1
 

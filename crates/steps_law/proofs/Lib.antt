@@ -16,5 +16,7 @@ pub mod Copied
 pub mod Inserts
 pub mod Kept
 pub mod Pointed
+pub mod Called
+pub mod Arguments
+pub mod Calls
 pub mod Met
-pub mod CallValues

@@ -17,6 +17,7 @@ use Rattle.traces.specs.Outcomes.{Result}
 use Rattle.module_semantics.specs.Operands.{arg}
 use Rattle.module_semantics.specs.Setting.{Setting}
 use Rattle.module_semantics.specs.State.{Held, Frame, Conf}
+use Rattle.module_semantics.specs.Steps as steps
 use Rattle.module_semantics.specs.Steps.{step_kind}
 use Rattle.name_alloc.specs.declared.claims.Key.{Key}
 use Rattle.hoist_plan.specs.Plan.{is_value}
@@ -70,6 +71,7 @@ use Rattle.insts_law.proofs.KindSteps.{is_effect, effect_of}
 use Rattle.insts_law.proofs.New.{stands_among}
 use Rattle.insts_law.proofs.Said.{PlaceBy, IsLeftOfPlaces, left_of_insts}
 use Rattle.steps_law.proofs.Atomics.{atomic_is_left}
+use Rattle.steps_law.proofs.Calls.{IsCallBefore, call_step, call_is_left}
 use Rattle.steps_law.proofs.Inserts.{composite_left, component_left}
 use Rattle.steps_law.proofs.Kept.{have_variables}
 use Rattle.steps_law.proofs.LocalTypes.{types_left}
@@ -214,6 +216,16 @@ module _ (bytes : List ℕ) (m : ModuleState) (o : Options) (read : IsReadFrom b
     abbrev pub AreCallsMet : Type 0
     AreCallsMet = (b : ℕ) (body : Body f b) → reached_body f form b ≡ Some body → (done befores : List Inst) (i : Inst) (rest : List Inst) → body.insts ≡ befores ++ i ∷ rest → ((j : Inst) → IsOf j done → IsOf j befores) → ((j : Inst) → IsOf j befores → IsOf j done)
         → kind_of i.op ≡ kind.Call → LeftBy m o right kinds unit u inv p among rules.lends is_one P calls k apart (Way f) keeps form b body done i rest kind.Call
+
+    -- it is, where the functions that it calls stand before it
+    abbrev pub AreCalledBefore : Type 1
+    AreCalledBefore = (i : Inst) → IsOf i (insts_of f) → step_kind i.op ≡ steps.call → IsCallBefore bytes m o read fine unit u inv told left right kinds p among rules is_one form k calls apart IsLent start given i
+
+    pub calls_met : AreCalledBefore → AreCallsMet
+    calls_met before b body has done befores i rest split only all e =
+        call_is_left bytes m o read fine unit u inv told left right kinds p among rules is_one form k calls apart IsLent start given b body done befores i rest split only (there b body has done befores i rest split only all)
+        (says b body has done befores i rest split only all (effect_on b body has done befores i rest split only all kind.Call e refl)) e
+        (before i (as_of (insts_of f) i (as_in (insts_of f) i (there b body has done befores i rest split only all))) (call_step i.op e))
 
     places_met : AreCallsMet → IsLeftOfPlaces m o right kinds unit u inv p among rules.lends one (inner bytes m o read fine unit u inv told left right kinds p among rules.lends one) (shapes bytes m o read fine unit u inv told left right kinds p among rules.lends one) P calls Way k apart keeps form is_one (no_barriers bytes m o read fine unit u inv told left)
     places_met met = record {
