@@ -1,4 +1,4 @@
--- Of the text of an accepted module nothing is left but: that its words are octets, its overrides words, no rule on decorations is broken, and lengths of arrays are lengths (`IsLeftOfGlobals`); and what is asked of calls (`IsLeftOfFunction`).
+-- So the text of an accepted module preserves what the module does. It is asked that its words are octets, its overrides words, that no rule on decorations is broken, and of the invocation that lengths of arrays are lengths (`IsLeftOfGlobals`); of its functions nothing is asked.
 use Rattle.std.proofs.Common.{◌≡◌, ◌++◌, ℕ, Bool, true, false, List, map, Option, Some, refl, sym, subst}
 use Rattle.spv_words.specs.Words.{words}
 use Rattle.spv_module.specs.Inst.{has_type}
@@ -43,7 +43,7 @@ use Rattle.formed_law.proofs.Inner.{accepted_inner}
 use Rattle.naming_law.proofs.Keys.{S, keys_are}
 use Rattle.naming_law.proofs.Once.{a_value, among_in}
 use Rattle.formed_law.proofs.Shaped.{AreGlobals, accepted_shaped}
-use Rattle.naming_law.proofs.Unit.{items, ordered}
+use Rattle.naming_law.proofs.Unit.{items, ordered, text}
 use Rattle.naming_law.proofs.Whole.{stands_reached}
 use Rattle.unit_law.proofs.Lists.{as_in, as_among, of_contained}
 use Rattle.unit_law.proofs.Ways.{HaveKinds, F, R, V, in_module}
@@ -52,7 +52,7 @@ use Rattle.grammar_law.proofs.Lives.{lives}
 use Rattle.moves_law.proofs.Planned.{planned_edge}
 use Rattle.formed_law.proofs.Labelled.{label_place}
 use Rattle.values_law.proofs.EdgesLeft.{edge_left}
-use Rattle.steps_law.proofs.Met.{AreCallsMet, insts_met}
+use Rattle.steps_law.proofs.Met.{AreCallsMet, calls_met, insts_met}
 use Rattle.use_chains.specs.Slots.{inst_at, IsLive}
 use Rattle.function_plan.specs.Phis.{is_gone}
 use Rattle.module_semantics.specs.Steps.{is_phi}
@@ -139,12 +139,22 @@ module _ (bytes : List ℕ) (m : ModuleState) (o : Options) (read : IsReadFrom b
       abbrev here : IsFunctionOf Fn m.functions
       here = one_so m o unit u inv p among r one (keys_so p among) apart kept rules form few labels program k (items_before ts) flags_outside IsLent first given kinds_in rules.lends
 
-      -- what is left of it: that its calls do what is asked of them
-      pub record IsLeftOfFunction : Type 0 where
-        pub calls : AreCallsMet bytes m o read fine unit u inv told outer r kinds_in p among rules of_words one form k (calls_of program k (items_before ts)) apart IsLent first given
+      -- its instructions do what is asked of them, where the functions that it calls stand before it and run as theirs do
+      module _ (before : StandBefore bytes m o read fine unit u inv of_words k p ts) where
+        calls_so : AreCallsMet bytes m o read fine unit u inv told outer r kinds_in p among rules of_words one form k (calls_of program k (items_before ts)) apart IsLent first given
+        calls_so =
+            calls_met bytes m o read fine unit u inv told outer r kinds_in p among rules of_words one form k (calls_of program k (items_before ts)) apart IsLent first given
+            (λ i there is_call. let w = before.callees i there is_call in record {
+              plan = w.0;
+              planned = w.1;
+              function = w.2;
+              other = w.4;
+              fine_so = before.fines (text m o unit u inv w.0) w.3;
+              run = before.runs (text m o unit u inv w.0) w.3;
+            })
 
-      insts_so : IsLeftOfFunction → AreInstsAsked m o unit u inv p among r one (keys_so p among) apart kept rules form few labels program k (items_before ts) flags_outside IsLent first given
-      insts_so left b body has = insts_met bytes m o read fine unit u inv told outer r kinds_in p among rules of_words one form k (calls_of program k (items_before ts)) apart IsLent first given left.calls b body has
+        insts_so : AreInstsAsked m o unit u inv p among r one (keys_so p among) apart kept rules form few labels program k (items_before ts) flags_outside IsLent first given
+        insts_so b body has = insts_met bytes m o read fine unit u inv told outer r kinds_in p among rules of_words one form k (calls_of program k (items_before ts)) apart IsLent first given calls_so b body has
 
       -- the types of its phis have shapes
       phis_so : (i : Inst) → IsIn i (insts_of Fn) → is_phi i ≡ true → (t : Tree) × (type_tree m.globals i.ty ≡ Some t)
@@ -160,15 +170,11 @@ module _ (bytes : List ℕ) (m : ModuleState) (o : Options) (read : IsReadFrom b
           planned_edge m o r kinds_in unit u inv p among lives_so rules.lends here (keys_so p among) form (label_place bytes m o read fine (written p) one) phis_so program (calls_of program k (items_before ts)) k apart kept (Way (written p)) (λ c way. way.known.fits) b t q at from block values taken g goes same
           (edge_left bytes m o read fine unit u inv told outer r kinds_in p among lives_so rules.lends here (keys_so p among) form (label_place bytes m o read fine (written p) one) phis_so (calls_of program k (items_before ts)) k apart kept (Way (written p)) (λ c way. way.known.fits) b t)
 
-      plan_left : IsLeftOfFunction → IsLeftOfPlan m o unit u inv p among r one (keys_so p among) apart kept rules form few labels program k (items_before ts) flags_outside IsLent first given
-      plan_left left =
-          left_of_plan m o unit u inv p among r one (keys_so p among) apart kept rules form few labels program k (items_before ts) flags_outside IsLent first given kinds_in rules.lends (insts_so left) edges_so
+      plan_left : StandBefore bytes m o read fine unit u inv of_words k p ts → IsLeftOfPlan m o unit u inv p among r one (keys_so p among) apart kept rules form few labels program k (items_before ts) flags_outside IsLent first given
+      plan_left before =
+          left_of_plan m o unit u inv p among r one (keys_so p among) apart kept rules form few labels program k (items_before ts) flags_outside IsLent first given kinds_in rules.lends (insts_so before) edges_so
           (left_at_ends bytes m o read fine unit u inv told outer r kinds_in p among rules.lends here (calls_of program k (items_before ts)) Way (λ g c way. way.known.fits) (λ g c way. way.known.more.words) rules.fits of_words
           (λ j there. rules.typed Fn here j (as_of (insts_of Fn) j there)))
-
-    -- of each, where those that it calls run as their functions do
-    pub record IsLeftOfBlocks : Type 1 where
-      pub functions : (k : ℕ) (p : FunctionPlan) (among : IsIn p u.plans) (ts : List FunctionText) → StandBefore bytes m o read fine unit u inv of_words k p ts → (IsLent : ℕ → ℕ → Type 0) (first : List (Frame × ℕ)) (given : ℕ → Option Held) → IsLeftOfFunction k p among ts IsLent first given
 
     -- what is declared for its value has a shape
     shaped : (p : FunctionPlan) (among : IsIn p u.plans) (i : Inst) → IsIn i (insts_of (written p)) → is_hoisted (p.scope.form i.result) ≡ true → (t : Tree) × (type_tree m.globals i.ty ≡ Some t)
@@ -179,19 +185,19 @@ module _ (bytes : List ℕ) (m : ModuleState) (o : Options) (read : IsReadFrom b
         let w = accepted_shaped bytes m o read fine kinds_so (written p) one i stands (not_off (has_type i.op) (λ off. value.0 ((accepted_inner bytes m read (written p) one i stands).1 off))) value.1 in
         (w.0, w.1)
 
-    is_left : IsLeftOfBlocks → IsLeft bytes m o read fine unit u inv of_words
-    is_left inner = record {
+    is_left : IsLeft bytes m o read fine unit u inv of_words
+    is_left = record {
       goes = λ c at. not_stuck bytes m o read fine unit u inv told outer c at;
       privates = λ p among c at n on. private_first bytes m o read fine unit u inv told outer p among c at n on;
       outside = λ p among x on. outside_first bytes m o read fine unit u inv told outer p among x on;
       types = λ p among. types_of_text bytes m o read fine unit u inv told outer p among;
       says = λ p among calls. tops_say bytes m o read fine unit u inv told outer p among calls (shaped p among);
       IsFlag = λ p. IsFlagOf (name_of u.claimed);
-      blocks = λ k p among ts before. blocks_so inner k p among ts before;
+      blocks = λ k p among ts before. blocks_so k p among ts before;
     }
       where
-        blocks_so : IsLeftOfBlocks → (k : ℕ) (p : FunctionPlan) (among : IsIn p u.plans) (ts : List FunctionText) → StandBefore bytes m o read fine unit u inv of_words k p ts → HasBlocks bytes m o read fine unit u inv of_words k p among (IsFlagOf (name_of u.claimed)) ts
-        blocks_so left k p among ts before =
+        blocks_so : (k : ℕ) (p : FunctionPlan) (among : IsIn p u.plans) (ts : List FunctionText) → StandBefore bytes m o read fine unit u inv of_words k p ts → HasBlocks bytes m o read fine unit u inv of_words k p among (IsFlagOf (name_of u.claimed)) ts
+        blocks_so k p among ts before =
             let r = right bytes m o read fine unit u inv in
             let rules = ruled bytes m o read fine unit u inv of_words in
             let one = is_one bytes m o read fine unit u inv p among in
@@ -201,10 +207,10 @@ module _ (bytes : List ℕ) (m : ModuleState) (o : Options) (read : IsReadFrom b
             let few = few_so bytes m o read fine unit u inv (written p) one in
             record {
               asked = λ IsLent first given.
-                  asked_of m o unit u inv p among r one (keys_so p among) apart kept rules form few (labels_so bytes m o read fine unit u inv (written p) one) (P bytes m o read fine unit u inv) k (items_before ts) flags_outside IsLent first given (plan_left k p among ts IsLent first given (left.functions k p among ts before IsLent first given))
+                  asked_of m o unit u inv p among r one (keys_so p among) apart kept rules form few (labels_so bytes m o read fine unit u inv (written p) one) (P bytes m o read fine unit u inv) k (items_before ts) flags_outside IsLent first given (plan_left k p among ts IsLent first given before)
                   (stands_reached (P bytes m o read fine unit u inv) (calls_in bytes m o read fine unit u inv of_words k ts) k (S m o unit u inv) rules (N bytes m o read fine unit u inv p among) apart kept (IsFlagOf (name_of u.claimed)) (source_of m o u.entry) (name_of u.claimed) (written p) form few p (planned_of bytes m o read fine unit u p among) refl IsLent first given);
             }
 
-    -- So the text of an accepted module preserves what the module does.
-    pub accepted_preserves : IsLeftOfBlocks → PreservesIn m u.entry o.overrides unit inv
-    accepted_preserves left = invocation_preserved bytes m o read fine unit u inv of_words (is_left left)
+    -- the law
+    pub accepted_preserves : PreservesIn m u.entry o.overrides unit inv
+    accepted_preserves = invocation_preserved bytes m o read fine unit u inv of_words is_left
