@@ -52,7 +52,7 @@ use Rattle.grammar_law.proofs.Lives.{lives}
 use Rattle.moves_law.proofs.Planned.{planned_edge}
 use Rattle.formed_law.proofs.Labelled.{label_place}
 use Rattle.values_law.proofs.EdgesLeft.{edge_left}
-use Rattle.steps_law.proofs.Met.{AreCallsMet, calls_met, insts_met}
+use Rattle.steps_law.proofs.Joined.{AreCallsMet, calls_met, insts_met}
 use Rattle.use_chains.specs.Slots.{inst_at, IsLive}
 use Rattle.function_plan.specs.Phis.{is_gone}
 use Rattle.module_semantics.specs.Steps.{is_phi}

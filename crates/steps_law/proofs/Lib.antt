@@ -19,4 +19,4 @@ pub mod Pointed
 pub mod Called
 pub mod Arguments
 pub mod Calls
-pub mod Met
+pub mod Joined
