@@ -1,2 +1,3 @@
 mod Given
+pub mod Keeps
 pub mod Outputs

@@ -21,6 +21,7 @@ use Rattle.command_line.specs.Asked.{bytes_by, bytes_of}
 use Rattle.command_line.specs.Summary.{summary}
 use Rattle.dispatch_case.specs.Cases.{CaseParts}
 use Rattle.run_module.specs.Ends.{IsSaidOf}
+use Rattle.cross_core.specs.Keeps.{Keeps}
 use Rattle.cross_core.specs.Answers.{IsAnswer, IsAnswerBy, IsTextOf, IsRunText}
 use Rattle.command_line.specs.Endings.{ending_of, IsOutput}
 
@@ -59,12 +60,13 @@ module _ {K : Type 0} (written : K → Option (List ℕ)) (faults : K → ℕ) w
       subst (λ (p : Option ℕ). IsOutput written faults (IsAnswer command (bytes_by p left)) old new ending) (sym is) h
 
 -- the text that is laid out of a module's tree
-pub glsl_answer : (o : Options) (m : ModuleState) (u : TranslationUnit) (text : List ℕ) → IsTranslationOf m o u → text ≡ unit_text u → IsTextOf o (Some m) text
-glsl_answer o m u text is same = record {
+pub glsl_answer : (o : Options) (m : ModuleState) (u : TranslationUnit) (text : List ℕ) → IsTranslationOf m o u → Keeps m o u → text ≡ unit_text u → IsTextOf o (Some m) text
+glsl_answer o m u text is keeps same = record {
   unit = u;
   laid_out = same;
   reads = subst (λ (t : List ℕ). glsl_read t ≡ Some u) (sym same) (reads_back u is.grammar);
   translation = is;
+  keeps = keeps;
 }
 
 -- the line of a report
@@ -83,6 +85,7 @@ module _ (o : Options) (left : Option (List ℕ)) (read : List ℕ) (same : IfSo
     laid_out = of.laid_out;
     reads = of.reads;
     translation = module_told left read (λ m. IsTranslationOf m o of.unit) same of.translation;
+    keeps = module_told left read (λ m. Keeps m o of.unit) same of.keeps;
   }
 
   run_told : (c : CaseParts) (text : List ℕ) → IsRunText c o (Some (module_in read)) text → IsRunText c o (option_map module_in left) text

@@ -1,13 +1,16 @@
 // The answer of each action, written to the output.
-ghost use Rattle.std.specs.Prelude.{◌≡◌, ◌≤◌, ◌++◌, codes, false, Some, IfOk, IfErr, OnOk, OnErr, IsTrue, length, string_bytes};
+ghost use Rattle.std.specs.Prelude.{◌≡◌, ◌≤◌, ◌++◌, [], ◌∷◌, codes, false, Some, IfOk, IfErr, OnOk, OnErr, IsTrue, length, string_bytes};
 ghost use Rattle.serde_json.specs.View.{view};
 ghost use Rattle.serde_json.specs.Written.{compact_text, has_float};
 ghost use Rattle.spv_words.specs.Limit.{limit_number};
+ghost use Rattle.spv_words.specs.Breaks.{NoRuleBroken};
 ghost use Rattle.spv_words.specs.declared.rule.Limit.TheVariants.{Bytes};
+ghost use Rattle.spv_words.specs.declared.rule.Rule.TheVariants.{P11, P12};
 ghost use Rattle.glsl_ast.specs.View.{unit_of};
 ghost use Rattle.glsl_grammar.specs.InGrammar.{IsInGrammar};
 ghost use Rattle.glsl_grammar.specs.Layout.{unit_text};
 ghost use Rattle.spv_module.specs.State.{ModuleState};
+ghost use Rattle.spv_decor.specs.Broken.{Broken};
 ghost use Rattle.conformance.specs.Rules.{Conforms, IsRight, IsWithinLimits, Options as Asked};
 ghost use Rattle.module_check.specs.Asked.{asked};
 ghost use Rattle.module_check.specs.Judged.{IsFault, IsFine};
@@ -89,6 +92,7 @@ fn written<K: Sink>(
 ) -> Result<Ending, Fault>
     requires heads { decor.now ≡ «module».now.heads }
     requires given { IsGiven «module».now (asked options.now) }
+    requires decorated { NoRuleBroken (Broken «module».now) (P11 ∷ P12 ∷ []) }
     requires allowed { IsTrue (is_allowed (task_of action.now)) }
     ensures end { IfOk result (IsEndOfTask (above_by (task_of action.now) (asked options.now) «module».now)) }
     ensures passes { OnOk result (IsFine «module».now (asked options.now)) }
