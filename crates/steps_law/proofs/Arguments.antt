@@ -50,12 +50,13 @@ use Rattle.path_law.proofs.Ways.{start_way}
 use Rattle.function_law.specs.Passed.{IsArgument, ArgumentSays, ArgumentsSay}
 use Rattle.typed_law.specs.Conforms.{IsConforming, IsParameter}
 use Rattle.typed_law.proofs.Calls.{AreOfTypes}
-use Rattle.typed_law.proofs.Lists.{and_left, and_off, or_left, or_right, clash, found_in}
+use Rattle.typed_law.proofs.Lists.{and_left, and_off, or_left, or_right, not_off, both_on, clash, found_in}
 use Rattle.typed_law.proofs.Values.{inside, own_local}
 use Rattle.ruled_law.proofs.Ruled.{contains_of}
 use Rattle.constant_law.proofs.Written.{no_pointee}
 use Rattle.claim_law.specs.Claimed.{IsIn}
 use Rattle.unit_law.proofs.Ways.{HaveKinds, plan_is}
+use Rattle.meets_law.proofs.Tests.{first_on}
 use Rattle.naming_law.proofs.Keys.{S, R, key as key_of, names as names_in}
 use Rattle.naming_law.specs.Names.{shape_of, is_value_parameter, is_result}
 use Rattle.naming_law.proofs.Alone.{are_alone, variable_inst}
@@ -72,18 +73,6 @@ pointed_so gs (Some ty) = by_row (pointer_row gs ty)
     by_row : (x : Option Inst) → is_some (option_map (λ (g : Inst). slice_index g.args 0) x) ≡ is_some (option_map (λ (g : Inst). slice_index g.args 1) x)
     by_row None = refl
     by_row (Some g) = refl
-
-not_off : (b : Bool) → not b ≡ false → b ≡ true
-not_off true off = refl
-not_off false off = cc
-
-first_on : (a b : Bool) → a ≡ true → (a || b) ≡ true
-first_on true b on = refl
-first_on false b on = cc
-
-both_on : (a b : Bool) → a ≡ true → b ≡ true → (a && b) ≡ true
-both_on true b on e = e
-both_on false b on e = cc
 
 module _ (bytes : List ℕ) (m : ModuleState) (o : Options) (read : IsReadFrom bytes m) (fine : IsFine m o) (unit : TranslationUnit) (u : IsUnitOf m o unit) (inv : Invocation) (told : IsInvocation inv) (left : IsLeftOfGlobals bytes m o u.entry inv)
     (right : IsConforming m o.entry) (kinds : HaveKinds m.globals) (p : FunctionPlan) (among : IsIn p u.plans) (q : FunctionPlan) (called : IsIn q u.plans) (in_it : Contains m.functions (written q)) (is_one : IsFunctionOf (written p) m.functions) where

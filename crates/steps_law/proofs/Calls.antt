@@ -78,7 +78,7 @@ use Rattle.function_law.proofs.Passing.{whole_in}
 use Rattle.function_law.proofs.UnderWay.{way_kept}
 use Rattle.typed_law.specs.Conforms.{IsConforming, IsConformingIn}
 use Rattle.typed_law.proofs.Calls.{AreOfTypes, arguments_typed}
-use Rattle.typed_law.proofs.Lists.{or_left, or_right, same_some, clash, found_in}
+use Rattle.typed_law.proofs.Lists.{or_left, or_right, and_left, same_some, clash, found_in}
 use Rattle.typed_law.proofs.Others.{contains_found, typed_some}
 use Rattle.typed_law.proofs.Rules.{flow_right}
 use Rattle.typed_law.proofs.Values.{HasType, inside, own_type, same_count, typed_value, typed_result, value_sized}
@@ -87,7 +87,7 @@ use Rattle.ruled_law.proofs.Ruled.{contains_of, parameter_of}
 use Rattle.claim_law.specs.Claimed.{IsIn}
 use Rattle.unit_law.proofs.CallTypes.{call_typed, call_group, call_id, called_function, there_by, right_call, given_value, call_row}
 use Rattle.unit_law.proofs.CallTypes as types
-use Rattle.unit_law.proofs.Lists.{as_in}
+use Rattle.unit_law.proofs.Lists.{as_in, at_some}
 use Rattle.unit_law.proofs.Shaped.{shaped_value}
 use Rattle.unit_law.proofs.Ways.{HaveKinds, plan_is}
 use Rattle.meets_law.proofs.CallMeets.{call_need, call_value, value_no_void, behind_first, inside_list}
@@ -138,11 +138,6 @@ no_void gs ty on = by_tests (is_void_in gs ty) (option_map_or (λ (g : Inst). is
     by_tests : (a b : Bool) → not (a || b) ≡ true → a ≡ false
     by_tests false b on = refl
     by_tests true b on = cc
-
-place_of : (xs : List ℕ) (n : ℕ) → IsIn n xs → (k : ℕ) × (slice_get xs k ≡ Some n)
-place_of [] n among = absurd among
-place_of (x ∷ xs) n (inl same) = (0, ap (λ (y : ℕ). Some y) same)
-place_of (x ∷ xs) n (inr later) = let w = place_of xs n later in (suc w.0, w.1)
 
 module _ (bytes : List ℕ) (m : ModuleState) (o : Options) (read : IsReadFrom bytes m) (fine : IsAccepted m o) (unit : TranslationUnit) (u : IsUnitOf m o unit) (inv : Invocation) (told : IsInvocation inv) (left : IsLeftOfGlobals bytes m o u.entry inv)
     (right : IsConforming m o.entry) (kinds : HaveKinds m.globals) (p : FunctionPlan) (among : IsIn p u.plans) where
@@ -213,14 +208,10 @@ module _ (bytes : List ℕ) (m : ModuleState) (o : Options) (read : IsReadFrom b
         let shape : N.shape n ≡ shape_in s Y w.shape = starts.shape_of bytes m o read fine unit u inv told left p among n v.0.ty w.type w.shape (subst (λ (j : ℕ). T j ≡ Some v.0.ty) (named (insts_of f) n v.0 v.1) w.type_is) w.points_to w.typed_as in
         subst (λ (x : Shape). same_shape x x ≡ true) (sym shape) (shape_itself s key w.shape w.sized)
     memory_shape n (inr lent) =
-        let q = parameter_of f.params n (left_on (is_parameter f n) (is_pointer Gs f n) lent) in
+        let q = parameter_of f.params n (and_left (is_parameter f n) (is_pointer Gs f n) lent) in
         let typed_as : T n ≡ Some q.0.1.0 = subst (λ (j : ℕ). T j ≡ Some q.0.1.0) q.2 (param_type bytes m o read fine unit u inv told left p among q.0 q.1) in
         let shape : N.shape n ≡ shape_of s o.overrides (R m o unit u inv) key (pointee_at (source_of m o u.entry) q.0.1.0) = ap (λ (t : Option ℕ). shape_of s o.overrides (R m o unit u inv) key (pointee_at (source_of m o u.entry) (unwrap_or t 0))) typed_as in
         subst (λ (x : Shape). same_shape x x ≡ true) (sym shape) (same_type m o unit u inv P (pointee_at (source_of m o u.entry) q.0.1.0) ((types_of_text bytes m o read fine unit u inv told left p among).parameters q.0 q.1))
-      where
-        left_on : (a b : Bool) → (a && b) ≡ true → a ≡ true
-        left_on true b on = refl
-        left_on false b on = cc
 
     -- at a call in a block
     module _ (b : ℕ) (body : Body f b) (done befores : List Inst) (i : Inst) (rest : List Inst) (split : body.insts ≡ befores ++ i ∷ rest) (only : (j : Inst) → IsOf j done → IsOf j befores) (there : IsAmong i (insts_of f))
@@ -353,7 +344,7 @@ module _ (bytes : List ℕ) (m : ModuleState) (o : Options) (read : IsReadFrom b
             let w = has_shape (value_shape s f n) v (subst (λ (h : Function). HasShape (value_shape s h n) v) at.stands.function (value_has s rules.fits (functions_of c.at.below) c.at.top n v known.fits.top.0 has)) in
             (w.0, w.1))
             g.params (drop 1 i.args) hs as_many (λ x one. one) arguments_of_types have no_others
-            (λ n n_in v has. let w = place_of (drop 1 i.args) n n_in in says c z at.stands (suc w.0) n (behind_first i.args w.0 n w.1) (call_id i.op i.args (suc w.0) on) (call_value i.op w.0 on) v has)
+            (λ n n_in v has. let w = at_some (drop 1 i.args) n n_in in says c z at.stands (suc w.0) n (behind_first i.args w.0 n w.1) (call_id i.op i.args (suc w.0) on) (call_value i.op w.0 on) v has)
             (λ n r way one.
             subst (λ (h : Function). is_pointer Gs h n ≡ true) at.stands.function
             (whole_in s rules.lends c.at.below c.at.top lending (drop 1 i.args) hs have (subst (λ (h : Function). list_any (is_other_pointer Gs h) (drop 1 i.args) ≡ false) (sym at.stands.function) no_others) n r way one).0);

@@ -4,7 +4,6 @@ use Rattle.std.specs.Prelude.{option_map, option_and_then, is_some}
 use Rattle.std.specs.Option.{option_map_or, option_or}
 use Rattle.std.specs.List.{list_any}
 use Rattle.std.proofs.lemmas.List.Elements.{Contains-append_left}
-use Rattle.std.proofs.lemmas.Bool.Decides.{eqb_tells}
 use Rattle.spv_words.specs.declared.rule.Rule.TheVariants.{M2}
 use Rattle.spv_ops.specs.Opcode.{is}
 use Rattle.spv_ops.specs.Enumerants.{class_number}
@@ -64,8 +63,8 @@ use Rattle.path_law.proofs.Reached as reached
 use Rattle.path_law.proofs.Writings.{begins}
 use Rattle.typed_law.specs.Conforms.{IsConforming}
 use Rattle.typed_law.proofs.Calls.{global_variable_is, global_points}
-use Rattle.typed_law.proofs.Lists.{or_left, or_right, and_off, none_by, none_at_fault, found_in}
-use Rattle.typed_law.proofs.Values.{typed_is, global_typed_some}
+use Rattle.typed_law.proofs.Lists.{or_left, or_right, and_off, not_off, clash, none_by, none_at_fault, found_in}
+use Rattle.typed_law.proofs.Values.{same_count, typed_is, global_typed_some}
 use Rattle.unit_law.proofs.Shaped.{pointer_none}
 use Rattle.meets_law.proofs.ArrayLengths.{variable_typed}
 
@@ -79,21 +78,10 @@ none_within at has = let less = has.1 in omega (arith, less)
 no_some : {A : Type 0} {a : A} → None ≡ Some a → ⊥
 no_some e = cc
 
-no_true : true ≡ false → ⊥
-no_true e = cc
-
-same_number : (a b : ℕ) → not (a == b) ≡ false → a ≡ b
-same_number a b off = by_test (a == b) (eqb_tells a b) off
-  where
-    by_test : (t : Bool) → ((t ≡ true) × (a ≡ b)) ⊎ ((t ≡ false) × (a ≡ b → ⊥)) → not t ≡ false → a ≡ b
-    by_test true (inl w) off = w.1
-    by_test true (inr w) off = cc
-    by_test false w off = cc
-
 -- the class of a pointer type that has one, where no other is allowed
 class_so : (x : Option Inst) (q n : ℕ) → option_map (λ (g : Inst). word g 1) x ≡ Some q → option_map_or (λ (c : ℕ). not (c == n)) (option_map (λ (g : Inst). word g 0) x) false ≡ false → option_map (λ (g : Inst). word g 0) x ≡ Some n
 class_so None q n to off = cc
-class_so (Some g) q n to off = ap (λ (c : ℕ). Some c) (same_number (word g 0) n off)
+class_so (Some g) q n to off = ap (λ (c : ℕ). Some c) (same_count (word g 0) n off)
 
 same_root : (q r : Root) (a b : List ℕ) → as_pointer (Some (pointer q a)) ≡ Some (r, b) → q ≡ r
 same_root q r a b e =
@@ -138,11 +126,7 @@ module _ (s : Setting) (entry : Option (List ℕ)) (right : IsConforming s.of en
     no_pointer off =
         let g = row s f to t shaped in
         let is_one : not (is_pointer g.0) ≡ false = ap (λ (o : Option Inst). option_map_or (λ (x : Inst). not (is_pointer x)) o false) (sym g.1) ∙ off in
-        pointer_none Gs g.0 t (on_by (is_pointer g.0) is_one) g.2
-      where
-        on_by : (b : Bool) → not b ≡ false → b ≡ true
-        on_by true off = refl
-        on_by false off = cc
+        pointer_none Gs g.0 t (not_off (is_pointer g.0) is_one) g.2
 
     -- it is known where the chain leads: else it might be of any type
     chain_class : (k : ℕ) → class_of Gs f (base q) ≡ Some k → class_of Gs f q.result ≡ Some k
@@ -152,7 +136,7 @@ module _ (s : Setting) (entry : Option (List ℕ)) (right : IsConforming s.of en
         parts = three_off (value_fails is_pointer Gs T (word q 0)) (list_any (value_fails is_int Gs T) (drop 1 q.args)) (leads_elsewhere Gs q.ty class (chain_end Gs T q)) fine.t6
 
         by_end : (r : Reached) → chain_end Gs T q ≡ r → leads_elsewhere Gs q.ty class (chain_end Gs T q) ≡ false → class_of Gs f q.result ≡ Some k
-        by_end Nothing at off = absurd (no_true (sym (ap (leads_elsewhere Gs q.ty class) at) ∙ off))
+        by_end Nothing at off = clash (sym (ap (leads_elsewhere Gs q.ty class) at) ∙ off)
         by_end Unknown at off = absurd (no_pointer (chain_pointer s f (record q { ty = to }) t free (as_types constants (drop 1 q.args) fine.typed) (ap (option_and_then (type_tree Gs)) points ∙ shaped)))
           where
             free : breaks_t6 Gs T (record q { ty = to }) ≡ false
@@ -178,7 +162,7 @@ module _ (s : Setting) (entry : Option (List ℕ)) (right : IsConforming s.of en
     no_input : is i.op code.Store ≡ true → class_of Gs f (word i 0) ≡ Some input → ⊥
     no_input store class =
         let off = and_off (is i.op code.Store || is_atomic i.op) (option_map_or (is_read_only (is_through s.of.heads Gs f BufferBlock (word i 0))) (class_of Gs f (word i 0)) false || is_through s.of.heads Gs f NonWritable (word i 0)) written_right (ap (λ (b : Bool). b || is_atomic i.op) store) in
-        no_true (ap (λ (o : Option ℕ). option_map_or (is_read_only (is_through s.of.heads Gs f BufferBlock (word i 0))) o false) (sym class) ∙ or_left (option_map_or (is_read_only (is_through s.of.heads Gs f BufferBlock (word i 0))) (class_of Gs f (word i 0)) false) (is_through s.of.heads Gs f NonWritable (word i 0)) off)
+        clash (ap (λ (o : Option ℕ). option_map_or (is_read_only (is_through s.of.heads Gs f BufferBlock (word i 0))) o false) (sym class) ∙ or_left (option_map_or (is_read_only (is_through s.of.heads Gs f BufferBlock (word i 0))) (class_of Gs f (word i 0)) false) (is_through s.of.heads Gs f NonWritable (word i 0)) off)
 
   -- So a pointer that may be written at an instruction and leads to what is built in is of that class.
   module _ (p : Program) (calls : Text → List Argument → State → Result (Option Typed × State)) (k : ℕ) (m : Naming) (names : AreApart m) (Holds : Conf → Type 0) (b : ℕ) (keeps : IsKept (machine s) Holds) (done : List Inst) (i : Inst) (rest : List Inst)
