@@ -1,6 +1,7 @@
 -- What each instruction keeps of a call, and gives to one that begins, holds of all calls under way at each step.
 use Rattle.std.proofs.Common.{◌≡◌, ◌≤◌, ◌==◌, ℕ, Bool, true, false, List, [], ◌∷◌, ◌++◌, length, drop, Option, Some, None, refl, ap, subst}
 use Rattle.std.specs.Prelude.{option_and_then, slice_get}
+use Rattle.std.proofs.lemmas.Option.{same_Some}
 use Rattle.spv_ops.specs.declared.AtomicOp.{AtomicOp}
 use Rattle.spv_ops.specs.declared.AtomicOp.TheVariants as atomics
 use Rattle.spv_ops.specs.declared.Terminator.{Terminator}
@@ -24,9 +25,6 @@ use Rattle.agree_law.proofs.Stores.{length_with}
 use Rattle.agree_law.proofs.Machine.{machine}
 use Rattle.call_law.specs.Frames.{Waits, AllWait, HoldsOfAll, ActKeeps, makes_pointer, IsClosed}
 use Rattle.agree_law.specs.Answers.{are_words, told_words, move}
-
-some_same : {A : Type 0} (a b : A) → Some a ≡ Some b → a ≡ b
-some_same a b e = cc
 
 module _ (h : ℕ) (J : List (Frame × ℕ) → Frame → Type 0) (s : Setting) (closed : IsClosed J s) where
   abbrev Inv : Conf → Type 0
@@ -85,7 +83,7 @@ module _ (h : ℕ) (J : List (Frame × ℕ) → Frame → Type 0) (s : Setting) 
     where
       by_test : (t : Bool) → (call_at depth ds ≡ Some g → AllWait h J (with_call depth (with_variable n v g) ds)) → elim t [ true ↦ Some d.0 | false ↦ call_at depth ds ] ≡ Some g
           → AllWait h J (elim t as (λ t. List (Frame × ℕ)) [ true ↦ (with_variable n v g, d.1) ∷ ds | false ↦ d ∷ with_call depth (with_variable n v g) ds ])
-      by_test true later e = ((λ le. let here : Waits h J ds (g, d.1) = subst (λ (f : Frame). Waits h J ds (f, d.1)) (some_same d.0 g e) (w.0 le) in (closed.stores ds g n v here.0, λ u. closed.stores ds (record g { ids = put g.ids d.1 (value u) }) n v (here.1 u))), w.1)
+      by_test true later e = ((λ le. let here : Waits h J ds (g, d.1) = subst (λ (f : Frame). Waits h J ds (f, d.1)) (same_Some d.0 g e) (w.0 le) in (closed.stores ds g n v here.0, λ u. closed.stores ds (record g { ids = put g.ids d.1 (value u) }) n v (here.1 u))), w.1)
       by_test false later e = (
         (λ le. let there = w.0 (subst (λ l. h ≤ l) (length_with depth (with_variable n v g) ds) le) in (closed.lends ds d.0 depth n v g e there.0, λ u. closed.lends ds (record d.0 { ids = put d.0.ids d.1 (value u) }) depth n v g e (there.1 u))),
         later e,

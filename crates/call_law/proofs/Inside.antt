@@ -2,6 +2,7 @@
 use Rattle.std.proofs.Common.{◌≡◌, ◌≤◌, ◌⊎◌, ◌==◌, ℕ, suc, Bool, true, false, List, [], ◌∷◌, ◌++◌, length, map, drop, Option, Some, None, inl, inr, refl, sym, ap, ◌∙◌, subst, arith}
 use Rattle.std.specs.Prelude.{option_map, option_and_then, slice_get}
 use Rattle.std.proofs.lemmas.Bool.Decides.{eqb_tells}
+use Rattle.std.proofs.lemmas.Option.{same_Some}
 use Rattle.spv_ops.specs.declared.AtomicOp.{AtomicOp}
 use Rattle.spv_ops.specs.declared.AtomicOp.TheVariants as atomics
 use Rattle.spv_ops.specs.declared.Terminator.{Terminator}
@@ -27,9 +28,6 @@ use Rattle.agree_law.specs.Answers.{are_words, told_words, move}
 use Rattle.agree_law.specs.Agree.{IfPointer}
 use Rattle.agree_law.proofs.Machine.{machine}
 use Rattle.call_law.specs.Waits.{IsAsBefore, Wait, IsWithin, FrameWithin, Within, IsInside, ActInside}
-
-some_same : {A : Type 0} (a b : A) → Some a ≡ Some b → a ≡ b
-some_same a b e = cc
 
 -- a call that is not there is not changed
 call_out : (depth : ℕ) (f : Frame) (ds : List (Frame × ℕ)) → length ds ≤ depth → with_call depth f ds ≡ ds
@@ -93,7 +91,7 @@ module _ (s : Setting) (IsLent : ℕ → ℕ → Type 0) (start : List (Frame ×
       by_held : (o : Option Held) → IfPointer o P → as_pointer o ≡ Some p → IsWithin IsLent start p.0
       by_held None a e = cc
       by_held (Some (value v)) a e = cc
-      by_held (Some (pointer r path)) a e = subst (λ (q : Target). IsWithin IsLent start q.0) (some_same (r, path) p e) a
+      by_held (Some (pointer r path)) a e = subst (λ (q : Target). IsWithin IsLent start q.0) (same_Some (r, path) p e) a
 
   set_inside : (c : Conf) (rest : List Inst) (i : Inst) (h : Held) → IsInside IsLent start c → IfPointer (Some h) P → IsInside IsLent start (set c rest i h)
   set_inside c rest i h at mine = record { top = put_within c.top.ids i.result h at.top mine; below = at.below }
@@ -158,7 +156,7 @@ module _ (s : Setting) (IsLent : ℕ → ℕ → Type 0) (start : List (Frame ×
     where
       by_test : (t : Bool) → ((t ≡ true) × (length ds ≡ depth)) ⊎ ((t ≡ false) × (length ds ≡ depth → ⊥)) → (call_at depth ds ≡ Some g → Wait IsLent bs (with_call depth (with_variable n v g) ds)) → elim t [ true ↦ Some d.0 | false ↦ call_at depth ds ] ≡ Some g
           → Wait IsLent (b ∷ bs) (elim t as (λ t. List (Frame × ℕ)) [ true ↦ (with_variable n v g, d.1) ∷ ds | false ↦ d ∷ with_call depth (with_variable n v g) ds ])
-      by_test true (inl t) later e = (w.0, as_before_put (length bs) n v b.0 g (subst (λ k. IsLent k n) (sym t.1 ∙ wait_length bs ds w.2) is) (subst (IsAsBefore IsLent (length bs) b.0) (some_same d.0 g e) w.1), w.2)
+      by_test true (inl t) later e = (w.0, as_before_put (length bs) n v b.0 g (subst (λ k. IsLent k n) (sym t.1 ∙ wait_length bs ds w.2) is) (subst (IsAsBefore IsLent (length bs) b.0) (same_Some d.0 g e) w.1), w.2)
       by_test true (inr t) later e = cc
       by_test false t later e = (w.0, w.1, later e)
 
@@ -172,7 +170,7 @@ module _ (s : Setting) (IsLent : ℕ → ℕ → Type 0) (start : List (Frame ×
     where
       by_test : (t : Bool) → (call_at depth ds ≡ Some g → Within IsLent start (with_call depth (with_variable n v g) ds)) → elim t [ true ↦ Some d.0 | false ↦ call_at depth ds ] ≡ Some g
           → Within IsLent start (elim t as (λ t. List (Frame × ℕ)) [ true ↦ (with_variable n v g, d.1) ∷ ds | false ↦ d ∷ with_call depth (with_variable n v g) ds ])
-      by_test true later e = inr (subst (FrameWithin IsLent start) (some_same d.0 g e) w.0, w.1)
+      by_test true later e = inr (subst (FrameWithin IsLent start) (same_Some d.0 g e) w.0, w.1)
       by_test false later e = inr (w.0, later e)
 
   keeping_inside : (c : Conf) (r : Root) (v : ValueTree) → IsInside IsLent start c → IsWithin IsLent start r → IsInside IsLent start (keeping r v c)

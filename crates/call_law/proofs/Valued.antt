@@ -2,6 +2,7 @@
 use Rattle.std.proofs.Common.{◌≡◌, ◌≤◌, ◌⊎◌, ◌==◌, ℕ, suc, Bool, true, false, List, [], ◌∷◌, length, map, drop, Option, Some, None, inl, inr, refl, sym, ap, ◌∙◌, subst, arith}
 use Rattle.std.specs.Prelude.{option_map}
 use Rattle.std.proofs.lemmas.Bool.Decides.{eqb_tells}
+use Rattle.std.proofs.lemmas.Option.{same_Some}
 use Rattle.spv_module.specs.declared.inst.Id.{Id}
 use Rattle.spv_module.specs.declared.inst.Inst.{Inst}
 use Rattle.spv_types.specs.Tree.{ValueTree}
@@ -15,9 +16,6 @@ use Rattle.agree_law.specs.Agree.{IfPointer, variable_in}
 use Rattle.agree_law.proofs.Stores.{call_same, call_other}
 use Rattle.call_law.specs.Known.{HasSome, LeadsToSome, IsValued}
 use Rattle.call_law.specs.Frames.{IsClosed}
-
-some_same : {A : Type 0} (a b : A) → Some a ≡ Some b → a ≡ b
-some_same a b e = cc
 
 -- P of what an id leads to, kept where ids get values, and where chains are forgotten
 module _ (P : Root → Type 0) where
@@ -57,7 +55,7 @@ module _ (P : Root → Type 0) where
       by_held : (o : Option Held) → IfRoot o → as_pointer o ≡ Some p → P p.0
       by_held None a e = cc
       by_held (Some (value v)) a e = cc
-      by_held (Some (pointer r path)) a e = subst (λ (q : Target). P q.0) (some_same (r, path) p e) a
+      by_held (Some (pointer r path)) a e = subst (λ (q : Target). P q.0) (same_Some (r, path) p e) a
 
   pub without_so : (f : Frame) (chain : ℕ) → ((k : ℕ) → IfPointer (f.ids k) (λ r path. P r)) → (k : ℕ) → IfPointer (without_based f.function chain f.ids k) (λ r path. P r)
   without_so f chain all k = by_test (is_based_on f.function chain k) (all k)

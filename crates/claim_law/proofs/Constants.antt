@@ -3,6 +3,7 @@ use Rattle.std.proofs.Common.{◌≡◌, ◌+◌, ◌==◌, ◌&&◌, ◌||◌, 
 use Rattle.std.specs.Prelude.{flat_map, is_some, slice_index_or}
 use Rattle.std.specs.List.{enumerate_from, list_any}
 use Rattle.std.proofs.lemmas.Bool.Decides.{eqb_tells}
+use Rattle.std.proofs.lemmas.Bool.{and_from, or_left, or_right}
 use Rattle.spv_ops.specs.Opcode.{is, number}
 use Rattle.spv_ops.specs.Groups.{is_constant as is_constant_op}
 use Rattle.spv_ops.specs.declared.Op.{Op}
@@ -66,18 +67,6 @@ unfolding number
 no_struct code.TypeStruct on = cc
 no_struct o on = refl
 
-pub both_on : (a b : Bool) → a ≡ true → b ≡ true → (a && b) ≡ true
-both_on true b p q = q
-both_on false b p q = cc
-
-second_on : (a b : Bool) → b ≡ true → (a || b) ≡ true
-second_on true b on = refl
-second_on false b on = on
-
-first_on : (a b : Bool) → a ≡ true → (a || b) ≡ true
-first_on true b on = refl
-first_on false b on = cc
-
 -- what the text needs of itself it needs
 needed_first : (s : Source) (first : ℕ → Bool) (gs : List Inst) (n : ℕ) → first n ≡ true → needed_from s first gs n ≡ true
 needed_first s first [] n on = on
@@ -111,6 +100,6 @@ module _ (m : ModuleState) (o : Options) (unit : TranslationUnit) (u : IsUnitOf 
   pub constant_named : (n : ℕ) (g : Inst) → list_any (is_this n) r.mentions ≡ true → global m.globals n ≡ Some g → is_constant g ≡ true → is_named (reading s g) ≡ true → HasName (name_of u.claimed) (Id (id n))
   constant_named n g on there constant named =
       let at = found_in m.globals n g there in
-      let needed : is_needed s r g.result ≡ true = subst (λ (k : ℕ). is_needed s r k ≡ true) (sym at.1) (needed_first s (needs_constant s r) m.globals n (first_on (list_any (is_this n) r.mentions) _ on)) in
-      let declared : is_declared_constant s r g ≡ true = both_on (is_constant g) _ constant (both_on (is_named (reading s g)) _ named (second_on (is_some (free_spec_id s g.result)) (is_needed s r g.result) needed)) in
+      let needed : is_needed s r g.result ≡ true = subst (λ (k : ℕ). is_needed s r k ≡ true) (sym at.1) (needed_first s (needs_constant s r) m.globals n (or_left (list_any (is_this n) r.mentions) _ on)) in
+      let declared : is_declared_constant s r g ≡ true = and_from (is_constant g) _ constant (and_from (is_named (reading s g)) _ named (or_right (is_some (free_spec_id s g.result)) (is_needed s r g.result) needed)) in
       subst (λ (k : ℕ). HasName (name_of u.claimed) (Id (id k))) at.1 (has_name_of m o unit u (Id (id g.result)) (constant_claimed s r (Plans m o unit u) g at.0 (no_struct g.op constant) declared))

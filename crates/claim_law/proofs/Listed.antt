@@ -1,7 +1,8 @@
 -- What stands in lists that are put together.
-use Rattle.std.proofs.Common.{◌≡◌, ◌<◌, ◌+◌, ℕ, zero, suc, Bool, true, false, List, [], ◌∷◌, ◌++◌, map, Some, inl, inr, refl, sym, ap, ◌∙◌, subst, arith}
-use Rattle.std.specs.Prelude.{◌||◌, flat_map, slice_get}
+use Rattle.std.proofs.Common.{◌≡◌, ◌<◌, ◌+◌, ℕ, zero, suc, Bool, true, List, [], ◌∷◌, ◌++◌, map, Some, inl, inr, sym, ap, ◌∙◌, subst, arith}
+use Rattle.std.specs.Prelude.{flat_map, slice_get}
 use Rattle.std.specs.List.{enumerate_from, list_any, range_with_len}
+use Rattle.std.proofs.lemmas.Bool.{or_left, or_right}
 use Rattle.name_alloc.specs.declared.claims.Key.{Key}
 use Rattle.text_rules.specs.Claims.{Claim}
 use Rattle.claim_law.specs.Claimed.{IsIn, HasKey}
@@ -68,13 +69,5 @@ in_range from (suc n) (suc k) less = inr (subst (λ m. IsIn m (range_with_len (f
 
 pub any_in : {A : Type 0} (test : A → Bool) (xs : List A) (x : A) → IsIn x xs → test x ≡ true → list_any test xs ≡ true
 any_in test [] x among on = absurd among
-any_in test (y ∷ xs) x (inl same) on = or_first (test y) (list_any test xs) (ap test same ∙ on)
-  where
-    or_first : (a b : Bool) → a ≡ true → (a || b) ≡ true
-    or_first true b on = refl
-    or_first false b on = cc
-any_in test (y ∷ xs) x (inr among) on = or_second (test y) (list_any test xs) (any_in test xs x among on)
-  where
-    or_second : (a b : Bool) → b ≡ true → (a || b) ≡ true
-    or_second true b on = refl
-    or_second false b on = on
+any_in test (y ∷ xs) x (inl same) on = or_left (test y) (list_any test xs) (ap test same ∙ on)
+any_in test (y ∷ xs) x (inr among) on = or_right (test y) (list_any test xs) (any_in test xs x among on)

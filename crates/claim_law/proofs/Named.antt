@@ -1,8 +1,9 @@
 -- In the text of a module each of these keys has a name.
-use Rattle.std.proofs.Common.{◌≡◌, ◌<◌, ◌+◌, ◌==◌, ◌&&◌, ℕ, Bool, true, false, List, [], ◌∷◌, map, Some, inl, inr, refl, sym, ap, ◌∙◌, subst, arith}
-use Rattle.std.specs.Prelude.{◌||◌, slice_get}
+use Rattle.std.proofs.Common.{◌≡◌, ◌<◌, ◌+◌, ◌==◌, ℕ, true, false, List, [], ◌∷◌, map, Some, inl, inr, refl, sym, ap, ◌∙◌, subst, arith}
+use Rattle.std.specs.Prelude.{slice_get}
 use Rattle.std.specs.List.{enumerate_from}
 use Rattle.std.proofs.lemmas.Bool.Decides.{eqb_tells}
+use Rattle.std.proofs.lemmas.Bool.{and_from, or_left, or_right}
 use Rattle.spv_module.specs.State.{ModuleState}
 use Rattle.spv_module.specs.Lists.{id}
 use Rattle.spv_module.specs.declared.inst.Id.{Id as IdOf}
@@ -32,27 +33,15 @@ use Rattle.claim_law.proofs.Keys.{function_claimed, parameter_claimed, result_cl
 -- what has a claim has a name
 claimed_has : (cs : List Claim) (key : Key) → HasKey key (claims_of cs) → is_claimed cs key ≡ true
 claimed_has [] key has = absurd has
-claimed_has (c ∷ cs) key (inl same) = or_first (same_key c.key key) (is_claimed cs key) (ap (λ k. same_key k key) same ∙ key_own key)
-  where
-    or_first : (a b : Bool) → a ≡ true → (a || b) ≡ true
-    or_first true b on = refl
-    or_first false b on = cc
-claimed_has (c ∷ cs) key (inr has) = or_second (same_key c.key key) (is_claimed cs key) (claimed_has cs key has)
-  where
-    or_second : (a b : Bool) → b ≡ true → (a || b) ≡ true
-    or_second true b on = refl
-    or_second false b on = on
-
-both_on : (a b : Bool) → a ≡ true → b ≡ true → (a && b) ≡ true
-both_on true b on e = e
-both_on false b on e = cc
+claimed_has (c ∷ cs) key (inl same) = or_left (same_key c.key key) (is_claimed cs key) (ap (λ k. same_key k key) same ∙ key_own key)
+claimed_has (c ∷ cs) key (inr has) = or_right (same_key c.key key) (is_claimed cs key) (claimed_has cs key has)
 
 -- a result that has a name by its form
 named_by : (p : FunctionPlan) (i : Inst) (number : ℕ) (block : Block) → slice_get (written p).blocks number ≡ Some block → IsIn i block.insts → has_name p.scope.form (nth p.graph number).reached i ≡ true → is_named_in p.scope.form p.graph (written p).blocks i.result ≡ true
 named_by p i number block at among named =
     any_in (block_names p.scope.form p.graph i.result) (enumerate_from 0 (written p).blocks) (number, block)
     (subst (λ (n : ℕ). IsIn (n, block) (enumerate_from 0 (written p).blocks)) (zero_first number) (numbered (written p).blocks 0 number block at))
-    (any_in (names_id p.scope.form (nth p.graph number).reached i.result) block.insts i among (both_on (has_name p.scope.form (nth p.graph number).reached i) (i.result == i.result) named (own i.result)))
+    (any_in (names_id p.scope.form (nth p.graph number).reached i.result) block.insts i among (and_from (has_name p.scope.form (nth p.graph number).reached i) (i.result == i.result) named (own i.result)))
   where
     own : (n : ℕ) → (n == n) ≡ true
     own n = elim (eqb_tells n n) [ inl w ↦ w.0 | inr w ↦ absurd (w.1 refl) ]

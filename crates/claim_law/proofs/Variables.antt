@@ -1,6 +1,7 @@
 -- In the text of a module each variable of the module that a function mentions has a name, and so has a block.
 use Rattle.std.proofs.Common.{◌≡◌, ◌&&◌, ◌||◌, ℕ, Bool, true, false, Some, refl, sym, subst}
 use Rattle.std.specs.List.{list_any}
+use Rattle.std.proofs.lemmas.Bool.{and_from, and_left}
 use Rattle.spv_ops.specs.Opcode.{is, number}
 use Rattle.spv_ops.specs.Groups.{is_constant as is_constant_op}
 use Rattle.spv_ops.specs.declared.Op.{Op}
@@ -24,7 +25,7 @@ use Rattle.claim_law.specs.Claimed.{IsIn, HasName}
 use Rattle.claim_law.proofs.Listed.{any_in, in_mapped}
 use Rattle.claim_law.proofs.Keys.{variable_claimed, block_claimed}
 use Rattle.claim_law.proofs.Named.{Plans, has_name_of}
-use Rattle.claim_law.proofs.Constants.{found_in, both_on}
+use Rattle.claim_law.proofs.Constants.{found_in}
 
 pub variable_no_struct : (o : Op) → is o code.Variable ≡ true → is o code.TypeStruct ≡ false
 unfolding number
@@ -35,10 +36,6 @@ pub variable_no_constant : (o : Op) → is o code.Variable ≡ true → is_const
 unfolding number
 variable_no_constant code.Variable on = refl
 variable_no_constant o on = cc
-
-first_off : (a b : Bool) → a ≡ false → (a && b) ≡ false
-first_off true b off = cc
-first_off false b off = refl
 
 left_on : (a b : Bool) → (a && b) ≡ true → a ≡ true
 left_on true b on = refl
@@ -59,14 +56,14 @@ module _ (m : ModuleState) (o : Options) (unit : TranslationUnit) (u : IsUnitOf 
   -- an instruction of a planned function has it as an operand
   pub written_in : (p : FunctionPlan) (i g : Inst) → IsIn p u.plans → IsIn i (insts_of (written p)) → has_operand i g.result ≡ true → is_of_class g ≡ true → is_written_variable r g ≡ true
   written_in p i g among there operand class =
-      both_on (is_of_class g) (is_operand_in r.functions g.result) class
+      and_from (is_of_class g) (is_operand_in r.functions g.result) class
       (any_in (λ (f : Function). list_any (λ (j : Inst). has_operand j g.result) (insts_of f)) r.functions (written p) (in_mapped written u.plans p among) (any_in (λ (j : Inst). has_operand j g.result) (insts_of (written p)) i there operand))
 
   is_one : (g : Inst) → is_of_class g ≡ true → is_variable g ≡ true
   is_one g class = class_on (is_variable g) _ _ _ class
 
   pub undeclared : (g : Inst) → is_variable g ≡ true → is_declared_constant (source_of m o u.entry) r g ≡ false
-  undeclared g on = first_off (is_constant g) _ (variable_no_constant g.op on)
+  undeclared g on = and_left (is_constant g) _ (variable_no_constant g.op on)
 
   pub variable_named : (p : FunctionPlan) (i g : Inst) (n : ℕ) → IsIn p u.plans → IsIn i (insts_of (written p)) → has_operand i n ≡ true → global m.globals n ≡ Some g → is_of_class g ≡ true → HasName (name_of u.claimed) (Id (id n))
   variable_named p i g n among there operand is class =

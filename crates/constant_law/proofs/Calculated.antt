@@ -3,6 +3,7 @@ use Rattle.std.proofs.Common.{◌≡◌, ◌≤◌, ◌+◌, ◌==◌, ◌||◌,
 use Rattle.std.specs.Prelude.{◌⊎◌, ◌<◌, bytes_eq, option_and_then, slice_index, unwrap_or}
 use Rattle.std.specs.Option.{option_map_or}
 use Rattle.std.proofs.lemmas.Bool.Decides.{nat_tests}
+use Rattle.std.proofs.lemmas.Option.{same_Some}
 use Rattle.spv_ops.specs.Opcode.{op_of}
 use Rattle.spv_ops.specs.Groups.{is_inner}
 use Rattle.spv_ops.specs.Operands.{inner_of}
@@ -55,7 +56,7 @@ use Rattle.global_law.specs.Sources.{source_of, chosen}
 use Rattle.global_law.proofs.Plain.{plain_has}
 use Rattle.global_law.proofs.Zeros.{HasZero, HaveZeros}
 use Rattle.typed_law.specs.Words.{HoldWords}
-use Rattle.typed_law.proofs.Lists.{and_left, and_right, same_some, some_part}
+use Rattle.typed_law.proofs.Lists.{and_left, and_right, some_part}
 use Rattle.constant_law.specs.Items.{key_text}
 use Rattle.constant_law.proofs.Valued.{IsOperand, AreOperands}
 use Rattle.constant_law.proofs.Constituents.{have_shapes, all_fit, operation_right}
@@ -199,7 +200,7 @@ module _ (s : Setting) (overrides : List (ℕ × Given)) (found : Key → Option
           let reads = plain_reading (reading source w.inst) (and_left (is_plain (reading source w.inst)) (is_number (option_and_then elem_of (type_tree s.of.globals w.inst.ty))) parts) in
           let number = and_right (is_plain (reading source w.inst)) (is_number (option_and_then elem_of (type_tree s.of.globals w.inst.ty))) parts in
           let c = plain_has s overrides have results n w.inst v w.there reads w.has in
-          let same : word_of (plain_value source w.inst) ≡ k = same_some (word_of (plain_value source w.inst)) k e in
+          let same : word_of (plain_value source w.inst) ≡ k = same_Some (word_of (plain_value source w.inst)) k e in
           number_value t v (ap (λ o. is_number (option_and_then elem_of o)) (sym w.typed_as) ∙ number) w.fit ∙ ap word (sym (ap word_of c.value) ∙ same)
       by_test false on e = none_some e
 

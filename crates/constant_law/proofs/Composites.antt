@@ -1,8 +1,9 @@
 -- A constructor of parts with the shapes of a type says the composite of their values.
-use Rattle.std.proofs.Common.{◌≡◌, ◌⊎◌, ◌+◌, ◌==◌, ◌&&◌, ℕ, suc, Bool, true, false, List, [], ◌∷◌, length, map, Option, Some, None, inl, inr, refl, sym, ap, ap₂, ◌∙◌, subst, if◌then◌else◌, arith}
+use Rattle.std.proofs.Common.{◌≡◌, ◌⊎◌, ◌+◌, ◌==◌, ℕ, suc, true, List, [], ◌∷◌, length, map, Option, Some, None, inl, inr, refl, sym, ap, ap₂, ◌∙◌, subst, if◌then◌else◌, arith}
 use Rattle.std.specs.Prelude.{option_map, option_and_then}
 use Rattle.std.specs.List.{list_all}
 use Rattle.std.proofs.lemmas.Bool.Decides.{eqb_tells}
+use Rattle.std.proofs.lemmas.Bool.{and_from}
 use Rattle.spv_module.specs.declared.tree.Elem.{Elem}
 use Rattle.spv_module.specs.declared.tree.Elem.TheVariants as elem
 use Rattle.spv_module.specs.declared.tree.Length.TheVariants.{Fixed, Spec}
@@ -30,10 +31,6 @@ use Rattle.constant_law.proofs.Constituents.{AreConstituents}
 
 number_same : (a b : ℕ) → a ≡ b → (a == b) ≡ true
 number_same a b e = elim (eqb_tells a b) [ inl w ↦ w.0 | inr w ↦ absurd (w.1 e) ]
-
-both_on : (a b : Bool) → a ≡ true → b ≡ true → (a && b) ≡ true
-both_on true b on e = e
-both_on false b on e = cc
 
 -- scalars, each alone
 abbrev singles : List ValueTree → List (List ValueTree)
@@ -121,14 +118,14 @@ module _ (p : Program) (s : Setting) (source : Source) (key : Key → Text) wher
   all_of : (t : Tree) (us : List Tree) (vs : List ValueTree) → HasZero p s source key t → AreOfShape t us → AllFit us vs → list_all (is_of (shape_in s Y t)) (as_typed us vs) ≡ true
   all_of t [] [] z are fit = refl
   all_of t (u ∷ us) (v ∷ vs) z are fit =
-      both_on (same_shape (shape_in s Y t) (shape_in s Y u)) (list_all (is_of (shape_in s Y t)) (as_typed us vs)) (ap (λ q. same_shape (shape_in s Y t) (shape_in s Y q)) are.0 ∙ same_itself p s source key t z) (all_of t us vs z are.1 fit.1)
+      and_from (same_shape (shape_in s Y t) (shape_in s Y u)) (list_all (is_of (shape_in s Y t)) (as_typed us vs)) (ap (λ q. same_shape (shape_in s Y t) (shape_in s Y q)) are.0 ∙ same_itself p s source key t z) (all_of t us vs z are.1 fit.1)
   all_of t [] (v ∷ vs) z are fit = absurd fit
   all_of t (u ∷ us) [] z are fit = absurd fit
 
   array_made : (t : Tree) (n : ℕ) (us : List Tree) (vs : List ValueTree) → HasZero p s source key t → length us ≡ n → AreOfShape t us → AllFit us vs → built (shapes.array (shape_in s Y t) (Some n)) (as_typed us vs) ≡ Some (typed (shapes.array (shape_in s Y t) (Some n)) (composite vs))
   array_made t n us vs z count are fit =
       ap (λ b. if b then Some (whole_of (shapes.array (shape_in s Y t) (Some n)) (as_typed us vs)) else None)
-      (both_on (length (as_typed us vs) == n) (list_all (is_of (shape_in s Y t)) (as_typed us vs)) (number_same (length (as_typed us vs)) n (as_many us vs fit ∙ count)) (all_of t us vs z are fit))
+      (and_from (length (as_typed us vs) == n) (list_all (is_of (shape_in s Y t)) (as_typed us vs)) (number_same (length (as_typed us vs)) n (as_many us vs fit ∙ count)) (all_of t us vs z are fit))
       ∙ ap (λ l. Some (typed (shapes.array (shape_in s Y t) (Some n)) (composite l))) (values_back us vs fit)
 
   -- members
@@ -139,7 +136,7 @@ module _ (p : Program) (s : Setting) (source : Source) (key : Key → Text) wher
   members_are k j (tree t ts) [] vs z are fit = absurd are
   members_are k j (tree t ts) (u ∷ us) [] z are fit = absurd fit
   members_are k j (tree t ts) (u ∷ us) (v ∷ vs) z are fit =
-      both_on (same_shape (shape_in s Y t) (shape_in s Y u)) (are_of (fields_in s Y k (j + 1) ts) (as_typed us vs)) (ap (λ q. same_shape (shape_in s Y t) (shape_in s Y q)) are.0 ∙ same_itself p s source key t z.0) (members_are k (j + 1) ts us vs z.1 are.1 fit.1)
+      and_from (same_shape (shape_in s Y t) (shape_in s Y u)) (are_of (fields_in s Y k (j + 1) ts) (as_typed us vs)) (ap (λ q. same_shape (shape_in s Y t) (shape_in s Y q)) are.0 ∙ same_itself p s source key t z.0) (members_are k (j + 1) ts us vs z.1 are.1 fit.1)
 
   struct_made : (k : ℕ) (ts : Trees) (us : List Tree) (vs : List ValueTree) → HaveZeros p s source key ts → AreMembers ts us → AllFit us vs → built (shape_in s Y (plain.struct k ts)) (as_typed us vs) ≡ Some (typed (shape_in s Y (plain.struct k ts)) (composite vs))
   struct_made k ts us vs z are fit =

@@ -6,6 +6,8 @@ use Rattle.std.specs.List.{list_any, count_by}
 use Rattle.std.proofs.lemmas.Bool.Decides.{eqb_tells, nat_tests}
 use Rattle.std.proofs.lemmas.List.Elements.{Contains-append_left, Contains-append_right}
 use Rattle.std.proofs.lemmas.List.Sums.{length-filter}
+use Rattle.std.proofs.lemmas.Bool.{not-false}
+use Rattle.std.proofs.lemmas.Option.{same_Some}
 use Rattle.spv_words.specs.declared.rule.Rule.TheVariants.{P11}
 use Rattle.spv_ops.specs.Opcode.{is, number}
 use Rattle.spv_ops.specs.Groups.{is_constant as is_constant_op}
@@ -39,7 +41,7 @@ use Rattle.text_rules.specs.Constants.{Source, size_ids}
 use Rattle.type_law.proofs.Rows.{vector_parts}
 use Rattle.type_law.proofs.Parts.{row, earlier_is}
 use Rattle.typed_law.specs.Conforms.{IsConforming}
-use Rattle.typed_law.proofs.Lists.{or_left, or_right, and_left, and_right, and_off, not_off, same_some, found_in, none_at_fault, clash}
+use Rattle.typed_law.proofs.Lists.{or_left, or_right, and_left, and_right, and_off, found_in, none_at_fault, clash}
 use Rattle.typed_law.proofs.Operations.{four_off}
 use Rattle.typed_law.proofs.Types.{row_is, type_shaped}
 use Rattle.typed_law.proofs.Used.{global_found}
@@ -61,7 +63,7 @@ found_row test [] i e = none_some e
 found_row test (h ∷ rows) i e = by_test (test h) refl e (λ later. found_row test rows i later)
   where
     by_test : (b : Bool) → test h ≡ b → (if b then Some h else find test rows) ≡ Some i → (find test rows ≡ Some i → (k : ℕ) × (k < length rows) × (nth_row rows k ≡ i) × (test i ≡ true)) → (k : ℕ) × (k < length (h ∷ rows)) × (nth_row (h ∷ rows) k ≡ i) × (test i ≡ true)
-    by_test true on e next = let same = same_some h i e in (0, (let low : 0 < suc (length rows) = omega arith in low), same, subst (λ x. test x ≡ true) same on)
+    by_test true on e next = let same = same_Some h i e in (0, (let low : 0 < suc (length rows) = omega arith in low), same, subst (λ x. test x ≡ true) same on)
     by_test false off e next = let w = next e in let less = w.1 in (suc w.0, (let low : suc w.0 < suc (length rows) = omega (arith, less) in low), w.2, w.3)
 
 found_among : (test : Inst → Bool) (rows : List Inst) (i : Inst) → find test rows ≡ Some i → IsAmong i rows × (test i ≡ true)
@@ -69,7 +71,7 @@ found_among test [] i e = none_some e
 found_among test (h ∷ rows) i e = by_test (test h) refl e (λ later. found_among test rows i later)
   where
     by_test : (b : Bool) → test h ≡ b → (if b then Some h else find test rows) ≡ Some i → (find test rows ≡ Some i → IsAmong i rows × (test i ≡ true)) → ((h ≡ i) ⊎ IsAmong i rows) × (test i ≡ true)
-    by_test true on e next = let same = same_some h i e in (inl same, subst (λ x. test x ≡ true) same on)
+    by_test true on e next = let same = same_Some h i e in (inl same, subst (λ x. test x ≡ true) same on)
     by_test false off e next = let w = next e in (inr w.0, w.1)
 
 kept_some : (test : Inst → Bool) (rows : List Inst) (i : Inst) → IsAmong i rows → test i ≡ true → 0 < length (filter test rows)
@@ -159,7 +161,7 @@ spec_ids_are s entry right overrides unbroken g there some = by_row (first_row s
         let w = found_row (has_key (number code.Decorate, g.result, 0, decoration_number decoration.SpecId)) s.of.heads i at in
         let k = row_key i g.result (decoration_number decoration.SpecId) w.3 in
         let placed : is_misplaced s.of i ≡ false = by_test (is_misplaced s.of i) refl w.0 w.1 w.2 in
-        let on = not_off (option_map_or (λ target. is_target s.of target (word i 0)) (target_of (word i 1)) false) (sym (misplaced_is s.of i i.op k.0) ∙ placed) in
+        let on = not-false (option_map_or (λ target. is_target s.of target (word i 0)) (target_of (word i 1)) false) (sym (misplaced_is s.of i i.op k.0) ∙ placed) in
         let target : is_target s.of SpecConstant g.result ≡ true = ap (λ n. is_target s.of SpecConstant n) (sym k.1) ∙ ap (λ n. option_map_or (λ target. is_target s.of target (word i 0)) (target_of n) false) (sym k.2) ∙ on in
         scalar_spec g.op (ap (λ o. option_map_or (λ (h : Inst). (is h.op code.SpecConstantTrue) || (is h.op code.SpecConstantFalse) || (is h.op code.SpecConstant)) o false) (sym (global_found s.of entry right g there)) ∙ target)
       where
@@ -205,13 +207,13 @@ module _ (s : Setting) where
   -- and of a vector of three
   pub uvec3_tree : (h : Inst) (t : Tree) → tree_at s.of.globals h ≡ Some t → is_no_uvec3 s.of.globals h ≡ false → t ≡ plain.vector elem.Uint 3
   uvec3_tree h t shape off =
-      let vector = not_off ((is h.op code.TypeVector) && (word h 1 == 3)) (or_left (not ((is h.op code.TypeVector) && (word h 1 == 3))) (is_no_uint s.of.globals (word h 0)) off) in
+      let vector = not-false ((is h.op code.TypeVector) && (word h 1 == 3)) (or_left (not ((is h.op code.TypeVector) && (word h 1 == 3))) (is_no_uint s.of.globals (word h 0)) off) in
       let three = number_is (word h 1) 3 (and_right (is h.op code.TypeVector) (word h 1 == 3) vector) in
       let typed = or_right (not ((is h.op code.TypeVector) && (word h 1 == 3))) (is_no_uint s.of.globals (word h 0)) off in
       let v = vector_parts s.of.globals h t (and_left (is h.op code.TypeVector) (word h 1 == 3) vector) shape in
       let part = row s nothing (word h 0) v.0 (earlier_is s nothing h.at (word h 0) v.0 v.2) in
-      let uint = not_off (is_uint part.0) (ap (λ o. option_map_or (λ (x : Inst). not (is_uint x)) o false) (sym part.1) ∙ typed) in
-      let component : plain.uint ≡ v.0 = same_some plain.uint v.0 (sym (uint_tree part.0 uint) ∙ part.2) in
+      let uint = not-false (is_uint part.0) (ap (λ o. option_map_or (λ (x : Inst). not (is_uint x)) o false) (sym part.1) ∙ typed) in
+      let component : plain.uint ≡ v.0 = same_Some plain.uint v.0 (sym (uint_tree part.0 uint) ∙ part.2) in
       let unsigned : elem.Uint ≡ v.1 = same_elem elem.Uint v.1 (ap elem_of component ∙ v.3) in
       v.4 ∙ ap (λ q. plain.vector q (word h 1)) (sym unsigned) ∙ ap (plain.vector elem.Uint) three
     where
@@ -244,13 +246,13 @@ module _ (s : Setting) (entry : Option (List ℕ)) (right : IsConforming s.of en
   uint_type : (g : Inst) → IsAmong g Gs → has_type g.op ≡ true → is_no_uint Gs g.ty ≡ false → type_tree Gs g.ty ≡ Some plain.uint
   uint_type g there has off =
       let w = type_row_of g there has in
-      ap (λ o. option_map_or (tree_at Gs) o None) w.1 ∙ uint_tree s w.0 (not_off (is_uint w.0) (ap (λ o. option_map_or (λ (h : Inst). not (is_uint h)) o false) (sym w.2) ∙ off))
+      ap (λ o. option_map_or (tree_at Gs) o None) w.1 ∙ uint_tree s w.0 (not-false (is_uint w.0) (ap (λ o. option_map_or (λ (h : Inst). not (is_uint h)) o false) (sym w.2) ∙ off))
 
   -- a part
   part_good : (none : ℕ → Bool) (n : ℕ) (g : Inst) → is_no_part s.of none n ≡ false → global Gs n ≡ Some g → (type_tree Gs g.ty ≡ Some plain.uint) × ((constant_kind g.op ≡ kinds.Word) ⊎ (constant_kind g.op ≡ kinds.SpecWord))
   part_good none n g off at =
       let told : is_no_size Gs g ≡ false = ap (λ o. option_map_or (is_no_size Gs) o (none n)) (sym at) ∙ off in
-      let first = not_off (((is g.op code.Constant) || (is g.op code.SpecConstant)) && nat_lt 0 (word g 0)) (or_left (not (((is g.op code.Constant) || (is g.op code.SpecConstant)) && nat_lt 0 (word g 0))) (is_no_uint Gs g.ty) told) in
+      let first = not-false (((is g.op code.Constant) || (is g.op code.SpecConstant)) && nat_lt 0 (word g 0)) (or_left (not (((is g.op code.Constant) || (is g.op code.SpecConstant)) && nat_lt 0 (word g 0))) (is_no_uint Gs g.ty) told) in
       let opcode = and_left ((is g.op code.Constant) || (is g.op code.SpecConstant)) (nat_lt 0 (word g 0)) first in
       let typed = or_right (not (((is g.op code.Constant) || (is g.op code.SpecConstant)) && nat_lt 0 (word g 0))) (is_no_uint Gs g.ty) told in
       (uint_type g (found_in Gs n g at) (part_typed g.op opcode) typed, part_kind g.op opcode)
@@ -278,7 +280,7 @@ module _ (s : Setting) (entry : Option (List ℕ)) (right : IsConforming s.of en
       let w = global_row s entry right g there (global_typed_some s entry right g there has) in
       let typed_row = row_is s.of entry right g.ty w.0 w.1 (type_suits g.op w.0 w.2) in
       let told : is_no_uvec3 Gs w.0 ≡ false = ap (λ o. option_map_or (is_no_uvec3 Gs) o false) (sym typed_row) ∙ off in
-      let vector = not_off ((is w.0.op code.TypeVector) && (word w.0 1 == 3)) (or_left (not ((is w.0.op code.TypeVector) && (word w.0 1 == 3))) (is_no_uint Gs (word w.0 0)) told) in
+      let vector = not-false ((is w.0.op code.TypeVector) && (word w.0 1 == 3)) (or_left (not ((is w.0.op code.TypeVector) && (word w.0 1 == 3))) (is_no_uint Gs (word w.0 0)) told) in
       let t = type_shaped s.of entry right g.ty w.0 w.1 (type_suits g.op w.0 w.2) (vector_shaped w.0.op (and_left (is w.0.op code.TypeVector) (word w.0 1 == 3) vector)) in
       t.1 ∙ ap (λ q. Some q) (uvec3_tree s w.0 t.0 (sym (ap (λ o. option_map_or (tree_at Gs) o None) w.1) ∙ t.1) told)
 

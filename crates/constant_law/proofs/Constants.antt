@@ -2,6 +2,7 @@
 use Rattle.std.proofs.Common.{◌≡◌, ◌⊎◌, ◌<◌, ◌≤◌, ◌+◌, ◌==◌, ◌++◌, ℕ, true, false, List, [], ◌∷◌, Option, Some, None, inl, inr, refl, sym, ap, ◌∙◌, subst, if◌then◌else◌, arith}
 use Rattle.std.specs.Prelude.{unwrap_or, flat_map, option_and_then}
 use Rattle.std.specs.List.{list_any}
+use Rattle.std.proofs.lemmas.Bool.{or_left, or_right}
 use Rattle.spv_ops.specs.Opcode.{is}
 use Rattle.spv_ops.specs.Groups.{is_constant as is_constant_op}
 use Rattle.spv_ops.specs.declared.Op.TheVariants as code
@@ -54,7 +55,7 @@ use Rattle.constant_law.specs.Items.{key_text, AreAsked}
 use Rattle.constant_law.proofs.Within.{all_wider, members_unblocked, pointee_before, pointee_within}
 use Rattle.constant_law.proofs.Constituents.{nothing}
 use Rattle.constant_law.proofs.Reading.{reads_says}
-use Rattle.constant_law.proofs.Written.{or_on_left, or_on_right, pointed_type, held_by}
+use Rattle.constant_law.proofs.Written.{pointed_type, held_by}
 use Rattle.constant_law.proofs.Standing.{N, Stands, StandsAt, stands_at, own, constant_op, declared_by as declared_if, needed_kept, all_declared, declared_stands, zero_stands, later}
 
 -- the functions of a text, behind its other items
@@ -133,20 +134,20 @@ module _ (s : Setting) (entry : Option (List ℕ)) (overrides : List (ℕ × Giv
       let le : g.at ≤ v.at = omega (arith, less) in
       all_declared s entry overrides found_key r asked v.at (with_items (first s overrides) (flat_map (declaration source r Ns) before)) (stands_before before after v whole) ts
       (all_wider (IsNoBlock s.of) s.of g.at v.at le ts (members_unblocked s.of entry asked.right g ts (found_in Gs q g row) opcode all))
-      (λ j has. held_by s entry asked.right overrides r v j there (or_on_left (is_written_variable r v) (is_declared_constant source r v) written) (pointed_type s entry asked.right overrides r v.ty q j (plain.struct q ts) points shape (or_on_right (q == j) (have_struct j ts) has)))
+      (λ j has. held_by s entry asked.right overrides r v j there (or_left (is_written_variable r v) (is_declared_constant source r v) written) (pointed_type s entry asked.right overrides r v.ty q j (plain.struct q ts) points shape (or_right (q == j) (have_struct j ts) has)))
 
   pub type_declared_before : (before after : List Inst) (v : Inst) (q : ℕ) (t : Tree) → Gs ≡ before ++ v ∷ after → IsAmong v Gs → is v.op code.Variable ≡ true → is_written_variable r v ≡ true → is_some_block s.of.heads Gs v ≡ false → pointee Gs v.ty ≡ Some q → type_tree Gs q ≡ Some t
       → IsDeclared (with_items (first s overrides) (flat_map (declaration source r Ns) before)).program s source key t
   type_declared_before before after v q t whole there variable written off points shape =
       declared_stands s entry overrides found_key r asked v.at (with_items (first s overrides) (flat_map (declaration source r Ns) before)) (stands_before before after v whole) t (pointee_within s.of entry asked.right v q t there variable off points shape)
-      (λ j has. held_by s entry asked.right overrides r v j there (or_on_left (is_written_variable r v) (is_declared_constant source r v) written) (pointed_type s entry asked.right overrides r v.ty q j t points shape has))
+      (λ j has. held_by s entry asked.right overrides r v j there (or_left (is_written_variable r v) (is_declared_constant source r v) written) (pointed_type s entry asked.right overrides r v.ty q j t points shape has))
 
   pub zero_before : (before after : List Inst) (v : Inst) (q : ℕ) (t : Tree) → Gs ≡ before ++ v ∷ after → IsAmong v Gs → is v.op code.Variable ≡ true → is_written_variable r v ≡ true → is_some_block s.of.heads Gs v ≡ false → is_workgroup v ≡ false → pointee Gs v.ty ≡ Some q → type_tree Gs q ≡ Some t
       → HasZero (with_items (first s overrides) (flat_map (declaration source r Ns) before)).program s source key t
   zero_before before after v q t whole there variable written off own_memory points shape =
       zero_stands s entry overrides found_key r asked v.at (with_items (first s overrides) (flat_map (declaration source r Ns) before)) (stands_before before after v whole) t (pointee_within s.of entry asked.right v q t there variable off points shape)
       (pointee_sized s.of entry asked.right v q (inst_left v Gs (local_insts s.of) there) variable own_memory off points t shape)
-      (λ j has. held_by s entry asked.right overrides r v j there (or_on_left (is_written_variable r v) (is_declared_constant source r v) written) (pointed_type s entry asked.right overrides r v.ty q j t points shape has))
+      (λ j has. held_by s entry asked.right overrides r v j there (or_left (is_written_variable r v) (is_declared_constant source r v) written) (pointed_type s entry asked.right overrides r v.ty q j t points shape has))
 
   -- The text: its items, and the functions behind them.
   module _ (fs : List Decl) (functions : AreFunctions fs) where
@@ -178,7 +179,7 @@ module _ (s : Setting) (entry : Option (List ℕ)) (overrides : List (ℕ × Giv
 
     -- a constant that a live instruction mentions is needed
     pub mentioned_needed : (n : ℕ) → list_any (λ (k : ℕ). k == n) r.mentions ≡ true → is_needed source r n ≡ true
-    mentioned_needed n on = needed_kept source (needs_constant source r) Gs n (or_on_left (list_any (λ (k : ℕ). k == n) r.mentions) _ on)
+    mentioned_needed n on = needed_kept source (needs_constant source r) Gs n (or_left (list_any (λ (k : ℕ). k == n) r.mentions) _ on)
 
     -- In each state in which nothing hides its name, the expression of a constant says the value that the constant has in the run.
     pub constants_say : (calls : Text → List Argument → State → Result (Option Typed × State)) (m : Naming) (n : ℕ) (v : ValueTree) (z : State) → ((x : Text) → m.is_outside x ≡ true → (has_in z.frames x ≡ false) × (found z.globals x ≡ None)) → s.constants n ≡ Some v → (w : IsReadHere m n)

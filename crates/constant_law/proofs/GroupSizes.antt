@@ -4,6 +4,8 @@ use Rattle.std.specs.Prelude.{is_some, option_map, option_and_then, slice_index}
 use Rattle.std.specs.Option.{option_map_or}
 use Rattle.std.specs.List.{list_any, position_from}
 use Rattle.std.proofs.lemmas.Bool.Decides.{eqb_tells}
+use Rattle.std.proofs.lemmas.Bool.{or_left, or_right}
+use Rattle.std.proofs.lemmas.Option.{same_Some}
 use Rattle.spv_ops.specs.Opcode.{is, number}
 use Rattle.spv_ops.specs.Enumerants.{built_in_number}
 use Rattle.spv_ops.specs.declared.BuiltIn.TheVariants as built
@@ -36,7 +38,7 @@ use Rattle.type_law.specs.Shaped.{HaveResults, HasConstants}
 use Rattle.global_law.specs.Sources.{source_of, chosen}
 use Rattle.global_law.proofs.Sizes.{part_value, part_is, sizes_are}
 use Rattle.lowering_law.specs.Says.{Says}
-use Rattle.typed_law.proofs.Lists.{and_left, same_some, found_in}
+use Rattle.typed_law.proofs.Lists.{and_left, found_in}
 use Rattle.constant_law.specs.Items.{IsScalarSpec, AreSpecIds, AreSizes}
 use Rattle.constant_law.proofs.Valued.{IsValued, valued, IsOperand, AreOperands, operands}
 
@@ -49,22 +51,14 @@ number_is a b e = elim (eqb_tells a b) [ inl w ↦ w.1 | inr w ↦ (let never : 
 itself : (a : ℕ) → (a == a) ≡ true
 itself a = elim (eqb_tells a a) [ inl w ↦ w.0 | inr w ↦ absurd (w.1 refl) ]
 
-or_right_on : (a b : Bool) → b ≡ true → (a || b) ≡ true
-or_right_on true b e = refl
-or_right_on false b e = e
-
-or_left_on : (a b : Bool) → a ≡ true → (a || b) ≡ true
-or_left_on true b e = refl
-or_left_on false b e = cc
-
 first : (a b c : ℕ) → list_any (λ (k : ℕ). k == a) (a ∷ b ∷ c ∷ []) ≡ true
-first a b c = or_left_on (a == a) (list_any (λ (k : ℕ). k == a) (b ∷ c ∷ [])) (itself a)
+first a b c = or_left (a == a) (list_any (λ (k : ℕ). k == a) (b ∷ c ∷ [])) (itself a)
 
 second : (a b c : ℕ) → list_any (λ (k : ℕ). k == b) (a ∷ b ∷ c ∷ []) ≡ true
-second a b c = or_right_on (a == b) (list_any (λ (k : ℕ). k == b) (b ∷ c ∷ [])) (or_left_on (b == b) (list_any (λ (k : ℕ). k == b) (c ∷ [])) (itself b))
+second a b c = or_right (a == b) (list_any (λ (k : ℕ). k == b) (b ∷ c ∷ [])) (or_left (b == b) (list_any (λ (k : ℕ). k == b) (c ∷ [])) (itself b))
 
 third : (a b c : ℕ) → list_any (λ (k : ℕ). k == c) (a ∷ b ∷ c ∷ []) ≡ true
-third a b c = or_right_on (a == c) (list_any (λ (k : ℕ). k == c) (b ∷ c ∷ [])) (or_right_on (b == c) (list_any (λ (k : ℕ). k == c) (c ∷ [])) (or_left_on (c == c) false (itself c)))
+third a b c = or_right (a == c) (list_any (λ (k : ℕ). k == c) (b ∷ c ∷ [])) (or_right (b == c) (list_any (λ (k : ℕ). k == c) (c ∷ [])) (or_left (c == c) false (itself c)))
 
 -- a uint is a word
 uint_word : (v : ValueTree) → fits plain.uint v ≡ true → (w : ℕ) × (v ≡ word w)
@@ -147,7 +141,7 @@ module _ (s : Setting) (overrides : List (ℕ × Given)) (have : HasConstants s 
 
   -- an operand that is a part of the size
   part_word : (at n : ℕ) (u : Tree) (v : ValueTree) → list_any (λ (k : ℕ). k == n) (size_ids source) ≡ true → IsOperand s (chosen s overrides) have results rising at n u v → (w : ℕ) × (v ≡ word w)
-  part_word at n u v in_it one = uint_word v (subst (λ q. fits q v ≡ true) (same_some u plain.uint (sym one.typed_as ∙ (are.part n one.inst in_it one.there).0)) one.fit)
+  part_word at n u v in_it one = uint_word v (subst (λ q. fits q v ≡ true) (same_Some u plain.uint (sym one.typed_as ∙ (are.part n one.inst in_it one.there).0)) one.fit)
 
   -- the composite decorated WorkgroupSize has the value of the line
   pub size_has : (h : Inst) (v : ValueTree) → IsAmong h Gs → global Gs h.result ≡ Some h → is_size_composite s.of.heads h ≡ true → s.constants h.result ≡ Some v → (type_tree Gs h.ty ≡ Some (plain.vector elem.Uint 3)) × (size_value s overrides ≡ typed (shapes.vector elem.Uint 3) v)
@@ -160,7 +154,7 @@ module _ (s : Setting) (overrides : List (ℕ × Given)) (have : HasConstants s 
       c = valued s (chosen s overrides) have results rising h.result v has
 
       same : c.inst ≡ h
-      same = same_some c.inst h (sym c.there ∙ own)
+      same = same_Some c.inst h (sym c.there ∙ own)
 
       kind : constant_kind h.op ≡ kinds.Composite
       kind = size_kind h.op (and_left ((is h.op code.ConstantComposite) || (is h.op code.SpecConstantComposite)) (is_built_in s.of.heads (built_in_number built.WorkgroupSize) h.result) size)
@@ -169,7 +163,7 @@ module _ (s : Setting) (overrides : List (ℕ × Given)) (have : HasConstants s 
       made = ap (value_by_kind c.from (chosen s overrides c.inst.result) c.shape h.args) (sym kind) ∙ ap (λ (x : Inst). value_by_kind c.from (chosen s overrides c.inst.result) c.shape x.args (constant_kind x.op)) (sym same) ∙ c.made
 
       fit : fits (plain.vector elem.Uint 3) v ≡ true
-      fit = subst (λ t. fits t v ≡ true) (same_some c.shape (plain.vector elem.Uint 3) (sym c.typed_as ∙ ap (λ (x : Inst). type_tree Gs x.ty) same ∙ told.1)) c.fit
+      fit = subst (λ t. fits t v ≡ true) (same_Some c.shape (plain.vector elem.Uint 3) (sym c.typed_as ∙ ap (λ (x : Inst). type_tree Gs x.ty) same ∙ told.1)) c.fit
 
       by_values : (a b d : ℕ) → size_ids source ≡ a ∷ b ∷ d ∷ [] → (ts : List Tree) (vs : List ValueTree) → composite vs ≡ v → AreOperands s (chosen s overrides) have results rising c.inst.at (a ∷ b ∷ d ∷ []) ts vs → size_value s overrides ≡ typed (shapes.vector elem.Uint 3) v
       by_values a b d e (t ∷ u ∷ r ∷ []) (x ∷ y ∷ w ∷ []) whole ones =
@@ -198,10 +192,10 @@ module _ (s : Setting) (overrides : List (ℕ × Given)) (have : HasConstants s 
       by_list args at None each e a b d list = none_some e
       by_list args at (Some vs) each e a b d list =
           let ones = operands s (chosen s overrides) have results rising c.inst.at c.from c.last c.earlier (a ∷ b ∷ d ∷ []) vs (ap (each_one c.from) (sym list) ∙ each) in
-          by_values a b d (told.0 ∙ at ∙ list) ones.0 vs (same_some (composite vs) v e) ones.1
+          by_values a b d (told.0 ∙ at ∙ list) ones.0 vs (same_Some (composite vs) v e) ones.1
 
       by_three : (size_ids source ≡ []) ⊎ ((a : ℕ) × (b : ℕ) × (c : ℕ) × (size_ids source ≡ a ∷ b ∷ c ∷ [])) → (type_tree Gs h.ty ≡ Some (plain.vector elem.Uint 3)) × (size_value s overrides ≡ typed (shapes.vector elem.Uint 3) v)
-      by_three (inl none) = absurd (no_parts (same_some (composite []) v (ap (λ l. option_map composite (each_one c.from l)) (sym none ∙ told.0) ∙ made)))
+      by_three (inl none) = absurd (no_parts (same_Some (composite []) v (ap (λ l. option_map composite (each_one c.from l)) (sym none ∙ told.0) ∙ made)))
         where
           no_parts : composite [] ≡ v → ⊥
           no_parts e = never (subst (λ q. fits (plain.vector elem.Uint 3) q ≡ true) (sym e) fit)
@@ -225,20 +219,20 @@ module _ (s : Setting) (overrides : List (ℕ × Given)) (have : HasConstants s 
       c = valued s (chosen s overrides) have results rising h.result v has
 
       same : c.inst ≡ h
-      same = same_some c.inst h (sym c.there ∙ own)
+      same = same_Some c.inst h (sym c.there ∙ own)
 
       -- the axis k of a part
       by_axis : (k n : ℕ) → n ≡ h.result → list_any (λ (q : ℕ). q == n) (size_ids source) ≡ true → ((x : ℕ) → s.constants n ≡ Some (word x) → size_on s.invocation (sizes source) k ≡ x) → (k ≡ 0) ⊎ ((k ≡ 1) ⊎ (k ≡ 2)) → k ≡ axis → IsPartOf h axis v
       by_axis k n same_id in_it number one same_axis =
           let inside : list_any (λ (q : ℕ). q == h.result) (size_ids source) ≡ true = subst (λ m. list_any (λ (q : ℕ). q == m) (size_ids source) ≡ true) same_id in_it in
           let shape = (are.part h.result h inside own).0 in
-          let w = uint_word v (subst (λ q. fits q v ≡ true) (same_some c.shape plain.uint (sym c.typed_as ∙ ap (λ (x : Inst). type_tree Gs x.ty) same ∙ shape)) c.fit) in
+          let w = uint_word v (subst (λ q. fits q v ≡ true) (same_Some c.shape plain.uint (sym c.typed_as ∙ ap (λ (x : Inst). type_tree Gs x.ty) same ∙ shape)) c.fit) in
           subst (λ q. IsPartOf h q v) same_axis (record { typed_as = shape; count = w.0; value_is = w.1; counted = number w.0 (ap s.constants same_id ∙ has ∙ ap (λ q. Some q) w.1); one = one })
 
       by_place : (a b d : ℕ) → size_ids source ≡ a ∷ b ∷ d ∷ [] → (x y w : Bool) → (a == h.result) ≡ x → (b == h.result) ≡ y → (d == h.result) ≡ w → (if x then Some 0 else (if y then Some 1 else (if w then Some 2 else None))) ≡ Some axis → IsPartOf h axis v
-      by_place a b d e true y w first_is second_is third_is at = by_axis 0 a (number_is a h.result first_is) (subst (λ l. list_any (λ (k : ℕ). k == a) l ≡ true) (sym e) (first a b d)) (axes_have a b d e).0 (inl refl) (same_some 0 axis at)
-      by_place a b d e false true w first_is second_is third_is at = by_axis 1 b (number_is b h.result second_is) (subst (λ l. list_any (λ (k : ℕ). k == b) l ≡ true) (sym e) (second a b d)) (axes_have a b d e).1 (inr (inl refl)) (same_some 1 axis at)
-      by_place a b d e false false true first_is second_is third_is at = by_axis 2 d (number_is d h.result third_is) (subst (λ l. list_any (λ (k : ℕ). k == d) l ≡ true) (sym e) (third a b d)) (axes_have a b d e).2 (inr (inr refl)) (same_some 2 axis at)
+      by_place a b d e true y w first_is second_is third_is at = by_axis 0 a (number_is a h.result first_is) (subst (λ l. list_any (λ (k : ℕ). k == a) l ≡ true) (sym e) (first a b d)) (axes_have a b d e).0 (inl refl) (same_Some 0 axis at)
+      by_place a b d e false true w first_is second_is third_is at = by_axis 1 b (number_is b h.result second_is) (subst (λ l. list_any (λ (k : ℕ). k == b) l ≡ true) (sym e) (second a b d)) (axes_have a b d e).1 (inr (inl refl)) (same_Some 1 axis at)
+      by_place a b d e false false true first_is second_is third_is at = by_axis 2 d (number_is d h.result third_is) (subst (λ l. list_any (λ (k : ℕ). k == d) l ≡ true) (sym e) (third a b d)) (axes_have a b d e).2 (inr (inr refl)) (same_Some 2 axis at)
       by_place a b d e false false false first_is second_is third_is at = none_some at
 
       by_three : (size_ids source ≡ []) ⊎ ((a : ℕ) × (b : ℕ) × (c : ℕ) × (size_ids source ≡ a ∷ b ∷ c ∷ [])) → IsPartOf h axis v

@@ -2,6 +2,7 @@
 use Rattle.std.proofs.Common.{◌≡◌, ℕ, suc, true, false, List, [], ◌∷◌, length, take, drop, not, Option, Some, refl, sym, ap, ◌∙◌, subst, arith}
 use Rattle.std.specs.Prelude.{nat_le, slice_index}
 use Rattle.std.specs.Option.{option_map_or}
+use Rattle.std.proofs.lemmas.Option.{same_Some}
 use Rattle.spv_ops.specs.Opcode.{number}
 use Rattle.spv_ops.specs.Groups.{is_inner}
 use Rattle.spv_ops.specs.OpGroups.{group_of}
@@ -35,7 +36,7 @@ use Rattle.type_law.proofs.Choices.{select_takes}
 use Rattle.type_law.proofs.Parts.{extract_takes}
 use Rattle.type_law.proofs.Vectors.{shuffle_takes}
 use Rattle.lowering_law.specs.Arguments.{IsExpression}
-use Rattle.typed_law.proofs.Lists.{or_right, same_some}
+use Rattle.typed_law.proofs.Lists.{or_right}
 use Rattle.typed_law.proofs.Operations.{four_off}
 use Rattle.constant_law.proofs.Constituents.{nothing}
 
@@ -141,7 +142,7 @@ module _ (s : Setting) (g : Inst) (t : Tree) (shape : type_tree s.of.globals g.t
 
     -- the operation is that of the opcode
     given : (o : Op) (p q : Operation) → Some p ≡ Some q → (value_of_operation p t (inner_literals o g.args) vs ≡ Some v → Given o p us) → value_of_operation q t (inner_literals o g.args) vs ≡ Some v → Given o q us
-    given o p q at known e = let same = same_some p q at in subst (λ r. Given o r us) same (known (ap (λ r. value_of_operation r t (inner_literals o g.args) vs) same ∙ e))
+    given o p q at known e = let same = same_Some p q at in subst (λ r. Given o r us) same (known (ap (λ r. value_of_operation r t (inner_literals o g.args) vs) same ∙ e))
 
     pub inner_given : (o : Op) (q : Operation) → is_inner o ≡ true → is_value_broken s.of T g (group_of o) ≡ false → is_number_broken Gs T g (group_of o) ≡ false → operation o ≡ Some q → value_of_operation q t (inner_literals o g.args) vs ≡ Some v → HaveShapes s nothing (inner_operands o g.args) us → Given o q us
     unfolding group_of operation number

@@ -4,6 +4,8 @@ use Rattle.std.specs.Prelude.{◌⊎◌, ◌-◌, nat_le, nat_lt, is_some, slice
 use Rattle.std.specs.Option.{option_map_or}
 use Rattle.std.specs.List.{list_any, enumerate_from}
 use Rattle.std.proofs.lemmas.Bool.Decides.{eqb_tells, nat_tests}
+use Rattle.std.proofs.lemmas.Bool.{and_from, false_from_ne_true, not-false, or_cases}
+use Rattle.std.proofs.lemmas.Option.{same_Some}
 use Rattle.spv_ops.specs.Opcode.{is, number}
 use Rattle.spv_ops.specs.Operands.{operands, inner_of, is_in_part, ids_among, is_id}
 use Rattle.spv_ops.specs.declared.operands.Operands.{Operands}
@@ -21,14 +23,10 @@ use Rattle.plan_law.specs.InOrder.{IsAmong, AreRising}
 use Rattle.text_rules.specs.Constants.{Source, is_constant, reading, free_spec_id}
 use Rattle.text_rules.specs.Printed.{is_named, has_operand, has_operand_from, declares, needed_with, needed_from}
 use Rattle.typed_law.specs.Conforms.{IsConforming}
-use Rattle.typed_law.proofs.Lists.{or_left, or_right, and_left, and_right, and_off, not_off, no_true, same_some, earlier_some, some_by}
+use Rattle.typed_law.proofs.Lists.{or_left, or_right, and_left, and_right, and_off, earlier_some, some_by}
 use Rattle.typed_law.proofs.Rules.{global_there}
 use Rattle.typed_law.proofs.Sized.{rising_low}
 use Rattle.typed_law.proofs.Used.{global_found}
-
-or_either : (a b : Bool) → (a || b) ≡ true → (a ≡ true) ⊎ (b ≡ true)
-or_either true b e = inl refl
-or_either false b e = inr e
 
 number_is : (a b : ℕ) → (a == b) ≡ true → a ≡ b
 number_is a b e = elim (eqb_tells a b) [ inl w ↦ w.1 | inr w ↦ (let never : true ≡ false = sym e ∙ w.0 in absurd cc) ]
@@ -37,14 +35,14 @@ number_is a b e = elim (eqb_tells a b) [ inl w ↦ w.1 | inr w ↦ (let never : 
 operand_there : (there : Need → ℕ → Bool) (i : Inst) (n : ℕ) (ps : List (ℕ × ℕ)) → list_any (lacks_operand there i) ps ≡ false → list_any (λ (p : ℕ × ℕ). is_id i.op i.args p.0 && (p.1 == n)) ps ≡ true → (which : Need) × (there which n ≡ true)
 operand_there there i n [] off on = cc
 operand_there there i n (p ∷ ps) off on =
-    by_first (or_either (is_id i.op i.args p.0 && (p.1 == n)) (list_any (λ (p : ℕ × ℕ). is_id i.op i.args p.0 && (p.1 == n)) ps) on)
+    by_first (or_cases (is_id i.op i.args p.0 && (p.1 == n)) (list_any (λ (p : ℕ × ℕ). is_id i.op i.args p.0 && (p.1 == n)) ps) on)
     (or_left (is_id i.op i.args p.0 && not (there (need i.op p.0) p.1)) (list_any (lacks_operand there i) ps) off) (operand_there there i n ps (or_right (is_id i.op i.args p.0 && not (there (need i.op p.0) p.1)) (list_any (lacks_operand there i) ps) off))
   where
     by_first : ((is_id i.op i.args p.0 && (p.1 == n)) ≡ true) ⊎ (list_any (λ (p : ℕ × ℕ). is_id i.op i.args p.0 && (p.1 == n)) ps ≡ true) → (is_id i.op i.args p.0 && not (there (need i.op p.0) p.1)) ≡ false
         → (list_any (λ (p : ℕ × ℕ). is_id i.op i.args p.0 && (p.1 == n)) ps ≡ true → (which : Need) × (there which n ≡ true)) → (which : Need) × (there which n ≡ true)
     by_first (inl own) first later =
         let same = number_is p.1 n (and_right (is_id i.op i.args p.0) (p.1 == n) own) in
-        let on = not_off (there (need i.op p.0) p.1) (and_off (is_id i.op i.args p.0) (not (there (need i.op p.0) p.1)) first (and_left (is_id i.op i.args p.0) (p.1 == n) own)) in
+        let on = not-false (there (need i.op p.0) p.1) (and_off (is_id i.op i.args p.0) (not (there (need i.op p.0) p.1)) first (and_left (is_id i.op i.args p.0) (p.1 == n) own)) in
         (need i.op p.0, subst (λ k. there (need i.op p.0) k ≡ true) same on)
     by_first (inr more) first later = later more
 
@@ -96,15 +94,11 @@ drop_place (suc k) (w ∷ ws) j less =
     let a = rest.1 in
     (rest.0 ∙ ap (slice_index (w ∷ ws)) (let same : suc (k + j) ≡ suc k + j = omega arith in same), let low : suc k + j < suc (length ws) = omega (arith, a) in low)
 
-both_on : (a b : Bool) → a ≡ true → b ≡ true → (a && b) ≡ true
-both_on true b on e = e
-both_on false b on e = cc
-
 calculated_id : (p : Op) (args : List ℕ) (o : Op) (k : ℕ) → is p code.SpecConstantOp ≡ true → inner_of (slice_index args 0) ≡ Some o → is_in_part (operands o) k ≡ true → is_id p args (1 + k) ≡ true
 unfolding is_id number
 calculated_id code.SpecConstantOp args o k on at part =
     ap (λ q. option_map_or (λ (o : Op). nat_lt 0 (1 + k) && is_in_part (operands o) (1 + k - 1)) q false) at
-    ∙ both_on (nat_lt 0 (1 + k)) (is_in_part (operands o) (1 + k - 1)) (grind (arith, nat_tests)) (subst (λ q. is_in_part (operands o) q ≡ true) (let same : k ≡ 1 + k - 1 = omega arith in same) part)
+    ∙ and_from (nat_lt 0 (1 + k)) (is_in_part (operands o) (1 + k - 1)) (grind (arith, nat_tests)) (subst (λ q. is_in_part (operands o) q ≡ true) (let same : k ≡ 1 + k - 1 = omega arith in same) part)
 calculated_id p args o k on at part = cc
 
 module _ (g : Inst) (o : Op) (on : is g.op code.SpecConstantOp ≡ true) (at : inner_of (slice_index g.args 0) ≡ Some o) where
@@ -146,7 +140,7 @@ module _ (m : ModuleState) (entry : Option (List ℕ)) (right : IsConforming m e
       let c = operand_there (is_there Gs g.at) g n (enumerate_from 0 g.args) (or_right (has_type g.op && not (is_there Gs g.at (type_need g.op) g.ty)) (list_any (lacks_operand (is_there Gs g.at) g) (enumerate_from 0 g.args)) (global_there m entry right g there)) on in
       let d = some_by (suits c.0) (earlier Gs g.at n) c.1 in
       let w = earlier_some Gs g.at n d.0 d.1 in
-      subst (λ (x : Inst). x.at < g.at) (same_some d.0 h (sym w.0 ∙ at)) w.1
+      subst (λ (x : Inst). x.at < g.at) (same_Some d.0 h (sym w.0 ∙ at)) w.1
 
   module _ (s : Source) where
     -- who has no operand with this id needs it no more
@@ -160,7 +154,7 @@ module _ (m : ModuleState) (entry : Option (List ℕ)) (right : IsConforming m e
 
     -- what stands before a global, or is it, has it not as an operand
     no_operand : (x g : Inst) → IsAmong x Gs → IsAmong g Gs → x.at ≤ g.at → has_operand x g.result ≡ false
-    no_operand x g x_in g_in le = no_true (has_operand x g.result) (λ on. let less = operand_earlier x g g.result x_in on (global_found m entry right g g_in) in omega (arith, less, le))
+    no_operand x g x_in g_in le = false_from_ne_true (has_operand x g.result) (λ on. let less = operand_earlier x g g.result x_in on (global_found m entry right g g_in) in omega (arith, less, le))
 
     declared_same : (needed : ℕ → Bool) (x g : Inst) → IsAmong x Gs → IsAmong g Gs → x.at ≤ g.at → declares s (needed_with s needed x) g ≡ declares s needed g
     declared_same needed x g x_in g_in le = ap (λ b. is_constant g && (is_named (reading s g) && (is_some (free_spec_id s g.result) || b))) (needed_same needed x g.result (no_operand x g x_in g_in le))
@@ -169,7 +163,7 @@ module _ (m : ModuleState) (entry : Option (List ℕ)) (right : IsConforming m e
     operand_needed first [] k rise all g there n declared on = absurd there
     operand_needed first (x ∷ xs) k rise all g (inl same) n declared on =
         let own : declares s (needed_from s first xs) g ≡ true = sym (declared_same (needed_from s first xs) x g (all x (inl refl)) (subst (λ (y : Inst). IsAmong y Gs) same (all x (inl refl))) (subst (λ (y : Inst). x.at ≤ y.at) same (let low : x.at ≤ x.at = omega arith in low))) ∙ declared in
-        by_test (needed_from s first xs n) (declares s (needed_from s first xs) x && has_operand x n) (both_on (declares s (needed_from s first xs) x) (has_operand x n) (subst (λ (y : Inst). declares s (needed_from s first xs) y ≡ true) (sym same) own) (subst (λ (y : Inst). has_operand y n ≡ true) (sym same) on))
+        by_test (needed_from s first xs n) (declares s (needed_from s first xs) x && has_operand x n) (and_from (declares s (needed_from s first xs) x) (has_operand x n) (subst (λ (y : Inst). declares s (needed_from s first xs) y ≡ true) (sym same) own) (subst (λ (y : Inst). has_operand y n ≡ true) (sym same) on))
       where
         by_test : (a b : Bool) → b ≡ true → elim a as (λ q. Bool) [ true ↦ true | false ↦ b ] ≡ true
         by_test true b on = refl

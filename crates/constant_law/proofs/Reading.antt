@@ -1,6 +1,7 @@
 -- However a constant is read, its expression says the value that it has in the run: by its literal, by its name, or as the size of workgroups or a part of it.
 use Rattle.std.proofs.Common.{◌≡◌, ◌==◌, ℕ, Bool, true, false, List, [], Option, Some, None, refl, sym, ap, ◌∙◌, subst, if◌then◌else◌}
 use Rattle.std.specs.List.{position_from}
+use Rattle.std.proofs.lemmas.Option.{same_Some}
 use Rattle.spv_module.specs.Held.{global}
 use Rattle.spv_module.specs.Lists.{id}
 use Rattle.spv_module.specs.declared.inst.Inst.{Inst}
@@ -28,7 +29,6 @@ use Rattle.path_law.specs.Walks.{struct_names}
 use Rattle.lowering_law.specs.Says.{Says}
 use Rattle.global_law.specs.Sources.{source_of, chosen}
 use Rattle.global_law.proofs.Plain.{plain_says}
-use Rattle.typed_law.proofs.Lists.{same_some}
 use Rattle.constant_law.specs.Items.{AreSpecIds, AreSizes}
 use Rattle.constant_law.proofs.GroupSizes.{size_value, size_has, part_is_of, part_says}
 
@@ -85,7 +85,7 @@ module _ (s : Setting) (overrides : List (ℕ × Given)) (key : Key → Text) (h
     reads_says h t v there own has shape by_name = by_reading (reading source h) refl
       where
         same_type : (u : Tree) → type_tree s.of.globals h.ty ≡ Some u → u ≡ t
-        same_type u e = same_some u t (sym e ∙ shape)
+        same_type u e = same_Some u t (sym e ∙ shape)
 
         by_reading : (r : Reading) → reading source h ≡ r → Says p calls z (constant_expr source names h) (typed (shape_in s Y t) v)
         by_reading Plain reads = let w = plain_says s overrides have results p calls z Y names h.result h v own reads has in subst (λ u. Says p calls z (constant_expr source names h) (typed (shape_in s Y u) v)) (same_type w.0 w.1) w.2

@@ -6,6 +6,8 @@ use Rattle.std.specs.List.{list_any}
 use Rattle.std.proofs.lemmas.Bool.Decides.{eqb_tells, nat_tests}
 use Rattle.std.proofs.lemmas.List.Concat.{flat_map-cons}
 use Rattle.std.proofs.lemmas.Slice.Eq.{bytes_eq-Decides}
+use Rattle.std.proofs.lemmas.Bool.{and_from, and_left as first_off, or_cases, or_left, or_right}
+use Rattle.std.proofs.lemmas.Option.{same_Some}
 use Rattle.spv_ops.specs.Opcode.{is, number}
 use Rattle.spv_ops.specs.Groups.{is_constant as is_constant_op}
 use Rattle.spv_ops.specs.Operands.{is_id}
@@ -57,7 +59,7 @@ use Rattle.path_law.specs.Parts.{StructNames, HasMembersApart, shape_in, fields_
 use Rattle.path_law.specs.Walks.{struct_names}
 use Rattle.path_law.proofs.Starts.{outside_is}
 use Rattle.lowering_law.specs.Says.{Says, AllSay}
-use Rattle.typed_law.proofs.Lists.{and_left, and_right, same_some, found_in, clash, from_zero}
+use Rattle.typed_law.proofs.Lists.{and_left, and_right, found_in, clash, from_zero}
 use Rattle.typed_law.proofs.Sized.{rising_low}
 use Rattle.typed_law.proofs.Used.{global_found, used_sized}
 use Rattle.global_law.specs.Sources.{source_of, chosen}
@@ -81,18 +83,10 @@ use Rattle.constant_law.proofs.Composites.{as_typed, composite_says}
 use Rattle.constant_law.proofs.Calculated.{calculated_is, inner_is, IsRead, AreRead, calculated_says}
 use Rattle.constant_law.proofs.GroupSizes.{size_value, size_has, part_is_of, part_length}
 use Rattle.constant_law.proofs.Reading.{size_reading, part_reading, reads_says}
-use Rattle.constant_law.proofs.Written.{or_on_left, or_on_right, IsHeld, held_member, own_type, held_by, struct_written}
+use Rattle.constant_law.proofs.Written.{IsHeld, held_member, own_type, held_by, struct_written}
 
 none_some : {A B : Type 0} {a : A} → None ≡ Some a → B
 none_some e = cc
-
-or_either : (a b : Bool) → (a || b) ≡ true → (a ≡ true) ⊎ (b ≡ true)
-or_either true b e = inl refl
-or_either false b e = inr e
-
-pub both_on : (a b : Bool) → a ≡ true → b ≡ true → (a && b) ≡ true
-both_on true b on e = e
-both_on false b on e = cc
 
 pub bytes_off : (a b : Text) → (a ≡ b → ⊥) → bytes_eq a b ≡ false
 bytes_off a b off = by_test (bytes_eq a b) refl
@@ -134,9 +128,9 @@ no_calculation code.SpecConstantOp far = absurd (far refl)
 no_calculation o far = refl
 
 variable_op : (r : Reached) (g : Inst) → is_written_variable r g ≡ true → is g.op code.Variable ≡ true
-variable_op r g on = elim (or_either (is_private g) (is_workgroup g || is_block_variable g) (and_left (is_private g || (is_workgroup g || is_block_variable g)) (is_operand_in r.functions g.result) on)) [
+variable_op r g on = elim (or_cases (is_private g) (is_workgroup g || is_block_variable g) (and_left (is_private g || (is_workgroup g || is_block_variable g)) (is_operand_in r.functions g.result) on)) [
   | inl own ↦ and_left (is g.op code.Variable) _ own
-  | inr more ↦ elim (or_either (is_workgroup g) (is_block_variable g) more) [ inl own ↦ and_left (is g.op code.Variable) _ own | inr own ↦ and_left (is g.op code.Variable) _ own ]
+  | inr more ↦ elim (or_cases (is_workgroup g) (is_block_variable g) more) [ inl own ↦ and_left (is g.op code.Variable) _ own | inr own ↦ and_left (is g.op code.Variable) _ own ]
 ]
 
 -- a value that is no composite is of a scalar
@@ -187,8 +181,8 @@ needed_kept s first (g ∷ gs) n on = by_test (needed_from s first gs n) (needed
 
 pub any_among : (test : Inst → Bool) (gs : List Inst) (g : Inst) → IsAmong g gs → test g ≡ true → list_any test gs ≡ true
 any_among test [] g there on = absurd there
-any_among test (x ∷ gs) g (inl same) on = or_on_left (test x) (list_any test gs) (subst (λ (y : Inst). test y ≡ true) (sym same) on)
-any_among test (x ∷ gs) g (inr there) on = or_on_right (test x) (list_any test gs) (any_among test gs g there on)
+any_among test (x ∷ gs) g (inl same) on = or_left (test x) (list_any test gs) (subst (λ (y : Inst). test y ≡ true) (sym same) on)
+any_among test (x ∷ gs) g (inr there) on = or_right (test x) (list_any test gs) (any_among test gs g there on)
 
 named_reading : (r : Reading) → is_named r ≡ true → r ≡ Named
 named_reading Named e = refl
@@ -238,16 +232,16 @@ module _ (s : Setting) (entry : Option (List ℕ)) (overrides : List (ℕ × Giv
   own g there = global_found s.of entry asked.right g there
 
   pub same_item : (g h : Inst) → IsAmong g Gs → IsAmong h Gs → is_item source r g ≡ true → is_item source r h ≡ true → names g.result ≡ names h.result → g ≡ h
-  same_item g h g_in h_in a b same = same_some g h (sym (own g g_in) ∙ ap (global Gs) (asked.names.apart g h g_in h_in a b same) ∙ own h h_in)
+  same_item g h g_in h_in a b same = same_Some g h (sym (own g g_in) ∙ ap (global Gs) (asked.names.apart g h g_in h_in a b same) ∙ own h h_in)
 
   struct_is_item : (g : Inst) → is_written_struct source r g ≡ true → is_item source r g ≡ true
-  struct_is_item g on = or_on_left (is_written_struct source r g) (is_declared_constant source r g || is_written_variable r g) on
+  struct_is_item g on = or_left (is_written_struct source r g) (is_declared_constant source r g || is_written_variable r g) on
 
   constant_is_item : (g : Inst) → is_declared_constant source r g ≡ true → is_item source r g ≡ true
-  constant_is_item g on = or_on_right (is_written_struct source r g) (is_declared_constant source r g || is_written_variable r g) (or_on_left (is_declared_constant source r g) (is_written_variable r g) on)
+  constant_is_item g on = or_right (is_written_struct source r g) (is_declared_constant source r g || is_written_variable r g) (or_left (is_declared_constant source r g) (is_written_variable r g) on)
 
   pub variable_is_item : (g : Inst) → is_written_variable r g ≡ true → is_item source r g ≡ true
-  variable_is_item g on = or_on_right (is_written_struct source r g) (is_declared_constant source r g || is_written_variable r g) (or_on_right (is_declared_constant source r g) (is_written_variable r g) on)
+  variable_is_item g on = or_right (is_written_struct source r g) (is_declared_constant source r g || is_written_variable r g) (or_right (is_declared_constant source r g) (is_written_variable r g) on)
 
   declared_op : (g : Inst) → is_declared_constant source r g ≡ true → is_constant_op g.op ≡ true
   declared_op g on = and_left (is_constant g) (is_named (reading source g) && (is_some (free_spec_id source g.result) || is_needed source r g.result)) on
@@ -257,8 +251,8 @@ module _ (s : Setting) (entry : Option (List ℕ)) (overrides : List (ℕ × Giv
 
   pub declared_by : (g : Inst) → is_constant g ≡ true → reading source g ≡ Named → is_needed source r g.result ≡ true → is_declared_constant source r g ≡ true
   declared_by g constant reads needed =
-      both_on (is_constant g) (is_named (reading source g) && (is_some (free_spec_id source g.result) || is_needed source r g.result)) constant
-      (both_on (is_named (reading source g)) (is_some (free_spec_id source g.result) || is_needed source r g.result) (ap is_named reads) (or_on_right (is_some (free_spec_id source g.result)) (is_needed source r g.result) needed))
+      and_from (is_constant g) (is_named (reading source g) && (is_some (free_spec_id source g.result) || is_needed source r g.result)) constant
+      (and_from (is_named (reading source g)) (is_some (free_spec_id source g.result) || is_needed source r g.result) (ap is_named reads) (or_right (is_some (free_spec_id source g.result)) (is_needed source r g.result) needed))
 
   -- the name of a constant is none of a variable, and neither is that of the size of workgroups
   pub constant_hidden : (g : Inst) → IsAmong g Gs → is_declared_constant source r g ≡ true → HasNoVariable (names g.result)
@@ -278,10 +272,6 @@ module _ (s : Setting) (entry : Option (List ℕ)) (overrides : List (ℕ × Giv
       let off : is_written_struct source r g ≡ false = first_off (is g.op code.TypeStruct) (not (is_block s.of.heads g.result) && list_any (type_has_struct Gs g.result) (written_types source r)) (constant_no_struct g.op (declared_op g on)) in
       ap (λ b. if b then struct_decl source N g ∷ [] else (if is_declared_constant source r g then constant_decl source N g ∷ [] else (if is_written_variable r g then variable_decl source N g (block_of Gs g) else []))) off
       ∙ ap (λ b. if b then constant_decl source N g ∷ [] else (if is_written_variable r g then variable_decl source N g (block_of Gs g) else [])) on
-    where
-      first_off : (a b : Bool) → a ≡ false → (a && b) ≡ false
-      first_off true b e = cc
-      first_off false b e = refl
 
   abbrev By : Bool → Bool → Bool → Inst → List Decl
   By a b c g = if a then struct_decl source N g ∷ [] else (if b then constant_decl source N g ∷ [] else (if c then variable_decl source N g (block_of Gs g) else []))
@@ -373,11 +363,11 @@ module _ (s : Setting) (entry : Option (List ℕ)) (overrides : List (ℕ × Giv
       zero_stands (plain.array t (Fixed n)) w sized held = zero_stands t w.0 sized held
       zero_stands (plain.array t (Spec l)) w sized held = absurd sized
       zero_stands (plain.runtime t) w sized held = absurd sized
-      zero_stands (plain.struct j ts) w sized held = (struct_stands j ts w.0 (held j (or_on_left (j == j) (have_struct j ts) (grind (arith, nat_tests)))), zeros_stand ts w.1 sized (λ i has. held i (or_on_right (j == i) (have_struct i ts) has)))
+      zero_stands (plain.struct j ts) w sized held = (struct_stands j ts w.0 (held j (or_left (j == j) (have_struct j ts) (grind (arith, nat_tests)))), zeros_stand ts w.1 sized (λ i has. held i (or_right (j == i) (have_struct i ts) has)))
 
       zeros_stand : (ts : Trees) → AreWithin (IsNoBlock s.of) s.of k ts → AreSized ts → ((j : ℕ) → have_struct j ts ≡ true → IsHeld s entry asked.right overrides r j) → HaveZeros d.program s source key ts
       zeros_stand no_trees w sized held = tt
-      zeros_stand (tree t ts) w sized held = (zero_stands t w.0 sized.0 (λ j has. held j (or_on_left (has_struct j t) (have_struct j ts) has)), zeros_stand ts w.1 sized.1 (λ j has. held j (or_on_right (has_struct j t) (have_struct j ts) has)))
+      zeros_stand (tree t ts) w sized held = (zero_stands t w.0 sized.0 (λ j has. held j (or_left (has_struct j t) (have_struct j ts) has)), zeros_stand ts w.1 sized.1 (λ j has. held j (or_right (has_struct j t) (have_struct j ts) has)))
 
     -- a length that a specialization constant gives
     extent_stands : (n : ℕ) → IsSpecBefore s.of k n → (u : Shape) → with_extent d.program (length_extent source names (Spec (id n))) u ≡ shapes.array u (array_length s n)
@@ -402,7 +392,7 @@ module _ (s : Setting) (entry : Option (List ℕ)) (overrides : List (ℕ × Giv
         v = valued s C asked.have asked.right.results asked.right.rising c.result (value_word told.0) has
 
         same : v.inst ≡ c
-        same = same_some v.inst c (sym v.there ∙ own c among)
+        same = same_Some v.inst c (sym v.there ∙ own c among)
 
         shape : type_tree Gs c.ty ≡ Some v.shape
         shape = ap (λ (x : Inst). type_tree Gs x.ty) (sym same) ∙ v.typed_as
@@ -411,7 +401,7 @@ module _ (s : Setting) (entry : Option (List ℕ)) (overrides : List (ℕ × Giv
         constant = kind_constant c.op (λ other. none_some (ap (value_by_kind v.from (C v.inst.result) v.shape v.inst.args) (sym other ∙ ap (λ (x : Inst). constant_kind x.op) (sym same)) ∙ v.made))
 
         needed : is_needed source r c.result ≡ true
-        needed = needed_kept source (needs_constant source r) Gs c.result (or_on_right (list_any (λ (m : ℕ). m == c.result) r.mentions) _ (or_on_left (list_any (is_length_of c.result) Gs) _ (any_among (is_length_of c.result) Gs w.array w.among (both_on (is w.array.op code.TypeArray) (slice_index w.array.args 1 == c.result) w.opcode (number_same (slice_index w.array.args 1) c.result (w.length ∙ sym itself))))))
+        needed = needed_kept source (needs_constant source r) Gs c.result (or_right (list_any (λ (m : ℕ). m == c.result) r.mentions) _ (or_left (list_any (is_length_of c.result) Gs) _ (any_among (is_length_of c.result) Gs w.array w.among (and_from (is w.array.op code.TypeArray) (slice_index w.array.args 1 == c.result) w.opcode (number_same (slice_index w.array.args 1) c.result (w.length ∙ sym itself))))))
           where
             number_same : (a b : ℕ) → a ≡ b → (a == b) ≡ true
             number_same a b e = grind (arith, nat_tests, e)
@@ -421,7 +411,7 @@ module _ (s : Setting) (entry : Option (List ℕ)) (overrides : List (ℕ × Giv
         by_reading Named reads = named_extent s overrides key d.program u n c w.there told.0 v.shape reads shape v.fit told.1 (stands.constants c v.shape (value_word told.0) among w.less (declared_by c constant reads needed) has shape)
         by_reading GroupSize reads =
             let z = size_has s overrides asked.have asked.right.results asked.right.rising asked.spec_ids asked.sizes c (value_word told.0) among (own c among) (size_reading source c reads) has in
-            absurd (never (subst (λ q. fits q (value_word told.0) ≡ true) (same_some v.shape (plain.vector elem.Uint 3) (sym shape ∙ z.0)) v.fit))
+            absurd (never (subst (λ q. fits q (value_word told.0) ≡ true) (same_Some v.shape (plain.vector elem.Uint 3) (sym shape ∙ z.0)) v.fit))
           where
             never : fits (plain.vector elem.Uint 3) (value_word told.0) ≡ true → ⊥
             never e = cc
@@ -443,11 +433,11 @@ module _ (s : Setting) (entry : Option (List ℕ)) (overrides : List (ℕ × Giv
     declared_stands (plain.array t (Fixed n)) w held = declared_stands t w.0 held
     declared_stands (plain.array t (Spec l)) w held = (declared_stands t w.0 held, λ u. extent_stands l.0 w.1 u)
     declared_stands (plain.runtime t) w held = declared_stands t w held
-    declared_stands (plain.struct j ts) w held = struct_stands j ts w.0 (held j (or_on_left (j == j) (have_struct j ts) (grind (arith, nat_tests))))
+    declared_stands (plain.struct j ts) w held = struct_stands j ts w.0 (held j (or_left (j == j) (have_struct j ts) (grind (arith, nat_tests))))
 
     pub all_declared : (ts : Trees) → AreWithin (IsNoBlock s.of) s.of k ts → ((j : ℕ) → have_struct j ts ≡ true → IsHeld s entry asked.right overrides r j) → AreDeclared s nothing overrides key calculated d.program ts
     all_declared no_trees w held = tt
-    all_declared (tree t ts) w held = (declared_stands t w.0 (λ j has. held j (or_on_left (has_struct j t) (have_struct j ts) has)), all_declared ts w.1 (λ j has. held j (or_on_right (has_struct j t) (have_struct j ts) has)))
+    all_declared (tree t ts) w held = (declared_stands t w.0 (λ j has. held j (or_left (has_struct j t) (have_struct j ts) has)), all_declared ts w.1 (λ j has. held j (or_right (has_struct j t) (have_struct j ts) has)))
 
   -- what is known of a scalar type
   scalar_known : (p : Program) (t : Tree) → is_scalar t ≡ true → HasZero p s source key t × HasMembersApart (struct_names key) t
@@ -461,7 +451,7 @@ module _ (s : Setting) (entry : Option (List ℕ)) (overrides : List (ℕ × Giv
 
   -- what has a value is a constant
   pub constant_op : (h : Inst) (v : ValueTree) → IsAmong h Gs → s.constants h.result ≡ Some v → is_constant_op h.op ≡ true
-  constant_op h v there has = kind_constant h.op (λ other. none_some (ap (value_by_kind w.from (C w.inst.result) w.shape w.inst.args) (sym other ∙ ap (λ (x : Inst). constant_kind x.op) (sym (same_some w.inst h (sym w.there ∙ own h there)))) ∙ w.made))
+  constant_op h v there has = kind_constant h.op (λ other. none_some (ap (value_by_kind w.from (C w.inst.result) w.shape w.inst.args) (sym other ∙ ap (λ (x : Inst). constant_kind x.op) (sym (same_Some w.inst h (sym w.there ∙ own h there)))) ∙ w.made))
     where
       w : IsValued s C asked.have asked.right.results asked.right.rising h.result v
       w = valued s C asked.have asked.right.results asked.right.rising h.result v has
@@ -470,7 +460,7 @@ module _ (s : Setting) (entry : Option (List ℕ)) (overrides : List (ℕ × Giv
   constant_sized h t there on shape = used_sized s.of entry asked.right h (inst_left h Gs (local_insts s.of) there) (constant_no_variable h.op on) t shape
 
   constant_held : (h : Inst) (t : Tree) → IsAmong h Gs → is_declared_constant source r h ≡ true → type_tree Gs h.ty ≡ Some t → (j : ℕ) → has_struct j t ≡ true → IsHeld s entry asked.right overrides r j
-  constant_held h t there on shape j has = held_by s entry asked.right overrides r h j there (or_on_right (is_written_variable r h) (is_declared_constant source r h) on) (own_type s entry asked.right overrides r h.ty j t shape has)
+  constant_held h t there on shape j has = held_by s entry asked.right overrides r h j there (or_right (is_written_variable r h) (is_declared_constant source r h) on) (own_type s entry asked.right overrides r h.ty j t shape has)
 
   -- what is declared of a constant is read by its name: so it is no scalar without a SpecId
   no_literal : (g : Inst) → reading source g ≡ Named → free_spec_id source g.result ≡ None → has_literal source g ≡ true → ⊥
@@ -533,7 +523,7 @@ module _ (s : Setting) (entry : Option (List ℕ)) (overrides : List (ℕ × Giv
             seen (names h.result) (constant_hidden h among declared) ∙ stands.constants h t v among w.less declared has w.typed_as)
 
         same_type : (u : Tree) → type_tree Gs h.ty ≡ Some u → u ≡ t
-        same_type u e = same_some u t (sym e ∙ w.typed_as)
+        same_type u e = same_Some u t (sym e ∙ w.typed_as)
 
         by_reading : (q : Reading) → reading source h ≡ q → HasZero d.program s source key t × HasMembersApart (struct_names key) t
         by_reading Plain reads = let c = plain_is s overrides h reads in scalar_known d.program t (subst (λ u. is_scalar u ≡ true) (same_type c.shape c.typed_as) c.scalar)
@@ -571,7 +561,7 @@ module _ (s : Setting) (entry : Option (List ℕ)) (overrides : List (ℕ × Giv
         one_says : (n : ℕ) (t : Tree) (v : ValueTree) (w : IsOne n t v) → IsRead s overrides found_key asked.have asked.right.results asked.right.rising asked.low d.program no_calls Z g.at n t v → Says d.program no_calls Z (constant_expr source names w.inst) (typed (shape_in s Y t) v)
         one_says n t v w q =
             let c = q.is_one in
-            subst (λ (x : Inst). Says d.program no_calls Z (constant_expr source names x) (typed (shape_in s Y t) v)) (same_some c.inst w.inst (sym c.there ∙ w.there)) q.says
+            subst (λ (x : Inst). Says d.program no_calls Z (constant_expr source names x) (typed (shape_in s Y t) v)) (same_Some c.inst w.inst (sym c.there ∙ w.there)) q.says
     all_say [] [] (v ∷ vs) are all = absurd are
     all_say [] (t ∷ ts) vs are all = absurd are
     all_say (n ∷ ns) [] vs are all = absurd are
@@ -593,7 +583,7 @@ module _ (s : Setting) (entry : Option (List ℕ)) (overrides : List (ℕ × Giv
       -- a scalar
       literal_none : IsSingle v → fits t v ≡ true → (constant_kind g.op ≡ kinds.Operation → ⊥) → free_spec_id source g.result ≡ None → ⊥
       literal_none one fit far free =
-          no_literal g (declared_reading g on) free (both_on (option_map_or is_scalar (type_tree Gs g.ty) false) (not (is g.op code.SpecConstantOp)) (ap (λ o. option_map_or is_scalar o false) shape ∙ scalar_fit t v one fit) (ap not (no_calculation g.op far)))
+          no_literal g (declared_reading g on) free (and_from (option_map_or is_scalar (type_tree Gs g.ty) false) (not (is g.op code.SpecConstantOp)) (ap (λ o. option_map_or is_scalar o false) shape ∙ scalar_fit t v one fit) (ap not (no_calculation g.op far)))
 
       told_there : (k : ConstantKind) → constant_kind g.op ≡ k → IsSpec k → IsSingle v → fits t v ≡ true → (k ≡ kinds.Operation → ⊥) → Goal
       told_there k kind spec one fit far = by_free (free_spec_id source g.result) refl
@@ -602,7 +592,7 @@ module _ (s : Setting) (entry : Option (List ℕ)) (overrides : List (ℕ × Giv
           by_free None free = absurd (literal_none one fit (λ e. far (sym kind ∙ e)) free)
           by_free (Some i) free =
               let w = told_item s overrides asked.have asked.right.results key calculated nothing d g.result i g v stands.invocation (own g there) (subst IsSpec (sym kind) spec) free has in
-              subst (λ u. (with_item d (constant_decl source N g)).program.things (names g.result) ≡ Some (value (typed (shape_in s Y u) v))) (same_some w.0 t (sym w.1 ∙ shape)) w.2
+              subst (λ u. (with_item d (constant_decl source N g)).program.things (names g.result) ≡ Some (value (typed (shape_in s Y u) v))) (same_Some w.0 t (sym w.1 ∙ shape)) w.2
 
       -- an expression that says the value
       said_there : (k : ConstantKind) → constant_kind g.op ≡ k → free_spec_id source g.result ≡ None → Says d.program no_calls Z (value_by source N g k) (typed (shape_in s Y t) v) → Goal
@@ -624,7 +614,7 @@ module _ (s : Setting) (entry : Option (List ℕ)) (overrides : List (ℕ × Giv
                 let typed_as : type_of d.program (type_at source N g.ty) ≡ Some (shape_in s Y t) = type_declared s nothing overrides key calculated d.program g.ty t shape (is_declared d.program s source key t zero_is) in
                 let says : Says d.program no_calls Z (value_by source N g kinds.Composite) (typed (shape_in s Y t) (composite vs)) =
                 composite_says d.program s source key no_calls Z (type_at source N g.ty) (exprs_in (map (expr_at source N) g.args)) t ops.0 vs typed_as zero_is parts fit_all (all_say g.args ops.0 vs ops.1 (all_operands g (λ k. composite_ids g.op g.args k kind))) in
-                said_there kinds.Composite kind free (subst (λ u. Says d.program no_calls Z (value_by source N g kinds.Composite) (typed (shape_in s Y t) u)) (same_some (composite vs) v e) says)
+                said_there kinds.Composite kind free (subst (λ u. Says d.program no_calls Z (value_by source N g kinds.Composite) (typed (shape_in s Y t) u)) (same_Some (composite vs) v e) says)
 
         calculated_there : constant_kind g.op ≡ kinds.Operation → free_spec_id source g.result ≡ None → value_by_kind from (C g.result) t g.args (constant_kind g.op) ≡ Some v → Goal
         calculated_there kind free made =
@@ -634,27 +624,27 @@ module _ (s : Setting) (entry : Option (List ℕ)) (overrides : List (ℕ × Giv
             said_there kinds.Operation kind free (calculated_says s overrides found_key asked.have asked.right.results asked.right.rising asked.low d.program no_calls Z (λ f. stands.functions (built_in_name f)) g t from v sound kind shape zero_is (asked.members g t there on shape) w ops.0 are)
 
         by_kind : (k : ConstantKind) → constant_kind g.op ≡ k → value_by_kind from (C g.result) t g.args k ≡ Some v → Goal
-        by_kind kinds.True kind e = absurd (literal_none (subst IsSingle (same_some _ v e) tt) fit (λ o. no_kind (sym kind ∙ o)) (no_free g there (λ spec. subst IsScalarSpec kind spec)))
+        by_kind kinds.True kind e = absurd (literal_none (subst IsSingle (same_Some _ v e) tt) fit (λ o. no_kind (sym kind ∙ o)) (no_free g there (λ spec. subst IsScalarSpec kind spec)))
           where
             no_kind : kinds.True ≡ kinds.Operation → ⊥
             no_kind e = cc
-        by_kind kinds.False kind e = absurd (literal_none (subst IsSingle (same_some _ v e) tt) fit (λ o. no_kind (sym kind ∙ o)) (no_free g there (λ spec. subst IsScalarSpec kind spec)))
+        by_kind kinds.False kind e = absurd (literal_none (subst IsSingle (same_Some _ v e) tt) fit (λ o. no_kind (sym kind ∙ o)) (no_free g there (λ spec. subst IsScalarSpec kind spec)))
           where
             no_kind : kinds.False ≡ kinds.Operation → ⊥
             no_kind e = cc
-        by_kind kinds.Word kind e = absurd (literal_none (subst IsSingle (same_some _ v e) tt) fit (λ o. no_kind (sym kind ∙ o)) (no_free g there (λ spec. subst IsScalarSpec kind spec)))
+        by_kind kinds.Word kind e = absurd (literal_none (subst IsSingle (same_Some _ v e) tt) fit (λ o. no_kind (sym kind ∙ o)) (no_free g there (λ spec. subst IsScalarSpec kind spec)))
           where
             no_kind : kinds.Word ≡ kinds.Operation → ⊥
             no_kind e = cc
-        by_kind kinds.SpecTrue kind e = told_there kinds.SpecTrue kind tt (subst IsSingle (same_some _ v e) tt) fit no_kind
+        by_kind kinds.SpecTrue kind e = told_there kinds.SpecTrue kind tt (subst IsSingle (same_Some _ v e) tt) fit no_kind
           where
             no_kind : kinds.SpecTrue ≡ kinds.Operation → ⊥
             no_kind e = cc
-        by_kind kinds.SpecFalse kind e = told_there kinds.SpecFalse kind tt (subst IsSingle (same_some _ v e) tt) fit no_kind
+        by_kind kinds.SpecFalse kind e = told_there kinds.SpecFalse kind tt (subst IsSingle (same_Some _ v e) tt) fit no_kind
           where
             no_kind : kinds.SpecFalse ≡ kinds.Operation → ⊥
             no_kind e = cc
-        by_kind kinds.SpecWord kind e = told_there kinds.SpecWord kind tt (subst IsSingle (same_some _ v e) tt) fit no_kind
+        by_kind kinds.SpecWord kind e = told_there kinds.SpecWord kind tt (subst IsSingle (same_Some _ v e) tt) fit no_kind
           where
             no_kind : kinds.SpecWord ≡ kinds.Operation → ⊥
             no_kind e = cc
@@ -666,8 +656,8 @@ module _ (s : Setting) (entry : Option (List ℕ)) (overrides : List (ℕ × Giv
       pub constant_item : Goal
       constant_item =
           let w = valued s C asked.have asked.right.results asked.right.rising g.result v has in
-          let same = same_some w.inst g (sym w.there ∙ own g there) in
-          let whole = same_some w.shape t (sym w.typed_as ∙ ap (λ (x : Inst). type_tree Gs x.ty) same ∙ shape) in
+          let same = same_Some w.inst g (sym w.there ∙ own g there) in
+          let whole = same_Some w.shape t (sym w.typed_as ∙ ap (λ (x : Inst). type_tree Gs x.ty) same ∙ shape) in
           by_kind w.from (subst (λ q. fits q v ≡ true) whole w.fit) (subst (λ (x : Inst). is_sound s.of x ≡ true) same w.sound) w.last
           (λ k u e. subst (λ (x : Inst). (h : Inst) × (global Gs k ≡ Some h) × (h.at < x.at)) same (w.earlier k u e)) (constant_kind g.op) refl
           (ap (λ q. value_by_kind w.from (C g.result) q g.args (constant_kind g.op)) (sym whole) ∙ ap (λ (x : Inst). value_by_kind w.from (C x.result) w.shape x.args (constant_kind x.op)) (sym same) ∙ w.made)

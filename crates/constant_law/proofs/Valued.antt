@@ -3,6 +3,7 @@ use Rattle.std.proofs.Common.{◌≡◌, ◌<◌, ◌≤◌, ◌+◌, ◌==◌, 
 use Rattle.std.specs.Prelude.{◌⊎◌, fold, option_and_then}
 use Rattle.std.specs.Option.{option_or}
 use Rattle.std.proofs.lemmas.Bool.Decides.{eqb_tells}
+use Rattle.std.proofs.lemmas.Option.{same_Some}
 use Rattle.spv_module.specs.Held.{global}
 use Rattle.spv_module.specs.declared.inst.Inst.{Inst}
 use Rattle.spv_types.specs.Tree.{Tree, ValueTree}
@@ -15,7 +16,7 @@ use Rattle.module_semantics.specs.Setting.{Setting}
 use Rattle.plan_law.specs.InOrder.{AreRising, HaveNot}
 use Rattle.fits_law.proofs.Operations.{before_some}
 use Rattle.type_law.specs.Shaped.{EachFound, HaveResults, HasConstants}
-use Rattle.typed_law.proofs.Lists.{same_some, some_part}
+use Rattle.typed_law.proofs.Lists.{some_part}
 
 none_some : {A B : Type 0} {a : A} → None ≡ Some a → B
 none_some e = cc
@@ -36,7 +37,7 @@ module _ (gs : List Inst) (step : (ℕ → Option ValueTree) → Inst → Option
   far_off (g ∷ rest) k n h rise each there less =
       let first = rise.0 in (
         λ same.
-            let one : g ≡ h = same_some g h (sym each.0 ∙ (ap (global gs) same ∙ there)) in
+            let one : g ≡ h = same_Some g h (sym each.0 ∙ (ap (global gs) same ∙ there)) in
             let at : g.at ≡ h.at = ap (λ (x : Inst). x.at) one in
             omega (arith, less, first, at),
         far_off rest (g.at + 1) n h rise.1 each.1 there (let low : h.at < g.at + 1 = omega (arith, less, first) in low),
@@ -113,7 +114,7 @@ module _ (s : Setting) (chosen : ℕ → Option ℕ) (have : HasConstants s chos
   valued n v e = by_made (made_at Gs (value_step s.of chosen) Gs 0 (λ id. None) rising results.each (λ k u e. none_some e) n v (sym (have n) ∙ e))
     where
       by_fits : (t : Tree) (w : ValueTree) (b : Bool) → fits t w ≡ b → (if b then Some w else None) ≡ Some v → (w ≡ v) × (fits t v ≡ true)
-      by_fits t w true at e = let same = same_some w v e in (same, subst (λ x. fits t x ≡ true) same at)
+      by_fits t w true at e = let same = same_Some w v e in (same, subst (λ x. fits t x ≡ true) same at)
       by_fits t w false at e = none_some e
 
       by_sound : (w : Made Gs (value_step s.of chosen) (fold (with_value (value_step s.of chosen)) (λ id. None) Gs) n v) (b : Bool) → is_sound s.of w.inst ≡ b → (if b then option_and_then (shaped_value w.from (chosen w.inst.result) w.inst) (type_tree Gs w.inst.ty) else None) ≡ Some v → IsValued n v
@@ -155,13 +156,13 @@ module _ (s : Setting) (chosen : ℕ → Option ℕ) (have : HasConstants s chos
 
   pub operands : (at : ℕ) (f : ℕ → Option ValueTree) → ((k : ℕ) (u : ValueTree) → f k ≡ Some u → s.constants k ≡ Some u) → ((k : ℕ) (u : ValueTree) → f k ≡ Some u → (h : Inst) × (global Gs k ≡ Some h) × (h.at < at))
       → (ns : List ℕ) (vs : List ValueTree) → each_one f ns ≡ Some vs → (ts : List Tree) × AreOperands at ns ts vs
-  operands at f last earlier [] vs e = ([], subst (AreOperands at [] []) (same_some [] vs e) tt)
+  operands at f last earlier [] vs e = ([], subst (AreOperands at [] []) (same_Some [] vs e) tt)
   operands at f last earlier (n ∷ ns) vs e =
       let b = before_some (f n) (each_one f ns) vs e in
       let rest = operands at f last earlier ns b.1 b.3 in
       let has = last n b.0 b.2 in
       let c = valued n b.0 has in
       let w = earlier n b.0 b.2 in
-      let less : c.inst.at < at = subst (λ (x : Inst). x.at < at) (same_some w.0 c.inst (sym w.1 ∙ c.there)) w.2 in
+      let less : c.inst.at < at = subst (λ (x : Inst). x.at < at) (same_Some w.0 c.inst (sym w.1 ∙ c.there)) w.2 in
       let own : IsOperand at n c.shape b.0 = record { inst = c.inst; there = c.there; typed_as = c.typed_as; has = has; fit = c.fit; less = less } in
       (c.shape ∷ rest.0, subst (AreOperands at (n ∷ ns) (c.shape ∷ rest.0)) (sym b.4) (own, rest.1))

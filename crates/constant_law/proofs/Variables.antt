@@ -5,6 +5,8 @@ use Rattle.std.specs.Option.{option_map_or}
 use Rattle.std.specs.List.{list_any}
 use Rattle.std.proofs.lemmas.Bool.Decides.{eqb_tells, nat_tests}
 use Rattle.std.proofs.lemmas.List.Concat.{flat_map-cons}
+use Rattle.std.proofs.lemmas.Bool.{and_from, and_left as first_off, not-false, or_left, or_right as or_on_right}
+use Rattle.std.proofs.lemmas.Option.{same_Some}
 use Rattle.spv_ops.specs.Opcode.{is, number}
 use Rattle.spv_ops.specs.Groups.{is_constant as is_constant_op}
 use Rattle.spv_ops.specs.Operands.{is_id}
@@ -54,7 +56,7 @@ use Rattle.path_law.specs.Starts.{IsPrivate}
 use Rattle.path_law.proofs.Starts.{outside_is}
 use Rattle.lowering_law.specs.Says.{Says}
 use Rattle.fits_law.proofs.Steps.{named as named_so}
-use Rattle.typed_law.proofs.Lists.{or_right, and_left, and_right, and_off, not_off, same_some, found_in, clash}
+use Rattle.typed_law.proofs.Lists.{or_right, and_left, and_right, and_off, found_in, clash}
 use Rattle.typed_law.proofs.Rules.{initializer_right}
 use Rattle.typed_law.proofs.Sized.{rising_low}
 use Rattle.global_law.specs.Sources.{source_of, chosen}
@@ -66,8 +68,7 @@ use Rattle.constant_law.proofs.Valued.{IsValued, valued}
 use Rattle.constant_law.proofs.Needed.{operand_at, operand_earlier}
 use Rattle.constant_law.proofs.Constituents.{nothing}
 use Rattle.constant_law.proofs.Reading.{reads_says}
-use Rattle.constant_law.proofs.Written.{or_on_left, or_on_right}
-use Rattle.constant_law.proofs.Standing.{N, HasNoVariable, Stands, own, constant_op, declared_by as declared_if, constant_hidden, size_hidden, other_variables, needed_kept, bytes_off, same_item, variable_is_item, any_among, both_on}
+use Rattle.constant_law.proofs.Standing.{N, HasNoVariable, Stands, own, constant_op, declared_by as declared_if, constant_hidden, size_hidden, other_variables, needed_kept, bytes_off, same_item, variable_is_item, any_among}
 use Rattle.constant_law.proofs.Constants.{IsFunction, AreFunctions, first, stands_before, zero_before}
 
 number_is : (a b : ℕ) → (a == b) ≡ true → a ≡ b
@@ -87,10 +88,6 @@ variable_no_constant : (o : Op) → is o code.Variable ≡ true → is_constant_
 unfolding number
 variable_no_constant code.Variable on = refl
 variable_no_constant o on = cc
-
-first_off : (a b : Bool) → a ≡ false → (a && b) ≡ false
-first_off true b e = cc
-first_off false b e = refl
 
 never : (a : Bool) → (a && false) ≡ false
 never true = refl
@@ -173,7 +170,7 @@ module _ (s : Setting) (entry : Option (List ℕ)) (overrides : List (ℕ × Giv
     class = number_is (printed.class v) (class_number storage.Private) (and_right (is v.op code.Variable) (printed.class v == class_number storage.Private) private)
 
     written : is_written_variable r v ≡ true
-    written = both_on (is_private v || (is_shared v || is_block_variable v)) (is_operand_in r.functions v.result) (or_on_left (is_private v) (is_shared v || is_block_variable v) private) mentioned
+    written = and_from (is_private v || (is_shared v || is_block_variable v)) (is_operand_in r.functions v.result) (or_left (is_private v) (is_shared v || is_block_variable v) private) mentioned
 
     abbrev D : Declared
     D = with_items (first s overrides) (flat_map (declaration source r Ns) before)
@@ -248,16 +245,16 @@ module _ (s : Setting) (entry : Option (List ℕ)) (overrides : List (ℕ × Giv
           needed : is_needed source r h.result ≡ true
           needed = subst (λ k. is_needed source r k ≡ true) (sym itself)
               (needed_kept source (needs_constant source r) Gs n (or_on_right (list_any (λ (k : ℕ). k == n) r.mentions) _ (or_on_right (list_any (is_length_of n) Gs) _
-              (any_among (λ (g : Inst). is_private g && (is_written_variable r g && has_operand g n)) Gs v there (both_on (is_private v) (is_written_variable r v && has_operand v n) private (both_on (is_written_variable r v) (has_operand v n) written operand))))))
+              (any_among (λ (g : Inst). is_private g && (is_written_variable r g && has_operand g n)) Gs v there (and_from (is_private v) (is_written_variable r v && has_operand v n) private (and_from (is_written_variable r v) (has_operand v n) written operand))))))
 
           -- P16
           same_type : h.ty ≡ q
           same_type =
               let off = or_right (not ((word v 0 == class_number storage.Function) || (word v 0 == class_number storage.Private))) (is_other_value s.of v (word v 1))
-              (and_off (is v.op code.Variable && nat_lt 1 (length v.args)) (not ((word v 0 == class_number storage.Function) || (word v 0 == class_number storage.Private)) || is_other_value s.of v (word v 1)) (initializer_right s.of entry asked.right v (inst_left v Gs (local_insts s.of) there)) (both_on (is v.op code.Variable) (nat_lt 1 (length v.args)) variable (let inside = place.0 in above (length v.args) inside))) in
+              (and_off (is v.op code.Variable && nat_lt 1 (length v.args)) (not ((word v 0 == class_number storage.Function) || (word v 0 == class_number storage.Private)) || is_other_value s.of v (word v 1)) (initializer_right s.of entry asked.right v (inst_left v Gs (local_insts s.of) there)) (and_from (is v.op code.Variable) (nat_lt 1 (length v.args)) variable (let inside = place.0 in above (length v.args) inside))) in
               let row : global_inst Gs (word v 1) ≡ Some h = ap (global_inst Gs) place.1 ∙ c.there in
               let other = or_right (not (is_constant_op h.op)) (is_of_other_type Gs v h) (ap (λ o. option_map_or (λ (g : Inst). not (is_constant_op g.op) || is_of_other_type Gs v g) o (is_defined_elsewhere s.of (word v 1))) (sym row) ∙ off) in
-              number_is h.ty q (not_off (h.ty == q) (ap (λ o. option_map_or (λ (k : ℕ). not (h.ty == k)) o false) (sym points) ∙ other))
+              number_is h.ty q (not-false (h.ty == q) (ap (λ o. option_map_or (λ (k : ℕ). not (h.ty == k)) o false) (sym points) ∙ other))
             where
               above : (n : ℕ) → 1 < n → nat_lt 1 n ≡ true
               above n less = grind (arith, nat_tests, less)
@@ -280,7 +277,7 @@ module _ (s : Setting) (entry : Option (List ℕ)) (overrides : List (ℕ × Giv
           by_second : (o : Option ℕ) → slice_get v.args 1 ≡ o → known_value D.program D.globals (shape_in s Y t) (initial source Ns v) ≡ Some (typed (shape_in s Y t) a)
           by_second None second =
               zero_begins s overrides key (Ns.calculated) D.program D.globals v t second shape_at zero_is
-              ∙ ap (λ u. Some (typed (shape_in s Y t) u)) (same_some (zero_of t) a (sym (zero_first s overrides key (Ns.calculated) v.result v t itself second at) ∙ starts))
+              ∙ ap (λ u. Some (typed (shape_in s Y t) u)) (same_Some (zero_of t) a (sym (zero_first s overrides key (Ns.calculated) v.result v t itself second at) ∙ starts))
           by_second (Some n) second = by_constant n a second (sym (given_first s overrides key (Ns.calculated) v.result n v itself second) ∙ starts)
 
       -- its expression gives it a value of its type

@@ -4,6 +4,8 @@ use Rattle.std.specs.Prelude.{◌⊎◌, flat_map, fold, nat_le, option_map, opt
 use Rattle.std.specs.Option.{option_map_or}
 use Rattle.std.specs.List.{list_any, filter_map, cons_option}
 use Rattle.std.proofs.lemmas.Bool.Decides.{nat_tests}
+use Rattle.std.proofs.lemmas.Bool.{or_left as or_on_left, or_right as or_on_right}
+use Rattle.std.proofs.lemmas.Option.{same_Some}
 use Rattle.spv_ops.specs.Opcode.{is, number}
 use Rattle.spv_ops.specs.Groups.{is_constant as is_constant_op}
 use Rattle.spv_ops.specs.Operands.{is_id}
@@ -36,21 +38,13 @@ use Rattle.plan_law.proofs.Order.{among_left as inst_left}
 use Rattle.fits_law.proofs.Steps.{named}
 use Rattle.type_law.proofs.Parts.{struct_kind}
 use Rattle.typed_law.specs.Conforms.{IsConforming}
-use Rattle.typed_law.proofs.Lists.{or_left, or_right, and_off, same_some, found_in, earlier_some, some_by, from_zero}
+use Rattle.typed_law.proofs.Lists.{or_left, or_right, and_off, found_in, earlier_some, some_by, from_zero}
 use Rattle.typed_law.proofs.Rules.{type_there, operand_there, global_there, used_type}
 use Rattle.typed_law.proofs.Used.{among_left, among_right, global_found}
 use Rattle.constant_law.specs.Within.{IsStructBefore, IsLengthBefore, IsWithin, AreWithin, IsNoBlock, Anything}
 
 none_some : {A B : Type 0} {a : A} → None ≡ Some a → B
 none_some e = cc
-
-or_on_left : (a b : Bool) → a ≡ true → (a || b) ≡ true
-or_on_left true b e = refl
-or_on_left false b e = cc
-
-or_on_right : (a b : Bool) → b ≡ true → (a || b) ≡ true
-or_on_right true b e = refl
-or_on_right false b e = e
 
 middle_off : (a b c d : Bool) → a ≡ true → c ≡ true → (a && b && c || d) ≡ false → b ≡ false
 middle_off true false c d on has e = refl
@@ -184,7 +178,7 @@ module _ (m : ModuleState) (entry : Option (List ℕ)) (right : IsConforming m e
   operand_before g h k there inside has at =
       let c = some_by (suits (need g.op k)) (earlier Gs g.at (slice_index g.args k)) (operand_there (is_there Gs g.at) g (global_there m entry right g there) k inside has) in
       let w = earlier_some Gs g.at (slice_index g.args k) c.0 c.1 in
-      subst (λ (x : Inst). x.at < g.at) (same_some c.0 h (sym w.0 ∙ at)) w.1
+      subst (λ (x : Inst). x.at < g.at) (same_Some c.0 h (sym w.0 ∙ at)) w.1
 
   -- the type of a global stands before it
   pub type_before : (g : Inst) → IsAmong g Gs → has_type g.op ≡ true → (h : Inst) × (global Gs g.ty ≡ Some h) × (h.at < g.at)
@@ -213,20 +207,20 @@ module _ (m : ModuleState) (entry : Option (List ℕ)) (right : IsConforming m e
               wider Q m (h.at + 1) g.at (let low : h.at + 1 ≤ g.at = omega (arith, less) in low) u (known h (found_in Gs p h w.0) w.1 u e (λ on. of_parts g h p there (part h w.0) w.0 on))
 
       members_within : (ids : List ℕ) (ts : Trees) → all_trees (tree_before Gs g.at) ids ≡ Some ts → ((p : ℕ) → is_among ids p ≡ true → is_among (parts_of g) p ≡ true) → AreWithin Q m g.at ts
-      members_within [] ts all parts = subst (AreWithin Q m g.at) (same_some no_trees ts all) tt
+      members_within [] ts all parts = subst (AreWithin Q m g.at) (same_Some no_trees ts all) tt
       members_within (p ∷ ps) ts all parts = by_parts (tree_before Gs g.at p) refl (all_trees (tree_before Gs g.at) ps) refl all (λ us more. members_within ps us more (λ q among. parts q (or_on_right (p == q) (is_among ps q) among)))
         where
           by_parts : (o : Option Tree) → tree_before Gs g.at p ≡ o → (q : Option Trees) → all_trees (tree_before Gs g.at) ps ≡ q → both o q ≡ Some ts → ((us : Trees) → all_trees (tree_before Gs g.at) ps ≡ Some us → AreWithin Q m g.at us) → AreWithin Q m g.at ts
           by_parts None at q more e later = none_some e
           by_parts (Some u) at None more e later = none_some e
-          by_parts (Some u) at (Some us) more e later = subst (AreWithin Q m g.at) (same_some (tree u us) ts e) (part_within p u at (λ h here. parts p (or_on_left (p == p) (is_among ps p) (grind (arith, nat_tests)))), later us more)
+          by_parts (Some u) at (Some us) more e later = subst (AreWithin Q m g.at) (same_Some (tree u us) ts e) (part_within p u at (λ h here. parts p (or_on_left (p == p) (is_among ps p) (grind (arith, nat_tests)))), later us more)
 
       next : g.at ≤ g.at + 1
       next = omega arith
 
       int_within : (w a b : Bool) (t : Tree) → (if w then (if a then Some plain.uint else (if b then Some plain.int else None)) else None) ≡ Some t → In t
-      int_within true true b t e = subst In (same_some plain.uint t e) tt
-      int_within true false true t e = subst In (same_some plain.int t e) tt
+      int_within true true b t e = subst In (same_Some plain.uint t e) tt
+      int_within true false true t e = subst In (same_Some plain.int t e) tt
       int_within true false false t e = none_some e
       int_within false a b t e = none_some e
 
@@ -235,7 +229,7 @@ module _ (m : ModuleState) (entry : Option (List ℕ)) (right : IsConforming m e
       vector_within n (Some u) t e = by_elem (elem_of u) e
         where
           by_size : (d : Elem) (a b : Bool) → nat_le 2 n ≡ a → nat_le n 4 ≡ b → (if a && b then Some (plain.vector d n) else None) ≡ Some t → In t
-          by_size d true true low high e = subst In (same_some (plain.vector d n) t e) (two_to_four n low high)
+          by_size d true true low high e = subst In (same_Some (plain.vector d n) t e) (two_to_four n low high)
           by_size d true false low high e = none_some e
           by_size d false b low high e = none_some e
 
@@ -274,23 +268,23 @@ module _ (m : ModuleState) (entry : Option (List ℕ)) (right : IsConforming m e
 
           by_length : (l : Option Length) → length_of c.op (slice_index g.args 1) (slice_index c.args 0) ≡ l → array_tree (Some u) l ≡ Some t → In t
           by_length None l_is e = none_some e
-          by_length (Some l) l_is e = subst In (same_some (plain.array u l) t e) (wider Q m g.at (g.at + 1) next u (part_within (slice_index g.args 0) u first (first_part kinds.Array at (inl refl))), is_before l l_is)
+          by_length (Some l) l_is e = subst In (same_Some (plain.array u l) t e) (wider Q m g.at (g.at + 1) next u (part_within (slice_index g.args 0) u first (first_part kinds.Array at (inl refl))), is_before l l_is)
 
       runtime_within : kind g.op ≡ kinds.Runtime → (o : Option Tree) → tree_before Gs g.at (slice_index g.args 0) ≡ o → (t : Tree) → option_map plain.runtime o ≡ Some t → In t
       runtime_within at None first t e = none_some e
-      runtime_within at (Some u) first t e = subst In (same_some (plain.runtime u) t e) (wider Q m g.at (g.at + 1) next u (part_within (slice_index g.args 0) u first (first_part kinds.Runtime at (inr refl))))
+      runtime_within at (Some u) first t e = subst In (same_Some (plain.runtime u) t e) (wider Q m g.at (g.at + 1) next u (part_within (slice_index g.args 0) u first (first_part kinds.Runtime at (inr refl))))
 
       struct_within : kind g.op ≡ kinds.Struct → IsAsked g → (o : Option Trees) → all_trees (tree_before Gs g.at) g.args ≡ o → (t : Tree) → option_map (plain.struct g.result) o ≡ Some t → In t
       struct_within at top None all t e = none_some e
       struct_within at top (Some ts) all t e =
           let opcode = struct_op g.op at in
-          subst In (same_some (plain.struct g.result ts) t e) (
+          subst In (same_Some (plain.struct g.result ts) t e) (
             record { inst = g; there = global_found m entry right g there; opcode = opcode; members = all; less = (let low : g.at < g.at + 1 = omega arith in low); asked = top opcode },
             all_wider Q m g.at (g.at + 1) next ts (members_within g.args ts all (member_part at)),
           )
 
       by_kind : (k : TypeKind) → kind g.op ≡ k → (t : Tree) → tree_by_kind Gs (tree_before Gs g.at) g k ≡ Some t → IsAsked g → In t
-      by_kind kinds.Bool at t e top = subst In (same_some plain.boolean t e) tt
+      by_kind kinds.Bool at t e top = subst In (same_Some plain.boolean t e) tt
       by_kind kinds.Int at t e top = int_within (slice_index g.args 0 == 32) (slice_index g.args 1 == 0) (slice_index g.args 1 == 1) t e
       by_kind kinds.Vector at t e top = vector_within (slice_index g.args 1) (tree_before Gs g.at (slice_index g.args 0)) t e
       by_kind kinds.Array at t e top = array_within at (tree_before Gs g.at (slice_index g.args 0)) refl (global Gs (slice_index g.args 1)) refl t e
@@ -366,7 +360,7 @@ module _ (m : ModuleState) (entry : Option (List ℕ)) (right : IsConforming m e
 
       by_pointer : (b : Bool) → is c.0.op code.TypePointer ≡ b → option_map (λ (p : Inst). slice_index p.args 1) (if b then Some c.0 else None) ≡ Some q → h.at < v.at
       by_pointer true pointer e =
-          let same : slice_index c.0.args 1 ≡ q = same_some (slice_index c.0.args 1) q e in
+          let same : slice_index c.0.args 1 ≡ q = same_Some (slice_index c.0.args 1) q e in
           let row : global Gs (slice_index c.0.args 1) ≡ Some h = ap (global Gs) same ∙ here in
           let first = operand_before c.0 h 1 (found_in Gs v.ty c.0 c.1) (second_less c.0.args h row) (pointer_id c.0.op c.0.args pointer) row in
           let second = c.2 in

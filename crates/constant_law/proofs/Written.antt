@@ -4,6 +4,8 @@ use Rattle.std.specs.Prelude.{flat_map, option_map, option_and_then, slice_index
 use Rattle.std.specs.Option.{option_map_or}
 use Rattle.std.specs.List.{list_any}
 use Rattle.std.proofs.lemmas.Bool.Decides.{eqb_tells}
+use Rattle.std.proofs.lemmas.Bool.{and_from, or_cases, or_left, or_right}
+use Rattle.std.proofs.lemmas.Option.{same_Some}
 use Rattle.spv_ops.specs.Opcode.{is, number}
 use Rattle.spv_ops.specs.declared.Op.{Op}
 use Rattle.spv_ops.specs.declared.Op.TheVariants as code
@@ -22,7 +24,7 @@ use Rattle.fits_law.proofs.Steps.{named}
 use Rattle.text_rules.specs.Constants.{Source}
 use Rattle.text_rules.specs.Printed.{Reached, has_struct, have_struct, is_written_variable, is_declared_constant, is_written_struct, pointee_or_self, type_has_struct, signature_types, written_types}
 use Rattle.typed_law.specs.Conforms.{IsConforming}
-use Rattle.typed_law.proofs.Lists.{same_some, clash}
+use Rattle.typed_law.proofs.Lists.{clash}
 use Rattle.global_law.specs.Sources.{source_of}
 use Rattle.constant_law.specs.Within.{IsStructBefore, IsWithin, AreWithin, IsNoBlock, Anything}
 use Rattle.constant_law.proofs.Within.{any_within}
@@ -30,38 +32,22 @@ use Rattle.constant_law.proofs.Within.{any_within}
 none_some : {A B : Type 0} {a : A} → None ≡ Some a → B
 none_some e = cc
 
-or_either : (a b : Bool) → (a || b) ≡ true → (a ≡ true) ⊎ (b ≡ true)
-or_either true b e = inl refl
-or_either false b e = inr e
-
-pub or_on_left : (a b : Bool) → a ≡ true → (a || b) ≡ true
-or_on_left true b e = refl
-or_on_left false b e = cc
-
-pub or_on_right : (a b : Bool) → b ≡ true → (a || b) ≡ true
-or_on_right true b e = refl
-or_on_right false b e = e
-
-both_on : (a b : Bool) → a ≡ true → b ≡ true → (a && b) ≡ true
-both_on true b on e = e
-both_on false b on e = cc
-
 -- tests of lists
 any_more : (P Q : ℕ → Bool) → ((x : ℕ) → P x ≡ true → Q x ≡ true) → (xs : List ℕ) → list_any P xs ≡ true → list_any Q xs ≡ true
 any_more P Q more [] on = cc
-any_more P Q more (x ∷ xs) on = elim (or_either (P x) (list_any P xs) on) [ inl own ↦ or_on_left (Q x) (list_any Q xs) (more x own) | inr later ↦ or_on_right (Q x) (list_any Q xs) (any_more P Q more xs later) ]
+any_more P Q more (x ∷ xs) on = elim (or_cases (P x) (list_any P xs) on) [ inl own ↦ or_left (Q x) (list_any Q xs) (more x own) | inr later ↦ or_right (Q x) (list_any Q xs) (any_more P Q more xs later) ]
 
 any_left : (P : ℕ → Bool) (xs ys : List ℕ) → list_any P xs ≡ true → list_any P (xs ++ ys) ≡ true
 any_left P [] ys on = cc
-any_left P (x ∷ xs) ys on = elim (or_either (P x) (list_any P xs) on) [ inl own ↦ or_on_left (P x) (list_any P (xs ++ ys)) own | inr later ↦ or_on_right (P x) (list_any P (xs ++ ys)) (any_left P xs ys later) ]
+any_left P (x ∷ xs) ys on = elim (or_cases (P x) (list_any P xs) on) [ inl own ↦ or_left (P x) (list_any P (xs ++ ys)) own | inr later ↦ or_right (P x) (list_any P (xs ++ ys)) (any_left P xs ys later) ]
 
 any_kept : (test : Inst → Bool) (P : ℕ → Bool) (gs : List Inst) (g : Inst) → IsAmong g gs → test g ≡ true → P g.ty ≡ true → list_any P (map (λ (x : Inst). x.ty) (filter test gs)) ≡ true
 any_kept test P [] g there on has = absurd there
 any_kept test P (x ∷ gs) g there on has = by_test (test x) refl there (λ later. any_kept test P gs g later on has)
   where
     by_test : (b : Bool) → test x ≡ b → (x ≡ g) ⊎ IsAmong g gs → (IsAmong g gs → list_any P (map (λ (x : Inst). x.ty) (filter test gs)) ≡ true) → list_any P (map (λ (x : Inst). x.ty) (if b then x ∷ filter test gs else filter test gs)) ≡ true
-    by_test true at (inl same) later = or_on_left (P x.ty) (list_any P (map (λ (x : Inst). x.ty) (filter test gs))) (subst (λ (y : Inst). P y.ty ≡ true) (sym same) has)
-    by_test true at (inr more) later = or_on_right (P x.ty) (list_any P (map (λ (x : Inst). x.ty) (filter test gs))) (later more)
+    by_test true at (inl same) later = or_left (P x.ty) (list_any P (map (λ (x : Inst). x.ty) (filter test gs))) (subst (λ (y : Inst). P y.ty ≡ true) (sym same) has)
+    by_test true at (inr more) later = or_right (P x.ty) (list_any P (map (λ (x : Inst). x.ty) (filter test gs))) (later more)
     by_test false at (inl same) later = clash (sym on ∙ ap test (sym same) ∙ at)
     by_test false at (inr more) later = later more
 
@@ -87,9 +73,9 @@ struct_has : (k a b : ℕ) (us : Trees) → (k ≡ a → have_struct b us ≡ tr
 struct_has k a b us own later e = by_test (k == a) (eqb_tells k a) e
   where
     by_test : (q : Bool) → ((q ≡ true) × (k ≡ a)) ⊎ ((q ≡ false) × (k ≡ a → ⊥)) → (q || have_struct a us) ≡ true → ((k == b) || have_struct b us) ≡ true
-    by_test q (inl same) e = or_on_right (k == b) (have_struct b us) (own same.1)
+    by_test q (inl same) e = or_right (k == b) (have_struct b us) (own same.1)
     by_test true (inr far) e = cc
-    by_test false (inr far) e = or_on_right (k == b) (have_struct b us) (later e)
+    by_test false (inr far) e = or_right (k == b) (have_struct b us) (later e)
 
 module _ (s : Setting) (entry : Option (List ℕ)) (right : IsConforming s.of entry) (overrides : List (ℕ × Given)) (r : Reached) where
   abbrev source : Source
@@ -102,8 +88,8 @@ module _ (s : Setting) (entry : Option (List ℕ)) (right : IsConforming s.of en
   module _ (n a : ℕ) (h : Inst) (at : global Gs a ≡ Some h) (ts : Trees) (all : all_trees (tree_before Gs h.at) h.args ≡ Some ts) (b : ℕ) (inner : have_struct b ts ≡ true) where
     own_members : (k : ℕ) (us : Trees) → IsStructBefore Anything s.of n k us → k ≡ a → have_struct b us ≡ true
     own_members k us w same =
-        let one : w.inst ≡ h = same_some w.inst h (sym w.there ∙ ap (global Gs) same ∙ at) in
-        let parts : ts ≡ us = same_some ts us (sym all ∙ ap (λ (x : Inst). all_trees (tree_before Gs x.at) x.args) (sym one) ∙ w.members) in
+        let one : w.inst ≡ h = same_Some w.inst h (sym w.there ∙ ap (global Gs) same ∙ at) in
+        let parts : ts ≡ us = same_Some ts us (sym all ∙ ap (λ (x : Inst). all_trees (tree_before Gs x.at) x.args) (sym one) ∙ w.members) in
         subst (λ q. have_struct b q ≡ true) parts inner
 
     mutual
@@ -118,7 +104,7 @@ module _ (s : Setting) (entry : Option (List ℕ)) (right : IsConforming s.of en
 
       have_more : (us : Trees) → AreWithin Anything s.of n us → have_struct a us ≡ true → have_struct b us ≡ true
       have_more no_trees w e = cc
-      have_more (tree t us) w e = elim (or_either (has_struct a t) (have_struct a us) e) [ inl own ↦ or_on_left (has_struct b t) (have_struct b us) (has_more t w.0 own) | inr later ↦ or_on_right (has_struct b t) (have_struct b us) (have_more us w.1 later) ]
+      have_more (tree t us) w e = elim (or_cases (has_struct a t) (have_struct a us) e) [ inl own ↦ or_left (has_struct b t) (have_struct b us) (has_more t w.0 own) | inr later ↦ or_right (has_struct b t) (have_struct b us) (have_more us w.1 later) ]
 
   -- something that is written has the struct
   abbrev pub IsHeld : ℕ → Type 0
@@ -148,5 +134,5 @@ module _ (s : Setting) (entry : Option (List ℕ)) (right : IsConforming s.of en
   -- so it is written, where it is no block
   pub struct_written : (n k : ℕ) (ts : Trees) (w : IsStructBefore (IsNoBlock s.of) s.of n k ts) → IsHeld k → is_written_struct source r w.inst ≡ true
   struct_written n k ts w held =
-      both_on (is w.inst.op code.TypeStruct) (not (is_block s.of.heads w.inst.result) && list_any (type_has_struct Gs w.inst.result) (written_types source r)) w.opcode
-      (both_on (not (is_block s.of.heads w.inst.result)) (list_any (type_has_struct Gs w.inst.result) (written_types source r)) (ap not w.asked) (subst (λ x. list_any (type_has_struct Gs x) (written_types source r) ≡ true) (sym (named Gs k w.inst w.there)) held))
+      and_from (is w.inst.op code.TypeStruct) (not (is_block s.of.heads w.inst.result) && list_any (type_has_struct Gs w.inst.result) (written_types source r)) w.opcode
+      (and_from (not (is_block s.of.heads w.inst.result)) (list_any (type_has_struct Gs w.inst.result) (written_types source r)) (ap not w.asked) (subst (λ x. list_any (type_has_struct Gs x) (written_types source r) ≡ true) (sym (named Gs k w.inst w.there)) held))

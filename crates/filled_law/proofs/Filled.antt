@@ -1,5 +1,6 @@
 -- So the text of an accepted module preserves what the module does. It is asked that its words are octets, its overrides words, that no rule on decorations is broken, and of the invocation that lengths of arrays are lengths (`IsLeftOfGlobals`); of its functions nothing is asked.
-use Rattle.std.proofs.Common.{◌≡◌, ◌++◌, ℕ, Bool, true, false, List, map, Option, Some, refl, sym, subst}
+use Rattle.std.proofs.Common.{◌≡◌, ◌++◌, ℕ, true, false, List, map, Option, Some, refl, sym, subst}
+use Rattle.std.proofs.lemmas.Bool.{true_from_ne_false}
 use Rattle.spv_words.specs.Words.{words}
 use Rattle.spv_module.specs.Inst.{has_type}
 use Rattle.spv_module.specs.State.{ModuleState}
@@ -71,10 +72,6 @@ use Rattle.meaning_law.proofs.Left.{P, others, calls_in, StandBefore, HasBlocks,
 use Rattle.filled_law.proofs.Things.{things_within}
 use Rattle.filled_law.proofs.Phis.{phi_shaped}
 use Rattle.meaning_law.proofs.Whole.{invocation_preserved}
-
-not_off : (b : Bool) → (b ≡ false → ⊥) → b ≡ true
-not_off true far = refl
-not_off false far = absurd (far refl)
 
 module _ (bytes : List ℕ) (m : ModuleState) (o : Options) (read : IsReadFrom bytes m) (fine : IsFine m o) (unit : TranslationUnit) (u : IsUnitOf m o unit) where
   -- what stands outside of functions and has a type is a constant or a variable
@@ -182,7 +179,7 @@ module _ (bytes : List ℕ) (m : ModuleState) (o : Options) (read : IsReadFrom b
         let one = is_one bytes m o read fine unit u inv p among in
         let stands = among_in (insts_of (written p)) i there in
         let value = a_value m o unit u inv p among o.entry (right bytes m o read fine unit u inv) one i there on in
-        let w = accepted_shaped bytes m o read fine kinds_so (written p) one i stands (not_off (has_type i.op) (λ off. value.0 ((accepted_inner bytes m read (written p) one i stands).1 off))) value.1 in
+        let w = accepted_shaped bytes m o read fine kinds_so (written p) one i stands (true_from_ne_false (has_type i.op) (λ off. value.0 ((accepted_inner bytes m read (written p) one i stands).1 off))) value.1 in
         (w.0, w.1)
 
     is_left : IsLeft bytes m o read fine unit u inv of_words

@@ -3,6 +3,7 @@ use Rattle.std.proofs.Common.{◌≡◌, ◌+◌, ◌==◌, ℕ, suc, Bool, true
 use Rattle.std.specs.Prelude.{option_map, flat_map, slice_get, if◌then◌else◌}
 use Rattle.std.specs.List.{list_any, list_all}
 use Rattle.std.proofs.lemmas.List.{length-append}
+use Rattle.std.proofs.lemmas.Option.{same_Some}
 use Rattle.spv_module.specs.declared.tree.Elem.{Elem}
 use Rattle.spv_module.specs.declared.tree.Elem.TheVariants as elem
 use Rattle.spv_module.specs.declared.tree.Length.TheVariants.{Fixed, Spec}
@@ -32,9 +33,6 @@ before_some (Some y) (Some ys) rs h = (y, ys, refl, refl, let same : rs ≡ y �
 mapped_some : {A B : Type 0} (f : A → B) (o : Option A) (b : B) → option_map f o ≡ Some b → (a : A) × (o ≡ Some a) × (f a ≡ b)
 mapped_some f None b e = cc
 mapped_some f (Some a) b e = (a, refl, let same : f a ≡ b = cc in same)
-
-some_same : {A : Type 0} (a b : A) → Some a ≡ Some b → a ≡ b
-some_same a b e = cc
 
 -- a scalar of a sort; scalars; a scalar, or a vector of so many
 abbrev Is : Sort → ValueTree → Type 0
@@ -502,8 +500,8 @@ op_fits op.All t ls us vs r takes fit e =
 op_fits op.Select t ls us vs r takes fit e =
     let p = three_operands (λ c a b. IsCondition c t × (a ≡ t) × (b ≡ t)) (by_three chosen) us vs r takes fit e in
     choice_fits p.0 t p.3 p.4 p.5 r p.6.0 p.7 (subst (λ x. fits x p.4 ≡ true) p.6.1 p.8) (subst (λ x. fits x p.5 ≡ true) p.6.2 p.9) p.10
-op_fits op.Undef t ls us vs r takes fit e = let same : zero_of t ≡ r = some_same (zero_of t) r e in subst (λ x. fits t x ≡ true) same (zero_fits t takes)
-op_fits op.Copy t ls us vs r takes fit e = let p = one_operand (Alike t) Some us vs r takes fit e in let same : p.1 ≡ r = some_same p.1 r p.4 in subst (λ x. fits t x ≡ true) same (alike_fits t p.0 p.2 p.1 p.3)
+op_fits op.Undef t ls us vs r takes fit e = let same : zero_of t ≡ r = same_Some (zero_of t) r e in subst (λ x. fits t x ≡ true) same (zero_fits t takes)
+op_fits op.Copy t ls us vs r takes fit e = let p = one_operand (Alike t) Some us vs r takes fit e in let same : p.1 ≡ r = same_Some p.1 r p.4 in subst (λ x. fits t x ≡ true) same (alike_fits t p.0 p.2 p.1 p.3)
 op_fits op.VectorExtractDynamic t ls us vs r takes fit h =
     let p = two_operands (λ a i. (e : Elem) × (n : ℕ) × (a ≡ vector e n) × (t ≡ elem_tree e) × Has numbers None i) extracted_at us vs r takes fit h in
     let q = p.4 in
@@ -513,7 +511,7 @@ op_fits op.VectorInsertDynamic t ls us vs r takes fit h =
     let q = p.6 in
     subst (λ x. fits x r ≡ true) (sym q.2) (set_at_fits q.0 q.1 p.3 p.4 p.5 r (subst (λ x. fits x p.3 ≡ true) (q.3 ∙ q.2) p.7) (subst (λ x. fits x p.4 ≡ true) q.4 p.8) p.10)
 op_fits op.VectorShuffle t ls us vs r takes fit e = let p = two_operands (IsShuffle t ls) (shuffled t ls) us vs r takes fit e in shuffle_fits t p.0 p.1 ls p.2 p.3 r p.4 p.5 p.6 p.7
-op_fits op.CompositeConstruct t ls us vs r takes fit e = let same : constructed t vs ≡ r = some_same (constructed t vs) r e in subst (λ x. fits t x ≡ true) same (parts_fit t us vs takes fit)
+op_fits op.CompositeConstruct t ls us vs r takes fit e = let same : constructed t vs ≡ r = same_Some (constructed t vs) r e in subst (λ x. fits t x ≡ true) same (parts_fit t us vs takes fit)
 op_fits op.CompositeExtract t ls us vs r takes fit e = let p = one_operand (λ a. shape_at a ls ≡ Some t) (extracted_by ls) us vs r takes fit e in extracted_fits ls p.0 t p.1 r p.2 p.3 (extracted_along ls p.1 r p.4).1
 op_fits op.CompositeInsert t ls us vs r takes fit e =
     let p = two_operands (λ object a. (a ≡ t) × (shape_at t ls ≡ Some object)) (λ object composite. inserted_by object ls composite) us vs r takes fit e in

@@ -2,6 +2,7 @@
 use Rattle.std.proofs.Common.{◌≡◌, ◌==◌, ◌&&◌, ℕ, zero, suc, Bool, true, false, List, [], ◌∷◌, length, replicate, Option, Some, None, inl, inr, refl, sym, ap, ◌∙◌, subst, arith}
 use Rattle.std.specs.Prelude.{nat_lt, option_and_then, slice_get, slice_set, if◌then◌else◌}
 use Rattle.std.proofs.lemmas.Bool.Decides.{eqb_tells, nat_tests}
+use Rattle.std.proofs.lemmas.Bool.{and_parts, and_from}
 use Rattle.spv_module.specs.declared.tree.Elem.{Elem}
 use Rattle.spv_module.specs.declared.tree.Elem.TheVariants as elem
 use Rattle.spv_module.specs.declared.tree.Length.TheVariants.{Fixed, Spec}
@@ -25,14 +26,6 @@ pub count_listed : (vs : ValueTrees) → count_of vs ≡ length (listed vs)
 count_listed no_values = refl
 count_listed (value v vs) = omega (arith, count_listed vs)
 
-pub both_true : (a b : Bool) → (a && b) ≡ true → (a ≡ true) × (b ≡ true)
-both_true true b e = (refl, e)
-both_true false b e = cc
-
-pub true_both : (a b : Bool) → a ≡ true → b ≡ true → (a && b) ≡ true
-true_both true b on e = e
-true_both false b on e = cc
-
 pub same_number : (a b : ℕ) → (a == b) ≡ true → a ≡ b
 same_number a b e = elim (eqb_tells a b) [ inl w ↦ w.1 | inr w ↦ absurd (never (a == b) e w.0) ]
   where
@@ -50,19 +43,19 @@ EachFits t (v ∷ vs) = (fits t v ≡ true) × EachFits t vs
 
 pub each_of : (t : Tree) (vs : ValueTrees) → each_fits t vs ≡ true → EachFits t (listed vs)
 each_of t no_values e = tt
-each_of t (value v vs) e = let parts = both_true (fits t v) (each_fits t vs) e in (parts.0, each_of t vs parts.1)
+each_of t (value v vs) e = let parts = and_parts (fits t v) (each_fits t vs) e in (parts.0, each_of t vs parts.1)
 
 pub of_each : (t : Tree) (vs : ValueTrees) → EachFits t (listed vs) → each_fits t vs ≡ true
 of_each t no_values e = refl
-of_each t (value v vs) e = true_both (fits t v) (each_fits t vs) e.0 (of_each t vs e.1)
+of_each t (value v vs) e = and_from (fits t v) (each_fits t vs) e.0 (of_each t vs e.1)
 
 -- a vector or an array of so many parts
 pub many_of : (t : Tree) (n : ℕ) (vs : ValueTrees) → ((count_of vs == n) && each_fits t vs) ≡ true → (length (listed vs) ≡ n) × EachFits t (listed vs)
-many_of t n vs e = let parts = both_true (count_of vs == n) (each_fits t vs) e in (sym (count_listed vs) ∙ same_number (count_of vs) n parts.0, each_of t vs parts.1)
+many_of t n vs e = let parts = and_parts (count_of vs == n) (each_fits t vs) e in (sym (count_listed vs) ∙ same_number (count_of vs) n parts.0, each_of t vs parts.1)
 
 pub of_many : (t : Tree) (n : ℕ) (vs : List ValueTree) → length vs ≡ n → EachFits t vs → ((count_of (values_in vs) == n) && each_fits t (values_in vs)) ≡ true
 of_many t n vs count each =
-    true_both (count_of (values_in vs) == n) (each_fits t (values_in vs)) (number_same (count_of (values_in vs)) n (count_listed (values_in vs) ∙ ap length (listed_values vs) ∙ count))
+    and_from (count_of (values_in vs) == n) (each_fits t (values_in vs)) (number_same (count_of (values_in vs)) n (count_listed (values_in vs) ∙ ap length (listed_values vs) ∙ count))
     (of_each t (values_in vs) (subst (EachFits t) (sym (listed_values vs)) each))
 
 pub each_at : (t : Tree) (vs : List ValueTree) (i : ℕ) (v : ValueTree) → EachFits t vs → slice_get vs i ≡ Some v → fits t v ≡ true
@@ -90,13 +83,13 @@ pub members_of : (ts : Trees) (vs : ValueTrees) → fits_parts ts vs ≡ true �
 members_of no_trees no_values e = tt
 members_of no_trees (value v vs) e = cc
 members_of (tree t ts) no_values e = cc
-members_of (tree t ts) (value v vs) e = let parts = both_true (fits t v) (fits_parts ts vs) e in (parts.0, members_of ts vs parts.1)
+members_of (tree t ts) (value v vs) e = let parts = and_parts (fits t v) (fits_parts ts vs) e in (parts.0, members_of ts vs parts.1)
 
 pub of_members : (ts : Trees) (vs : List ValueTree) → MembersFit ts vs → fits_parts ts (values_in vs) ≡ true
 of_members no_trees [] each = refl
 of_members no_trees (v ∷ vs) each = absurd each
 of_members (tree t ts) [] each = absurd each
-of_members (tree t ts) (v ∷ vs) each = true_both (fits t v) (fits_parts ts (values_in vs)) each.0 (of_members ts vs each.1)
+of_members (tree t ts) (v ∷ vs) each = and_from (fits t v) (fits_parts ts (values_in vs)) each.0 (of_members ts vs each.1)
 
 member_at : (ts : Trees) (vs : List ValueTree) (i : ℕ) (u : Tree) (v : ValueTree) → MembersFit ts vs → nth_of ts i ≡ Some u → slice_get vs i ≡ Some v → fits u v ≡ true
 member_at no_trees [] i u v each at e = cc
@@ -246,12 +239,12 @@ alike_elem elem.Uint elem.Bool v a h = absurd a
 
 each_alike : (t u : Tree) → ((v : ValueTree) → fits u v ≡ true → fits t v ≡ true) → (vs : ValueTrees) → each_fits u vs ≡ true → each_fits t vs ≡ true
 each_alike t u one no_values e = refl
-each_alike t u one (value v vs) e = let parts = both_true (fits u v) (each_fits u vs) e in true_both (fits t v) (each_fits t vs) (one v parts.0) (each_alike t u one vs parts.1)
+each_alike t u one (value v vs) e = let parts = and_parts (fits u v) (each_fits u vs) e in and_from (fits t v) (each_fits t vs) (one v parts.0) (each_alike t u one vs parts.1)
 
 some_alike : (t u : Tree) (n m : ℕ) → ((v : ValueTree) → fits u v ≡ true → fits t v ≡ true) → n ≡ m → (vs : ValueTrees) → ((count_of vs == m) && each_fits u vs) ≡ true → ((count_of vs == n) && each_fits t vs) ≡ true
 some_alike t u n m one same vs e =
-    let parts = both_true (count_of vs == m) (each_fits u vs) e in
-    true_both (count_of vs == n) (each_fits t vs) (subst (λ k. (count_of vs == k) ≡ true) (sym same) parts.0) (each_alike t u one vs parts.1)
+    let parts = and_parts (count_of vs == m) (each_fits u vs) e in
+    and_from (count_of vs == n) (each_fits t vs) (subst (λ k. (count_of vs == k) ≡ true) (sym same) parts.0) (each_alike t u one vs parts.1)
 
 mutual
   pub alike_fits : (t u : Tree) → Alike t u → (v : ValueTree) → fits u v ≡ true → fits t v ≡ true
@@ -278,7 +271,7 @@ mutual
   pub all_alike : (ts us : Trees) → AllAlike ts us → (vs : ValueTrees) → fits_parts us vs ≡ true → fits_parts ts vs ≡ true
   all_alike no_trees no_trees a vs e = e
   all_alike (tree t ts) (tree u us) a no_values e = cc
-  all_alike (tree t ts) (tree u us) a (value v vs) e = let parts = both_true (fits u v) (fits_parts us vs) e in true_both (fits t v) (fits_parts ts vs) (alike_fits t u a.0 v parts.0) (all_alike ts us a.1 vs parts.1)
+  all_alike (tree t ts) (tree u us) a (value v vs) e = let parts = and_parts (fits u v) (fits_parts us vs) e in and_from (fits t v) (fits_parts ts vs) (alike_fits t u a.0 v parts.0) (all_alike ts us a.1 vs parts.1)
   all_alike no_trees (tree u us) a vs e = absurd a
   all_alike (tree t ts) no_trees a vs e = absurd a
 
@@ -312,4 +305,4 @@ mutual
 
   pub zeros_fit : (ts : Trees) → AreSized ts → fits_parts ts (zeros_of ts) ≡ true
   zeros_fit no_trees s = refl
-  zeros_fit (tree t ts) s = true_both (fits t (zero_of t)) (fits_parts ts (zeros_of ts)) (zero_fits t s.0) (zeros_fit ts s.1)
+  zeros_fit (tree t ts) s = and_from (fits t (zero_of t)) (fits_parts ts (zeros_of ts)) (zero_fits t s.0) (zeros_fit ts s.1)

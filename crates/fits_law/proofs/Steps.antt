@@ -4,6 +4,7 @@ use Rattle.std.specs.Prelude.{◌⊎◌, option_map, option_and_then, slice_get,
 use Rattle.std.specs.Option.{option_map_or}
 use Rattle.std.proofs.lemmas.Bool.Decides.{eqb_tells}
 use Rattle.std.proofs.lemmas.List.{length-map}
+use Rattle.std.proofs.lemmas.Option.{same_Some}
 use Rattle.spv_ops.specs.declared.AtomicOp.{AtomicOp}
 use Rattle.spv_ops.specs.declared.AtomicOp.TheVariants as atomics
 use Rattle.spv_ops.specs.declared.StorageClass.{StorageClass}
@@ -46,9 +47,6 @@ some_first : {A B : Type 0} (f : A → Option B) (o : Option A) (b : B) → opti
 some_first f None b e = cc
 some_first f (Some a) b e = (a, refl, e)
 
-some_same : {A : Type 0} (a b : A) → Some a ≡ Some b → a ≡ b
-some_same a b e = cc
-
 same_head : {A : Type 0} (x y : A) (xs ys : List A) → x ∷ xs ≡ y ∷ ys → x ≡ y
 same_head x y xs ys e = cc
 
@@ -63,7 +61,7 @@ some_has : (o : Option Tree) (t : Tree) (v : ValueTree) → o ≡ Some t → fit
 some_has o t v e f = subst (λ q. HasShape q v) (sym e) f
 
 shape_append : (is js : List ℕ) (t u : Tree) → place_shape t is ≡ Some u → place_shape t (is ++ js) ≡ place_shape u js
-shape_append [] js t u e = ap (λ x. place_shape x js) (some_same t u e)
+shape_append [] js t u e = ap (λ x. place_shape x js) (same_Some t u e)
 shape_append (i ∷ is) js t u e = let part = some_first (λ x. place_shape x is) _ u e in ap (option_and_then (λ x. place_shape x (is ++ js))) part.1 ∙ shape_append is js part.0 u part.2
 
 leads_on : (r u w : Option Tree) (is js : List ℕ) → LeadsTo r is u → LeadsTo u js w → LeadsTo r (is ++ js) w
@@ -80,7 +78,7 @@ put_some : {A : Type 0} (f : ℕ → Option A) (n : ℕ) (a : A) (id : ℕ) (b :
 put_some {A} f n a id b P mine other e = by_test (id == n) (eqb_tells id n) e
   where
     by_test : (t : Bool) → ((t ≡ true) × (id ≡ n)) ⊎ ((t ≡ false) × (id ≡ n → ⊥)) → elim t [ true ↦ Some a | false ↦ f id ] ≡ Some b → P id b
-    by_test true (inl w) e = subst (λ k. P k b) (sym w.1) (subst (P n) (some_same a b e) mine)
+    by_test true (inl w) e = subst (λ k. P k b) (sym w.1) (subst (P n) (same_Some a b e) mine)
     by_test true (inr w) e = cc
     by_test false (inl w) e = cc
     by_test false (inr w) e = other b e
@@ -91,7 +89,7 @@ named [] id g e = cc
 named (h ∷ gs) id g e = by_test (h.result == id) (eqb_tells h.result id) (named gs id g) e
   where
     by_test : (t : Bool) → ((t ≡ true) × (h.result ≡ id)) ⊎ ((t ≡ false) × (h.result ≡ id → ⊥)) → (find (λ (x : Inst). x.result == id) gs ≡ Some g → g.result ≡ id) → (if t then Some h else find (λ (x : Inst). x.result == id) gs) ≡ Some g → g.result ≡ id
-    by_test true (inl w) later e = ap (λ (x : Inst). x.result) (sym (some_same h g e)) ∙ w.1
+    by_test true (inl w) later e = ap (λ (x : Inst). x.result) (sym (same_Some h g e)) ∙ w.1
     by_test true (inr w) later e = cc
     by_test false (inl w) later e = cc
     by_test false (inr w) later e = later e
@@ -108,15 +106,15 @@ module _ (s : Setting) (right : ModuleFits s) where
   held_fits fs c id h fit e = by_own (c.ids id) refl e
     where
       by_global : (g : Option Inst) → global_variable s id ≡ g → elim g [ Some v ↦ Some (pointer (global id) []) | None ↦ option_map value (s.constants id) ] ≡ Some h → HeldFits s fs c.function id h
-      by_global (Some v) is e = subst (HeldFits s fs c.function id) (some_same (pointer (global id) []) h e) (right.globals c.function id v is)
+      by_global (Some v) is e = subst (HeldFits s fs c.function id) (same_Some (pointer (global id) []) h e) (right.globals c.function id v is)
       by_global None is e = by_constant (s.constants id) refl e
         where
           by_constant : (k : Option ValueTree) → s.constants id ≡ k → option_map value k ≡ Some h → HeldFits s fs c.function id h
           by_constant None is e = cc
-          by_constant (Some v) is e = subst (HeldFits s fs c.function id) (some_same (value v) h e) (right.constants c.function id v is)
+          by_constant (Some v) is e = subst (HeldFits s fs c.function id) (same_Some (value v) h e) (right.constants c.function id v is)
 
       by_own : (o : Option Held) → c.ids id ≡ o → elim o [ Some h ↦ Some h | None ↦ of_module s id ] ≡ Some h → HeldFits s fs c.function id h
-      by_own (Some g) is e = subst (HeldFits s fs c.function id) (some_same g h e) (fit id g is).1
+      by_own (Some g) is e = subst (HeldFits s fs c.function id) (same_Some g h e) (fit id g is).1
       by_own None is e = by_global (global_variable s id) refl e
 
   value_has : (fs : List Function) (c : Frame) (id : ℕ) (v : ValueTree) → IdsFit s fs c.function c.ids → value_at s c id ≡ Some v → HasShape (value_shape s c.function id) v
@@ -124,7 +122,7 @@ module _ (s : Setting) (right : ModuleFits s) where
     where
       by_held : (o : Option Held) → held s c id ≡ o → as_value o ≡ Some v → HasShape (value_shape s c.function id) v
       by_held None is e = cc
-      by_held (Some (value w)) is e = subst (HasShape (value_shape s c.function id)) (some_same w v e) (held_fits fs c id (value w) fit is)
+      by_held (Some (value w)) is e = subst (HasShape (value_shape s c.function id)) (same_Some w v e) (held_fits fs c id (value w) fit is)
       by_held (Some (pointer r path)) is e = cc
 
   pointer_leads : (fs : List Function) (c : Frame) (id : ℕ) (p : Target) → IdsFit s fs c.function c.ids → pointer_at s c id ≡ Some p → LeadsTo (root_shape s fs c.function p.0) p.1 (target_shape s c.function id)
@@ -133,7 +131,7 @@ module _ (s : Setting) (right : ModuleFits s) where
       by_held : (o : Option Held) → held s c id ≡ o → as_pointer o ≡ Some p → LeadsTo (root_shape s fs c.function p.0) p.1 (target_shape s c.function id)
       by_held None is e = cc
       by_held (Some (value w)) is e = cc
-      by_held (Some (pointer r path)) is e = subst (λ (q : Target). LeadsTo (root_shape s fs c.function q.0) q.1 (target_shape s c.function id)) (some_same (r, path) p e) (held_fits fs c id (pointer r path) fit is)
+      by_held (Some (pointer r path)) is e = subst (λ (q : Target). LeadsTo (root_shape s fs c.function q.0) q.1 (target_shape s c.function id)) (same_Some (r, path) p e) (held_fits fs c id (pointer r path) fit is)
 
   all_fit : (fs : List Function) (c : Frame) (ids : List ℕ) (ts : List Tree) (vs : List ValueTree) → IdsFit s fs c.function c.ids → HaveShapes s c.function ids ts → values_at s c ids ≡ Some vs → AllFit ts vs
   all_fit fs c [] [] [] fit have e = tt
@@ -146,7 +144,7 @@ module _ (s : Setting) (right : ModuleFits s) where
       by_first None is q rest later e = cc
       by_first (Some v) is None rest later e = cc
       by_first (Some v) is (Some ws) rest later e =
-          subst (AllFit (t ∷ ts)) (some_same (v ∷ ws) vs e) (has_some (value_shape s c.function id) t v have.0 (value_has fs c id v fit is), later ws rest)
+          subst (AllFit (t ∷ ts)) (same_Some (v ∷ ws) vs e) (has_some (value_shape s c.function id) t v have.0 (value_has fs c id v fit is), later ws rest)
 
   -- nothing, or what follows from something
   some_fits : {A : Type 0} (o : Option A) (f : A → Act Conf) → ((a : A) → o ≡ Some a → ActFits s (f a)) → ActFits s (with_some o f)
@@ -217,7 +215,7 @@ module _ (s : Setting) (right : ModuleFits s) where
   variable_named id v e = by_global (global_inst s.of.globals id) refl e
     where
       by_variable : (g : Inst) → g.result ≡ id → (b : Bool) → elim b [ true ↦ Some g | false ↦ None ] ≡ Some v → v.result ≡ id
-      by_variable g is true e = ap (λ (x : Inst). x.result) (sym (some_same g v e)) ∙ is
+      by_variable g is true e = ap (λ (x : Inst). x.result) (sym (same_Some g v e)) ∙ is
       by_variable g is false e = cc
 
       by_global : (o : Option Inst) → global_inst s.of.globals id ≡ o → elim o [ None ↦ None | Some g ↦ as_variable g ] ≡ Some v → v.result ≡ id
@@ -230,7 +228,7 @@ module _ (s : Setting) (right : ModuleFits s) where
     where
       by_test : (t : Bool) → (length bs == depth) ≡ t → (call_at depth bs ≡ Some g → function_at depth (functions_of bs) ≡ Some g.function) → elim t [ true ↦ Some b.0 | false ↦ call_at depth bs ] ≡ Some g → function_at depth (functions_of (b ∷ bs)) ≡ Some g.function
       by_test true is later e =
-          ap (λ (t : Bool). elim t [ true ↦ Some b.0.function | false ↦ function_at depth (functions_of bs) ]) (ap (λ n. n == depth) (length-map bs (λ (x : Frame × ℕ). x.0.function)) ∙ is) ∙ ap (λ (x : Frame). Some x.function) (some_same b.0 g e)
+          ap (λ (t : Bool). elim t [ true ↦ Some b.0.function | false ↦ function_at depth (functions_of bs) ]) (ap (λ n. n == depth) (length-map bs (λ (x : Frame × ℕ). x.0.function)) ∙ is) ∙ ap (λ (x : Frame). Some x.function) (same_Some b.0 g e)
       by_test false is later e =
           ap (λ (t : Bool). elim t [ true ↦ Some b.0.function | false ↦ function_at depth (functions_of bs) ]) (ap (λ n. n == depth) (length-map bs (λ (x : Frame × ℕ). x.0.function)) ∙ is) ∙ later e
 
@@ -239,7 +237,7 @@ module _ (s : Setting) (right : ModuleFits s) where
   calls_have depth (b ∷ bs) g id v fit e at = by_test (length bs == depth) (λ there. calls_have depth bs g id v fit.1 there at) e
     where
       by_test : (t : Bool) → (call_at depth bs ≡ Some g → HasShape (target_shape s g.function id) v) → elim t [ true ↦ Some b.0 | false ↦ call_at depth bs ] ≡ Some g → HasShape (target_shape s g.function id) v
-      by_test true later e = let same : b.0 ≡ g = some_same b.0 g e in subst (λ (x : Frame). HasShape (target_shape s x.function id) v) same (fit.0.1 id v (ap (λ (x : Frame). x.variables id) same ∙ at))
+      by_test true later e = let same : b.0 ≡ g = same_Some b.0 g e in subst (λ (x : Frame). HasShape (target_shape s x.function id) v) same (fit.0.1 id v (ap (λ (x : Frame). x.variables id) same ∙ at))
       by_test false later e = later e
 
   kept_has : (c : Conf) (r : Root) (v : ValueTree) → ConfFits s c → kept s c r ≡ Some v → HasShape (root_shape s (functions_of c.below) c.top.function r) v
@@ -299,7 +297,7 @@ module _ (s : Setting) (right : ModuleFits s) where
   same_functions depth (b ∷ bs) g id v e = by_test (length bs == depth) (same_functions depth bs g id v) e
     where
       by_test : (t : Bool) → (call_at depth bs ≡ Some g → functions_of (with_call depth (with_variable id v g) bs) ≡ functions_of bs) → elim t [ true ↦ Some b.0 | false ↦ call_at depth bs ] ≡ Some g → functions_of (elim t [ true ↦ (with_variable id v g, b.1) ∷ bs | false ↦ b ∷ with_call depth (with_variable id v g) bs ]) ≡ functions_of (b ∷ bs)
-      by_test true later e = ap (λ (x : Frame). x.function ∷ functions_of bs) (sym (some_same b.0 g e))
+      by_test true later e = ap (λ (x : Frame). x.function ∷ functions_of bs) (sym (same_Some b.0 g e))
       by_test false later e = ap (λ fs. b.0.function ∷ fs) (later e)
 
   calls_with : (depth : ℕ) (bs : List (Frame × ℕ)) (g : Frame) (id : ℕ) (v : ValueTree) → CallsFit s bs → call_at depth bs ≡ Some g → HasShape (target_shape s g.function id) v → CallsFit s (with_call depth (with_variable id v g) bs)
@@ -307,7 +305,7 @@ module _ (s : Setting) (right : ModuleFits s) where
   calls_with depth (b ∷ bs) g id v fit e has = by_test (length bs == depth) (λ there. calls_with depth bs g id v fit.1 there has) e
     where
       by_test : (t : Bool) → (call_at depth bs ≡ Some g → CallsFit s (with_call depth (with_variable id v g) bs)) → elim t [ true ↦ Some b.0 | false ↦ call_at depth bs ] ≡ Some g → CallsFit s (elim t [ true ↦ (with_variable id v g, b.1) ∷ bs | false ↦ b ∷ with_call depth (with_variable id v g) bs ])
-      by_test true later e = let frame : FrameFits s (functions_of bs) g = subst (FrameFits s (functions_of bs)) (some_same b.0 g e) fit.0 in ((frame.0, variables_put g.function g.variables id v frame.1 has), fit.1)
+      by_test true later e = let frame : FrameFits s (functions_of bs) g = subst (FrameFits s (functions_of bs)) (same_Some b.0 g e) fit.0 in ((frame.0, variables_put g.function g.variables id v frame.1 has), fit.1)
       by_test false later e = (subst (λ fs. FrameFits s fs b.0) (sym (same_functions depth bs g id v e)) fit.0, later e)
 
   await_with : (depth : ℕ) (f : Function) (bs : List (Frame × ℕ)) (g : Frame) (id : ℕ) (v : ValueTree) → Await s f bs → call_at depth bs ≡ Some g → Await s f (with_call depth (with_variable id v g) bs)
@@ -315,7 +313,7 @@ module _ (s : Setting) (right : ModuleFits s) where
   await_with depth f (b ∷ bs) g id v wait e = by_test (length bs == depth) (await_with depth b.0.function bs g id v wait.1) e
     where
       by_test : (t : Bool) → (call_at depth bs ≡ Some g → Await s b.0.function (with_call depth (with_variable id v g) bs)) → elim t [ true ↦ Some b.0 | false ↦ call_at depth bs ] ≡ Some g → Await s f (elim t [ true ↦ (with_variable id v g, b.1) ∷ bs | false ↦ b ∷ with_call depth (with_variable id v g) bs ])
-      by_test true later e = subst (λ (x : Frame). ((value_shape s x.function b.1 ≡ result_shape s f) × IsLocal s b.1) × Await s x.function bs) (some_same b.0 g e) wait
+      by_test true later e = subst (λ (x : Frame). ((value_shape s x.function b.1 ≡ result_shape s f) × IsLocal s b.1) × Await s x.function bs) (same_Some b.0 g e) wait
       by_test false later e = (wait.0, later e)
 
   keeping_fits : (c : Conf) (r : Root) (v : ValueTree) → ConfFits s c → HasShape (root_shape s (functions_of c.below) c.top.function r) v → ConfFits s (keeping r v c)
@@ -416,7 +414,7 @@ module _ (s : Setting) (right : ModuleFits s) where
     where
       by_test : (t : Bool) → ((t ≡ true) × (p.0.0 ≡ id)) ⊎ ((t ≡ false) × (p.0.0 ≡ id → ⊥)) → IsLocal s p.0.0 × HeldFits s (c.function ∷ fs) g p.0.0 (passed depth k) → (argument_of ps (map (passed depth) hs) id ≡ Some h → IsLocal s id × HeldFits s (c.function ∷ fs) g id h)
           → elim t [ true ↦ Some (passed depth k) | false ↦ argument_of ps (map (passed depth) hs) id ] ≡ Some h → IsLocal s id × HeldFits s (c.function ∷ fs) g id h
-      by_test true (inl w) own_fits later at = subst (λ n. IsLocal s n × HeldFits s (c.function ∷ fs) g n h) w.1 (own_fits.0, subst (HeldFits s (c.function ∷ fs) g p.0.0) (some_same (passed depth k) h at) own_fits.1)
+      by_test true (inl w) own_fits later at = subst (λ n. IsLocal s n × HeldFits s (c.function ∷ fs) g n h) w.1 (own_fits.0, subst (HeldFits s (c.function ∷ fs) g p.0.0) (same_Some (passed depth k) h at) own_fits.1)
       by_test true (inr w) own_fits later at = cc
       by_test false (inl w) own_fits later at = cc
       by_test false (inr w) own_fits later at = later at

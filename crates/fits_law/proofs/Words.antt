@@ -3,6 +3,7 @@ use Rattle.std.proofs.Common.{◌≡◌, ◌≤◌, ◌+◌, ◌*◌, ◌-◌, �
 use Rattle.std.specs.Prelude.{flat_map}
 use Rattle.std.specs.List.{range_with_len}
 use Rattle.std.proofs.lemmas.List.{length-append, length-map}
+use Rattle.std.proofs.lemmas.Bool.{and_from}
 use Rattle.spv_module.specs.declared.tree.Elem.{Elem}
 use Rattle.spv_module.specs.declared.tree.Elem.TheVariants as elem
 use Rattle.spv_module.specs.declared.tree.Length.TheVariants.{Fixed, Spec}
@@ -10,7 +11,7 @@ use Rattle.spv_types.specs.Tree.{Tree, boolean, int, uint, vector, array, runtim
 use Rattle.spv_types.specs.Leaves.{leaf_count, leaf_counts, IsSized, AreSized}
 use Rattle.op_semantics.specs.Fits.{elem_tree, fits, fits_parts}
 use Rattle.value_words.specs.Words.{elem_from, parts_from, value_from, values_from, behind, scalar_paths, member_paths}
-use Rattle.fits_law.proofs.Parts.{EachFits, of_many, true_both}
+use Rattle.fits_law.proofs.Parts.{EachFits, of_many}
 
 elem_read : (e : Elem) (w : ℕ) → fits (elem_tree e) (elem_from e w) ≡ true
 elem_read elem.Bool w = refl
@@ -56,7 +57,7 @@ mutual
   pub reads_fit : (ts : Trees) (ws : List ℕ) → AreSized ts → leaf_counts ts ≤ length ws → fits_parts ts (values_from ts ws) ≡ true
   reads_fit no_trees ws s le = refl
   reads_fit (tree t ts) ws s le =
-      true_both (fits t (value_from t ws)) (fits_parts ts (values_from ts (drop (leaf_count t) ws))) (read_fits t ws s.0 (let first : leaf_count t ≤ length ws = omega (arith, le) in first))
+      and_from (fits t (value_from t ws)) (fits_parts ts (values_from ts (drop (leaf_count t) ws))) (read_fits t ws s.0 (let first : leaf_count t ≤ length ws = omega (arith, le) in first))
       (reads_fit ts (drop (leaf_count t) ws) s.1 (subst (λ m. leaf_counts ts ≤ m) (sym (dropped (leaf_count t) ws)) (let rest : leaf_counts ts ≤ length ws - leaf_count t = omega (arith, le) in rest)))
 
 -- as many scalars as indexes that lead to one

@@ -2,6 +2,7 @@
 use Rattle.std.proofs.Common.{◌≡◌, ◌<◌, ◌==◌, ◌&&◌, ℕ, suc, Bool, true, false, List, [], ◌∷◌, length, map, take, Option, Some, None, inl, inr, refl, sym, ap, ◌∙◌, subst, if◌then◌else◌, arith}
 use Rattle.std.specs.Prelude.{unwrap_or}
 use Rattle.std.specs.Option.{option_map_or}
+use Rattle.std.proofs.lemmas.Bool.{false_from_ne_true}
 use Rattle.spv_words.specs.Words.{insts, nth_inst}
 use Rattle.spv_words.specs.declared.rule.Rule.TheVariants.{P4}
 use Rattle.spv_words.specs.declared.words.Inst1.{Inst1}
@@ -43,14 +44,10 @@ abbrev pub AreStanding : Place → List Kind → Type 0
 AreStanding p [] = Unit {0}
 AreStanding p (k ∷ ks) = (is_stray p k ≡ false) × AreStanding (after p k) ks
 
-not_on : (b : Bool) → (b ≡ true → ⊥) → b ≡ false
-not_on false far = refl
-not_on true far = absurd (far refl)
-
 pub standing : (p : Place) (ks : List Kind) → ((k : ℕ) → k < length ks → is_stray (place_from p (take k ks)) (nth_kind ks k) ≡ true → ⊥) → AreStanding p ks
 standing p [] far = tt
 standing p (x ∷ ks) far = (
-  not_on (is_stray p x) (λ e. far 0 (let less : 0 < suc (length ks) = omega arith in less) e),
+  false_from_ne_true (is_stray p x) (λ e. far 0 (let less : 0 < suc (length ks) = omega arith in less) e),
   standing (after p x) ks (λ k less e. far (suc k) (let more : suc k < suc (length ks) = omega (arith, less) in more) e),
 )
 

@@ -2,6 +2,7 @@
 use Rattle.std.proofs.Common.{◌≡◌, ◌<◌, ◌+◌, ◌==◌, ◌&&◌, ℕ, zero, suc, Bool, true, false, List, [], ◌∷◌, length, map, drop, Option, Some, None, inl, inr, refl, sym, ap, subst, ◌∙◌, if◌then◌else◌, arith}
 use Rattle.std.specs.Prelude.{slice_get, unwrap_or}
 use Rattle.std.specs.Option.{option_map_or}
+use Rattle.std.proofs.lemmas.Bool.{true_from_ne_false}
 use Rattle.spv_words.specs.Words.{insts, nth_inst}
 use Rattle.spv_words.specs.declared.rule.Rule.TheVariants.{P4}
 use Rattle.spv_words.specs.declared.words.Inst1.{Inst1}
@@ -53,10 +54,6 @@ end_by : (o : Option Op) → is_terminator (unwrap_or o op.Nop) ≡ is_end_kind 
 end_by None = refl
 end_by (Some o) = end_op o
 
-not_off : (b : Bool) → (b ≡ false → ⊥) → b ≡ true
-not_off true far = refl
-not_off false far = absurd (far refl)
-
 -- what stands behind each instruction of a kind passes a test
 abbrev pub AreGood : Kind → (List Kind → Bool) → List Kind → Type 0
 AreGood at test [] = Unit {0}
@@ -65,7 +62,7 @@ AreGood at test (k ∷ ks) = (k ≡ at → test ks ≡ true) × AreGood at test 
 pub good : (at : Kind) (test : List Kind → Bool) (ks : List Kind) → ((k : ℕ) → k < length ks → nth_kind ks k ≡ at → test (drop (k + 1) ks) ≡ false → ⊥) → AreGood at test ks
 good at test [] far = tt
 good at test (x ∷ ks) far = (
-  λ e. not_off (test ks) (λ off. far 0 (let less : 0 < suc (length ks) = omega arith in less) e off),
+  λ e. true_from_ne_false (test ks) (λ off. far 0 (let less : 0 < suc (length ks) = omega arith in less) e off),
   good at test ks (λ k less e off.
       let next : suc k + 1 ≡ suc (k + 1) = omega arith in
       far (suc k) (let more : suc k < suc (length ks) = omega (arith, less) in more) e (subst (λ n. test (drop n (x ∷ ks)) ≡ false) (sym next) off)),

@@ -2,6 +2,7 @@
 use Rattle.std.proofs.Common.{◌≡◌, ◌<◌, ◌+◌, ◌==◌, ◌&&◌, not, ℕ, suc, Bool, true, false, List, [], ◌∷◌, ◌++◌, length, map, Option, Some, None, inl, inr, refl, ap, ◌∙◌, subst, if◌then◌else◌, arith}
 use Rattle.std.specs.Prelude.{◌⊎◌, flat_map, slice_index_or, unwrap_or}
 use Rattle.std.specs.Option.{option_map_or}
+use Rattle.std.proofs.lemmas.Bool.{false_from_ne_true}
 use Rattle.spv_words.specs.Words.{words, insts, nth_inst}
 use Rattle.spv_words.specs.declared.rule.Rule.TheVariants.{P1, P4}
 use Rattle.spv_words.specs.declared.words.Inst1.{Inst1}
@@ -31,7 +32,7 @@ use Rattle.spv_index.specs.Locals.{insts_of}
 use Rattle.module_check.specs.ReadFrom.{IsReadFrom}
 use Rattle.plan_law.specs.InOrder.{IsAmong}
 use Rattle.call_law.specs.Known.{IsFunctionOf}
-use Rattle.typed_law.proofs.Lists.{no_true, and_off}
+use Rattle.typed_law.proofs.Lists.{and_off}
 use Rattle.formed_law.proofs.Formed.{AreGood, good, inside}
 use Rattle.formed_law.proofs.Declares.{AreStanding, standing}
 
@@ -217,7 +218,7 @@ module _ (ws : List ℕ) where
       (have_of (functions ws)
       (have_from Outside (insts ws)
       (standing Outside (kinds ws) (λ k less e. form (nth_inst ws k).start (k, inside ws k less, refl, inl e)))
-      (all_known (insts ws) (λ k less. no_true (is_unknown ws (nth_inst ws k)) (λ on. ops (nth_inst ws k).start (k, less, refl, on))))
+      (all_known (insts ws) (λ k less. false_from_ne_true (is_unknown ws (nth_inst ws k)) (λ on. ops (nth_inst ws k).start (k, less, refl, on))))
       (good Opening_of is_function (kinds ws) (λ k less e off. form (nth_inst ws k).start (k, inside ws k less, refl, inr (inl (e, off)))))) f one) there
 
   pub frameless : IsUnbroken ws P1 → IsUnbroken ws P4 → (f : Function) → IsFunctionOf f (functions ws) → (i : Inst) → IsAmong i (insts_of f) → is_frame (group_of i.op) ≡ false

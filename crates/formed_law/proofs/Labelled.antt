@@ -4,6 +4,7 @@ use Rattle.std.specs.Prelude.{slice_get, slice_index_or, unwrap_or}
 use Rattle.std.specs.Option.{option_map_or}
 use Rattle.std.specs.List.{position_from}
 use Rattle.std.proofs.lemmas.Bool.Decides.{eqb_tells}
+use Rattle.std.proofs.lemmas.Bool.{false_from_ne_true}
 use Rattle.spv_words.specs.Words.{words, insts, nth_inst, is_at_fault}
 use Rattle.spv_words.specs.declared.words.Inst1.{Inst1}
 use Rattle.spv_ops.specs.Opcode.{number, op_of}
@@ -29,7 +30,6 @@ use Rattle.plan_law.specs.Distinct.{IsNone, AreDistinct}
 use Rattle.plan_law.proofs.Listed.{distinct}
 use Rattle.call_law.specs.Known.{IsFunctionOf}
 use Rattle.typed_law.specs.Conforms.{BreakNone}
-use Rattle.typed_law.proofs.Lists.{no_true}
 use Rattle.typed_law.proofs.Words.{formed}
 use Rattle.accepted_law.proofs.Accepted.{break_none}
 
@@ -163,8 +163,8 @@ module _ (ws : List ℕ) (entry : Option (List ℕ)) (right : BreakNone ws entry
       once_of (functions ws)
       (all_once ws (insts ws)
       (have_labels ws (insts ws) right.uncut (λ k less. (
-        no_true (is_unknown ws (nth_inst ws k)) (λ on. right.form.0 (nth_inst ws k).start (k, less, refl, on)),
-        no_true (is_misfit ws (nth_inst ws k)) (λ on. right.form.1.0 (nth_inst ws k).start (k, less, refl, on)),
+        false_from_ne_true (is_unknown ws (nth_inst ws k)) (λ on. right.form.0 (nth_inst ws k).start (k, less, refl, on)),
+        false_from_ne_true (is_misfit ws (nth_inst ws k)) (λ on. right.form.1.0 (nth_inst ws k).start (k, less, refl, on)),
         λ out. right.form.1.1.0 (nth_inst ws k).start (k, less, refl, inl out),
       )))
       (distinct ws right.form.1.1.0)) f one

@@ -4,6 +4,7 @@ use Rattle.std.specs.Prelude.{◌⊎◌, nat_le, is_some, option_map, option_and
 use Rattle.std.specs.Option.{option_map_or, option_or}
 use Rattle.std.specs.List.{list_any, list_all, zip, position_from}
 use Rattle.std.proofs.lemmas.Bool.Decides.{eqb_tells, nat_tests}
+use Rattle.std.proofs.lemmas.Bool.{not-false}
 use Rattle.spv_words.specs.declared.rule.Rule.TheVariants.{M5}
 use Rattle.spv_ops.specs.Opcode.{is, number}
 use Rattle.spv_ops.specs.Operands.{is_id}
@@ -54,7 +55,7 @@ use Rattle.type_law.proofs.Vectors.{three_off, five_off}
 use Rattle.call_law.specs.Frames.{makes_pointer}
 use Rattle.call_law.proofs.Lending.{no_true}
 use Rattle.typed_law.specs.Conforms.{IsConforming}
-use Rattle.typed_law.proofs.Lists.{or_left, or_right, and_off, not_off, clash, found_in, earlier_some, some_by, from_zero, at_least, none_by, any_at, none_at_fault}
+use Rattle.typed_law.proofs.Lists.{or_left, or_right, and_off, clash, found_in, earlier_some, some_by, from_zero, at_least, none_by, any_at, none_at_fault}
 use Rattle.typed_law.proofs.Rules.{global_there, pointed_type, operand_there, value_right, number_right, flow_right}
 use Rattle.typed_law.proofs.Types.{row_is}
 use Rattle.typed_law.proofs.Values.{IsRow, shape_of_row, value_type_has, inside, local_row, declared_by, type_row_of, one_type, same_type, value_sized, HasType, HasItsShape, typed_value, own_type, type_suits, typed_result, has_a_type, function_id, function_need, function_least, none_counted, vector_shaped}
@@ -225,7 +226,7 @@ no_class gs ty g at off =
 -- what rules tell of the type of an operand, and the type of its components
 test_on : (gs : List Inst) (test : Inst → Bool) (o : Option ℕ) (ty : ℕ) (g : Inst) → o ≡ Some ty → type_row gs ty ≡ Some g → option_map_or (fails test gs) o false ≡ false → test g ≡ true
 test_on gs test o ty g of_it at off =
-    not_off (test g) (ap (λ (x : Option Inst). option_map_or (λ (y : Inst). not (test y)) x false) (sym at) ∙ (ap (λ (x : Option ℕ). option_map_or (fails test gs) x false) (sym of_it) ∙ off))
+    not-false (test g) (ap (λ (x : Option Inst). option_map_or (λ (y : Inst). not (test y)) x false) (sym at) ∙ (ap (λ (x : Option ℕ). option_map_or (fails test gs) x false) (sym of_it) ∙ off))
 
 component_told : (gs : List Inst) (o : Option ℕ) (ty : ℕ) (g : Inst) → o ≡ Some ty → type_row gs ty ≡ Some g → is_vector g ≡ true → option_and_then (component gs) o ≡ Some (word g 0)
 component_told gs o ty g of_it at on = ap (option_and_then (component gs)) of_it ∙ (ap (option_and_then component_if) at ∙ ap (λ (b : Bool). if b then Some (word g 0) else None) on)
@@ -392,7 +393,7 @@ module _ (s : Setting) (entry : Option (List ℕ)) (right : IsConforming s.of en
           let many : 1 ≤ length i.args = at_least 1 (length i.args) (least_of code.CopyLogical same) in
           let few : 0 < length i.args = omega (arith, many) in
           let w = operand_of code.CopyLogical same 0 few (from_zero 0) refl in
-          let on : do_match Gs w.0 i.ty ≡ true = not_off (do_match Gs w.0 i.ty) (ap (λ (o : Option ℕ). option_map_or (λ (ty : ℕ). not (do_match Gs ty i.ty)) o false) (sym w.1) ∙ told) in
+          let on : do_match Gs w.0 i.ty ≡ true = not-false (do_match Gs w.0 i.ty) (ap (λ (o : Option ℕ). option_map_or (λ (ty : ℕ). not (do_match Gs ty i.ty)) o false) (sym w.1) ∙ told) in
           let g = type_row_of s entry right f in_it (word i 0) w.0 w.1 in
           let match : (((g.0.result == i.ty) && not (is_void g.0)) || do_parts_match Gs (match_before Gs g.0.at) g.0 row.0) ≡ true
           = ap (λ (o : Option Inst). option_map_or (λ (x : Inst). ((g.0.result == i.ty) && not (is_void g.0)) || do_parts_match Gs (match_before Gs g.0.at) g.0 x) o true) (sym row_at)

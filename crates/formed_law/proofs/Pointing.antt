@@ -1,7 +1,8 @@
 -- The chains of a conforming module are as the law of paths asks: they stand in order, lead from pointers, and what makes no pointer has none.
-use Rattle.std.proofs.Common.{◌≡◌, ◌≢◌, ◌==◌, ◌&&◌, ◌||◌, not, ℕ, Bool, true, false, List, Option, Some, refl, sym, ap, ◌∙◌, subst}
+use Rattle.std.proofs.Common.{◌≡◌, ◌≢◌, ◌==◌, ◌&&◌, ◌||◌, not, ℕ, true, false, List, Option, Some, refl, sym, ap, ◌∙◌, subst}
 use Rattle.std.specs.Prelude.{is_some, Contains}
 use Rattle.std.specs.Option.{option_map_or}
+use Rattle.std.proofs.lemmas.Bool.{and_from, or_right as either_on, not-false}
 use Rattle.spv_words.specs.Words.{words}
 use Rattle.spv_ops.specs.Opcode.{is}
 use Rattle.spv_ops.specs.Groups.{is_chain}
@@ -36,7 +37,7 @@ use Rattle.path_law.specs.Chains.{is_global, ChainsAreRight}
 use Rattle.path_law.proofs.Based.{chain_op}
 use Rattle.path_law.proofs.Order.{chains_rise}
 use Rattle.typed_law.specs.Conforms.{BreakNone, IsConformingIn, IsConforming}
-use Rattle.typed_law.proofs.Lists.{and_off, or_right, not_off}
+use Rattle.typed_law.proofs.Lists.{and_off, or_right}
 use Rattle.typed_law.proofs.Rules.{class_right}
 use Rattle.typed_law.proofs.Values.{inside, own_local, typed_result, among_functions}
 use Rattle.typed_law.proofs.Words.{conforms}
@@ -53,14 +54,6 @@ chain_result o on = cc
 
 no_both : variable ≡ chain → ⊥
 no_both e = cc
-
-either_on : (a b : Bool) → b ≡ true → (a || b) ≡ true
-either_on true b on = refl
-either_on false b on = on
-
-both_on : (a b : Bool) → a ≡ true → b ≡ true → (a && b) ≡ true
-both_on true true p q = refl
-both_on a b p q = cc
 
 -- what is found is one
 one_found : (a b : Inst) → Some a ≡ Some b → a ≡ b
@@ -93,10 +86,10 @@ module _ (s : Setting) (entry : Option (List ℕ)) (right : IsConforming s.of en
     variable_own i there kind =
         let on = (variable_op i.op kind).0 in
         let told = and_off (is i.op code.Variable) (is_other_class s.of.globals i || not (word i 0 == class_number storage.Function)) (class_right s.of entry right i (among_functions s.of.functions f i in_it there)) on in
-        let class = not_off (word i 0 == class_number storage.Function) (or_right (is_other_class s.of.globals i) (not (word i 0 == class_number storage.Function)) told) in
+        let class = not-false (word i 0 == class_number storage.Function) (or_right (is_other_class s.of.globals i) (not (word i 0 == class_number storage.Function)) told) in
         let at : inst_in f i.result ≡ Some i = found i (insts_of f) own.order.apart there (variable_some i there kind) in
         either_on (is_some (parameter_in f i.result)) (option_map_or (λ (x : Inst). (is x.op code.Variable) && (word x 0 == class_number storage.Function)) (inst_in f i.result) false)
-        (ap (λ (o : Option Inst). option_map_or (λ (x : Inst). (is x.op code.Variable) && (word x 0 == class_number storage.Function)) o false) at ∙ both_on (is i.op code.Variable) (word i 0 == class_number storage.Function) on class)
+        (ap (λ (o : Option Inst). option_map_or (λ (x : Inst). (is x.op code.Variable) && (word x 0 == class_number storage.Function)) o false) at ∙ and_from (is i.op code.Variable) (word i 0 == class_number storage.Function) on class)
 
   pub chains_right : ChainsAreRight s
   chains_right = record {

@@ -4,6 +4,7 @@ use Rattle.std.specs.Prelude.{bytes_eq, flat_map, unwrap_or}
 use Rattle.std.specs.List.{enumerate_from}
 use Rattle.std.proofs.lemmas.List.Concat.{flat_map-cons}
 use Rattle.std.proofs.lemmas.Slice.Eq.{bytes_eq-Decides}
+use Rattle.std.proofs.lemmas.Option.{same_Some}
 use Rattle.spv_ops.specs.Opcode.{is}
 use Rattle.spv_module.specs.Lists.{id}
 use Rattle.spv_module.specs.declared.inst.Inst.{Inst}
@@ -46,9 +47,6 @@ use Rattle.global_law.specs.Sources.{source_of}
 use Rattle.global_law.specs.Names.{names_of, IsDeclared}
 use Rattle.global_law.proofs.BuiltIns.{AreOtherNames, items_keep}
 use Rattle.global_law.proofs.Declared.{named_type, outline_same}
-
-some_same : {A : Type 0} (a b : A) → Some a ≡ Some b → a ≡ b
-some_same a b e = cc
 
 bytes_same : (w : Text) → bytes_eq w w ≡ true
 bytes_same w = (bytes_eq-Decides w w).1 refl
@@ -97,7 +95,7 @@ module _ (s : Setting) (f : Function) (overrides : List (ℕ × Given)) (key : K
 
   -- the members of a block
   members_declared : (p : Program) (v g : Inst) (k : ℕ) (ids : List ℕ) (ts : Trees) → all_trees (tree_before Gs g.at) ids ≡ Some ts → AreDeclared p ts → members_of p (map (member_decl source N v g) (enumerate_from k ids)) ≡ members_in s (struct_names key) g.result k ts
-  members_declared p v g k [] ts all are = subst (λ us. [] ≡ members_in s (struct_names key) g.result k us) (some_same no_trees ts all) refl
+  members_declared p v g k [] ts all are = subst (λ us. [] ≡ members_in s (struct_names key) g.result k us) (same_Some no_trees ts all) refl
   members_declared p v g k (n ∷ ns) ts all are = by_parts (tree_before Gs g.at n) refl (all_trees (tree_before Gs g.at) ns) refl all are (λ us more there. members_declared p v g (k + 1) ns us more there)
     where
       by_parts : (o : Option Tree) → tree_before Gs g.at n ≡ o → (q : Option Trees) → all_trees (tree_before Gs g.at) ns ≡ q → both o q ≡ Some ts → AreDeclared p ts
@@ -106,7 +104,7 @@ module _ (s : Setting) (f : Function) (overrides : List (ℕ × Given)) (key : K
       by_parts None is q more e are later = cc
       by_parts (Some t) is None more e are later = cc
       by_parts (Some t) is (Some us) more e are later =
-          let whole : tree t us ≡ ts = some_same (tree t us) ts e in
+          let whole : tree t us ≡ ts = same_Some (tree t us) ts e in
           let there : AreDeclared p (tree t us) = subst (AreDeclared p) (sym whole) are in
           subst (λ q. members_of p (map (member_decl source N v g) (enumerate_from k (n ∷ ns))) ≡ members_in s (struct_names key) g.result k q) whole
           (ap₂ (λ o ms. with_member (N.member g.result k) (offset k) o ms) (type_declared p n t (earlier_is s f g.at n t is) there.0) (later us more there.1))

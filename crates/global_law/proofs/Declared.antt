@@ -3,6 +3,7 @@ use Rattle.std.proofs.Common.{◌≡◌, ◌⊎◌, ◌==◌, ◌&&◌, ℕ, zer
 use Rattle.std.specs.Prelude.{nat_le, option_map, slice_index}
 use Rattle.std.specs.Option.{option_map_or}
 use Rattle.std.proofs.lemmas.Bool.Decides.{eqb_tells}
+use Rattle.std.proofs.lemmas.Option.{same_Some}
 use Rattle.spv_ops.specs.Opcode.{is, number}
 use Rattle.spv_ops.specs.declared.Op.{Op}
 use Rattle.spv_ops.specs.declared.Op.TheVariants as code
@@ -34,16 +35,13 @@ use Rattle.path_law.specs.Parts.{shape_in}
 use Rattle.path_law.specs.Walks.{struct_names}
 use Rattle.global_law.specs.Names.{IsDeclared}
 
-some_same : {A : Type 0} (a b : A) → Some a ≡ Some b → a ≡ b
-some_same a b e = cc
-
 -- an extent before a type
 extent_is : (p : Program) (x : Extent) (t : TypeName) (u : Shape) → type_of p t ≡ Some u → type_of p (types.with_extent x t) ≡ Some (with_extent p x u)
 extent_is p x (type_name b es) u e = by_base (base_shape p b) e
   where
     by_base : (o : Option Shape) → option_map (with_extents p es) o ≡ Some u → option_map (with_extents p (x ∷ es)) o ≡ Some (with_extent p x u)
     by_base None e = cc
-    by_base (Some v) e = ap (λ q. Some (with_extent p x q)) (some_same (with_extents p es v) u e)
+    by_base (Some v) e = ap (λ q. Some (with_extent p x q)) (same_Some (with_extents p es v) u e)
 
 -- the name of a shape's type
 pub named_type : (p : Program) (s : Setting) (source : Source) (key : Key → Text) (t : Tree) → IsDeclared p s source key t → type_of p (type_text (spelling source (λ n. key (Id (id n)))) t) ≡ Some (shape_in s (struct_names key) t)
@@ -65,12 +63,12 @@ named_type p s source key (plain.struct n ts) is = ap (λ o. option_map (with_ex
 -- the length of an array, in its shape and in the outline by which it is named
 constant_op : (o : Op) (n w : ℕ) (l : Length) → length_of o n w ≡ Some l → (if is o code.Constant then Fixed w else Spec (id n)) ≡ l
 unfolding number
-constant_op code.Constant n w l e = some_same (Fixed w) l e
-constant_op code.SpecConstantTrue n w l e = some_same (Spec (id n)) l e
-constant_op code.SpecConstantFalse n w l e = some_same (Spec (id n)) l e
-constant_op code.SpecConstant n w l e = some_same (Spec (id n)) l e
-constant_op code.SpecConstantComposite n w l e = some_same (Spec (id n)) l e
-constant_op code.SpecConstantOp n w l e = some_same (Spec (id n)) l e
+constant_op code.Constant n w l e = same_Some (Fixed w) l e
+constant_op code.SpecConstantTrue n w l e = same_Some (Spec (id n)) l e
+constant_op code.SpecConstantFalse n w l e = same_Some (Spec (id n)) l e
+constant_op code.SpecConstant n w l e = same_Some (Spec (id n)) l e
+constant_op code.SpecConstantComposite n w l e = same_Some (Spec (id n)) l e
+constant_op code.SpecConstantOp n w l e = same_Some (Spec (id n)) l e
 constant_op o n w l e = cc
 
 length_same : (gs : List Inst) (n : ℕ) (l : Length) → length_by n (global gs n) ≡ Some l → length_at gs n ≡ l
@@ -83,18 +81,18 @@ length_same gs n l e = by_global (global gs n) e
 module _ (sp : Spelling) (gs : List Inst) where
   -- one type, from those before it
   step_same : (f : ℕ → Option Tree) (h : ℕ → Tree) (g : Inst) (t : Tree) → ((k : ℕ) (u : Tree) → f k ≡ Some u → type_text sp (h k) ≡ type_text sp u) → tree_at gs g ≡ Some t → (k : TypeKind) → tree_by_kind gs f g k ≡ Some t → type_text sp (outline_by gs h g k) ≡ type_text sp t
-  step_same f h g t before at kinds.Bool e = ap (λ o. type_text sp (basic_of o)) at ∙ ap (λ a. type_text sp (basic_of (Some a))) (sym (some_same plain.boolean t e)) ∙ ap (type_text sp) (some_same plain.boolean t e)
+  step_same f h g t before at kinds.Bool e = ap (λ o. type_text sp (basic_of o)) at ∙ ap (λ a. type_text sp (basic_of (Some a))) (sym (same_Some plain.boolean t e)) ∙ ap (type_text sp) (same_Some plain.boolean t e)
   step_same f h g t before at kinds.Int e = ap (λ o. type_text sp (basic_of o)) at ∙ by_width (slice_index g.args 0 == 32) (slice_index g.args 1 == 0) (slice_index g.args 1 == 1) e
     where
       by_width : (w a b : Bool) → (if w then (if a then Some plain.uint else (if b then Some plain.int else None)) else None) ≡ Some t → type_text sp (basic_of (Some t)) ≡ type_text sp t
-      by_width true true b e = subst (λ q. type_text sp (basic_of (Some q)) ≡ type_text sp q) (some_same plain.uint t e) refl
-      by_width true false true e = subst (λ q. type_text sp (basic_of (Some q)) ≡ type_text sp q) (some_same plain.int t e) refl
+      by_width true true b e = subst (λ q. type_text sp (basic_of (Some q)) ≡ type_text sp q) (same_Some plain.uint t e) refl
+      by_width true false true e = subst (λ q. type_text sp (basic_of (Some q)) ≡ type_text sp q) (same_Some plain.int t e) refl
       by_width true false false e = cc
       by_width false a b e = cc
   step_same f h g t before at kinds.Vector e = ap (λ o. type_text sp (basic_of o)) at ∙ by_part (f (slice_index g.args 0)) e
     where
       by_size : (d : Elem) (a b : Bool) → (if a && b then Some (plain.vector d (slice_index g.args 1)) else None) ≡ Some t → type_text sp (basic_of (Some t)) ≡ type_text sp t
-      by_size d true true h = subst (λ q. type_text sp (basic_of (Some q)) ≡ type_text sp q) (some_same (plain.vector d (slice_index g.args 1)) t h) refl
+      by_size d true true h = subst (λ q. type_text sp (basic_of (Some q)) ≡ type_text sp q) (same_Some (plain.vector d (slice_index g.args 1)) t h) refl
       by_size d true false h = cc
       by_size d false b h = cc
 
@@ -111,17 +109,17 @@ module _ (sp : Spelling) (gs : List Inst) where
       by_part None there q is e = cc
       by_part (Some x) there None is e = cc
       by_part (Some x) there (Some l) is e =
-          ap₂ (λ a b. types.with_extent (sp.length a) b) (length_same gs (slice_index g.args 1) l is) (before (slice_index g.args 0) x there) ∙ ap (type_text sp) (some_same (plain.array x l) t e)
+          ap₂ (λ a b. types.with_extent (sp.length a) b) (length_same gs (slice_index g.args 1) l is) (before (slice_index g.args 0) x there) ∙ ap (type_text sp) (same_Some (plain.array x l) t e)
   step_same f h g t before at kinds.Runtime e = by_part (f (slice_index g.args 0)) refl e
     where
       by_part : (o : Option Tree) → f (slice_index g.args 0) ≡ o → option_map plain.runtime o ≡ Some t → type_text sp (plain.runtime (h (slice_index g.args 0))) ≡ type_text sp t
       by_part None there e = cc
-      by_part (Some x) there e = ap (types.with_extent open_end) (before (slice_index g.args 0) x there) ∙ ap (type_text sp) (some_same (plain.runtime x) t e)
+      by_part (Some x) there e = ap (types.with_extent open_end) (before (slice_index g.args 0) x there) ∙ ap (type_text sp) (same_Some (plain.runtime x) t e)
   step_same f h g t before at kinds.Struct e = by_parts (all_trees f g.args) e
     where
       by_parts : (o : Option Trees) → option_map (plain.struct g.result) o ≡ Some t → type_text sp (plain.struct g.result no_trees) ≡ type_text sp t
       by_parts None e = cc
-      by_parts (Some ts) e = ap (type_text sp) (some_same (plain.struct g.result ts) t e)
+      by_parts (Some ts) e = ap (type_text sp) (same_Some (plain.struct g.result ts) t e)
   step_same f h g t before at kinds.Other e = cc
 
   before_same : (n k : ℕ) (t : Tree) → tree_before gs n k ≡ Some t → type_text sp (outline_before gs n k) ≡ type_text sp t

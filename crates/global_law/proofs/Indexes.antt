@@ -1,6 +1,7 @@
 -- Constants as indexes: a literal is the word of the constant, and says it; so does a name that stands for its value.
 use Rattle.std.proofs.Common.{◌≡◌, ◌&&◌, ℕ, Bool, true, false, List, [], Option, Some, None, refl, sym, ap, ◌∙◌, if◌then◌else◌}
 use Rattle.std.specs.Prelude.{option_and_then, unwrap_or}
+use Rattle.std.proofs.lemmas.Bool.{and_parts}
 use Rattle.spv_module.specs.Held.{global as global_inst}
 use Rattle.spv_module.specs.declared.inst.Inst.{Inst}
 use Rattle.spv_module.specs.declared.inst.Function.{Function}
@@ -33,10 +34,6 @@ use Rattle.path_law.proofs.Starts.{outside_is}
 use Rattle.global_law.specs.Sources.{source_of, chosen}
 use Rattle.global_law.proofs.Plain.{plain_has, plain_says}
 
-both_true : (a b : Bool) → (a && b) ≡ true → (a ≡ true) × (b ≡ true)
-both_true true b e = (refl, e)
-both_true false b e = cc
-
 plain_reading : (r : Reading) → is_plain r ≡ true → r ≡ Plain
 plain_reading Plain e = refl
 plain_reading Named e = cc
@@ -61,8 +58,8 @@ module _ (s : Setting) (overrides : List (ℕ × Given)) (have : HasConstants s 
     where
       by_test : (g : Inst) (b : Bool) → (is_constant g && (is_plain (reading (source_of s overrides) g) && is_number (option_and_then elem_of (type_tree s.of.globals g.ty)))) ≡ b → global_inst s.of.globals n ≡ Some g → (if b then Some (word_of (plain_value (source_of s overrides) g)) else None) ≡ Some l → l ≡ i
       by_test g true on there e =
-          let parts = both_true (is_constant g) _ on in
-          let reads = plain_reading (reading (source_of s overrides) g) (both_true (is_plain (reading (source_of s overrides) g)) _ parts.1).0 in
+          let parts = and_parts (is_constant g) _ on in
+          let reads = plain_reading (reading (source_of s overrides) g) (and_parts (is_plain (reading (source_of s overrides) g)) _ parts.1).0 in
           let c = plain_has s overrides have results n g (word i) there reads has in
           let same : word_of (plain_value (source_of s overrides) g) ≡ l = cc in
           sym same ∙ ap word_of c.value

@@ -2,6 +2,7 @@
 use Rattle.std.proofs.Common.{◌≡◌, ◌++◌, ℕ, true, false, List, [], ◌∷◌, Option, Some, None, refl, sym, ap, ap₂, ◌∙◌}
 use Rattle.std.specs.Prelude.{bytes_eq, flat_map, option_map, unwrap_or}
 use Rattle.std.proofs.lemmas.Slice.Eq.{bytes_eq-Decides}
+use Rattle.std.proofs.lemmas.Option.{same_Some}
 use Rattle.spv_module.specs.Held.{global}
 use Rattle.spv_module.specs.Lists.{id}
 use Rattle.spv_module.specs.declared.inst.Inst.{Inst}
@@ -37,9 +38,6 @@ use Rattle.global_law.proofs.Blocks.{declared_between, item_there, type_declared
 use Rattle.global_law.proofs.Zeros.{HasZero, is_declared, zero_says}
 use Rattle.global_law.proofs.Privates.{own_value}
 
-some_same : {A : Type 0} (a b : A) → Some a ≡ Some b → a ≡ b
-some_same a b e = cc
-
 module _ (s : Setting) (overrides : List (ℕ × Given)) (key : Key → Text) (calculated : Inst → Expr) where
   abbrev source : Source
   source = source_of s overrides
@@ -54,10 +52,10 @@ module _ (s : Setting) (overrides : List (ℕ × Given)) (key : Key → Text) (c
   null_value : HasConstants s (chosen s overrides) → HaveResults s.of.globals → (n : ℕ) (g : Inst) (t : Tree) (a : ValueTree) → global s.of.globals n ≡ Some g → constant_kind g.op ≡ kinds.Zero → type_tree s.of.globals g.ty ≡ Some t → s.constants n ≡ Some a → zero_of t ≡ a
   null_value have results n g t a there kind shape has =
       let c = constant_of s (chosen s overrides) have results n a has in
-      let same : c.0 ≡ g = some_same c.0 g (sym c.3 ∙ there) in
-      let typed_as : c.2 ≡ t = some_same c.2 t (sym c.4 ∙ ap (λ (x : Inst). type_tree s.of.globals x.ty) same ∙ shape) in
+      let same : c.0 ≡ g = same_Some c.0 g (sym c.3 ∙ there) in
+      let typed_as : c.2 ≡ t = same_Some c.2 t (sym c.4 ∙ ap (λ (x : Inst). type_tree s.of.globals x.ty) same ∙ shape) in
       let zero : constant_kind c.0.op ≡ kinds.Zero = ap (λ (x : Inst). constant_kind x.op) same ∙ kind in
-      ap zero_of (sym typed_as) ∙ some_same (zero_of c.2) a (ap (value_by_kind c.1 (chosen s overrides c.0.result) c.2 c.0.args) (sym zero) ∙ c.6)
+      ap zero_of (sym typed_as) ∙ same_Some (zero_of c.2) a (ap (value_by_kind c.1 (chosen s overrides c.0.result) c.2 c.0.args) (sym zero) ∙ c.6)
 
   -- the item of a constant whose expression says its value, and which is told no word
   pub given_item : (f : Function) (d : Declared) (g : Inst) (t : Tree) (a : ValueTree) → free_spec_id source g.result ≡ None → type_tree s.of.globals g.ty ≡ Some t → HasZero d.program s source key t → known_value d.program d.globals (shape_in s Y t) (value_by source N g (constant_kind g.op)) ≡ Some (typed (shape_in s Y t) a)

@@ -3,6 +3,8 @@ use Rattle.std.proofs.Common.{◌≡◌, ◌^◌, ◌&&◌, ℕ, Bool, true, fal
 use Rattle.std.specs.Prelude.{◌==◌, not, nat_lt, is_some, option_map, option_and_then, unwrap_or}
 use Rattle.std.specs.Option.{option_map_or, option_or}
 use Rattle.std.specs.List.{position_from}
+use Rattle.std.proofs.lemmas.Bool.{and_parts, not-true}
+use Rattle.std.proofs.lemmas.Option.{same_Some}
 use Rattle.spv_ops.specs.Opcode.{is, number}
 use Rattle.spv_ops.specs.declared.Op.{Op}
 use Rattle.spv_ops.specs.declared.Op.TheVariants as code
@@ -33,9 +35,6 @@ use Rattle.type_law.proofs.Constants.{constant_of}
 use Rattle.path_law.specs.Parts.{StructNames, shape_in}
 use Rattle.global_law.specs.Sources.{source_of, chosen}
 
-some_same : {A : Type 0} (a b : A) → Some a ≡ Some b → a ≡ b
-some_same a b e = cc
-
 -- what is read by its literal: no composite of the size, without a SpecId that is free, of a scalar type, and not calculated
 pub record IsPlain (s : Setting) (overrides : List (ℕ × Given)) (g : Inst) : Type 0 where
   pub bound : free_spec_id (source_of s overrides) g.result ≡ None
@@ -44,20 +43,12 @@ pub record IsPlain (s : Setting) (overrides : List (ℕ × Given)) (g : Inst) : 
   pub scalar : is_scalar shape ≡ true
   pub made : is g.op code.SpecConstantOp ≡ false
 
-both_true : (a b : Bool) → (a && b) ≡ true → (a ≡ true) × (b ≡ true)
-both_true true b e = (refl, e)
-both_true false b e = cc
-
-not_true : (a : Bool) → not a ≡ true → a ≡ false
-not_true true e = cc
-not_true false e = refl
-
 pub plain_is : (s : Setting) (overrides : List (ℕ × Given)) (g : Inst) → reading (source_of s overrides) g ≡ Plain → IsPlain s overrides g
 plain_is s overrides g e = by_size (is_size_composite s.of.heads g) e
   where
     by_shape : (o : Option Tree) → type_tree s.of.globals g.ty ≡ o → free_spec_id (source_of s overrides) g.result ≡ None → (option_map_or is_scalar o false && not (is g.op code.SpecConstantOp)) ≡ true → IsPlain s overrides g
     by_shape None shaped free e = cc
-    by_shape (Some t) shaped free e = let parts = both_true (is_scalar t) (not (is g.op code.SpecConstantOp)) e in record { bound = free; shape = t; typed_as = shaped; scalar = parts.0; made = not_true (is g.op code.SpecConstantOp) parts.1 }
+    by_shape (Some t) shaped free e = let parts = and_parts (is_scalar t) (not (is g.op code.SpecConstantOp)) e in record { bound = free; shape = t; typed_as = shaped; scalar = parts.0; made = not-true (is g.op code.SpecConstantOp) parts.1 }
 
     by_literal : (b : Bool) → has_literal (source_of s overrides) g ≡ b → free_spec_id (source_of s overrides) g.result ≡ None → reading_by_literal b ≡ Plain → IsPlain s overrides g
     by_literal true is free e = by_shape (type_tree s.of.globals g.ty) refl free is
@@ -97,7 +88,7 @@ module _ (s : Setting) (overrides : List (ℕ × Given)) (have : HasConstants s 
   -- a composite is no scalar
   no_scalar : (t : Tree) (o : Option (List ValueTree)) (v : ValueTree) → is_scalar t ≡ true → fits t v ≡ true → option_map composite o ≡ Some v → ⊥
   no_scalar t None v on fit e = cc
-  no_scalar t (Some vs) v on fit e = by_shape t on (subst (λ x. fits t x ≡ true) (sym (some_same (composite vs) v e)) fit)
+  no_scalar t (Some vs) v on fit e = by_shape t on (subst (λ x. fits t x ≡ true) (sym (same_Some (composite vs) v e)) fit)
     where
       by_shape : (t : Tree) → is_scalar t ≡ true → fits t (composite vs) ≡ true → ⊥
       by_shape plain.boolean on fit = cc
@@ -122,9 +113,9 @@ module _ (s : Setting) (overrides : List (ℕ × Given)) (have : HasConstants s 
   pub plain_has : (id : ℕ) (g : Inst) (v : ValueTree) → global s.of.globals id ≡ Some g → reading (source_of s overrides) g ≡ Plain → s.constants id ≡ Some v → HasPlain id g v
   plain_has id g v there reads has =
       let c = constant_of s (chosen s overrides) have results id v has in
-      let same : c.0 ≡ g = some_same c.0 g (sym c.3 ∙ there) in
+      let same : c.0 ≡ g = same_Some c.0 g (sym c.3 ∙ there) in
       let p = plain_is s overrides g reads in
-      let shape : c.2 ≡ p.shape = some_same c.2 p.shape (sym c.4 ∙ ap (λ (x : Inst). type_tree s.of.globals x.ty) same ∙ p.typed_as) in
+      let shape : c.2 ≡ p.shape = same_Some c.2 p.shape (sym c.4 ∙ ap (λ (x : Inst). type_tree s.of.globals x.ty) same ∙ p.typed_as) in
       let fit : fits p.shape v ≡ true = subst (λ t. fits t v ≡ true) shape c.5 in
       let made : value_by_kind c.1 (chosen s overrides g.result) p.shape g.args (constant_kind g.op) ≡ Some v
       = ap (λ (x : Inst). value_by_kind c.1 (chosen s overrides x.result) p.shape x.args (constant_kind x.op)) (sym same) ∙ ap (λ t. value_by_kind c.1 (chosen s overrides c.0.result) t c.0.args (constant_kind c.0.op)) (sym shape) ∙ c.6 in

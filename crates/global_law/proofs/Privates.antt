@@ -3,6 +3,7 @@ use Rattle.std.proofs.Common.{◌≡◌, ◌++◌, ℕ, true, false, List, [], �
 use Rattle.std.specs.Prelude.{bytes_eq, flat_map, option_and_then, option_map, slice_get, unwrap_or}
 use Rattle.std.specs.Option.{option_map_or}
 use Rattle.std.proofs.lemmas.Slice.Eq.{bytes_eq-Decides}
+use Rattle.std.proofs.lemmas.Option.{same_Some}
 use Rattle.spv_module.specs.Held.{global as global_inst}
 use Rattle.spv_module.specs.Lists.{id}
 use Rattle.spv_module.specs.declared.inst.Inst.{Inst}
@@ -41,9 +42,6 @@ use Rattle.global_law.proofs.Told.{if_own}
 use Rattle.global_law.proofs.Zeros.{HasZero, same_itself, zero_says}
 use Rattle.path_law.proofs.Starts.{outside_is}
 use Rattle.global_law.proofs.Blocks.{declared_between, items_more, type_declared}
-
-some_same : {A : Type 0} (a b : A) → Some a ≡ Some b → a ≡ b
-some_same a b e = cc
 
 -- the item declares no variable of this name
 abbrev pub IsOtherVariable : Text → Decl → Type 0
@@ -108,8 +106,8 @@ module _ (s : Setting) (overrides : List (ℕ × Given)) (key : Key → Text) (c
       let z : State = record { frames = []; globals = globals; answers = [] } in
       let says = plain_says s overrides have results p no_calls z Y N.id n g a there reads has in
       let c = plain_has s overrides have results n g a there reads has in
-      let same : says.0 ≡ t = some_same says.0 t (sym says.1 ∙ shape) in
-      let on : is_scalar t ≡ true = ap is_scalar (some_same t c.shape (sym shape ∙ c.typed_as)) ∙ c.scalar in
+      let same : says.0 ≡ t = same_Some says.0 t (sym says.1 ∙ shape) in
+      let on : is_scalar t ≡ true = ap is_scalar (same_Some t c.shape (sym shape ∙ c.typed_as)) ∙ c.scalar in
       let written : initial source N v ≡ constant_expr source N.id g = ap (λ o. option_map_or (expr_at source N) o (zero_at source N (pointee_at source v.ty))) second ∙ ap (λ o. option_map_or (constant_expr source N.id) o (literal (Uint 0))) there in
       ap (known_value p globals (shape_in s Y t)) written ∙ ap (known_if (shape_in s Y t)) says.2 ∙ ap (λ u. known_if (shape_in s Y t) (got [] (typed (shape_in s Y u) a, z))) same ∙ if_own s Y t a on
 
@@ -145,7 +143,7 @@ module _ (s : Setting) (overrides : List (ℕ × Given)) (key : Key → Text) (c
       by_args : (args : List ℕ) → slice_get args 1 ≡ Some n → initial_by s (type_tree s.of.globals (variable_type s v)) args ≡ s.constants n
       by_args [] e = cc
       by_args (c ∷ []) e = cc
-      by_args (c ∷ i ∷ rest) e = ap s.constants (some_same i n e)
+      by_args (c ∷ i ∷ rest) e = ap s.constants (same_Some i n e)
 
   pub zero_first : (m : ℕ) (v : Inst) (t : Tree) → global_variable s m ≡ Some v → slice_get v.args 1 ≡ None → type_tree s.of.globals (variable_type s v) ≡ Some t → initial_private s m ≡ Some (zero_of t)
   zero_first m v t there none shape = ap (option_and_then (begins s)) there ∙ by_args v.args none

@@ -6,6 +6,7 @@ use Rattle.std.specs.List.{list_any, enumerate_from, position_from}
 use Rattle.std.proofs.lemmas.Bool.Decides.{eqb_tells}
 use Rattle.std.proofs.lemmas.List.Concat.{flat_map-cons}
 use Rattle.std.proofs.lemmas.Slice.Eq.{bytes_eq-Decides}
+use Rattle.std.proofs.lemmas.Bool.{and_parts, and_left}
 use Rattle.spv_ops.specs.Opcode.{is, number}
 use Rattle.spv_ops.specs.Enumerants.{class_number}
 use Rattle.spv_ops.specs.Operands.{is_id}
@@ -154,10 +155,6 @@ operand_same n i = any_same (λ (p : ℕ × ℕ). is_id i.op i.args p.0 && (p.1 
 pub mentioned_same : (fs : List Function) (n : ℕ) → is_operand_in fs n ≡ list_any (λ (f : Function). list_any (settings.has_operand n) (insts_of f)) fs
 mentioned_same fs n = any_same (λ (f : Function). list_any (λ (i : Inst). has_operand i n) (insts_of f)) (λ (f : Function). list_any (settings.has_operand n) (insts_of f)) fs (λ f. any_same (λ (i : Inst). has_operand i n) (settings.has_operand n) (insts_of f) (operand_same n))
 
-first_off : (a b : Bool) → a ≡ false → (a && b) ≡ false
-first_off true b e = cc
-first_off false b e = refl
-
 no_other : (b : Bool) (o : Option Inst) → b ≡ false → (if b then o else None) ≡ None
 no_other true o e = cc
 no_other false o e = refl
@@ -176,10 +173,6 @@ abbrev pub HaveBlocks : Setting → List Inst → Type 0
 HaveBlocks s [] = Unit {0}
 HaveBlocks s (g ∷ gs) = HasBlock s g × HaveBlocks s gs
 
-both_true : (a b : Bool) → (a && b) ≡ true → (a ≡ true) × (b ≡ true)
-both_true true b e = (refl, e)
-both_true false b e = cc
-
 module _ (s : Setting) (overrides : List (ℕ × Given)) (key : Key → Text) (calculated : Inst → Expr) (r : Reached) (mentions : (n : ℕ) → is_operand_in r.functions n ≡ is_mentioned s n) where
   abbrev source : Source
   source = source_of s overrides
@@ -194,11 +187,11 @@ module _ (s : Setting) (overrides : List (ℕ × Given)) (key : Key → Text) (c
   -- it is written as one item
   workgroup_written : (g : Inst) → is_in_class storage.Workgroup g ≡ true → declaration source r N g ≡ (if is_mentioned s g.result then tree.shared (type_at source N (pointee_at source g.ty)) (N.id g.result) ∷ [] else [])
   workgroup_written g on =
-      let parts = both_true (is g.op code.Variable) (printed.class g == class_number storage.Workgroup) on in
+      let parts = and_parts (is g.op code.Variable) (printed.class g == class_number storage.Workgroup) on in
       let number : printed.class g ≡ class_number storage.Workgroup = same_number (printed.class g) (class_number storage.Workgroup) parts.1 in
       let ops = variable_op g.op parts.0 in
-      let no_struct : is_written_struct source r g ≡ false = first_off (is g.op code.TypeStruct) (not (is_block s.of.heads g.result) && list_any (type_has_struct s.of.globals g.result) (written_types source r)) ops.0 in
-      let no_constant : is_declared_constant source r g ≡ false = first_off (is_constant_op g.op) (is_named (reading source g) && (is_some (free_spec_id source g.result) || is_needed source r g.result)) ops.1 in
+      let no_struct : is_written_struct source r g ≡ false = and_left (is g.op code.TypeStruct) (not (is_block s.of.heads g.result) && list_any (type_has_struct s.of.globals g.result) (written_types source r)) ops.0 in
+      let no_constant : is_declared_constant source r g ≡ false = and_left (is_constant_op g.op) (is_named (reading source g) && (is_some (free_spec_id source g.result) || is_needed source r g.result)) ops.1 in
       let no_private : is_private g ≡ false = ap (λ n. is g.op code.Variable && (n == class_number storage.Private)) number ∙ never (is g.op code.Variable) in
       let written : is_written_variable r g ≡ is_mentioned s g.result
       = ap (λ a. (a || (is_workgroup g || is_block_variable g)) && is_operand_in r.functions g.result) no_private ∙ ap (λ a. (a || is_block_variable g) && is_operand_in r.functions g.result) on ∙ mentions g.result in
@@ -225,7 +218,7 @@ module _ (s : Setting) (overrides : List (ℕ × Given)) (key : Key → Text) (c
           by_none e = by_block (ap (λ b. (b || is_block_variable g) && a) (sym off) ∙ e)
             where
               by_block : (is_block_variable g && a) ≡ true → is_block_variable g ≡ true
-              by_block e = (both_true (is_block_variable g) a e).0
+              by_block e = (and_parts (is_block_variable g) a e).0
 
       by_private : (b : Bool) → is_private g ≡ b → is_written_variable r g ≡ true → block_of s.of.globals g ≡ None → shared_in ((if b then tree.global (type_at source N (pointee_at source g.ty)) (N.id g.result) (initial source N g) else tree.shared (type_at source N (pointee_at source g.ty)) (N.id g.result)) ∷ []) ≡ 0
       by_private true is written none = refl
@@ -285,7 +278,7 @@ module _ (s : Setting) (overrides : List (ℕ × Given)) (key : Key → Text) (c
         whole = refl;
         inst = v;
         there = there;
-        class = same_number (printed.class v) (class_number storage.Workgroup) (both_true (is v.op code.Variable) (printed.class v == class_number storage.Workgroup) class).1;
+        class = same_number (printed.class v) (class_number storage.Workgroup) (and_parts (is v.op code.Variable) (printed.class v == class_number storage.Workgroup) class).1;
         itself = itself;
         outside = outside;
         typed_as = ap (λ o. type_tree s.of.globals (unwrap_or o 0)) points ∙ shape;

@@ -14,6 +14,7 @@ use Rattle.type_law.specs.Shaped.{HaveResults, HasConstants}
 use Rattle.type_law.proofs.Constants.{constant_of}
 use Rattle.global_law.specs.Sources.{chosen}
 use Rattle.std.specs.List.{zip}
+use Rattle.std.proofs.lemmas.Option.{same_Some}
 use Rattle.profile_rules.specs.declared.given.Given.{Given}
 use Rattle.profile_rules.specs.declared.size.SizePart.{SizePart}
 use Rattle.profile_rules.specs.declared.size.SizePart.TheVariants.{Fixed, Spec}
@@ -31,16 +32,13 @@ part_value inv (Spec k default) = unwrap_or (inv.specialization k) default
 pub part_is : (s : Setting) (overrides : List (ℕ × Given)) → HasConstants s (chosen s overrides) → HaveResults s.of.globals → (n w : ℕ) (g : Inst) → global s.of.globals n ≡ Some g → constant_kind g.op ≡ kinds.SpecWord → s.constants n ≡ Some (word_value w) → part_value s.invocation (size_now overrides (size_part s.of n)) ≡ w
 part_is s overrides have results n w g there kind has =
     let c = constant_of s (chosen s overrides) have results n (word_value w) has in
-    let same : c.0 ≡ g = some_same c.0 g (sym c.3 ∙ there) in
+    let same : c.0 ≡ g = same_Some c.0 g (sym c.3 ∙ there) in
     let named_so : g.result ≡ n = named s.of.globals n g there in
     let made : unwrap_or (chosen s overrides n) (slice_index g.args 0) ≡ w
     = word_same (unwrap_or (chosen s overrides n) (slice_index g.args 0)) w (ap (λ m. Some (word_value (unwrap_or (chosen s overrides m) (slice_index g.args 0)))) (sym named_so)
     ∙ ap (value_by_kind c.1 (chosen s overrides g.result) c.2 g.args) (sym kind) ∙ ap (λ (x : Inst). value_by_kind c.1 (chosen s overrides x.result) c.2 x.args (constant_kind x.op)) (sym same) ∙ c.6) in
     ap (λ o. part_value s.invocation (size_now overrides (size_by (spec_id s.of.heads n) (option_map_or (λ (g : Inst). slice_index g.args 0) o 0)))) there ∙ by_spec (spec_id s.of.heads n) (slice_index g.args 0) ∙ made
   where
-    some_same : {A : Type 0} (a b : A) → Some a ≡ Some b → a ≡ b
-    some_same a b e = cc
-
     word_same : (a b : ℕ) → Some (word_value a) ≡ Some (word_value b) → a ≡ b
     word_same a b e = cc
 

@@ -3,6 +3,7 @@ use Rattle.std.proofs.Common.{◌≡◌, ◌+◌, ◌++◌, ℕ, true, false, Li
 use Rattle.std.specs.Prelude.{bytes_eq, flat_map}
 use Rattle.std.specs.List.{enumerate_from}
 use Rattle.std.proofs.lemmas.Slice.Eq.{bytes_eq-Decides}
+use Rattle.std.proofs.lemmas.Option.{same_Some}
 use Rattle.spv_module.specs.Lists.{id}
 use Rattle.spv_module.specs.declared.inst.Inst.{Inst}
 use Rattle.spv_module.specs.declared.inst.Function.{Function}
@@ -26,9 +27,6 @@ use Rattle.path_law.specs.Walks.{struct_names}
 use Rattle.global_law.specs.Sources.{source_of}
 use Rattle.global_law.specs.Names.{names_of}
 use Rattle.global_law.proofs.Blocks.{AreDeclared, declared_between, items_more, type_declared}
-
-some_same : {A : Type 0} (a b : A) → Some a ≡ Some b → a ≡ b
-some_same a b e = cc
 
 -- the item declares no struct of this name
 abbrev pub IsOtherStruct : Text → Decl → Type 0
@@ -74,7 +72,7 @@ module _ (s : Setting) (f : Function) (overrides : List (ℕ × Given)) (key : K
 
   -- the members of a struct
   fields_declared : (p : Program) (g : Inst) (k : ℕ) (ids : List ℕ) (ts : Trees) → all_trees (tree_before Gs g.at) ids ≡ Some ts → AreDeclared s f overrides key calculated p ts → fields_of p (map (member_field g) (enumerate_from k ids)) ≡ Some (fields_in s Y g.result k ts)
-  fields_declared p g k [] ts all are = subst (λ us. fields_of p [] ≡ Some (fields_in s Y g.result k us)) (some_same no_trees ts all) refl
+  fields_declared p g k [] ts all are = subst (λ us. fields_of p [] ≡ Some (fields_in s Y g.result k us)) (same_Some no_trees ts all) refl
   fields_declared p g k (n ∷ ns) ts all are = by_parts (tree_before Gs g.at n) refl (all_trees (tree_before Gs g.at) ns) refl all are (λ us more there. fields_declared p g (k + 1) ns us more there)
     where
       by_parts : (o : Option Tree) → tree_before Gs g.at n ≡ o → (q : Option Trees) → all_trees (tree_before Gs g.at) ns ≡ q → both o q ≡ Some ts → AreDeclared s f overrides key calculated p ts
@@ -83,7 +81,7 @@ module _ (s : Setting) (f : Function) (overrides : List (ℕ × Given)) (key : K
       by_parts None is q more e are later = cc
       by_parts (Some t) is None more e are later = cc
       by_parts (Some t) is (Some us) more e are later =
-          let whole : tree t us ≡ ts = some_same (tree t us) ts e in
+          let whole : tree t us ≡ ts = same_Some (tree t us) ts e in
           let there : AreDeclared s f overrides key calculated p (tree t us) = subst (AreDeclared s f overrides key calculated p) (sym whole) are in
           subst (λ q. fields_of p (map (member_field g) (enumerate_from k (n ∷ ns))) ≡ Some (fields_in s Y g.result k q)) whole
           (ap₂ (λ o fs. with_field (N.member g.result k) o fs) (type_declared s f overrides key calculated p n t (earlier_is s f g.at n t is) there.0) (later us more there.1))

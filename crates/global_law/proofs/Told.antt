@@ -3,6 +3,7 @@ use Rattle.std.proofs.Common.{◌≡◌, ◌++◌, ◌==◌, ℕ, Bool, true, fa
 use Rattle.std.specs.Prelude.{bytes_eq, flat_map, not, is_some, option_map, option_and_then, slice_index, unwrap_or}
 use Rattle.std.specs.Option.{option_or}
 use Rattle.std.proofs.lemmas.Slice.Eq.{bytes_eq-Decides}
+use Rattle.std.proofs.lemmas.Option.{same_Some}
 use Rattle.spv_module.specs.Held.{global}
 use Rattle.spv_module.specs.Lists.{id}
 use Rattle.spv_module.specs.declared.inst.Inst.{Inst}
@@ -37,9 +38,6 @@ use Rattle.global_law.specs.Names.{names_of, IsDeclared}
 use Rattle.global_law.proofs.Plain.{literal_says}
 use Rattle.global_law.proofs.BuiltIns.{AreOtherNames}
 use Rattle.global_law.proofs.Blocks.{declared_between, item_there, type_declared}
-
-some_same : {A : Type 0} (a b : A) → Some a ≡ Some b → a ≡ b
-some_same a b e = cc
 
 -- a specialization constant that is a scalar
 abbrev pub IsSpec : ConstantKind → Type 0
@@ -118,9 +116,9 @@ module _ (s : Setting) (y : StructNames) where
 
   -- what is told is the value, of either kind
   told_is : (t : Tree) (v : ValueTree) (h : ℕ → Option ValueTree) (w : ℕ) (args : List ℕ) (k : ConstantKind) → IsSpec k → fits t v ≡ true → value_by_kind h (Some w) t args k ≡ Some v → value_of_word (shape_in s y t) w ≡ Some (typed (shape_in s y t) v)
-  told_is t v h w args kinds.SpecTrue is fit e = let same = some_same (truth (not (w == 0))) v e in subst (λ x. value_of_word (shape_in s y t) w ≡ Some (typed (shape_in s y t) x)) same (truth_told t w (ap (fits t) same ∙ fit))
-  told_is t v h w args kinds.SpecFalse is fit e = let same = some_same (truth (not (w == 0))) v e in subst (λ x. value_of_word (shape_in s y t) w ≡ Some (typed (shape_in s y t) x)) same (truth_told t w (ap (fits t) same ∙ fit))
-  told_is t v h w args kinds.SpecWord is fit e = let same = some_same (word w) v e in subst (λ x. value_of_word (shape_in s y t) w ≡ Some (typed (shape_in s y t) x)) same (word_told t w (ap (fits t) same ∙ fit))
+  told_is t v h w args kinds.SpecTrue is fit e = let same = same_Some (truth (not (w == 0))) v e in subst (λ x. value_of_word (shape_in s y t) w ≡ Some (typed (shape_in s y t) x)) same (truth_told t w (ap (fits t) same ∙ fit))
+  told_is t v h w args kinds.SpecFalse is fit e = let same = same_Some (truth (not (w == 0))) v e in subst (λ x. value_of_word (shape_in s y t) w ≡ Some (typed (shape_in s y t) x)) same (truth_told t w (ap (fits t) same ∙ fit))
+  told_is t v h w args kinds.SpecWord is fit e = let same = same_Some (word w) v e in subst (λ x. value_of_word (shape_in s y t) w ≡ Some (typed (shape_in s y t) x)) same (word_told t w (ap (fits t) same ∙ fit))
   told_is t v h w args kinds.True is fit e = absurd is
   told_is t v h w args kinds.False is fit e = absurd is
   told_is t v h w args kinds.Word is fit e = absurd is
@@ -131,9 +129,9 @@ module _ (s : Setting) (y : StructNames) where
 
   -- such a constant is a scalar
   spec_scalar : (t : Tree) (v : ValueTree) (h : ℕ → Option ValueTree) (o : Option ℕ) (args : List ℕ) (k : ConstantKind) → IsSpec k → fits t v ≡ true → value_by_kind h o t args k ≡ Some v → is_scalar t ≡ true
-  spec_scalar t v h o args kinds.SpecTrue is fit e = truth_scalar t (chosen_truth o true) (ap (fits t) (some_same (truth (chosen_truth o true)) v e) ∙ fit)
-  spec_scalar t v h o args kinds.SpecFalse is fit e = truth_scalar t (chosen_truth o false) (ap (fits t) (some_same (truth (chosen_truth o false)) v e) ∙ fit)
-  spec_scalar t v h o args kinds.SpecWord is fit e = word_scalar t (unwrap_or o (slice_index args 0)) (ap (fits t) (some_same (word (unwrap_or o (slice_index args 0))) v e) ∙ fit)
+  spec_scalar t v h o args kinds.SpecTrue is fit e = truth_scalar t (chosen_truth o true) (ap (fits t) (same_Some (truth (chosen_truth o true)) v e) ∙ fit)
+  spec_scalar t v h o args kinds.SpecFalse is fit e = truth_scalar t (chosen_truth o false) (ap (fits t) (same_Some (truth (chosen_truth o false)) v e) ∙ fit)
+  spec_scalar t v h o args kinds.SpecWord is fit e = word_scalar t (unwrap_or o (slice_index args 0)) (ap (fits t) (same_Some (word (unwrap_or o (slice_index args 0))) v e) ∙ fit)
   spec_scalar t v h o args kinds.True is fit e = absurd is
   spec_scalar t v h o args kinds.False is fit e = absurd is
   spec_scalar t v h o args kinds.Word is fit e = absurd is
@@ -167,7 +165,7 @@ module _ (s : Setting) (overrides : List (ℕ × Given)) (have : HasConstants s 
   free_chosen n spec free = by_spec (spec_id s.of.heads n) free
     where
       by_given : (k : ℕ) (o : Option Given) → (if is_some o then None else Some k) ≡ Some spec → (option_or (option_map word_given o) (s.invocation.specialization k) ≡ s.invocation.specialization spec) × (option_map word_given o ≡ None)
-      by_given k None e = (ap s.invocation.specialization (some_same k spec e), refl)
+      by_given k None e = (ap s.invocation.specialization (same_Some k spec e), refl)
       by_given k (Some v) e = cc
 
       by_spec : (o : Option ℕ) → option_and_then (if_free overrides) o ≡ Some spec
@@ -189,9 +187,9 @@ module _ (s : Setting) (overrides : List (ℕ × Given)) (have : HasConstants s 
   written_by g kinds.Other is = absurd is
 
   default_value : (g : Inst) (t : Tree) (v : ValueTree) (h : ℕ → Option ValueTree) (k : ConstantKind) → IsSpec k → constant_shape source g ≡ t → override_word source g.result ≡ None → value_by_kind h None t g.args k ≡ Some v → plain_value_by source g k ≡ v
-  default_value g t v h kinds.SpecTrue is shape none e = ap (λ o. unwrap_or (value_by_kind (λ id. None) o (constant_shape source g) g.args kinds.SpecTrue) (word 0)) none ∙ some_same _ v e
-  default_value g t v h kinds.SpecFalse is shape none e = ap (λ o. unwrap_or (value_by_kind (λ id. None) o (constant_shape source g) g.args kinds.SpecFalse) (word 0)) none ∙ some_same _ v e
-  default_value g t v h kinds.SpecWord is shape none e = ap (λ o. unwrap_or (value_by_kind (λ id. None) o (constant_shape source g) g.args kinds.SpecWord) (word 0)) none ∙ some_same _ v e
+  default_value g t v h kinds.SpecTrue is shape none e = ap (λ o. unwrap_or (value_by_kind (λ id. None) o (constant_shape source g) g.args kinds.SpecTrue) (word 0)) none ∙ same_Some _ v e
+  default_value g t v h kinds.SpecFalse is shape none e = ap (λ o. unwrap_or (value_by_kind (λ id. None) o (constant_shape source g) g.args kinds.SpecFalse) (word 0)) none ∙ same_Some _ v e
+  default_value g t v h kinds.SpecWord is shape none e = ap (λ o. unwrap_or (value_by_kind (λ id. None) o (constant_shape source g) g.args kinds.SpecWord) (word 0)) none ∙ same_Some _ v e
   default_value g t v h kinds.True is shape none e = absurd is
   default_value g t v h kinds.False is shape none e = absurd is
   default_value g t v h kinds.Word is shape none e = absurd is
@@ -216,7 +214,7 @@ module _ (s : Setting) (overrides : List (ℕ × Given)) (have : HasConstants s 
       → (t : Tree) × (type_tree s.of.globals g.ty ≡ Some t) × ((with_item d (constant_decl source N g)).program.things (key (Id (id g.result))) ≡ Some (value (typed (shape_in s Y t) v)))
   told_item f d n spec g v invocation there is free has =
       let c = constant_of s (chosen s overrides) have results n v has in
-      let same : c.0 ≡ g = some_same c.0 g (sym c.3 ∙ there) in
+      let same : c.0 ≡ g = same_Some c.0 g (sym c.3 ∙ there) in
       let t = c.2 in
       let h = c.1 in
       let shape : type_tree s.of.globals g.ty ≡ Some t = ap (λ (x : Inst). type_tree s.of.globals x.ty) (sym same) ∙ c.4 in

@@ -3,6 +3,8 @@ use Rattle.std.proofs.Common.{◌≡◌, ◌==◌, ◌&&◌, ◌||◌, not, ℕ,
 use Rattle.std.specs.Prelude.{◌+◌, is_some, option_and_then, slice_get, slice_index, unwrap_or}
 use Rattle.std.specs.Option.{option_map_or, option_or}
 use Rattle.std.specs.List.{list_any, position_from}
+use Rattle.std.proofs.lemmas.Bool.{not-false, or_left as or_on_left, or_right as or_on_right}
+use Rattle.std.proofs.lemmas.Option.{same_Some}
 use Rattle.spv_ops.specs.Opcode.{is, number, op_of}
 use Rattle.spv_ops.specs.OpGroups.{group_of}
 use Rattle.spv_ops.specs.Groups.{is_inner, is_constant as is_constant_op}
@@ -62,13 +64,13 @@ use Rattle.type_law.proofs.Parts.{extract_takes}
 use Rattle.type_law.proofs.Rows.{vector_parts}
 use Rattle.typed_law.specs.Conforms.{IsConforming}
 use Rattle.typed_law.specs.Words.{AreGivenWords}
-use Rattle.typed_law.proofs.Lists.{or_left, or_right, not_off, same_some}
+use Rattle.typed_law.proofs.Lists.{or_left, or_right}
 use Rattle.typed_law.proofs.Types.{row_is}
 use Rattle.typed_law.proofs.Used.{global_found}
 use Rattle.typed_law.proofs.Values.{type_suits, typed_is, global_row, global_typed_some}
 use Rattle.constant_law.specs.Within.{IsWithin, AreWithin, IsNoBlock}
 use Rattle.constant_law.proofs.Within.{typed_constant, constant_within}
-use Rattle.constant_law.proofs.Written.{or_on_left, or_on_right, own_type, held_by, struct_written}
+use Rattle.constant_law.proofs.Written.{own_type, held_by, struct_written}
 use Rattle.constant_law.proofs.Needed.{AllOperands, inner_operands_are}
 use Rattle.constant_law.proofs.Constituents.{nothing, calculated_op, operation_right}
 use Rattle.constant_law.specs.Items.{AreSizes}
@@ -324,7 +326,7 @@ module _ (m : ModuleState) (o : Options) (right : IsConforming m o.entry) (unit 
           let off = shuffle_right m (type_in m.globals nothing) (inner g) p on right_of in
           let first = or_left (fails is_vector Gs g.ty) (value_fails is_vector Gs (type_in m.globals nothing) (word (inner g) 0)) (or_left _ (value_fails is_vector Gs (type_in m.globals nothing) (word (inner g) 1)) (or_left _ (has_other_components Gs g.ty (type_in m.globals nothing (word (inner g) 0)) (type_in m.globals nothing (word (inner g) 1))) (or_left _ (has_other_sizes Gs g.ty (type_in m.globals nothing (word (inner g) 0)) (type_in m.globals nothing (word (inner g) 1)) (drop 2 (inner g).args)) off))) in
           let row = global_row (Run m o.entry right o unit u) o.entry right g (as_among Gs g there) (global_typed_some (Run m o.entry right o unit u) o.entry right g (as_among Gs g there) (typed_constant g.op (constant_is m o.entry right o unit u g there declared_here))) in
-          let vector_row = not_off (is_vector row.0) (ap (λ (x : Option Inst). option_map_or (λ (y : Inst). not (is_vector y)) x false) (sym (row_is m o.entry right g.ty row.0 row.1 (type_suits g.op row.0 row.2))) ∙ first) in
+          let vector_row = not-false (is_vector row.0) (ap (λ (x : Option Inst). option_map_or (λ (y : Inst). not (is_vector y)) x false) (sym (row_is m o.entry right g.ty row.0 row.1 (type_suits g.op row.0 row.2))) ∙ first) in
           let t = typed_as m o.entry right o unit u g there declared_here in
           let parts = vector_parts Gs row.0 t.0 vector_row (sym (ap (λ (x : Option Inst). option_map_or (tree_at Gs) x None) row.1) ∙ t.1) in
           let same = type_shape ∙ parts.4 in
@@ -400,13 +402,13 @@ module _ (m : ModuleState) (o : Options) (right : IsConforming m o.entry) (unit 
               fit leads
           by_reading Plain reads =
               let w = plain_is (Run m o.entry right o unit u) o.overrides h reads in
-              flat_along of_h.0 (scalar_flat of_h.0 (ap is_scalar (same_some of_h.0 w.shape (sym of_h.1 ∙ w.typed_as)) ∙ w.scalar))
+              flat_along of_h.0 (scalar_flat of_h.0 (ap is_scalar (same_Some of_h.0 w.shape (sym of_h.1 ∙ w.typed_as)) ∙ w.scalar))
           by_reading GroupSize reads =
               let w = sizes.composite h (as_among Gs h own.0) (size_reading (source_of m o u.entry) h reads) in
-              flat_along of_h.0 (ap is_flat (same_some of_h.0 (plain.vector elem.Uint 3) (sym of_h.1 ∙ w.1)))
+              flat_along of_h.0 (ap is_flat (same_Some of_h.0 (plain.vector elem.Uint 3) (sym of_h.1 ∙ w.1)))
           by_reading (GroupSizePart axis) reads =
               let w = sizes.part h.result h (position_any (λ (k : ℕ). k == h.result) (size_ids (source_of m o u.entry)) 0 axis (part_reading (source_of m o u.entry) h axis reads)) (global_found m o.entry right h (as_among Gs h own.0)) in
-              flat_along of_h.0 (ap is_flat (same_some of_h.0 plain.uint (sym of_h.1 ∙ w.0)))
+              flat_along of_h.0 (ap is_flat (same_Some of_h.0 plain.uint (sym of_h.1 ∙ w.0)))
 
       extract_asks : is p code.CompositeExtract ≡ true → IsAlong 0 (first_of (map (operand (source_of m o u.entry) (id_text (name_of u.claimed))) (inner_operands p (drop 1 g.args)))).shape (inner_literals p (drop 1 g.args))
       extract_asks on = by_args (drop 1 g.args) refl

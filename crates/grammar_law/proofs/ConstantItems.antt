@@ -4,6 +4,8 @@ use Rattle.std.specs.Prelude.{◌+◌, ◌⊎◌, zero, suc, flat_map, is_some, 
 use Rattle.std.specs.Option.{option_map_or}
 use Rattle.std.specs.List.{enumerate_from, list_any}
 use Rattle.std.proofs.lemmas.Bool.Decides.{eqb_tells}
+use Rattle.std.proofs.lemmas.Bool.{or_right}
+use Rattle.std.proofs.lemmas.Option.{same_Some}
 use Rattle.spv_ops.specs.Opcode.{number}
 use Rattle.spv_ops.specs.OpGroups.{group_of, takes_of}
 use Rattle.spv_ops.specs.Operands.{is_id}
@@ -49,12 +51,12 @@ use Rattle.spell_law.specs.Blocks.{FitWords}
 use Rattle.spell_law.proofs.Scalars.{each-uses}
 use Rattle.typed_law.specs.Conforms.{IsConforming}
 use Rattle.typed_law.specs.Words.{AreGivenWords}
-use Rattle.typed_law.proofs.Lists.{and_left, or_left, none_left, none_right, none_among, same_some, some_by, earlier_some, from_zero}
+use Rattle.typed_law.proofs.Lists.{and_left, or_left, none_left, none_right, none_among, some_by, earlier_some, from_zero}
 use Rattle.typed_law.proofs.Rules.{operand_there, global_there}
 use Rattle.typed_law.proofs.Values.{type_suits, global_row, global_typed_some, value_type_has}
 use Rattle.constant_law.specs.Within.{IsWithin, IsNoBlock}
 use Rattle.constant_law.proofs.Within.{typed_constant, constant_within}
-use Rattle.constant_law.proofs.Written.{or_on_right, own_type, held_by}
+use Rattle.constant_law.proofs.Written.{own_type, held_by}
 use Rattle.constant_law.proofs.Needed.{operand_at, operand_needed}
 use Rattle.claim_law.specs.Claimed.{IsIn}
 use Rattle.claim_law.proofs.Constants.{found_in}
@@ -176,7 +178,7 @@ module _ (m : ModuleState) (entry : Option (List ℕ)) (right : IsConforming m e
   held : (j : ℕ) → has_struct j typed_as.0 ≡ true → Held m entry right o unit u j
   held j has =
       held_by (Run m entry right o unit u) entry right o.overrides (Written m entry right o unit u) g j (as_among Gs g there)
-      (or_on_right (is_written_variable (Written m entry right o unit u) g) (is_declared_constant (source_of m o u.entry) (Written m entry right o unit u) g) declared_here)
+      (or_right (is_written_variable (Written m entry right o unit u) g) (is_declared_constant (source_of m o u.entry) (Written m entry right o unit u) g) declared_here)
       (own_type (Run m entry right o unit u) entry right o.overrides (Written m entry right o unit u) g.ty j typed_as.0 typed_as.1 has)
 
   within : IsWithin (IsNoBlock m) m g.at typed_as.0
@@ -192,7 +194,7 @@ module _ (m : ModuleState) (entry : Option (List ℕ)) (right : IsConforming m e
         let w = operand_place g n on in
         let there_is : is_there Gs g.at Constant n ≡ true = subst (λ (k : ℕ). is_there Gs g.at Constant k ≡ true) w.1.word_is (subst (λ q. is_there Gs g.at q (slice_index g.args w.0) ≡ true) (constant_need g.op w.0 kind) (operand_there (is_there Gs g.at) g (global_there m entry right g (as_among Gs g there)) w.0 w.1.less w.1.is_operand)) in
         let c = some_by (suits Constant) (earlier Gs g.at n) there_is in
-        subst (λ (x : Inst). is_constant_op x.op ≡ true) (same_some c.0 h (sym (earlier_some Gs g.at n c.0 c.1).0 ∙ at)) c.2
+        subst (λ (x : Inst). is_constant_op x.op ≡ true) (same_Some c.0 h (sym (earlier_some Gs g.at n c.0 c.1).0 ∙ at)) c.2
 
   module _ (words : (h : Inst) → IsIn h m.globals → FitWords h.args) (given : AreGivenWords o.overrides) (names : List (List ℕ)) (structs : AreOfStructs m.globals (name_of u.claimed) names) (declared : AreDeclaredBefore m entry right o unit u names g.at) where
     abbrev W : Words

@@ -3,6 +3,7 @@ use Rattle.std.proofs.Common.{◌≡◌, ◌≤◌, ◌<◌, ◌^◌, ◌+◌, d
 use Rattle.std.specs.Prelude.{option_and_then, slice_get, slice_index, nat_lt, if◌then◌else◌}
 use Rattle.std.specs.Option.{option_map_or}
 use Rattle.std.specs.List.{list_any}
+use Rattle.std.proofs.lemmas.Bool.{and_from, not-false}
 use Rattle.spv_ops.specs.Opcode.{is, number}
 use Rattle.spv_ops.specs.OpGroups.{group_of, takes_of}
 use Rattle.spv_ops.specs.Operands.{is_id}
@@ -47,7 +48,7 @@ use Rattle.function_law.proofs.Nodes.{node_is}
 use Rattle.fits_law.specs.State.{value_shape}
 use Rattle.plan_law.specs.InOrder.{IsAmong}
 use Rattle.typed_law.specs.Conforms.{IsConforming}
-use Rattle.typed_law.proofs.Lists.{and_off, or_left, or_right, not_off, both_on, some_by, earlier_some}
+use Rattle.typed_law.proofs.Lists.{and_off, or_left, or_right, some_by, earlier_some}
 use Rattle.typed_law.proofs.Rules.{operand_there, global_there, pointed_type, value_right, number_right, flow_right}
 use Rattle.typed_law.proofs.Types.{row_is}
 use Rattle.typed_law.proofs.Values.{function_id, function_need, function_least, bool_shaped, int_shaped, inside, result_row, declared_by, one_type, same_type, passing, HasType, value_type_has}
@@ -184,8 +185,8 @@ module _ (s : Setting) (entry : Option (List ℕ)) (right : IsConforming s.of en
               there = k.1;
               here = reached_nth (graph Fn) b ∙ here;
               live = λ set closed. closed.effects b k.0 i k.1 end.impure;
-              slot = both_on (is_id i.op i.args 0) (is_value i.op 0 && is_taken Fn Marks i 0) end.is_operand
-                  (both_on (is_value i.op 0) (is_taken Fn Marks i 0) end.mentions (ap (λ (x : Bool). not x || is_label_reached Fn Marks (slice_index i.args (0 + 1))) end.no_phi));
+              slot = and_from (is_id i.op i.args 0) (is_value i.op 0 && is_taken Fn Marks i 0) end.is_operand
+                  (and_from (is_value i.op 0) (is_taken Fn Marks i 0) end.mentions (ap (λ (x : Bool). not x || is_label_reached Fn Marks (slice_index i.args (0 + 1))) end.no_phi));
               word = at_index i.args 0 end.some;
             }
 
@@ -214,7 +215,7 @@ module _ (s : Setting) (entry : Option (List ℕ)) (right : IsConforming s.of en
           let flow = flow_right s.of entry right Fn in_it i i_among in
           let off = return_right s.of Fn flow.0 i i.op on flow.1 in
           let row = result_row s entry right Fn in_it in
-          let no_void : not (is_void row.0) ≡ true = not_off (not (is_void row.0)) (ap (λ (x : Option Inst). option_map_or (λ (g : Inst). not (not (is_void g))) x false) (sym (row_is s.of entry right Fn.result.0 row.0 row.1 row.2)) ∙ or_left (fails (λ g. not (is_void g)) Gs Fn.result.0) (is_other Gs T Fn.result.0 (word i 0)) off) in
+          let no_void : not (is_void row.0) ≡ true = not-false (not (is_void row.0)) (ap (λ (x : Option Inst). option_map_or (λ (g : Inst). not (not (is_void g))) x false) (sym (row_is s.of entry right Fn.result.0 row.0 row.1 row.2)) ∙ or_left (fails (λ g. not (is_void g)) Gs Fn.result.0) (is_other Gs T Fn.result.0 (word i 0)) off) in
           let t = value_type_has s entry right Fn.result.0 row (and_off (not (is_void row.0)) (is_no_value_type s.of.heads Gs Fn.result.0) (ap (λ (x : Option Inst). option_map_or (λ (g : Inst). not (is_void g) && is_no_value_type s.of.heads Gs Fn.result.0) x false) (sym row.1) ∙ result_right) no_void) in
           let typed = same_type s entry right Fn in_it Fn.result.0 (word i 0) row (has_type_of end) (or_right (fails (λ g. not (is_void g)) Gs Fn.result.0) (is_other Gs T Fn.result.0 (word i 0)) off) in
           usable_of end t.0 (ap (option_and_then (type_tree Gs)) typed ∙ t.1)

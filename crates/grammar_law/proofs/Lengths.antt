@@ -3,7 +3,7 @@ use Rattle.std.proofs.Common.{◌≡◌, ◌==◌, ℕ, true, List, Option, Some
 use Rattle.std.specs.Prelude.{is_some, slice_index}
 use Rattle.std.specs.Option.{option_map_or}
 use Rattle.std.specs.List.{list_any}
-use Rattle.std.proofs.lemmas.Bool.{or_left, or_right}
+use Rattle.std.proofs.lemmas.Bool.{or_left, or_right, and_from}
 use Rattle.spv_ops.specs.Opcode.{is}
 use Rattle.spv_ops.specs.Groups.{is_constant as is_constant_op}
 use Rattle.spv_ops.specs.declared.Op.{Op}
@@ -36,7 +36,7 @@ use Rattle.constant_law.proofs.Standing.{needed_kept}
 use Rattle.claim_law.specs.Claimed.{IsIn, HasName}
 use Rattle.claim_law.proofs.Listed.{any_in}
 use Rattle.claim_law.proofs.Keys.{constant_claimed}
-use Rattle.claim_law.proofs.Constants.{found_in, no_struct, both_on}
+use Rattle.claim_law.proofs.Constants.{found_in, no_struct}
 use Rattle.claim_law.proofs.Named.{Plans, has_name_of}
 use Rattle.unit_law.specs.Types.{IsLengthOf}
 use Rattle.unit_law.specs.Words.{words_of, AreOfStructs}
@@ -73,7 +73,7 @@ module _ (m : ModuleState) (entry : Option (List ℕ)) (right : IsConforming m e
 
   -- it is declared where it is needed, and read by its name
   pub needed_declared : (g : Inst) → is_constant g ≡ true → reading S g ≡ Named → is_needed S Written g.result ≡ true → is_declared_constant S Written g ≡ true
-  needed_declared g constant named needed = both_on (is_constant g) _ constant (both_on (is_named (reading S g)) _ (ap is_named named) (or_right (is_some (free_spec_id S g.result)) (is_needed S Written g.result) needed))
+  needed_declared g constant named needed = and_from (is_constant g) _ constant (and_from (is_named (reading S g)) _ (ap is_named named) (or_right (is_some (free_spec_id S g.result)) (is_needed S Written g.result) needed))
 
   pub first_needed : (n : ℕ) → needs_constant S Written n ≡ true → is_needed S Written n ≡ true
   first_needed n on = needed_kept S (needs_constant S Written) m.globals n on
@@ -82,7 +82,7 @@ module _ (m : ModuleState) (entry : Option (List ℕ)) (right : IsConforming m e
   length_needed : (g : Inst) (n : ℕ) → IsIn g m.globals → is g.op code.TypeArray ≡ true → slice_index g.args 1 ≡ n → needs_constant S Written n ≡ true
   length_needed g n among array length =
       or_right (list_any (λ (k : ℕ). k == n) Written.mentions) _
-      (or_left (list_any (is_length_of n) m.globals) _ (any_in (is_length_of n) m.globals g among (both_on (is g.op code.TypeArray) (slice_index g.args 1 == n) array (same_test (slice_index g.args 1) n length))))
+      (or_left (list_any (is_length_of n) m.globals) _ (any_in (is_length_of n) m.globals g among (and_from (is g.op code.TypeArray) (slice_index g.args 1 == n) array (same_test (slice_index g.args 1) n length))))
 
   module _ (words : (g : Inst) → IsIn g m.globals → FitWords g.args) (given : AreGivenWords o.overrides) (names : List (List ℕ)) (structs : AreOfStructs m.globals (name_of u.claimed) names) where
     abbrev W : Words

@@ -1,7 +1,7 @@
 -- Outside of functions stand constants and variables, of what has a type, and nothing with the id of a function, where a module was read.
-use Rattle.std.proofs.Common.{◌≡◌, ◌==◌, ◌&&◌, ◌||◌, ℕ, Bool, true, false, List, Option, Some, None, unwrap_or, inl, inr, refl, sym, subst, if◌then◌else◌}
-use Rattle.std.specs.Prelude.{◌⊎◌}
+use Rattle.std.proofs.Common.{◌≡◌, ◌==◌, ◌&&◌, ◌||◌, ℕ, Bool, true, false, List, Option, Some, None, unwrap_or, refl, sym, subst, if◌then◌else◌}
 use Rattle.std.specs.Option.{option_map_or}
+use Rattle.std.proofs.lemmas.Bool.{or_cases}
 use Rattle.spv_words.specs.Words.{words, insts}
 use Rattle.spv_words.specs.declared.words.Inst1.{Inst1}
 use Rattle.spv_ops.specs.Opcode.{is, number, op_of}
@@ -38,10 +38,6 @@ known_op None e typed = cc
 known_op (Some code.Variable) e typed = refl
 known_op (Some o) e typed = cc
 
-either : (a b : Bool) → (a || b) ≡ true → (a ≡ true) ⊎ (b ≡ true)
-either true b on = inl refl
-either false b on = inr on
-
 module _ (ws : List ℕ) (x : Inst1) where
   known_inst : is_global_kind (kind_of ws x) ≡ true → has_type (inst_of ws x).op ≡ true → is_known (inst_of ws x).op ≡ true
   unfolding kind_of_opcode known
@@ -52,7 +48,7 @@ module _ (ws : List ℕ) (x : Inst1) where
       by_test false e = known_op (op_of x.opcode) e typed
 
 pub have_kinds : (bytes : List ℕ) (m : ModuleState) (entry : Option (List ℕ)) → IsReadFrom bytes m → IsConforming m entry → HaveKinds m.globals
-have_kinds bytes m entry read right g g_in some = either (is_constant_op g.op) (is g.op code.Variable) (all g g_in (has_a_type g (right.formed g (as_among m.globals g g_in)) some))
+have_kinds bytes m entry read right g g_in some = or_cases (is_constant_op g.op) (is g.op code.Variable) (all g g_in (has_a_type g (right.formed g (as_among m.globals g g_in)) some))
   where
     all : (g : Inst) → IsIn g m.globals → has_type g.op ≡ true → is_known g.op ≡ true
     all = subst (λ (n : ModuleState). (g : Inst) → IsIn g n.globals → has_type g.op ≡ true → is_known g.op ≡ true) (sym read.made)

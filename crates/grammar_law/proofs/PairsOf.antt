@@ -2,6 +2,7 @@
 use Rattle.std.proofs.Common.{◌≡◌, ◌+◌, ◌%◌, ◌==◌, ◌&&◌, not, ℕ, zero, suc, Bool, true, false, List, [], ◌∷◌, filter, Option, Some, None, inl, inr, refl, sym, ap, ◌∙◌, subst, arith}
 use Rattle.std.specs.Prelude.{◌⊎◌, slice_get, slice_index}
 use Rattle.std.proofs.lemmas.Bool.Decides.{nat_tests}
+use Rattle.std.proofs.lemmas.Bool.{not-true}
 use Rattle.spv_ops.specs.Opcode.{is}
 use Rattle.spv_ops.specs.declared.Op.TheVariants as code
 use Rattle.spv_module.specs.declared.inst.Inst.{Inst}
@@ -38,10 +39,6 @@ found_block : (b : ℕ) (q : Option ℕ) → is_block b q ≡ true → q ≡ Som
 found_block b None on = cc
 found_block b (Some c) on = ap (λ (x : ℕ). Some x) (test_same c b on)
 
-not_on : (b : Bool) → not b ≡ true → b ≡ false
-not_on true on = cc
-not_on false on = refl
-
 -- a pair of an edge
 pub record IsPairOf (gs : List Inst) (form : ℕ → Form) (f : Function) (b : ℕ) (holder : Block) (q : Pair) : Type 0 where
   pub phi : Inst
@@ -68,7 +65,7 @@ pair_of gs form f b holder q there =
       phi = i.0;
       among = live.0;
       is_phi = and_left (is i.0.op code.Phi) (not (is_gone (form i.0.result))) live.1;
-      kept = not_on (is_gone (form i.0.result)) (and_right (is i.0.op code.Phi) (not (is_gone (form i.0.result))) live.1);
+      kept = not-true (is_gone (form i.0.result)) (and_right (is i.0.op code.Phi) (not (is_gone (form i.0.result))) live.1);
       value = v.0;
       place = k.0;
       even = k.1;

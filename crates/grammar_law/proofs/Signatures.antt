@@ -3,6 +3,7 @@ use Rattle.std.proofs.Common.{◌≡◌, ◌==◌, ◌&&◌, ◌||◌, not, ℕ,
 use Rattle.std.specs.Prelude.{flat_map, fold, unwrap_or, option_map, option_and_then, slice_index}
 use Rattle.std.specs.Option.{option_map_or}
 use Rattle.std.specs.List.{list_any}
+use Rattle.std.proofs.lemmas.Option.{same_Some}
 use Rattle.spv_ops.specs.Opcode.{is, number}
 use Rattle.spv_ops.specs.Enumerants.{class_number}
 use Rattle.spv_ops.specs.declared.Op.{Op}
@@ -40,7 +41,7 @@ use Rattle.spell_law.specs.Units.{UseParams, UsesResult}
 use Rattle.spell_law.specs.Blocks.{FitWords}
 use Rattle.typed_law.specs.Conforms.{IsParameter, IsConforming}
 use Rattle.typed_law.specs.Words.{AreGivenWords}
-use Rattle.typed_law.proofs.Lists.{or_left, or_right, and_off, same_some}
+use Rattle.typed_law.proofs.Lists.{or_left, or_right, and_off}
 use Rattle.typed_law.proofs.Used.{among_right as ids_right}
 use Rattle.typed_law.proofs.Values.{inside, parameter_right}
 use Rattle.claim_law.specs.Claimed.{IsIn}
@@ -92,7 +93,7 @@ pointer_row : (gs : List Inst) (ty q : ℕ) → pointee gs ty ≡ Some q → (c 
 pointer_row gs ty q points = by_global (global gs ty) refl points
   where
     by_test : (c : Inst) → global gs ty ≡ Some c → (b : Bool) → is c.op code.TypePointer ≡ b → option_map (λ (p : Inst). slice_index p.args 1) (if b then Some c else None) ≡ Some q → (d : Inst) × (global gs ty ≡ Some d) × (is d.op code.TypePointer ≡ true) × (word d 1 ≡ q)
-    by_test c at true on e = (c, at, on, same_some (word c 1) q e)
+    by_test c at true on e = (c, at, on, same_Some (word c 1) q e)
     by_test c at false off e = cc
 
     by_global : (x : Option Inst) → global gs ty ≡ x → option_map (λ (p : Inst). slice_index p.args 1) (option_and_then as_pointer x) ≡ Some q → (d : Inst) × (global gs ty ≡ Some d) × (is d.op code.TypePointer ≡ true) × (word d 1 ≡ q)

@@ -4,6 +4,7 @@ use Rattle.std.specs.Prelude.{zero, suc, find, flat_map, nat_le, nat_lt, option_
 use Rattle.std.specs.Option.{option_map_or}
 use Rattle.std.specs.List.{count_by, list_any, list_all, zip}
 use Rattle.std.proofs.lemmas.List.Elements.{Contains-append_left, Contains-append_right}
+use Rattle.std.proofs.lemmas.Bool.{and_from, not-false}
 use Rattle.spv_ops.specs.Opcode.{is, number}
 use Rattle.spv_ops.specs.Enumerants.{decoration_number, mode_number}
 use Rattle.spv_ops.specs.declared.Op.TheVariants as code
@@ -30,7 +31,7 @@ use Rattle.unit_rules.specs.Unit.{source_of}
 use Rattle.spell_law.specs.Blocks.{FitWords}
 use Rattle.typed_law.specs.Conforms.{IsConforming}
 use Rattle.typed_law.specs.Words.{AreGivenWords}
-use Rattle.typed_law.proofs.Lists.{and_left, and_off, or_left, or_right, not_off, none_at_fault, both_on}
+use Rattle.typed_law.proofs.Lists.{and_left, and_off, or_left, or_right, none_at_fault}
 use Rattle.claim_law.specs.Claimed.{IsIn}
 use Rattle.claim_law.proofs.Constants.{found_in}
 use Rattle.unit_law.proofs.Lists.{found_by, as_among}
@@ -235,7 +236,7 @@ module _ (m : ModuleState) (o : Options) (right : IsConforming m o.entry) (entry
       let bad = none_at_fault (is_bad_mode (count_by (is_local_size (word e 1)) m.heads) (count_by (is_local_size_id (word e 1)) m.heads) (word e 1)) m.heads i (λ at has. no_mode at (subst (λ l. Contains l at) (sym modes_are) (Contains-append_left (bad_modes m (word e 1)) (when (has_no_size m (word e 1)) (e.at ∷ [])) at has))) (as_among m.heads i there) in
       let off = mode_off (count_by (is_local_size (word e 1)) m.heads) (count_by (is_local_size_id (word e 1)) m.heads) (word e 1) i bad in
       let of_it : is_mode_of (word e 1) i ≡ true = mode_on (is i.op code.ExecutionMode) (is i.op code.ExecutionModeId) (word i 0 == word e 1) (word i 1 == mode_number mode.LocalSize) on in
-      let form = not_off ((length i.args == 5) && (is_local_size_id (word e 1) i || (is_local_size (word e 1) i && list_all (nat_lt 0) (drop 2 i.args)))) (and_off (is_mode_of (word e 1) i) (not ((length i.args == 5) && (is_local_size_id (word e 1) i || (is_local_size (word e 1) i && list_all (nat_lt 0) (drop 2 i.args))))) off of_it) in
+      let form = not-false ((length i.args == 5) && (is_local_size_id (word e 1) i || (is_local_size (word e 1) i && list_all (nat_lt 0) (drop 2 i.args)))) (and_off (is_mode_of (word e 1) i) (not ((length i.args == 5) && (is_local_size_id (word e 1) i || (is_local_size (word e 1) i && list_all (nat_lt 0) (drop 2 i.args))))) off of_it) in
       some_dropped i.args (and_left (length i.args == 5) (is_local_size_id (word e 1) i || (is_local_size (word e 1) i && list_all (nat_lt 0) (drop 2 i.args))) form)
 
   some_size : has_no_size m (word e 1) ≡ true → ⊥
@@ -249,7 +250,7 @@ module _ (m : ModuleState) (o : Options) (right : IsConforming m o.entry) (entry
     where
       by_literals : find (is_size_composite m.heads) m.globals ≡ None → find (is_local_size_id (word e 1)) m.heads ≡ None → (q : Option Inst) → find (is_local_size (word e 1)) m.heads ≡ q → 1 ≤ length (option_map_or (λ (i : Inst). map Fixed (drop 2 i.args)) q [])
       by_literals composite ids None at =
-          absurd (some_size (both_on (not (list_any (λ i. is_local_size (word e 1) i || is_local_size_id (word e 1) i) m.heads)) (not (list_any (is_size_composite m.heads) m.globals))
+          absurd (some_size (and_from (not (list_any (λ i. is_local_size (word e 1) i || is_local_size_id (word e 1) i) m.heads)) (not (list_any (is_size_composite m.heads) m.globals))
           (ap not (none_either (is_local_size (word e 1)) (is_local_size_id (word e 1)) m.heads (none_any (is_local_size (word e 1)) m.heads at) (none_any (is_local_size_id (word e 1)) m.heads ids))) (ap not (none_any (is_size_composite m.heads) m.globals composite))))
       by_literals composite ids (Some i) at = let w = found_by (is_local_size (word e 1)) m.heads i at in some_parts Fixed (drop 2 i.args) (literals_some i w.0 w.1)
 

@@ -5,6 +5,7 @@ use Rattle.std.specs.Option.{option_map_or}
 use Rattle.std.specs.List.{enumerate_from, list_any}
 use Rattle.std.proofs.lemmas.Bool.Decides.{nat_tests}
 use Rattle.std.proofs.lemmas.Bool.{or_left, or_right}
+use Rattle.std.proofs.lemmas.Option.{same_Some}
 use Rattle.spv_ops.specs.Opcode.{is, number}
 use Rattle.spv_ops.specs.declared.Op.TheVariants as code
 use Rattle.spv_module.specs.State.{ModuleState}
@@ -30,7 +31,7 @@ use Rattle.spell_law.specs.Units.{UseFields, UseMembers, UsesDecl}
 use Rattle.spell_law.specs.Blocks.{FitWords}
 use Rattle.typed_law.specs.Conforms.{IsConforming}
 use Rattle.typed_law.specs.Words.{AreGivenWords}
-use Rattle.typed_law.proofs.Lists.{and_right, and_off, same_some, earlier_some, some_by}
+use Rattle.typed_law.proofs.Lists.{and_right, and_off, earlier_some, some_by}
 use Rattle.typed_law.proofs.Types.{of_form}
 use Rattle.typed_law.proofs.Used.{global_found}
 use Rattle.constant_law.specs.Within.{IsWithin, AreWithin, IsNoBlock, Anything}
@@ -128,7 +129,7 @@ module _ (m : ModuleState) (entry : Option (List ℕ)) (right : IsConforming m e
     shaped_by t ty shaped has =
         let w = any_within m entry right ty t shaped in
         let b = struct_in Anything m w.0 g.result t w.1 has in
-        let same : b.1.inst ≡ g = same_some b.1.inst g (sym b.1.there ∙ global_found m entry right g (as_among m.globals g there)) in
+        let same : b.1.inst ≡ g = same_Some b.1.inst g (sym b.1.there ∙ global_found m entry right g (as_among m.globals g there)) in
         (b.0, ap (λ (x : Inst). all_trees (tree_before m.globals x.at) x.args) (sym same) ∙ b.1.members)
 
     pub held_parts : Held' g.result → (ts : Trees) × (all_trees (tree_before m.globals g.at) g.args ≡ Some ts)

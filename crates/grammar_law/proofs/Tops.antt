@@ -4,7 +4,7 @@ use Rattle.std.specs.Prelude.{◌⊎◌, ◌+◌, flat_map, nat_lt, option_and_t
 use Rattle.std.specs.Option.{option_map_or}
 use Rattle.std.specs.List.{enumerate_from, list_any, filter_map, cons_option}
 use Rattle.std.proofs.lemmas.Bool.Decides.{nat_tests}
-use Rattle.std.proofs.lemmas.Bool.{or_right as by_second}
+use Rattle.std.proofs.lemmas.Bool.{or_right as by_second, and_from, not-false}
 use Rattle.spv_ops.specs.Opcode.{is, number}
 use Rattle.spv_ops.specs.OpGroups.{group_of, takes_of}
 use Rattle.spv_ops.specs.Operands.{is_id}
@@ -67,7 +67,7 @@ use Rattle.plan_law.proofs.Order.{among_right}
 use Rattle.type_law.proofs.Vectors.{three_off}
 use Rattle.typed_law.specs.Conforms.{IsConforming}
 use Rattle.typed_law.specs.Words.{AreGivenWords}
-use Rattle.typed_law.proofs.Lists.{and_off, or_left, or_right, not_off, both_on}
+use Rattle.typed_law.proofs.Lists.{and_off, or_left, or_right}
 use Rattle.typed_law.proofs.Rules.{initializer_right, class_right, value_right}
 use Rattle.typed_law.proofs.Types.{pointee_shaped}
 use Rattle.typed_law.proofs.Used.{among_left, among_right as ids_right}
@@ -272,9 +272,9 @@ module _ (s : Setting) (entry : Option (List ℕ)) (right : IsConforming s.of en
         first_constant : (h : Inst) → global Gs n ≡ Some h → is_constant_op h.op ≡ true
         first_constant h at =
             let off = or_right (not ((word i 0 == class_number storage.Function) || (word i 0 == class_number storage.Private))) (is_other_value s.of i (word i 1))
-            (and_off (is i.op code.Variable && nat_lt 1 (length i.args)) (not ((word i 0 == class_number storage.Function) || (word i 0 == class_number storage.Private)) || is_other_value s.of i (word i 1)) (initializer_right s.of entry right i body) (both_on (is i.op code.Variable) (nat_lt 1 (length i.args)) on (above (length i.args) place.0))) in
+            (and_off (is i.op code.Variable && nat_lt 1 (length i.args)) (not ((word i 0 == class_number storage.Function) || (word i 0 == class_number storage.Private)) || is_other_value s.of i (word i 1)) (initializer_right s.of entry right i body) (and_from (is i.op code.Variable) (nat_lt 1 (length i.args)) on (above (length i.args) place.0))) in
             let there_is : global Gs (word i 1) ≡ Some h = ap (global Gs) place.1 ∙ at in
-            not_off (is_constant_op h.op) (or_left (not (is_constant_op h.op)) (is_of_other_type Gs i h) (ap (λ (x : Option Inst). option_map_or (λ (g : Inst). not (is_constant_op g.op) || is_of_other_type Gs i g) x (is_defined_elsewhere s.of (word i 1))) (sym there_is) ∙ off))
+            not-false (is_constant_op h.op) (or_left (not (is_constant_op h.op)) (is_of_other_type Gs i h) (ap (λ (x : Option Inst). option_map_or (λ (g : Inst). not (is_constant_op g.op) || is_of_other_type Gs i g) x (is_defined_elsewhere s.of (word i 1))) (sym there_is) ∙ off))
           where
             above : (k : ℕ) → 1 < k → nat_lt 1 k ≡ true
             above k less = grind (arith, nat_tests, less)
@@ -291,8 +291,8 @@ module _ (s : Setting) (entry : Option (List ℕ)) (right : IsConforming s.of en
 
             slot : is_slot (written p) (liveness_of Src p).reached i 1 ≡ true
             slot =
-                both_on (is_id i.op i.args 1) (is_value i.op 1 && is_taken (written p) (liveness_of Src p).reached i 1) parts.0
-                (both_on (is_value i.op 1) (is_taken (written p) (liveness_of Src p).reached i 1) parts.1 (ap (λ (b : Bool). not b || is_label_reached (written p) (liveness_of Src p).reached (slice_index i.args (1 + 1))) parts.2))
+                and_from (is_id i.op i.args 1) (is_value i.op 1 && is_taken (written p) (liveness_of Src p).reached i 1) parts.0
+                (and_from (is_value i.op 1) (is_taken (written p) (liveness_of Src p).reached i 1) parts.1 (ap (λ (b : Bool). not b || is_label_reached (written p) (liveness_of Src p).reached (slice_index i.args (1 + 1))) parts.2))
 
         first_made : (h : Inst) → global Gs n ≡ Some h → UsesExpr W (constant_expr Src (id_text Found) h)
         first_made h at =
@@ -359,7 +359,7 @@ module _ (s : Setting) (entry : Option (List ℕ)) (right : IsConforming s.of en
           typed_int ty off g at = by_type (is_type g) refl (ap (λ (x : Option Inst). option_map_or (λ (y : Inst). not (is_int y)) (option_and_then if_type x) false) (sym at) ∙ off)
             where
               by_type : (b : Bool) → is_type g ≡ b → option_map_or (λ (y : Inst). not (is_int y)) (if b then Some g else None) false ≡ false → is_composite_type g.op ≡ false
-              by_type true typed told = int_flat g.op (not_off (is_int g) told)
+              by_type true typed told = int_flat g.op (not-false (is_int g) told)
               by_type false other told = other_flat g.op other
 
           flat : (g : Inst) → global Gs (type_of Where n.1) ≡ Some g → is_composite Gs (type_of Where n.1) ≡ false
@@ -374,7 +374,7 @@ module _ (s : Setting) (entry : Option (List ℕ)) (right : IsConforming s.of en
           own_text s entry right kinds o unit u p among names structs (Captured (id i.result) n.0)
           (captured_named s.of o unit u p i n.0 among of_it
           (subst (λ (w : Scope). IsIn n.0 (captured_numbers Gs w.carried i)) (sym (plan_is s entry right kinds o unit u p among).scope_is)
-          (subst (λ (b : Bool). IsIn n.0 (if b then map (λ (k : ℕ × ℕ). k.0) (captured_indexes Gs i) else [])) (sym (both_on (is_chain i.op) (Where.carried i.result) kept.0 kept.1)) (in_mapped (λ (k : ℕ × ℕ). k.0) (captured_indexes Gs i) n kept.2)))) refl refl
+          (subst (λ (b : Bool). IsIn n.0 (if b then map (λ (k : ℕ × ℕ). k.0) (captured_indexes Gs i) else [])) (sym (and_from (is_chain i.op) (Where.carried i.result) kept.0 kept.1)) (in_mapped (λ (k : ℕ × ℕ). k.0) (captured_indexes Gs i) n kept.2)))) refl refl
 
       captured_made : UsesStmt W (captured_text Where i n)
       captured_made = (index_type, index_name, tt)

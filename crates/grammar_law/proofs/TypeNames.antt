@@ -2,6 +2,7 @@
 use Rattle.std.proofs.Common.{◌≡◌, ◌&&◌, ◌==◌, ℕ, Bool, true, false, List, Option, Some, None, nat_le, refl, sym, ap, ◌∙◌, subst, if◌then◌else◌}
 use Rattle.std.specs.Prelude.{slice_index}
 use Rattle.std.specs.Option.{option_map_or}
+use Rattle.std.proofs.lemmas.Option.{same_Some}
 use Rattle.spv_ops.specs.Groups.{is_type as is_type_op}
 use Rattle.spv_ops.specs.declared.Op.{Op}
 use Rattle.spv_ops.specs.declared.Op.TheVariants as code
@@ -29,7 +30,6 @@ use Rattle.unit_rules.specs.Translation.{id_text, names_of}
 use Rattle.unit_rules.specs.Unit.{source_of, IsUnitOf}
 use Rattle.spell_law.specs.Uses.{Words, UsesExtent, UsesType}
 use Rattle.typed_law.specs.Conforms.{IsConforming}
-use Rattle.typed_law.proofs.Lists.{same_some}
 use Rattle.typed_law.proofs.Types.{type_shaped}
 use Rattle.claim_law.specs.Claimed.{IsIn}
 use Rattle.unit_law.specs.Types.{IsLengthOf}
@@ -76,7 +76,7 @@ module _ (gs : List Inst) (g : Inst) (off : is_composite_type g.op ≡ false) (n
   vector_flat (Some u) k t e = by_elem (elem_of u) e
     where
       by_size : (d : Elem) (a b : Bool) → (if a && b then Some (plain.vector d k) else None) ≡ Some t → has_struct n t ≡ false
-      by_size d true true e = ap (has_struct n) (sym (same_some (plain.vector d k) t e))
+      by_size d true true e = ap (has_struct n) (sym (same_Some (plain.vector d k) t e))
       by_size d true false e = cc
       by_size d false b e = cc
 
@@ -85,13 +85,13 @@ module _ (gs : List Inst) (g : Inst) (off : is_composite_type g.op ≡ false) (n
       by_elem (Some d) e = by_size d (nat_le 2 k) (nat_le k 4) e
 
   int_flat : (w a b : Bool) (t : Tree) → (if w then (if a then Some plain.uint else (if b then Some plain.int else None)) else None) ≡ Some t → has_struct n t ≡ false
-  int_flat true true b t e = ap (has_struct n) (sym (same_some plain.uint t e))
-  int_flat true false true t e = ap (has_struct n) (sym (same_some plain.int t e))
+  int_flat true true b t e = ap (has_struct n) (sym (same_Some plain.uint t e))
+  int_flat true false true t e = ap (has_struct n) (sym (same_Some plain.int t e))
   int_flat true false false t e = cc
   int_flat false a b t e = cc
 
   kind_flat : (k : TypeKind) (t : Tree) → kind g.op ≡ k → tree_by_kind gs (tree_before gs g.at) g k ≡ Some t → has_struct n t ≡ false
-  kind_flat kinds.Bool t on e = ap (has_struct n) (sym (same_some plain.boolean t e))
+  kind_flat kinds.Bool t on e = ap (has_struct n) (sym (same_Some plain.boolean t e))
   kind_flat kinds.Int t on e = int_flat (slice_index g.args 0 == 32) (slice_index g.args 1 == 0) (slice_index g.args 1 == 1) t e
   kind_flat kinds.Vector t on e = vector_flat (tree_before gs g.at (slice_index g.args 0)) (slice_index g.args 1) t e
   kind_flat kinds.Array t on e = clash_of (array_composite g.op on)

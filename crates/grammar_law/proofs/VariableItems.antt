@@ -4,6 +4,8 @@ use Rattle.std.specs.Prelude.{nat_le, nat_lt, option_map, option_and_then, unwra
 use Rattle.std.specs.Option.{option_map_or}
 use Rattle.std.specs.List.{count_by, list_any}
 use Rattle.std.proofs.lemmas.Bool.Decides.{nat_tests}
+use Rattle.std.proofs.lemmas.Bool.{and_from, not-false, or_left as or_on_left, or_right as or_on_right}
+use Rattle.std.proofs.lemmas.Option.{same_Some}
 use Rattle.spv_ops.specs.Opcode.{is, number}
 use Rattle.spv_ops.specs.Operands.{is_id}
 use Rattle.spv_ops.specs.Groups.{is_constant as is_constant_op}
@@ -47,14 +49,14 @@ use Rattle.plan_law.proofs.Order.{among_left as inst_left}
 use Rattle.type_law.proofs.Parts.{struct_kind}
 use Rattle.typed_law.specs.Conforms.{IsConforming}
 use Rattle.typed_law.specs.Words.{AreGivenWords}
-use Rattle.typed_law.proofs.Lists.{and_left, and_right, and_off, or_left, or_right, not_off, none_at_fault, same_some, both_on}
+use Rattle.typed_law.proofs.Lists.{and_left, and_right, and_off, or_left, or_right, none_at_fault}
 use Rattle.typed_law.proofs.Rules.{initializer_right}
 use Rattle.typed_law.proofs.Types.{row_is, pointee_shaped}
 use Rattle.typed_law.proofs.Values.{variable_type_is, global_row, global_typed_some}
 use Rattle.constant_law.specs.Within.{IsWithin, IsNoBlock}
 use Rattle.constant_law.proofs.Needed.{operand_at}
 use Rattle.constant_law.proofs.Within.{pointee_before, pointee_within}
-use Rattle.constant_law.proofs.Written.{or_on_left, or_on_right, held_by, pointed_type}
+use Rattle.constant_law.proofs.Written.{held_by, pointed_type}
 use Rattle.claim_law.specs.Claimed.{IsIn, HasName}
 use Rattle.claim_law.proofs.Listed.{any_in}
 use Rattle.claim_law.proofs.Keys.{variable_claimed, block_claimed}
@@ -185,7 +187,7 @@ module _ (m : ModuleState) (entry : Option (List ℕ)) (right : IsConforming m e
         let off = other_off m.heads Gs (count_by rules.is_push (body_insts m)) v (none_at_fault (is_other_block m.heads Gs (count_by rules.is_push (body_insts m))) (body_insts m) v right.declared.1.1.1.1.1.1.1.1.1.1.0 (inst_left v Gs (local_insts m) (as_among Gs v there))) one (buffer_on (is_variable v) (class v == class_number storage.Uniform) (class v == class_number storage.PushConstant) (class v == class_number storage.StorageBuffer) blocked) in
         let row_at : type_row Gs points.0 ≡ Some pointed.0 = row_is m entry right points.0 pointed.0 pointed.1 (shaped_type Gs pointed.0 points.1 pointed.2) in
         let told : is_no_block m.heads (class v) pointed.0 ≡ false = sym (ap (λ (x : Option ℕ). option_map_or (is_no_block m.heads (class v)) (option_and_then (type_row Gs) x) false) points.2 ∙ ap (λ (x : Option Inst). option_map_or (is_no_block m.heads (class v)) x false) row_at) ∙ off in
-        and_left (is pointed.0.op code.TypeStruct) (is_block_struct m.heads (class v) pointed.0.result) (not_off ((is pointed.0.op code.TypeStruct) && is_block_struct m.heads (class v) pointed.0.result) told)
+        and_left (is pointed.0.op code.TypeStruct) (is_block_struct m.heads (class v) pointed.0.result) (not-false ((is pointed.0.op code.TypeStruct) && is_block_struct m.heads (class v) pointed.0.result) told)
 
     pub block_is : block_of Gs v ≡ Some pointed.0
     block_is =
@@ -241,9 +243,9 @@ module _ (m : ModuleState) (entry : Option (List ℕ)) (right : IsConforming m e
             constant : is_constant_op h.op ≡ true
             constant =
                 let off = or_right (not ((word v 0 == class_number storage.Function) || (word v 0 == class_number storage.Private))) (is_other_value m v (word v 1))
-                (and_off (is_variable v && nat_lt 1 (length v.args)) (not ((word v 0 == class_number storage.Function) || (word v 0 == class_number storage.Private)) || is_other_value m v (word v 1)) (initializer_right m entry right v (inst_left v Gs (local_insts m) (as_among Gs v there))) (both_on (is_variable v) (nat_lt 1 (length v.args)) one (above (length v.args) place.0))) in
+                (and_off (is_variable v && nat_lt 1 (length v.args)) (not ((word v 0 == class_number storage.Function) || (word v 0 == class_number storage.Private)) || is_other_value m v (word v 1)) (initializer_right m entry right v (inst_left v Gs (local_insts m) (as_among Gs v there))) (and_from (is_variable v) (nat_lt 1 (length v.args)) one (above (length v.args) place.0))) in
                 let there_is : global Gs (word v 1) ≡ Some h = ap (global Gs) place.1 ∙ at in
-                not_off (is_constant_op h.op) (or_left (not (is_constant_op h.op)) (is_of_other_type Gs v h) (ap (λ (x : Option Inst). option_map_or (λ (g : Inst). not (is_constant_op g.op) || is_of_other_type Gs v g) x (is_defined_elsewhere m (word v 1))) (sym there_is) ∙ off))
+                not-false (is_constant_op h.op) (or_left (not (is_constant_op h.op)) (is_of_other_type Gs v h) (ap (λ (x : Option Inst). option_map_or (λ (g : Inst). not (is_constant_op g.op) || is_of_other_type Gs v g) x (is_defined_elsewhere m (word v 1))) (sym there_is) ∙ off))
 
             operand : has_operand v h.result ≡ true
             operand = subst (λ (k : ℕ). has_operand v k ≡ true) (place.1 ∙ sym own.1) (operand_at (is_id v.op v.args) v.args 0 1 place.0 (variable_id v.op v.args one))
@@ -253,7 +255,7 @@ module _ (m : ModuleState) (entry : Option (List ℕ)) (right : IsConforming m e
                 or_on_right (list_any (λ (k : ℕ). k == h.result) (Written m entry right o unit u).mentions) _
                 (or_on_right (list_any (is_length_of h.result) Gs) _
                 (any_in (λ (g : Inst). is_private g && (is_written_variable (Written m entry right o unit u) g && has_operand g h.result)) Gs v there
-                (both_on (is_private v) (is_written_variable (Written m entry right o unit u) v && has_operand v h.result) private (both_on (is_written_variable (Written m entry right o unit u) v) (has_operand v h.result) written operand))))
+                (and_from (is_private v) (is_written_variable (Written m entry right o unit u) v && has_operand v h.result) private (and_from (is_written_variable (Written m entry right o unit u) v) (has_operand v h.result) written operand))))
 
         first_made : UsesExpr W (initial (source_of m o u.entry) Names_of v)
         first_made = by_second (slice_get v.args 1) refl
@@ -279,7 +281,7 @@ module _ (m : ModuleState) (entry : Option (List ℕ)) (right : IsConforming m e
       same_block = by_class (is v.op code.Variable && is_block_class (slice_index v.args 0)) of_it
         where
           by_struct : (h : Inst) (b : Bool) → is h.op code.TypeStruct ≡ b → (if b then Some h else None) ≡ Some g → (h ≡ g) × (is g.op code.TypeStruct ≡ true)
-          by_struct h true on e = let same = same_some h g e in (same, ap (λ (x : Inst). is x.op code.TypeStruct) (sym same) ∙ on)
+          by_struct h true on e = let same = same_Some h g e in (same, ap (λ (x : Inst). is x.op code.TypeStruct) (sym same) ∙ on)
           by_struct h false off e = cc
 
           by_class : (b : Bool) → (if b then option_and_then as_struct (option_and_then (global Gs) (pointee Gs v.ty)) else None) ≡ Some g → (pointed.0 ≡ g) × (is g.op code.TypeStruct ≡ true)
@@ -301,7 +303,7 @@ module _ (m : ModuleState) (entry : Option (List ℕ)) (right : IsConforming m e
         where
           by_parts : (x : Option Trees) → all_trees (tree_before Gs g.at) g.args ≡ x → option_map (struct g.result) x ≡ Some points.1 → (ts : Trees) × (all_trees (tree_before Gs g.at) g.args ≡ Some ts) × (points.1 ≡ struct g.result ts)
           by_parts None at e = cc
-          by_parts (Some ts) at e = (ts, at, sym (same_some (struct g.result ts) points.1 e))
+          by_parts (Some ts) at e = (ts, at, sym (same_Some (struct g.result ts) points.1 e))
 
       inner : (j : ℕ) (ts : Trees) → all_trees (tree_before Gs g.at) g.args ≡ Some ts → have_struct j ts ≡ true → Held m entry right o unit u j
       inner j ts all has =

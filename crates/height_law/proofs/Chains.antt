@@ -4,6 +4,8 @@ use Rattle.std.specs.Prelude.{Contains, is_some, not, option_and_then, option_ma
 use Rattle.std.specs.List.{list_any}
 use Rattle.std.specs.Option.{option_map_or}
 use Rattle.std.proofs.lemmas.Bool.Decides.{nat_tests}
+use Rattle.std.proofs.lemmas.Bool.{not-false}
+use Rattle.std.proofs.lemmas.Option.{same_Some}
 use Rattle.spv_ops.specs.Opcode.{is as is_op}
 use Rattle.spv_ops.specs.Groups.{is_chain}
 use Rattle.spv_ops.specs.Operands.{is_id}
@@ -44,14 +46,10 @@ use Rattle.typed_law.proofs.Rules.{operand_there, value_right}
 use Rattle.typed_law.proofs.Types.{row_is, pointee_shaped}
 use Rattle.typed_law.proofs.Values.{HasType, inside, typed_value, own_type, local_row, type_suits}
 use Rattle.typed_law.proofs.Others.{target_of, typed_some}
-use Rattle.typed_law.proofs.Lists.{not_off}
 use Rattle.vec_lowering.specs.Depth.{depth, deepest}
 use Rattle.height_law.specs.Shallow.{AreDescending}
 use Rattle.height_law.proofs.Shapes.{shapes-le}
 use Rattle.height_law.proofs.Paths.{path-le}
-
-same_some : {A : Type 0} (a b : A) → Some a ≡ Some b → a ≡ b
-same_some a b e = cc
 
 same_part : (c d : ℕ) → Part c ≡ Part d → c ≡ d
 same_part c d e = cc
@@ -86,7 +84,7 @@ scalar-room (struct n ts) e is = cc
 
 pub nth-depth : (ts : Trees) (k : ℕ) (u : Tree) → nth_of ts k ≡ Some u → depth u ≤ deepest ts
 nth-depth no_trees k u e = cc
-nth-depth (tree t ts) zero u e = subst (λ x. depth x ≤ deepest (tree t ts)) (same_some t u e) (omega arith)
+nth-depth (tree t ts) zero u e = subst (λ x. depth x ≤ deepest (tree t ts)) (same_Some t u e) (omega arith)
 nth-depth (tree t ts) (suc k) u e = let rest = nth-depth ts k u e in omega (arith, rest)
 
 -- chains, by their opcodes
@@ -152,7 +150,7 @@ module _ (s : Setting) (f : Function) where
 
       by_members : (q : Option Trees) → all_trees (tree_before Gs g.at) g.args ≡ q → option_map (struct g.result) q ≡ Some t → (u : Tree) × (type_tree Gs c ≡ Some u) × (suc (room u) ≤ room t)
       by_members None all h = cc
-      by_members (Some ts) all h = by_constant ts (constant_word Gs id) (is_some (V id)) all (same_some (struct g.result ts) t h) e
+      by_members (Some ts) all h = by_constant ts (constant_word Gs id) (is_some (V id)) all (same_Some (struct g.result ts) t h) e
 
   array-down : (g : Inst) (t : Tree) → is_op g.op code.TypeArray ≡ true → tree_at Gs g ≡ Some t → StepsDown (Part (word g 0)) t
   array-down g t on whole c e = by_part (tree_before Gs g.at (word g 0)) refl (length_by (word g 1) (global Gs (word g 1))) (by_kind Gs (tree_before Gs g.at) g Array t (array_kind g.op on) whole)
@@ -162,7 +160,7 @@ module _ (s : Setting) (f : Function) where
       by_part (Some u) there None h = cc
       by_part (Some u) there (Some l) h =
           let own = room-depth u in
-          (u, earlier_is s f g.at c u (ap (tree_before Gs g.at) (sym (same_part (word g 0) c e)) ∙ there), subst (λ x. suc (room u) ≤ room x) (same_some (array u l) t h) (omega (arith, own)))
+          (u, earlier_is s f g.at c u (ap (tree_before Gs g.at) (sym (same_part (word g 0) c e)) ∙ there), subst (λ x. suc (room u) ≤ room x) (same_Some (array u l) t h) (omega (arith, own)))
 
   runtime-down : (g : Inst) (t : Tree) → is_runtime_array g ≡ true → tree_at Gs g ≡ Some t → StepsDown (Part (word g 0)) t
   runtime-down g t on whole c e = by_part (tree_before Gs g.at (word g 0)) refl (by_kind Gs (tree_before Gs g.at) g Runtime t (runtime_kind g.op on) whole)
@@ -171,7 +169,7 @@ module _ (s : Setting) (f : Function) where
       by_part None there h = cc
       by_part (Some u) there h =
           let own = room-depth u in
-          (u, earlier_is s f g.at c u (ap (tree_before Gs g.at) (sym (same_part (word g 0) c e)) ∙ there), subst (λ x. suc (room u) ≤ room x) (same_some (runtime u) t h) (omega (arith, own)))
+          (u, earlier_is s f g.at c u (ap (tree_before Gs g.at) (sym (same_part (word g 0) c e)) ∙ there), subst (λ x. suc (room u) ≤ room x) (same_Some (runtime u) t h) (omega (arith, own)))
 
   vector-down : (g : Inst) (t : Tree) → is_vector g ≡ true → tree_at Gs g ≡ Some t → StepsDown (Part (word g 0)) t
   vector-down g t on whole c e =
@@ -324,7 +322,7 @@ module _ (s : Setting) (entry : Option (List ℕ)) (right : IsConforming s.of en
           let down = walk-down s f (drop 1 i.args) q t c whole (sym reached ∙ is) in
           let right_pointer : is_other_pointer R i.ty (option_and_then (storage_class R) (T (word i 0))) c ≡ false = ap (leads_elsewhere R i.ty (option_and_then (storage_class R) (T (word i 0)))) (sym is) ∙ off in
           let tests = three_off (fails is_pointer R i.ty) (option_map_or (λ x. is_not x (storage_class R i.ty)) (option_and_then (storage_class R) (T (word i 0))) false) (option_map_or (differ R c) (pointee R i.ty) false) right_pointer in
-          let pointer : is_pointer g.0 ≡ true = not_off (is_pointer g.0) (ap (λ o. option_map_or (λ (x : Inst). not (is_pointer x)) o false) (sym (row_is s.of entry right i.ty g.0 g.1 (type_suits i.op g.0 g.2))) ∙ tests.0) in
+          let pointer : is_pointer g.0 ≡ true = not-false (is_pointer g.0) (ap (λ o. option_map_or (λ (x : Inst). not (is_pointer x)) o false) (sym (row_is s.of entry right i.ty g.0 g.1 (type_suits i.op g.0 g.2))) ∙ tests.0) in
           let to = pointee_shaped s.of entry right i.ty g.0 g.1 pointer in
           let same : down.0 ≡ to.1 = same_types s f c to.0 down.0 to.1 down.1 to.3 (ap (λ o. option_map_or (differ R c) o false) (sym to.2) ∙ tests.2) in
           let at_result : room_at i.result ≡ room to.1 = room_is i.result to.0 to.1 (ap (option_and_then (pointee R)) own ∙ to.2) to.3 in

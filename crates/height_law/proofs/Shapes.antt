@@ -3,6 +3,7 @@ use Rattle.std.proofs.Common.{◌≡◌, ◌<◌, ◌≤◌, ◌+◌, ◌==◌, 
 use Rattle.std.specs.Prelude.{Contains, option_map, slice_index}
 use Rattle.std.specs.Option.{option_map_or}
 use Rattle.std.proofs.lemmas.List.Elements.{All-contains}
+use Rattle.std.proofs.lemmas.Option.{same_Some}
 use Rattle.spv_module.specs.Held.{global}
 use Rattle.spv_module.specs.declared.inst.Inst.{Inst}
 use Rattle.spv_module.specs.declared.tree.Elem.{Elem}
@@ -15,23 +16,20 @@ use Rattle.spv_types.specs.Limits.{AreWithin}
 use Rattle.spv_types.proofs.Below.{tree_before_is}
 use Rattle.vec_lowering.specs.Depth.{depth, deepest}
 
-same_some : {A : Type 0} (a b : A) → Some a ≡ Some b → a ≡ b
-same_some a b e = cc
-
 same-depth : (t u : Tree) (n : ℕ) → Some t ≡ Some u → depth t ≤ n → depth u ≤ n
-same-depth t u n e low = subst (λ (x : Tree). depth x ≤ n) (same_some t u e) low
+same-depth t u n e low = subst (λ (x : Tree). depth x ≤ n) (same_Some t u e) low
 
 found : (gs : List Inst) (id : ℕ) (g : Inst) → find (λ (i : Inst). i.result == id) gs ≡ Some g → Contains gs g
 found [] id g e = cc
 found (i ∷ gs) id g e = by_test (i.result == id) e (found gs id g)
   where
     by_test : (b : Bool) → (if b then Some i else find (λ (j : Inst). j.result == id) gs) ≡ Some g → (find (λ (j : Inst). j.result == id) gs ≡ Some g → Contains gs g) → Contains (i ∷ gs) g
-    by_test true e later = (zero, (omega arith), same_some i g e)
+    by_test true e later = (zero, (omega arith), same_Some i g e)
     by_test false e later = let c = later e in (suc c.0, (let less : c.0 < length gs = c.1 in omega (arith, less)), c.2)
 
 module _ (f : ℕ → Option Tree) (d : ℕ → ℕ) (each : (id : ℕ) (t : Tree) → f id ≡ Some t → depth t ≤ d id) where
   all-le : (ids : List ℕ) (ts : Trees) → all_trees f ids ≡ Some ts → deepest ts ≤ deepest_id d ids
-  all-le [] ts e = subst (λ (x : Trees). deepest x ≤ 0) (same_some no_trees ts e) (omega arith)
+  all-le [] ts e = subst (λ (x : Trees). deepest x ≤ 0) (same_Some no_trees ts e) (omega arith)
   all-le (id ∷ ids) ts e = by_both (f id) refl (all_trees f ids) refl e (all-le ids)
     where
       by_both : (o : Option Tree) → f id ≡ o → (q : Option Trees) → all_trees f ids ≡ q → both o q ≡ Some ts → ((us : Trees) → all_trees f ids ≡ Some us → deepest us ≤ deepest_id d ids) → deepest ts ≤ deepest_id d (id ∷ ids)
@@ -40,7 +38,7 @@ module _ (f : ℕ → Option Tree) (d : ℕ → ℕ) (each : (id : ℕ) (t : Tre
       by_both (Some t) is (Some us) all e later =
           let one = each id t is in
           let rest = later us all in
-          subst (λ (x : Trees). deepest x ≤ deepest_id d (id ∷ ids)) (same_some (tree t us) ts e) (omega (arith, one, rest))
+          subst (λ (x : Trees). deepest x ≤ deepest_id d (id ∷ ids)) (same_Some (tree t us) ts e) (omega (arith, one, rest))
 
   module _ (gs : List Inst) (none : f 0 ≡ None) where
     array-le : (args : List ℕ) (l : Option Length) (t : Tree) → array_tree (f (slice_index args 0)) l ≡ Some t → depth t ≤ 1 + deepest_id d (take 1 args)

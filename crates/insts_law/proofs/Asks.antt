@@ -4,6 +4,7 @@ use Rattle.std.specs.Prelude.{◌⊎◌, option_and_then}
 use Rattle.std.specs.Option.{option_map_or}
 use Rattle.std.specs.List.{list_any}
 use Rattle.std.proofs.lemmas.Bool.Decides.{eqb_tells}
+use Rattle.std.proofs.lemmas.Bool.{true_from_ne_false, false_from_ne_true}
 use Rattle.spv_ops.specs.Opcode.{is}
 use Rattle.spv_ops.specs.Groups.{is_chain}
 use Rattle.spv_ops.specs.OpGroups.{group_of}
@@ -95,14 +96,6 @@ variable_other false b on = cc
 
 abbrev is_variable_op : Inst → Bool
 is_variable_op i = is i.op code.Variable
-
-pub not_off : (t : Bool) → (t ≡ false → ⊥) → t ≡ true
-not_off true never = refl
-not_off false never = absurd (never refl)
-
-not_on : (t : Bool) → (t ≡ true → ⊥) → t ≡ false
-not_on true never = absurd (never refl)
-not_on false never = refl
 
 atomic_words : (a : AtomicOp) (s : Setting) (f : Function) (i : Inst) → has_result a ≡ true → IsAtomic a s f i → IsOfWords (value_shape s f i.result)
 atomic_words atomics.Store s f i on w = cc
@@ -233,7 +226,7 @@ module _ (m : ModuleState) (opts : Options) (right : IsConforming m opts.entry) 
       new on = is_new m f inside_it.order inside_it.formed inner_of b o block befores i rest split (some on) done only
 
       has_type_so : (i.result ≡ 0 → ⊥) → has_type i.op ≡ true
-      has_type_so result = not_off (has_type i.op) (λ off. result ((inner i there).1 off))
+      has_type_so result = true_from_ne_false (has_type i.op) (λ off. result ((inner i there).1 off))
 
       -- what has a variable
       shape_of : (i.result ≡ 0 → ⊥) → is_variable_form (w.form i.result) ≡ true → (t : Tree) × (type_tree gs i.ty ≡ Some t) × IsSized t
@@ -259,7 +252,7 @@ module _ (m : ModuleState) (opts : Options) (right : IsConforming m opts.entry) 
 
       -- what is a pointer has none
       pointer_form : (i.result ≡ 0 → ⊥) → is_other i ≡ false → is_variable_form (w.form i.result) ≡ false
-      pointer_form result off = not_on (is_variable_form (w.form i.result)) (λ on.
+      pointer_form result off = false_from_ne_true (is_variable_form (w.form i.result)) (λ on.
           let t = shape_of result on in
           clash (sym (other_so m opts right kinds unit u inv p among lends is_one i there_in result t.0 t.1 t.2) ∙ off))
 

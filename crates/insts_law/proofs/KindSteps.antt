@@ -1,6 +1,7 @@
 -- What is written of an instruction tells its step, and whether it has a result.
 use Rattle.std.proofs.Common.{◌≡◌, ◌&&◌, not, Bool, true, false, inl, inr, refl, ap}
 use Rattle.std.specs.Prelude.{◌⊎◌}
+use Rattle.std.proofs.lemmas.Bool.{not-true}
 use Rattle.spv_ops.specs.Opcode.{is, number}
 use Rattle.spv_ops.specs.Groups.{is_terminator, is_chain}
 use Rattle.spv_ops.specs.OpGroups.{group_of}
@@ -173,12 +174,8 @@ unfolding kind_of group_of shape
 effects_by code.Store = refl
 effects_by o = refl
 
-not_true : (b : Bool) → not b ≡ true → b ≡ false
-not_true true e = cc
-not_true false e = refl
-
 pub no_type : (o : Op) → effects (kind_of o) ≡ true → has_type o ≡ false
-no_type o on = not_true (has_type o) (implies (effects (kind_of o)) (not (has_type o)) (effects_by o) on)
+no_type o on = not-true (has_type o) (implies (effects (kind_of o)) (not (has_type o)) (effects_by o) on)
 
 -- so of variables and of merge instructions
 variable_op : (o : Op) → step_kind o ≡ steps.variable → (is o code.Variable ≡ true) × (has_result o ≡ true)
@@ -199,7 +196,7 @@ pub variable_gives : (o : Op) → step_kind o ≡ steps.variable → (is o code.
 variable_gives o step = variable_op o step
 
 pub merge_no_type : (o : Op) → step_kind o ≡ steps.merge → has_type o ≡ false
-merge_no_type o step = not_true (has_type o) (implies (is_merge (step_kind o)) (not (has_type o)) (merge_by o) (ap is_merge step))
+merge_no_type o step = not-true (has_type o) (implies (is_merge (step_kind o)) (not (has_type o)) (merge_by o) (ap is_merge step))
 
 -- loads, calls and atomic instructions have an effect, and are named wherever they are live
 abbrev pub accesses : InstKind → Bool
@@ -235,7 +232,7 @@ effect_by code.Load = refl
 effect_by o = refl
 
 pub effect_of : (o : Op) → is_effect (kind_of o) ≡ true → is_pure o ≡ false
-effect_of o on = not_true (is_pure o) (implies (is_effect (kind_of o)) (not (is_pure o)) (effect_by o) on)
+effect_of o on = not-true (is_pure o) (implies (is_effect (kind_of o)) (not (is_pure o)) (effect_by o) on)
 
 -- a variable is no chain
 pub variable_no_chain : (o : Op) → is o code.Variable ≡ true → is_chain o ≡ false
@@ -254,4 +251,4 @@ value_by code.Undef = refl
 value_by o = refl
 
 pub value_unnamed : (o : Op) (q : OperationKind) → kind_of o ≡ kind.Value q → is_always_named o ≡ false
-value_unnamed o q e = not_true (is_always_named o) (implies (is_value_kind (kind_of o)) (not (is_always_named o)) (value_by o) (ap is_value_kind e))
+value_unnamed o q e = not-true (is_always_named o) (implies (is_value_kind (kind_of o)) (not (is_always_named o)) (value_by o) (ap is_value_kind e))

@@ -2,6 +2,7 @@
 use Rattle.std.proofs.Common.{◌≡◌, ◌<◌, ◌+◌, ◌==◌, ◌&&◌, ℕ, Bool, true, false, List, [], ◌∷◌, ◌++◌, append_assoc, inl, inr, refl, sym, ap, ◌∙◌, subst, arith}
 use Rattle.std.specs.Prelude.{◌⊎◌}
 use Rattle.std.proofs.lemmas.Bool.Decides.{eqb_tells}
+use Rattle.std.proofs.lemmas.Option.{same_Some}
 use Rattle.spv_ops.specs.Groups.{is_chain, is_terminator}
 use Rattle.spv_ops.specs.OpGroups.{group_of}
 use Rattle.spv_module.specs.State.{ModuleState}
@@ -19,7 +20,6 @@ use Rattle.plan_law.specs.InOrder.{IsAmong, AreRising, AreInOrder}
 use Rattle.plan_law.proofs.Order.{found}
 use Rattle.path_law.proofs.Based.{op_chain}
 use Rattle.typed_law.specs.Conforms.{IsFormed}
-use Rattle.typed_law.proofs.Lists.{same_some}
 use Rattle.claim_law.specs.Claimed.{IsIn}
 use Rattle.claim_law.proofs.Listed.{in_flat, at_place}
 use Rattle.unit_law.proofs.Lists.{as_among}
@@ -78,7 +78,7 @@ module _ (m : ModuleState) (f : Function) (order : AreInOrder m f) (formed : (j 
   -- two with one result are one
   same_result : (i j : Inst) → IsAmong i (insts_of f) → IsAmong j (insts_of f) → (i.result ≡ 0 → ⊥) → j.result ≡ i.result → j ≡ i
   same_result i j i_in j_in some same =
-      same_some j i (sym (found j (insts_of f) order.apart j_in (λ zero. some (sym same ∙ zero))) ∙ (ap (inst_in f) same ∙ found i (insts_of f) order.apart i_in some))
+      same_Some j i (sym (found j (insts_of f) order.apart j_in (λ zero. some (sym same ∙ zero))) ∙ (ap (inst_in f) same ∙ found i (insts_of f) order.apart i_in some))
 
   module _ (chains : (j : Inst) → IsAmong j (insts_of f) → is_chain j.op ≡ true → (j.result ≡ 0 → ⊥) × (is_phi j ≡ false)) where
     chain_before : (j : Inst) → IsAmong j (insts_of f) → is_chain j.op ≡ true → (i : Inst) → IsAmong i (insts_of f) → (i.result ≡ 0 → ⊥) → base j ≡ i.result → i.at < j.at

@@ -1,5 +1,6 @@
 -- So operations say what they give in the plan's own scope; and of the instructions of blocks are left what places stand for, what inserts assign, calls, and the semantics of barriers.
-use Rattle.std.proofs.Common.{◌≡◌, ◌++◌, ℕ, Bool, true, false, List, [], ◌∷◌, Option, Some, refl, sym, ap, subst}
+use Rattle.std.proofs.Common.{◌≡◌, ◌++◌, ℕ, true, false, List, [], ◌∷◌, Option, Some, refl, sym, ap, subst}
+use Rattle.std.proofs.lemmas.Bool.{true_from_ne_false}
 use Rattle.spv_ops.specs.Opcode.{is}
 use Rattle.spv_ops.specs.Groups.{is_chain}
 use Rattle.spv_ops.specs.OpGroups.{group_of}
@@ -65,10 +66,6 @@ use Rattle.insts_law.proofs.Barriers.{HasNoBarriers, AreRead, memory_barrier_lef
 use Rattle.insts_law.proofs.Indexes.{HasIndex, chain_left}
 use Rattle.insts_law.proofs.Values.{LeftAt, Says, operands_say}
 
-not_off : (t : Bool) → (t ≡ false → ⊥) → t ≡ true
-not_off true never = refl
-not_off false never = absurd (never refl)
-
 module _ (m : ModuleState) (opts : Options) (right : IsConforming m opts.entry) (kinds : HaveKinds m.globals) (unit : TranslationUnit) (u : IsUnitOf m opts unit) (inv : Invocation) (p : FunctionPlan) (among : IsIn p u.plans) (lends : LendsWhole (S m opts unit u inv)) where
   abbrev s : Setting
   s = S m opts unit u inv
@@ -118,7 +115,7 @@ module _ (m : ModuleState) (opts : Options) (right : IsConforming m opts.entry) 
         let l = left form b o has done befores i rest split all c z at in
         let there = stands_among m Fn in_it.order in_it.formed inner_of b o (form.blocks b o.block o.there) befores i rest split in
         let result = (in_it.formed i there).result (gives_result i.op (ap gives e)) in
-        let t = shapes i there (not_off (has_type i.op) (λ off. result ((inner i there).1 off))) (variable_value s opts.entry right kinds opts unit u p among i (as_in (insts_of Fn) i there) result on) in
+        let t = shapes i there (true_from_ne_false (has_type i.op) (λ off. result ((inner i there).1 off))) (variable_value s opts.entry right kinds opts unit u p among i (as_in (insts_of Fn) i there) result on) in
         l.lowers q e on t.0 t.1 x told (operands_say m opts right kinds unit u inv p among lends one inner_of program calls (Holds Fn) form b o has done befores i rest split all q e on t.0 t.1 c z at l.values x told)
 
     pub say_operations : AreLeftOfOperations → SayOperations p.scope

@@ -3,6 +3,7 @@ use Rattle.std.proofs.Common.{◌≡◌, ◌==◌, ◌&&◌, ◌||◌, ◌+◌, 
 use Rattle.std.specs.Prelude.{slice_get, is_some}
 use Rattle.std.specs.Option.{option_map_or}
 use Rattle.std.specs.List.{enumerate_from}
+use Rattle.std.proofs.lemmas.Bool.{and_from, or_from, and_left, false_from_ne_true, or_left, and_right, or_right}
 use Rattle.spv_ops.specs.Opcode.{is}
 use Rattle.spv_ops.specs.Groups.{is_chain}
 use Rattle.spv_ops.specs.Shape.{is_pure}
@@ -44,7 +45,7 @@ use Rattle.path_law.proofs.Accesses.{shape_itself}
 use Rattle.plan_law.specs.InOrder.{IsAmong}
 use Rattle.plan_law.proofs.Order.{found}
 use Rattle.typed_law.specs.Conforms.{IsConforming, IsConformingIn}
-use Rattle.typed_law.proofs.Lists.{clash, no_true}
+use Rattle.typed_law.proofs.Lists.{clash}
 use Rattle.typed_law.proofs.Values.{inside, own_type}
 use Rattle.ruled_law.proofs.Ruled.{contains_of}
 use Rattle.claim_law.specs.Claimed.{IsIn}
@@ -76,33 +77,9 @@ no_local Forwarded off = refl
 no_local Local off = cc
 no_local Hoisted off = refl
 
-both_on : (a b : Bool) → a ≡ true → b ≡ true → (a && b) ≡ true
-both_on true b on e = e
-both_on false b on e = cc
-
-first_off : (a b : Bool) → a ≡ false → (a && b) ≡ false
-first_off false b off = refl
-first_off true b off = cc
-
-second_off : (a b : Bool) → b ≡ false → (a && b) ≡ false
-second_off true b off = off
-second_off false b off = refl
-
-either_off : (a b : Bool) → a ≡ false → b ≡ false → (a || b) ≡ false
-either_off false b off e = e
-either_off true b off e = cc
-
-second_on : (a b : Bool) → b ≡ true → (a || b) ≡ true
-second_on true b on = refl
-second_on false b on = on
-
 neither : (a b : Bool) → a ≡ false → b ≡ false → not (a || b) ≡ true
 neither false b off e = ap not e
 neither true b off e = cc
-
-on_first : (a b : Bool) → a ≡ true → (a || b) ≡ true
-on_first true b on = refl
-on_first false b on = cc
 
 module _ (m : ModuleState) (opts : Options) (right : IsConforming m opts.entry) (kinds : HaveKinds m.globals) (unit : TranslationUnit) (u : IsUnitOf m opts unit) (inv : Invocation) (p : FunctionPlan) (among : IsIn p u.plans) (lends : LendsWhole (S m opts unit u inv)) where
   abbrev s : Setting
@@ -133,7 +110,7 @@ module _ (m : ModuleState) (opts : Options) (right : IsConforming m opts.entry) 
   -- what has no result has no variable of its block
   pub zero_local : (i : Inst) → i.result ≡ 0 → N.is_local i.result ≡ false
   zero_local i zero =
-      ap N.is_local zero ∙ first_off (is_local_form (p.scope.form 0)) (is_result f 0 && is_named_in p.scope.form p.graph f.blocks 0) (ap is_local_form zero_gone)
+      ap N.is_local zero ∙ and_left (is_local_form (p.scope.form 0)) (is_result f 0 && is_named_in p.scope.form p.graph f.blocks 0) (ap is_local_form zero_gone)
 
   module _ (is_one : IsFunctionOf f m.functions) (i : Inst) (there : IsIn i (insts_of f)) (some : i.result ≡ 0 → ⊥) where
     inside_it : IsConformingIn m f
@@ -146,10 +123,10 @@ module _ (m : ModuleState) (opts : Options) (right : IsConforming m opts.entry) 
     no_parameter = ap is_some (inside_it.order.own i among_it some).made
 
     no_value : is_value_parameter gs f i.result ≡ false
-    no_value = first_off (is_parameter f i.result) (not (is_pointer gs f i.result)) no_parameter
+    no_value = and_left (is_parameter f i.result) (not (is_pointer gs f i.result)) no_parameter
 
     pub no_lent : N.is_lent i.result ≡ false
-    no_lent = first_off (is_parameter f i.result) (is_pointer gs f i.result) no_parameter
+    no_lent = and_left (is_parameter f i.result) (is_pointer gs f i.result) no_parameter
 
     made : inst_in f i.result ≡ Some i
     made = found i (insts_of f) inside_it.order.apart among_it some
@@ -160,14 +137,14 @@ module _ (m : ModuleState) (opts : Options) (right : IsConforming m opts.entry) 
     -- chains and variables have none
     pub pointer_unset : is_other i ≡ false → (N.is_outer i.result ≡ false) × (N.is_local i.result ≡ false)
     pointer_unset off = (
-      either_off (is_value_parameter gs f i.result) (is_hoisted (p.scope.form i.result) && is_result f i.result) no_value (second_off (is_hoisted (p.scope.form i.result)) (is_result f i.result) (result_is ∙ off)),
-      second_off (is_local_form (p.scope.form i.result)) (is_result f i.result && is_named_in p.scope.form p.graph f.blocks i.result) (first_off (is_result f i.result) (is_named_in p.scope.form p.graph f.blocks i.result) (result_is ∙ off)),
+      or_from (is_value_parameter gs f i.result) (is_hoisted (p.scope.form i.result) && is_result f i.result) no_value (and_right (is_hoisted (p.scope.form i.result)) (is_result f i.result) (result_is ∙ off)),
+      and_right (is_local_form (p.scope.form i.result)) (is_result f i.result && is_named_in p.scope.form p.graph f.blocks i.result) (and_left (is_result f i.result) (is_named_in p.scope.form p.graph f.blocks i.result) (result_is ∙ off)),
     )
 
     pub form_unset : is_variable_form (p.scope.form i.result) ≡ false → (N.is_outer i.result ≡ false) × (N.is_local i.result ≡ false)
     form_unset off = (
-      either_off (is_value_parameter gs f i.result) (is_hoisted (p.scope.form i.result) && is_result f i.result) no_value (first_off (is_hoisted (p.scope.form i.result)) (is_result f i.result) (no_hoisted (p.scope.form i.result) off)),
-      first_off (is_local_form (p.scope.form i.result)) (is_result f i.result && is_named_in p.scope.form p.graph f.blocks i.result) (no_local (p.scope.form i.result) off),
+      or_from (is_value_parameter gs f i.result) (is_hoisted (p.scope.form i.result) && is_result f i.result) no_value (and_left (is_hoisted (p.scope.form i.result)) (is_result f i.result) (no_hoisted (p.scope.form i.result) off)),
+      and_left (is_local_form (p.scope.form i.result)) (is_result f i.result && is_named_in p.scope.form p.graph f.blocks i.result) (no_local (p.scope.form i.result) off),
     )
 
     pub named_so : N.name i.result ≡ p.scope.setting.key (Id (id i.result))
@@ -198,8 +175,8 @@ module _ (m : ModuleState) (opts : Options) (right : IsConforming m opts.entry) 
       pub other_so : is_other i ≡ true
       other_so =
           neither (is i.op code.Variable) (is_chain i.op)
-          (no_true (is i.op code.Variable) (λ on. clash (sym (lends.variables f is_one i (as_of (insts_of f) i there) (variable_step i.op on)) ∙ no_pointer)))
-          (no_true (is_chain i.op) (λ on. clash (sym (lends.chains f is_one i (as_of (insts_of f) i there) (chain_step i.op on)).1 ∙ no_pointer)))
+          (false_from_ne_true (is i.op code.Variable) (λ on. clash (sym (lends.variables f is_one i (as_of (insts_of f) i there) (variable_step i.op on)) ∙ no_pointer)))
+          (false_from_ne_true (is_chain i.op) (λ on. clash (sym (lends.chains f is_one i (as_of (insts_of f) i there) (chain_step i.op on)).1 ∙ no_pointer)))
 
       pub shape_so : N.shape i.result ≡ shape_in s (struct_names (key m opts unit u inv)) t
       shape_so = shape_of_type m opts unit u inv p i.result i.ty t own_is shaped
@@ -209,8 +186,8 @@ module _ (m : ModuleState) (opts : Options) (right : IsConforming m opts.entry) 
 
       pub hoisted_so : p.scope.form i.result ≡ Hoisted → N.is_outer i.result ≡ true
       hoisted_so form =
-          second_on (is_value_parameter gs f i.result) (is_hoisted (p.scope.form i.result) && is_result f i.result)
-          (both_on (is_hoisted (p.scope.form i.result)) (is_result f i.result) (hoisted_variable (p.scope.form i.result) form) (result_is ∙ other_so))
+          or_right (is_value_parameter gs f i.result) (is_hoisted (p.scope.form i.result) && is_result f i.result)
+          (and_from (is_hoisted (p.scope.form i.result)) (is_result f i.result) (hoisted_variable (p.scope.form i.result) form) (result_is ∙ other_so))
 
       -- in a reached block
       module _ (b : ℕ) (block : Block) (at : slice_get f.blocks b ≡ Some block) (in_it : IsIn i block.insts) (reached : (nth (graph f) b).reached ≡ true) where
@@ -221,7 +198,7 @@ module _ (m : ModuleState) (opts : Options) (right : IsConforming m opts.entry) 
         named_in form =
             any_in (block_names p.scope.form p.graph i.result) (enumerate_from 0 f.blocks) (0 + b, block) (numbered f.blocks 0 b block at)
             (any_in (names_id p.scope.form (nth p.graph (0 + b)).reached i.result) block.insts i in_it
-            (both_on (has_name p.scope.form (nth p.graph (0 + b)).reached i) (i.result == i.result) (named_by (p.scope.form i.result) form (nth p.graph (0 + b)).reached reached_so) (same_test i.result i.result refl)))
+            (and_from (has_name p.scope.form (nth p.graph (0 + b)).reached i) (i.result == i.result) (named_by (p.scope.form i.result) form (nth p.graph (0 + b)).reached reached_so) (same_test i.result i.result refl)))
           where
             zero_plus : 0 + b ≡ b
             zero_plus = omega arith
@@ -230,15 +207,15 @@ module _ (m : ModuleState) (opts : Options) (right : IsConforming m opts.entry) 
             reached_so = ap (λ (n : ℕ). (nth p.graph n).reached) zero_plus ∙ (ap (λ (g : List Node). (nth g b).reached) graph_is ∙ reached)
 
             named_by : (x : Form) → x ≡ Local → (r : Bool) → r ≡ true → has_name_by x r (is i.op code.Variable) ≡ true
-            named_by Local e r on = on_first r (is i.op code.Variable) on
+            named_by Local e r on = or_left r (is i.op code.Variable) on
             named_by Gone e r on = cc
             named_by Forwarded e r on = cc
             named_by Hoisted e r on = cc
 
         pub local_so : (program : Program) → p.scope.form i.result ≡ Local → IsTypeOfText program s opts.overrides (key m opts unit u inv) i.ty → (N.is_local i.result ≡ true) × (type_of program (type_at p.scope.setting.source p.scope.names i.ty) ≡ Some (N.shape i.result))
         local_so program form text = (
-          both_on (is_local_form (p.scope.form i.result)) (is_result f i.result && is_named_in p.scope.form p.graph f.blocks i.result) (ap is_local_form form)
-              (both_on (is_result f i.result) (is_named_in p.scope.form p.graph f.blocks i.result) (result_is ∙ other_so) (named_in form)),
+          and_from (is_local_form (p.scope.form i.result)) (is_result f i.result && is_named_in p.scope.form p.graph f.blocks i.result) (ap is_local_form form)
+              (and_from (is_result f i.result) (is_named_in p.scope.form p.graph f.blocks i.result) (result_is ∙ other_so) (named_in form)),
           ap (λ (w : Scope). type_of program (type_at w.setting.source w.names i.ty)) scope_is
               ∙ (type_stands m opts unit u inv program i.ty text
               ∙ ap (λ (x : Shape). Some x) (ap (λ (x : Option Tree). shape_in s (struct_names (key m opts unit u inv)) (unwrap_or x plain.uint)) shaped ∙ sym shape_so)),

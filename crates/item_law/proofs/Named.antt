@@ -4,6 +4,7 @@ use Rattle.std.specs.Prelude.{◌⊎◌, bytes_eq, codes, is_some, slice_get, un
 use Rattle.std.specs.List.{list_any}
 use Rattle.std.proofs.lemmas.Slice.Eq.{bytes_eq-Decides}
 use Rattle.std.proofs.lemmas.Bool.Decides.{nat_tests}
+use Rattle.std.proofs.lemmas.Bool.{and_from, or_left, or_right}
 use Rattle.spv_ops.specs.Opcode.{is, number}
 use Rattle.spv_ops.specs.declared.Op.{Op}
 use Rattle.spv_ops.specs.Groups.{is_constant as is_constant_op}
@@ -37,7 +38,7 @@ use Rattle.global_law.specs.Sources.{source_of}
 use Rattle.constant_law.specs.Within.{IsStructBefore, IsWithin, AreWithin, IsNoBlock}
 use Rattle.constant_law.specs.Items.{key_text, is_item, HaveNames}
 use Rattle.constant_law.proofs.Within.{constant_within, pointee_within, members_unblocked}
-use Rattle.constant_law.proofs.Written.{or_on_left, or_on_right, IsHeld, own_type, pointed_type, held_by, struct_written}
+use Rattle.constant_law.proofs.Written.{IsHeld, own_type, pointed_type, held_by, struct_written}
 use Rattle.claim_law.specs.Claimed.{IsIn, HasKey, HasName}
 use Rattle.claim_law.proofs.Keys.{struct_claimed, member_claimed, constant_claimed, variable_claimed}
 
@@ -61,14 +62,10 @@ and_left : (a b : Bool) → (a && b) ≡ true → a ≡ true
 and_left true b e = refl
 and_left false b e = cc
 
-both_on : (a b : Bool) → a ≡ true → b ≡ true → (a && b) ≡ true
-both_on true b on e = e
-both_on false b on e = cc
-
 any_one : (test : Inst → Bool) (gs : List Inst) (g : Inst) → IsAmong g gs → test g ≡ true → list_any test gs ≡ true
 any_one test [] g there on = absurd there
-any_one test (h ∷ gs) g (inl same) on = or_on_left (test h) (list_any test gs) (ap test same ∙ on)
-any_one test (h ∷ gs) g (inr there) on = or_on_right (test h) (list_any test gs) (any_one test gs g there on)
+any_one test (h ∷ gs) g (inl same) on = or_left (test h) (list_any test gs) (ap test same ∙ on)
+any_one test (h ∷ gs) g (inr there) on = or_right (test h) (list_any test gs) (any_one test gs g there on)
 
 in_among : (g : Inst) (gs : List Inst) → IsAmong g gs → IsIn g gs
 in_among g [] there = absurd there
@@ -204,7 +201,7 @@ module _ (s : Setting) (entry : Option (List ℕ)) (right : IsConforming s.of en
     struct_apart : (k : ℕ) (ts : Trees) → IsStructBefore (IsNoBlock s.of) s.of n k ts → Held k → AreMembersApart (struct_names key) k ts
     struct_apart k ts w held =
         subst (λ a. AreMembersApart (struct_names key) a ts) (named Gs k w.inst w.there)
-        (claimed_apart w.inst ts (in_among w.inst Gs (found_in Gs k w.inst w.there)) w.opcode (or_on_left (is_written_struct source r w.inst) (is_written_block source r w.inst.result) (struct_written s entry right overrides r n k ts w held)) w.members)
+        (claimed_apart w.inst ts (in_among w.inst Gs (found_in Gs k w.inst w.there)) w.opcode (or_left (is_written_struct source r w.inst) (is_written_block source r w.inst.result) (struct_written s entry right overrides r n k ts w held)) w.members)
 
     mutual
       -- members are apart in a type whose structs are held by what is written
@@ -215,28 +212,28 @@ module _ (s : Setting) (entry : Option (List ℕ)) (right : IsConforming s.of en
       members_apart (plain.vector e k) w held = tt
       members_apart (plain.array t l) w held = members_apart t w.0 held
       members_apart (plain.runtime t) w held = members_apart t w held
-      members_apart (plain.struct k ts) w held = (struct_apart k ts w.0 (held k (or_on_left (k == k) (have_struct k ts) (grind (arith, nat_tests)))), have_apart ts w.1 (λ j has. held j (or_on_right (k == j) (have_struct j ts) has)))
+      members_apart (plain.struct k ts) w held = (struct_apart k ts w.0 (held k (or_left (k == k) (have_struct k ts) (grind (arith, nat_tests)))), have_apart ts w.1 (λ j has. held j (or_right (k == j) (have_struct j ts) has)))
 
       pub have_apart : (ts : Trees) → AreWithin (IsNoBlock s.of) s.of n ts → ((j : ℕ) → have_struct j ts ≡ true → Held j) → HaveMembersApart (struct_names key) ts
       have_apart no_trees w held = tt
-      have_apart (tree t ts) w held = (members_apart t w.0 (λ j has. held j (or_on_left (has_struct j t) (have_struct j ts) has)), have_apart ts w.1 (λ j has. held j (or_on_right (has_struct j t) (have_struct j ts) has)))
+      have_apart (tree t ts) w held = (members_apart t w.0 (λ j has. held j (or_left (has_struct j t) (have_struct j ts) has)), have_apart ts w.1 (λ j has. held j (or_right (has_struct j t) (have_struct j ts) has)))
 
   -- so it is with each constant that is declared
   pub constant_members : (g : Inst) (t : Tree) → IsAmong g Gs → is_declared_constant source r g ≡ true → type_tree Gs g.ty ≡ Some t → HasMembersApart (struct_names key) t
   constant_members g t there on shape =
       members_apart g.at t (constant_within s.of entry right g t there (constant_there g on) shape)
-      (λ j has. held_by s entry right overrides r g j there (or_on_right (is_written_variable r g) (is_declared_constant source r g) on) (own_type s entry right overrides r g.ty j t shape has))
+      (λ j has. held_by s entry right overrides r g j there (or_right (is_written_variable r g) (is_declared_constant source r g) on) (own_type s entry right overrides r g.ty j t shape has))
 
   -- with what a written variable points to that is no block
   pub variable_members : (v : Inst) (q : ℕ) (t : Tree) → IsAmong v Gs → is_written_variable r v ≡ true → is_some_block s.of.heads Gs v ≡ false → pointee Gs v.ty ≡ Some q → type_tree Gs q ≡ Some t → HasMembersApart (struct_names key) t
   variable_members v q t there on off at shape =
       members_apart v.at t (pointee_within s.of entry right v q t there (variable_one v r on) off at shape)
-      (λ j has. held_by s entry right overrides r v j there (or_on_left (is_written_variable r v) (is_declared_constant source r v) on) (pointed_type s entry right overrides r v.ty q j t at shape has))
+      (λ j has. held_by s entry right overrides r v j there (or_left (is_written_variable r v) (is_declared_constant source r v) on) (pointed_type s entry right overrides r v.ty q j t at shape has))
 
   -- and with a block
   pub block_members : (v g : Inst) (ts : Trees) → IsAmong v Gs → is_written_variable r v ≡ true → IsAmong g Gs → is g.op code.TypeStruct ≡ true → has_block source g.result v ≡ true → pointee Gs v.ty ≡ Some g.result → type_tree Gs g.result ≡ Some (plain.struct g.result ts) → all_trees (tree_before Gs g.at) g.args ≡ Some ts → HasMembersApart (struct_names key) (plain.struct g.result ts)
   block_members v g ts there on among struct block at shape all = (
-    claimed_apart g ts (in_among g Gs among) struct (or_on_right (is_written_struct source r g) (is_written_block source r g.result) (any_one (λ (x : Inst). is_written_variable r x && has_block source g.result x) Gs v there (both_on (is_written_variable r v) (has_block source g.result v) on block))) all,
+    claimed_apart g ts (in_among g Gs among) struct (or_right (is_written_struct source r g) (is_written_block source r g.result) (any_one (λ (x : Inst). is_written_variable r x && has_block source g.result x) Gs v there (and_from (is_written_variable r v) (has_block source g.result v) on block))) all,
     have_apart g.at ts (members_unblocked s.of entry right g ts among struct all)
-        (λ j has. held_by s entry right overrides r v j there (or_on_left (is_written_variable r v) (is_declared_constant source r v) on) (pointed_type s entry right overrides r v.ty g.result j (plain.struct g.result ts) at shape (or_on_right (g.result == j) (have_struct j ts) has))),
+        (λ j has. held_by s entry right overrides r v j there (or_left (is_written_variable r v) (is_declared_constant source r v) on) (pointed_type s entry right overrides r v.ty g.result j (plain.struct g.result ts) at shape (or_right (g.result == j) (have_struct j ts) has))),
   )

@@ -2,6 +2,7 @@
 use Rattle.std.proofs.Common.{◌≡◌, ℕ, Bool, true, false, List, [], ◌∷◌, map, Option, Some, None, inl, inr, refl, sym, ap, ◌∙◌, subst}
 use Rattle.std.specs.Prelude.{◌⊎◌, flat_map, slice_index, option_and_then, is_none, if◌then◌else◌}
 use Rattle.std.specs.List.{list_any, list_all}
+use Rattle.std.proofs.lemmas.Option.{same_Some}
 use Rattle.spv_ops.specs.Opcode.{is as is_op}
 use Rattle.spv_ops.specs.declared.Op.{Op}
 use Rattle.spv_ops.specs.declared.Op.TheVariants as code
@@ -80,9 +81,6 @@ is_low (many vs) l = tt
 all_low : (vs : ValueTrees) → AreOfWords vs → AreLow (listed vs)
 all_low plain.no_values l = tt
 all_low (plain.value v vs) l = (is_low v l.0, all_low vs l.1)
-
-some_same : {A : Type 0} (a b : A) → Some a ≡ Some b → a ≡ b
-some_same a b e = cc
 
 word_same : (a w : ℕ) → word a ≡ word w → w ≡ a
 word_same a w e = cc
@@ -325,8 +323,8 @@ module _ (p : Program) (none : NoneDeclared p) (names : Naming) (calls : Text �
   choice_is (plain.struct id ts) x y z shape = refl
 
   one_choice : (t : Tree) (x y z : Argument) (c v u r : ValueTree) → M x plain.boolean c → S y.of (typed_as names t v) → S z.of (typed_as names t u) → by_three chosen c v u ≡ Some r → S (choose x.of y.of z.of) (typed_as names t r)
-  one_choice t x y z (truth true) v u r m hy hz e = subst (λ q. S (choose x.of y.of z.of) (typed_as names t q)) (some_same v r e) (says_choose_first p calls s x.of y.of z.of (typed_as names t v) m.says hy)
-  one_choice t x y z (truth false) v u r m hy hz e = subst (λ q. S (choose x.of y.of z.of) (typed_as names t q)) (some_same u r e) (says_choose_second p calls s x.of y.of z.of (typed_as names t u) m.says hz)
+  one_choice t x y z (truth true) v u r m hy hz e = subst (λ q. S (choose x.of y.of z.of) (typed_as names t q)) (same_Some v r e) (says_choose_first p calls s x.of y.of z.of (typed_as names t v) m.says hy)
+  one_choice t x y z (truth false) v u r m hy hz e = subst (λ q. S (choose x.of y.of z.of) (typed_as names t q)) (same_Some u r e) (says_choose_second p calls s x.of y.of z.of (typed_as names t u) m.says hz)
   one_choice t x y z (word a) v u r m hy hz e = let f = m.fit in cc
   one_choice t x y z (many cs) v u r m hy hz e = let f = m.fit in cc
 
@@ -341,10 +339,10 @@ module _ (p : Program) (none : NoneDeclared p) (names : Naming) (calls : Text �
   select_tells opcode ls x y z _ _ a b c v u r w is at bt mx my mz e f = absurd is
 
   undef_tells : (opcode : Op) (ls : List ℕ) (xs : List Argument) (vs : List ValueTree) (t : Tree) (r : ValueTree) → IsWritten p names t → IsBasic t → Tells opcode op.Undef t ls r xs vs
-  undef_tells opcode ls xs vs plain.boolean r w b e f = subst (λ q. S (on_basic op.Undef (scalar elem.Bool) (map operand xs)) (typed_as names plain.boolean q)) (some_same (zero_of plain.boolean) r e) (undef_says p calls s elem.Bool (map operand xs))
-  undef_tells opcode ls xs vs plain.int r w b e f = subst (λ q. S (on_basic op.Undef (scalar elem.Int) (map operand xs)) (typed_as names plain.int q)) (some_same (zero_of plain.int) r e) (undef_says p calls s elem.Int (map operand xs))
-  undef_tells opcode ls xs vs plain.uint r w b e f = subst (λ q. S (on_basic op.Undef (scalar elem.Uint) (map operand xs)) (typed_as names plain.uint q)) (some_same (zero_of plain.uint) r e) (undef_says p calls s elem.Uint (map operand xs))
-  undef_tells opcode ls xs vs (plain.vector g n) r w b e f = subst (λ q. S (on_basic op.Undef (vector_type g n) (map operand xs)) (typed_as names (plain.vector g n) q)) (some_same (zero_of (plain.vector g n)) r e) (undef_vector_says p calls s none g n w.1 w.0 (map operand xs))
+  undef_tells opcode ls xs vs plain.boolean r w b e f = subst (λ q. S (on_basic op.Undef (scalar elem.Bool) (map operand xs)) (typed_as names plain.boolean q)) (same_Some (zero_of plain.boolean) r e) (undef_says p calls s elem.Bool (map operand xs))
+  undef_tells opcode ls xs vs plain.int r w b e f = subst (λ q. S (on_basic op.Undef (scalar elem.Int) (map operand xs)) (typed_as names plain.int q)) (same_Some (zero_of plain.int) r e) (undef_says p calls s elem.Int (map operand xs))
+  undef_tells opcode ls xs vs plain.uint r w b e f = subst (λ q. S (on_basic op.Undef (scalar elem.Uint) (map operand xs)) (typed_as names plain.uint q)) (same_Some (zero_of plain.uint) r e) (undef_says p calls s elem.Uint (map operand xs))
+  undef_tells opcode ls xs vs (plain.vector g n) r w b e f = subst (λ q. S (on_basic op.Undef (vector_type g n) (map operand xs)) (typed_as names (plain.vector g n) q)) (same_Some (zero_of (plain.vector g n)) r e) (undef_vector_says p calls s none g n w.1 w.0 (map operand xs))
   undef_tells opcode ls xs vs (plain.array t l) r w b e f = absurd b
   undef_tells opcode ls xs vs (plain.runtime t) r w b e f = absurd b
   undef_tells opcode ls xs vs (plain.struct id ts) r w b e f = absurd b
@@ -364,7 +362,7 @@ module _ (p : Program) (none : NoneDeclared p) (names : Naming) (calls : Text �
   whole_copy : (t : Tree) (x : Argument) (v r : ValueTree) → basic_type t ≡ scalar elem.Bool → x.shape ≡ t → S x.of (typed_as names t v) → Some v ≡ Some r → S (converted (scalar elem.Bool) (operand x).ty.elem x.of) (typed_as names t r)
   whole_copy t x v r basic shape say e =
       subst (λ q. S (converted (scalar elem.Bool) (basic_type q).elem x.of) (typed_as names t r)) (sym shape)
-      (subst (λ (q : BasicType). S (converted (scalar elem.Bool) q.elem x.of) (typed_as names t r)) (sym basic) (subst (λ q. S x.of (typed_as names t q)) (some_same v r e) say))
+      (subst (λ (q : BasicType). S (converted (scalar elem.Bool) q.elem x.of) (typed_as names t r)) (sym basic) (subst (λ q. S x.of (typed_as names t q)) (same_Some v r e) say))
 
   plain_tells : (ls : List ℕ) (x : Argument) (t a : Tree) (v r : ValueTree) → IsWritten p names t → IsPlainCopy t a → M x a v → value_of_operation op.Copy t ls (v ∷ []) ≡ Some r → fits t r ≡ true → S (on_arguments op.Copy t (x ∷ [])) (typed_as names t r)
   plain_tells ls x plain.boolean plain.boolean v r w c m e f = scalar_result truths plain.boolean op.Copy ls (operand x ∷ []) (v ∷ []) r tt (λ g s. tt) (mean_one truths x plain.boolean v tt m, tt) e f
@@ -382,7 +380,7 @@ module _ (p : Program) (none : NoneDeclared p) (names : Naming) (calls : Text �
   copy_tells opcode ls x t a v r w wa c m e f = by_test (is_op opcode code.CopyLogical) c
     where
       by_test : (b : Bool) → IsCopy b t a → S (if b then copied names t x.shape x.of else on_arguments op.Copy t (x ∷ [])) (typed_as names t r)
-      by_test true c = subst (λ q. S (copied names t q x.of) (typed_as names t r)) (sym m.shape) (subst (λ q. S (copied names t a x.of) (typed_as names t q)) (some_same v r e) (copied_says p names calls s t a x.of v w wa c.1 c.0 m.fit m.says))
+      by_test true c = subst (λ q. S (copied names t q x.of) (typed_as names t r)) (sym m.shape) (subst (λ q. S (copied names t a x.of) (typed_as names t q)) (same_Some v r e) (copied_says p names calls s t a x.of v w wa c.1 c.0 m.fit m.says))
       by_test false c = plain_tells ls x t a v r w c m e f
 
   -- a component at an index that is computed
@@ -489,7 +487,7 @@ module _ (p : Program) (none : NoneDeclared p) (names : Naming) (calls : Text �
       by_operation op.VectorExtractDynamic takes is = with_two _ (Tells opcode op.VectorExtractDynamic t ls r) (λ x y a b v u q n k. index_tells opcode ls x y q.0.0 q.0.1 t b v u r (subst (IsWritten p names) q.0.2 q.1) q.0.3 q.0.4 (subst (λ c. M x c v) q.0.2 n) k) xs us vs (two_written (λ a i. (e : Elem) × (n : ℕ) × (a ≡ plain.vector e n) × (t ≡ elem_tree e) × Has numbers None i) us wu takes) m
       by_operation op.VectorInsertDynamic takes is = absurd is
       by_operation op.VectorShuffle takes is = with_two _ (Tells opcode op.VectorShuffle t ls r) (λ x y a b v u q n k. shuffle_tells opcode ls x y t a b v u r w q.1 q.2 q.0 n k) xs us vs (two_written (IsShuffle t ls) us wu takes) m
-      by_operation op.CompositeConstruct takes is = λ e f. subst (λ q. S (constructed names t xs) (typed_as names t q)) (some_same (made t vs) r e) (made_tells t xs us vs w takes m)
+      by_operation op.CompositeConstruct takes is = λ e f. subst (λ q. S (constructed names t xs) (typed_as names t q)) (same_Some (made t vs) r e) (made_tells t xs us vs w takes m)
       by_operation op.CompositeExtract takes is = with_one _ (Tells opcode op.CompositeExtract t ls r) (λ x a v q n e f. subst (λ k. S (extracted names k ls x.of) (typed_as names t r)) (sym n.shape) (extracted_says p names calls s ls a t x.of v r q.1 q.0 (extracted_along ls v r e).0 n.says (extracted_along ls v r e).1)) xs us vs (one_written (λ a. shape_at a ls ≡ Some t) us wu takes) m
       by_operation op.CompositeInsert takes is = absurd is
 

@@ -2,6 +2,7 @@
 use Rattle.std.proofs.Common.{◌≡◌, ℕ, zero, suc, ◌<◌, ◌≤◌, ◌==◌, Bool, true, false, List, [], ◌∷◌, ◌++◌, length, map, take, slice_get, Option, Some, None, refl, sym, ap, ◌∙◌, subst, arith}
 use Rattle.std.specs.Prelude.{nat_lt, option_map, option_and_then, if◌then◌else◌}
 use Rattle.std.proofs.lemmas.Bool.Decides.{nat_tests}
+use Rattle.std.proofs.lemmas.Option.{slice_get_within}
 use Rattle.spv_module.specs.declared.tree.Elem.{Elem}
 use Rattle.spv_module.specs.declared.tree.Elem.TheVariants as elem
 use Rattle.spv_types.specs.Tree.{Tree, ValueTree, truth, word, many, ValueTrees, values_in}
@@ -37,12 +38,6 @@ use Rattle.lowering_law.proofs.Parts.{says_member}
 pub listed_values : (vs : List ValueTree) → listed (values_in vs) ≡ vs
 listed_values [] = refl
 listed_values (v ∷ vs) = ap (λ us. v ∷ us) (listed_values vs)
-
--- what stands at a place of a list
-pub at_below : {A : Type 0} (xs : List A) (k : ℕ) (x : A) → slice_get xs k ≡ Some x → k < length xs
-at_below [] k x e = cc
-at_below (y ∷ xs) zero x e = omega arith
-at_below (y ∷ xs) (suc k) x e = let less = at_below xs k x e in omega (arith, less)
 
 of_at : (e : Elem) (vs : List ValueTree) (k : ℕ) (v : ValueTree) → AreOf e vs → slice_get vs k ≡ Some v → IsScalarOf e v
 of_at e [] k v a is = cc
@@ -293,7 +288,7 @@ module _ (p : Program) (none : NoneDeclared p) (calls : Text → List Argument �
     where
       says : S (Expr.member x.expr (axis_name k)) (typed (shape_of_elem m.elem) v)
       says =
-          let less = at_below vs k v at in
+          let less = slice_get_within vs k v at in
           says_member p calls s x.expr (axis_name k) (vector m.elem n) (shape_of_elem m.elem) k (composite vs) v m.says
           (axis_part m.elem n k (subst (λ q. k < q) m.count less) four) (ap (λ us. slice_get us k) (listed_values vs) ∙ at)
 

@@ -1,10 +1,11 @@
 -- Arrays and structs: made of their parts, taken apart along indexes, and copied part by part, as they are written.
 use Rattle.std.proofs.Common.{◌≡◌, ◌<◌, ◌≤◌, ◌+◌, ◌^◌, ◌==◌, ℕ, zero, suc, Bool, true, false, List, [], ◌∷◌, length, map, take, Option, Some, None, inl, inr, refl, sym, ap, ◌∙◌, subst, arith}
-use Rattle.std.specs.Prelude.{◌&&◌, nat_lt, option_map, option_and_then, slice_get, bytes_eq, if◌then◌else◌}
+use Rattle.std.specs.Prelude.{nat_lt, option_map, option_and_then, slice_get, bytes_eq, if◌then◌else◌}
 use Rattle.std.specs.List.{list_all}
-use Rattle.std.proofs.lemmas.Bool.{and_parts}
+use Rattle.std.proofs.lemmas.Bool.{and_parts, and_from}
 use Rattle.std.proofs.lemmas.Bool.Decides.{nat_tests, eqb_tells}
 use Rattle.std.proofs.lemmas.Slice.Eq.{bytes_eq-Decides}
+use Rattle.std.proofs.lemmas.Option.{slice_get_within}
 use Rattle.spv_module.specs.declared.tree.Elem.{Elem}
 use Rattle.spv_module.specs.declared.tree.Elem.TheVariants as elem
 use Rattle.spv_module.specs.declared.tree.Length.TheVariants.{Fixed, Spec}
@@ -29,7 +30,7 @@ use Rattle.lowering_law.specs.Says.{Says, AllSay}
 use Rattle.lowering_law.specs.Written.{text_shape, text_fields, IsWritten, AreWritten, typed_as, members_as, IsShort, AreShort, IsLogical, AreLogical}
 use Rattle.lowering_law.proofs.Saying.{all_end, says_build, says_literal}
 use Rattle.lowering_law.proofs.Parts.{says_member, says_element}
-use Rattle.lowering_law.proofs.Components.{at_below, axis_part, type_is, take_end, map_end, take_whole}
+use Rattle.lowering_law.proofs.Components.{axis_part, type_is, take_end, map_end, take_whole}
 
 -- names and types are themselves
 bytes_same : (w : Text) → bytes_eq w w ≡ true
@@ -43,17 +44,13 @@ elem_itself elem.Bool = refl
 elem_itself elem.Int = refl
 elem_itself elem.Uint = refl
 
-both_are : (a b : Bool) → a ≡ true → b ≡ true → (a && b) ≡ true
-both_are true b on e = e
-both_are false b on e = cc
-
 module _ (p : Program) (names : Naming) where
   shape_itself : (t : Tree) → IsWritten p names t → same_shape (text_shape names t) (text_shape names t) ≡ true
   shape_itself plain.boolean w = refl
   shape_itself plain.int w = refl
   shape_itself plain.uint w = refl
-  shape_itself (plain.vector e n) w = both_are (same_elem e e) (n == n) (elem_itself e) (number_itself n)
-  shape_itself (plain.array t (Fixed n)) w = both_are (same_shape (text_shape names t) (text_shape names t)) (n == n) (shape_itself t w) (number_itself n)
+  shape_itself (plain.vector e n) w = and_from (same_elem e e) (n == n) (elem_itself e) (number_itself n)
+  shape_itself (plain.array t (Fixed n)) w = and_from (same_shape (text_shape names t) (text_shape names t)) (n == n) (shape_itself t w) (number_itself n)
   shape_itself (plain.array t (Spec id)) w = absurd w
   shape_itself (plain.runtime t) w = absurd w
   shape_itself (plain.struct id ts) w = bytes_same (id_name names id)
@@ -103,7 +100,7 @@ module _ (p : Program) (names : Naming) where
   -- arguments that have the types of the parts
   each_of_type : (t : Tree) (vs : List ValueTree) → IsWritten p names t → list_all (is_of (text_shape names t)) (map (typed_as names t) vs) ≡ true
   each_of_type t [] w = refl
-  each_of_type t (v ∷ vs) w = both_are (same_shape (text_shape names t) (text_shape names t)) (list_all (is_of (text_shape names t)) (map (typed_as names t) vs)) (shape_itself t w) (each_of_type t vs w)
+  each_of_type t (v ∷ vs) w = and_from (same_shape (text_shape names t) (text_shape names t)) (list_all (is_of (text_shape names t)) (map (typed_as names t) vs)) (shape_itself t w) (each_of_type t vs w)
 
   values_back : (t : Tree) (vs : List ValueTree) → map tree_of_value (map (typed_as names t) vs) ≡ vs
   values_back t [] = refl
@@ -116,14 +113,14 @@ module _ (p : Program) (names : Naming) where
   array_made : (t : Tree) (n : ℕ) (vs : List ValueTree) → IsWritten p names t → length vs ≡ n → built (array (text_shape names t) (Some n)) (map (typed_as names t) vs) ≡ Some (typed (array (text_shape names t) (Some n)) (composite vs))
   array_made t n vs w count =
       let size : (length (map (typed_as names t) vs) == n) ≡ true = ap (λ k. k == n) (as_many t vs ∙ count) ∙ number_itself n in
-      ap (λ b. if b then Some (whole_of (array (text_shape names t) (Some n)) (map (typed_as names t) vs)) else None) (both_are (length (map (typed_as names t) vs) == n) (list_all (is_of (text_shape names t)) (map (typed_as names t) vs)) size (each_of_type t vs w))
+      ap (λ b. if b then Some (whole_of (array (text_shape names t) (Some n)) (map (typed_as names t) vs)) else None) (and_from (length (map (typed_as names t) vs) == n) (list_all (is_of (text_shape names t)) (map (typed_as names t) vs)) size (each_of_type t vs w))
       ∙ ap (λ us. Some (typed (array (text_shape names t) (Some n)) (composite us))) (values_back t vs)
 
   members_are : (id k : ℕ) (ts : Trees) (vs : List ValueTree) → AreWritten p names ts → MembersFit ts vs → are_of (text_fields names id k ts) (members_as names ts vs) ≡ true
   members_are id k no_trees [] w f = refl
   members_are id k no_trees (v ∷ vs) w f = absurd f
   members_are id k (tree t ts) [] w f = absurd f
-  members_are id k (tree t ts) (v ∷ vs) w f = both_are (same_shape (text_shape names t) (text_shape names t)) (are_of (text_fields names id (k + 1) ts) (members_as names ts vs)) (shape_itself t w.0) (members_are id (k + 1) ts vs w.1 f.1)
+  members_are id k (tree t ts) (v ∷ vs) w f = and_from (same_shape (text_shape names t) (text_shape names t)) (are_of (text_fields names id (k + 1) ts) (members_as names ts vs)) (shape_itself t w.0) (members_are id (k + 1) ts vs w.1 f.1)
 
   members_back : (ts : Trees) (vs : List ValueTree) → MembersFit ts vs → map tree_of_value (members_as names ts vs) ≡ vs
   members_back no_trees [] f = refl
@@ -274,7 +271,7 @@ module _ (p : Program) (names : Naming) where
         (typed (array (text_shape names t) (Some n)) (composite (listed vs))) (written_is (plain.array t (Fixed n)) wt)
         (subst (λ us. AllSay p calls s (exprs_in (each_below n (λ k. copied names t u (element e k)))) (map (typed_as names t) us)) (take_whole (listed vs) n count)
         (each_below_say (λ k. copied names t u (element e k)) t (listed vs) (λ k c at.
-        let less = at_below (listed vs) k c at in
+        let less = slice_get_within (listed vs) k c at in
         one (element e k) c (each_at u (listed vs) k c parts.1 at) (element_says u m e k (many vs) c (is_below k (2 ^ 31) (let low : k < 2 ^ 31 = omega (arith, less, count, few) in low)) (subst (λ q. k < q) parts.0 less) say at)) n (let le : n ≤ length (listed vs) = omega (arith, count) in le)))
         (array_made t n (listed vs) wt count))
 

@@ -3,6 +3,7 @@ use Rattle.std.proofs.Common.{◌≡◌, ◌<◌, ◌≤◌, ◌-◌, ◌==◌, 
 use Rattle.std.specs.Prelude.{nat_lt, option_map, option_and_then, flat_map, if◌then◌else◌}
 use Rattle.std.proofs.lemmas.Bool.Decides.{nat_tests}
 use Rattle.std.proofs.lemmas.List.{length-replicate}
+use Rattle.std.proofs.lemmas.Option.{slice_get_within}
 use Rattle.spv_module.specs.declared.tree.Elem.{Elem}
 use Rattle.spv_module.specs.declared.tree.Elem.TheVariants as elem
 use Rattle.spv_types.specs.Tree.{ValueTree, many, ValueTrees, vector as vector_tree}
@@ -28,7 +29,7 @@ use Rattle.lowering_law.specs.Stands.{AreOf, IsVectorOf, MeansVector, vector_typ
 use Rattle.lowering_law.proofs.Saying.{says_build, says_literal}
 use Rattle.lowering_law.proofs.Parts.{says_member}
 use Rattle.lowering_law.proofs.Vectors.{filled_is}
-use Rattle.lowering_law.proofs.Components.{listed_values, at_below, before_some, composite_some, each_itself, built_of, type_is, axis_part, components_say}
+use Rattle.lowering_law.proofs.Components.{listed_values, before_some, composite_some, each_itself, built_of, type_is, axis_part, components_say}
 
 slice_left : {A : Type 0} (xs ys : List A) (k : ℕ) → k < length xs → slice_get (xs ++ ys) k ≡ slice_get xs k
 slice_left [] ys k less = absurd (omega (arith, less))
@@ -101,7 +102,7 @@ module _ (p : Program) (calls : Text → List Argument → State → Result (Opt
   -- a component of a vector of this type
   axis_says : (g : Elem) (a : Operand) (m k : ℕ) (vs : List ValueTree) (c : ValueTree) → m ≤ 4 → (h : MeansVector p calls s (operand a) m vs) → h.elem ≡ g → slice_get vs k ≡ Some c → S (axis a.of k) (typed (shape_of_elem g) c)
   axis_says g a m k vs c four h is at =
-      let less : k < m = subst (λ q. k < q) h.count (at_below vs k c at) in
+      let less : k < m = subst (λ q. k < q) h.count (slice_get_within vs k c at) in
       subst (λ e. S (axis a.of k) (typed (shape_of_elem e) c)) is
       (says_member p calls s a.of (axis_name k) (vector h.elem m) (shape_of_elem h.elem) k (composite vs) c h.says (axis_part h.elem m k less four) (ap (λ us. slice_get us k) (listed_values vs) ∙ at))
 

@@ -3,6 +3,7 @@ use Rattle.std.proofs.Common.{◌≡◌, ◌<◌, ◌≤◌, ◌==◌, ℕ, Bool
 use Rattle.std.specs.Prelude.{option_map, if◌then◌else◌}
 use Rattle.std.specs.List.{list_any, list_all}
 use Rattle.std.proofs.lemmas.Bool.Decides.{nat_tests}
+use Rattle.std.proofs.lemmas.Option.{slice_get_within}
 use Rattle.spv_module.specs.declared.tree.Elem.{Elem}
 use Rattle.spv_module.specs.declared.tree.Elem.TheVariants as elem
 use Rattle.spv_types.specs.Tree.{ValueTree, truth, word, many, values_in, ValueTrees, no_values, value}
@@ -29,7 +30,7 @@ use Rattle.lowering_law.specs.Stands.{Means, AreOf, AreWords, MeansVector, vecto
 use Rattle.lowering_law.proofs.Vectors.{converted_vector, both_say}
 use Rattle.lowering_law.proofs.Functions.{call_says}
 use Rattle.lowering_law.proofs.Comparisons.{select_says}
-use Rattle.lowering_law.proofs.Components.{listed_values, at_below, less_is}
+use Rattle.lowering_law.proofs.Components.{listed_values, less_is}
 use Rattle.lowering_law.proofs.Parts.{says_element}
 
 -- the components of a vector of numbers are words
@@ -74,7 +75,7 @@ module _ (p : Program) (none : NoneDeclared p) (calls : Text → List Argument �
   -- a component by an index
   pub component_says : (x y : Operand) (n i : ℕ) (vs : List ValueTree) (c : ValueTree) → n ≤ 4 → (mx : MeansVector p calls s x n vs) → (my : Means p calls s y (word i)) → extracted_at (composite vs) (word i) ≡ Some c → S (Expr.index x.expr y.expr) (typed (shape_of_elem mx.elem) c)
   component_says x y n i vs c four mx my h =
-      let inside = at_below vs i c (ap (λ us. slice_get us i) (sym (listed_values vs)) ∙ h) in
+      let inside = slice_get_within vs i c (ap (λ us. slice_get us i) (sym (listed_values vs)) ∙ h) in
       let low : i < n = subst (λ k. i < k) mx.count inside in
       says_element p calls s x.expr y.expr (vector mx.elem n) (shape_of_elem mx.elem) i (composite vs) c (number my.0.elem i) mx.says my.0.says (index_is my.0.elem i my.0.is_numeric)
       (grind (arith, nat_tests, low, four)) (ap (λ b. if b then Some (shape_of_elem mx.elem) else None) (less_is i n low)) h

@@ -1,6 +1,7 @@
 -- OpArrayLength, as it stands in expressions, says the number of elements that the module has.
 use Rattle.std.proofs.Common.{◌≡◌, ◌⊎◌, ℕ, Bool, true, false, List, [], ◌∷◌, Option, Some, None, refl, sym, ap, ◌∙◌, subst, unwrap_or}
 use Rattle.std.specs.Prelude.{option_map, option_and_then}
+use Rattle.std.proofs.lemmas.Option.{same_Some}
 use Rattle.spv_ops.specs.Enumerants.{class_number}
 use Rattle.spv_ops.specs.OpGroups.{group_of}
 use Rattle.spv_ops.specs.declared.StorageClass.{StorageClass}
@@ -44,7 +45,6 @@ use Rattle.path_law.specs.Parts.{HasMembersApart}
 use Rattle.path_law.specs.Walks.{struct_names}
 use Rattle.path_law.specs.Starts.{IsBlock}
 use Rattle.path_law.proofs.Lengths.{length_says}
-use Rattle.typed_law.proofs.Lists.{same_some}
 use Rattle.lowers_law.proofs.Types.{W}
 
 -- a variable that others see is itself
@@ -53,7 +53,7 @@ seen_is v None w e = cc
 seen_is v (Some class) w e = by_test (is_seen class) e
   where
     by_test : (b : Bool) → elim b [ true ↦ Some v | false ↦ None ] ≡ Some w → v ≡ w
-    by_test true e = same_some v w e
+    by_test true e = same_Some v w e
     by_test false e = cc
 
 number_is : (a : ℕ) (v : ValueTree) → Some (holds_value (word_value a)) ≡ Some (holds_value v) → word_value a ≡ v

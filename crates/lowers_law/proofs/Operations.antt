@@ -1,6 +1,7 @@
 -- The expression of each operation that stands in expressions says the operation's value.
 use Rattle.std.proofs.Common.{◌≡◌, ◌⊎◌, ℕ, Bool, true, false, List, [], ◌∷◌, drop, length, map, take, Option, Some, None, inl, inr, refl, sym, ap, ap₂, ◌∙◌, subst, unwrap_or}
 use Rattle.std.specs.Prelude.{option_and_then, slice_index, Contains}
+use Rattle.std.proofs.lemmas.Option.{same_Some}
 use Rattle.spv_ops.specs.Opcode.{is, number}
 use Rattle.spv_ops.specs.OpGroups.{group_of}
 use Rattle.spv_ops.specs.declared.Op.{Op}
@@ -63,7 +64,7 @@ use Rattle.lowering_law.proofs.Saying.{read}
 use Rattle.path_law.specs.Parts.{shape_in}
 use Rattle.global_law.proofs.Zeros.{zero_says}
 use Rattle.typed_law.specs.Conforms.{IsConforming}
-use Rattle.typed_law.proofs.Lists.{or_right, clash, same_some, some_part}
+use Rattle.typed_law.proofs.Lists.{or_right, clash, some_part}
 use Rattle.typed_law.proofs.Rules.{value_right, number_right}
 use Rattle.lowers_law.proofs.Types.{basic_by, of_basic, decide_basic, Src, type_is, type_named, parts_are}
 use Rattle.lowers_law.proofs.Opcodes.{is_plain, is_extended, View, undefined, copied, extracted, constructed, logical, extended, plain as plainly, view, values_same, literals_same, operation_same, plain_operation, copy_is, plain_copy, extended_operation, extended_at}
@@ -210,7 +211,7 @@ calculated_fine q op.CompositeInsert t us is = absurd is
 -- OpCopyLogical copies
 copy_operation : (ls : List ℕ) (o : Operation) → operation_of code.CopyLogical ls ≡ Some o → o ≡ op.Copy
 unfolding operation_of operation
-copy_operation ls o at = sym (same_some op.Copy o at)
+copy_operation ls o at = sym (same_Some op.Copy o at)
 
 module _ (s : Setting) (entry : ℕ) (overrides : List (ℕ × Given)) (found : Key → Option Text) (f : Function) (globals : ℕ → Option Expr) (form : ℕ → Form) (carried : ℕ → Bool) (p : Program) (none : NoneDeclared p) (calls : Text → List Passed → State → Result (Option Typed × State)) (z : State) (c : Frame) (expr : ℕ → Expr) (shape : ℕ → Shape)
     (j : Inst) (t : Tree) (typed_as : type_tree s.of.globals j.ty ≡ Some t) (text : IsTextType s entry overrides found f globals form carried p none calls z c expr shape t) (block : ℕ) (v : ValueTree) where
@@ -249,8 +250,8 @@ module _ (s : Setting) (entry : ℕ) (overrides : List (ℕ × Given)) (found : 
   undefined_says : Goal code.Undef
   unfolding operation_of operation operation_kind_of kind_of group_of
   undefined_says o us vs at takes have are made value number logic =
-      let same = same_some op.Undef o at in
-      let is = same_some (zero_of t) v (subst (λ (q : Operation). value_of_operation q t (literal_operands code.Undef j.args) vs ≡ Some v) (sym same) made) in
+      let same = same_Some op.Undef o at in
+      let is = same_Some (zero_of t) v (subst (λ (q : Operation). value_of_operation q t (literal_operands code.Undef j.args) vs ≡ Some v) (sym same) made) in
       subst (λ (e : Expr). Says e (typed T v)) (sym (ap (λ (x : Option Tree). zero_text (spelling (Src s entry overrides found f globals form carried) (id_text found)) (unwrap_or x plain.uint)) typed_as))
       (subst (λ (u : ValueTree). Says (zero_text (spelling (Src s entry overrides found f globals form carried) (id_text found)) t) (typed T u)) is
       (ap read (zero_says p s (Src s entry overrides found f globals form carried) (text_of found) calls z t text.0)))
@@ -260,7 +261,7 @@ module _ (s : Setting) (entry : ℕ) (overrides : List (ℕ × Given)) (found : 
       let m = are.0 in
       let same : a ≡ t = same_shape_of s f j.ty x t a off typed_as have.0 in
       subst (λ (q : Shape). Says (expr x) (typed q v)) (m.shaped ∙ ap (shape_in s (Y s entry overrides found f globals form carried p none calls z c expr shape)) same)
-      (subst (λ (q : ValueTree). Says (expr x) (typed (shape x) q)) (same_some w v made) m.says)
+      (subst (λ (q : ValueTree). Says (expr x) (typed (shape x) q)) (same_Some w v made) m.says)
   copied_as [] [] vs have are takes made off = absurd takes
   copied_as [] (a ∷ us) vs have are takes made off = absurd have
   copied_as (x ∷ xs) [] vs have are takes made off = absurd have
@@ -272,7 +273,7 @@ module _ (s : Setting) (entry : ℕ) (overrides : List (ℕ × Given)) (found : 
   copied_says : Goal code.CopyObject
   unfolding operation_of operation operation_kind_of kind_of group_of
   copied_says o us vs at takes have are made value number logic =
-      let same = same_some op.Copy o at in
+      let same = same_Some op.Copy o at in
       copied_as j.args us vs have are
       (subst (λ (q : Operation). Takes q t (literal_operands code.CopyObject j.args) us) (sym same) takes)
       (subst (λ (q : Operation). value_of_operation q t (literal_operands code.CopyObject j.args) vs ≡ Some v) (sym same) made)
@@ -289,7 +290,7 @@ module _ (s : Setting) (entry : ℕ) (overrides : List (ℕ × Given)) (found : 
   extracted_says : Goal code.CompositeExtract
   unfolding operation_of operation operation_kind_of kind_of group_of
   extracted_says o us vs at takes have are made value number logic =
-      let same = same_some op.CompositeExtract o at in
+      let same = same_Some op.CompositeExtract o at in
       let takes_so : OfOne (λ (a : Tree). shape_at a (drop 1 j.args) ≡ Some t) us = subst (λ (q : Operation). Takes q t (literal_operands code.CompositeExtract j.args) us) (sym same) takes in
       subst (λ (x : Expr). Says x (typed T v)) (sym (extracted_text j.args us have takes_so))
       (tells s entry overrides found f globals form carried p none calls z c expr shape code.CompositeExtract op.CompositeExtract t (drop 1 j.args) (take 1 j.args) us vs v text takes_so tt are
@@ -298,7 +299,7 @@ module _ (s : Setting) (entry : ℕ) (overrides : List (ℕ × Given)) (found : 
   constructed_says : Goal code.CompositeConstruct
   unfolding operation_of operation operation_kind_of kind_of group_of
   constructed_says o us vs at takes have are made value number logic =
-      let same = same_some op.CompositeConstruct o at in
+      let same = same_Some op.CompositeConstruct o at in
       subst (λ (x : Expr). Says x (typed T v))
       (sym (ap₂ (λ (n : TypeName) (es : List Expr). build n (exprs_in es)) (type_named s entry overrides found f globals form carried p j.ty t typed_as text.0) (exprs_same s entry overrides found f globals form carried p none calls z c expr shape j.args us have)))
       (tells s entry overrides found f globals form carried p none calls z c expr shape code.CompositeConstruct op.CompositeConstruct t (literal_operands code.CompositeConstruct j.args) j.args us vs v text
@@ -318,7 +319,7 @@ module _ (s : Setting) (entry : ℕ) (overrides : List (ℕ × Given)) (found : 
   logical_says : Goal code.CopyLogical
   unfolding operation_of operation operation_kind_of kind_of group_of number
   logical_says o us vs at takes have are made value number logic =
-      let same = same_some op.Copy o at in
+      let same = same_Some op.Copy o at in
       subst (λ (x : Expr). Says x (typed T v)) (sym (logical_text j.args us have (logic refl)))
       (tells s entry overrides found f globals form carried p none calls z c expr shape code.CopyLogical op.Copy t [] j.args us vs v text
       (subst (λ (q : Operation). Takes q t [] us) (sym same) takes) (logic refl) are

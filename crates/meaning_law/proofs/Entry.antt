@@ -3,6 +3,7 @@ use Rattle.std.proofs.Common.{◌≡◌, ◌<◌, ◌==◌, not, ℕ, suc, Bool,
 use Rattle.std.specs.Prelude.{◌⊎◌, IsSomeAnd}
 use Rattle.std.specs.Option.{option_map_or}
 use Rattle.std.proofs.lemmas.Bool.Decides.{eqb_tells}
+use Rattle.std.proofs.lemmas.Bool.{not-false}
 use Rattle.spv_ops.specs.Opcode.{is}
 use Rattle.spv_ops.specs.Groups.{is_type}
 use Rattle.spv_ops.specs.Enumerants.{model_number}
@@ -30,7 +31,7 @@ use Rattle.function_text.specs.Functions.{FunctionPlan, written, function_name, 
 use Rattle.unit_rules.specs.Unit.{IsUnitOf}
 use Rattle.call_law.specs.Known.{IsFunctionOf}
 use Rattle.function_law.specs.Texts.{IsText}
-use Rattle.typed_law.proofs.Lists.{or_left, or_right, and_off, not_off}
+use Rattle.typed_law.proofs.Lists.{or_left, or_right, and_off}
 use Rattle.typed_law.proofs.Values.{result_row}
 use Rattle.ruled_law.proofs.Ruled.{contains_of}
 use Rattle.claim_law.specs.Claimed.{IsIn}
@@ -98,7 +99,7 @@ module _ (bytes : List ℕ) (m : ModuleState) (o : Options) (read : IsReadFrom b
   is_void_result =
       let g = result_row (S m o unit u inv) o.entry (right bytes m o read fine unit u inv) (written p) (contains_of m.functions (written p) entry_one) in
       let told : is_result g.0 ≡ false = sym (ap (λ (x : Option Inst). option_map_or is_result x false) g.1) ∙ or_right (not (length (written p).params == 0)) (option_map_or is_result (global m.globals (written p).result.0) false) kernel in
-      ap (λ (x : Option Inst). option_map_or (λ (y : Inst). is y.op code.TypeVoid) x false) g.1 ∙ not_off (is g.0.op code.TypeVoid) (and_off (is_type g.0.op) (not (is g.0.op code.TypeVoid)) told g.2)
+      ap (λ (x : Option Inst). option_map_or (λ (y : Inst). is y.op code.TypeVoid) x false) g.1 ∙ not-false (is g.0.op code.TypeVoid) (and_off (is_type g.0.op) (not (is g.0.op code.TypeVoid)) told g.2)
 
   -- so has its text
   pub none_written : map (param_text p.scope) (written p).params ≡ []

@@ -1,16 +1,13 @@
 -- Answers of words are such as the machine of a module takes.
-use Rattle.std.proofs.Common.{◌≡◌, ◌<◌, ◌&&◌, ◌^◌, ℕ, Bool, true, false, List, [], ◌∷◌, nat_lt, refl, arith}
+use Rattle.std.proofs.Common.{◌≡◌, ◌<◌, ◌^◌, ℕ, true, List, [], ◌∷◌, nat_lt, refl, arith}
 use Rattle.std.proofs.lemmas.Bool.Decides.{nat_tests}
+use Rattle.std.proofs.lemmas.Bool.{and_from}
 use Rattle.dispatch_semantics.specs.Store.{AreWords, AreAnswers}
 use Rattle.agree_law.specs.Answers.{are_words, AreWorded}
 
-both_on : (a b : Bool) → a ≡ true → b ≡ true → (a && b) ≡ true
-both_on true b on e = e
-both_on false b on e = cc
-
 words_on : (ws : List ℕ) → AreWords ws → are_words ws ≡ true
 words_on [] are = refl
-words_on (w ∷ ws) are = both_on (nat_lt w (2 ^ 32)) (are_words ws) (below w are.0) (words_on ws are.1)
+words_on (w ∷ ws) are = and_from (nat_lt w (2 ^ 32)) (are_words ws) (below w are.0) (words_on ws are.1)
   where
     below : (w : ℕ) → w < 2 ^ 32 → nat_lt w (2 ^ 32) ≡ true
     below w less = grind (arith, nat_tests, less)

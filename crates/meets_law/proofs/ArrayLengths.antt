@@ -3,6 +3,8 @@ use Rattle.std.proofs.Common.{◌≡◌, ◌<◌, ◌==◌, ◌&&◌, ◌||◌, 
 use Rattle.std.specs.Prelude.{is_some, nat_lt, slice_index, option_and_then}
 use Rattle.std.specs.Option.{option_map_or, option_or}
 use Rattle.std.proofs.lemmas.Bool.Decides.{nat_tests}
+use Rattle.std.proofs.lemmas.Bool.{not-false}
+use Rattle.std.proofs.lemmas.Option.{same_Some}
 use Rattle.spv_ops.specs.Opcode.{is, number}
 use Rattle.spv_ops.specs.Enumerants.{class_number}
 use Rattle.spv_ops.specs.Shape.{shape}
@@ -42,7 +44,7 @@ use Rattle.spell_law.specs.Uses.{Words, UsesExpr, UsesLValue}
 use Rattle.spell_law.specs.Asked.{MeetsKind}
 use Rattle.spell_law.proofs.Values.{further-uses}
 use Rattle.typed_law.specs.Conforms.{IsConforming}
-use Rattle.typed_law.proofs.Lists.{same_some, or_left, or_right, and_off, not_off}
+use Rattle.typed_law.proofs.Lists.{or_left, or_right, and_off}
 use Rattle.typed_law.proofs.Rules.{value_right}
 use Rattle.type_law.proofs.Vectors.{three_off}
 use Rattle.typed_law.proofs.Types.{row_is, pointee_shaped}
@@ -136,7 +138,7 @@ module _ (s : Setting) (entry : Option (List ℕ)) (right : IsConforming s.of en
       on_variable : is v.op code.Variable ≡ true
       on_variable =
           is_one (is v.op code.Variable) (word v 0 == class_number storage.Uniform) (word v 0 == class_number storage.PushConstant) (word v 0 == class_number storage.StorageBuffer)
-          (not_off (is_block_variable v) (or_left (not (is_block_variable v)) (option_map_or (lacks_array Gs (word i 1)) (option_and_then (type_row Gs) (pointee Gs v.ty)) false) off))
+          (not-false (is_block_variable v) (or_left (not (is_block_variable v)) (option_map_or (lacks_array Gs (word i 1)) (option_and_then (type_row Gs) (pointee Gs v.ty)) false) off))
 
       some : v.ty ≡ 0 → ⊥
       some = global_typed_some s entry right v (as_among Gs v there.0) (variable_typed v.op on_variable)
@@ -158,14 +160,14 @@ module _ (s : Setting) (entry : Option (List ℕ)) (right : IsConforming s.of en
 
       lacks_none : lacks_array Gs (word i 1) row.0 ≡ false
       lacks_none =
-          let same : leads.0 ≡ way.to = same_some leads.0 way.to (sym points ∙ way.points) in
+          let same : leads.0 ≡ way.to = same_Some leads.0 way.to (sym points ∙ way.points) in
           let known : option_and_then (type_row Gs) (pointee Gs v.ty) ≡ Some row.0 = ap (option_and_then (type_row Gs)) leads.2 ∙ (ap (type_row Gs) same ∙ row_is s.of entry right way.to row.0 row.1 row.2) in
           ap (λ q. option_map_or (lacks_array Gs (word i 1)) q false) (sym known) ∙ or_right (not (is_block_variable v)) (option_map_or (lacks_array Gs (word i 1)) (option_and_then (type_row Gs) (pointee Gs v.ty)) false) off
 
       member_named : HasName Found (Member (id way.to) (word i 1))
       member_named =
           let parts = three_off (not (is row.0.op code.TypeStruct)) (not (nat_lt (word i 1) (length row.0.args))) (fails is_runtime_array Gs (word row.0 (word i 1))) lacks_none in
-          way.members.own row.0 row.1 (not_off (is row.0.op code.TypeStruct) parts.0) (word i 1) (slice_index row.0.args (word i 1)) (at_index row.0.args (word i 1) (less_of (word i 1) (length row.0.args) (not_off (nat_lt (word i 1) (length row.0.args)) parts.1)))
+          way.members.own row.0 row.1 (not-false (is row.0.op code.TypeStruct) parts.0) (word i 1) (slice_index row.0.args (word i 1)) (at_index row.0.args (word i 1) (less_of (word i 1) (length row.0.args) (not-false (nat_lt (word i 1) (length row.0.args)) parts.1)))
 
       block_length : MeetsKind W Found Where (IsValueIn Where Marks b) b i kind.ArrayLength
       block_length =

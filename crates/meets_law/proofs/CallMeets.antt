@@ -4,6 +4,8 @@ use Rattle.std.specs.Prelude.{is_some, option_map, slice_get, slice_index, optio
 use Rattle.std.specs.Option.{option_map_or}
 use Rattle.std.specs.List.{list_any, zip}
 use Rattle.std.proofs.lemmas.Bool.Decides.{nat_tests}
+use Rattle.std.proofs.lemmas.Bool.{and_from}
+use Rattle.std.proofs.lemmas.Option.{same_Some}
 use Rattle.spv_ops.specs.Opcode.{is, number}
 use Rattle.spv_ops.specs.OpGroups.{takes_of, group_of}
 use Rattle.spv_ops.specs.Operands.{is_id}
@@ -48,7 +50,7 @@ use Rattle.unit_rules.specs.Unit.{source_of, IsUnitOf}
 use Rattle.spell_law.specs.Uses.{Words, UsesExtent}
 use Rattle.spell_law.specs.Statements.{AsksSet, AsksArgument, AskArguments, MeetsInst}
 use Rattle.typed_law.specs.Conforms.{IsConforming}
-use Rattle.typed_law.proofs.Lists.{both_on, same_some, or_left, or_right}
+use Rattle.typed_law.proofs.Lists.{or_left, or_right}
 use Rattle.typed_law.proofs.Types.{pointee_shaped}
 use Rattle.typed_law.proofs.Values.{same_count, IsRow, HasType, same_type, typed_value, typed_result, inside, value_type_has}
 use Rattle.typed_law.proofs.Others.{typed_some}
@@ -158,7 +160,7 @@ module _ (s : Setting) (entry : Option (List ℕ)) (right : IsConforming s.of en
       by_place : (q : ℕ) → pointee_of Gs Fn n ≡ Some q → (a : Bool) → is row.0.op code.TypePointer ≡ a → Asks true
       by_place q points true on_pointer =
           let w = pointee_shaped s.of entry right ty row.0 row.1 on_pointer in
-          let same : w.0 ≡ q = same_some w.0 q (sym w.2 ∙ (sym (ap (option_and_then (pointee Gs)) typed) ∙ points)) in
+          let same : w.0 ≡ q = same_Some w.0 q (sym w.2 ∙ (sym (ap (option_and_then (pointee Gs)) typed) ∙ points)) in
           place_uses s entry right Fn o unit u names Where.setting.global b n (pointer b n i m (call_no_phi i.op on) q w.1 points (ap (type_tree Gs) (sym same) ∙ w.3))
       by_place q points false off = absurd (never (sym (ap (option_map (λ (x : Inst). slice_index x.args 1)) is_pointer) ∙ (sym (ap (option_and_then (pointee Gs)) typed) ∙ points)))
         where
@@ -218,11 +220,11 @@ module _ (s : Setting) (entry : Option (List ℕ)) (right : IsConforming s.of en
             there = r.at;
             here = r.here;
             live = r.live;
-            slot = both_on (is_id i.op i.args (suc k)) (is_value i.op (suc k) && is_taken Fn Marks i (suc k)) (call_id i.op i.args (suc k) on)
-                (both_on (is_value i.op (suc k)) (is_taken Fn Marks i (suc k)) (call_value i.op k on) (ap (λ (x : Bool). not x || is_label_reached Fn Marks (slice_index i.args (suc k + 1))) (call_no_phi i.op on)));
+            slot = and_from (is_id i.op i.args (suc k)) (is_value i.op (suc k) && is_taken Fn Marks i (suc k)) (call_id i.op i.args (suc k) on)
+                (and_from (is_value i.op (suc k)) (is_taken Fn Marks i (suc k)) (call_value i.op k on) (ap (λ (x : Bool). not x || is_label_reached Fn Marks (slice_index i.args (suc k + 1))) (call_no_phi i.op on)));
             word = arg;
           };
-          typed = typed_value s entry right Fn in_it i.at n (subst (λ x. is_there_in s.of Fn i.at Value x ≡ true) (same_some (slice_index i.args (suc k)) n (sym (at_index i.args (suc k) less) ∙ arg))
+          typed = typed_value s entry right Fn in_it i.at n (subst (λ x. is_there_in s.of Fn i.at Value x ≡ true) (same_Some (slice_index i.args (suc k)) n (sym (at_index i.args (suc k) less) ∙ arg))
               (subst (λ q. is_there_in s.of Fn i.at q (slice_index i.args (suc k)) ≡ true) (call_need i.op k on) (there_by s entry right Fn in_it i stands on (suc k) less)));
         }
 

@@ -2,6 +2,8 @@
 use Rattle.std.proofs.Common.{◌≡◌, ◌+◌, ◌==◌, ◌&&◌, ◌||◌, not, ℕ, suc, Bool, true, false, List, [], map, Option, Some, None, unwrap_or, refl, sym, ap, ◌∙◌, subst, if◌then◌else◌}
 use Rattle.std.specs.Prelude.{slice_get, slice_index, slice_index_or, option_and_then}
 use Rattle.std.specs.List.{enumerate_from}
+use Rattle.std.proofs.lemmas.Bool.{and_from}
+use Rattle.std.proofs.lemmas.Option.{same_Some}
 use Rattle.spv_ops.specs.Groups.{is_chain}
 use Rattle.spv_ops.specs.Operands.{is_id}
 use Rattle.spv_ops.specs.Shape.{is_pure}
@@ -38,7 +40,7 @@ use Rattle.unit_rules.specs.Translation.{Naming, id_text}
 use Rattle.unit_rules.specs.Unit.{liveness_of, live_of, source_of, IsUnitOf}
 use Rattle.spell_law.specs.Uses.{Words, UsesExpr}
 use Rattle.typed_law.specs.Conforms.{IsConforming}
-use Rattle.typed_law.proofs.Lists.{both_on, same_some, some_part}
+use Rattle.typed_law.proofs.Lists.{some_part}
 use Rattle.claim_law.specs.Claimed.{IsIn, HasName}
 use Rattle.claim_law.specs.Told.{built_ins, is_among}
 use Rattle.claim_law.proofs.Listed.{in_flat, in_mapped, any_in, at_place}
@@ -131,7 +133,7 @@ module _ (s : Setting) (entry : Option (List ℕ)) (right : IsConforming s.of en
   captured_listed block n i c n_in =
       listed block c.holder i n c.there c.among
       (subst (λ (b : Bool). IsIn n (mentions_of (liveness_of S p) b i)) (sym (ap (λ (l : List Bool). slice_index_or l block false) marks_are ∙ c.off))
-      (subst (λ (b : Bool). IsIn n (if b then indexes i else [])) (sym (both_on (is_chain i.op) (p.scope.carried i.result) c.chain (ap (λ (w : Scope). w.carried i.result) (plan_is s entry right kinds o unit u p among).scope_is ∙ c.carried))) n_in))
+      (subst (λ (b : Bool). IsIn n (if b then indexes i else [])) (sym (and_from (is_chain i.op) (p.scope.carried i.result) c.chain (ap (λ (w : Scope). w.carried i.result) (plan_is s entry right kinds o unit u p among).scope_is ∙ c.carried))) n_in))
 
   module _ (constant_uses : (g : Inst) → IsIn g s.of.globals → is_constant g ≡ true → (reading S g ≡ Named → HasName Found (Id (id g.result))) → UsesExpr (words_of s.of.globals (name_of u.claimed) names) (constant_expr S (id_text Found) g)) where
     -- what is read of a mentioned global
@@ -141,13 +143,13 @@ module _ (s : Setting) (entry : Option (List ℕ)) (right : IsConforming s.of en
         by_input : (g : Inst) (b : Bool) → (if b then Some (name (built_in_text (unwrap_or (value_of s.of.heads g.result (decoration_number decoration.BuiltIn)) 0))) else None) ≡ Some e → UsesExpr W e
         by_input g true is_it =
             let w = built_in_text (unwrap_or (value_of s.of.heads g.result (decoration_number decoration.BuiltIn)) 0) in
-            subst (UsesExpr W) (same_some (name w) e is_it) (built_value Gs Found u.lawful names structs w (input_among (built_in_of_number (unwrap_or (value_of s.of.heads g.result (decoration_number decoration.BuiltIn)) 0))))
+            subst (UsesExpr W) (same_Some (name w) e is_it) (built_value Gs Found u.lawful names structs w (input_among (built_in_of_number (unwrap_or (value_of s.of.heads g.result (decoration_number decoration.BuiltIn)) 0))))
         by_input g false is_it = cc
 
         by_constant : (g : Inst) → global Gs n ≡ Some g → (b : Bool) → is_constant g ≡ b → (if b then Some (constant_expr S (id_text Found) g) else (if is_input g then Some (name (built_in_text (unwrap_or (value_of s.of.heads g.result (decoration_number decoration.BuiltIn)) 0))) else None)) ≡ Some e → UsesExpr W e
         by_constant g at true on is_it =
             let there = found_in Gs n g at in
-            subst (UsesExpr W) (same_some (constant_expr S (id_text Found) g) e is_it)
+            subst (UsesExpr W) (same_Some (constant_expr S (id_text Found) g) e is_it)
             (constant_uses g there.0 on (λ named. subst (λ (k : ℕ). HasName Found (Id (id k))) (sym there.1) (constant_named s.of o unit u n g (any_in (λ (k : ℕ). k == n) All n n_in (same_test n n refl)) at on (ap is_named named))))
         by_constant g at false off is_it = by_input g (is_input g) is_it
 
@@ -172,7 +174,7 @@ module _ (s : Setting) (entry : Option (List ℕ)) (right : IsConforming s.of en
           there = r.at;
           here = r.here;
           live = r.live;
-          slot = both_on (is_id i.op i.args (suc k)) (is_value i.op (suc k) && is_taken Fn Marks i (suc k)) (chain_id i.op i.args (suc k) chain)
-              (both_on (is_value i.op (suc k)) (is_taken Fn Marks i (suc k)) (chain_value i.op (suc k) chain) (ap (λ (x : Bool). not x || is_label_reached Fn Marks (slice_index i.args (suc k + 1))) (chain_no_phi i.op chain)));
+          slot = and_from (is_id i.op i.args (suc k)) (is_value i.op (suc k) && is_taken Fn Marks i (suc k)) (chain_id i.op i.args (suc k) chain)
+              (and_from (is_value i.op (suc k)) (is_taken Fn Marks i (suc k)) (chain_value i.op (suc k) chain) (ap (λ (x : Bool). not x || is_label_reached Fn Marks (slice_index i.args (suc k + 1))) (chain_no_phi i.op chain)));
           word = arg;
         }

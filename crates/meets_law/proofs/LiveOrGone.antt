@@ -4,6 +4,7 @@ use Rattle.std.specs.Prelude.{◌⊎◌, nat_lt, slice_get, slice_index, slice_i
 use Rattle.std.specs.Option.{option_map_or}
 use Rattle.std.specs.List.{enumerate_from, list_any}
 use Rattle.std.proofs.lemmas.Bool.Decides.{nat_tests}
+use Rattle.std.proofs.lemmas.Bool.{or_left, or_from, false_from_ne_true, and_right, or_right}
 use Rattle.spv_ops.specs.OpGroups.{group_of}
 use Rattle.spv_ops.specs.Groups.{is_chain}
 use Rattle.spv_ops.specs.Shape.{shape, is_pure}
@@ -38,14 +39,13 @@ use Rattle.unit_rules.specs.Unit.{IsUnitOf}
 use Rattle.plan_law.specs.Ordered.{AreOrdered}
 use Rattle.plan_law.proofs.Order.{in_order}
 use Rattle.typed_law.specs.Conforms.{IsConforming}
-use Rattle.typed_law.proofs.Lists.{clash, no_true}
+use Rattle.typed_law.proofs.Lists.{clash}
 use Rattle.typed_law.proofs.Values.{inside}
 use Rattle.claim_law.specs.Claimed.{IsIn}
 use Rattle.claim_law.proofs.Listed.{in_flat, in_mapped, at_place}
 use Rattle.unit_law.proofs.Lists.{same_test, some_length, test_same, at_some, contained, of_contained, numbered_first, in_filter, of_filter, of_numbered_first, as_among}
 use Rattle.unit_law.proofs.Forms.{placed, is_placed, made_by, form_at}
 use Rattle.unit_law.proofs.Ways.{HaveKinds, F, R, V, plan_is, ordered, in_module}
-use Rattle.meets_law.proofs.Tests.{first_on, second_on, second_off}
 
 pub of_mapped : {A B : Type 0} (f : A → B) (xs : List A) (y : B) → IsIn y (map f xs) → (x : A) × IsIn x xs × (f x ≡ y)
 of_mapped f [] y there = absurd there
@@ -77,7 +77,7 @@ module _ (w : Scope) (block : ℕ) (i : Inst) (gone : w.form i.result ≡ Gone) 
   no_insert xs = ap (λ (x : Form). if is_variable_form x then xs else []) gone
 
   quiet_text : (k : InstKind) → is_quiet k ≡ true → inst_text w block i k ≡ []
-  quiet_text kind.Chain on = ap (λ (b : Bool). map (capture w i) (if b then captured_indexes (globals w) i else [])) (second_off (is_chain i.op) (w.carried i.result) left)
+  quiet_text kind.Chain on = ap (λ (b : Bool). map (capture w i) (if b then captured_indexes (globals w) i else [])) (and_right (is_chain i.op) (w.carried i.result) left)
   quiet_text kind.CompositeInsert on = no_insert (insert_text w block i (slice_index i.args 1) (part_steps w.setting i.ty (drop 2 i.args)) (slice_index i.args 0))
   quiet_text kind.VectorInsertDynamic on = no_insert (insert_text w block i (slice_index i.args 0) (LStep.index (value w block (slice_index i.args 2)) ∷ []) (slice_index i.args 1))
   quiet_text (kind.Value o) on = ap (set_by w i (expression w (value w block) block i)) gone
@@ -90,20 +90,16 @@ module _ (f : Function) (links : List Link) where
   unmentioned [] own n none = refl
   unmentioned (p ∷ ps) own n none = by_test (is_carried_with f (carried_from f ps) p) refl (unmentioned ps (λ q q_in. own q (inr q_in)))
     where
-      neither : (a b : Bool) → a ≡ false → b ≡ false → (a || b) ≡ false
-      neither false b off none = none
-      neither true b off none = cc
-
       lone : n ≡ p.result → ((k : ℕ) → mentions_of links k ≡ [] → carried_from f ps k ≡ false) → is_carried_with f (carried_from f ps) p ≡ false
       lone same later =
           let empty : mentions_of links p.result ≡ [] = ap (mentions_of links) (sym same) ∙ none in
-          second_off (is_chain p.op) (carried_from f ps p.result || list_any (carries f (carried_from f ps) p.block) p.mentions)
-          (neither (carried_from f ps p.result) (list_any (carries f (carried_from f ps) p.block) p.mentions) (later p.result empty)
+          and_right (is_chain p.op) (carried_from f ps p.result || list_any (carries f (carried_from f ps) p.block) p.mentions)
+          (or_from (carried_from f ps p.result) (list_any (carries f (carried_from f ps) p.block) p.mentions) (later p.result empty)
           (ap (list_any (carries f (carried_from f ps) p.block)) (own p (inl refl) ∙ empty)))
 
       by_test : (b : Bool) → is_carried_with f (carried_from f ps) p ≡ b → ((k : ℕ) → mentions_of links k ≡ [] → carried_from f ps k ≡ false) → elim b as (λ b. Bool) [ true ↦ carried_from f ps n || (n == p.result) | false ↦ carried_from f ps n ] ≡ false
       by_test false is_it later = later n none
-      by_test true is_it later = neither (carried_from f ps n) (n == p.result) (later n none) (no_true (n == p.result) (λ same. clash (sym is_it ∙ lone (test_same n p.result same) later)))
+      by_test true is_it later = or_from (carried_from f ps n) (n == p.result) (later n none) (false_from_ne_true (n == p.result) (λ same. clash (sym is_it ∙ lone (test_same n p.result same) later)))
 
 module _ (s : Setting) (entry : Option (List ℕ)) (right : IsConforming s.of entry) (kinds : HaveKinds s.of.globals) (o : Options) (unit : TranslationUnit) (u : IsUnitOf s.of o unit) (p : FunctionPlan) (among : IsIn p u.plans) where
   abbrev Fn : Function
@@ -154,7 +150,7 @@ module _ (s : Setting) (entry : Option (List ℕ)) (right : IsConforming s.of en
 
   set_closed : IsClosed Fn Marks in_set
   set_closed = record {
-    effects = λ b n i at off. ap (λ (q : Option Inst). option_map_or (λ (j : Inst). is_live (placed links b j)) q false) at ∙ first_on (not (is_pure i.op)) (nat_lt 0 (length (mentions_of links i.result))) (ap not off);
+    effects = λ b n i at off. ap (λ (q : Option Inst). option_map_or (λ (j : Inst). is_live (placed links b j)) q false) at ∙ or_left (not (is_pure i.op)) (nat_lt 0 (length (mentions_of links i.result))) (ap not off);
     mentioned = λ m b n i m_in user at same. mention_in m b n i m_in (inst_at Fn m.place.block m.place.inst) refl user at same;
   }
     where
@@ -170,7 +166,7 @@ module _ (s : Setting) (entry : Option (List ℕ)) (right : IsConforming s.of en
       mention_in : (m : Mention) (b n : ℕ) (i : Inst) → Contains (slots Fn Marks) m → (q : Option Inst) → inst_at Fn m.place.block m.place.inst ≡ q → option_map_or (λ (j : Inst). is_live (placed links m.place.block j)) (inst_at Fn m.place.block m.place.inst) false ≡ true → inst_at Fn b n ≡ Some i → i.result ≡ m.id → in_set b n ≡ true
       mention_in m b n i m_in q is_it user at same =
           ap (λ (x : Option Inst). option_map_or (λ (j : Inst). is_live (placed links b j)) x false) at
-          ∙ second_on (not (is_pure i.op)) (nat_lt 0 (length (mentions_of links i.result))) (subst (λ (k : ℕ). nat_lt 0 (length (mentions_of links k)) ≡ true) (sym same) (some_length (mentions_of links m.id) m.place (linked m m_in (user_live q is_it user))))
+          ∙ or_right (not (is_pure i.op)) (nat_lt 0 (length (mentions_of links i.result))) (subst (λ (k : ℕ). nat_lt 0 (length (mentions_of links k)) ≡ true) (sym same) (some_length (mentions_of links m.id) m.place (linked m m_in (user_live q is_it user))))
         where
           user_live : (q : Option Inst) → inst_at Fn m.place.block m.place.inst ≡ q → option_map_or (λ (j : Inst). is_live (placed links m.place.block j)) (inst_at Fn m.place.block m.place.inst) false ≡ true → IsLive Fn Marks m.place.block m.place.inst
           user_live None is_it user = absurd (never (sym user ∙ ap (λ (x : Option Inst). option_map_or (λ (j : Inst). is_live (placed links m.place.block j)) x false) is_it))

@@ -1,6 +1,8 @@
 -- What OpCopyLogical asks for: the names of structs and members of both types, part by part (T12).
 use Rattle.std.proofs.Common.{◌≡◌, ◌+◌, ◌==◌, ◌||◌, ℕ, zero, suc, Bool, true, List, [], Option, Some, None, unwrap_or, inl, refl, sym, ap, ◌∙◌, subst, arith}
 use Rattle.std.specs.Prelude.{slice_get, slice_index}
+use Rattle.std.proofs.lemmas.Bool.{or_left, or_right}
+use Rattle.std.proofs.lemmas.Option.{same_Some}
 use Rattle.spv_module.specs.Lists.{id}
 use Rattle.spv_module.specs.Held.{global}
 use Rattle.spv_module.specs.declared.inst.Inst.{Inst}
@@ -25,7 +27,6 @@ use Rattle.fits_law.specs.Takes.{nth_of, Alike, AllAlike}
 use Rattle.spell_law.specs.Uses.{Words, UsesExtent}
 use Rattle.spell_law.specs.Named.{IsNamedType, CanCopy, CanCopyParts}
 use Rattle.typed_law.specs.Conforms.{IsConforming}
-use Rattle.typed_law.proofs.Lists.{same_some}
 use Rattle.typed_law.proofs.Used.{global_found}
 use Rattle.claim_law.specs.Claimed.{IsIn, HasName}
 use Rattle.claim_law.proofs.Told.{named_is}
@@ -34,7 +35,6 @@ use Rattle.unit_law.specs.Types.{IsLengthOf, IsStructOf, IsOfTypes, AreOfTypes}
 use Rattle.unit_law.proofs.Lists.{same_test, as_among}
 use Rattle.unit_law.proofs.Structs.{Written, IsWrittenStruct, HasNames, structs_named, part_named}
 use Rattle.unit_law.proofs.Parts.{nth_arg}
-use Rattle.meets_law.proofs.Tests.{first_on, second_on}
 
 same_text : (q : Option Text) → text_or_none q ≡ unwrap_or q []
 same_text None = refl
@@ -42,7 +42,7 @@ same_text (Some w) = refl
 
 nth_same : (ts : Trees) (k : ℕ) (v : Tree) → nth_of ts k ≡ Some v → nth_or ts k boolean ≡ v
 nth_same no_trees k v at = cc
-nth_same (tree t ts) zero v at = same_some t v at
+nth_same (tree t ts) zero v at = same_Some t v at
 nth_same (tree t ts) (suc k) v at = nth_same ts k v at
 
 module _ (s : Setting) (entry : Option (List ℕ)) (right : IsConforming s.of entry) (o : Options) (unit : TranslationUnit) (u : IsUnitOf s.of o unit) (names : List (List ℕ))
@@ -88,7 +88,7 @@ module _ (s : Setting) (entry : Option (List ℕ)) (right : IsConforming s.of en
   member_there : (n : ℕ) (ts : Trees) (k : ℕ) (v : Tree) → IsStructOf Gs n ts → IsWrittenStruct s.of o unit u n → nth_of ts k ≡ Some v → W.member (member_name Found n k)
   member_there n ts k v own has at =
       let arg = (nth_arg (tree_before Gs own.ty.at) own.ty.args ts k v own.parts at).0 in
-      let same : has.ty ≡ own.ty = same_some has.ty own.ty (sym (global_found s.of entry right has.ty (as_among Gs has.ty has.among)) ∙ (ap (global Gs) (has.result ∙ sym own.result) ∙ global_found s.of entry right own.ty (as_among Gs own.ty own.among))) in
+      let same : has.ty ≡ own.ty = same_Some has.ty own.ty (sym (global_found s.of entry right has.ty (as_among Gs has.ty has.among)) ∙ (ap (global Gs) (has.result ∙ sym own.result) ∙ global_found s.of entry right own.ty (as_among Gs own.ty own.among))) in
       let named : HasName Found (Member (id n) k) = subst (λ (m : ℕ). HasName Found (Member (id m) k)) has.result (part_named s.of o unit u has.ty k (slice_index own.ty.args k) has.among has.is_struct has.written (subst (λ (g : Inst). slice_get g.args k ≡ Some (slice_index own.ty.args k)) (sym same) arg)) in
       subst W.member (sym (same_text (Found (Member (id n) k)))) (inl (Member (id n) k, named_is Found (Member (id n) k) named))
 
@@ -100,7 +100,7 @@ module _ (s : Setting) (entry : Option (List ℕ)) (right : IsConforming s.of en
     can_copy (vector e n) v like of_it from_it has from_has = tt
     can_copy (array t (Fixed n)) (array v (Fixed m)) like of_it from_it has from_has = (type_named (array t (Fixed n)) (array v (Fixed m)) like of_it has, can_copy t v like.0 of_it.1 from_it.1 has from_has)
     can_copy (struct n ts) (struct m us) like of_it from_it has from_has =
-        (struct_name n ts has, parts_copy ts us us m 0 like of_it.1 from_it.1 (λ k there. has k (second_on (n == k) (have_struct k ts) there)) (λ k there. from_has k (second_on (m == k) (have_struct k us) there)) from_it.0 (from_has m (own_struct m us)) (λ j. ap (nth_of us) (let first : 0 + j ≡ j = omega arith in first)))
+        (struct_name n ts has, parts_copy ts us us m 0 like of_it.1 from_it.1 (λ k there. has k (or_right (n == k) (have_struct k ts) there)) (λ k there. from_has k (or_right (m == k) (have_struct k us) there)) from_it.0 (from_has m (own_struct m us)) (λ j. ap (nth_of us) (let first : 0 + j ≡ j = omega arith in first)))
     can_copy t v like of_it from_it has from_has = absurd like
 
     -- of the whole struct these are the members from k on
@@ -109,8 +109,8 @@ module _ (s : Setting) (entry : Option (List ℕ)) (right : IsConforming s.of en
     parts_copy (tree t ts) (tree v us) whole m k like of_it from_it has from_has own written same =
         let at : nth_of whole k ≡ Some v = ap (nth_of whole) (let first : k ≡ k + 0 = omega arith in first) ∙ same 0 in (
           member_there m whole k v own written at,
-          subst (CanCopy W Found t) (sym (nth_same whole k v at)) (can_copy t v like.0 of_it.0 from_it.0 (λ n there. has n (first_on (has_struct n t) (have_struct n ts) there)) (λ n there. from_has n (first_on (has_struct n v) (have_struct n us) there))),
-          parts_copy ts us whole m (k + 1) like.1 of_it.1 from_it.1 (λ n there. has n (second_on (has_struct n t) (have_struct n ts) there)) (λ n there. from_has n (second_on (has_struct n v) (have_struct n us) there)) own written
+          subst (CanCopy W Found t) (sym (nth_same whole k v at)) (can_copy t v like.0 of_it.0 from_it.0 (λ n there. has n (or_left (has_struct n t) (have_struct n ts) there)) (λ n there. from_has n (or_left (has_struct n v) (have_struct n us) there))),
+          parts_copy ts us whole m (k + 1) like.1 of_it.1 from_it.1 (λ n there. has n (or_right (has_struct n t) (have_struct n ts) there)) (λ n there. from_has n (or_right (has_struct n v) (have_struct n us) there)) own written
               (λ j. ap (nth_of whole) (let next : k + 1 + j ≡ k + suc j = omega arith in next) ∙ same (suc j)),
         )
     parts_copy ts us whole m k like of_it from_it has from_has own written same = absurd like

@@ -2,6 +2,8 @@
 use Rattle.std.proofs.Common.{◌≡◌, ◌==◌, ◌&&◌, not, ℕ, Bool, true, false, List, [], ◌∷◌, ◌++◌, map, Option, Some, None, find, unwrap_or, option_map, inl, inr, refl, sym, ap, ◌∙◌, subst, if◌then◌else◌}
 use Rattle.std.specs.Prelude.{◌⊎◌, flat_map, nat_le, slice_get, slice_index, slice_index_or, option_and_then}
 use Rattle.std.specs.Option.{option_map_or, option_or}
+use Rattle.std.proofs.lemmas.Bool.{or_left, or_right}
+use Rattle.std.proofs.lemmas.Option.{same_Some}
 use Rattle.spv_ops.specs.Opcode.{is, number}
 use Rattle.spv_ops.specs.Groups.{is_constant as is_constant_op}
 use Rattle.spv_ops.specs.declared.Op.{Op}
@@ -39,7 +41,7 @@ use Rattle.unit_rules.specs.Translation.{id_text}
 use Rattle.unit_rules.specs.Unit.{claims_by, source_of, IsUnitOf}
 use Rattle.spell_law.specs.Uses.{UsesExtent}
 use Rattle.typed_law.specs.Conforms.{IsConforming}
-use Rattle.typed_law.proofs.Lists.{same_some, some_part}
+use Rattle.typed_law.proofs.Lists.{some_part}
 use Rattle.typed_law.proofs.Used.{among_left, among_right as ids_right}
 use Rattle.typed_law.proofs.Values.{inside, typed_result, has_a_type, global_row, variable_type_is}
 use Rattle.claim_law.specs.Claimed.{IsIn, IsOf}
@@ -55,7 +57,6 @@ use Rattle.unit_law.proofs.Structs.{Written, HasNames, written_names}
 use Rattle.unit_law.proofs.TypesWritten.{global_type_written, parameter_type_written, top_type_written}
 use Rattle.unit_law.proofs.ValueNames.{no_pointer, value_type_in, result_names}
 use Rattle.unit_law.proofs.Sets.{names_there}
-use Rattle.meets_law.proofs.Tests.{first_on, second_on}
 
 -- a type that has a struct in it is a composite
 array_composite : (o : Op) → kind o ≡ kinds.Array → is_composite_type o ≡ true
@@ -78,8 +79,8 @@ module _ (gs : List Inst) (g : Inst) (t : Tree) (n : ℕ) (has : has_struct n t 
   never e = cc
 
   no_int : (a b c : Bool) → (if a then (if b then Some uint else (if c then Some int else None)) else None) ≡ Some t → false ≡ true
-  no_int true true c is_it = ap (has_struct n) (same_some uint t is_it) ∙ has
-  no_int true false true is_it = ap (has_struct n) (same_some int t is_it) ∙ has
+  no_int true true c is_it = ap (has_struct n) (same_Some uint t is_it) ∙ has
+  no_int true false true is_it = ap (has_struct n) (same_Some int t is_it) ∙ has
   no_int true false false is_it = cc
   no_int false b c is_it = cc
 
@@ -88,7 +89,7 @@ module _ (gs : List Inst) (g : Inst) (t : Tree) (n : ℕ) (has : has_struct n t 
   no_vector (Some v) k is_it = by_elem (elem_of v) is_it
     where
       by_size : (e : Elem) (a b : Bool) → (if a && b then Some (vector e k) else None) ≡ Some t → false ≡ true
-      by_size e true true is_it = ap (has_struct n) (same_some (vector e k) t is_it) ∙ has
+      by_size e true true is_it = ap (has_struct n) (same_Some (vector e k) t is_it) ∙ has
       by_size e true false is_it = cc
       by_size e false b is_it = cc
 
@@ -97,7 +98,7 @@ module _ (gs : List Inst) (g : Inst) (t : Tree) (n : ℕ) (has : has_struct n t 
       by_elem (Some e) is_it = by_size e (nat_le 2 k) (nat_le k 4) is_it
 
   kind_composite : (k : TypeKind) → kind g.op ≡ k → tree_by_kind gs (tree_before gs g.at) g k ≡ Some t → is_composite_type g.op ≡ true
-  kind_composite kinds.Bool on is_it = never (ap (has_struct n) (same_some boolean t is_it) ∙ has)
+  kind_composite kinds.Bool on is_it = never (ap (has_struct n) (same_Some boolean t is_it) ∙ has)
   kind_composite kinds.Int on is_it = never (no_int (slice_index g.args 0 == 32) (slice_index g.args 1 == 0) (slice_index g.args 1 == 1) is_it)
   kind_composite kinds.Vector on is_it = never (no_vector (tree_before gs g.at (slice_index g.args 0)) (slice_index g.args 1) is_it)
   kind_composite kinds.Array on is_it = array_composite g.op on
@@ -120,8 +121,8 @@ in_signature (g ∷ fs) f ty (inr there) own = ids_right (signature g) (flat_map
 
 parameter_type : (ps : List (IdOf × IdOf)) (q : IdOf × IdOf) → IsIn q ps → is_among (map (λ (r : IdOf × IdOf). r.1.0) ps) q.1.0 ≡ true
 parameter_type [] q there = absurd there
-parameter_type (r ∷ ps) q (inl same) = first_on (r.1.0 == q.1.0) (is_among (map (λ (x : IdOf × IdOf). x.1.0) ps) q.1.0) (same_test r.1.0 q.1.0 (ap (λ (x : IdOf × IdOf). x.1.0) same))
-parameter_type (r ∷ ps) q (inr there) = second_on (r.1.0 == q.1.0) (is_among (map (λ (x : IdOf × IdOf). x.1.0) ps) q.1.0) (parameter_type ps q there)
+parameter_type (r ∷ ps) q (inl same) = or_left (r.1.0 == q.1.0) (is_among (map (λ (x : IdOf × IdOf). x.1.0) ps) q.1.0) (same_test r.1.0 q.1.0 (ap (λ (x : IdOf × IdOf). x.1.0) same))
+parameter_type (r ∷ ps) q (inr there) = or_right (r.1.0 == q.1.0) (is_among (map (λ (x : IdOf × IdOf). x.1.0) ps) q.1.0) (parameter_type ps q there)
 
 no_variable : (o : Op) → is_constant_op o ≡ true → is o code.Variable ≡ false
 unfolding number
@@ -149,7 +150,7 @@ module _ (s : Setting) (entry : Option (List ℕ)) (right : IsConforming s.of en
   -- of a parameter
   parameter_names : (q : IdOf × IdOf) → IsIn q Fn.params → (v : Tree) → type_tree Gs q.1.0 ≡ Some v → Here v
   parameter_names q there v shaped =
-      let own : is_among (signature Fn) q.1.0 ≡ true = second_on (Fn.result.0 == q.1.0) (is_among (map (λ (r : IdOf × IdOf). r.1.0) Fn.params) q.1.0) (parameter_type Fn.params q there) in
+      let own : is_among (signature Fn) q.1.0 ≡ true = or_right (Fn.result.0 == q.1.0) (is_among (map (λ (r : IdOf × IdOf). r.1.0) Fn.params) q.1.0) (parameter_type Fn.params q there) in
       let misused : is_among (block_misuses s.of) q.1.0 ≡ true =
       ids_right (flat_map parts_of Gs ++ pointees s.of (λ v. not (is_some_block s.of.heads Gs v)) ++ value_types s.of) (signature_types s.of) q.1.0 (in_signature s.of.functions Fn q.1.0 (of_contained s.of.functions Fn (in_module s entry right kinds_of o unit u p among)) own) in
       written_names s.of o unit u entry right q.1.0 q.1.0 v
@@ -164,7 +165,7 @@ module _ (s : Setting) (entry : Option (List ℕ)) (right : IsConforming s.of en
       among_left (flat_map parts_of Gs ++ pointees s.of (λ v. not (is_some_block s.of.heads Gs v)) ++ value_types s.of) (signature_types s.of) g.ty
       (ids_right (flat_map parts_of Gs ++ pointees s.of (λ v. not (is_some_block s.of.heads Gs v))) (value_types s.of) g.ty (value_type_in (body_insts s.of) g (as_in (body_insts s.of) g body) (no_variable g.op constant))) in
       written_names s.of o unit u entry right g.ty g.ty v
-      (global_type_written s.of o unit u g there (second_on (is_written_variable (Written s.of o unit u) g) (is_declared_constant (source_of s.of o u.entry) (Written s.of o unit u) g) written_so))
+      (global_type_written s.of o unit u g there (or_right (is_written_variable (Written s.of o unit u) g) (is_declared_constant (source_of s.of o u.entry) (Written s.of o unit u) g) written_so))
       (no_pointer Gs g.ty v shaped) shaped (misused_free s.of entry right g.ty v misused shaped)
 
   -- of what an instruction makes
@@ -230,7 +231,7 @@ module _ (s : Setting) (entry : Option (List ℕ)) (right : IsConforming s.of en
         by_local (Some y) made ty is_it at =
             let q = mapped_some (λ (r : IdOf × IdOf). r.1.0) (find (λ (r : IdOf × IdOf). r.0.0 == n) Fn.params) y made in
             let w = found_by (λ (r : IdOf × IdOf). r.0.0 == n) Fn.params q.0 q.1 in
-            let same : q.0.1.0 ≡ ty = same_some q.0.1.0 y (ap (option_map (λ (r : IdOf × IdOf). r.1.0)) (sym q.1) ∙ made) ∙ same_some y ty is_it in
+            let same : q.0.1.0 ≡ ty = same_Some q.0.1.0 y (ap (option_map (λ (r : IdOf × IdOf). r.1.0)) (sym q.1) ∙ made) ∙ same_Some y ty is_it in
             parameter_names q.0 w.0 v (ap (type_tree Gs) same ∙ at)
 
         by_global : (x : Option ℕ) → global_type Gs n ≡ x → (ty : ℕ) → option_or x (local_type Fn n) ≡ Some ty → type_tree Gs ty ≡ Some v → Here v
@@ -239,7 +240,7 @@ module _ (s : Setting) (entry : Option (List ℕ)) (right : IsConforming s.of en
             let g = some_part typed (global Gs n) y told in
             let own = own_type_of g.0 y g.2 in
             let there = found_in Gs n g.0 g.1 in
-            by_kind g.0 there.0 g.1 own.1 (ap (type_tree Gs) (own.0 ∙ same_some y ty is_it) ∙ at) (kinds_of g.0 there.0 own.1)
+            by_kind g.0 there.0 g.1 own.1 (ap (type_tree Gs) (own.0 ∙ same_Some y ty is_it) ∙ at) (kinds_of g.0 there.0 own.1)
 
         by_type : (x : Option ℕ) → type_in Gs Fn n ≡ x → type_tree Gs (unwrap_or x 0) ≡ Some v → Here v
         by_type None told at = absurd (none_some (sym (ap (λ x. option_map_or (tree_at Gs) x None) right.results.none) ∙ at))

@@ -3,6 +3,8 @@ use Rattle.std.proofs.Common.{◌≡◌, ◌==◌, ◌&&◌, ◌||◌, not, ℕ,
 use Rattle.std.specs.Prelude.{◌⊎◌, count_by, nat_le, option_map, option_and_then, slice_get, slice_index}
 use Rattle.std.specs.Option.{option_map_or}
 use Rattle.std.specs.List.{list_any}
+use Rattle.std.proofs.lemmas.Bool.{and_from, or_left as first_on, false_from_ne_true, not-false, or_right as second_on}
+use Rattle.std.proofs.lemmas.Option.{same_Some}
 use Rattle.spv_ops.specs.Opcode.{is, number}
 use Rattle.spv_ops.specs.Enumerants.{class_number, built_in_number, built_in_of_number, decoration_number}
 use Rattle.spv_ops.specs.declared.Op.{Op}
@@ -53,7 +55,7 @@ use Rattle.type_law.proofs.Rows.{by_kind as tree_kind}
 use Rattle.type_law.proofs.Parts.{struct_kind}
 use Rattle.type_law.proofs.Vectors.{three_off}
 use Rattle.typed_law.specs.Conforms.{IsConforming, IsParameter}
-use Rattle.typed_law.proofs.Lists.{both_on, same_some, no_true, and_left, and_off, not_off, or_left, or_right, none_at_fault}
+use Rattle.typed_law.proofs.Lists.{and_left, and_off, or_left, or_right, none_at_fault}
 use Rattle.typed_law.proofs.Rules.{input_right}
 use Rattle.typed_law.proofs.Types.{row_is}
 use Rattle.typed_law.proofs.Values.{IsRow, inside, parameter_right, parameter_row}
@@ -77,7 +79,6 @@ use Rattle.unit_law.proofs.Places.{IsRoot}
 use Rattle.meets_law.proofs.Roots.{own_base, unread_variable}
 use Rattle.meets_law.proofs.OperandNames.{composite_of}
 use Rattle.meets_law.proofs.GlobalReads.{input_among}
-use Rattle.meets_law.proofs.Tests.{first_on, second_on}
 
 -- a struct of a value type is no block's
 fold_off : (heads gs list : List Inst) (others : ℕ → Bool) (n : ℕ) → fold (with_other heads gs) others list n ≡ false → others n ≡ false
@@ -110,7 +111,7 @@ block_struct s entry right v there on class t at =
     (and_off (is_variable v) (((is_buffer v || is_push v) && is_pointee s.of.globals (is_no_block s.of.heads (word v 0)) v) || (is_buffer v && is_unbound s.of.heads v) || (is_push v && nat_le 2 pushes)) right_block on) in
     let none = and_off (is_buffer v || is_push v) (is_pointee s.of.globals (is_no_block s.of.heads (word v 0)) v) parts.0 (of_block (is_variable v) (word v 0 == class_number storage.Uniform) (word v 0 == class_number storage.PushConstant) (word v 0 == class_number storage.StorageBuffer) class) in
     let fit : is_no_block s.of.heads (word v 0) t ≡ false = ap (λ q. option_map_or (is_no_block s.of.heads (word v 0)) q false) (sym at) ∙ none in
-    and_left (is t.op code.TypeStruct) (is_block_struct s.of.heads (word v 0) t.result) (not_off ((is t.op code.TypeStruct) && is_block_struct s.of.heads (word v 0) t.result) fit)
+    and_left (is t.op code.TypeStruct) (is_block_struct s.of.heads (word v 0) t.result) (not-false ((is t.op code.TypeStruct) && is_block_struct s.of.heads (word v 0) t.result) fit)
   where
     of_block : (v a b c : Bool) → (v && (a || b || c)) ≡ true → ((a || c) || (v && b)) ≡ true
     of_block true true b c e = refl
@@ -130,7 +131,7 @@ classed false a b c e = cc
 -- it is of no class Input
 no_input : (v : Bool) (c : ℕ) → (v && ((c == class_number storage.Uniform) || (c == class_number storage.PushConstant) || (c == class_number storage.StorageBuffer))) ≡ true → (v && (c == class_number storage.Input)) ≡ false
 no_input false c e = refl
-no_input true c e = no_true (c == class_number storage.Input) (λ input. apart (test_same c (class_number storage.Input) input))
+no_input true c e = false_from_ne_true (c == class_number storage.Input) (λ input. apart (test_same c (class_number storage.Input) input))
   where
     apart : c ≡ class_number storage.Input → ⊥
     apart same = never (sym (subst (λ (n : ℕ). ((n == class_number storage.Uniform) || (n == class_number storage.PushConstant) || (n == class_number storage.StorageBuffer)) ≡ true) same e))
@@ -192,7 +193,7 @@ module _ (s : Setting) (entry : Option (List ℕ)) (right : IsConforming s.of en
       target = row_of_shape s entry right Fn in_it ty t shaped
 
       on_pointer : (b : Bool) → is row.0.op code.TypePointer ≡ b → option_map (λ (g : Inst). slice_index g.args 1) (if b then Some row.0 else None) ≡ Some ty → (b ≡ true) × (word row.0 1 ≡ ty)
-      on_pointer true is_it e = (refl, same_some (word row.0 1) ty e)
+      on_pointer true is_it e = (refl, same_Some (word row.0 1) ty e)
       on_pointer false is_it e = cc
 
       pointed : (is row.0.op code.TypePointer ≡ true) × (word row.0 1 ≡ ty)
@@ -247,7 +248,7 @@ module _ (s : Setting) (entry : Option (List ℕ)) (right : IsConforming s.of en
       member_of k x h at on arg =
           let there = found_in Gs ty h at in
           let block : block_of Gs g ≡ Some h =
-          ap (λ (b : Bool). if b then option_and_then as_struct (option_and_then (global Gs) (pointee Gs g.ty)) else None) (both_on (is_variable g) (is_block_class (slice_index g.args 0)) on_variable (classed (is_variable g) (slice_index g.args 0 == class_number storage.Uniform) (slice_index g.args 0 == class_number storage.PushConstant) (slice_index g.args 0 == class_number storage.StorageBuffer) class))
+          ap (λ (b : Bool). if b then option_and_then as_struct (option_and_then (global Gs) (pointee Gs g.ty)) else None) (and_from (is_variable g) (is_block_class (slice_index g.args 0)) on_variable (classed (is_variable g) (slice_index g.args 0 == class_number storage.Uniform) (slice_index g.args 0 == class_number storage.PushConstant) (slice_index g.args 0 == class_number storage.StorageBuffer) class))
           ∙ (ap (λ (q : Option ℕ). option_and_then as_struct (option_and_then (global Gs) q)) points ∙ (ap (option_and_then as_struct) at ∙ ap (λ (b : Bool). if b then Some h else None) on)) in
           subst (λ (n : ℕ). HasName Found (Member (id n) k)) there.1 (block_member_named s.of o unit u g h k x g_in written_so block there.0 on arg)
 
@@ -257,7 +258,7 @@ module _ (s : Setting) (entry : Option (List ℕ)) (right : IsConforming s.of en
           by_members : (q : Option Trees) → all_trees (tree_before Gs at_type.0.at) at_type.0.args ≡ q → option_map (struct at_type.0.result) q ≡ Some t → IsWrittenStruct s.of o unit u n
           by_members None all e = cc
           by_members (Some ts) all e =
-              let same : struct at_type.0.result ts ≡ t = same_some (struct at_type.0.result ts) t e in
+              let same : struct at_type.0.result ts ≡ t = same_Some (struct at_type.0.result ts) t e in
               let in_parts : have_struct n ts ≡ true = nth_has ts k v n (ap (λ (x : Tree). element_shape x k) same ∙ at) has in
               let fr = inner_free s.of entry right at_type.0 ts (found_in Gs ty at_type.0 at_type.1).0 is_struct_type all n in_parts in
               let in_it : has_struct n t ≡ true = ap (has_struct n) (sym same) ∙ second_on (at_type.0.result == n) (have_struct n ts) in_parts in
@@ -287,12 +288,12 @@ module _ (s : Setting) (entry : Option (List ℕ)) (right : IsConforming s.of en
       plain_type : (is at_type.0.op code.TypeInt ≡ true) ⊎ (is at_type.0.op code.TypeVector ≡ true)
       plain_type =
           let off = and_off (is_variable g && (word g 0 == class_number storage.Input)) (option_map_or (λ b. not (is_among inputs b) || is_pointee Gs (is_other_input_type Gs b) g) (value_of s.of.heads g.result (decoration_number decoration.BuiltIn)) true)
-          (input_right s.of entry right g body) (both_on (is_variable g) (word g 0 == class_number storage.Input) on_variable class) in
+          (input_right s.of entry right g body) (and_from (is_variable g) (word g 0 == class_number storage.Input) on_variable class) in
           by_value (value_of s.of.heads g.result (decoration_number decoration.BuiltIn)) off
         where
           by_built : (b : Bool) → (if b then not (is_uint at_type.0) else is_no_uvec3 Gs at_type.0) ≡ false → (is at_type.0.op code.TypeInt ≡ true) ⊎ (is at_type.0.op code.TypeVector ≡ true)
-          by_built true off = inl (and_left (is at_type.0.op code.TypeInt) (word at_type.0 0 == 32) (and_left ((is at_type.0.op code.TypeInt) && (word at_type.0 0 == 32)) (word at_type.0 1 == 0) (not_off (is_uint at_type.0) off)))
-          by_built false off = inr (and_left (is at_type.0.op code.TypeVector) (word at_type.0 1 == 3) (not_off ((is at_type.0.op code.TypeVector) && (word at_type.0 1 == 3)) (or_left (not ((is at_type.0.op code.TypeVector) && (word at_type.0 1 == 3))) (is_no_uint Gs (word at_type.0 0)) off)))
+          by_built true off = inl (and_left (is at_type.0.op code.TypeInt) (word at_type.0 0 == 32) (and_left ((is at_type.0.op code.TypeInt) && (word at_type.0 0 == 32)) (word at_type.0 1 == 0) (not-false (is_uint at_type.0) off)))
+          by_built false off = inr (and_left (is at_type.0.op code.TypeVector) (word at_type.0 1 == 3) (not-false ((is at_type.0.op code.TypeVector) && (word at_type.0 1 == 3)) (or_left (not ((is at_type.0.op code.TypeVector) && (word at_type.0 1 == 3))) (is_no_uint Gs (word at_type.0 0)) off)))
 
           by_value : (q : Option ℕ) → option_map_or (λ b. not (is_among inputs b) || is_pointee Gs (is_other_input_type Gs b) g) q true ≡ false → (is at_type.0.op code.TypeInt ≡ true) ⊎ (is at_type.0.op code.TypeVector ≡ true)
           by_value None off = cc
@@ -307,7 +308,7 @@ module _ (s : Setting) (entry : Option (List ℕ)) (right : IsConforming s.of en
       input_root = record {
         members = record {
           shaped = shaped;
-          own = λ h at on k x arg. never (sym on ∙ (ap (λ (y : Inst). is y.op code.TypeStruct) (same_some h at_type.0 (sym at ∙ at_type.1)) ∙ (no_composite at_type.0.op plain_type).1));
+          own = λ h at on k x arg. never (sym on ∙ (ap (λ (y : Inst). is y.op code.TypeStruct) (same_Some h at_type.0 (sym at ∙ at_type.1)) ∙ (no_composite at_type.0.op plain_type).1));
           parts = λ k v at n has. never (sym (composite_of Gs ty t n shaped (elem_free t k v n at has)) ∙ (ap (λ (q : Option Inst). option_map_or (λ (y : Inst). is_composite_type y.op) q false) at_type.1 ∙ (no_composite at_type.0.op plain_type).0));
         };
         named = subst (λ (q : Option Expr). W.value (option_map_or name_in q (text_of Found (Id (id g.result))))) (sym read)
@@ -315,7 +316,7 @@ module _ (s : Setting) (entry : Option (List ℕ)) (right : IsConforming s.of en
       }
         where
           read : Where.setting.global g.result ≡ Some (name (built_in_text (unwrap_or (value_of s.of.heads g.result (decoration_number decoration.BuiltIn)) 0)))
-          read = ap (option_and_then (global_by (source_of s.of o u.entry) (id_text Found))) found ∙ by_tests (is_constant g) (is_input g) (variable_no_constant g.op on_variable) (both_on (is_variable g) (slice_index g.args 0 == class_number storage.Input) on_variable class)
+          read = ap (option_and_then (global_by (source_of s.of o u.entry) (id_text Found))) found ∙ by_tests (is_constant g) (is_input g) (variable_no_constant g.op on_variable) (and_from (is_variable g) (slice_index g.args 0 == class_number storage.Input) on_variable class)
             where
               by_tests : (a b : Bool) → a ≡ false → b ≡ true → (if a then Some (constant_expr (source_of s.of o u.entry) (id_text Found) g) else (if b then Some (name (built_in_text (unwrap_or (value_of s.of.heads g.result (decoration_number decoration.BuiltIn)) 0))) else None)) ≡ Some (name (built_in_text (unwrap_or (value_of s.of.heads g.result (decoration_number decoration.BuiltIn)) 0)))
               by_tests false true x y = refl

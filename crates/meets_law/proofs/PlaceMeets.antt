@@ -2,6 +2,7 @@
 use Rattle.std.proofs.Common.{◌≡◌, ◌+◌, ◌&&◌, ◌||◌, not, ℕ, Bool, true, false, List, length, drop, take, Contains, Option, Some, refl, sym, ap, ◌∙◌, subst, arith, unwrap_or, if◌then◌else◌}
 use Rattle.std.specs.Prelude.{nat_lt, slice_get, slice_index, slice_index_or}
 use Rattle.std.specs.Option.{option_map_or}
+use Rattle.std.proofs.lemmas.Bool.{and_from}
 use Rattle.spv_ops.specs.Opcode.{is, number}
 use Rattle.spv_ops.specs.OpGroups.{group_of}
 use Rattle.spv_ops.specs.Operands.{is_id}
@@ -50,7 +51,7 @@ use Rattle.fits_law.specs.State.{value_shape}
 use Rattle.spell_law.specs.Uses.{Words, UsesExpr, UsesExtent}
 use Rattle.spell_law.specs.Statements.{AsksSet, AsksOperand, MeetsInst}
 use Rattle.typed_law.specs.Conforms.{IsConforming}
-use Rattle.typed_law.proofs.Lists.{both_on, or_left, or_right}
+use Rattle.typed_law.proofs.Lists.{or_left, or_right}
 use Rattle.typed_law.proofs.Rules.{value_right, number_right}
 use Rattle.typed_law.proofs.Values.{inside, typed_result}
 use Rattle.typed_law.proofs.Shapes.{shaped_type}
@@ -175,8 +176,8 @@ module _ (s : Setting) (entry : Option (List ℕ)) (right : IsConforming s.of en
       there = at;
       here = here;
       live = live;
-      slot = both_on (is_id i.op i.args k) (is_value i.op k && is_taken Fn Marks i k) r.names_id
-          (both_on (is_value i.op k) (is_taken Fn Marks i k) r.value (ap (λ (b : Bool). not b || is_label_reached Fn Marks (slice_index i.args (k + 1))) r.no_phi));
+      slot = and_from (is_id i.op i.args k) (is_value i.op k && is_taken Fn Marks i k) r.names_id
+          (and_from (is_value i.op k) (is_taken Fn Marks i k) r.value (ap (λ (b : Bool). not b || is_label_reached Fn Marks (slice_index i.args (k + 1))) r.no_phi));
       word = read_arg k r;
     }
 

@@ -4,6 +4,8 @@ use Rattle.std.specs.Prelude.{◌⊎◌, option_map, option_and_then, slice_get,
 use Rattle.std.specs.Option.{option_map_or, option_or}
 use Rattle.std.specs.List.{enumerate_from}
 use Rattle.std.proofs.lemmas.List.Elements.{Contains-append_left}
+use Rattle.std.proofs.lemmas.Bool.{and_from, or_left as first_on, not-false, or_right as second_on}
+use Rattle.std.proofs.lemmas.Option.{same_Some}
 use Rattle.spv_ops.specs.Opcode.{is, number}
 use Rattle.spv_ops.specs.OpGroups.{group_of}
 use Rattle.spv_ops.specs.Operands.{is_id}
@@ -38,7 +40,7 @@ use Rattle.function_text.specs.Functions.{FunctionPlan}
 use Rattle.unit_rules.specs.Unit.{IsUnitOf}
 use Rattle.path_law.specs.Chains.{NoneMakes}
 use Rattle.typed_law.specs.Conforms.{IsConforming, IsParameter}
-use Rattle.typed_law.proofs.Lists.{both_on, same_some, some_part, and_left, and_right, and_off, not_off, or_left, or_right, none_at_fault}
+use Rattle.typed_law.proofs.Lists.{some_part, and_left, and_right, and_off, or_left, or_right, none_at_fault}
 use Rattle.typed_law.proofs.Values.{inside, has_a_type}
 use Rattle.claim_law.specs.Claimed.{IsIn}
 use Rattle.claim_law.proofs.Listed.{in_flat, any_in, at_place}
@@ -53,7 +55,6 @@ use Rattle.unit_law.proofs.ResultShapes.{stands_inside, IsShaped, constant_shape
 use Rattle.unit_law.proofs.ResultTypes.{Gives, of_shape, of_pointer, of_call, gives}
 use Rattle.meets_law.proofs.Roots.{variable_root, outer_root}
 use Rattle.meets_law.proofs.OuterRoots.{parameter_root, block_root, input_root}
-use Rattle.meets_law.proofs.Tests.{first_on, second_on}
 
 as_parameter : (q : IdOf × IdOf) (ps : List (IdOf × IdOf)) → IsIn q ps → IsParameter q ps
 as_parameter q [] there = absurd there
@@ -116,7 +117,7 @@ module _ (s : Setting) (entry : Option (List ℕ)) (right : IsConforming s.of en
   class_of_global g there on =
       let none = none_at_fault (is_misclassed false Gs) Gs g (λ at has. right.declared.1.1.1.1.1.1.1.1.0 at (Contains-append_left (places (is_misclassed false Gs) Gs) (places (is_misclassed true Gs) (local_insts s.of)) at has)) there in
       let off = and_off (is_variable g) (is_other_class Gs g || (word g 0 == class_number storage.Function)) none on in
-      (not_off (is_among classes (word g 0)) (or_left (not (is_among classes (word g 0))) _ (or_left (is_other_class Gs g) (word g 0 == class_number storage.Function) off)), or_right (is_other_class Gs g) (word g 0 == class_number storage.Function) off)
+      (not-false (is_among classes (word g 0)) (or_left (not (is_among classes (word g 0))) _ (or_left (is_other_class Gs g) (word g 0 == class_number storage.Function) off)), or_right (is_other_class Gs g) (word g 0 == class_number storage.Function) off)
 
   module _ (inner : (i : Inst) → IsIn i (insts_of Fn) → stands_inside (group_of i.op) ≡ true) (first : (c : ℕ) (b : Block) (i : Inst) → slice_get Fn.blocks c ≡ Some b → IsIn i b.insts → is i.op code.Variable ≡ true → slice_index_or Marks c false ≡ true) where
     module _ (n ty : ℕ) (t : Tree) (none : NoneMakes n (insts_of Fn)) (c : ℕ) (i : Inst) (m : IsLinked Fn Marks c i n) (shaped : type_tree Gs ty ≡ Some t) where
@@ -130,7 +131,7 @@ module _ (s : Setting) (entry : Option (List ℕ)) (right : IsConforming s.of en
       operand =
           let slot = and_right (slice_index_or Marks c false || is_base i m.arg) (is_slot Fn Marks i m.arg) m.slot in
           let names_id = and_left (is_id i.op i.args m.arg) (is_value i.op m.arg && is_taken Fn Marks i m.arg) slot in
-          any_in (λ (q : ℕ × ℕ). is_id i.op i.args q.0 && (q.1 == n)) (enumerate_from 0 i.args) (m.arg, n) (numbered_first i.args m.arg n m.word) (both_on (is_id i.op i.args m.arg) (n == n) names_id (same_test n n refl))
+          any_in (λ (q : ℕ × ℕ). is_id i.op i.args q.0 && (q.1 == n)) (enumerate_from 0 i.args) (m.arg, n) (numbered_first i.args m.arg n m.word) (and_from (is_id i.op i.args m.arg) (n == n) names_id (same_test n n refl))
 
       no_shape : {A : Type 0} → (pt : ℕ) → pointee Gs pt ≡ Some ty → IsShaped s entry right pt → A
       no_shape pt points v =
@@ -145,15 +146,15 @@ module _ (s : Setting) (entry : Option (List ℕ)) (right : IsConforming s.of en
         of_private : slice_index g.args 0 ≡ class_number storage.Private → Root g.result ty t
         of_private class =
             outer_root s entry right kinds o unit u p among names structs g g_in i user_in operand_of found
-            (first_on (is_private g) (is_workgroup g) (both_on (is_variable g) (slice_index g.args 0 == class_number storage.Private) on (same_test (slice_index g.args 0) (class_number storage.Private) class))) typed_is ty t points shaped
+            (first_on (is_private g) (is_workgroup g) (and_from (is_variable g) (slice_index g.args 0 == class_number storage.Private) on (same_test (slice_index g.args 0) (class_number storage.Private) class))) typed_is ty t points shaped
 
         of_workgroup : slice_index g.args 0 ≡ class_number storage.Workgroup → Root g.result ty t
         of_workgroup class =
             outer_root s entry right kinds o unit u p among names structs g g_in i user_in operand_of found
-            (second_on (is_private g) (is_workgroup g) (both_on (is_variable g) (slice_index g.args 0 == class_number storage.Workgroup) on (same_test (slice_index g.args 0) (class_number storage.Workgroup) class))) typed_is ty t points shaped
+            (second_on (is_private g) (is_workgroup g) (and_from (is_variable g) (slice_index g.args 0 == class_number storage.Workgroup) on (same_test (slice_index g.args 0) (class_number storage.Workgroup) class))) typed_is ty t points shaped
 
         of_block : ((slice_index g.args 0 == class_number storage.Uniform) || (slice_index g.args 0 == class_number storage.PushConstant) || (slice_index g.args 0 == class_number storage.StorageBuffer)) ≡ true → Root g.result ty t
-        of_block class = block_root s entry right kinds o unit u p among names structs g g_in i user_in operand_of found on ty t points shaped (both_on (is_variable g) _ on class) typed_is
+        of_block class = block_root s entry right kinds o unit u p among names structs g g_in i user_in operand_of found on ty t points shaped (and_from (is_variable g) _ on class) typed_is
 
         of_input : slice_index g.args 0 ≡ class_number storage.Input → Root g.result ty t
         of_input class = input_root s entry right kinds o unit u p among names structs g g_in i user_in operand_of found on ty t points shaped (same_test (slice_index g.args 0) (class_number storage.Input) class)
@@ -219,7 +220,7 @@ module _ (s : Setting) (entry : Option (List ℕ)) (right : IsConforming s.of en
           by_kind (of_pointer w on (inr variable)) = by_variable (variable_of j.op variable)
           by_kind (of_call w void call) =
               let g = pointee_row Gs j.ty ty points in
-              absurd (never (sym g.2 ∙ (ap (λ (x : Inst). is x.op code.TypePointer) (same_some g.0 w.0 (sym g.1 ∙ w.1)) ∙ void_kind w.0.op void)))
+              absurd (never (sym g.2 ∙ (ap (λ (x : Inst). is x.op code.TypePointer) (same_Some g.0 w.0 (sym g.1 ∙ w.1)) ∙ void_kind w.0.op void)))
             where
               never : true ≡ false → ⊥
               never e = cc
@@ -232,7 +233,7 @@ module _ (s : Setting) (entry : Option (List ℕ)) (right : IsConforming s.of en
       by_parameter outside (Some y) lent pt told points typed_is =
           let q = mapped_some (λ (r : IdOf × IdOf). r.1.0) (find (λ (r : IdOf × IdOf). r.0.0 == n) Fn.params) y lent in
           let w = found_by (λ (r : IdOf × IdOf). r.0.0 == n) Fn.params q.0 q.1 in
-          let same : q.0.1.0 ≡ pt = same_some q.0.1.0 y (ap (option_map (λ (r : IdOf × IdOf). r.1.0)) (sym q.1) ∙ lent) ∙ same_some y pt told in
+          let same : q.0.1.0 ≡ pt = same_Some q.0.1.0 y (ap (option_map (λ (r : IdOf × IdOf). r.1.0)) (sym q.1) ∙ lent) ∙ same_Some y pt told in
           let own : q.0.0.0 ≡ n = test_same q.0.0.0 n w.1 in
           subst (λ (k : ℕ). Root k ty t) own (parameter_root s entry right kinds o unit u p among names structs q.0 w.0 (as_parameter q.0 Fn.params w.0) ty t (ap (pointee Gs) same ∙ points) shaped (ap T own ∙ (typed_is ∙ ap (λ x. Some x) (sym same))))
 
@@ -247,7 +248,7 @@ module _ (s : Setting) (entry : Option (List ℕ)) (right : IsConforming s.of en
           let h = some_part typed (global Gs n) y at in
           let own = own_type_of h.0 y h.2 in
           let there = found_in Gs n h.0 h.1 in
-          let same : h.0.ty ≡ pt = own.0 ∙ same_some y pt told in
+          let same : h.0.ty ≡ pt = own.0 ∙ same_Some y pt told in
           by_kind h.0 there.0 h.1 there.1 own.1 (ap (pointee Gs) same ∙ points) (typed_is ∙ ap (λ x. Some x) (sym same)) (kinds h.0 there.0 own.1)
 
       pub pointer_root : pointee_of Gs Fn n ≡ Some ty → Root n ty t

@@ -3,6 +3,7 @@ use Rattle.std.proofs.Common.{◌≡◌, ◌+◌, ◌==◌, ◌&&◌, ◌||◌, 
 use Rattle.std.specs.Prelude.{option_and_then, slice_get, slice_index, slice_index_or, nat_lt}
 use Rattle.std.specs.Option.{option_map_or}
 use Rattle.std.specs.List.{cons_option}
+use Rattle.std.proofs.lemmas.Bool.{and_from, or_left, false_from_ne_true, not-false, or_right as second_on}
 use Rattle.spv_ops.specs.Opcode.{is, number}
 use Rattle.spv_ops.specs.Shape.{shape, is_pure}
 use Rattle.spv_ops.specs.Enumerants.{class_number, decoration_number}
@@ -44,7 +45,7 @@ use Rattle.unit_rules.specs.Unit.{source_of, IsUnitOf, claims_by}
 use Rattle.spell_law.specs.Uses.{Words}
 use Rattle.text_rules.specs.Constants.{is_constant, constant_expr}
 use Rattle.typed_law.specs.Conforms.{IsConforming}
-use Rattle.typed_law.proofs.Lists.{both_on, not_off, or_right, no_true, and_off}
+use Rattle.typed_law.proofs.Lists.{or_right, and_off}
 use Rattle.typed_law.proofs.Rules.{class_right}
 use Rattle.typed_law.proofs.Used.{among_left, among_right as ids_right}
 use Rattle.typed_law.proofs.Values.{inside, among_functions, typed_result}
@@ -68,7 +69,6 @@ use Rattle.hoist_plan.specs.declared.form.Form.TheVariants.{Local, Hoisted}
 use Rattle.hoist_plan.specs.Plan.{mentions_of}
 use Rattle.plan_law.specs.InOrder.{IsAmong}
 use Rattle.meets_law.proofs.LiveOrGone.{live_form}
-use Rattle.meets_law.proofs.Tests.{first_on, second_on}
 
 -- variables of these classes are no blocks
 function_no_block : (heads : List Inst) (n : ℕ) → is_block_struct heads (class_number storage.Function) n ≡ false
@@ -92,7 +92,7 @@ pointee_in : (gs : List Inst) (test : Inst → Bool) (is : List Inst) (v : Inst)
 pointee_in gs test [] v ty there e = absurd there
 pointee_in gs test (x ∷ is) v ty (inl same) e =
     subst (λ (q : Option ℕ). is_among (cons_option q (filter_map (pointee_by gs test) is)) ty ≡ true) (sym (ap (pointee_by gs test) same ∙ e))
-    (first_on (ty == ty) (is_among (filter_map (pointee_by gs test) is) ty) (same_test ty ty refl))
+    (or_left (ty == ty) (is_among (filter_map (pointee_by gs test) is) ty) (same_test ty ty refl))
 pointee_in gs test (x ∷ is) v ty (inr there) e = by_option (pointee_by gs test x) (pointee_in gs test is v ty there e)
   where
     by_option : (q : Option ℕ) → is_among (filter_map (pointee_by gs test) is) ty ≡ true → is_among (cons_option q (filter_map (pointee_by gs test) is)) ty ≡ true
@@ -161,7 +161,7 @@ module _ (s : Setting) (entry : Option (List ℕ)) (right : IsConforming s.of en
   pointee_names : (v : Inst) (ty : ℕ) (t : Tree) → IsIn v (body_insts s.of) → is_variable v ≡ true → is_some_block s.of.heads Gs v ≡ false → pointee Gs v.ty ≡ Some ty → type_tree Gs ty ≡ Some t → IsIn v.ty Types → HasNames s.of o unit u t
   pointee_names v ty t there on off points shaped listed =
       let test : Inst → Bool = λ v. not (is_some_block s.of.heads Gs v) in
-      let own : pointee_by Gs test v ≡ Some ty = ap (λ (b : Bool). if b then pointee Gs v.ty else None) (both_on (is_variable v) (test v) on (ap not off)) ∙ points in
+      let own : pointee_by Gs test v ≡ Some ty = ap (λ (b : Bool). if b then pointee Gs v.ty else None) (and_from (is_variable v) (test v) on (ap not off)) ∙ points in
       let misused : is_among (block_misuses s.of) ty ≡ true =
       among_left (flat_map parts_of Gs ++ pointees s.of test ++ value_types s.of) (signature_types s.of) ty
       (among_left (flat_map parts_of Gs ++ pointees s.of test) (value_types s.of) ty (ids_right (flat_map parts_of Gs) (pointees s.of test) ty (pointee_in Gs test (body_insts s.of) v ty there own))) in
@@ -182,7 +182,7 @@ module _ (s : Setting) (entry : Option (List ℕ)) (right : IsConforming s.of en
     of_function : word j 0 ≡ class_number storage.Function
     of_function =
         let off = and_off (is_variable j) (is_other_class Gs j || not (word j 0 == class_number storage.Function)) (class_right s.of entry right j local) on in
-        test_same (word j 0) (class_number storage.Function) (not_off (word j 0 == class_number storage.Function) (or_right (is_other_class Gs j) (not (word j 0 == class_number storage.Function)) off))
+        test_same (word j 0) (class_number storage.Function) (not-false (word j 0 == class_number storage.Function) (or_right (is_other_class Gs j) (not (word j 0 == class_number storage.Function)) off))
 
     of_it : IsOf (claims_by (S s entry right kinds o unit u p among) p) j
     of_it = record { number = c; block = holder; there = subst (λ (f : Function). slice_get f.blocks c ≡ Some holder) (sym (written_is s entry right kinds o unit u p among)) there; among = inside_it }
@@ -194,7 +194,7 @@ module _ (s : Setting) (entry : Option (List ℕ)) (right : IsConforming s.of en
         kept : is_gone (p.scope.form j.result) ≡ false
         kept =
             ap (λ (w : Scope). is_gone (w.form j.result)) (plan_is s entry right kinds o unit u p among).scope_is
-            ∙ live_form s entry right kinds o unit u p among c holder j there inside_it true (first_on (not (is_pure j.op)) (nat_lt 0 (length (mentions_of (plan_is s entry right kinds o unit u p among).links j.result))) (ap not (variable_impure j.op on))) made
+            ∙ live_form s entry right kinds o unit u p among c holder j there inside_it true (or_left (not (is_pure j.op)) (nat_lt 0 (length (mentions_of (plan_is s entry right kinds o unit u p among).links j.result))) (ap not (variable_impure j.op on))) made
 
     pub variable_root : (ty : ℕ) (t : Tree) → pointee Gs j.ty ≡ Some ty → type_tree Gs ty ≡ Some t → Root j.result ty t
     variable_root ty t points shaped = record {
@@ -248,7 +248,7 @@ module _ (s : Setting) (entry : Option (List ℕ)) (right : IsConforming s.of en
           where
             by_class : (v : Bool) (c : ℕ) → ((v && (c == class_number storage.Private)) || (v && (c == class_number storage.Workgroup))) ≡ true → (v && (c == class_number storage.Input)) ≡ false
             by_class false c e = refl
-            by_class true c e = no_true (c == class_number storage.Input) (λ input. apart (test_same c (class_number storage.Input) input))
+            by_class true c e = false_from_ne_true (c == class_number storage.Input) (λ input. apart (test_same c (class_number storage.Input) input))
               where
                 apart : c ≡ class_number storage.Input → ⊥
                 apart same = never (sym (subst (λ (n : ℕ). ((n == class_number storage.Private) || (n == class_number storage.Workgroup)) ≡ true) same e))
@@ -260,7 +260,7 @@ module _ (s : Setting) (entry : Option (List ℕ)) (right : IsConforming s.of en
     outer_root ty t points shaped = record {
       members = named_members s entry right Fn o unit u names Where.setting.global ty t shaped
           (pointee_names g ty t (as_in (body_insts s.of) g (insts_left g Gs (local_insts s.of) (as_among Gs g g_in))) on_variable no_block_class points shaped
-          (global_type_written s.of o unit u g g_in (first_on (is_written_variable (Written s.of o unit u) g) (is_declared_constant (source_of s.of o u.entry) (Written s.of o unit u) g) written_so)));
+          (global_type_written s.of o unit u g g_in (or_left (is_written_variable (Written s.of o unit u) g) (is_declared_constant (source_of s.of o u.entry) (Written s.of o unit u) g) written_so)));
       named = own_base g.result unread
           (own_text s entry right kinds o unit u p among names structs (Id (id g.result)) (variable_named s.of o unit u p i g g.result among listed_function operand found of_class) refl
           (value_other s entry right kinds o unit u p among names structs g.result g.ty typed_is));

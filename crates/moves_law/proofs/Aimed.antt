@@ -2,7 +2,7 @@
 use Rattle.std.proofs.Common.{◌≡◌, ◌+◌, ◌%◌, ◌==◌, ◌&&◌, ◌||◌, not, ℕ, zero, suc, Bool, true, false, List, [], ◌∷◌, ◌++◌, map, filter, take, drop, Contains, flat_map, Option, Some, unwrap_or, inl, inr, refl, sym, ap, ◌∙◌, subst, if◌then◌else◌, arith}
 use Rattle.std.specs.Prelude.{slice_get}
 use Rattle.std.specs.List.{enumerate_from, list_any}
-use Rattle.std.proofs.lemmas.Bool.{and_parts, or_cases}
+use Rattle.std.proofs.lemmas.Bool.{and_parts, or_cases, not-false}
 use Rattle.std.proofs.lemmas.Bool.Decides.{nat_tests}
 use Rattle.spv_words.specs.declared.rule.Rule.{Rule}
 use Rattle.spv_words.specs.declared.rule.Rule.TheVariants.{T1, T21}
@@ -46,10 +46,6 @@ no_flip e = cc
 second_off : (a b : Bool) → (a && b) ≡ false → a ≡ true → b ≡ false
 second_off true b off on = off
 second_off false b off on = cc
-
-not_off : (b : Bool) → not b ≡ false → b ≡ true
-not_off true off = refl
-not_off false off = cc
 
 last_off : (a b c : Bool) → (a || b || c) ≡ false → c ≡ false
 last_off a b c off = (three_off a b c off).2
@@ -195,7 +191,7 @@ module _ (m : ModuleState) (entry : Option (List ℕ)) (right : IsConforming m e
       let elsewhere = last_off (is_no_value_type m.heads m.globals i.ty) (list_any (is_other m.globals (type_in m.globals f) i.ty) (every_second 0 i.args)) (is_from_elsewhere f holder.label.0 i) off in
       let among : IsIn i (insts_of f) = in_flat (λ (x : Block). x.insts) f.blocks holder i (at_place f.blocks t holder held) there in
       let labels = second_off (are_labels f (every_second 1 i.args)) (are_no_predecessors f holder.label.0 (every_second 1 i.args)) elsewhere (phi_labels m f order i (as_among (insts_of f) i among) phi) in
-      not_off (is_predecessor f holder.label.0 l)
+      not-false (is_predecessor f holder.label.0 l)
       (none_passes (λ (x : ℕ). not (is_predecessor f holder.label.0 x)) (every_second 1 i.args) l
       (in_mapped (λ (q : ℕ × ℕ). q.1) (filter (λ (q : ℕ × ℕ). q.0 % 2 == 1) (enumerate_from 0 i.args)) (k, l) (in_filter (λ (q : ℕ × ℕ). q.0 % 2 == 1) (enumerate_from 0 i.args) (k, l) (numbered_first i.args k l at) odd))
       (all_off (every_second 1 i.args) labels))

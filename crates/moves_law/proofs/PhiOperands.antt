@@ -3,7 +3,8 @@ use Rattle.std.proofs.Common.{◌≡◌, ◌<◌, ◌+◌, ◌%◌, ◌==◌, �
 use Rattle.std.specs.Prelude.{slice_get, slice_index, slice_index_or, option_and_then}
 use Rattle.std.specs.Option.{option_map_or, option_or}
 use Rattle.std.specs.List.{enumerate_from, list_any}
-use Rattle.std.proofs.lemmas.Bool.{or_left, or_right}
+use Rattle.std.proofs.lemmas.Bool.{or_left, or_right, and_from}
+use Rattle.std.proofs.lemmas.Option.{same_Some}
 use Rattle.spv_ops.specs.Opcode.{is, number}
 use Rattle.spv_ops.specs.OpGroups.{group_of, takes_of}
 use Rattle.spv_ops.specs.Operands.{is_id}
@@ -52,7 +53,7 @@ use Rattle.unit_rules.specs.Unit.{claims_by, liveness_of, IsUnitOf}
 use Rattle.plan_law.specs.InOrder.{IsAmong}
 use Rattle.type_law.proofs.Vectors.{three_off}
 use Rattle.typed_law.specs.Conforms.{IsConforming}
-use Rattle.typed_law.proofs.Lists.{and_left, both_on, from_zero, same_some}
+use Rattle.typed_law.proofs.Lists.{and_left, from_zero}
 use Rattle.typed_law.proofs.Rules.{operand_there, flow_right}
 use Rattle.typed_law.proofs.Values.{HasType, global_row, global_typed_some, variable_type_is, value_type_has, inside, local_row, typed_source, own_type, type_suits, typed_result, has_a_type}
 use Rattle.typed_law.proofs.Shapes.{shaped_type}
@@ -238,8 +239,8 @@ module _ (s : Setting) (entry : Option (List ℕ)) (right : IsConforming s.of en
       slot_in : (f : Function) (marks : List Bool) → block_in f (slice_index i.args (k + 1)) ≡ Some b → slice_index_or marks b false ≡ true → is_slot f marks i k ≡ true
       slot_in f marks found on =
           let parts = phi_slot i.op i.args k phi even in
-          both_on (is_id i.op i.args k) (is_value i.op k && is_taken f marks i k) parts.0
-          (both_on (is_value i.op k) (is_taken f marks i k) parts.1
+          and_from (is_id i.op i.args k) (is_value i.op k && is_taken f marks i k) parts.0
+          (and_from (is_value i.op k) (is_taken f marks i k) parts.1
           (or_right (not (is i.op code.Phi)) (is_label_reached f marks (slice_index i.args (k + 1))) (ap (λ (q : Option ℕ). option_map_or (λ (c : ℕ). slice_index_or marks c false) q false) found ∙ on)))
 
       place : (j : ℕ) × (inst_at Fn t j ≡ Some i)
@@ -281,7 +282,7 @@ module _ (s : Setting) (entry : Option (List ℕ)) (right : IsConforming s.of en
           let row = global_row s entry right g (as_among Gs g g_in) typed_is in
           let own : typed g ≡ Some g.ty = ap (λ (b : Bool). if b then None else Some g.ty) (other_test g.ty 0 typed_is) in
           let same : type_in Gs Fn n ≡ Some g.ty = ap (λ (q : Option Inst). option_or (option_and_then typed q) (local_type Fn n)) found ∙ ap (λ (q : Option ℕ). option_or q (local_type Fn n)) own in
-          let of_type : type_tree Gs g.ty ≡ Some shaped.0 = ap (type_tree Gs) (same_some g.ty type_is.0 (sym same ∙ type_is.1)) ∙ type_is.2 in
+          let of_type : type_tree Gs g.ty ≡ Some shaped.0 = ap (type_tree Gs) (same_Some g.ty type_is.0 (sym same ∙ type_is.1)) ∙ type_is.2 in
           pointer_none Gs row.0 shaped.0 (variable_type_is g.op row.0 on row.2) (ap (λ (q : Option Inst). option_map_or (tree_at Gs) q None) (sym row.1) ∙ of_type)
 
       -- it is read by its name, where it is no constant
@@ -391,7 +392,7 @@ module _ (s : Setting) (entry : Option (List ℕ)) (right : IsConforming s.of en
               by_placed : IsPlaced s entry right kinds o unit u p among lends is_one n shaped.0 j by t i mentioned b counts → There
               by_placed (inl top) = inl (names.hoisted n top)
               by_placed (inr (same, inl form)) =
-                  let block_is : home_of.1 ≡ body.block = same_some home_of.1 body.block (sym home_of.2 ∙ (ap (λ (k : ℕ). slice_get Fn.blocks k) same ∙ body.there)) in
+                  let block_is : home_of.1 ≡ body.block = same_Some home_of.1 body.block (sym home_of.2 ∙ (ap (λ (k : ℕ). slice_get Fn.blocks k) same ∙ body.there)) in
                   let local_so : Where.form j.result ≡ Local = ap Where.form own.1 ∙ local_is (Where.form n) (left_on (is_local_form (Where.form n)) _ form) in
                   inr (names.local n form, have_done (behind [] body.insts) j n (all_behind [] body.insts j (of_body (subst (λ (x : Block). IsIn j x.insts) block_is home_of.3) (local_no_phi s entry right kinds o unit u p among j own.0 local_so))) own.1)
               by_placed (inr (same, inr form)) = absurd (never_forwarded form)

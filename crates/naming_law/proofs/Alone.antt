@@ -3,7 +3,7 @@ use Rattle.std.proofs.Common.{◌≡◌, ◌==◌, ◌&&◌, ◌||◌, not, ℕ,
 use Rattle.std.specs.Prelude.{is_some, Contains}
 use Rattle.std.specs.Option.{option_map_or}
 use Rattle.std.specs.List.{list_any}
-use Rattle.std.proofs.lemmas.Bool.{and_parts, or_cases}
+use Rattle.std.proofs.lemmas.Bool.{and_parts, or_cases, not-true}
 use Rattle.spv_ops.specs.Opcode.{is}
 use Rattle.spv_ops.specs.Groups.{is_chain}
 use Rattle.access_paths.specs.Ways.{captured_indexes}
@@ -32,7 +32,7 @@ use Rattle.agree_law.specs.Agree.{Naming}
 use Rattle.call_law.specs.Known.{IsFunctionOf, is_parameter}
 use Rattle.function_law.specs.Passed.{NamesMemory}
 use Rattle.typed_law.specs.Conforms.{IsConforming}
-use Rattle.typed_law.proofs.Lists.{not_on, some_by, found_in}
+use Rattle.typed_law.proofs.Lists.{some_by, found_in}
 use Rattle.typed_law.proofs.Values.{inside, own_local}
 use Rattle.ruled_law.proofs.Ruled.{contains_of, parameter_of}
 use Rattle.naming_law.specs.Alone.{AreAlone}
@@ -90,7 +90,7 @@ no_result f n none = ap (λ o. option_map_or is_other o false) none
 pub variable_inst : (f : Function) (n : ℕ) → is_variable_name f n ≡ true → (i : Inst) × (inst_in f n ≡ Some i) × (is i.op code.Variable ≡ true) × (is_parameter f n ≡ false)
 variable_inst f n on =
     let parts = and_parts (not (is_parameter f n)) (is_own_memory f n) on in
-    let off : is_parameter f n ≡ false = not_on (is_parameter f n) parts.0 in
+    let off : is_parameter f n ≡ false = not-true (is_parameter f n) parts.0 in
     let w = some_by (λ (i : Inst). (is i.op code.Variable) && (word i 0 == class_number storage.Function)) (inst_in f n) (second_by (is_some (parameter_in f n)) _ parts.1 off) in
     (w.0, w.1, (and_parts (is w.0.op code.Variable) _ w.2).0, off)
 
@@ -100,7 +100,7 @@ module _ (s : Setting) (overrides : List (ℕ × Given)) (r : Reached) (key : Ke
 
   pub names_memory : NamesMemory N f
   names_memory = record {
-    variables = λ n on. let parts = and_parts (not (is_parameter f n)) (is_own_memory f n) on in (parts.1, not_on (is_parameter f n) parts.0);
+    variables = λ n on. let parts = and_parts (not (is_parameter f n)) (is_own_memory f n) on in (parts.1, not-true (is_parameter f n) parts.0);
     lents = λ n on. (and_parts (is_parameter f n) (is_pointer s.of.globals f n) on).0;
   }
 

@@ -3,7 +3,7 @@ use Rattle.std.proofs.Common.{◌≡◌, ◌==◌, ◌&&◌, ◌||◌, not, ℕ,
 use Rattle.std.specs.Prelude.{◌⊎◌, flat_map, slice_get, bytes_eq}
 use Rattle.std.specs.Option.{option_map_or}
 use Rattle.std.specs.List.{list_any}
-use Rattle.std.proofs.lemmas.Bool.{and_parts, or_cases}
+use Rattle.std.proofs.lemmas.Bool.{and_parts, or_cases, and_left, not-true}
 use Rattle.std.proofs.lemmas.Bool.Decides.{eqb_tells}
 use Rattle.spv_ops.specs.Opcode.{is}
 use Rattle.spv_ops.specs.Groups.{is_chain}
@@ -38,7 +38,7 @@ use Rattle.region_law.proofs.Flags.{same_text}
 use Rattle.agree_law.specs.Agree.{Naming, is_named, AreApart}
 use Rattle.call_law.specs.Known.{is_parameter}
 use Rattle.typed_law.specs.Conforms.{IsParameter}
-use Rattle.typed_law.proofs.Lists.{not_on, some_by}
+use Rattle.typed_law.proofs.Lists.{some_by}
 use Rattle.ruled_law.proofs.Ruled.{parameter_of}
 use Rattle.claim_law.specs.Claimed.{IsIn, HasName, IsOf}
 use Rattle.claim_law.specs.Apart.{IsOutside, AreOfKeys}
@@ -232,11 +232,7 @@ module _ (m : ModuleState) (o : Options) (unit : TranslationUnit) (u : IsUnitOf 
         where
           by_test : (t : Bool) → is_variable g ≡ t → is_private g ≡ false
           by_test true is = no_flip (is_constant g) on (variable_no_constant g.op is)
-          by_test false is = first_off (is_variable g) _ is
-            where
-              first_off : (a b : Bool) → a ≡ false → (a && b) ≡ false
-              first_off true b off = cc
-              first_off false b off = refl
+          by_test false is = and_left (is_variable g) _ is
 
       outside_is : (x : Text) → N.is_outside x ≡ true → IsOutside found N x
       outside_is x on = elim (or_cases (has_prefix x) (list_any (has_text S o.overrides R key x) m.globals) on) [
@@ -249,7 +245,7 @@ module _ (m : ModuleState) (o : Options) (unit : TranslationUnit) (u : IsUnitOf 
               | inl constant ↦ inr (g.0.result, not_named g.0 g.1 (constant_no_private g.0 (and_parts (is_constant g.0) _ constant).0), named_is found (Id (id g.0.result)) (declared_named g.0 g.1 constant) ∙ ap (λ (y : Text). Some y) same)
               | inr variable ↦
                   let is = and_parts (is_written_variable R g.0) (not (is_private g.0)) variable in
-                  inr (g.0.result, not_named g.0 g.1 (not_on (is_private g.0) is.1), named_is found (Id (id g.0.result)) (written_named g.0.result g.0 (each g.0 g.1) (written_is_variable g.0 is.0) is.0) ∙ ap (λ (y : Text). Some y) same)
+                  inr (g.0.result, not_named g.0 g.1 (not-true (is_private g.0) is.1), named_is found (Id (id g.0.result)) (written_named g.0.result g.0 (each g.0 g.1) (written_is_variable g.0 is.0) is.0) ∙ ap (λ (y : Text). Some y) same)
             ]
       ]
         where

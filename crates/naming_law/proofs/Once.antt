@@ -5,6 +5,7 @@ use Rattle.std.specs.Option.{option_map_or}
 use Rattle.std.specs.List.{enumerate_from}
 use Rattle.std.proofs.lemmas.Bool.{and_parts}
 use Rattle.std.proofs.lemmas.Bool.Decides.{eqb_tells}
+use Rattle.std.proofs.lemmas.Option.{same_Some}
 use Rattle.spv_ops.specs.Opcode.{is}
 use Rattle.spv_ops.specs.Groups.{is_chain}
 use Rattle.spv_ops.specs.Shape.{shape}
@@ -39,7 +40,6 @@ use Rattle.function_law.specs.Tops.{Top, IsNoTop, AreOnceTops, AreTops}
 use Rattle.function_law.proofs.PlannedText.{variable_top, hoisted_top, index_top, variable_tops, hoisted_tops, index_tops}
 use Rattle.plan_law.specs.InOrder.{IsAmong, HaveNot, AreApart}
 use Rattle.typed_law.specs.Conforms.{IsConforming}
-use Rattle.typed_law.proofs.Lists.{same_some}
 use Rattle.typed_law.proofs.Values.{inside, local_row, variable_type_is, typed_result}
 use Rattle.typed_law.proofs.Others.{typed_some}
 use Rattle.ruled_law.proofs.Ruled.{contains_of, variable_has}
@@ -64,7 +64,7 @@ module _ (gs : List Inst) (f : Function) where
   some_form t r x n e = by_test (r == n) (eqb_tells r n) e
     where
       by_test : (b : Bool) → ((b ≡ true) × (r ≡ n)) ⊎ ((b ≡ false) × (r ≡ n → ⊥)) → elim b [ true ↦ Some x | false ↦ t n ] ≡ Some Hoisted → ((r ≡ n) × (x ≡ Hoisted)) ⊎ (t n ≡ Some Hoisted)
-      by_test true (inl w) e = inl (w.1, same_some x Hoisted e)
+      by_test true (inl w) e = inl (w.1, same_Some x Hoisted e)
       by_test true (inr w) e = let off = w.0 in cc
       by_test false w e = inr e
 

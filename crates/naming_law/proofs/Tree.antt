@@ -1,9 +1,9 @@
 -- What is written of the blocks of a planned function is as the tree of the function asks.
-use Rattle.std.proofs.Common.{◌≡◌, ◌<◌, ◌≤◌, ◌+◌, ◌==◌, ◌&&◌, ◌||◌, ℕ, zero, suc, Bool, true, false, List, [], ◌∷◌, length, filter, Option, Some, None, inl, inr, refl, sym, ap, ◌∙◌, if◌then◌else◌, arith}
+use Rattle.std.proofs.Common.{◌≡◌, ◌<◌, ◌≤◌, ◌+◌, ◌==◌, ◌&&◌, ℕ, zero, suc, Bool, true, false, List, [], ◌∷◌, length, filter, Option, Some, None, inl, inr, refl, sym, ap, ◌∙◌, if◌then◌else◌, arith}
 use Rattle.std.specs.Prelude.{◌⊎◌, nat_lt, is_some, slice_get, slice_index}
 use Rattle.std.specs.Option.{option_map_or}
 use Rattle.std.specs.List.{range_with_len}
-use Rattle.std.proofs.lemmas.Bool.{and_parts}
+use Rattle.std.proofs.lemmas.Bool.{and_parts, or_from, or_left, or_right}
 use Rattle.std.proofs.lemmas.Bool.Decides.{eqb_tells, nat_tests}
 use Rattle.spv_ops.specs.Opcode.{is}
 use Rattle.spv_ops.specs.declared.Op.TheVariants as code
@@ -37,25 +37,16 @@ use Rattle.claim_law.proofs.Flags.{at_inside}
 use Rattle.formed_law.proofs.Blocks.{has_body}
 use Rattle.naming_law.proofs.Ends.{least_of, targets_of}
 
--- what passes a test, among numbers, is one of those that pass, and no other is
-first_on : (a b : Bool) → a ≡ true → (a || b) ≡ true
-first_on true b on = refl
-first_on false b on = cc
-
-second_on : (a b : Bool) → b ≡ true → (a || b) ≡ true
-second_on true b on = refl
-second_on false b on = on
-
 pub among_that : (test : ℕ → Bool) (n from b : ℕ) → test b ≡ true → from ≤ b → b < from + n → is_among (filter test (range_with_len from n)) b ≡ true
 among_that test zero from b on low high = absurd (omega (arith, low, high))
 among_that test (suc n) from b on low high = by_place (eqb_tells from b) (λ low high. among_that test n (from + 1) b on low high)
   where
     by_first : (t : Bool) → test from ≡ t → from ≡ b → (from == b) ≡ true → is_among (if t then from ∷ filter test (range_with_len (from + 1) n) else filter test (range_with_len (from + 1) n)) b ≡ true
-    by_first true at same own = first_on (from == b) (is_among (filter test (range_with_len (from + 1) n)) b) own
+    by_first true at same own = or_left (from == b) (is_among (filter test (range_with_len (from + 1) n)) b) own
     by_first false at same own = let never : true ≡ false = sym on ∙ (ap test (sym same) ∙ at) in cc
 
     by_later : (t : Bool) → is_among (filter test (range_with_len (from + 1) n)) b ≡ true → is_among (if t then from ∷ filter test (range_with_len (from + 1) n) else filter test (range_with_len (from + 1) n)) b ≡ true
-    by_later true later = second_on (from == b) (is_among (filter test (range_with_len (from + 1) n)) b) later
+    by_later true later = or_right (from == b) (is_among (filter test (range_with_len (from + 1) n)) b) later
     by_later false later = later
 
     by_place : (((from == b) ≡ true) × (from ≡ b)) ⊎ (((from == b) ≡ false) × (from ≡ b → ⊥)) → (from + 1 ≤ b → b < from + 1 + n → is_among (filter test (range_with_len (from + 1) n)) b ≡ true) → is_among (filter test (range_with_len from (suc n))) b ≡ true
@@ -75,12 +66,8 @@ none_that : (test : ℕ → Bool) (xs : List ℕ) (b : ℕ) → test b ≡ false
 none_that test [] b off = refl
 none_that test (x ∷ xs) b off = by_test (test x) refl (none_that test xs b off)
   where
-    both_off : (a c : Bool) → a ≡ false → c ≡ false → (a || c) ≡ false
-    both_off true c p q = cc
-    both_off false c p q = q
-
     by_test : (t : Bool) → test x ≡ t → is_among (filter test xs) b ≡ false → is_among (if t then x ∷ filter test xs else filter test xs) b ≡ false
-    by_test true at later = both_off (x == b) (is_among (filter test xs) b) (elim (eqb_tells x b) [ inl w ↦ (let never : true ≡ false = sym at ∙ (ap test w.1 ∙ off) in cc) | inr w ↦ w.0 ]) later
+    by_test true at later = or_from (x == b) (is_among (filter test xs) b) (elim (eqb_tells x b) [ inl w ↦ (let never : true ≡ false = sym at ∙ (ap test w.1 ∙ off) in cc) | inr w ↦ w.0 ]) later
     by_test false at later = later
 
 passes_that : (test : ℕ → Bool) (xs : List ℕ) (b : ℕ) → is_among (filter test xs) b ≡ true → test b ≡ true

@@ -2,6 +2,7 @@
 use Rattle.std.proofs.Common.{◌≡◌, ◌<◌, ◌≤◌, ◌^◌, ℕ, ◌+◌, ◌*◌, List, [], ◌∷◌, Option, Some, refl, ap, sym, subst, ◌∙◌, arith}
 use Rattle.std.proofs.Math.Nat.{mul-le-mul}
 use Rattle.std.specs.Option.{option_map_or}
+use Rattle.std.proofs.lemmas.Option.{same_Some}
 use Rattle.spv_module.specs.declared.inst.Inst.{Inst}
 use Rattle.spv_types.specs.Tree as plain
 use Rattle.spv_types.specs.Tree.{Tree, Trees}
@@ -20,9 +21,6 @@ use Rattle.narrow_law.specs.Reach.{Along}
 use Rattle.narrow_law.specs.Low.{IsLowMember}
 use Rattle.narrow_law.proofs.Sizes.{at_least}
 use Rattle.narrow_law.proofs.Inside.{bytes_low}
-
-some_same : {A : Type 0} (a b : A) → Some a ≡ Some b → a ≡ b
-some_same a b e = cc
 
 module _ (s : Setting) (y : StructNames) (k : Kind) where
   abbrev Gs : List Inst
@@ -44,7 +42,7 @@ module _ (s : Setting) (y : StructNames) (k : Kind) where
       → bytes_along s ty path < 2 ^ 63 + 2 ^ 33
   runtime_low [] ty t shape h laid low along = omega arith
   runtime_low (i ∷ is) ty t shape h laid low (u, at, inside, short, along) =
-      let same : t ≡ u = some_same t u at in
+      let same : t ≡ u = same_Some t u at in
       let few : i ≤ 2 ^ 31 = omega (arith, short) in
       let here : part_bytes s ty i ≡ i * stride_over k t = element_bytes ty i t shape ∙ ap (λ n. i * n) laid.0 in
       let most : i * stride_over k t ≤ 2 ^ 31 * 2 ^ 32 = mul-le-mul few (let l : stride_over k t ≤ 2 ^ 32 = omega (arith, low) in l) in

@@ -1,8 +1,10 @@
 -- Indexes that types allow stay inside, so a part that they reach begins below the end of the whole.
-use Rattle.std.proofs.Common.{◌≡◌, ◌<◌, ◌≤◌, ◌^◌, ◌&&◌, ℕ, zero, suc, ◌+◌, ◌-◌, ◌%◌, Bool, true, false, ◌==◌, if◌then◌else◌, List, [], ◌∷◌, Option, Some, refl, ap, sym, subst, ◌∙◌, arith}
+use Rattle.std.proofs.Common.{◌≡◌, ◌<◌, ◌≤◌, ◌^◌, ℕ, zero, suc, ◌+◌, ◌-◌, ◌%◌, Bool, true, false, ◌==◌, if◌then◌else◌, List, [], ◌∷◌, Option, Some, refl, ap, sym, subst, ◌∙◌, arith}
 use Rattle.std.proofs.Math.Nat.{mod-le}
 use Rattle.std.specs.Prelude.{is_some, nat_lt, option_and_then}
 use Rattle.std.proofs.lemmas.Bool.Decides.{nat_tests}
+use Rattle.std.proofs.lemmas.Bool.{and_parts}
+use Rattle.std.proofs.lemmas.Option.{same_Some}
 use Rattle.spv_module.specs.declared.inst.Inst.{Inst}
 use Rattle.spv_module.specs.declared.tree.Elem.{Elem}
 use Rattle.spv_module.specs.declared.tree.Elem.TheVariants as elem
@@ -30,13 +32,6 @@ use Rattle.path_law.proofs.Types.{allowed_is}
 use Rattle.narrow_law.specs.Reach.{count_of, IsIn, IsShort, Along, Reaches}
 use Rattle.narrow_law.proofs.Sizes.{at_least, within}
 
-some_same : {A : Type 0} (a b : A) → Some a ≡ Some b → a ≡ b
-some_same a b e = cc
-
-both_true : (a b : Bool) → (a && b) ≡ true → (a ≡ true) × (b ≡ true)
-both_true true b e = (refl, e)
-both_true false b e = cc
-
 -- what has a size has lengths, and so do its parts
 mutual
   lengths_of : (t : Tree) → IsSized t → HasLengths t
@@ -55,7 +50,7 @@ mutual
 
 member_sized : (ts : Trees) (i : ℕ) (u : Tree) → AreSized ts → nth_of ts i ≡ Some u → IsSized u
 member_sized no_trees i u h at = cc
-member_sized (tree t ts) zero u h at = subst IsSized (some_same t u at) h.0
+member_sized (tree t ts) zero u h at = subst IsSized (same_Some t u at) h.0
 member_sized (tree t ts) (suc i) u h at = member_sized ts i u h.1 at
 
 elem_sized : (e : Elem) → IsSized (elem_tree e)
@@ -64,8 +59,8 @@ elem_sized elem.Int = tt
 elem_sized elem.Uint = tt
 
 part_sized : (t : Tree) (i : ℕ) (u : Tree) → IsSized t → element_shape t i ≡ Some u → IsSized u
-part_sized (plain.vector e n) i u h at = subst IsSized (some_same (elem_tree e) u at) (elem_sized e)
-part_sized (plain.array t (Fixed n)) i u h at = subst IsSized (some_same t u at) h
+part_sized (plain.vector e n) i u h at = subst IsSized (same_Some (elem_tree e) u at) (elem_sized e)
+part_sized (plain.array t (Fixed n)) i u h at = subst IsSized (same_Some t u at) h
 part_sized (plain.array t (Spec id)) i u h at = absurd h
 part_sized (plain.runtime t) i u h at = absurd h
 part_sized (plain.struct id ts) i u h at = member_sized ts i u h at
@@ -140,7 +135,7 @@ module _ (s : Setting) (y : StructNames) (k : Kind) where
   pub allowed_along : (path : List ℕ) (ty : ℕ) (t : Tree) → AreConstants s → type_tree Gs ty ≡ Some t → are_allowed s ty path ≡ true → Along s t path
   allowed_along [] ty t right shape allowed = tt
   allowed_along (i ∷ is) ty t right shape allowed =
-      let both = both_true (is_allowed s ty i) (are_allowed s (part_type s ty i) is) allowed in
+      let both = and_parts (is_allowed s ty i) (are_allowed s (part_type s ty i) is) allowed in
       let a = allowed_is s ty i t right shape both.0 in
       (a.part, a.there, a.inside, short t i a.low, allowed_along is (part_type s ty i) a.part right (part_leads s ty i t a.part shape a.there) both.1)
     where

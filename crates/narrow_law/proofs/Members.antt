@@ -4,6 +4,8 @@ use Rattle.std.specs.Prelude.{is_none, option_map}
 use Rattle.std.specs.Option.{option_map_or}
 use Rattle.std.specs.List.{list_any}
 use Rattle.std.proofs.lemmas.Bool.Decides.{nat_tests}
+use Rattle.std.proofs.lemmas.Bool.{or_parts}
+use Rattle.std.proofs.lemmas.Option.{same_Some}
 use Rattle.spv_words.specs.declared.rule.Rule.TheVariants.{L1, L7}
 use Rattle.spv_module.specs.Held.{global}
 use Rattle.spv_module.specs.declared.inst.Inst.{Inst}
@@ -22,11 +24,8 @@ use Rattle.fits_law.specs.Takes.{nth_of}
 use Rattle.fits_law.proofs.Steps.{named}
 use Rattle.path_law.specs.Laid.{IsLaidOut}
 use Rattle.path_law.proofs.Bytes.{declared_by}
-use Rattle.path_law.proofs.BlockLayouts.{either_off, offset_is, none_found, any_none, taken_fits, block_laid, AllFalse}
+use Rattle.path_law.proofs.BlockLayouts.{offset_is, none_found, any_none, taken_fits, block_laid, AllFalse}
 use Rattle.narrow_law.specs.Low.{IsLowMember, IsFineMember}
-
-some_same : {A : Type 0} (a b : A) → Some a ≡ Some b → a ≡ b
-some_same a b e = cc
 
 not_past : (n : ℕ) → is_past n ≡ false → n ≤ 4294967295
 not_past n e = grind (arith, nat_tests, e)
@@ -72,8 +71,8 @@ module _ (s : Setting) (k : Kind) where
 
   found : (of n id : ℕ) (u : Tree) (m : Member) → m.offset ≡ offset_of H of n → m.shape ≡ Some u → m.id ≡ id → member_breaks H Gs k L1 m ≡ false → member_breaks H Gs k L7 m ≡ false → IsFound of n u
   found of n id u m o is same a b =
-      let one = either_off (is_none m.offset) (breaks_inside H Gs k L1 m) (sym (member_l1 m) ∙ a) in
-      let seven = either_off (is_past (end_of k m)) (breaks_inside H Gs k L7 m) (sym (member_l7 m) ∙ b) in
+      let one = or_parts (is_none m.offset) (breaks_inside H Gs k L1 m) (sym (member_l1 m) ∙ a) in
+      let seven = or_parts (is_past (end_of k m)) (breaks_inside H Gs k L7 m) (sym (member_l7 m) ∙ b) in
       let (w, e) = there m.offset one.0 in
       let end_is : end_of k m ≡ w + size_of k u =
       ap (λ (q : Option ℕ). option_map_or (λ (offset : ℕ). option_map_or (λ (t : Tree). offset + size_of k t) m.shape 0) q 0) e ∙ ap (λ (q : Option Tree). option_map_or (λ (t : Tree). w + size_of k t) q 0) is in
@@ -87,7 +86,7 @@ module _ (s : Setting) (k : Kind) where
 
   member_at : (g : Inst) (ids : List ℕ) (ts : Trees) (j i : ℕ) (u : Tree) → all_trees (tree_before Gs g.at) ids ≡ Some ts → nth_of ts i ≡ Some u
       → AllFalse s k (member_breaks H Gs k L1) (members_from H Gs g j ids) → AllFalse s k (member_breaks H Gs k L7) (members_from H Gs g j ids) → IsFound g.result (j + i) u
-  member_at g [] ts j i u all at a b = absurd (never (ap (λ x. nth_of x i) (some_same no_trees ts all) ∙ at))
+  member_at g [] ts j i u all at a b = absurd (never (ap (λ x. nth_of x i) (same_Some no_trees ts all) ∙ at))
     where
       never : None ≡ Some u → ⊥
       never e = cc
@@ -99,14 +98,14 @@ module _ (s : Setting) (k : Kind) where
       by_parts (Some t) is None more i e at later = cc
       by_parts (Some t) is (Some rest) more zero e at later =
           subst (λ n. IsFound g.result n u) (let none : j ≡ j + 0 = omega arith in none)
-          (found g.result j id u (record { id = id; offset = offset_of H g.result j; shape = tree_before Gs g.at id }) refl (is ∙ ap (λ x. nth_of x 0) (some_same (tree t rest) ts e) ∙ at) refl a.0 b.0)
+          (found g.result j id u (record { id = id; offset = offset_of H g.result j; shape = tree_before Gs g.at id }) refl (is ∙ ap (λ x. nth_of x 0) (same_Some (tree t rest) ts e) ∙ at) refl a.0 b.0)
       by_parts (Some t) is (Some rest) more (suc n) e at later =
-          subst (λ n. IsFound g.result n u) (let next : j + 1 + n ≡ j + suc n = omega arith in next) (later rest n more (ap (λ x. nth_of x (suc n)) (some_same (tree t rest) ts e) ∙ at))
+          subst (λ n. IsFound g.result n u) (let next : j + 1 + n ≡ j + suc n = omega arith in next) (later rest n more (ap (λ x. nth_of x (suc n)) (same_Some (tree t rest) ts e) ∙ at))
 
   low_by : (offset id : ℕ) (u : Tree) → IsFineMember u → offset + size_of k u ≤ 4294967295 → any_part (breaks H k L7) Gs id u ≡ false → IsLowMember k offset u
   low_by offset id (plain.runtime t) h end inside =
-      let whole = either_off (breaks H k L7 id (plain.runtime t)) (any_part (breaks H k L7) Gs (part_id Gs id 0) t) inside in
-      let both = either_off (is_past (size_of k (plain.runtime t))) (option_map_or is_past (stride_of k (plain.runtime t)) false) (sym (type_l7 id (plain.runtime t)) ∙ whole.0) in
+      let whole = or_parts (breaks H k L7 id (plain.runtime t)) (any_part (breaks H k L7) Gs (part_id Gs id 0) t) inside in
+      let both = or_parts (is_past (size_of k (plain.runtime t))) (option_map_or is_past (stride_of k (plain.runtime t)) false) (sym (type_l7 id (plain.runtime t)) ∙ whole.0) in
       (h, omega (arith, end), omega (arith, not_past (stride_over k t) both.1))
   low_by offset id plain.boolean h end inside = (h, omega (arith, end))
   low_by offset id plain.int h end inside = (h, omega (arith, end))
@@ -132,7 +131,7 @@ module _ (s : Setting) (k : Kind) where
       let one = any_none s k (member_breaks H Gs k L1) (members_of H Gs g) (sym (each_l1 (members_of H Gs g)) ∙ none.0) in
       let seven = any_none s k (member_breaks H Gs k L7) (members_of H Gs g) (sym (each_l7 (members_of H Gs g)) ∙ none.1.1.1.1.1.1.0) in
       let d = declared_by s ty (plain.struct id ts) shape in
-      let same : d.0 ≡ g = some_same d.0 g (sym d.1 ∙ is) in
+      let same : d.0 ≡ g = same_Some d.0 g (sym d.1 ∙ is) in
       let parts : tree_by_kind Gs (tree_before Gs g.at) g kinds.Struct ≡ Some (plain.struct id ts) = ap (tree_by_kind Gs (tree_before Gs g.at) g) (sym (ap (λ (x : Inst). kind x.op) (sym same) ∙ d.3)) ∙ subst (λ (x : Inst). tree_at Gs x ≡ Some (plain.struct id ts)) same d.4 in
       (block_laid s k v g ty id ts i u takes is shape at, low_member ty i u g (by_trees (all_trees (tree_before Gs g.at) g.args) refl parts one seven) (named Gs ty g is) fine)
     where

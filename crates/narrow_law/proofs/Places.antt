@@ -26,9 +26,6 @@ use Rattle.narrow_law.proofs.Blocks.{block_low}
 use Rattle.narrow_law.proofs.Members.{members_low}
 use Rattle.narrow_law.proofs.Scalars.{scalars_along, along_more}
 
-some_same : {A : Type 0} (a b : A) → Some a ≡ Some b → a ≡ b
-some_same a b e = cc
-
 -- no text is asked here, so names are none
 pub no_names : StructNames
 no_names = record { struct_name = λ id. []; member_name = λ id k. [] }

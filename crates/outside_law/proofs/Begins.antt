@@ -3,7 +3,7 @@ use Rattle.std.proofs.Common.{◌≡◌, ◌++◌, ◌||◌, ◌&&◌, ℕ, Bool
 use Rattle.std.specs.Prelude.{flat_map, is_some, option_and_then}
 use Rattle.std.specs.Option.{option_map_or}
 use Rattle.std.specs.List.{list_all}
-use Rattle.std.proofs.lemmas.Bool.{and_parts}
+use Rattle.std.proofs.lemmas.Bool.{and_parts, or_right}
 use Rattle.std.proofs.lemmas.List.Concat.{flat_map-cons}
 use Rattle.spv_module.specs.Held.{global}
 use Rattle.spv_module.specs.Lists.{id}
@@ -45,7 +45,6 @@ use Rattle.path_law.specs.Parts.{shape_in}
 use Rattle.path_law.specs.Walks.{struct_names}
 use Rattle.global_law.proofs.Blocks.{items_more}
 use Rattle.constant_law.specs.Items.{AreAsked}
-use Rattle.constant_law.proofs.Written.{or_on_right}
 use Rattle.constant_law.proofs.Standing.{N as item_names, bytes_off}
 use Rattle.constant_law.proofs.Constants.{IsFunction, AreFunctions, first, last}
 use Rattle.constant_law.proofs.Variables.{among_here, functions_find, private_begins, private_valued}
@@ -233,4 +232,4 @@ module _ (bytes : List ℕ) (m : ModuleState) (o : Options) (read : IsReadFrom b
         named : (g : Inst) → IsAmong g Gs → is_private g ≡ true → is_written_variable r g ≡ true → is_named N g.result ≡ true
         named g there private written =
             let own_one : N.is_private g.result ≡ true = ap (λ (a : Option Inst). option_map_or (is_written_private s o.overrides r key) a false) (global_found m o.entry right g there) ∙ (ap (λ (b : Bool). b && is_written_variable r g) private ∙ written) in
-            or_on_right (N.is_outer g.result) _ (or_on_right (N.is_local g.result) _ (or_on_right (N.is_variable g.result) _ (or_on_right (N.is_lent g.result) (N.is_private g.result) own_one)))
+            or_right (N.is_outer g.result) _ (or_right (N.is_local g.result) _ (or_right (N.is_variable g.result) _ (or_right (N.is_lent g.result) (N.is_private g.result) own_one)))

@@ -4,6 +4,7 @@ use Rattle.std.specs.Prelude.{bytes_eq, option_and_then, unwrap_or}
 use Rattle.std.specs.Option.{option_or}
 use Rattle.std.specs.List.{list_any}
 use Rattle.std.proofs.lemmas.Slice.Eq.{bytes_eq-Decides}
+use Rattle.std.proofs.lemmas.Bool.{and_from, or_left, or_right}
 use Rattle.spv_module.specs.Held.{global as global_inst}
 use Rattle.spv_module.specs.Lists.{id}
 use Rattle.spv_module.specs.State.{ModuleState}
@@ -52,8 +53,8 @@ use Rattle.function_law.specs.Tops.{IsClear}
 use Rattle.constant_law.specs.Items.{AreAsked}
 use Rattle.constant_law.proofs.Valued.{IsValued, valued}
 use Rattle.constant_law.proofs.Within.{typed_constant}
-use Rattle.constant_law.proofs.Written.{no_pointee, or_on_left, or_on_right}
-use Rattle.constant_law.proofs.Standing.{both_on, any_among, scalar_fit, constant_op, declared_by}
+use Rattle.constant_law.proofs.Written.{no_pointee}
+use Rattle.constant_law.proofs.Standing.{any_among, scalar_fit, constant_op, declared_by}
 use Rattle.constant_law.proofs.Constants.{AreFunctions, IsReadHere, mentioned_needed, constants_say}
 use Rattle.fits_law.proofs.Steps.{named}
 use Rattle.naming_law.specs.Names.{is_outer_global, has_text}
@@ -148,9 +149,9 @@ module _ (bytes : List ℕ) (m : ModuleState) (o : Options) (read : IsReadFrom b
       outside : reading src it.inst ≡ Named → N.is_outside (names n) ≡ true
       outside reads =
           let declared : is_declared_constant src r it.inst ≡ true = declared_by s o.entry o.overrides found r asked it.inst constant reads (subst (λ k. is_needed src r k ≡ true) (sym itself) needed) in
-          or_on_right (has_prefix (names n)) (list_any (has_text s o.overrides r key (names n)) Gs)
+          or_right (has_prefix (names n)) (list_any (has_text s o.overrides r key (names n)) Gs)
           (any_among (has_text s o.overrides r key (names n)) Gs it.inst among
-          (both_on (is_outer_global s o.overrides r key it.inst) (bytes_eq (names it.inst.result) (names n)) (or_on_left (is_declared_constant src r it.inst) _ declared)
+          (and_from (is_outer_global s o.overrides r key it.inst) (bytes_eq (names it.inst.result) (names n)) (or_left (is_declared_constant src r it.inst) _ declared)
           ((bytes_eq-Decides (names it.inst.result) (names n)).1 (ap names itself))))
 
       abbrev read_so : IsReadSo n
@@ -162,7 +163,7 @@ module _ (bytes : List ℕ) (m : ModuleState) (o : Options) (read : IsReadFrom b
         named_as = constant_shape (written p) n it.inst it.shape it.there constant it.typed_as;
         needed = λ reads. needed;
         outside = outside;
-        size = or_on_left (has_prefix group_size_text) (list_any (has_text s o.overrides r key group_size_text) Gs) size_prefixed;
+        size = or_left (has_prefix group_size_text) (list_any (has_text s o.overrides r key group_size_text) Gs) size_prefixed;
       }
 
       -- Where no variable hides it, the expression of a constant that a function mentions says its value.

@@ -3,6 +3,8 @@ use Rattle.std.proofs.Common.{◌≡◌, ◌==◌, ◌||◌, ◌&&◌, ◌+◌, 
 use Rattle.std.specs.Prelude.{nat_lt, option_and_then, option_map, slice_get, slice_index, unwrap_or}
 use Rattle.std.specs.Option.{option_map_or}
 use Rattle.std.proofs.lemmas.Bool.Decides.{nat_tests}
+use Rattle.std.proofs.lemmas.Bool.{and_from}
+use Rattle.std.proofs.lemmas.Option.{same_Some}
 use Rattle.spv_ops.specs.Opcode.{is, number}
 use Rattle.spv_ops.specs.OpGroups.{group_of, takes_of}
 use Rattle.spv_ops.specs.Groups.{is_constant as is_constant_op}
@@ -49,7 +51,7 @@ use Rattle.plan_law.specs.InOrder.{IsAmong}
 use Rattle.plan_law.proofs.Order.{among_right as body_right}
 use Rattle.agree_law.specs.Agree.{Naming}
 use Rattle.typed_law.specs.Conforms.{IsConforming}
-use Rattle.typed_law.proofs.Lists.{or_right, and_off, same_some}
+use Rattle.typed_law.proofs.Lists.{or_right, and_off}
 use Rattle.typed_law.proofs.Rules.{initializer_right}
 use Rattle.typed_law.proofs.Values.{same_count}
 use Rattle.accepted_law.proofs.Accepted.{accepted_conforming}
@@ -60,7 +62,6 @@ use Rattle.global_law.proofs.Zeros.{HasZero, is_declared, same_itself, zero_says
 use Rattle.function_law.specs.Tops.{IsClear, SaysFirst}
 use Rattle.constant_law.specs.Items.{AreAsked}
 use Rattle.constant_law.proofs.Constants.{AreFunctions}
-use Rattle.constant_law.proofs.Standing.{both_on}
 use Rattle.constant_law.proofs.Types.{zero_declared}
 use Rattle.constant_law.proofs.Variables.{variable_id, second_at}
 use Rattle.claim_law.specs.Claimed.{IsIn}
@@ -177,7 +178,7 @@ module _ (bytes : List ℕ) (m : ModuleState) (o : Options) (read : IsReadFrom b
         by_args : (args : List ℕ) → slice_get args 1 ≡ Some n → initial_by s (type_tree Gs (variable_type s i)) args ≡ s.constants n
         by_args [] e = cc
         by_args (c ∷ []) e = cc
-        by_args (c ∷ k ∷ rest) e = ap s.constants (same_some k n e)
+        by_args (c ∷ k ∷ rest) e = ap s.constants (same_Some k n e)
 
     -- P16: the initializer is a constant of the type that the variable points to
     same_type : (n : ℕ) (h : Inst) → slice_get i.args 1 ≡ Some n → global_inst Gs n ≡ Some h → h.ty ≡ w.type
@@ -185,7 +186,7 @@ module _ (bytes : List ℕ) (m : ModuleState) (o : Options) (read : IsReadFrom b
         let place = second_at i.args n second in
         let body : IsAmong i (body_insts m) = body_right i Gs (local_insts m) (local bytes m o read fine unit u inv told left p planned i there on) in
         let off = and_off (is_variable i && nat_lt 1 (length i.args)) (not ((word i 0 == class_number storage.Function) || (word i 0 == class_number storage.Private)) || is_other_value m i (word i 1))
-        (initializer_right m o.entry right i body) (both_on (is_variable i) (nat_lt 1 (length i.args)) on (some_place i.args n second)) in
+        (initializer_right m o.entry right i body) (and_from (is_variable i) (nat_lt 1 (length i.args)) on (some_place i.args n second)) in
         let other_value = or_right (not ((word i 0 == class_number storage.Function) || (word i 0 == class_number storage.Private))) (is_other_value m i (word i 1)) off in
         let row : global_inst Gs (word i 1) ≡ Some h = ap (global_inst Gs) place.1 ∙ at in
         let other = or_right (not (is_constant_op h.op)) (is_of_other_type Gs i h) (ap (λ a. option_map_or (λ (g : Inst). not (is_constant_op g.op) || is_of_other_type Gs i g) a (is_defined_elsewhere m (word i 1))) (sym row) ∙ other_value) in
@@ -196,7 +197,7 @@ module _ (bytes : List ℕ) (m : ModuleState) (o : Options) (read : IsReadFrom b
     mentioned n second =
         let reached = (liveness_of src p).reached in
         let taken : is_taken f reached i 1 ≡ true = ap (λ (b : Bool). not b || is_label_reached f reached (slice_index i.args (1 + 1))) (no_phi i.op on) in
-        let slot : is_slot f reached i 1 ≡ true = both_on _ _ (variable_id i.op i.args 0 on) (both_on (is_value i.op 1) (is_taken f reached i 1) (takes_value i.op on) taken) in
+        let slot : is_slot f reached i 1 ≡ true = and_from _ _ (variable_id i.op i.args 0 on) (and_from (is_value i.op 1) (is_taken f reached i 1) (takes_value i.op on) taken) in
         mention_in m o unit u p i n planned (of_it bytes m o read fine unit u inv told left p planned i there on) (variable_reached bytes m o read fine unit u inv told left p planned i there on) (variable_live bytes m o read fine unit u inv told left p planned i there on)
         (any_in (λ (k : ℕ). k == n) (mentions f reached i) n
         (in_mapped (λ (x : ℕ × ℕ). x.1) _ (1, n) (in_filter (λ (x : ℕ × ℕ). is_slot f reached i x.0) _ (1, n) (numbered_first i.args 1 n second) slot)) (same_test n n refl))
@@ -207,7 +208,7 @@ module _ (bytes : List ℕ) (m : ModuleState) (o : Options) (read : IsReadFrom b
 
       by_zero : slice_get i.args 1 ≡ None → Goal
       by_zero none a is z clear =
-          let same : zero_of w.shape ≡ a = same_some (zero_of w.shape) a (sym (zero_first none) ∙ is) in
+          let same : zero_of w.shape ≡ a = same_Some (zero_of w.shape) a (sym (zero_first none) ∙ is) in
           ap (λ e. evaluate P calls (option_map_or (expr_at src Ns) e (zero_at src Ns (pointee_at src i.ty))) z) none
           ∙ ap (λ e. evaluate P calls (zero_text (spelling src Ns.id) (unwrap_or e plain.uint)) z) typed_as
           ∙ ap fetched (zero_says P s src key calls z w.shape zero)

@@ -3,11 +3,12 @@ use Rattle.std.proofs.Common.{◌≡◌, ◌⊎◌, ◌<◌, ◌+◌, ◌++◌, 
 use Rattle.std.specs.Prelude.{bytes_eq, codes, flat_map, option_and_then, unwrap_or}
 use Rattle.std.specs.Option.{option_map_or}
 use Rattle.std.specs.List.{list_any}
-use Rattle.std.proofs.lemmas.Bool.{and_parts, or_cases}
+use Rattle.std.proofs.lemmas.Bool.{and_parts, or_cases, and_from, and_left, not-false, or_left as or_on_left, or_right as or_on_right, and_right}
 use Rattle.std.proofs.lemmas.Bool.Decides.{eqb_tells}
 use Rattle.std.proofs.lemmas.List.Concat.{flat_map-cons}
 use Rattle.std.proofs.lemmas.List.Elements.{Contains-append_left}
 use Rattle.std.proofs.lemmas.Slice.Eq.{bytes_eq-Decides}
+use Rattle.std.proofs.lemmas.Option.{same_Some}
 use Rattle.spv_ops.specs.Opcode.{is}
 use Rattle.spv_ops.specs.Enumerants.{class_number, class_of_number, decoration_number, built_in_number, built_in_of_number}
 use Rattle.spv_ops.specs.declared.Op.TheVariants as code
@@ -63,7 +64,7 @@ use Rattle.type_law.specs.Shaped.{HasConstants}
 use Rattle.type_law.proofs.Parts.{row}
 use Rattle.agree_law.specs.Agree.{Naming}
 use Rattle.typed_law.specs.Conforms.{IsConforming}
-use Rattle.typed_law.proofs.Lists.{or_left, or_right, and_off, not_off, same_some, found_in, none_at_fault, clash}
+use Rattle.typed_law.proofs.Lists.{or_left, or_right, and_off, found_in, none_at_fault, clash}
 use Rattle.typed_law.proofs.Rules.{input_right}
 use Rattle.typed_law.proofs.Sized.{rising_low}
 use Rattle.typed_law.proofs.Used.{global_found}
@@ -81,8 +82,7 @@ use Rattle.global_law.proofs.Blocks.{block_begins}
 use Rattle.global_law.proofs.Shared.{AllOff, HaveBlocks, shared_begins}
 use Rattle.constant_law.specs.Items.{is_item, AreAsked}
 use Rattle.constant_law.proofs.Constituents.{nothing}
-use Rattle.constant_law.proofs.Written.{or_on_left, or_on_right}
-use Rattle.constant_law.proofs.Standing.{N as item_names, both_on, bytes_off, any_among, same_item, variable_is_item, other_names}
+use Rattle.constant_law.proofs.Standing.{N as item_names, bytes_off, any_among, same_item, variable_is_item, other_names}
 use Rattle.constant_law.proofs.Constants.{AreFunctions, functions_keep, first, things_same, block_declared, type_declared_before}
 use Rattle.constant_law.proofs.Variables.{behind, among_behind, among_here, private_is}
 use Rattle.constant_law.proofs.Conforming.{uint_tree, uvec3_tree}
@@ -124,14 +124,6 @@ before_all : (before after : List Inst) (h : Inst) → IsAmong h before → IsAm
 before_all [] after h there = absurd there
 before_all (b ∷ before) after h (inl same) = inl same
 before_all (b ∷ before) after h (inr there) = inr (before_all before after h there)
-
-first_off : (a b : Bool) → a ≡ false → (a && b) ≡ false
-first_off true b e = cc
-first_off false b e = refl
-
-second_off : (a b : Bool) → b ≡ false → (a && b) ≡ false
-second_off true b e = e
-second_off false b e = refl
 
 none_some : {A B : Type 0} {a : A} → None ≡ Some a → B
 none_some e = cc
@@ -214,7 +206,7 @@ input_shape s built.NumWorkgroups h t one at off = uvec3_tree s h t at off
 input_shape s built.WorkgroupId h t one at off = uvec3_tree s h t at off
 input_shape s built.LocalInvocationId h t one at off = uvec3_tree s h t at off
 input_shape s built.GlobalInvocationId h t one at off = uvec3_tree s h t at off
-input_shape s built.LocalInvocationIndex h t one at off = same_some t plain.uint (sym at ∙ uint_tree s h (not_off _ off))
+input_shape s built.LocalInvocationIndex h t one at off = same_Some t plain.uint (sym at ∙ uint_tree s h (not-false _ off))
 input_shape s built.WorkgroupSize h t one at off = absurd one
 
 module _ (bytes : List ℕ) (m : ModuleState) (o : Options) (read : IsReadFrom bytes m) (fine : IsFine m o) (unit : TranslationUnit) (u : IsUnitOf m o unit) (inv : Invocation) (told : IsInvocation inv) (left : IsLeftOfGlobals bytes m o u.entry inv) where
@@ -330,7 +322,7 @@ module _ (bytes : List ℕ) (m : ModuleState) (o : Options) (read : IsReadFrom b
     where
       by_test : (((g.result == v.result) ≡ true) × (g.result ≡ v.result)) ⊎ (((g.result == v.result) ≡ false) × (g.result ≡ v.result → ⊥)) → (g.result == v.result) ≡ false
       by_test (inl w) =
-          let one : g.at ≡ v.at = ap (λ (x : Inst). x.at) (same_some g v (sym (global_found m o.entry right g (all g (inl refl))) ∙ ap (global_inst Gs) w.1 ∙ global_found m o.entry right v there)) in
+          let one : g.at ≡ v.at = ap (λ (x : Inst). x.at) (same_Some g v (sym (global_found m o.entry right g (all g (inl refl))) ∙ ap (global_inst Gs) w.1 ∙ global_found m o.entry right v there)) in
           let less = far g (inl refl) in
           absurd (omega (arith, less, one))
       by_test (inr w) = w.0
@@ -394,12 +386,12 @@ module _ (bytes : List ℕ) (m : ModuleState) (o : Options) (read : IsReadFrom b
     outside_text on off =
         or_on_right (has_prefix (names v.result)) (list_any (has_text s o.overrides r key (names v.result)) Gs)
         (any_among (has_text s o.overrides r key (names v.result)) Gs v among
-        (both_on (is_outer_global s o.overrides r key v) (bytes_eq (names v.result) (names v.result))
-        (or_on_right (is_declared_constant src r v) (is_written_variable r v && not (is_private v)) (both_on (is_written_variable r v) (not (is_private v)) on (ap not off)))
+        (and_from (is_outer_global s o.overrides r key v) (bytes_eq (names v.result) (names v.result))
+        (or_on_right (is_declared_constant src r v) (is_written_variable r v && not (is_private v)) (and_from (is_written_variable r v) (not (is_private v)) on (ap not off)))
         ((bytes_eq-Decides (names v.result) (names v.result)).1 refl)))
 
     written_as : (is_private v || (is_workgroup v || is_block_variable v)) ≡ true → is_written_variable r v ≡ true
-    written_as on = both_on (is_private v || (is_workgroup v || is_block_variable v)) (is_operand_in r.functions v.result) on mentioned
+    written_as on = and_from (is_private v || (is_workgroup v || is_block_variable v)) (is_operand_in r.functions v.result) on mentioned
 
     unblocked : (c : StorageClass) → word v 0 ≡ class_number c → ((id : ℕ) → is_block_struct m.heads (class_number c) id ≡ false) → is_some_block m.heads Gs v ≡ false
     unblocked c of off = ap (λ n. option_map_or (is_block_struct m.heads n) (pointee Gs v.ty) false) of ∙ ap (λ a. option_map_or (is_block_struct m.heads (class_number c)) a false) q.2 ∙ off q.0
@@ -409,9 +401,9 @@ module _ (bytes : List ℕ) (m : ModuleState) (o : Options) (read : IsReadFrom b
 
     private_start : word v 0 ≡ class_number storage.Private → BeginsPaths
     private_start of =
-        let private : is_private v ≡ true = both_on (is_variable v) (class v == class_number storage.Private) variable (same_test (class v) (class_number storage.Private) of) in
+        let private : is_private v ≡ true = and_from (is_variable v) (class v == class_number storage.Private) variable (same_test (class v) (class_number storage.Private) of) in
         let on = written_as (or_on_left (is_private v) (is_workgroup v || is_block_variable v) private) in
-        let own : N.is_private v.result ≡ true = ap (λ (a : Option Inst). option_map_or (is_written_private s o.overrides r key) a false) there ∙ both_on (is_private v) (is_written_variable r v) private on in
+        let own : N.is_private v.result ≡ true = ap (λ (a : Option Inst). option_map_or (is_written_private s o.overrides r key) a false) there ∙ and_from (is_private v) (is_written_variable r v) private on in
         record {
           type = q.0;
           shape = q.1;
@@ -430,15 +422,15 @@ module _ (bytes : List ℕ) (m : ModuleState) (o : Options) (read : IsReadFrom b
 
     shared_start : word v 0 ≡ class_number storage.Workgroup → BeginsPaths
     shared_start of =
-        let shared : is_in_class storage.Workgroup v ≡ true = both_on (is_variable v) (class v == class_number storage.Workgroup) variable (same_test (class v) (class_number storage.Workgroup) of) in
+        let shared : is_in_class storage.Workgroup v ≡ true = and_from (is_variable v) (class v == class_number storage.Workgroup) variable (same_test (class v) (class_number storage.Workgroup) of) in
         let on = written_as (or_on_right (is_private v) (is_workgroup v || is_block_variable v) (or_on_left (is_workgroup v) (is_block_variable v) shared)) in
         let no_block = unblocked storage.Workgroup of (λ k. refl) in
-        let private : is_private v ≡ false = ap (λ n. is_variable v && (n == class_number storage.Private)) of ∙ second_off (is_variable v) false refl in
+        let private : is_private v ≡ false = ap (λ n. is_variable v && (n == class_number storage.Private)) of ∙ and_right (is_variable v) false refl in
         let w =
         shared_begins s o.overrides key (Ns.calculated) r (mentions bytes m o read fine unit u inv told left) nothing (first s o.overrides) N src globals at.0 at.1 v q.0 q.1 refl at.2 itself shared
         (sym (mentions bytes m o read fine unit u inv told left v.result) ∙ mentioned) (have_blocks at.0 in_before) (others_off v at.0 in_before among (λ g g_in. ahead at.0 at.1 0 v rise g g_in)) q.2 q.3
         (type_declared_before s o.entry o.overrides found r asked at.0 at.1 v q.0 q.1 at.2 among variable on no_block q.2 q.3) (names_after v among on at.1 in_after far_after)
-        (no_expr (ap (λ n. is_variable v && (n == class_number storage.Input)) of ∙ second_off (is_variable v) false refl)) (outside_text on private) in
+        (no_expr (ap (λ n. is_variable v && (n == class_number storage.Input)) of ∙ and_right (is_variable v) false refl)) (outside_text on private) in
         record {
           type = q.0;
           shape = q.1;
@@ -455,7 +447,7 @@ module _ (bytes : List ℕ) (m : ModuleState) (o : Options) (read : IsReadFrom b
         (input_right m o.entry right v (inst_left v Gs (local_insts m) among)) input)
       where
         input : is_input v ≡ true
-        input = both_on (is_variable v) (word v 0 == class_number storage.Input) variable (same_test (word v 0) (class_number storage.Input) of)
+        input = and_from (is_variable v) (word v 0 == class_number storage.Input) variable (same_test (word v 0) (class_number storage.Input) of)
 
         h : (x : Inst) × (type_row Gs q.0 ≡ Some x) × (tree_at Gs x ≡ Some q.1)
         h = row s nothing q.0 q.1 q.3
@@ -495,7 +487,7 @@ module _ (bytes : List ℕ) (m : ModuleState) (o : Options) (read : IsReadFrom b
 
         by_value : (a : Option ℕ) → value_of m.heads v.result (decoration_number decoration.BuiltIn) ≡ a → option_map_or (λ b. not (is_among inputs b) || is_pointee Gs (is_other_input_type Gs b) v) a true ≡ false → BeginsPaths
         by_value None known off = cc
-        by_value (Some n) known off = by_number n (one_of n inputs (not_off (is_among inputs n) (or_left (not (is_among inputs n)) (is_pointee Gs (is_other_input_type Gs n) v) off))) known (or_right (not (is_among inputs n)) (is_pointee Gs (is_other_input_type Gs n) v) off)
+        by_value (Some n) known off = by_number n (one_of n inputs (not-false (is_among inputs n) (or_left (not (is_among inputs n)) (is_pointee Gs (is_other_input_type Gs n) v) off))) known (or_right (not (is_among inputs n)) (is_pointee Gs (is_other_input_type Gs n) v) off)
 
     -- P15
     module _ (c : StorageClass) (of : word v 0 ≡ class_number c) (classed : class_of v ≡ Some c) (one : (((class_number c == class_number storage.Uniform) || (class_number c == class_number storage.StorageBuffer)) || (true && (class_number c == class_number storage.PushConstant))) ≡ true)
@@ -517,11 +509,11 @@ module _ (bytes : List ℕ) (m : ModuleState) (o : Options) (read : IsReadFrom b
           let members_fine = member_fine s o.entry right (chosen s o.overrides) have fine.later.layout v.result v itself c classed one two three in
           let among_g = found_in Gs bq.0 g bg.1 in
           let numbered_so : g.result ≡ bq.0 = named Gs bq.0 g bg.1 in
-          let private : is_private v ≡ false = ap (λ n. is_variable v && (n == class_number storage.Private)) of ∙ second_off (is_variable v) (class_number c == class_number storage.Private) five in
-          let no_input : is_input v ≡ false = ap (λ n. is_variable v && (n == class_number storage.Input)) of ∙ second_off (is_variable v) (class_number c == class_number storage.Input) six in
-          let is_one : is_block_variable v ≡ true = both_on (is_variable v) (is_block_number (class v)) variable (ap is_block_number of ∙ four) in
+          let private : is_private v ≡ false = ap (λ n. is_variable v && (n == class_number storage.Private)) of ∙ and_right (is_variable v) (class_number c == class_number storage.Private) five in
+          let no_input : is_input v ≡ false = ap (λ n. is_variable v && (n == class_number storage.Input)) of ∙ and_right (is_variable v) (class_number c == class_number storage.Input) six in
+          let is_one : is_block_variable v ≡ true = and_from (is_variable v) (is_block_number (class v)) variable (ap is_block_number of ∙ four) in
           let on = written_as (or_on_right (is_private v) (is_workgroup v || is_block_variable v) (or_on_right (is_workgroup v) (is_block_variable v) is_one)) in
-          let no_struct : is_written_struct src r v ≡ false = first_off (is v.op code.TypeStruct) (not (is_block m.heads v.result) && list_any (type_has_struct Gs v.result) (written_types src r)) (variable_no_struct v.op variable) in
+          let no_struct : is_written_struct src r v ≡ false = and_left (is v.op code.TypeStruct) (not (is_block m.heads v.result) && list_any (type_has_struct Gs v.result) (written_types src r)) (variable_no_struct v.op variable) in
           let declared_so : declaration src r Ns v ≡ block_decl src Ns v g ∷ [] =
           ap (λ b. if b then struct_decl src Ns v ∷ [] else (if is_declared_constant src r v then constant_decl src Ns v ∷ [] else (if is_written_variable r v then variable_decl src Ns v (block_of Gs v) else []))) no_struct
           ∙ ap (λ b. if b then constant_decl src Ns v ∷ [] else (if is_written_variable r v then variable_decl src Ns v (block_of Gs v) else [])) (undeclared m o unit u v variable)
@@ -567,7 +559,7 @@ module _ (bytes : List ℕ) (m : ModuleState) (o : Options) (read : IsReadFrom b
 
     -- P13: it is of one of the classes, and not a Function variable.
     pub begins_paths : BeginsPaths
-    begins_paths = by_class (one_of (word v 0) classes (not_off (is_among classes (word v 0)) (or_left (not (is_among classes (word v 0))) (option_map_or (λ c. not (c == word v 0)) (storage_class Gs v.ty) false) (or_left (is_other_class Gs v) (word v 0 == class_number storage.Function) off))))
+    begins_paths = by_class (one_of (word v 0) classes (not-false (is_among classes (word v 0)) (or_left (not (is_among classes (word v 0))) (option_map_or (λ c. not (c == word v 0)) (storage_class Gs v.ty) false) (or_left (is_other_class Gs v) (word v 0 == class_number storage.Function) off))))
       where
         off : (is_other_class Gs v || (word v 0 == class_number storage.Function)) ≡ false
         off =

@@ -4,6 +4,8 @@ use Rattle.std.specs.Prelude.{Contains, drop, nat_le, option_and_then, slice_get
 use Rattle.std.specs.Option.{option_map_or}
 use Rattle.std.specs.List.{list_any}
 use Rattle.std.proofs.lemmas.Bool.Decides.{nat_tests}
+use Rattle.std.proofs.lemmas.Bool.{not-false}
+use Rattle.std.proofs.lemmas.Option.{same_Some}
 use Rattle.spv_ops.specs.Opcode.{is, number}
 use Rattle.spv_ops.specs.Operands.{is_id}
 use Rattle.spv_ops.specs.OpGroups.{group_of, takes_of}
@@ -29,7 +31,7 @@ use Rattle.module_semantics.specs.Setting.{Setting}
 use Rattle.plan_law.specs.InOrder.{IsAmong}
 use Rattle.type_law.proofs.Vectors.{three_off}
 use Rattle.typed_law.specs.Conforms.{IsConforming}
-use Rattle.typed_law.proofs.Lists.{or_left, or_right, not_off, same_some}
+use Rattle.typed_law.proofs.Lists.{or_left, or_right}
 use Rattle.typed_law.proofs.Rules.{operand_there, value_right}
 use Rattle.typed_law.proofs.Types.{row_is}
 use Rattle.typed_law.proofs.Values.{IsRow, shape_of_row, inside, type_row_of, typed_value, int_shaped}
@@ -59,13 +61,13 @@ chain_rule m t i o on off = cc
 
 none_fails : (test : ℕ → Bool) (xs : List ℕ) (k x : ℕ) → list_any test xs ≡ false → slice_get xs k ≡ Some x → test x ≡ false
 none_fails test [] k x off at = cc
-none_fails test (y ∷ xs) zero x off at = subst (λ z. test z ≡ false) (same_some y x at) (or_left (test y) (list_any test xs) off)
+none_fails test (y ∷ xs) zero x off at = subst (λ z. test z ≡ false) (same_Some y x at) (or_left (test y) (list_any test xs) off)
 none_fails test (y ∷ xs) (suc k) x off at = none_fails test xs k x (or_right (test y) (list_any test xs) off) at
 
 -- the number at a place
 pub place_of : (xs : List ℕ) (k x : ℕ) → slice_get xs k ≡ Some x → (k < length xs) × (slice_index xs k ≡ x)
 place_of [] k x at = cc
-place_of (y ∷ xs) zero x at = ((let low : zero < suc (length xs) = omega arith in low), same_some y x at)
+place_of (y ∷ xs) zero x at = ((let low : zero < suc (length xs) = omega arith in low), same_Some y x at)
 place_of (y ∷ xs) (suc k) x at = let w = place_of xs k x at in let less = w.0 in ((let low : suc k < suc (length xs) = omega (arith, less) in low), w.1)
 
 -- an index is an operand
@@ -82,8 +84,8 @@ int_tree : (gs : List Inst) (g : Inst) (t : Tree) → is_int g ≡ true → tree
 int_tree gs g t on e = by_width (slice_index g.args 0 == 32) (slice_index g.args 1 == 0) (slice_index g.args 1 == 1) (ap (tree_by_kind gs (tree_before gs g.at) g) (sym (int_kind g.op on)) ∙ e)
   where
     by_width : (w a b : Bool) → (if w then (if a then Some plain.uint else (if b then Some plain.int else None)) else None) ≡ Some t → (t ≡ plain.int) ⊎ (t ≡ plain.uint)
-    by_width true true b e = inr (sym (same_some plain.uint t e))
-    by_width true false true e = inl (sym (same_some plain.int t e))
+    by_width true true b e = inr (sym (same_Some plain.uint t e))
+    by_width true false true e = inl (sym (same_Some plain.int t e))
     by_width true false false e = cc
     by_width false a b e = cc
 
@@ -113,7 +115,7 @@ module _ (s : Setting) (entry : Option (List ℕ)) (right : IsConforming s.of en
       let found : is_there_in s.of f i.at Value id ≡ true = subst (λ x. is_there_in s.of f i.at Value x ≡ true) w.1 (subst (λ q. is_there_in s.of f i.at q (slice_index i.args (suc k)) ≡ true) (chain_need i.op (suc k) on) here) in
       let typed = typed_value s entry right f in_it i.at id found in
       let row : IsRow s entry right typed.0 = type_row_of s entry right f in_it id typed.0 typed.1 in
-      let int : is_int row.0 ≡ true = not_off (is_int row.0) (ap (λ o. option_map_or (λ (g : Inst). not (is_int g)) o false) (sym (row_is s.of entry right typed.0 row.0 row.1 row.2))
+      let int : is_int row.0 ≡ true = not-false (is_int row.0) (ap (λ o. option_map_or (λ (g : Inst). not (is_int g)) o false) (sym (row_is s.of entry right typed.0 row.0 row.1 row.2))
       ∙ (ap (λ o. option_map_or (fails is_int Gs) o false) (sym typed.1) ∙ none_fails (value_fails is_int Gs V) (drop 1 i.args) k id ints at)) in
       let t = shape_of_row s entry right typed.0 row (int_shaped row.0.op int) in
       record {

@@ -3,6 +3,7 @@ use Rattle.std.proofs.Common.{◌≡◌, ◌==◌, ◌||◌, ◌++◌, ℕ, zero
 use Rattle.std.specs.Prelude.{Contains, flat_map, option_map, option_and_then, slice_get, slice_index, slice_index_or}
 use Rattle.std.specs.Option.{option_map_or, option_or}
 use Rattle.std.specs.List.{enumerate_from}
+use Rattle.std.proofs.lemmas.Option.{same_Some}
 use Rattle.spv_words.specs.Words.{words}
 use Rattle.spv_ops.specs.Opcode.{is, number}
 use Rattle.spv_ops.specs.Shape.{shape, is_pure}
@@ -49,7 +50,7 @@ use Rattle.plan_law.specs.InOrder.{IsAmong}
 use Rattle.plan_law.proofs.Order.{found as found_at, among_right as body_right}
 use Rattle.call_law.specs.Known.{IsFunctionOf}
 use Rattle.typed_law.specs.Conforms.{IsParameter, IsConforming}
-use Rattle.typed_law.proofs.Lists.{or_right, and_off, same_some}
+use Rattle.typed_law.proofs.Lists.{or_right, and_off}
 use Rattle.typed_law.proofs.Rules.{class_right}
 use Rattle.typed_law.proofs.Types.{pointee_shaped}
 use Rattle.typed_law.proofs.Sized.{value_type_is}
@@ -279,7 +280,7 @@ module _ (bytes : List ℕ) (m : ModuleState) (o : Options) (read : IsReadFrom b
         by_pointer true at =
             let value = or_right (not (word g 0 == class_number storage.Function)) (is_no_value_type m.heads Gs (word g 1)) (ap (λ (c : Bool). if c then is_no_variable m.heads Gs g else is_no_value_type m.heads Gs q.1.0) (sym at) ∙ off) in
             let p_shape = pointee_shaped m o.entry right q.1.0 g row.1 at in
-            let to : p_shape.0 ≡ word g 1 = same_some p_shape.0 (word g 1) (sym p_shape.2 ∙ points true at) in
+            let to : p_shape.0 ≡ word g 1 = same_Some p_shape.0 (word g 1) (sym p_shape.2 ∙ points true at) in
             let w = value_within m o.entry right p_shape.0 p_shape.1 (subst (λ k. is_no_value_type m.heads Gs k ≡ false) (sym to) value) p_shape.3 in
             let h = type_found Gs p_shape.0 p_shape.1 p_shape.3 in
             record {

@@ -5,6 +5,8 @@ use Rattle.std.specs.Option.{option_map_or}
 use Rattle.std.specs.List.{list_any}
 use Rattle.std.proofs.lemmas.Bool.Decides.{eqb_tells, nat_tests}
 use Rattle.std.proofs.lemmas.List.Sums.{sum_by-cons, sum_by-append, get_or-le-sum_by}
+use Rattle.std.proofs.lemmas.Bool.{not-false}
+use Rattle.std.proofs.lemmas.Option.{same_Some}
 use Rattle.spv_words.specs.declared.rule.Limit.TheVariants.{Leaves}
 use Rattle.spv_words.specs.Limit.{limit_number}
 use Rattle.spv_ops.specs.Opcode.{is, number}
@@ -36,7 +38,7 @@ use Rattle.plan_law.specs.InOrder.{IsAmong, AreRising}
 use Rattle.fits_law.proofs.Steps.{named}
 use Rattle.type_law.proofs.Vectors.{five_off}
 use Rattle.typed_law.specs.Conforms.{IsConforming}
-use Rattle.typed_law.proofs.Lists.{and_left, and_off, not_off, same_some, found_in, earlier_some}
+use Rattle.typed_law.proofs.Lists.{and_left, and_off, found_in, earlier_some}
 use Rattle.typed_law.proofs.Rules.{formed_type}
 use Rattle.typed_law.proofs.Sized.{rising_low}
 use Rattle.typed_law.proofs.Used.{global_found}
@@ -139,11 +141,11 @@ module _ (m : ModuleState) (entry : Option (List ℕ)) (right : IsConforming m e
 
   counted : (g : Inst) → IsAmong g Gs → IsCounted g
   counted g there =
-      let w = said_at (leaves_step Gs) Gs 0 (λ id. 0) g right.rising (λ h h_in same. ap (λ (x : Inst). x.at) (same_some h g (sym (own h h_in) ∙ ap (global Gs) same ∙ own g there))) there in
+      let w = said_at (leaves_step Gs) Gs 0 (λ id. 0) g right.rising (λ h h_in same. ap (λ (x : Inst). x.at) (same_Some h g (sym (own h h_in) ∙ ap (global Gs) same ∙ own g there))) there in
       record {
         from = w.from;
         is = w.is;
-        same = λ p h at less. w.same p (λ k k_in le same. let one : k.at ≡ h.at = ap (λ (x : Inst). x.at) (same_some k h (sym (own k k_in) ∙ ap (global Gs) same ∙ at)) in omega (arith, less, le, one));
+        same = λ p h at less. w.same p (λ k k_in le same. let one : k.at ≡ h.at = ap (λ (x : Inst). x.at) (same_Some k h (sym (own k k_in) ∙ ap (global Gs) same ∙ at)) in omega (arith, less, le, one));
       }
 
   -- what is known of a type with so few scalars: it is short, and it has some
@@ -177,8 +179,8 @@ module _ (m : ModuleState) (entry : Option (List ℕ)) (right : IsConforming m e
     scalar_few k at t short one = by_count k at t (λ le. (short, let some : 1 ≤ leaves_by_kind Gs c.from g.args k = omega (arith, one) in some))
 
     int_few : kind g.op ≡ type_kinds.Int → (w a b : Bool) (t : Tree) → (if w then (if a then Some plain.uint else (if b then Some plain.int else None)) else None) ≡ Some t → Goal t
-    int_few at true true b t e = scalar_few type_kinds.Int at t (subst IsShort (same_some plain.uint t e) tt) refl
-    int_few at true false true t e = scalar_few type_kinds.Int at t (subst IsShort (same_some plain.int t e) tt) refl
+    int_few at true true b t e = scalar_few type_kinds.Int at t (subst IsShort (same_Some plain.uint t e) tt) refl
+    int_few at true false true t e = scalar_few type_kinds.Int at t (subst IsShort (same_Some plain.int t e) tt) refl
     int_few at true false false t e = none_some e
     int_few at false a b t e = none_some e
 
@@ -201,7 +203,7 @@ module _ (m : ModuleState) (entry : Option (List ℕ)) (right : IsConforming m e
             by_count type_kinds.Vector at t (λ le.
             let least = le_first (slice_index g.args 1) (c.from (slice_index g.args 0)) (let one : 1 ≤ slice_index g.args 1 = omega (arith, two) in one) in
             let some = (part (slice_index g.args 0) u first (sized u d scalar) (let few : c.from (slice_index g.args 0) ≤ 2 ^ 31 = omega (arith, le, least) in few)).1 in
-            (subst IsShort (same_some (plain.vector d (slice_index g.args 1)) t e) tt, let all : 1 ≤ slice_index g.args 1 * c.from (slice_index g.args 0) = omega (arith, least, some) in all))
+            (subst IsShort (same_Some (plain.vector d (slice_index g.args 1)) t e) tt, let all : 1 ≤ slice_index g.args 1 * c.from (slice_index g.args 0) = omega (arith, least, some) in all))
         by_size d scalar true false low e = none_some e
         by_size d scalar false b low e = none_some e
 
@@ -218,7 +220,7 @@ module _ (m : ModuleState) (entry : Option (List ℕ)) (right : IsConforming m e
         by_number n l_is same =
             let fixed = fixed_length k.op (slice_index g.args 1) (slice_index k.args 0) n l_is in
             let count : constant_length (global Gs (slice_index g.args 1)) ≡ n = ap constant_length second ∙ (ap (λ (b : Bool). if b then slice_index k.args 0 else 0) fixed.0 ∙ fixed.1) in
-            let is_it : is_length m g.result k ≡ true = not_off (is_length m g.result k)
+            let is_it : is_length m g.result k ≡ true = not-false (is_length m g.result k)
             (ap (λ o. option_map_or (λ (x : Inst). not (is_length m g.result x)) o (is_defined_elsewhere m (word g 1))) (sym second)
             ∙ and_off (is g.op code.TypeArray) (option_map_or (λ (x : Inst). not (is_length m g.result x)) (global Gs (word g 1)) (is_defined_elsewhere m (word g 1))) off.0 (array_op g.op at)) in
             let above : is_above_zero Gs k ≡ true = sym (ap (λ (b : Bool). if b then is_above_zero Gs k else (is_specialization k.op && is_workgroup_length m k g.result)) fixed.0) ∙ is_it in
@@ -234,12 +236,12 @@ module _ (m : ModuleState) (entry : Option (List ℕ)) (right : IsConforming m e
 
         by_length : (l : Option Length) → length_of k.op (slice_index g.args 1) (slice_index k.args 0) ≡ l → array_tree (Some u) l ≡ Some t → Goal t
         by_length None l_is e = none_some e
-        by_length (Some (Fixed n)) l_is e = by_number n l_is (same_some (plain.array u (Fixed n)) t e)
-        by_length (Some (Spec l)) l_is e = absurd (subst IsSized (sym (same_some (plain.array u (Spec l)) t e)) sized)
+        by_length (Some (Fixed n)) l_is e = by_number n l_is (same_Some (plain.array u (Fixed n)) t e)
+        by_length (Some (Spec l)) l_is e = absurd (subst IsSized (sym (same_Some (plain.array u (Spec l)) t e)) sized)
 
     -- the members of a struct
     members_few : (ids : List ℕ) (ts : Trees) → all_trees (tree_before Gs g.at) ids ≡ Some ts → AreSized ts → sum_by c.from ids ≤ 2 ^ 31 → AreShort ts × ((length ids == 0) ≡ false → 1 ≤ sum_by c.from ids)
-    members_few [] ts all sized le = (subst AreShort (same_some no_trees ts all) tt, λ some. absurd (never some))
+    members_few [] ts all sized le = (subst AreShort (same_Some no_trees ts all) tt, λ some. absurd (never some))
       where
         never : (0 == 0) ≡ false → ⊥
         never e = let same : (0 == 0) ≡ true = grind (arith, nat_tests) in let clash : true ≡ false = sym same ∙ e in cc
@@ -253,7 +255,7 @@ module _ (m : ModuleState) (entry : Option (List ℕ)) (right : IsConforming m e
         by_parts None at q more e later = none_some e
         by_parts (Some v) at None more e later = none_some e
         by_parts (Some v) at (Some us) more e later =
-            let same = same_some (tree v us) ts e in
+            let same = same_Some (tree v us) ts e in
             let both_sized : AreSized (tree v us) = subst AreSized (sym same) sized in
             let w = part p v at both_sized.0 (let few : c.from p ≤ 2 ^ 31 = omega (arith, total) in few) in
             let one = w.1 in (
@@ -264,13 +266,13 @@ module _ (m : ModuleState) (entry : Option (List ℕ)) (right : IsConforming m e
     struct_few : kind g.op ≡ type_kinds.Struct → (o : Option Trees) → all_trees (tree_before Gs g.at) g.args ≡ o → (t : Tree) → IsSized t → option_map (plain.struct g.result) o ≡ Some t → Goal t
     struct_few at None all t sized e = none_some e
     struct_few at (Some ts) all t sized e =
-        let same = same_some (plain.struct g.result ts) t e in
+        let same = same_Some (plain.struct g.result ts) t e in
         by_count type_kinds.Struct at t (λ le.
         let w = members_few g.args ts all (subst IsSized (sym same) sized) le in
         (subst IsShort same w.0, w.1 (and_off (is g.op code.TypeStruct) (length g.args == 0) off.1 (struct_op g.op at))))
 
     by_kind : (k : TypeKind) → kind g.op ≡ k → (t : Tree) → IsSized t → tree_by_kind Gs (tree_before Gs g.at) g k ≡ Some t → Goal t
-    by_kind type_kinds.Bool at t sized e = scalar_few type_kinds.Bool at t (subst IsShort (same_some plain.boolean t e) tt) refl
+    by_kind type_kinds.Bool at t sized e = scalar_few type_kinds.Bool at t (subst IsShort (same_Some plain.boolean t e) tt) refl
     by_kind type_kinds.Int at t sized e = int_few at (slice_index g.args 0 == 32) (slice_index g.args 1 == 0) (slice_index g.args 1 == 1) t e
     by_kind type_kinds.Vector at t sized e = vector_few at (tree_before Gs g.at (slice_index g.args 0)) refl t e
     by_kind type_kinds.Array at t sized e = array_few at (tree_before Gs g.at (slice_index g.args 0)) refl (global Gs (slice_index g.args 1)) refl t sized e
@@ -278,7 +280,7 @@ module _ (m : ModuleState) (entry : Option (List ℕ)) (right : IsConforming m e
       where
         by_part : (o : Option Tree) → option_map plain.runtime o ≡ Some t → Goal t
         by_part None e = none_some e
-        by_part (Some u) e = absurd (subst IsSized (sym (same_some (plain.runtime u) t e)) sized)
+        by_part (Some u) e = absurd (subst IsSized (sym (same_Some (plain.runtime u) t e)) sized)
     by_kind type_kinds.Struct at t sized e = struct_few at (all_trees (tree_before Gs g.at) g.args) refl t sized e
     by_kind type_kinds.Other at t sized e = none_some e
 

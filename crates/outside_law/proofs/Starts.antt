@@ -3,8 +3,9 @@ use Rattle.std.proofs.Common.{◌≡◌, ◌⊎◌, ◌==◌, ℕ, Bool, true, f
 use Rattle.std.specs.Prelude.{Contains, find, is_some, option_map, option_and_then, slice_index, unwrap_or}
 use Rattle.std.specs.Option.{option_map_or}
 use Rattle.std.specs.List.{list_any}
-use Rattle.std.proofs.lemmas.Bool.{and_parts}
+use Rattle.std.proofs.lemmas.Bool.{and_parts, not-true}
 use Rattle.std.proofs.lemmas.Bool.Decides.{eqb_tells}
+use Rattle.std.proofs.lemmas.Option.{same_Some}
 use Rattle.spv_ops.specs.Opcode.{is, number}
 use Rattle.spv_ops.specs.Groups.{is_chain}
 use Rattle.spv_ops.specs.declared.Op.{Op}
@@ -46,7 +47,7 @@ use Rattle.type_law.specs.Shaped.{HasConstants}
 use Rattle.agree_law.specs.Agree.{Naming}
 use Rattle.call_law.specs.Known.{is_parameter, IsFunctionOf}
 use Rattle.typed_law.specs.Conforms.{IsConforming}
-use Rattle.typed_law.proofs.Lists.{not_on, same_some, found_in}
+use Rattle.typed_law.proofs.Lists.{found_in}
 use Rattle.typed_law.proofs.Values.{inside, own_local}
 use Rattle.accepted_law.proofs.Accepted.{accepted_conforming}
 use Rattle.ruled_law.proofs.Ruled.{parameter_of}
@@ -208,12 +209,12 @@ module _ (bytes : List ℕ) (m : ModuleState) (o : Options) (read : IsReadFrom b
             record { itself = unread n (subst (λ k. global_inst Gs k ≡ None) same (own_local s o.entry right f in_it i there)); named = refl; typed_as = shape_of n i.ty w.type w.shape (subst (λ k. type_in Gs f k ≡ Some i.ty) same w.type_is) w.points_to w.typed_as },
             on,
             memory.1,
-            not_on (is_parameter f n) memory.0,
+            not-true (is_parameter f n) memory.0,
           );
         }
       where
         only : (j : Inst) → IsAmong j (insts_of f) → (i : Inst) (n : ℕ) → j.result ≡ n → inst_in f n ≡ Some i → i.result ≡ n → (i.result ≡ 0 → ⊥) → j ≡ i
-        only j j_in i n one at same some = same_some j i (sym (found_at j (insts_of f) (inside s o.entry right f in_it).order.apart j_in (λ zero. some (same ∙ (sym one ∙ zero)))) ∙ (ap (inst_in f) one ∙ at))
+        only j j_in i n one at same some = same_Some j i (sym (found_at j (insts_of f) (inside s o.entry right f in_it).order.apart j_in (λ zero. some (same ∙ (sym one ∙ zero)))) ∙ (ap (inst_in f) one ∙ at))
 
     -- A pointer parameter.
     pub parameter_start : (n : ℕ) → N.is_lent n ≡ true → Begins n

@@ -3,7 +3,8 @@ use Rattle.std.proofs.Common.{◌≡◌, ◌≢◌, ◌⊎◌, ◌==◌, ◌&&�
 use Rattle.std.specs.Prelude.{◌||◌, Contains, bytes_eq, codes, drop, flat_map, slice_get, slice_index, unwrap_or}
 use Rattle.std.specs.Option.{option_map_or}
 use Rattle.std.specs.List.{list_any, enumerate_from}
-use Rattle.std.proofs.lemmas.Bool.{and_parts, or_cases}
+use Rattle.std.proofs.lemmas.Bool.{and_parts, or_cases, or_left, or_right}
+use Rattle.std.proofs.lemmas.Option.{same_Some}
 use Rattle.spv_ops.specs.Opcode.{is}
 use Rattle.spv_ops.specs.Shape.{shape}
 use Rattle.spv_ops.specs.Groups.{is_chain}
@@ -58,7 +59,6 @@ use Rattle.plan_law.proofs.Order.{found as found_at, among_right as body_right}
 use Rattle.region_law.proofs.Flags.{same_text}
 use Rattle.agree_law.specs.Agree.{Naming}
 use Rattle.typed_law.specs.Conforms.{IsConforming}
-use Rattle.typed_law.proofs.Lists.{same_some}
 use Rattle.typed_law.proofs.Used.{global_found}
 use Rattle.typed_law.proofs.Values.{among_functions, inside, own_local, own_type, shaped_some}
 use Rattle.accepted_law.proofs.Accepted.{accepted_conforming}
@@ -68,7 +68,7 @@ use Rattle.global_law.specs.Names.{IsDeclared}
 use Rattle.global_law.proofs.Blocks.{type_declared}
 use Rattle.constant_law.specs.Items.{is_item}
 use Rattle.constant_law.proofs.Within.{value_misused}
-use Rattle.constant_law.proofs.Written.{no_pointee, or_on_left, or_on_right}
+use Rattle.constant_law.proofs.Written.{no_pointee}
 use Rattle.claim_law.specs.Claimed.{IsIn}
 use Rattle.claim_law.proofs.Listed.{in_flat}
 use Rattle.claim_law.proofs.Named.{Plans}
@@ -110,18 +110,18 @@ none_some : {A B : Type 0} {a : A} → None ≡ Some a → B
 none_some e = cc
 
 plain_type : (gs : List Inst) (before : ℕ → Option Tree) (g : Inst) (k : TypeKind) (t : Tree) (j : ℕ) → tree_by_kind gs before g k ≡ Some t → (is_of_parts k ≡ true) ⊎ (has_struct j t ≡ false)
-plain_type gs before g kinds.Bool t j e = inr (subst (λ x. has_struct j x ≡ false) (same_some plain.boolean t e) refl)
+plain_type gs before g kinds.Bool t j e = inr (subst (λ x. has_struct j x ≡ false) (same_Some plain.boolean t e) refl)
 plain_type gs before g kinds.Int t j e = inr (by_width (slice_index g.args 0 == 32) (slice_index g.args 1 == 0) (slice_index g.args 1 == 1) e)
   where
     by_width : (w a b : Bool) → (if w then (if a then Some plain.uint else (if b then Some plain.int else None)) else None) ≡ Some t → has_struct j t ≡ false
-    by_width true true b e = subst (λ x. has_struct j x ≡ false) (same_some plain.uint t e) refl
-    by_width true false true e = subst (λ x. has_struct j x ≡ false) (same_some plain.int t e) refl
+    by_width true true b e = subst (λ x. has_struct j x ≡ false) (same_Some plain.uint t e) refl
+    by_width true false true e = subst (λ x. has_struct j x ≡ false) (same_Some plain.int t e) refl
     by_width true false false e = none_some e
     by_width false a b e = none_some e
 plain_type gs before g kinds.Vector t j e = inr (by_part (before (slice_index g.args 0)) e)
   where
     by_size : (d : Elem) (b : Bool) → (if b then Some (plain.vector d (slice_index g.args 1)) else None) ≡ Some t → has_struct j t ≡ false
-    by_size d true e = subst (λ x. has_struct j x ≡ false) (same_some (plain.vector d (slice_index g.args 1)) t e) refl
+    by_size d true e = subst (λ x. has_struct j x ≡ false) (same_Some (plain.vector d (slice_index g.args 1)) t e) refl
     by_size d false e = none_some e
 
     by_elem : (q : Option Elem) → option_map_or (sized_vector (slice_index g.args 1)) q None ≡ Some t → has_struct j t ≡ false
@@ -218,10 +218,10 @@ module _ (bytes : List ℕ) (m : ModuleState) (o : Options) (read : IsReadFrom b
   -- what stands outside of functions has the name of an item, or of what is built in
   item : (g : Inst) → is_outer_global s o.overrides r key g ≡ true → is_item src r g ≡ true
   item g on =
-      or_on_right (is_written_struct src r g) (is_declared_constant src r g || is_written_variable r g)
+      or_right (is_written_struct src r g) (is_declared_constant src r g || is_written_variable r g)
       (elim (or_cases (is_declared_constant src r g) (is_written_variable r g && not (is_private g)) on) [
-        | inl constant ↦ or_on_left (is_declared_constant src r g) (is_written_variable r g) constant
-        | inr variable ↦ or_on_right (is_declared_constant src r g) (is_written_variable r g) (and_parts (is_written_variable r g) (not (is_private g)) variable).0
+        | inl constant ↦ or_left (is_declared_constant src r g) (is_written_variable r g) constant
+        | inr variable ↦ or_right (is_declared_constant src r g) (is_written_variable r g) (and_parts (is_written_variable r g) (not (is_private g)) variable).0
       ])
 
   not_outside : (k : Key) (x y : Text) → ((n : ℕ) → space_of k ≡ space_of (Id (id n))) → (k ≡ Main → ⊥) → ((g : Inst) → IsIn g Gs → k ≡ Id (id g.result) → ⊥) → found k ≡ Some x → N.is_outside y ≡ true → x ≢ y

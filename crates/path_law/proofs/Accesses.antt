@@ -1,8 +1,10 @@
 -- Loads, stores and atomic instructions: the text of their pointer is what they ask of it.
-use Rattle.std.proofs.Common.{◌≡◌, ◌++◌, ◌==◌, ◌&&◌, ℕ, Bool, true, false, List, [], ◌∷◌, Option, Some, None, inl, inr, refl, sym, ap, ◌∙◌, subst}
+use Rattle.std.proofs.Common.{◌≡◌, ◌++◌, ◌==◌, ℕ, true, List, [], ◌∷◌, Option, Some, None, inl, inr, refl, sym, ap, ◌∙◌, subst}
 use Rattle.std.specs.Prelude.{option_and_then}
 use Rattle.std.proofs.lemmas.Bool.Decides.{eqb_tells}
 use Rattle.std.proofs.lemmas.Slice.Eq.{bytes_eq-Decides}
+use Rattle.std.proofs.lemmas.Bool.{and_from}
+use Rattle.std.proofs.lemmas.Option.{same_Some}
 use Rattle.spv_ops.specs.declared.AtomicOp.{AtomicOp}
 use Rattle.spv_module.specs.declared.inst.Inst.{Inst}
 use Rattle.spv_module.specs.declared.inst.Function.{Function}
@@ -49,9 +51,6 @@ use Rattle.path_law.proofs.Leaves.{same_value, sized_in, places_are}
 use Rattle.path_law.proofs.Walks.{IsPlace, IsNoBlock, part_of}
 use Rattle.path_law.proofs.Pointers.{first_type, Leads, place_stands, expr_stands}
 
-some_same : {A : Type 0} (a b : A) → Some a ≡ Some b → a ≡ b
-some_same a b e = cc
-
 no_some : {A : Type 0} (o : Option A) (a : A) → o ≡ None → o ≡ Some a → ⊥
 no_some o a none some = never (sym none ∙ some)
   where
@@ -66,21 +65,13 @@ pub shape_itself : (s : Setting) (key : Key → Text) (t : Tree) → IsSized t �
 shape_itself s key plain.boolean z = refl
 shape_itself s key plain.int z = refl
 shape_itself s key plain.uint z = refl
-shape_itself s key (plain.vector e n) z = both (same_elem e e) (n == n) (elem_itself e) (number_itself n)
+shape_itself s key (plain.vector e n) z = and_from (same_elem e e) (n == n) (elem_itself e) (number_itself n)
   where
-    both : (a b : Bool) → a ≡ true → b ≡ true → (a && b) ≡ true
-    both true b on e = e
-    both false b on e = cc
-
     elem_itself : (e : Elem) → same_elem e e ≡ true
     elem_itself elem.Bool = refl
     elem_itself elem.Int = refl
     elem_itself elem.Uint = refl
-shape_itself s key (plain.array t (Fixed n)) z = both (same_shape (shape_in s (struct_names key) t) (shape_in s (struct_names key) t)) (n == n) (shape_itself s key t z) (number_itself n)
-  where
-    both : (a b : Bool) → a ≡ true → b ≡ true → (a && b) ≡ true
-    both true b on e = e
-    both false b on e = cc
+shape_itself s key (plain.array t (Fixed n)) z = and_from (same_shape (shape_in s (struct_names key) t) (shape_in s (struct_names key) t)) (n == n) (shape_itself s key t z) (number_itself n)
 shape_itself s key (plain.array t (Spec id)) z = absurd z
 shape_itself s key (plain.runtime t) z = absurd z
 shape_itself s key (plain.struct id ts) z = (bytes_eq-Decides ((struct_names key).struct_name id) ((struct_names key).struct_name id)).1 refl
@@ -120,8 +111,8 @@ module _ (p : Program) (calls : Text → List Argument → State → Result (Opt
 
   pub part_there : (t : Tree) (q : PointsTo t) (r : Root) (at : List ℕ) (l : L r at) → Part r at l t l.to
   part_there t q r at l =
-      let type : l.type ≡ q.type = some_same l.type q.type (sym l.points_to ∙ q.points_to) in
-      let shape : l.shape ≡ t = some_same l.shape t (sym l.typed_as ∙ ap (type_tree Gs) type ∙ q.typed_as) in
+      let type : l.type ≡ q.type = same_Some l.type q.type (sym l.points_to ∙ q.points_to) in
+      let shape : l.shape ≡ t = same_Some l.shape t (sym l.typed_as ∙ ap (type_tree Gs) type ∙ q.typed_as) in
       part_of p calls z s overrides f key globals right c.at (base_text W l.begin) l.from r at t l.to (no_block t q.no_block)
       (subst (λ u. IsPlace p calls z s overrides f key globals right c.at (base_text W l.begin) l.from r at u l.to) shape l.place)
     where
@@ -146,12 +137,12 @@ module _ (p : Program) (calls : Text → List Argument → State → Result (Opt
   in_memory t r at x from v (variable w way q o) is sees = absurd (no_some (seen s r) v is.0 sees)
   in_memory t r at x from v (instance place kind members) is sees = absurd is
   in_memory t r at x from v (memory site q) is sees =
-      let same : is.0 ≡ v = some_same is.0 v (sym is.1 ∙ sees) in
+      let same : is.0 ≡ v = same_Some is.0 v (sym is.1 ∙ sees) in
       record { site = site; thing = ap (memory site) is.2; along = subst (λ w. shape_along s w at ≡ Some t) same is.3; scalars = subst (λ w. HasScalars s (struct_names key) w at t site) same is.4 }
 
   -- and else: the value of the part, where it has one
   held_value : (t : Tree) (r : Root) (at : List ℕ) (x : Text) (from : List ℕ) (v : ValueTree) (a : Thing) → IsPart s (struct_names key) c.at x from r at t a → seen s r ≡ None → part_value s c.at r at ≡ Some v → fetch a z ≡ got [] (typed (S t) v, z)
-  held_value t r at x from v (value (typed q u)) is unseen has = ap (λ a. got [] (typed a u, z)) is.1 ∙ ap (λ a. got [] (typed (S t) a, z)) (some_same u v (sym is.2 ∙ has))
+  held_value t r at x from v (value (typed q u)) is unseen has = ap (λ a. got [] (typed a u, z)) is.1 ∙ ap (λ a. got [] (typed (S t) a, z)) (same_Some u v (sym is.2 ∙ has))
   held_value t r at x from v (variable w way q o) is unseen has = ap (λ o. variable_value q o z) (is.2 ∙ has) ∙ ap (λ a. got [] (typed a v, z)) is.1
   held_value t r at x from v (instance place kind members) is unseen has = absurd is
   held_value t r at x from v (memory site q) is unseen has = absurd (no_some (seen s r) is.0 unseen is.1)
@@ -167,7 +158,7 @@ module _ (p : Program) (calls : Text → List Argument → State → Result (Opt
       seen_part g is v sees u along =
           let l = leads g.0 g.1 is in
           let at = in_memory t g.0 g.1 (base_text W l.begin) l.from v l.to (part_there t q g.0 g.1 l) sees in
-          let same : t ≡ u = some_same t u (sym at.along ∙ along) in
+          let same : t ≡ u = same_Some t u (sym at.along ∙ along) in
           record {
             site = at.site;
             stands_for = expr_stands p calls z m s overrides f key globals right c.at stands.agree.all b n g.0 g.1 l ∙ ap (λ a. got [] (a, z)) at.thing ∙ ap (λ a. got [] (memory at.site a, z)) (sym result);

@@ -1,6 +1,7 @@
 -- Chains in order: what is based on a chain, and how far each stands behind its base.
 use Rattle.std.proofs.Common.{◌≡◌, ◌≢◌, ◌⊎◌, ◌<◌, ◌≤◌, ◌+◌, ◌==◌, ◌&&◌, ℕ, Bool, true, false, List, [], ◌∷◌, inl, inr, refl, sym, ap, ◌∙◌, subst, arith}
 use Rattle.std.proofs.lemmas.Bool.Decides.{eqb_tells}
+use Rattle.std.proofs.lemmas.Bool.{and_parts}
 use Rattle.spv_ops.specs.Groups.{is_chain}
 use Rattle.spv_ops.specs.OpGroups.{group_of}
 use Rattle.spv_ops.specs.declared.Op.{Op}
@@ -42,10 +43,6 @@ one_chain (x ∷ xs) i j rise (inr a) (inr b) on too same = one_chain xs i j ris
 
 abbrev choice : ℕ → (ℕ → Bool) → Inst → ℕ → Bool → Bool
 choice n based i k made = elim made [ true ↦ elim (base i == n) [ true ↦ true | false ↦ based (base i) ] | false ↦ based k ]
-
-both_on : (a b : Bool) → (a && b) ≡ true → (a ≡ true) × (b ≡ true)
-both_on true b e = (refl, e)
-both_on false b e = cc
 
 same_count : (a b : ℕ) → (a == b) ≡ true → a ≡ b
 same_count a b e = elim (eqb_tells a b) [ inl w ↦ w.1 | inr w ↦ absurd (never (a == b) e w.0) ]
@@ -107,7 +104,7 @@ none_ahead (i ∷ is) q based rise (inr there) on none = none_ahead is q (with_b
     by_base false w chained = none (base i)
 
     still : (k : ℕ) (t : Bool) → (is_chain i.op && (i.result == k)) ≡ t → choice q.result based i k t ≡ false
-    still k true made = by_base (base i == q.result) (eqb_tells (base i) q.result) (both_on (is_chain i.op) (i.result == k) made).0
+    still k true made = by_base (base i == q.result) (eqb_tells (base i) q.result) (and_parts (is_chain i.op) (i.result == k) made).0
     still k false made = none k
 none_ahead (i ∷ is) q based rise (inl same) on none =
     let on_i : is_chain i.op ≡ true = ap (λ (x : Inst). is_chain x.op) same ∙ on in

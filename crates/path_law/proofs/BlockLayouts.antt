@@ -1,9 +1,11 @@
 -- A block that breaks no rule on layout lies in the text where its decorations put it.
 use Rattle.std.proofs.Common.{◌≡◌, ◌+◌, ◌==◌, ◌||◌, ℕ, zero, suc, Bool, true, false, List, [], ◌∷◌, Option, Some, None, inl, inr, refl, sym, ap, ◌∙◌, subst, arith, if◌then◌else◌}
-use Rattle.std.specs.Prelude.{not, is_none, find, nat_lt, option_map, slice_index, unwrap_or}
+use Rattle.std.specs.Prelude.{is_none, find, nat_lt, option_map, slice_index, unwrap_or}
 use Rattle.std.specs.Option.{option_map_or}
 use Rattle.std.specs.List.{list_any}
 use Rattle.std.proofs.lemmas.Bool.Decides.{eqb_tells}
+use Rattle.std.proofs.lemmas.Bool.{or_parts, not-false}
+use Rattle.std.proofs.lemmas.Option.{same_Some}
 use Rattle.spv_words.specs.declared.rule.Rule.{Rule}
 use Rattle.spv_words.specs.declared.rule.Rule.TheVariants.{L1, L2, L6}
 use Rattle.spv_ops.specs.Enumerants.{decoration_number}
@@ -31,17 +33,6 @@ use Rattle.type_law.proofs.Places.{part_leads}
 use Rattle.path_law.specs.Laid.{IsLaidOut, AreLaidOut}
 use Rattle.path_law.proofs.Bytes.{kind_of, declared_by}
 
-some_same : {A : Type 0} (a b : A) → Some a ≡ Some b → a ≡ b
-some_same a b e = cc
-
-pub either_off : (a b : Bool) → (a || b) ≡ false → (a ≡ false) × (b ≡ false)
-either_off true b e = cc
-either_off false b e = (refl, e)
-
-not_off : (a : Bool) → not a ≡ false → a ≡ true
-not_off true e = refl
-not_off false e = cc
-
 same_count : (a b : ℕ) → (a == b) ≡ true → a ≡ b
 same_count a b e = elim (eqb_tells a b) [ inl w ↦ w.1 | inr w ↦ absurd (never (a == b) e w.0) ]
   where
@@ -52,11 +43,11 @@ same_count a b e = elim (eqb_tells a b) [ inl w ↦ w.1 | inr w ↦ absurd (neve
 -- a literal that is there and is no other
 told_is : (o : Option ℕ) (n : ℕ) → is_not o n ≡ false → unwrap_or o 0 ≡ n
 told_is None n e = cc
-told_is (Some m) n e = same_count m n (not_off (m == n) e)
+told_is (Some m) n e = same_count m n (not-false (m == n) e)
 
 placed_is : (o : Option ℕ) (n : ℕ) → is_none o ≡ false → is_other o n ≡ false → o ≡ Some n
 placed_is None n there e = cc
-placed_is (Some m) n there e = ap (λ a. Some a) (same_count m n (not_off (m == n) e))
+placed_is (Some m) n there e = ap (λ a. Some a) (same_count m n (not-false (m == n) e))
 
 module _ (s : Setting) (k : Kind) where
   abbrev Gs : List Inst
@@ -125,25 +116,25 @@ module _ (s : Setting) (k : Kind) where
     laid_out plain.uint ty shape a b c = tt
     laid_out (plain.vector e n) ty shape a b c = tt
     laid_out (plain.array t l) ty shape a b c =
-        let one = either_off (breaks H k L1 ty (plain.array t l)) (any_part (breaks H k L1) Gs (part_id Gs ty 0) t) a in
-        let two = either_off (breaks H k L2 ty (plain.array t l)) (any_part (breaks H k L2) Gs (part_id Gs ty 0) t) b in
-        let six = either_off (breaks H k L6 ty (plain.array t l)) (any_part (breaks H k L6) Gs (part_id Gs ty 0) t) c in (
+        let one = or_parts (breaks H k L1 ty (plain.array t l)) (any_part (breaks H k L1) Gs (part_id Gs ty 0) t) a in
+        let two = or_parts (breaks H k L2 ty (plain.array t l)) (any_part (breaks H k L2) Gs (part_id Gs ty 0) t) b in
+        let six = or_parts (breaks H k L6 ty (plain.array t l)) (any_part (breaks H k L6) Gs (part_id Gs ty 0) t) c in (
           stride_is ty t (stride_over k t) (sym (l2_is ty (plain.array t l)) ∙ two.0),
           λ i. let same = part_same ty i 0 (plain.array t l) shape (λ args. refl) in
               subst (λ q. IsLaidOut s k q t) (sym same) (laid_out t (part_id Gs ty 0) (ap (type_tree Gs) (sym same) ∙ part_leads s ty i (plain.array t l) t shape refl) one.1 two.1 six.1),
         )
     laid_out (plain.runtime t) ty shape a b c =
-        let one = either_off (breaks H k L1 ty (plain.runtime t)) (any_part (breaks H k L1) Gs (part_id Gs ty 0) t) a in
-        let two = either_off (breaks H k L2 ty (plain.runtime t)) (any_part (breaks H k L2) Gs (part_id Gs ty 0) t) b in
-        let six = either_off (breaks H k L6 ty (plain.runtime t)) (any_part (breaks H k L6) Gs (part_id Gs ty 0) t) c in (
+        let one = or_parts (breaks H k L1 ty (plain.runtime t)) (any_part (breaks H k L1) Gs (part_id Gs ty 0) t) a in
+        let two = or_parts (breaks H k L2 ty (plain.runtime t)) (any_part (breaks H k L2) Gs (part_id Gs ty 0) t) b in
+        let six = or_parts (breaks H k L6 ty (plain.runtime t)) (any_part (breaks H k L6) Gs (part_id Gs ty 0) t) c in (
           stride_is ty t (stride_over k t) (sym (l2_is ty (plain.runtime t)) ∙ two.0),
           λ i. let same = part_same ty i 0 (plain.runtime t) shape (λ args. refl) in
               subst (λ q. IsLaidOut s k q t) (sym same) (laid_out t (part_id Gs ty 0) (ap (type_tree Gs) (sym same) ∙ part_leads s ty i (plain.runtime t) t shape refl) one.1 two.1 six.1),
         )
     laid_out (plain.struct id ts) ty shape a b c =
-        let one = either_off (breaks H k L1 ty (plain.struct id ts)) (any_member (breaks H k L1) Gs ty 0 ts) a in
-        let two = either_off (breaks H k L2 ty (plain.struct id ts)) (any_member (breaks H k L2) Gs ty 0 ts) b in
-        let six = either_off (breaks H k L6 ty (plain.struct id ts)) (any_member (breaks H k L6) Gs ty 0 ts) c in
+        let one = or_parts (breaks H k L1 ty (plain.struct id ts)) (any_member (breaks H k L1) Gs ty 0 ts) a in
+        let two = or_parts (breaks H k L2 ty (plain.struct id ts)) (any_member (breaks H k L2) Gs ty 0 ts) b in
+        let six = or_parts (breaks H k L6 ty (plain.struct id ts)) (any_member (breaks H k L6) Gs ty 0 ts) c in
         all_laid ts ty 0 0 (sym (l1_is ty (plain.struct id ts)) ∙ one.0) (sym (l6_is ty (plain.struct id ts)) ∙ six.0)
         (λ i u at. let none : 0 + i ≡ i = omega arith in
         (ap (part_type s ty) none ∙ part_same ty i i (plain.struct id ts) shape (λ args. refl) ∙ ap (part_id Gs ty) (sym none), ap (λ j. type_tree Gs (part_type s ty j)) none ∙ part_leads s ty i (plain.struct id ts) u shape at))
@@ -154,11 +145,11 @@ module _ (s : Setting) (k : Kind) where
         → AllOff L1 ty j ts → AllOff L2 ty j ts → AllOff L6 ty j ts → AreLaidOut s k ty j end ts
     all_laid no_trees ty j end lacks others shape a b c = tt
     all_laid (tree t ts) ty j end lacks others shape a b c =
-        let there = either_off (is_none (offset_of H ty j)) (lacks_from H ty (j + 1) ts) lacks in
-        let same = either_off (is_other (offset_of H ty j) (aligned end (alignment_of k t))) (others_from H k ty (j + 1) (aligned end (alignment_of k t) + size_of k t) ts) others in
-        let one = either_off (any_part (breaks H k L1) Gs (part_id Gs ty j) t) (any_member (breaks H k L1) Gs ty (j + 1) ts) a in
-        let two = either_off (any_part (breaks H k L2) Gs (part_id Gs ty j) t) (any_member (breaks H k L2) Gs ty (j + 1) ts) b in
-        let six = either_off (any_part (breaks H k L6) Gs (part_id Gs ty j) t) (any_member (breaks H k L6) Gs ty (j + 1) ts) c in
+        let there = or_parts (is_none (offset_of H ty j)) (lacks_from H ty (j + 1) ts) lacks in
+        let same = or_parts (is_other (offset_of H ty j) (aligned end (alignment_of k t))) (others_from H k ty (j + 1) (aligned end (alignment_of k t) + size_of k t) ts) others in
+        let one = or_parts (any_part (breaks H k L1) Gs (part_id Gs ty j) t) (any_member (breaks H k L1) Gs ty (j + 1) ts) a in
+        let two = or_parts (any_part (breaks H k L2) Gs (part_id Gs ty j) t) (any_member (breaks H k L2) Gs ty (j + 1) ts) b in
+        let six = or_parts (any_part (breaks H k L6) Gs (part_id Gs ty j) t) (any_member (breaks H k L6) Gs ty (j + 1) ts) c in
         let none : j + 0 ≡ j = omega arith in
         let here = shape 0 t refl in
         let id : part_type s ty j ≡ part_id Gs ty j = ap (part_type s ty) (sym none) ∙ here.0 ∙ ap (part_id Gs ty) none in (
@@ -185,7 +176,7 @@ module _ (s : Setting) (k : Kind) where
 
   pub any_none : {A : Type 0} (p : A → Bool) (xs : List A) → list_any p xs ≡ false → AllFalse p xs
   any_none p [] e = tt
-  any_none p (x ∷ xs) e = let parts = either_off (p x) (list_any p xs) e in (parts.0, any_none p xs parts.1)
+  any_none p (x ∷ xs) e = let parts = or_parts (p x) (list_any p xs) e in (parts.0, any_none p xs parts.1)
 
   none_of : {A : Type 0} (o : Option A) → is_none o ≡ true → o ≡ None
   none_of None e = refl
@@ -196,11 +187,11 @@ module _ (s : Setting) (k : Kind) where
   taken_fits first ms e = by_first (is_none (first_broken H Gs first ms)) refl e
     where
       by_second : (b : Bool) → is_none (first_broken H Gs Std140 ms) ≡ b → (if b then Some Std140 else None) ≡ Some k → first_broken H Gs k ms ≡ None
-      by_second true is e = subst (λ q. first_broken H Gs q ms ≡ None) (some_same Std140 k e) (none_of (first_broken H Gs Std140 ms) is)
+      by_second true is e = subst (λ q. first_broken H Gs q ms ≡ None) (same_Some Std140 k e) (none_of (first_broken H Gs Std140 ms) is)
       by_second false is e = cc
 
       by_first : (b : Bool) → is_none (first_broken H Gs first ms) ≡ b → (if b then Some first else (if is_none (first_broken H Gs Std140 ms) then Some Std140 else None)) ≡ Some k → first_broken H Gs k ms ≡ None
-      by_first true is e = subst (λ q. first_broken H Gs q ms ≡ None) (some_same first k e) (none_of (first_broken H Gs first ms) is)
+      by_first true is e = subst (λ q. first_broken H Gs q ms ≡ None) (same_Some first k e) (none_of (first_broken H Gs first ms) is)
       by_first false is e = by_second (is_none (first_broken H Gs Std140 ms)) refl e
 
   each_l1 : (ms : List Member) → members_break H Gs k ms L1 ≡ list_any (member_breaks H Gs k L1) ms
@@ -234,7 +225,7 @@ module _ (s : Setting) (k : Kind) where
   member_at : (g : Inst) (ids : List ℕ) (ts : Trees) (j i : ℕ) (u : Tree) → all_trees (tree_before Gs g.at) ids ≡ Some ts → nth_of ts i ≡ Some u
       → AllFalse (member_breaks H Gs k L1) (members_from H Gs g j ids) → AllFalse (member_breaks H Gs k L2) (members_from H Gs g j ids) → AllFalse (member_breaks H Gs k L6) (members_from H Gs g j ids)
       → Off L1 (slice_index ids i) u × Off L2 (slice_index ids i) u × Off L6 (slice_index ids i) u
-  member_at g [] ts j i u all at a b c = let none : no_trees ≡ ts = some_same no_trees ts all in absurd (never (ap (λ x. nth_of x i) none ∙ at))
+  member_at g [] ts j i u all at a b c = let none : no_trees ≡ ts = same_Some no_trees ts all in absurd (never (ap (λ x. nth_of x i) none ∙ at))
     where
       never : None ≡ Some u → ⊥
       never e = cc
@@ -248,14 +239,14 @@ module _ (s : Setting) (k : Kind) where
 
       here : m.shape ≡ Some u → Offs id
       here is =
-          let one = either_off (is_none m.offset) (breaks_inside H Gs k L1 m) (sym (member_l1 m) ∙ a.0) in
+          let one = or_parts (is_none m.offset) (breaks_inside H Gs k L1 m) (sym (member_l1 m) ∙ a.0) in
           (inside_off L1 m u is one.1, inside_off L2 m u is (sym (member_l2 m) ∙ b.0), inside_off L6 m u is (sym (member_l6 m) ∙ c.0))
 
       by_parts : (o : Option Tree) → tree_before Gs g.at id ≡ o → (q : Option Trees) → all_trees (tree_before Gs g.at) ids ≡ q → (i : ℕ) → both o q ≡ Some ts → nth_of ts i ≡ Some u → ((rest : Trees) (n : ℕ) → all_trees (tree_before Gs g.at) ids ≡ Some rest → nth_of rest n ≡ Some u → Offs (slice_index ids n)) → Offs (slice_index (id ∷ ids) i)
       by_parts None is q more i e at later = cc
       by_parts (Some t) is None more i e at later = cc
-      by_parts (Some t) is (Some rest) more zero e at later = here (is ∙ ap (λ x. nth_of x 0) (some_same (tree t rest) ts e) ∙ at)
-      by_parts (Some t) is (Some rest) more (suc n) e at later = later rest n more (ap (λ x. nth_of x (suc n)) (some_same (tree t rest) ts e) ∙ at)
+      by_parts (Some t) is (Some rest) more zero e at later = here (is ∙ ap (λ x. nth_of x 0) (same_Some (tree t rest) ts e) ∙ at)
+      by_parts (Some t) is (Some rest) more (suc n) e at later = later rest n more (ap (λ x. nth_of x (suc n)) (same_Some (tree t rest) ts e) ∙ at)
 
   -- The members of the block of a variable are laid out as the text lays it out.
   pub block_laid : (v g : Inst) (ty id : ℕ) (ts : Trees) (i : ℕ) (u : Tree) → kind_at H Gs v g ≡ Some k → global Gs ty ≡ Some g → type_tree Gs ty ≡ Some (plain.struct id ts) → nth_of ts i ≡ Some u → IsLaidOut s k (part_type s ty i) u
@@ -265,7 +256,7 @@ module _ (s : Setting) (k : Kind) where
       let two = any_none (member_breaks H Gs k L2) (members_of H Gs g) (sym (each_l2 (members_of H Gs g)) ∙ none.1.0) in
       let six = any_none (member_breaks H Gs k L6) (members_of H Gs g) (sym (each_l6 (members_of H Gs g)) ∙ none.1.1.1.1.1.0) in
       let d = declared_by s ty (plain.struct id ts) shape in
-      let same : d.0 ≡ g = some_same d.0 g (sym d.1 ∙ is) in
+      let same : d.0 ≡ g = same_Some d.0 g (sym d.1 ∙ is) in
       let parts : tree_by_kind Gs (tree_before Gs g.at) g kinds.Struct ≡ Some (plain.struct id ts) = ap (tree_by_kind Gs (tree_before Gs g.at) g) (sym (ap (λ (x : Inst). kind x.op) (sym same) ∙ d.3)) ∙ subst (λ (x : Inst). tree_at Gs x ≡ Some (plain.struct id ts)) same d.4 in
       let off = by_trees g ts (all_trees (tree_before Gs g.at) g.args) refl parts one two six at in
       let part : part_type s ty i ≡ slice_index g.args i = part_same ty i i (plain.struct id ts) shape (λ args. refl) ∙ ap (λ (o : Option Inst). option_map_or (λ (g : Inst). slice_index g.args i) o 0) is in

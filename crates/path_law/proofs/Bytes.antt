@@ -2,6 +2,7 @@
 use Rattle.std.proofs.Common.{◌≡◌, ◌+◌, ◌*◌, ◌==◌, ◌&&◌, ℕ, zero, suc, Bool, true, false, List, [], ◌∷◌, Option, Some, None, refl, sym, ap, ap₂, ◌∙◌, subst, arith, if◌then◌else◌}
 use Rattle.std.specs.Prelude.{max, nat_le, is_some, option_map, option_and_then, slice_index}
 use Rattle.std.specs.Option.{option_map_or}
+use Rattle.std.proofs.lemmas.Option.{same_Some}
 use Rattle.spv_ops.specs.declared.Op.{Op}
 use Rattle.spv_ops.specs.declared.Op.TheVariants as code
 use Rattle.spv_module.specs.Held.{global}
@@ -31,9 +32,6 @@ use Rattle.path_law.specs.Parts.{StructNames, shape_in, fields_in}
 use Rattle.path_law.specs.Laid.{IsLaidOut, AreLaidOut, HasLengths, HaveLengths}
 use Rattle.path_law.proofs.Parts.{part_same}
 
-some_same : {A : Type 0} (a b : A) → Some a ≡ Some b → a ≡ b
-some_same a b e = cc
-
 -- how many bytes a part lies behind the whole, along these indexes
 abbrev pub bytes_in : Kind → Tree → List ℕ → ℕ
 bytes_in kind t [] = 0
@@ -62,18 +60,18 @@ module _ (s : Setting) where
   Of = s.of.globals
 
   kind_is : (f : ℕ → Option Tree) (g : Inst) (t : Tree) (q : TypeKind) → tree_by_kind Of f g q ≡ Some t → q ≡ kind_of t
-  kind_is f g t kinds.Bool e = ap kind_of (some_same plain.boolean t e)
+  kind_is f g t kinds.Bool e = ap kind_of (same_Some plain.boolean t e)
   kind_is f g t kinds.Int e = by_width (slice_index g.args 0 == 32) (slice_index g.args 1 == 0) (slice_index g.args 1 == 1) e
     where
       by_width : (w a b : Bool) → (if w then (if a then Some plain.uint else (if b then Some plain.int else None)) else None) ≡ Some t → kinds.Int ≡ kind_of t
-      by_width true true b e = ap kind_of (some_same plain.uint t e)
-      by_width true false true e = ap kind_of (some_same plain.int t e)
+      by_width true true b e = ap kind_of (same_Some plain.uint t e)
+      by_width true false true e = ap kind_of (same_Some plain.int t e)
       by_width true false false e = cc
       by_width false a b e = cc
   kind_is f g t kinds.Vector e = by_part (f (slice_index g.args 0)) e
     where
       by_size : (d : Elem) (a b : Bool) → (if a && b then Some (plain.vector d (slice_index g.args 1)) else None) ≡ Some t → kinds.Vector ≡ kind_of t
-      by_size d true true h = ap kind_of (some_same (plain.vector d (slice_index g.args 1)) t h)
+      by_size d true true h = ap kind_of (same_Some (plain.vector d (slice_index g.args 1)) t h)
       by_size d true false h = cc
       by_size d false b h = cc
 
@@ -89,17 +87,17 @@ module _ (s : Setting) where
       by_part : (o : Option Tree) (l : Option Length) → array_tree o l ≡ Some t → kinds.Array ≡ kind_of t
       by_part None l h = cc
       by_part (Some x) None h = cc
-      by_part (Some x) (Some l) h = ap kind_of (some_same (plain.array x l) t h)
+      by_part (Some x) (Some l) h = ap kind_of (same_Some (plain.array x l) t h)
   kind_is f g t kinds.Runtime e = by_part (f (slice_index g.args 0)) e
     where
       by_part : (o : Option Tree) → option_map plain.runtime o ≡ Some t → kinds.Runtime ≡ kind_of t
       by_part None h = cc
-      by_part (Some x) h = ap kind_of (some_same (plain.runtime x) t h)
+      by_part (Some x) h = ap kind_of (same_Some (plain.runtime x) t h)
   kind_is f g t kinds.Struct e = by_parts (all_trees f g.args) e
     where
       by_parts : (o : Option Trees) → option_map (plain.struct g.result) o ≡ Some t → kinds.Struct ≡ kind_of t
       by_parts None h = cc
-      by_parts (Some ts) h = ap kind_of (some_same (plain.struct g.result ts) t h)
+      by_parts (Some ts) h = ap kind_of (same_Some (plain.struct g.result ts) t h)
   kind_is f g t kinds.Other e = cc
 
   -- the type's own instruction
@@ -165,12 +163,12 @@ module _ (s : Setting) (y : StructNames) (k : Kind) where
   -- the parts are laid out too, and have lengths
   pub member_laid : (ty j from : ℕ) (ts : Trees) (i : ℕ) (u : Tree) → AreLaidOut s k ty j from ts → nth_of ts i ≡ Some u → IsLaidOut s k (part_type s ty (j + i)) u
   member_laid ty j from no_trees i u l at = cc
-  member_laid ty j from (tree t ts) zero u l at = subst (λ a. IsLaidOut s k (part_type s ty a) u) (let none : j ≡ j + 0 = omega arith in none) (subst (IsLaidOut s k (part_type s ty j)) (some_same t u at) l.1)
+  member_laid ty j from (tree t ts) zero u l at = subst (λ a. IsLaidOut s k (part_type s ty a) u) (let none : j ≡ j + 0 = omega arith in none) (subst (IsLaidOut s k (part_type s ty j)) (same_Some t u at) l.1)
   member_laid ty j from (tree t ts) (suc i) u l at = subst (λ a. IsLaidOut s k (part_type s ty a) u) (let next : j + 1 + i ≡ j + suc i = omega arith in next) (member_laid ty (j + 1) _ ts i u l.2 at)
 
   member_lengths : (ts : Trees) (i : ℕ) (u : Tree) → HaveLengths ts → nth_of ts i ≡ Some u → HasLengths u
   member_lengths no_trees i u h at = cc
-  member_lengths (tree t ts) zero u h at = subst HasLengths (some_same t u at) h.0
+  member_lengths (tree t ts) zero u h at = subst HasLengths (same_Some t u at) h.0
   member_lengths (tree t ts) (suc i) u h at = member_lengths ts i u h.1 at
 
   -- bytes by the kind of type
@@ -218,10 +216,10 @@ module _ (s : Setting) (y : StructNames) (k : Kind) where
       by_shape plain.uint g is h l part = cc
 
   part_laid : (ty i : ℕ) (t u : Tree) → type_tree Gs ty ≡ Some t → IsLaidOut s k ty t → element_shape t i ≡ Some u → IsLaidOut s k (part_type s ty i) u
-  part_laid ty i (plain.array t l) u shape laid part = subst (IsLaidOut s k (part_type s ty i)) (some_same t u part) (laid.1 i)
-  part_laid ty i (plain.runtime t) u shape laid part = subst (IsLaidOut s k (part_type s ty i)) (some_same t u part) (laid.1 i)
+  part_laid ty i (plain.array t l) u shape laid part = subst (IsLaidOut s k (part_type s ty i)) (same_Some t u part) (laid.1 i)
+  part_laid ty i (plain.runtime t) u shape laid part = subst (IsLaidOut s k (part_type s ty i)) (same_Some t u part) (laid.1 i)
   part_laid ty i (plain.struct id ts) u shape laid part = subst (λ a. IsLaidOut s k (part_type s ty a) u) (let none : 0 + i ≡ i = omega arith in none) (member_laid ty 0 0 ts i u laid part)
-  part_laid ty i (plain.vector e n) u shape laid part = elem_laid e u (some_same (elem_tree e) u part)
+  part_laid ty i (plain.vector e n) u shape laid part = elem_laid e u (same_Some (elem_tree e) u part)
     where
       elem_laid : (e : Elem) (u : Tree) → elem_tree e ≡ u → IsLaidOut s k (part_type s ty i) u
       elem_laid e u same = subst (IsLaidOut s k (part_type s ty i)) same (itself e)
@@ -235,11 +233,11 @@ module _ (s : Setting) (y : StructNames) (k : Kind) where
   part_laid ty i plain.uint u shape laid part = cc
 
   part_lengths : (i : ℕ) (t u : Tree) → HasLengths t → element_shape t i ≡ Some u → HasLengths u
-  part_lengths i (plain.array t (Fixed n)) u h part = subst HasLengths (some_same t u part) h
+  part_lengths i (plain.array t (Fixed n)) u h part = subst HasLengths (same_Some t u part) h
   part_lengths i (plain.array t (Spec id)) u h part = absurd h
-  part_lengths i (plain.runtime t) u h part = subst HasLengths (some_same t u part) h
+  part_lengths i (plain.runtime t) u h part = subst HasLengths (same_Some t u part) h
   part_lengths i (plain.struct id ts) u h part = member_lengths ts i u h part
-  part_lengths i (plain.vector e n) u h part = subst HasLengths (some_same (elem_tree e) u part) (itself e)
+  part_lengths i (plain.vector e n) u h part = subst HasLengths (same_Some (elem_tree e) u part) (itself e)
     where
       itself : (e : Elem) → HasLengths (elem_tree e)
       itself elem.Bool = tt

@@ -47,6 +47,7 @@ use Rattle.agree_law.specs.Agree.{Naming}
 use Rattle.path_law.specs.Parts.{AreMembersApart}
 use Rattle.path_law.specs.Walks.{writing, struct_names, SaysIndex}
 use Rattle.std.specs.List.{list_any}
+use Rattle.std.proofs.lemmas.Bool.{and_from, and_parts, or_parts}
 use Rattle.spv_ops.specs.Groups.{is_chain}
 use Rattle.path_law.specs.Chains.{NoneMakes, ChainsRise}
 use Rattle.path_law.specs.Writings.{IsWrittenStart, IsWrittenChain}
@@ -175,7 +176,7 @@ component : place_expr (writing s [] f key globals) 0 17 ≡ Expr.member (name (
 unfolding opened
 component = refl
 
--- %18 the load, %19 the chain of an element by it: in its own block, behind both
+-- %18 the load, %19 the chain of an element by it: in its own block, behind and_from
 abbrev component_chain : Inst
 component_chain = record { op = code.AccessChain; at = 104; ty = 11; result = 17; args = 2 ∷ 14 ∷ [] }
 
@@ -191,14 +192,10 @@ first_block = slice_index_or f.blocks 0 (record { label = id 0; at = 0; insts = 
 -- order, by a test
 none_by : (n : ℕ) (is : List Inst) → list_any (λ (i : Inst). is_chain i.op && (i.result == n)) is ≡ false → NoneMakes n is
 none_by n [] e = tt
-none_by n (i ∷ is) e = ((λ on same. flipped (sym (both (is_chain i.op) (i.result == n) on (itself i.result n same)) ∙ first (is_chain i.op && (i.result == n)) _ e)), none_by n is (second (is_chain i.op && (i.result == n)) _ e))
+none_by n (i ∷ is) e = ((λ on same. flipped (sym (and_from (is_chain i.op) (i.result == n) on (itself i.result n same)) ∙ first (is_chain i.op && (i.result == n)) _ e)), none_by n is (second (is_chain i.op && (i.result == n)) _ e))
   where
     flipped : true ≡ false → ⊥
     flipped e = cc
-
-    both : (a b : Bool) → a ≡ true → b ≡ true → (a && b) ≡ true
-    both true b on e = e
-    both false b on e = cc
 
     itself : (a b : ℕ) → a ≡ b → (a == b) ≡ true
     itself a b same = elim (eqb_tells a b) [ inl w ↦ w.0 | inr w ↦ absurd (w.1 same) ]
@@ -221,21 +218,13 @@ all_rise (i ∷ is) = not (is_chain i.op && (makes (base i) (i ∷ is) || makes 
 rise_by : (is : List Inst) → all_rise is ≡ true → ChainsRise is
 rise_by [] e = tt
 rise_by (i ∷ is) e =
-    let parts = both_on (not (is_chain i.op && (makes (base i) (i ∷ is) || makes i.result is))) (all_rise is) e in
-    ((λ on. let off = either (makes (base i) (i ∷ is)) (makes i.result is) (none (is_chain i.op) _ on parts.0) in (none_by (base i) (i ∷ is) off.0, none_by i.result is off.1)), rise_by is parts.1)
+    let parts = and_parts (not (is_chain i.op && (makes (base i) (i ∷ is) || makes i.result is))) (all_rise is) e in
+    ((λ on. let off = or_parts (makes (base i) (i ∷ is)) (makes i.result is) (none (is_chain i.op) _ on parts.0) in (none_by (base i) (i ∷ is) off.0, none_by i.result is off.1)), rise_by is parts.1)
   where
-    both_on : (a b : Bool) → (a && b) ≡ true → (a ≡ true) × (b ≡ true)
-    both_on true b e = (refl, e)
-    both_on false b e = cc
-
     none : (a b : Bool) → a ≡ true → not (a && b) ≡ true → b ≡ false
     none true true on e = cc
     none true false on e = refl
     none false b on e = cc
-
-    either : (a b : Bool) → (a || b) ≡ false → (a ≡ false) × (b ≡ false)
-    either true b e = cc
-    either false b e = (refl, e)
 
 one_member : AreMembersApart (struct_names key) 3 (tree (plain.runtime plain.uint) no_trees)
 one_member j zero u less at = absurd (none_below j less)

@@ -1,8 +1,9 @@
 -- The scalars of a part: where a text has them, and which value their words are.
-use Rattle.std.proofs.Common.{◌≡◌, ◌+◌, ◌*◌, ◌&&◌, ◌++◌, ℕ, Bool, suc, true, false, List, [], ◌∷◌, map, Option, Some, None, refl, sym, ap, ap₂, ◌∙◌, arith}
+use Rattle.std.proofs.Common.{◌≡◌, ◌+◌, ◌*◌, ◌++◌, ℕ, suc, true, List, [], ◌∷◌, map, Option, Some, None, refl, sym, ap, ap₂, ◌∙◌, arith}
 use Rattle.std.specs.Prelude.{drop, is_some, option_and_then, flat_map}
 use Rattle.std.specs.List.{range_with_len}
 use Rattle.std.specs.Option.{option_map_or}
+use Rattle.std.proofs.lemmas.Bool.{and_from}
 use Rattle.spv_module.specs.declared.inst.Inst.{Inst}
 use Rattle.spv_module.specs.declared.tree.Length.TheVariants.{Fixed, Spec}
 use Rattle.spv_types.specs.Tree as plain
@@ -113,10 +114,6 @@ module _ (s : Setting) (y : StructNames) where
     same_values id j no_trees z ws = refl
     same_values id j (tree t ts) z ws = ap₂ value (same_value t z.0 ws) (ap (λ k. values_from (trees_of (fields_in s y id (j + 1) ts)) (drop k ws)) (same_count t z.0) ∙ same_values id (j + 1) ts z.1 (drop (leaf_count t) ws))
 
-  both_on : (a b : Bool) → a ≡ true → b ≡ true → (a && b) ≡ true
-  both_on true b e h = h
-  both_on false b e h = cc
-
   mutual
     pub sized_in : (t : Tree) → IsSized t → is_sized (shape_in s y t) ≡ true
     sized_in plain.boolean z = refl
@@ -130,7 +127,7 @@ module _ (s : Setting) (y : StructNames) where
 
     all_sized : (id j : ℕ) (ts : Trees) → AreSized ts → are_sized (fields_in s y id j ts) ≡ true
     all_sized id j no_trees z = refl
-    all_sized id j (tree t ts) z = both_on (is_sized (shape_in s y t)) (are_sized (fields_in s y id (j + 1) ts)) (sized_in t z.0) (all_sized id (j + 1) ts z.1)
+    all_sized id j (tree t ts) z = and_from (is_sized (shape_in s y t)) (are_sized (fields_in s y id (j + 1) ts)) (sized_in t z.0) (all_sized id (j + 1) ts z.1)
 
   each_there : (v : Inst) (path : List ℕ) (t : Tree) (at : Site) → HasScalars s y v path t at → (ps : List (List ℕ)) → AllLead t ps → map (λ rest. location_of (site_along (tree_of (shape_in s y t)) rest at)) ps ≡ map (λ rest. location s v (path ++ rest)) ps
   each_there v path t at has [] a = refl

@@ -4,6 +4,7 @@ use Rattle.std.specs.Prelude.{find, is_some, nat_lt, slice_index}
 use Rattle.std.specs.Option.{option_map_or}
 use Rattle.std.specs.List.{enumerate_from, list_any}
 use Rattle.std.proofs.lemmas.Bool.Decides.{eqb_tells, nat_tests}
+use Rattle.std.proofs.lemmas.Bool.{and_parts, or_parts}
 use Rattle.spv_ops.specs.Groups.{is_chain}
 use Rattle.spv_ops.specs.OpGroups.{takes_of, group_of}
 use Rattle.spv_ops.specs.Operands.{is_id}
@@ -33,14 +34,6 @@ unfolding is_id
 chain_names code.AccessChain x xs e = refl
 chain_names code.InBoundsAccessChain x xs e = refl
 chain_names o x xs e = cc
-
-either_off : (a b : Bool) → (a || b) ≡ false → (a ≡ false) × (b ≡ false)
-either_off true b e = cc
-either_off false b e = (refl, e)
-
-both_on : (a b : Bool) → (a && b) ≡ true → (a ≡ true) × (b ≡ true)
-both_on true b e = (refl, e)
-both_on false b e = cc
 
 there_on : (a b : Bool) → a ≡ true → (a && not b) ≡ false → b ≡ true
 there_on true true on e = refl
@@ -87,13 +80,13 @@ module _ (m : ModuleState) (f : Function) (order : AreInOrder m f) (some : (i : 
           let inst : (is_some (typed j) && nat_lt j.at i.at) ≡ true
           = ap (λ o. is_some o || (is_some (typed j) && nat_lt j.at i.at)) (sym mine.made)
           ∙ ap (λ o. is_some (parameter_in f j.result) || option_map_or (λ (x : Inst). is_some (typed x) && nat_lt x.at i.at) o false) (sym (found j (insts_of f) order.apart of_j none_zero)) ∙ local in
-          below_of j.at i.at (both_on (is_some (typed j)) (nat_lt j.at i.at) inst).1
+          below_of j.at i.at (and_parts (is_some (typed j)) (nat_lt j.at i.at) inst).1
 
       by_args : (args : List ℕ) → i.args ≡ args → breaks_t1_in m f i ≡ false → j.at < i.at
       by_args [] is e = absurd (none_zero (same ∙ ap (λ l. slice_index l 0) is))
       by_args (x ∷ xs) is e =
-          let any = (either_off _ (list_any (lacks_operand (is_there_in m f i.at) i) (enumerate_from 0 i.args)) e).1 in
-          let first = (either_off (lacks_operand (is_there_in m f i.at) i (0, x)) (list_any (lacks_operand (is_there_in m f i.at) i) (enumerate_from 1 xs)) (ap (λ l. list_any (lacks_operand (is_there_in m f i.at) i) (enumerate_from 0 l)) (sym is) ∙ any)).0 in
+          let any = (or_parts _ (list_any (lacks_operand (is_there_in m f i.at) i) (enumerate_from 0 i.args)) e).1 in
+          let first = (or_parts (lacks_operand (is_there_in m f i.at) i (0, x)) (list_any (lacks_operand (is_there_in m f i.at) i) (enumerate_from 1 xs)) (ap (λ l. list_any (lacks_operand (is_there_in m f i.at) i) (enumerate_from 0 l)) (sym is) ∙ any)).0 in
           let names : is_id i.op i.args 0 ≡ true = ap (λ l. is_id i.op l 0) is ∙ chain_names i.op x xs on in
           by_there x (sym (same ∙ ap (λ l. slice_index l 0) is)) (there_on (is_id i.op i.args 0) (is_there_in m f i.at (need i.op 0) x) names first)
 

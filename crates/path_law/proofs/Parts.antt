@@ -3,6 +3,7 @@ use Rattle.std.proofs.Common.{◌≡◌, ◌<◌, ◌+◌, ◌^◌, ◌++◌, �
 use Rattle.std.specs.Prelude.{bytes_eq, is_some, nat_lt, option_map, option_and_then, slice_get, if◌then◌else◌}
 use Rattle.std.proofs.lemmas.Bool.Decides.{nat_tests}
 use Rattle.std.proofs.lemmas.Slice.Eq.{bytes_eq-Decides}
+use Rattle.std.proofs.lemmas.Option.{same_Some}
 use Rattle.spv_module.specs.declared.inst.Inst.{Inst}
 use Rattle.spv_module.specs.declared.tree.Elem.{Elem}
 use Rattle.spv_module.specs.declared.tree.Elem.TheVariants as elem
@@ -49,19 +50,16 @@ member_there (tree t ts) [] i u each at = absurd each
 member_there (tree t ts) (w ∷ vs) zero u each at = let shape : t ≡ u = cc in (w, refl, subst (λ x. fits x w ≡ true) shape each.0)
 member_there (tree t ts) (w ∷ vs) (suc i) u each at = member_there ts vs i u each.1 at
 
-some_same : {A : Type 0} (a b : A) → Some a ≡ Some b → a ≡ b
-some_same a b e = cc
-
 module _ (s : Setting) (y : StructNames) where
   part_there : (t u : Tree) (v : ValueTree) (i : ℕ) → fits t v ≡ true → element_shape t i ≡ Some u → IsInside s t i → (p : ValueTree) × (part_at v i ≡ Some p) × (fits u p ≡ true)
   part_there (plain.vector e n) u (many vs) i fit part inside =
       let all = many_of (elem_tree e) n vs fit in
       let p = there_below (listed vs) i (subst (λ k. i < k) (sym all.0) inside) in
-      (p.0, p.1, subst (λ x. fits x p.0 ≡ true) (some_same (elem_tree e) u part) (each_at (elem_tree e) (listed vs) i p.0 all.1 p.1))
+      (p.0, p.1, subst (λ x. fits x p.0 ≡ true) (same_Some (elem_tree e) u part) (each_at (elem_tree e) (listed vs) i p.0 all.1 p.1))
   part_there (plain.array t (Fixed n)) u (many vs) i fit part inside =
       let all = many_of t n vs fit in
       let p = there_below (listed vs) i (subst (λ k. i < k) (sym all.0) inside) in
-      (p.0, p.1, subst (λ x. fits x p.0 ≡ true) (some_same t u part) (each_at t (listed vs) i p.0 all.1 p.1))
+      (p.0, p.1, subst (λ x. fits x p.0 ≡ true) (same_Some t u part) (each_at t (listed vs) i p.0 all.1 p.1))
   part_there (plain.struct id ts) u (many vs) i fit part inside = member_there ts (listed vs) i u (members_of ts vs fit) part
   part_there (plain.array t (Spec id)) u v i fit part inside = cc
   part_there (plain.runtime t) u v i fit part inside = cc
@@ -88,7 +86,7 @@ module _ (s : Setting) (y : StructNames) where
 
   nth_same : (id k : ℕ) (ts : Trees) (i : ℕ) (u : Tree) → nth_of ts i ≡ Some u → nth_tree (trees_of (fields_in s y id k ts)) i ≡ tree_of (shape_in s y u)
   nth_same id k no_trees i u at = cc
-  nth_same id k (tree t ts) zero u at = ap (λ x. tree_of (shape_in s y x)) (some_same t u at)
+  nth_same id k (tree t ts) zero u at = ap (λ x. tree_of (shape_in s y x)) (same_Some t u at)
   nth_same id k (tree t ts) (suc i) u at = nth_same id (k + 1) ts i u at
 
   array_part : (t : plain.Tree) (o : Option ℕ) (i : ℕ) → part_tree (array_of t o) i ≡ t
@@ -96,9 +94,9 @@ module _ (s : Setting) (y : StructNames) where
   array_part t (Some n) i = refl
 
   pub part_same : (t u : Tree) (i : ℕ) → element_shape t i ≡ Some u → part_tree (tree_of (shape_in s y t)) i ≡ tree_of (shape_in s y u)
-  part_same (plain.vector e n) u i part = sym (elem_same e) ∙ ap (λ x. tree_of (shape_in s y x)) (some_same (elem_tree e) u part)
-  part_same (plain.array t l) u i part = array_part (tree_of (shape_in s y t)) (length_in s l) i ∙ ap (λ x. tree_of (shape_in s y x)) (some_same t u part)
-  part_same (plain.runtime t) u i part = ap (λ x. tree_of (shape_in s y x)) (some_same t u part)
+  part_same (plain.vector e n) u i part = sym (elem_same e) ∙ ap (λ x. tree_of (shape_in s y x)) (same_Some (elem_tree e) u part)
+  part_same (plain.array t l) u i part = array_part (tree_of (shape_in s y t)) (length_in s l) i ∙ ap (λ x. tree_of (shape_in s y x)) (same_Some t u part)
+  part_same (plain.runtime t) u i part = ap (λ x. tree_of (shape_in s y x)) (same_Some t u part)
   part_same (plain.struct id ts) u i part = nth_same id 0 ts i u part
   part_same plain.boolean u i part = cc
   part_same plain.int u i part = cc
@@ -215,13 +213,13 @@ module _ (s : Setting) (y : StructNames) where
 
     indexed_in : (t u : Tree) (i : ℕ) → IsIndexed t → element_shape t i ≡ Some u → IsInside s t i → states.element_shape (Some (shape_in s y t)) i ≡ Some (shape_in s y u)
     indexed_in (plain.vector e n) u i on part inside =
-        ap (λ (b : Bool). if b then Some (scalar e) else None) (less_is i n inside) ∙ ap (λ a. Some a) (sym (scalar_in e) ∙ ap (shape_in s y) (some_same (elem_tree e) u part))
+        ap (λ (b : Bool). if b then Some (scalar e) else None) (less_is i n inside) ∙ ap (λ a. Some a) (sym (scalar_in e) ∙ ap (shape_in s y) (same_Some (elem_tree e) u part))
     indexed_in (plain.array t l) u i on part inside = by_length (length_in s l) inside
       where
         by_length : (o : Option ℕ) → IsBelow o i → states.element_shape (Some (shapes.array (shape_in s y t) o)) i ≡ Some (shape_in s y u)
         by_length None inside = absurd inside
-        by_length (Some n) inside = ap (λ (b : Bool). if b then Some (shape_in s y t) else None) (less_is i n inside) ∙ ap (λ a. Some (shape_in s y a)) (some_same t u part)
-    indexed_in (plain.runtime t) u i on part inside = ap (λ a. Some (shape_in s y a)) (some_same t u part)
+        by_length (Some n) inside = ap (λ (b : Bool). if b then Some (shape_in s y t) else None) (less_is i n inside) ∙ ap (λ a. Some (shape_in s y a)) (same_Some t u part)
+    indexed_in (plain.runtime t) u i on part inside = ap (λ a. Some (shape_in s y a)) (same_Some t u part)
     indexed_in plain.boolean u i on part inside = absurd on
     indexed_in plain.int u i on part inside = absurd on
     indexed_in plain.uint u i on part inside = absurd on
@@ -236,7 +234,7 @@ module _ (s : Setting) (y : StructNames) where
   member_named id whole apart (tree t ts) k zero n u same there at =
       let here : n ≡ k = omega (arith, same) in
       subst (λ m. member_from k (fields_in s y id k (tree t ts)) (y.member_name id m) ≡ Some (m, shape_in s y u)) (sym here)
-      (ap (λ b. elim b [ true ↦ Some (k, shape_in s y t) | false ↦ member_from (k + 1) (fields_in s y id (k + 1) ts) (y.member_name id k) ]) (bytes_same (y.member_name id k)) ∙ ap (λ a. Some (k, shape_in s y a)) (some_same t u at))
+      (ap (λ b. elim b [ true ↦ Some (k, shape_in s y t) | false ↦ member_from (k + 1) (fields_in s y id (k + 1) ts) (y.member_name id k) ]) (bytes_same (y.member_name id k)) ∙ ap (λ a. Some (k, shape_in s y a)) (same_Some t u at))
   member_named id whole apart (tree t ts) k (suc i) n u same there at =
       let less : k < n = omega (arith, same) in
       let next : n ≡ k + 1 + i = omega (arith, same) in

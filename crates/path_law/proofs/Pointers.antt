@@ -1,6 +1,7 @@
 -- The text of a pointer's path stands for the place to which the pointer leads.
 use Rattle.std.proofs.Common.{◌≡◌, ◌<◌, ◌++◌, ℕ, zero, suc, List, [], ◌∷◌, drop, Option, Some, inl, inr, refl, sym, ap, ◌∙◌, subst, arith}
 use Rattle.std.specs.Prelude.{unwrap_or}
+use Rattle.std.proofs.lemmas.Option.{same_Some}
 use Rattle.spv_module.specs.declared.inst.Inst.{Inst}
 use Rattle.spv_module.specs.declared.inst.Function.{Function}
 use Rattle.spv_types.specs.Tree.{Tree}
@@ -29,9 +30,6 @@ use Rattle.path_law.specs.Pointers.{BeginsAs, IsLedBy, GoesOn, Written}
 use Rattle.path_law.proofs.Parts.{types_more}
 use Rattle.path_law.proofs.Walks.{steps_walk, further_walk, walks_on, way_type, steps_more, way_more, IsPlace, chain_walks}
 use Rattle.path_law.proofs.Starts.{start_is}
-
-some_same : {A : Type 0} (a b : A) → Some a ≡ Some b → a ≡ b
-some_same a b e = cc
 
 none_less : {A : Type 0} (n : ℕ) → n < 0 → A
 none_less n e = absurd (never n e)
@@ -109,7 +107,7 @@ module _ (p : Program) (calls : Text → List Argument → State → Result (Opt
     chain_leads n r at g q l =
         let spot = spot_of b (g.stands, g.by) in
         let old = (path Gs f b (base g.by)).steps in
-        let same : l.type ≡ q.type = some_same l.type q.type (sym l.points_to ∙ q.points_to) in
+        let same : l.type ≡ q.type = same_Some l.type q.type (sym l.points_to ∙ q.points_to) in
         let typed : type_tree Gs q.type ≡ Some l.shape = ap (type_tree Gs) (sym same) ∙ l.typed_as in
         let more : List Step = steps_from Gs spot 0 (Some q.type) (drop 1 g.by.args) in
         let more_is : chain_steps Gs f spot g.by ≡ more = ap (λ o. steps_from Gs spot 0 o (drop 1 g.by.args)) q.points_to in

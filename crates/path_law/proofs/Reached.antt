@@ -4,6 +4,7 @@ use Rattle.std.specs.Prelude.{◌&&◌, not, ◌==◌, nat_lt, is_some, option_a
 use Rattle.std.specs.Option.{option_map_or}
 use Rattle.std.specs.List.{list_any}
 use Rattle.std.proofs.lemmas.Bool.Decides.{eqb_tells}
+use Rattle.std.proofs.lemmas.Bool.{and_from, and_parts}
 use Rattle.spv_ops.specs.Opcode.{is, number}
 use Rattle.spv_ops.specs.Groups.{is_constant}
 use Rattle.spv_ops.specs.declared.Op.{Op}
@@ -33,13 +34,6 @@ use Rattle.type_law.proofs.Vectors.{three_off}
 use Rattle.path_law.specs.Walks.{ByConstants}
 use Rattle.path_law.specs.Chains.{ConstantsAre}
 use Rattle.path_law.proofs.Types.{allowed_is, op_of, declared_as, is_struct_shape, struct_by}
-
-some_same : {A : Type 0} (a b : A) → Some a ≡ Some b → a ≡ b
-some_same a b e = cc
-
-both_true : (a b : Bool) → (a && b) ≡ true → (a ≡ true) × (b ≡ true)
-both_true true b e = (refl, e)
-both_true false b e = cc
 
 constant_one : (o : Op) → is o code.Constant ≡ true → is_constant o ≡ true
 unfolding number
@@ -156,7 +150,7 @@ module _ (s : Setting) (f : Function) (right : AreConstants s) where
   along [] (n ∷ ns) ty t shape allowed typed are leads = absurd are
   along (id ∷ ids) [] ty t shape allowed typed are leads = absurd are
   along (id ∷ ids) (n ∷ ns) ty t shape allowed typed are leads =
-      let both = both_true (is_allowed s ty n) (are_allowed s (part_type s ty n) ns) allowed in
+      let both = and_parts (is_allowed s ty n) (are_allowed s (part_type s ty n) ns) allowed in
       let q = allowed_is s ty n t right shape both.0 in
       let one = one_reach ty id n t shape typed.0 are.0 (λ none. leads (ap (λ r. walk (chain_step Gs T) r ids) none ∙ nothing_left ids)) in
       let here : walk (chain_step Gs T) (chain_step Gs T ty id) ids ≡ walk (chain_step Gs T) (Part (part_type s ty n)) ids = ap (λ r. walk (chain_step Gs T) r ids) one.0 in
@@ -188,11 +182,7 @@ module _ (s : Setting) (f : Function) (right : AreConstants s) where
   types_same a b t u ta tb e =
       let first = row s f a t ta in
       let second = row s f b u tb in
-      same_count a b (both_off (is_some (type_row Gs a) && is_some (type_row Gs b)) (not (a == b)) e (both_rows (is_some (type_row Gs a)) (is_some (type_row Gs b)) (ap is_some first.1) (ap is_some second.1)))
-    where
-      both_rows : (p q : Bool) → p ≡ true → q ≡ true → (p && q) ≡ true
-      both_rows true q on h = h
-      both_rows false q on h = cc
+      same_count a b (both_off (is_some (type_row Gs a) && is_some (type_row Gs b)) (not (a == b)) e (and_from (is_some (type_row Gs a)) (is_some (type_row Gs b)) (ap is_some first.1) (ap is_some second.1)))
 
   pub chain_reaches : (i : Inst) (ty : ℕ) (t : Tree) (ns : List ℕ) → IsRightChain i → pointee_of Gs f (base i) ≡ Some ty → type_tree Gs ty ≡ Some t → are_allowed s ty ns ≡ true → ConstantsAre s (drop 1 i.args) ns → Reaches i ty ns
   chain_reaches i ty t ns is points shape allowed are =

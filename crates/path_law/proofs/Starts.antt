@@ -3,6 +3,7 @@ use Rattle.std.proofs.Common.{◌≡◌, ◌<◌, ◌+◌, ◌==◌, ◌++◌, �
 use Rattle.std.specs.Prelude.{◌⊎◌, bytes_eq, is_some, option_and_then, unwrap_or}
 use Rattle.std.specs.Option.{option_map_or}
 use Rattle.std.proofs.lemmas.Slice.Eq.{bytes_eq-Decides}
+use Rattle.std.proofs.lemmas.Option.{same_Some}
 use Rattle.spv_ops.specs.Enumerants.{class_number, class_of_number, decoration_number}
 use Rattle.spv_ops.specs.declared.StorageClass.{StorageClass}
 use Rattle.spv_ops.specs.declared.StorageClass.TheVariants as storage
@@ -55,9 +56,6 @@ use Rattle.path_law.proofs.BlockLayouts.{block_laid}
 use Rattle.path_law.proofs.Types.{declared_as}
 use Rattle.path_law.proofs.Walks.{IsFound}
 
-some_same : {A : Type 0} (a b : A) → Some a ≡ Some b → a ≡ b
-some_same a b e = cc
-
 -- classes by their numbers
 input_class : (v : Inst) → word v 0 ≡ class_number storage.Input → class_of v ≡ Some storage.Input
 input_class v e = ap class_of_number e
@@ -82,7 +80,7 @@ pub variable_named : (s : Setting) (n : ℕ) (v : Inst) → global_variable s n 
 variable_named s n v e = by_global (global_inst s.of.globals n) refl e
   where
     by_test : (g : Inst) → g.result ≡ n → (b : Bool) → elim b as (λ b. Option Inst) [ true ↦ Some g | false ↦ None ] ≡ Some v → v.result ≡ n
-    by_test g is true e = ap (λ (x : Inst). x.result) (sym (some_same g v e)) ∙ is
+    by_test g is true e = ap (λ (x : Inst). x.result) (sym (same_Some g v e)) ∙ is
     by_test g is false e = cc
 
     by_global : (o : Option Inst) → global_inst s.of.globals n ≡ o → elim o as (λ o. Option Inst) [ None ↦ None | Some g ↦ as_variable g ] ≡ Some v → v.result ≡ n
@@ -124,7 +122,7 @@ member_in_block s y at kind n whole apart (tree t ts) k zero j u same there part
     let here : j ≡ k = omega (arith, same) in
     subst (λ q. block_member at kind (members_in s y n k (tree t ts)) (y.member_name n q) ≡ Some (memory (site_at at kind (member_offset s n q)) (shape_in s y u))) (sym here)
     (ap (λ b. elim b as (λ b. Option Thing) [ true ↦ Some (memory (site_at at kind (member_offset s n k)) (shape_in s y t)) | false ↦ block_member at kind (members_in s y n (k + 1) ts) (y.member_name n k) ]) (bytes_same_text (y.member_name n k))
-    ∙ ap (λ a. Some (memory (site_at at kind (member_offset s n k)) (shape_in s y a))) (some_same t u part))
+    ∙ ap (λ a. Some (memory (site_at at kind (member_offset s n k)) (shape_in s y a))) (same_Some t u part))
 member_in_block s y at kind n whole apart (tree t ts) k (suc i) j u same there part =
     let less : k < j = omega (arith, same) in
     let next : j ≡ k + 1 + i = omega (arith, same) in
@@ -146,7 +144,7 @@ shared_along (i ∷ rest) t way k = shared_along rest (part_tree t i) (way ++ i 
 
 pub member_lengths : (ts : Trees) (i : ℕ) (u : Tree) → HaveLengths ts → nth_of ts i ≡ Some u → HasLengths u
 member_lengths no_trees i u h at = cc
-member_lengths (tree t ts) zero u h at = subst HasLengths (some_same t u at) h.0
+member_lengths (tree t ts) zero u h at = subst HasLengths (same_Some t u at) h.0
 member_lengths (tree t ts) (suc i) u h at = member_lengths ts i u h.1 at
 
 -- a member of a struct lies at its offset

@@ -3,6 +3,7 @@ use Rattle.std.proofs.Common.{◌≡◌, ◌<◌, ◌≤◌, ◌^◌, ◌==◌, 
 use Rattle.std.specs.Prelude.{nat_le, nat_lt, option_map, option_and_then, slice_get, slice_index, unwrap_or}
 use Rattle.std.specs.Option.{option_map_or}
 use Rattle.std.proofs.lemmas.Bool.Decides.{nat_tests}
+use Rattle.std.proofs.lemmas.Bool.{and_parts}
 use Rattle.spv_ops.specs.Opcode.{is, number}
 use Rattle.spv_ops.specs.declared.Op.{Op}
 use Rattle.spv_ops.specs.declared.Op.TheVariants as code
@@ -27,13 +28,6 @@ use Rattle.type_law.specs.Shaped.{AreConstants}
 use Rattle.type_law.proofs.Parts.{fixed_word, all_nth}
 use Rattle.path_law.specs.Parts.{length_in, IsBelow, IsInside}
 use Rattle.path_law.proofs.Bytes.{kind_of, declared_by}
-
-some_same : {A : Type 0} (a b : A) → Some a ≡ Some b → a ≡ b
-some_same a b e = cc
-
-both_true : (a b : Bool) → (a && b) ≡ true → (a ≡ true) × (b ≡ true)
-both_true true b e = (refl, e)
-both_true false b e = cc
 
 less_of : (i n : ℕ) → nat_lt i n ≡ true → i < n
 less_of i n e = grind (arith, nat_tests, e)
@@ -234,7 +228,7 @@ module _ (s : Setting) where
   pub allowed_is : (ty i : ℕ) (t : Tree) → AreConstants s → type_tree Gs ty ≡ Some t → is_allowed s ty i ≡ true → IsAllowed t i
   allowed_is ty i t right shape allowed =
       let d = declared_by s ty t shape in
-      let parts = both_true (nat_lt i (2 ^ 31)) (option_map_or (λ (g : Inst). is_among (parts_by s g.op g.args) i) (global Gs ty) false) allowed in
+      let parts = and_parts (nat_lt i (2 ^ 31)) (option_map_or (λ (g : Inst). is_among (parts_by s g.op g.args) i) (global Gs ty) false) allowed in
       let among : is_among (parts_by s (op_of t) d.0.args) i ≡ true
       = ap (λ o. is_among (parts_by s o d.0.args) i) (sym (op_is t d.0.op d.3)) ∙ ap (λ (o : Option Inst). option_map_or (λ (g : Inst). is_among (parts_by s g.op g.args) i) o false) (sym d.1) ∙ parts.1 in
       by_shape t d.0 (ap (tree_by_kind Gs (tree_before Gs d.0.at) d.0) (sym d.3) ∙ d.4) among parts.0
@@ -303,7 +297,7 @@ module _ (s : Setting) where
   pub step_type_is : (ty i n : ℕ) (t : Tree) → type_tree Gs ty ≡ Some t → is_allowed s ty i ≡ true → (is_struct_shape t ≡ true → constant_word Gs n ≡ Some i) → step_type Gs n ty ≡ Some (part_type s ty i)
   step_type_is ty i n t shape allowed told =
       let d = declared_as ty t shape in
-      let parts = both_true (nat_lt i (2 ^ 31)) (option_map_or (λ (g : Inst). is_among (parts_by s g.op g.args) i) (global Gs ty) false) allowed in
+      let parts = and_parts (nat_lt i (2 ^ 31)) (option_map_or (λ (g : Inst). is_among (parts_by s g.op g.args) i) (global Gs ty) false) allowed in
       let among : is_among (parts_by s (op_of t) d.0.args) i ≡ true
       = ap (λ o. is_among (parts_by s o d.0.args) i) (sym d.2) ∙ ap (λ (o : Option Inst). option_map_or (λ (g : Inst). is_among (parts_by s g.op g.args) i) o false) (sym d.1) ∙ parts.1 in
       ap (λ (o : Option Inst). option_and_then (λ (g : Inst). step_by Gs n g g.op) o) d.1

@@ -1,8 +1,10 @@
 -- The steps that are written of a chain's indexes lead to the part to which the indexes lead.
 use Rattle.std.proofs.Common.{◌≡◌, ◌<◌, ◌≤◌, ◌==◌, ◌||◌, ◌+◌, ◌++◌, ◌^◌, ℕ, zero, suc, Bool, true, false, List, [], ◌∷◌, Option, Some, None, inl, inr, refl, sym, ap, ◌∙◌, subst, arith, if◌then◌else◌}
-use Rattle.std.specs.Prelude.{◌⊎◌, ◌&&◌, is_some, nat_lt, option_and_then, slice_index}
+use Rattle.std.specs.Prelude.{◌⊎◌, is_some, nat_lt, option_and_then, slice_index}
 use Rattle.std.specs.Option.{option_map_or}
 use Rattle.std.proofs.lemmas.Bool.Decides.{nat_tests}
+use Rattle.std.proofs.lemmas.Bool.{and_parts}
+use Rattle.std.proofs.lemmas.Option.{same_Some}
 use Rattle.spv_ops.specs.Opcode.{is, number}
 use Rattle.spv_ops.specs.declared.Op.TheVariants as code
 use Rattle.spv_module.specs.Lists.{id}
@@ -45,13 +47,6 @@ use Rattle.path_law.specs.Walks.{writing, struct_names, SaysIndex, Walks, IsInde
 use Rattle.path_law.proofs.Parts.{scalar_in, named_is, IsIndexed, indexed_is, member_named}
 use Rattle.path_law.proofs.Types.{allowed_is, op_of, declared_as, is_struct_shape, struct_by, vector_size_is, struct_number, step_type_is}
 
-some_same : {A : Type 0} (a b : A) → Some a ≡ Some b → a ≡ b
-some_same a b e = cc
-
-both_true : (a b : Bool) → (a && b) ≡ true → (a ≡ true) × (b ≡ true)
-both_true true b e = (refl, e)
-both_true false b e = cc
-
 some_of : {A : Type 0} (o : Option A) → is_some o ≡ true → (a : A) × (o ≡ Some a)
 some_of None e = cc
 some_of (Some a) e = (a, refl)
@@ -76,13 +71,13 @@ scalar_apart y elem.Uint = tt
 
 nth_apart : (y : StructNames) (ts : Trees) (i : ℕ) (u : Tree) → HaveMembersApart y ts → nth_of ts i ≡ Some u → HasMembersApart y u
 nth_apart y plain.no_trees i u h at = cc
-nth_apart y (plain.tree t ts) zero u h at = subst (HasMembersApart y) (some_same t u at) h.0
+nth_apart y (plain.tree t ts) zero u h at = subst (HasMembersApart y) (same_Some t u at) h.0
 nth_apart y (plain.tree t ts) (suc i) u h at = nth_apart y ts i u h.1 at
 
 pub part_apart : (y : StructNames) (t u : Tree) (i : ℕ) → HasMembersApart y t → element_shape t i ≡ Some u → HasMembersApart y u
-part_apart y (plain.vector e n) u i h at = subst (HasMembersApart y) (some_same (elem_tree e) u at) (scalar_apart y e)
-part_apart y (plain.array t l) u i h at = subst (HasMembersApart y) (some_same t u at) h
-part_apart y (plain.runtime t) u i h at = subst (HasMembersApart y) (some_same t u at) h
+part_apart y (plain.vector e n) u i h at = subst (HasMembersApart y) (same_Some (elem_tree e) u at) (scalar_apart y e)
+part_apart y (plain.array t l) u i h at = subst (HasMembersApart y) (same_Some t u at) h
+part_apart y (plain.runtime t) u i h at = subst (HasMembersApart y) (same_Some t u at) h
 part_apart y (plain.struct n ts) u i h at = nth_apart y ts i u h.1 at
 part_apart y plain.boolean u i h at = cc
 part_apart y plain.int u i h at = cc
@@ -215,7 +210,7 @@ module _ (p : Program) (calls : Text → List Argument → State → Result (Opt
       -- a component by its letter
       letter_walks : (path : List ℕ) (i n : ℕ) (e : Elem) (u : Tree) (a : Thing) → i < n → n ≤ 4 → P path (plain.vector e n) a → element_shape (plain.vector e n) i ≡ Some u → (b : Thing) × Walks p calls z (LStep.member (axis_name i) ∷ []) a b × P (path ++ i ∷ []) u b
       letter_walks path i n e u a less four is there =
-          let b = named_is s Y c x from r path (plain.vector e n) u i (axis_name i) a is there less (axis_part e n i less four ∙ ap (λ q. Some (i, q)) (sym (scalar_in s Y e) ∙ ap (shape_in s Y) (some_same (elem_tree e) u there))) in
+          let b = named_is s Y c x from r path (plain.vector e n) u i (axis_name i) a is there less (axis_part e n i less four ∙ ap (λ q. Some (i, q)) (sym (scalar_in s Y e) ∙ ap (shape_in s Y) (same_Some (elem_tree e) u there))) in
           (b.0, (b.0, b.1, refl), b.2)
 
       -- an index, of what is no struct
@@ -337,7 +332,7 @@ module _ (p : Program) (calls : Text → List Argument → State → Result (Opt
       chain_walks [] (i ∷ is) path ty k spot t a shape place allowed are by = absurd are
       chain_walks (n ∷ ns) [] path ty k spot t a shape place allowed are by = absurd are
       chain_walks (n ∷ ns) (i ∷ is) path ty k spot t a shape place allowed are by =
-          let both = both_true (is_allowed s ty i) (are_allowed s (part_type s ty i) is) allowed in
+          let both = and_parts (is_allowed s ty i) (are_allowed s (part_type s ty i) is) allowed in
           let q = allowed_is s ty i t right shape both.0 in
           let one = one_step path ty n i k spot t q.part a shape place q.there q.inside q.low are.0 by.0 in
           let typed : type_tree Gs (part_type s ty i) ≡ Some q.part = part_leads s ty i t q.part shape q.there in

@@ -1,9 +1,10 @@
 -- The path of a chain of a function in order is that of its base and the chain's steps.
-use Rattle.std.proofs.Common.{◌≡◌, ◌≢◌, ◌+◌, ◌==◌, ◌&&◌, ◌||◌, ◌++◌, ℕ, zero, suc, Bool, true, false, List, [], ◌∷◌, map, Some, inl, inr, refl, sym, ap, ap₂, ◌∙◌, subst, arith}
+use Rattle.std.proofs.Common.{◌≡◌, ◌≢◌, ◌+◌, ◌==◌, ◌&&◌, ◌++◌, ℕ, zero, suc, Bool, true, false, List, [], ◌∷◌, map, Some, inl, inr, refl, sym, ap, ap₂, ◌∙◌, subst, arith}
 use Rattle.std.specs.Prelude.{slice_get, flat_map}
 use Rattle.std.specs.List.{enumerate_from, list_any}
 use Rattle.std.proofs.lemmas.Bool.Decides.{eqb_tells}
 use Rattle.std.proofs.lemmas.List.Concat.{flat_map-cons}
+use Rattle.std.proofs.lemmas.Bool.{or_from}
 use Rattle.spv_ops.specs.Groups.{is_chain}
 use Rattle.spv_module.specs.declared.inst.Inst.{Inst}
 use Rattle.spv_module.specs.declared.inst.Block.{Block}
@@ -79,15 +80,11 @@ in_blocks (d ∷ bs) k (suc t) b i there at =
 -- what is not made is made by none of these
 none_any : (n : ℕ) (cs : Placed) → NoneMakes n (insts cs) → list_any (makes n) cs ≡ false
 none_any n [] none = refl
-none_any n (c ∷ cs) none = both_off (makes n c) (list_any (makes n) cs) (by_test (is_chain c.1.op) refl none.0) (none_any n cs none.1)
+none_any n (c ∷ cs) none = or_from (makes n c) (list_any (makes n) cs) (by_test (is_chain c.1.op) refl none.0) (none_any n cs none.1)
   where
     by_test : (t : Bool) → is_chain c.1.op ≡ t → (t ≡ true → c.1.result ≢ n) → (t && (c.1.result == n)) ≡ false
     by_test true is differ = elim (eqb_tells c.1.result n) [ inl w ↦ absurd (differ refl w.1) | inr w ↦ w.0 ]
     by_test false is differ = refl
-
-    both_off : (a b : Bool) → a ≡ false → b ≡ false → (a || b) ≡ false
-    both_off true b e h = cc
-    both_off false b e h = h
 
 rise_split : (xs : List Inst) (i : Inst) (ys : List Inst) → ChainsRise (xs ++ i ∷ ys) → is_chain i.op ≡ true → NoneMakes (base i) (i ∷ ys) × NoneMakes i.result ys
 rise_split [] i ys rise on = rise.0 on

@@ -2,6 +2,7 @@
 use Rattle.std.proofs.Common.{◌≡◌, ◌⊎◌, ◌==◌, ◌||◌, ◌+◌, ◌++◌, ℕ, suc, Bool, true, false, List, [], ◌∷◌, drop, length, Option, Some, None, inl, inr, refl, sym, ap, ◌∙◌, subst, arith}
 use Rattle.std.specs.Prelude.{◌&&◌, option_map, option_and_then, slice_index, if◌then◌else◌}
 use Rattle.std.specs.Option.{option_map_or}
+use Rattle.std.proofs.lemmas.Bool.{or_parts}
 use Rattle.spv_ops.specs.Groups.{is_constant as is_constant_op}
 use Rattle.spv_module.specs.Held.{global as global_inst}
 use Rattle.spv_module.specs.Lists.{id}
@@ -70,10 +71,6 @@ same_behind (x ∷ xs) ys zs e = same_behind xs ys zs (let same : xs ++ ys ≡ x
 no_flip : (t : Bool) → t ≡ true → t ≡ false → ⊥
 no_flip true on off = cc
 no_flip false on off = cc
-
-either_left : (a b : Bool) → (a || b) ≡ false → (a ≡ false) × (b ≡ false)
-either_left true b e = cc
-either_left false b e = (refl, e)
 
 module _ (p : Program) (calls : Text → List Argument → State → Result (Option Typed × State)) (m : Naming) (s : Setting) (Holds : Conf → Type 0) (f : Function) (b : ℕ) (done : List Inst) (overrides : List (ℕ × Given)) (key : Key → Text) (globals : ℕ → Option Expr) (right : AreConstants s) (c : Supplied Conf) (z : State) (stands : Stands m s Holds f b done c z) (known : AreLed s c.at.below c.at.top) where
   abbrev W : scope.Setting
@@ -173,7 +170,7 @@ module _ (p : Program) (calls : Text → List Argument → State → Result (Opt
       constant = λ j told. constant_same s n j i right told (constant (constant_known Gs n j told));
       literal = λ j told. w.literal j i told (constant (literal_constant n j told));
       now = λ on. by_constant (is_constant_index Gs n) refl on;
-      before = λ off. let parts = either_left (is_constant_index Gs n) (is.stands == b) off in kept_says k i (w.elsewhere parts.0 parts.1) (same_length (drop 1 q.args) l.indexes l.constants) here;
+      before = λ off. let parts = or_parts (is_constant_index Gs n) (is.stands == b) off in kept_says k i (w.elsewhere parts.0 parts.1) (same_length (drop 1 q.args) l.indexes l.constants) here;
     }
       where
         by_constant : (t : Bool) → is_constant_index Gs n ≡ t → (t || (is.stands == b)) ≡ true → SaysIndex p calls z (index_expr W n) i

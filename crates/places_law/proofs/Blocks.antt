@@ -4,6 +4,8 @@ use Rattle.std.specs.Prelude.{count_by, option_map, option_and_then, slice_index
 use Rattle.std.specs.Option.{option_map_or}
 use Rattle.std.specs.List.{list_any}
 use Rattle.std.proofs.lemmas.Bool.Decides.{nat_tests}
+use Rattle.std.proofs.lemmas.Bool.{not-false}
+use Rattle.std.proofs.lemmas.Option.{same_Some}
 use Rattle.spv_words.specs.declared.rule.Rule.{Rule}
 use Rattle.spv_ops.specs.Opcode.{is, number}
 use Rattle.spv_ops.specs.Enumerants.{class_number}
@@ -36,7 +38,7 @@ use Rattle.type_law.proofs.Places.{part_leads}
 use Rattle.type_law.proofs.Rows.{is_a_type}
 use Rattle.type_law.proofs.Vectors.{three_off}
 use Rattle.typed_law.specs.Conforms.{IsConforming}
-use Rattle.typed_law.proofs.Lists.{and_left, and_right, and_off, not_off, same_some, found_in, none_at_fault}
+use Rattle.typed_law.proofs.Lists.{and_left, and_right, and_off, found_in, none_at_fault}
 use Rattle.typed_law.proofs.Types.{row_is}
 use Rattle.typed_law.proofs.Used.{struct_part, IsMemberSized, member_sized}
 use Rattle.typed_law.proofs.Calls.{class_is, global_variable_is, global_points}
@@ -62,7 +64,7 @@ no_nth : (i : ℕ) (u : Tree) → nth_of no_trees i ≡ Some u → ⊥
 no_nth i u at = cc
 
 nth_among : (f : ℕ → Option Tree) (ids : List ℕ) (ts : Trees) (i : ℕ) (u : Tree) → all_trees f ids ≡ Some ts → nth_of ts i ≡ Some u → is_among ids (slice_index ids i) ≡ true
-nth_among f [] ts i u e at = absurd (no_nth i u (subst (λ x. nth_of x i ≡ Some u) (sym (same_some no_trees ts e)) at))
+nth_among f [] ts i u e at = absurd (no_nth i u (subst (λ x. nth_of x i ≡ Some u) (sym (same_Some no_trees ts e)) at))
 nth_among f (id ∷ ids) ts i u e at = by_trees (f id) (all_trees f ids) refl e (λ us j more there. nth_among f ids us j u more there)
   where
     by_index : (x : Tree) (us : Trees) (j : ℕ) → nth_of (tree x us) j ≡ Some u → ((k : ℕ) → nth_of us k ≡ Some u → is_among ids (slice_index ids k) ≡ true) → is_among (id ∷ ids) (slice_index (id ∷ ids) j) ≡ true
@@ -72,7 +74,7 @@ nth_among f (id ∷ ids) ts i u e at = by_trees (f id) (all_trees f ids) refl e 
     by_trees : (o : Option Tree) (q : Option Trees) → all_trees f ids ≡ q → both o q ≡ Some ts → ((us : Trees) (j : ℕ) → all_trees f ids ≡ Some us → nth_of us j ≡ Some u → is_among ids (slice_index ids j) ≡ true) → is_among (id ∷ ids) (slice_index (id ∷ ids) i) ≡ true
     by_trees None q is e next = cc
     by_trees (Some x) None is e next = cc
-    by_trees (Some x) (Some us) is e next = by_index x us i (subst (λ y. nth_of y i ≡ Some u) (sym (same_some (tree x us) ts e)) at) (λ k there. next us k is there)
+    by_trees (Some x) (Some us) is e next = by_index x us i (subst (λ y. nth_of y i ≡ Some u) (sym (same_Some (tree x us) ts e)) at) (λ k there. next us k is there)
 
 struct_shape : (gs : List Inst) (before : ℕ → Option Tree) (g : Inst) (o : Op) (t : Tree) → is o code.TypeStruct ≡ true → tree_by_kind gs before g (kind o) ≡ Some t → (ts : Trees) × (all_trees before g.args ≡ Some ts) × (t ≡ plain.struct g.result ts)
 unfolding kind number
@@ -80,7 +82,7 @@ struct_shape gs before g code.TypeStruct t on e = by_trees (all_trees before g.a
   where
     by_trees : (q : Option Trees) → all_trees before g.args ≡ q → option_map (plain.struct g.result) q ≡ Some t → (ts : Trees) × (all_trees before g.args ≡ Some ts) × (t ≡ plain.struct g.result ts)
     by_trees None is e = cc
-    by_trees (Some ts) is e = (ts, is, sym (same_some (plain.struct g.result ts) t e))
+    by_trees (Some ts) is e = (ts, is, sym (same_Some (plain.struct g.result ts) t e))
 struct_shape gs before g o t on e = cc
 
 struct_part_by : (o : Op) (args : List ℕ) (i : ℕ) → is o code.TypeStruct ≡ true → part_by o args i ≡ slice_index args i
@@ -161,7 +163,7 @@ module _ (s : Setting) (entry : Option (List ℕ)) (right : IsConforming s.of en
     block_struct =
         let off = block_pointee (count_by is_push (body_insts s.of)) v (block_right v in_body) variable_is is_a_block in
         let here : is_no_block s.of.heads (word v 0) g ≡ false = sym (ap (λ o. option_map_or (is_no_block s.of.heads (word v 0)) o false) (ap (option_and_then (type_row Gs)) points.2 ∙ row)) ∙ off in
-        not_off ((is g.op code.TypeStruct) && is_block_struct s.of.heads (word v 0) g.result) here
+        not-false ((is g.op code.TypeStruct) && is_block_struct s.of.heads (word v 0) g.result) here
 
     pub struct_is : is g.op code.TypeStruct ≡ true
     struct_is = and_left (is g.op code.TypeStruct) (is_block_struct s.of.heads (word v 0) g.result) block_struct

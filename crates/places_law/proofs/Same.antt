@@ -1,5 +1,6 @@
 -- The run of a conforming module is the same with places by the numbers that a program has for them.
 use Rattle.std.proofs.Common.{◌≡◌, ℕ, zero, suc, Bool, true, false, List, [], ◌∷◌, Option, Some, None, refl, ap, subst, ◌∙◌}
+use Rattle.std.proofs.lemmas.Option.{same_Some}
 use Rattle.spv_module.specs.declared.inst.Id.{Id}
 use Rattle.spv_module.specs.declared.inst.Function.{Function}
 use Rattle.profile_rules.specs.Entry.{function_of}
@@ -21,9 +22,6 @@ use Rattle.run_acts.specs.Narrowed.{narrowed}
 use Rattle.places_law.specs.Pointing.{GoesAlong, IsAlong, ArePlaced}
 use Rattle.places_law.proofs.Steps.{along_step}
 use Rattle.places_law.proofs.Numbers.{own_act}
-
-some_same : {A : Type 0} (a b : A) → Some a ≡ Some b → a ≡ b
-some_same a b e = cc
 
 -- two machines that do the same, as long as something holds that the second keeps
 module _ (f g : Conf → Act Conf) (P : Conf → Type 0) (same : (c : Conf) → P c → f c ≡ g c) (on : (c : Conf) → P c → LeadsOn P (g c)) where
@@ -80,7 +78,7 @@ module _ (s : Setting) (entry : Option (List ℕ)) (right : IsConforming s.of en
   start_along c e = by_start (have_values s) (function_of s.of.functions s.entry) e
     where
       by_start : (b : Bool) (o : Option Function) → start_by s b o ≡ Some c → IsAlong s c
-      by_start true (Some f) e = subst (IsAlong s) (some_same (first_state s f) c e) (first_along f)
+      by_start true (Some f) e = subst (IsAlong s) (same_Some (first_state s f) c e) (first_along f)
       by_start true None e = cc
       by_start false o e = cc
 

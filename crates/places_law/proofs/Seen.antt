@@ -1,6 +1,7 @@
 -- A variable that other invocations see is one of the module, of a class that they see.
 use Rattle.std.proofs.Common.{◌≡◌, ℕ, Bool, true, false, Option, Some, None, refl, sym, ap, ◌∙◌}
 use Rattle.std.specs.Prelude.{option_and_then}
+use Rattle.std.proofs.lemmas.Option.{same_Some}
 use Rattle.spv_ops.specs.declared.StorageClass.{StorageClass}
 use Rattle.spv_module.specs.declared.inst.Inst.{Inst}
 use Rattle.module_semantics.specs.Setting.{Setting, global_variable}
@@ -8,14 +9,11 @@ use Rattle.module_semantics.specs.State.{global}
 use Rattle.module_semantics.specs.Memory.{class_of}
 use Rattle.module_semantics.specs.Accesses.{is_seen, if_seen, seen_if, seen}
 
-some_same : {A : Type 0} (a b : A) → Some a ≡ Some b → a ≡ b
-some_same a b e = cc
-
 abbrev IsOf : Inst → Inst → Option StorageClass → Type 0
 IsOf v w o = (w ≡ v) × (class : StorageClass) × (o ≡ Some class) × (is_seen class ≡ true)
 
 by_test : (v w : Inst) (class : StorageClass) (b : Bool) → is_seen class ≡ b → elim b as (λ b. Option Inst) [ true ↦ Some w | false ↦ None ] ≡ Some v → IsOf v w (Some class)
-by_test v w class true on e = (some_same w v e, class, refl, on)
+by_test v w class true on e = (same_Some w v e, class, refl, on)
 by_test v w class false on e = cc
 
 by_class : (v w : Inst) (o : Option StorageClass) → if_seen w o ≡ Some v → IsOf v w o

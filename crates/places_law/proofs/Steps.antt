@@ -1,6 +1,7 @@
 -- Each step keeps that pointers lead along parts that are there, as far as values fit their types.
 use Rattle.std.proofs.Common.{◌≡◌, ◌==◌, ◌++◌, ℕ, Bool, true, false, List, [], ◌∷◌, length, map, drop, Option, Some, None, refl, sym, ap, ◌∙◌, subst}
 use Rattle.std.specs.Prelude.{option_map, option_and_then, slice_get}
+use Rattle.std.proofs.lemmas.Option.{same_Some}
 use Rattle.spv_ops.specs.declared.AtomicOp.{AtomicOp}
 use Rattle.spv_ops.specs.declared.AtomicOp.TheVariants as atomics
 use Rattle.spv_ops.specs.declared.Terminator.{Terminator}
@@ -35,9 +36,6 @@ use Rattle.narrow_law.proofs.Places.{no_names}
 use Rattle.places_law.specs.Pointing.{GoesAlong, IdsAlong, CallsAlong, IsAlong}
 use Rattle.places_law.proofs.Changes.{put_along, phis_along, without_along, AllHeld, arguments_along}
 
-some_same : {A : Type 0} (a b : A) → Some a ≡ Some b → a ≡ b
-some_same a b e = cc
-
 module _ (s : Setting) where
   abbrev Gs : List Inst
   Gs = s.of.globals
@@ -62,7 +60,7 @@ module _ (s : Setting) where
   calls_changed depth id v g (b ∷ bs) all e = by_test (length bs == depth) e (λ there. calls_changed depth id v g bs all.1 there)
     where
       by_test : (t : Bool) → elim t [ true ↦ Some b.0 | false ↦ call_at depth bs ] ≡ Some g → (call_at depth bs ≡ Some g → CallsAlong s (with_call depth (with_variable id v g) bs)) → CallsAlong s (elim t [ true ↦ (with_variable id v g, b.1) ∷ bs | false ↦ b ∷ with_call depth (with_variable id v g) bs ])
-      by_test true e next = let mine : IdsAlong s g.ids = subst (λ (f : Frame). IdsAlong s f.ids) (some_same b.0 g e) all.0 in (mine, all.1)
+      by_test true e next = let mine : IdsAlong s g.ids = subst (λ (f : Frame). IdsAlong s f.ids) (same_Some b.0 g e) all.0 in (mine, all.1)
       by_test false e next = (all.0, next e)
 
   keeping_goes : (r : Root) (v : ValueTree) (c : Conf) → IsAlong s c → IsAlong s (keeping r v c)
@@ -87,11 +85,11 @@ module _ (s : Setting) where
         by_constant (Some v) e = cc
 
         by_global : (g : Option Inst) → global_variable s n ≡ g → as_pointer (elim g as (λ g. Option Held) [ Some v ↦ Some (pointer (global n) []) | None ↦ option_map value (s.constants n) ]) ≡ Some p → IsLed n p
-        by_global (Some v) is e = subst (IsLed n) (some_same (global n, []) p e) ((λ t shape. tt), fit.globals c.top.function n v is)
+        by_global (Some v) is e = subst (IsLed n) (same_Some (global n, []) p e) ((λ t shape. tt), fit.globals c.top.function n v is)
         by_global None is e = by_constant (s.constants n) e
 
         by_own : (o : Option Held) → c.top.ids n ≡ o → as_pointer (elim o as (λ o. Option Held) [ Some h ↦ Some h | None ↦ of_module s n ]) ≡ Some p → IsLed n p
-        by_own (Some (pointer r path)) is e = subst (IsLed n) (some_same (r, path) p e) (subst (λ o. IfPointer o (GoesAlong s)) is (at.0 n), (typed n (pointer r path) is).1)
+        by_own (Some (pointer r path)) is e = subst (IsLed n) (same_Some (r, path) p e) (subst (λ o. IfPointer o (GoesAlong s)) is (at.0 n), (typed n (pointer r path) is).1)
         by_own (Some (value v)) is e = cc
         by_own None is e = by_global (global_variable s n) refl e
 
@@ -118,7 +116,7 @@ module _ (s : Setting) where
     passed_along depth (pointer (lent d id) path) a = tt
 
     all_passed : (depth : ℕ) (ns : List ℕ) (hs : List Held) → each_one (held s c.top) ns ≡ Some hs → AllHeld (GoesAlong s) (map (the.passed depth) hs)
-    all_passed depth [] hs e = subst (λ (l : List Held). AllHeld (GoesAlong s) (map (the.passed depth) l)) (some_same [] hs e) tt
+    all_passed depth [] hs e = subst (λ (l : List Held). AllHeld (GoesAlong s) (map (the.passed depth) l)) (same_Some [] hs e) tt
     all_passed depth (n ∷ ns) hs e =
         let b = before_some (held s c.top n) (each_one (held s c.top) ns) hs e in
         subst (λ (l : List Held). AllHeld (GoesAlong s) (map (the.passed depth) l)) (sym b.4) (passed_along depth b.0 (held_along n b.0 b.2), all_passed depth ns b.1 b.3)

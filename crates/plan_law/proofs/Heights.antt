@@ -1,6 +1,7 @@
 -- A value that stands in the expression of another is lower than it, and each such value is at most 16 high.
 use Rattle.std.proofs.Common.{◌≡◌, ◌<◌, ◌≤◌, ◌+◌, ◌==◌, ◌&&◌, ◌||◌, not, ℕ, zero, suc, Bool, true, false, List, [], ◌∷◌, ◌++◌, Option, Some, None, IfSome, IsSomeAnd, append_assoc, max, min, fold, unwrap_or, if◌then◌else◌, inl, inr, refl, sym, ap, ◌∙◌, subst, arith}
 use Rattle.std.proofs.lemmas.Bool.Decides.{eqb_tells}
+use Rattle.std.proofs.lemmas.Option.{same_Some}
 use Rattle.spv_ops.specs.Opcode.{is}
 use Rattle.spv_ops.specs.declared.Op.TheVariants as code
 use Rattle.spv_module.specs.declared.inst.Inst.{Inst}
@@ -13,9 +14,6 @@ use Rattle.plan_law.specs.Ordered.{NoOperand, NoneMentioned, NoneIs, AreOrdered,
 
 abbrev Told : Type 0
 Told = ℕ → Option ℕ
-
-same_some : {A : Type 0} (a b : A) → Some a ≡ Some b → a ≡ b
-same_some a b e = cc
 
 -- a form that is none is gone
 told_form : (o : Option Form) → unwrap_or o Gone ≡ Forwarded → o ≡ Some Forwarded
@@ -207,7 +205,7 @@ module _ (gs : List Inst) (f : Function) where
     pub forwarded_low : (front back : List Placed) (p : Placed) → ps ≡ front ++ p ∷ back → is p.op code.Phi ≡ false → is_value gs p.ty ≡ true → (known gs f ps).forms p.result ≡ Some Forwarded → own_height H p ≤ 16
     forwarded_low front back p split phi value is =
         let k = fold W (λ n. None) front in
-        let form : form_with gs f k p ≡ Forwarded = same_some (form_with gs f k p) Forwarded (sym (form_is front back p split) ∙ is) in
+        let form : form_with gs f k p ≡ Forwarded = same_Some (form_with gs f k p) Forwarded (sym (form_is front back p split) ∙ is) in
         let low = height_low k p value (live_of (is_named gs f k p) p form) (not_named (is_named gs f k p) p form) in
         subst (λ h. h ≤ 16) (sym (height_is front back p split phi)) low
 
@@ -219,7 +217,7 @@ module _ (gs : List Inst) (f : Function) where
         let t = fold W (λ n. None) (front ++ q ∷ middle) in
         let whole : (front ++ (q ∷ middle)) ++ (p ∷ back) ≡ front ++ (q ∷ (middle ++ (p ∷ back))) = append_assoc front (q ∷ middle) (p ∷ back) in
         let again : ps ≡ (front ++ (q ∷ middle)) ++ (p ∷ back) = split ∙ sym whole in
-        let q_own : form_with gs f k q ≡ Forwarded = same_some (form_with gs f k q) Forwarded (sym (form_is front (middle ++ p ∷ back) q split) ∙ q_form) in
+        let q_own : form_with gs f k q ≡ Forwarded = same_Some (form_with gs f k q) Forwarded (sym (form_is front (middle ++ p ∷ back) q split) ∙ q_form) in
         let up = raises k q p.result q_value (not_named (is_named gs f k q) q q_own) is in
         let grown = some_grow (W k q) middle p.result in
         let same : at_least t p.result ≡ at_least (fold W (W k q) middle) p.result = ap (λ (t : Told). at_least t p.result) (over_both (λ n. None) front (q ∷ middle)) in

@@ -2,6 +2,7 @@
 use Rattle.std.proofs.Common.{◌≡◌, ◌<◌, ◌+◌, ◌==◌, ◌&&◌, ℕ, suc, Bool, true, false, List, [], ◌∷◌, ◌++◌, length, map, take, Option, Some, None, inl, refl, sym, subst, ◌∙◌, if◌then◌else◌, arith}
 use Rattle.std.specs.Prelude.{unwrap_or}
 use Rattle.std.specs.Option.{option_map_or}
+use Rattle.std.proofs.lemmas.Bool.{false_from_ne_true}
 use Rattle.spv_words.specs.Words.{insts, nth_inst}
 use Rattle.spv_words.specs.declared.rule.Rule.TheVariants.{P3, P4}
 use Rattle.spv_words.specs.declared.words.Inst1.{Inst1}
@@ -54,11 +55,7 @@ all_more g gs (f ∷ fs) far avoid = ((λ some. (far some).0, avoid.0), all_more
 
 no_stray : (p : Place) (ks : List Kind) → ((k : ℕ) → k < length ks → is_stray (place_from p (take k ks)) (nth_kind ks k) ≡ true → ⊥) → NoStray p ks
 no_stray p [] far = tt
-no_stray p (k ∷ ks) far = (not_true (is_stray p k) (far 0 (let less : 0 < suc (length ks) = omega arith in less)), no_stray (after p k) ks (λ n less. far (suc n) (let more : suc n < suc (length ks) = omega (arith, less) in more)))
-  where
-    not_true : (b : Bool) → (b ≡ true → ⊥) → b ≡ false
-    not_true true far = absurd (far refl)
-    not_true false far = refl
+no_stray p (k ∷ ks) far = (false_from_ne_true (is_stray p k) (far 0 (let less : 0 < suc (length ks) = omega arith in less)), no_stray (after p k) ks (λ n less. far (suc n) (let more : suc n < suc (length ks) = omega (arith, less) in more)))
 
 -- a parameter's result is its second word
 of_parameter : (o : Option Op) (w : ℕ → ℕ) → option_map_or kind_of_op o Other ≡ Parameter → (if has_result (unwrap_or o op.Nop) then w (1 + count_of (has_type (unwrap_or o op.Nop))) else 0) ≡ w 2

@@ -4,6 +4,7 @@ use Rattle.std.specs.Prelude.{◌⊎◌, find, nat_le, is_some, option_map, opti
 use Rattle.std.specs.Option.{option_map_or, option_or}
 use Rattle.std.specs.List.{list_any}
 use Rattle.std.proofs.lemmas.Bool.Decides.{eqb_tells, nat_tests}
+use Rattle.std.proofs.lemmas.Bool.{not-false}
 use Rattle.spv_ops.specs.Opcode.{is, number}
 use Rattle.spv_ops.specs.Operands.{is_id}
 use Rattle.spv_ops.specs.OpGroups.{takes_of, group_of}
@@ -57,7 +58,7 @@ use Rattle.agree_law.specs.Blocks.{IsOf}
 use Rattle.call_law.specs.Known.{IsFunctionOf, ArePointersSo, is_parameter, LendsWhole}
 use Rattle.function_law.specs.UnderWay.{IsRuled}
 use Rattle.typed_law.specs.Conforms.{BreakNone, IsParameter, IsConforming}
-use Rattle.typed_law.proofs.Lists.{or_left, or_right, and_off, not_off, found_in}
+use Rattle.typed_law.proofs.Lists.{or_left, or_right, and_off, found_in}
 use Rattle.typed_law.proofs.Rules.{operand_there, value_right, flow_right, call_right}
 use Rattle.typed_law.proofs.Types.{row_is}
 use Rattle.typed_law.proofs.Values.{inside, local_row, variable_type_is, type_suits, own_type, own_local, typed_value, HasType, typed_is, global_typed_some, typed_result}
@@ -231,7 +232,7 @@ module _ (s : Setting) (entry : Option (List ℕ)) (right : IsConforming s.of en
           let target : target_shape s f (base i) ≡ Some q.1 = ap (option_and_then (type_tree Gs)) q.2 ∙ q.3 in
           let points = chain_pointer s f i q.1 off (chain_types s entry right f in_it i there (drop 1 i.args) (dropped i.args each)) target in
           let g = local_row s entry right f in_it i there (typed_some s entry right f in_it i there o.1) in
-          let on = not_off (is_pointer_type g.0) (ap (λ r. option_map_or (λ (x : Inst). not (is_pointer_type x)) r false) (sym (row_is s.of entry right i.ty g.0 g.1 (type_suits i.op g.0 g.2))) ∙ points) in
+          let on = not-false (is_pointer_type g.0) (ap (λ r. option_map_or (λ (x : Inst). not (is_pointer_type x)) r false) (sym (row_is s.of entry right i.ty g.0 g.1 (type_suits i.op g.0 g.2))) ∙ points) in
           (own_off o.1 o.2, own_class o.1 (class_there Gs i.ty g.0 g.1 on))
         where
           dropped : (args : List ℕ) → ((k : ℕ) → k < length args → HasType s entry right f in_it (slice_index args k)) → (k : ℕ) → k < length (drop 1 args) → HasType s entry right f in_it (slice_index (drop 1 args) k)

@@ -3,6 +3,7 @@ use Rattle.std.proofs.Common.{◌≡◌, ◌⊎◌, ◌&&◌, ◌||◌, not, ℕ
 use Rattle.std.specs.Prelude.{option_map, option_and_then, is_some, slice_index}
 use Rattle.std.specs.Option.{option_map_or}
 use Rattle.std.specs.List.{list_any}
+use Rattle.std.proofs.lemmas.Bool.{and_from, or_left as first_on, not-false}
 use Rattle.spv_module.specs.Held.{global}
 use Rattle.spv_module.specs.Lists.{id}
 use Rattle.spv_module.specs.State.{ModuleState}
@@ -50,13 +51,12 @@ use Rattle.path_law.proofs.Ways.{start_way}
 use Rattle.function_law.specs.Passed.{IsArgument, ArgumentSays, ArgumentsSay}
 use Rattle.typed_law.specs.Conforms.{IsConforming, IsParameter}
 use Rattle.typed_law.proofs.Calls.{AreOfTypes}
-use Rattle.typed_law.proofs.Lists.{and_left, and_off, or_left, or_right, not_off, both_on, clash, found_in}
+use Rattle.typed_law.proofs.Lists.{and_left, and_off, or_left, or_right, clash, found_in}
 use Rattle.typed_law.proofs.Values.{inside, own_local}
 use Rattle.ruled_law.proofs.Ruled.{contains_of}
 use Rattle.constant_law.proofs.Written.{no_pointee}
 use Rattle.claim_law.specs.Claimed.{IsIn}
 use Rattle.unit_law.proofs.Ways.{HaveKinds, plan_is}
-use Rattle.meets_law.proofs.Tests.{first_on}
 use Rattle.naming_law.proofs.Keys.{S, R, key as key_of, names as names_in}
 use Rattle.naming_law.specs.Names.{shape_of, is_value_parameter, is_result}
 use Rattle.naming_law.proofs.Alone.{are_alone, variable_inst}
@@ -121,10 +121,10 @@ module _ (bytes : List ℕ) (m : ModuleState) (o : Options) (read : IsReadFrom b
     kind_of_pointer n on mine = by_parameter (is_parameter f n) refl
       where
         own : is_own_memory f n ≡ true
-        own = not_off (is_own_memory f n) (and_off (is_pointer Gs f n) (not (is_own_memory f n)) mine on)
+        own = not-false (is_own_memory f n) (and_off (is_pointer Gs f n) (not (is_own_memory f n)) mine on)
 
         by_parameter : (t : Bool) → is_parameter f n ≡ t → (N.is_variable n ≡ true) ⊎ (N.is_lent n ≡ true)
-        by_parameter true parameter = inr (both_on (is_parameter f n) (is_pointer Gs f n) parameter on)
+        by_parameter true parameter = inr (and_from (is_parameter f n) (is_pointer Gs f n) parameter on)
         by_parameter false parameter = inl (ap (λ (t : Bool). not t && is_own_memory f n) parameter ∙ own)
 
     -- neither is the module's
@@ -174,7 +174,7 @@ module _ (bytes : List ℕ) (m : ModuleState) (o : Options) (read : IsReadFrom b
       value_said : is_pointer Gs f n ≡ false → (v : ValueTree) → evaluate P calls (value W b n) z ≡ got [] (typed (N.shape n) v, z) → Says (holds_value v) false (value W b n)
       value_said off v says = record {
         parameter = key_is q called (Id x.0);
-        outer = first_on (is_value_parameter Gs g x.0.0) (is_hoisted (q.scope.form x.0.0) && is_result g x.0.0) (both_on (is_parameter g x.0.0) (not (is_pointer Gs g x.0.0)) parameter_on (ap not (pointer_same ∙ off)));
+        outer = first_on (is_value_parameter Gs g x.0.0) (is_hoisted (q.scope.form x.0.0) && is_result g x.0.0) (and_from (is_parameter g x.0.0) (not (is_pointer Gs g x.0.0)) parameter_on (ap not (pointer_same ∙ off)));
         says = says ∙ ap (λ (t : Shape). got [] (typed t v, z)) (sym shape_same);
       }
 
@@ -183,7 +183,7 @@ module _ (bytes : List ℕ) (m : ModuleState) (o : Options) (read : IsReadFrom b
           let kind = kind_of_pointer n on mine in
           record {
             parameter = key_is q called (Id x.0);
-            lent = both_on (is_parameter g x.0.0) (is_pointer Gs g x.0.0) parameter_on (pointer_same ∙ on);
+            lent = and_from (is_parameter g x.0.0) (is_pointer Gs g x.0.0) parameter_on (pointer_same ∙ on);
             shape = shape_same;
             kind = kind;
             is = pointer_named n kind;

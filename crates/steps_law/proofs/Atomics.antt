@@ -2,6 +2,8 @@
 use Rattle.std.proofs.Common.{◌≡◌, ◌⊎◌, ◌==◌, ◌<◌, ◌&&◌, ◌||◌, not, ℕ, Bool, true, false, List, [], ◌∷◌, ◌++◌, map, length, drop, take, Contains, Option, Some, None, inl, inr, refl, sym, ap, ◌∙◌, subst, unwrap_or, if◌then◌else◌}
 use Rattle.std.specs.Prelude.{option_map, option_and_then}
 use Rattle.std.specs.Option.{option_map_or}
+use Rattle.std.proofs.lemmas.Bool.{not-false}
+use Rattle.std.proofs.lemmas.Option.{same_Some}
 use Rattle.spv_ops.specs.Opcode.{is}
 use Rattle.spv_ops.specs.Groups.{is_atomic}
 use Rattle.spv_ops.specs.OpGroups.{group_of}
@@ -82,7 +84,7 @@ use Rattle.lowering_law.proofs.Operands.{literal_number}
 use Rattle.lowering_law.proofs.Saying.{on_operand, says_binary}
 use Rattle.function_law.proofs.Selectors.{word_value}
 use Rattle.typed_law.specs.Conforms.{IsConforming, IsConformingIn}
-use Rattle.typed_law.proofs.Lists.{or_left, or_right, and_off, not_off, same_some}
+use Rattle.typed_law.proofs.Lists.{or_left, or_right, and_off}
 use Rattle.typed_law.proofs.Operations.{four_off}
 use Rattle.typed_law.proofs.Others.{target_of, typed_some}
 use Rattle.typed_law.proofs.Rules.{number_right, access_right}
@@ -168,8 +170,8 @@ int_is_number : (width sign : ℕ) (t : Tree) → int_tree width sign ≡ Some t
 int_is_number width sign t is = by_tests (width == 32) (sign == 0) (sign == 1) is
   where
     by_tests : (w a b : Bool) → (if w then (if a then Some plain.uint else (if b then Some plain.int else None)) else None) ≡ Some t → t ≡ tree_by a
-    by_tests true true b is = sym (same_some plain.uint t is)
-    by_tests true false true is = sym (same_some plain.int t is)
+    by_tests true true b is = sym (same_Some plain.uint t is)
+    by_tests true false true is = sym (same_Some plain.int t is)
     by_tests true false false is = cc
     by_tests false a b is = cc
 
@@ -221,7 +223,7 @@ one_of_ids f a ws is = by_word (f a) refl is
   where
     by_word : (x : Option ℕ) → f a ≡ x → before x (Some []) ≡ Some ws → (w : ℕ) × (f a ≡ Some w) × (w ∷ [] ≡ ws)
     by_word None at is = cc
-    by_word (Some w) at is = (w, at, same_some (w ∷ []) ws is)
+    by_word (Some w) at is = (w, at, same_Some (w ∷ []) ws is)
 
 two_of_ids : (f : ℕ → Option ℕ) (a b : ℕ) (ws : List ℕ) → each_one f (a ∷ b ∷ []) ≡ Some ws → (v w : ℕ) × (f a ≡ Some v) × (f b ≡ Some w) × (v ∷ w ∷ [] ≡ ws)
 two_of_ids f a b ws is = by_words (f a) (f b) refl refl is
@@ -229,7 +231,7 @@ two_of_ids f a b ws is = by_words (f a) (f b) refl refl is
     by_words : (x y : Option ℕ) → f a ≡ x → f b ≡ y → before x (before y (Some [])) ≡ Some ws → (v w : ℕ) × (f a ≡ Some v) × (f b ≡ Some w) × (v ∷ w ∷ [] ≡ ws)
     by_words None y at_a at_b is = cc
     by_words (Some v) None at_a at_b is = cc
-    by_words (Some v) (Some w) at_a at_b is = (v, w, at_a, at_b, same_some (v ∷ w ∷ []) ws is)
+    by_words (Some v) (Some w) at_a at_b is = (v, w, at_a, at_b, same_Some (v ∷ w ∷ []) ws is)
 
 minus : (z : Bool) (n : ℕ) → operated Sub (number (elem_by z) 0) (number (elem_by z) n) ≡ Some (number (elem_by z) (unary_word SNegate n))
 minus true n = ap (λ (k : ℕ). Some (number elem.Uint k)) (negated_word n)
@@ -311,7 +313,7 @@ module _ (m : ModuleState) (opts : Options) (right : IsConforming m opts.entry) 
         by_pointer : (x : Option Inst) → option_map (λ (g : Inst). word g 1) x ≡ Some target.0 → option_map_or (is_other_place Gs i.op buffer) x false ≡ false → option_map_or (is_other_number i.op) (global Gs target.0) false ≡ false
         by_pointer None to off = cc
         by_pointer (Some g) to off =
-            ap (λ (n : ℕ). option_map_or (is_other_number i.op) (global Gs n) false) (sym (same_some (word g 1) target.0 to))
+            ap (λ (n : ℕ). option_map_or (is_other_number i.op) (global Gs n) false) (sym (same_Some (word g 1) target.0 to))
             ∙ or_right (not (is_shared_class buffer (word g 0))) (option_map_or (is_other_number i.op) (global Gs (word g 1)) false) off
 
     number_is : (not (is row.0.op code.TypeInt) || is_of_other_sign i.op (word row.0 1)) ≡ false
@@ -323,7 +325,7 @@ module _ (m : ModuleState) (opts : Options) (right : IsConforming m opts.entry) 
     tree_is : target.1 ≡ tree_by z
     tree_is =
         int_is_number (word row.0 0) (word row.0 1) target.1
-        (by_kind Gs (tree_before Gs row.0.at) row.0 Int target.1 (int_kind row.0.op (not_off (is row.0.op code.TypeInt) (or_left (not (is row.0.op code.TypeInt)) (is_of_other_sign i.op (word row.0 1)) number_is)))
+        (by_kind Gs (tree_before Gs row.0.at) row.0 Int target.1 (int_kind row.0.op (not-false (is row.0.op code.TypeInt) (or_left (not (is row.0.op code.TypeInt)) (is_of_other_sign i.op (word row.0 1)) number_is)))
         (sym (ap (λ (x : Option Inst). option_map_or (tree_at Gs) x None) row.1) ∙ target.3))
 
     sign_is : other_sign a (word row.0 1) ≡ false
@@ -427,7 +429,7 @@ module _ (m : ModuleState) (opts : Options) (right : IsConforming m opts.entry) 
           made_one count (value W b (arg i 3)) w.0 (fourth_says on w.0 w.1) w.2
 
       literal_made : operand_count (function_of a) ≡ 1 → (n : ℕ) → Some (n ∷ []) ≡ Some g.operands → Say (exprs_in (word_at_place W i n ∷ []))
-      literal_made count n are = made_one count (word_at_place W i n) n (literal_says n) (same_some (n ∷ []) g.operands are)
+      literal_made count n are = made_one count (word_at_place W i n) n (literal_says n) (same_Some (n ∷ []) g.operands are)
 
     -- what is taken off is negated
     difference_made : (e : kind_of i.op ≡ kind.Atomic atomics.ISub) (c : Supplied Conf) (y : State) (here : At N s Holds f b done (i ∷ Rest) c y) (g : IsUpdate atomics.ISub s c.at Rest i) → Say atomics.ISub e c y here g (exprs_in (binary Sub (word_at_place W i 0) (value W b (arg i 3)) ∷ []))
@@ -441,7 +443,7 @@ module _ (m : ModuleState) (opts : Options) (right : IsConforming m opts.entry) 
             made_one atomics.ISub e c y here g refl (binary Sub (word_at_place W i 0) (value W b (arg i 3))) (unary_word SNegate w.0)
             (says_binary program calls y Sub (word_at_place W i 0) (value W b (arg i 3)) (number (elem_by (z atomics.ISub e)) 0) (number (elem_by (z atomics.ISub e)) w.0) (number (elem_by (z atomics.ISub e)) (unary_word SNegate w.0)) refl
             (literal_says atomics.ISub e c y here g 0) (fourth_says atomics.ISub e c y here g refl w.0 w.1) (minus (z atomics.ISub e) w.0))
-            (ap (map (unary_word SNegate)) w.2 ∙ same_some (map (unary_word SNegate) ws) g.operands are)
+            (ap (map (unary_word SNegate)) w.2 ∙ same_Some (map (unary_word SNegate) ws) g.operands are)
 
     -- the comparator, and the value
     swap_made : (e : kind_of i.op ≡ kind.Atomic atomics.CompareExchange) (c : Supplied Conf) (y : State) (here : At N s Holds f b done (i ∷ Rest) c y) (g : IsUpdate atomics.CompareExchange s c.at Rest i)

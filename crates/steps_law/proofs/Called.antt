@@ -2,6 +2,7 @@
 use Rattle.std.proofs.Common.{◌≡◌, ◌⊎◌, ◌==◌, ℕ, Bool, true, false, List, [], ◌∷◌, map, Option, Some, None, inl, inr, refl, sym, ap, ◌∙◌, subst, if◌then◌else◌}
 use Rattle.std.specs.Prelude.{bytes_eq, find, option_to_list}
 use Rattle.std.proofs.lemmas.Slice.Eq.{bytes_eq-Decides}
+use Rattle.std.proofs.lemmas.Option.{same_Some}
 use Rattle.spv_module.specs.Lists.{id}
 use Rattle.spv_module.specs.State.{ModuleState}
 use Rattle.spv_module.specs.declared.inst.Id.{Id}
@@ -22,7 +23,6 @@ use Rattle.unit_rules.specs.Translation.{IsPlanOf}
 use Rattle.unit_rules.specs.Unit.{item_names_of, source_of, called, is_called, has_id, plan_at, in_order, IsUnitOf}
 use Rattle.global_law.proofs.Blocks.{items_more}
 use Rattle.constant_law.proofs.Constants.{first}
-use Rattle.typed_law.proofs.Lists.{same_some}
 use Rattle.claim_law.specs.Claimed.{IsIn}
 use Rattle.claim_law.proofs.Listed.{in_flat}
 use Rattle.unit_law.proofs.Lists.{found_by, same_test, of_filter}
@@ -88,7 +88,7 @@ module _ (bytes : List ℕ) (m : ModuleState) (o : Options) (read : IsReadFrom b
       (q.0, in_flat (plan_at u.plans) u.order n.0 q.0 n.1 (in_option (find (has_id n.0) u.plans) q.0 q.1), is_it.0, equal (written q.0).id.0 n.0.0 is_it.1 ∙ sym number)
 
   same_name : (p q : FunctionPlan) → IsIn p u.plans → IsIn q u.plans → (written q).id.0 ≡ (written p).id.0 → function_name q.scope ≡ function_name p.scope
-  same_name p q one two same = same_some (function_name q.scope) (function_name p.scope) (sym (named_so m o unit u inv q two) ∙ (ap (λ (n : ℕ). found (function_key u.entry (id n))) same ∙ named_so m o unit u inv p one))
+  same_name p q one two same = same_Some (function_name q.scope) (function_name p.scope) (sym (named_so m o unit u inv q two) ∙ (ap (λ (n : ℕ). found (function_key u.entry (id n))) same ∙ named_so m o unit u inv p one))
 
   -- The law.
   pub is_function_there : (p : FunctionPlan) → IsIn p u.plans → P.is_function (function_name p.scope) ≡ true

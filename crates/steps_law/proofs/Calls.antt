@@ -4,6 +4,7 @@ use Rattle.std.specs.Prelude.{option_and_then, slice_get, slice_index}
 use Rattle.std.specs.Option.{option_map_or}
 use Rattle.std.specs.List.{list_any, zip}
 use Rattle.std.proofs.lemmas.Bool.Decides.{eqb_tells}
+use Rattle.std.proofs.lemmas.Option.{same_Some}
 use Rattle.spv_ops.specs.Opcode.{is, number}
 use Rattle.spv_ops.specs.OpGroups.{group_of}
 use Rattle.spv_ops.specs.Operands.{is_id}
@@ -78,7 +79,7 @@ use Rattle.function_law.proofs.Passing.{whole_in}
 use Rattle.function_law.proofs.UnderWay.{way_kept}
 use Rattle.typed_law.specs.Conforms.{IsConforming, IsConformingIn}
 use Rattle.typed_law.proofs.Calls.{AreOfTypes, arguments_typed}
-use Rattle.typed_law.proofs.Lists.{or_left, or_right, and_left, same_some, clash, found_in}
+use Rattle.typed_law.proofs.Lists.{or_left, or_right, and_left, clash, found_in}
 use Rattle.typed_law.proofs.Others.{contains_found, typed_some}
 use Rattle.typed_law.proofs.Rules.{flow_right}
 use Rattle.typed_law.proofs.Values.{HasType, inside, own_type, same_count, typed_value, typed_result, value_sized}
@@ -315,7 +316,7 @@ module _ (bytes : List ℕ) (m : ModuleState) (o : Options) (read : IsReadFrom b
       arguments_of_types = arguments_typed s o.entry right (chosen s o.overrides) (λ n. refl) f in_module i there (call_typed i.op on) types_told argument_typed g before.function
 
       same_callee : (called_function s o.entry right f in_module i there on).0 ≡ g
-      same_callee = same_some (called_function s o.entry right f in_module i there on).0 g (sym (called_function s o.entry right f in_module i there on).1 ∙ before.function)
+      same_callee = same_Some (called_function s o.entry right f in_module i there on).0 g (sym (called_function s o.entry right f in_module i there on).1 ∙ before.function)
 
       as_many : length g.params ≡ length (drop 1 i.args)
       as_many =

@@ -1,6 +1,7 @@
 -- Behind the copy with which an insert begins, the text agrees with a state of the module in which the result has the whole: so the operands still say what they have.
 use Rattle.std.proofs.Common.{◌≡◌, ◌≢◌, ◌⊎◌, ◌++◌, ◌==◌, ℕ, Bool, true, false, List, [], ◌∷◌, Option, Some, inl, inr, refl, sym, ap, ◌∙◌, subst}
 use Rattle.std.proofs.lemmas.Bool.Decides.{eqb_tells}
+use Rattle.std.proofs.lemmas.Option.{same_Some}
 use Rattle.spv_module.specs.State.{ModuleState}
 use Rattle.spv_module.specs.declared.inst.Inst.{Inst}
 use Rattle.spv_module.specs.declared.inst.Function.{Function}
@@ -34,7 +35,6 @@ use Rattle.agree_law.proofs.Settling.{AreKept, outcome_alike, kept_put, held_oth
 use Rattle.call_law.specs.Known.{IsFunctionOf, LendsWhole}
 use Rattle.typed_law.specs.Conforms.{IsConforming}
 use Rattle.typed_law.specs.Words.{IsSettingOfWords, IsStateOfWords}
-use Rattle.typed_law.proofs.Lists.{same_some}
 use Rattle.claim_law.specs.Claimed.{IsIn}
 use Rattle.unit_law.proofs.Ways.{HaveKinds, F}
 use Rattle.formed_law.specs.Formed.{IsFormedFunction}
@@ -48,7 +48,7 @@ use Rattle.steps_law.proofs.Operands.{IsKeptBy, operands_say}
 -- what holds of what each id has, where one more has something
 put_each : (ids : ℕ → Option Held) (n : ℕ) (h : Held) (Q : ℕ → Held → Type 0) → Q n h → ((k : ℕ) (g : Held) → ids k ≡ Some g → Q k g) → (k : ℕ) (g : Held) → put ids n h k ≡ Some g → Q k g
 put_each ids n h Q own other k g at = elim (eqb_tells k n) [
-  | inl w ↦ subst (λ (j : ℕ). Q j g) (sym w.1) (subst (Q n) (same_some h g (sym (put_same ids n h) ∙ (ap (put ids n h) (sym w.1) ∙ at))) own)
+  | inl w ↦ subst (λ (j : ℕ). Q j g) (sym w.1) (subst (Q n) (same_Some h g (sym (put_same ids n h) ∙ (ap (put ids n h) (sym w.1) ∙ at))) own)
   | inr w ↦ other k g (sym (put_other ids n k h w.1) ∙ at)
 ]
 

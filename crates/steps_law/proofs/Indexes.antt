@@ -3,7 +3,8 @@ use Rattle.std.proofs.Common.{◌≡◌, ◌⊎◌, ◌≤◌, ◌==◌, ◌&&�
 use Rattle.std.specs.Prelude.{nat_lt, slice_get, slice_index, slice_index_or, option_and_then}
 use Rattle.std.specs.Option.{option_map_or, option_or}
 use Rattle.std.specs.List.{enumerate_from, list_any}
-use Rattle.std.proofs.lemmas.Bool.{and_parts}
+use Rattle.std.proofs.lemmas.Bool.{and_parts, and_from, or_cases}
+use Rattle.std.proofs.lemmas.Option.{same_Some}
 use Rattle.spv_ops.specs.Opcode.{is}
 use Rattle.spv_ops.specs.Groups.{is_chain, is_constant}
 use Rattle.spv_ops.specs.declared.Op.TheVariants as code
@@ -49,7 +50,7 @@ use Rattle.path_law.specs.Writings.{IsNumber}
 use Rattle.plan_law.specs.InOrder.{IsAmong}
 use Rattle.plan_law.proofs.Order.{found}
 use Rattle.typed_law.specs.Conforms.{IsConforming, IsConformingIn}
-use Rattle.typed_law.proofs.Lists.{same_some, both_on, clash}
+use Rattle.typed_law.proofs.Lists.{clash}
 use Rattle.typed_law.proofs.Values.{global_row, inside, variable_type_is}
 use Rattle.claim_law.specs.Claimed.{IsIn}
 use Rattle.claim_law.proofs.Constants.{found_in}
@@ -76,10 +77,6 @@ use Rattle.insts_law.proofs.Indexes.{at_end}
 no_some : {A B : Type 0} (a : A) → None ≡ Some a → B
 no_some a e = cc
 
-split_or : (a b : Bool) → (a || b) ≡ true → (a ≡ true) ⊎ (b ≡ true)
-split_or true b e = inl refl
-split_or false b e = inr e
-
 -- the shape of an int
 number_in : (s : Setting) (y : StructNames) (t : Tree) → (t ≡ plain.int) ⊎ (t ≡ plain.uint) → IsNumber (shape_in s y t) × (same_shape (shape_in s y t) (shape_in s y t) ≡ true)
 number_in s y t (inl same) = subst (λ (x : Tree). IsNumber (shape_in s y x) × (same_shape (shape_in s y x) (shape_in s y x) ≡ true)) (sym same) (tt, refl)
@@ -105,10 +102,10 @@ module _ (f : Function) (links : List Link) where
       by_either is (inl old) later = later n old
       by_either is (inr same) later =
           ap (λ (k : ℕ). nat_lt 0 (length (mentions_of links k))) (test_same n p.result same)
-          ∙ by_own (split_or (carried_from f ps p.result) (list_any (carries f (carried_from f ps) p.block) p.mentions) (and_parts (is_chain p.op) (carried_from f ps p.result || list_any (carries f (carried_from f ps) p.block) p.mentions) is).1) later
+          ∙ by_own (or_cases (carried_from f ps p.result) (list_any (carries f (carried_from f ps) p.block) p.mentions) (and_parts (is_chain p.op) (carried_from f ps p.result || list_any (carries f (carried_from f ps) p.block) p.mentions) is).1) later
 
       by_test : (b : Bool) → is_carried_with f (carried_from f ps) p ≡ b → elim b as (λ b. Bool) [ true ↦ carried_from f ps n || (n == p.result) | false ↦ carried_from f ps n ] ≡ true → ((k : ℕ) → carried_from f ps k ≡ true → nat_lt 0 (length (mentions_of links k)) ≡ true) → nat_lt 0 (length (mentions_of links n)) ≡ true
-      by_test true is told later = by_either is (split_or (carried_from f ps n) (n == p.result) told) later
+      by_test true is told later = by_either is (or_cases (carried_from f ps n) (n == p.result) told) later
       by_test false is told later = later n told
 
   pub carried_mentioned : (n : ℕ) → carried_from f (results links f) n ≡ true → nat_lt 0 (length (mentions_of links n)) ≡ true
@@ -165,7 +162,7 @@ module _ (bytes : List ℕ) (m : ModuleState) (o : Options) (read : IsReadFrom b
           there = found_in gs n g at
 
           shape_is : type_tree gs g.ty ≡ Some t
-          shape_is = ap (type_tree gs) (own.0 ∙ same_some y ty (sym type_is ∙ typed_as)) ∙ shaped
+          shape_is = ap (type_tree gs) (own.0 ∙ same_Some y ty (sym type_is ∙ typed_as)) ∙ shaped
 
           by_kind : (is_constant g.op ≡ true) ⊎ (is g.op code.Variable ≡ true) → ⊥
           by_kind (inl constant) = clash (sym constant ∙ (ap (λ (x : Option Inst). option_map_or (λ (h : Inst). is_constant h.op) x false) (sym at) ∙ off))
@@ -221,7 +218,7 @@ module _ (bytes : List ℕ) (m : ModuleState) (o : Options) (read : IsReadFrom b
     pub is_kept : Where.carried q.result ≡ true → is_constant_index gs n ≡ false → N.is_kept q.result k ≡ true
     is_kept carried off =
         ap (λ (x : Option Inst). option_map_or (kept_test p.scope.carried) x false) made
-        ∙ (ap (λ (b : Bool). list_any (λ (x : ℕ × ℕ). x.0 == k) (if b then captured_indexes gs q else [])) (both_on (is_chain q.op) (p.scope.carried q.result) on (ap (λ (w : Scope). w.carried q.result) (plan_is s o.entry right kinds o unit u p among).scope_is ∙ carried))
+        ∙ (ap (λ (b : Bool). list_any (λ (x : ℕ × ℕ). x.0 == k) (if b then captured_indexes gs q else [])) (and_from (is_chain q.op) (p.scope.carried q.result) on (ap (λ (w : Scope). w.carried q.result) (plan_is s o.entry right kinds o unit u p among).scope_is ∙ carried))
         ∙ any_in (λ (x : ℕ × ℕ). x.0 == k) (captured_indexes gs q) (k, n)
         (in_filter (λ (x : ℕ × ℕ). not (is_constant_index gs x.1)) (enumerate_from 0 (drop 1 q.args)) (k, n) (numbered_first (drop 1 q.args) k n at) (ap not off)) (same_test k k refl))
 

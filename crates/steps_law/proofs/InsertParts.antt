@@ -1,6 +1,7 @@
 -- What an insert has from its operands: the composite with an object in place of the part to which literals lead, or the vector with a component at an index.
 use Rattle.std.proofs.Common.{◌≡◌, ◌<◌, ℕ, Bool, true, false, List, [], ◌∷◌, drop, length, take, Option, Some, None, inl, inr, refl, sym, ap, ◌∙◌, subst, if◌then◌else◌}
 use Rattle.std.specs.Prelude.{nat_lt, option_and_then, slice_get, slice_set}
+use Rattle.std.proofs.lemmas.Option.{same_Some}
 use Rattle.spv_ops.specs.Operands.{is_id}
 use Rattle.spv_ops.specs.OpGroups.{group_of, takes_of}
 use Rattle.spv_ops.specs.declared.Op.{Op}
@@ -34,7 +35,7 @@ use Rattle.fits_law.proofs.Literals.{inserted_along}
 use Rattle.fits_law.proofs.Operations.{before_some}
 use Rattle.fits_law.proofs.Parts.{many_of}
 use Rattle.path_law.proofs.Parts.{there_below}
-use Rattle.typed_law.proofs.Lists.{same_some, some_part}
+use Rattle.typed_law.proofs.Lists.{some_part}
 use Rattle.steps_law.proofs.PartSteps.{less_of}
 
 insert_op : (o : Op) → kind_of o ≡ kind.CompositeInsert → o ≡ code.CompositeInsert
@@ -49,7 +50,7 @@ component_op o e = cc
 
 -- what is read of operands
 one_value : (s : Setting) (c : Frame) (x : ℕ) (vs : List ValueTree) → values_at s c (x ∷ []) ≡ Some vs → (v : ValueTree) × (value_at s c x ≡ Some v) × (vs ≡ v ∷ [])
-one_value s c x vs each = let w = before_some (value_at s c x) (Some []) vs each in (w.0, w.2, w.4 ∙ ap (λ (l : List ValueTree). w.0 ∷ l) (sym (same_some [] w.1 w.3)))
+one_value s c x vs each = let w = before_some (value_at s c x) (Some []) vs each in (w.0, w.2, w.4 ∙ ap (λ (l : List ValueTree). w.0 ∷ l) (sym (same_Some [] w.1 w.3)))
 
 two_values : (s : Setting) (c : Frame) (x y : ℕ) (vs : List ValueTree) → values_at s c (x ∷ y ∷ []) ≡ Some vs → (v w : ValueTree) × (value_at s c x ≡ Some v) × (value_at s c y ≡ Some w) × (vs ≡ v ∷ w ∷ [])
 two_values s c x y vs each =
@@ -158,7 +159,7 @@ module _ (s : Setting) (f : Function) (c : Frame) where
   composite_taken : (i : Inst) (v : ValueTree) → IsTaken (with_op i code.CompositeInsert) v → IsCompositeInsert (with_op i code.CompositeInsert) v
   unfolding operation_of operation
   composite_taken i v g =
-      let same : op.CompositeInsert ≡ g.operation = same_some op.CompositeInsert g.operation g.operation_is in
+      let same : op.CompositeInsert ≡ g.operation = same_Some op.CompositeInsert g.operation g.operation_is in
       composite_by i i.args refl v g g.shapes g.values g.have (subst (λ (q : Operation). Takes q g.shape (drop 2 i.args) g.shapes) (sym same) g.takes) g.each
       (subst (λ (q : Operation). value_of_operation q g.shape (drop 2 i.args) g.values ≡ Some v) (sym same) g.made)
 
@@ -269,7 +270,7 @@ module _ (s : Setting) (f : Function) (c : Frame) where
   component_taken : (i : Inst) (v : ValueTree) → IsTaken (with_op i code.VectorInsertDynamic) v → IsComponentInsert (with_op i code.VectorInsertDynamic) v
   unfolding operation_of operation
   component_taken i v g =
-      let same : op.VectorInsertDynamic ≡ g.operation = same_some op.VectorInsertDynamic g.operation g.operation_is in
+      let same : op.VectorInsertDynamic ≡ g.operation = same_Some op.VectorInsertDynamic g.operation g.operation_is in
       component_by i i.args refl v g g.shapes g.values g.have (subst (λ (q : Operation). Takes q g.shape [] g.shapes) (sym same) g.takes) g.each
       (subst (λ (q : Operation). value_of_operation q g.shape [] g.values ≡ Some v) (sym same) g.made)
 

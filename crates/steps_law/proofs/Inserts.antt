@@ -2,6 +2,7 @@
 use Rattle.std.proofs.Common.{◌≡◌, ◌<◌, ◌≤◌, ◌^◌, ◌⊎◌, ◌++◌, ℕ, zero, suc, Bool, true, false, List, [], ◌∷◌, drop, Option, Some, None, inl, inr, refl, sym, ap, ◌∙◌, subst, arith, if◌then◌else◌}
 use Rattle.std.specs.Prelude.{nat_lt, option_and_then}
 use Rattle.std.proofs.lemmas.Bool.Decides.{nat_tests}
+use Rattle.std.proofs.lemmas.Option.{same_Some}
 use Rattle.spv_ops.specs.OpGroups.{group_of}
 use Rattle.spv_module.specs.State.{ModuleState}
 use Rattle.spv_module.specs.declared.inst.Inst.{Inst}
@@ -65,7 +66,7 @@ use Rattle.path_law.proofs.Walks.{steps_walk}
 use Rattle.global_law.proofs.Indexes.{word_number}
 use Rattle.typed_law.specs.Conforms.{IsConforming, IsConformingIn}
 use Rattle.typed_law.specs.Words.{IsSettingOfWords, IsStateOfWords}
-use Rattle.typed_law.proofs.Lists.{same_some, some_part}
+use Rattle.typed_law.proofs.Lists.{some_part}
 use Rattle.typed_law.proofs.Values.{inside, value_sized}
 use Rattle.ruled_law.proofs.Ruled.{contains_of}
 use Rattle.claim_law.specs.Claimed.{IsIn}
@@ -229,7 +230,7 @@ module _ (bytes : List ℕ) (m : ModuleState) (o : Options) (read : IsReadFrom b
         composite_inserting e made =
             let g = composite_insert s f c.at.top i v e (typed_there (composite_step i.op e)) made in
             let t = shape_so bytes m o read fine unit u inv told left right kinds p among lends is_one form b body has i in_block on in
-            let members : HasMembersApart Y g.is.shape = subst (HasMembersApart Y) (same_some t.0 g.is.shape (sym t.1 ∙ g.is.typed_as)) (declared_text bytes m o read fine unit u inv told left right kinds p among lends is_one form b body has i in_block on).1 in
+            let members : HasMembersApart Y g.is.shape = subst (HasMembersApart Y) (same_Some t.0 g.is.shape (sym t.1 ∙ g.is.typed_as)) (declared_text bytes m o read fine unit u inv told left right kinds p among lends is_one form b body has i in_block on).1 in
             inserting 1 (arg i 1) 0 (arg i 0) (drop 2 i.args) g.is (part_steps p.scope.setting i.ty (drop 2 i.args))
             (subst (λ (w : Scope). Leads 1 (arg i 1) 0 (arg i 0) (drop 2 i.args) g.is (part_steps w.setting i.ty (drop 2 i.args))) (sym (plan_is s o.entry right kinds o unit u p among).scope_is)
             (parts_lead P calls (copied z g.is.was) s u.entry o.overrides (name_of u.claimed) Fn Where.setting.global Where.form Where.carried x (drop 2 i.args) i.ty g.is.shape g.is.part_shape [] (Some g.is.was) g.is.typed_as g.leads g.low members))

@@ -2,6 +2,7 @@
 use Rattle.std.proofs.Common.{◌≡◌, ◌⊎◌, ◌≤◌, ◌&&◌, ◌++◌, not, ℕ, Bool, true, false, List, [], ◌∷◌, drop, length, Some, None, refl, sym, ◌∙◌, subst, arith, if◌then◌else◌}
 use Rattle.std.specs.Prelude.{nat_lt, slice_get, slice_index_or}
 use Rattle.std.specs.List.{enumerate_from}
+use Rattle.std.proofs.lemmas.Bool.{not-true, or_right}
 use Rattle.spv_ops.specs.Groups.{is_chain}
 use Rattle.spv_ops.specs.OpGroups.{group_of}
 use Rattle.spv_ops.specs.Shape.{is_pure}
@@ -40,7 +41,6 @@ use Rattle.typed_law.proofs.Values.{inside}
 use Rattle.claim_law.specs.Claimed.{IsIn}
 use Rattle.unit_law.proofs.Lists.{as_in, of_filter, of_numbered_first}
 use Rattle.unit_law.proofs.Links.{placed_in}
-use Rattle.unit_law.proofs.Places.{second_on}
 use Rattle.unit_law.proofs.Ways.{HaveKinds, F, R, V, in_module, plan_is, reached_nth}
 use Rattle.meets_law.proofs.LiveOrGone.{placed_live}
 use Rattle.formed_law.specs.Formed.{IsFormedBlock, IsFormedFunction}
@@ -51,10 +51,6 @@ use Rattle.outside_law.specs.Left.{IsLeftOfGlobals}
 use Rattle.insts_law.proofs.KindSteps.{chain_step}
 use Rattle.insts_law.proofs.New.{split_behind, stands_in, stands_among}
 use Rattle.steps_law.proofs.Indexes.{carried_mentioned, number, own_shape, kept_shape, written_so, own_none, stands_there}
-
-off_of : (b : Bool) → not b ≡ true → b ≡ false
-off_of true e = cc
-off_of false e = refl
 
 module _ (bytes : List ℕ) (m : ModuleState) (o : Options) (read : IsReadFrom bytes m) (fine : IsFine m o) (unit : TranslationUnit) (u : IsUnitOf m o unit) (inv : Invocation) (told : IsInvocation inv) (left : IsLeftOfGlobals bytes m o u.entry inv)
     (right : IsConforming m o.entry) (kinds : HaveKinds m.globals) (p : FunctionPlan) (among : IsIn p u.plans) (lends : LendsWhole (S m o unit u inv)) (one : IsFunctionOf (F (S m o unit u inv) o.entry right kinds o unit u p among) m.functions) where
@@ -121,7 +117,7 @@ module _ (bytes : List ℕ) (m : ModuleState) (o : Options) (read : IsReadFrom b
 
       -- what is carried is live
       live : Where.carried i.result ≡ true → IsLive Fn Marks b place.0
-      live carried = placed_live s o.entry right kinds o unit u p among b place.0 i place.1 (second_on (not (is_pure i.op)) (nat_lt 0 (length (mentions_of links i.result))) (carried_mentioned Fn links i.result carried))
+      live carried = placed_live s o.entry right kinds o unit u p among b place.0 i place.1 (or_right (not (is_pure i.op)) (nat_lt 0 (length (mentions_of links i.result))) (carried_mentioned Fn links i.result carried))
 
       by_index : Where.carried i.result ≡ true → (at : slice_get (drop 1 i.args) x.0 ≡ Some x.1) → is_constant_index gs x.1 ≡ false → HasVariableFor Where done i.result x.0 x.1
       by_index carried at off =
@@ -138,7 +134,7 @@ module _ (bytes : List ℕ) (m : ModuleState) (o : Options) (read : IsReadFrom b
       by_carried : (a : Bool) → is_chain i.op ≡ a → (c : Bool) → Where.carried i.result ≡ c → IsIn x (if a && c then captured_indexes gs i else []) → HasVariableFor Where done i.result x.0 x.1
       by_carried true on true carried x_there =
           let w = of_filter (λ (y : ℕ × ℕ). not (is_constant_index gs y.1)) (enumerate_from 0 (drop 1 i.args)) x x_there in
-          by_index carried (of_numbered_first (drop 1 i.args) x.0 x.1 w.0) (off_of (is_constant_index gs x.1) w.1)
+          by_index carried (of_numbered_first (drop 1 i.args) x.0 x.1 w.0) (not-true (is_constant_index gs x.1) w.1)
       by_carried true on false carried x_there = absurd x_there
       by_carried false on c carried x_there = absurd x_there
 

@@ -1,6 +1,7 @@
 -- The text declares the types of what it declares in blocks: results of live instructions of reached blocks.
 use Rattle.std.proofs.Common.{◌≡◌, ◌||◌, not, ℕ, Bool, true, false, List, Some, refl, sym, ap, ◌∙◌, subst}
 use Rattle.std.specs.Prelude.{slice_index_or}
+use Rattle.std.proofs.lemmas.Bool.{true_from_ne_false, not-true}
 use Rattle.spv_ops.specs.Opcode.{is}
 use Rattle.spv_ops.specs.Groups.{is_chain}
 use Rattle.spv_ops.specs.declared.Op.TheVariants as code
@@ -34,7 +35,7 @@ use Rattle.agree_law.specs.Points.{Body}
 use Rattle.call_law.specs.Known.{IsFunctionOf, LendsWhole}
 use Rattle.plan_law.specs.InOrder.{IsAmong}
 use Rattle.typed_law.specs.Conforms.{IsConforming}
-use Rattle.typed_law.proofs.Lists.{not_on, or_left}
+use Rattle.typed_law.proofs.Lists.{or_left}
 use Rattle.global_law.proofs.Zeros.{is_declared}
 use Rattle.claim_law.specs.Claimed.{IsIn, IsOf}
 use Rattle.claim_law.proofs.Listed.{in_flat, at_place}
@@ -50,7 +51,6 @@ use Rattle.naming_law.proofs.Keys.{S, key as key_of}
 use Rattle.outside_law.specs.Left.{IsLeftOfGlobals}
 use Rattle.outside_law.proofs.Text.{P as program_in}
 use Rattle.texts_law.proofs.ValueTypes.{IsTextType, live_text}
-use Rattle.insts_law.proofs.Asks.{not_off}
 use Rattle.insts_law.proofs.Sets.{value_so, other_so}
 
 not_local : Gone ≡ Local → ⊥
@@ -92,11 +92,11 @@ module _ (bytes : List ℕ) (m : ModuleState) (o : Options) (read : IsReadFrom b
 
     pub shape : (t : Tree) × (type_tree m.globals i.ty ≡ Some t) × IsSized t
     shape =
-        accepted_shaped bytes m o read fine are_globals f is_one i (as_among (insts_of f) i there) (not_off (has_type i.op) (λ off. some ((accepted_inner bytes m read f is_one i (as_among (insts_of f) i there)).1 off)))
+        accepted_shaped bytes m o read fine are_globals f is_one i (as_among (insts_of f) i there) (true_from_ne_false (has_type i.op) (λ off. some ((accepted_inner bytes m read f is_one i (as_among (insts_of f) i there)).1 off)))
         (value_so m o right kinds unit u inv p among lends is_one i there some on)
 
     no_variable : is_variable i ≡ false
-    no_variable = or_left (is i.op code.Variable) (is_chain i.op) (not_on (is i.op code.Variable || is_chain i.op) (other_so m o right kinds unit u inv p among lends is_one i there some shape.0 shape.1 shape.2))
+    no_variable = or_left (is i.op code.Variable) (is_chain i.op) (not-true (is i.op code.Variable || is_chain i.op) (other_so m o right kinds unit u inv p among lends is_one i there some shape.0 shape.1 shape.2))
 
     abbrev of_it : IsOf (claims_by (source_of m o u.entry) p) i
     of_it = record { number = b; block = body.block; there = body.there; among = in_it }

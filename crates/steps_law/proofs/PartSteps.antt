@@ -2,6 +2,7 @@
 use Rattle.std.proofs.Common.{◌≡◌, ◌<◌, ◌++◌, ◌^◌, ◌+◌, append_assoc, append-nil, ℕ, Bool, true, false, List, [], ◌∷◌, Option, Some, None, refl, sym, ap, ◌∙◌, subst, arith, if◌then◌else◌}
 use Rattle.std.specs.Prelude.{nat_lt, option_and_then}
 use Rattle.std.proofs.lemmas.Bool.Decides.{nat_tests}
+use Rattle.std.proofs.lemmas.Option.{same_Some}
 use Rattle.spv_ops.specs.Opcode.{number}
 use Rattle.spv_ops.specs.declared.Op.TheVariants as code
 use Rattle.spv_module.specs.declared.inst.Inst.{Inst}
@@ -35,11 +36,11 @@ use Rattle.path_law.specs.Walks.{struct_names, Walks}
 use Rattle.path_law.proofs.Parts.{scalar_in, member_named}
 use Rattle.path_law.proofs.Types.{op_of, vector_size_is, struct_number}
 use Rattle.path_law.proofs.Walks.{part_apart}
-use Rattle.typed_law.proofs.Lists.{and_left, and_right, same_some, some_part}
+use Rattle.typed_law.proofs.Lists.{and_left, and_right, some_part}
 use Rattle.lowers_law.proofs.Types.{W, op_at, part_at}
 
 if_some : {A : Type 0} (b : Bool) (x y : A) → (if b then Some x else None) ≡ Some y → (b ≡ true) × (x ≡ y)
-if_some true x y e = (refl, same_some x y e)
+if_some true x y e = (refl, same_Some x y e)
 if_some false x y e = cc
 
 pub less_of : (i n : ℕ) → nat_lt i n ≡ true → i < n
@@ -111,7 +112,7 @@ module _ (p : Program) (calls : Text → List Argument → State → Result (Opt
   -- The law.
   pub parts_lead : (ks : List ℕ) (ty : ℕ) (a t : Tree) (way : List ℕ) (o : Option ValueTree) → type_tree gs ty ≡ Some a → shape_at a ks ≡ Some t → are_indexes ks ≡ true → HasMembersApart Y a
       → (old : Option ValueTree) × Walks p calls z (part_steps w ty ks) (variable x way (S a) o) (variable x (way ++ ks) (S t) old)
-  parts_lead [] ty a t way o shaped at low apart = (o, ap (λ (l : List ℕ). Part l a o) (sym (append-nil way)) ∙ ap (λ (b : Tree). Part (way ++ []) b o) (same_some a t at))
+  parts_lead [] ty a t way o shaped at low apart = (o, ap (λ (l : List ℕ). Part l a o) (sym (append-nil way)) ∙ ap (λ (b : Tree). Part (way ++ []) b o) (same_Some a t at))
   parts_lead (k ∷ ks) ty a t way o shaped at low apart =
       let w1 = some_part (λ (v : Tree). shape_at v ks) (part_shape a k) t at in
       let here = and_left (nat_lt k (2 ^ 31)) (are_indexes ks) low in

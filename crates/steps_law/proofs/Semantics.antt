@@ -3,6 +3,8 @@ use Rattle.std.proofs.Common.{◌≡◌, ◌||◌, ◌&&◌, ◌++◌, not, ℕ,
 use Rattle.std.specs.Prelude.{is_some, option_and_then}
 use Rattle.std.specs.Option.{option_map_or}
 use Rattle.std.specs.List.{list_any}
+use Rattle.std.proofs.lemmas.Bool.{and_from, not-false}
+use Rattle.std.proofs.lemmas.Option.{same_Some}
 use Rattle.spv_words.specs.declared.rule.Rule.TheVariants.{A5}
 use Rattle.spv_ops.specs.Opcode.{is, number}
 use Rattle.spv_ops.specs.OpGroups.{group_of}
@@ -60,7 +62,7 @@ use Rattle.global_law.specs.Sources.{chosen}
 use Rattle.function_law.proofs.Selectors.{word_value}
 use Rattle.typed_law.specs.Conforms.{IsConforming}
 use Rattle.typed_law.specs.Words.{IsSettingOfWords, IsStateOfWords}
-use Rattle.typed_law.proofs.Lists.{or_left, and_off, not_off, both_on, some_by, some_part, same_some, found_in, none_at_fault}
+use Rattle.typed_law.proofs.Lists.{or_left, and_off, some_by, some_part, found_in, none_at_fault}
 use Rattle.typed_law.proofs.Values.{inside}
 use Rattle.ruled_law.proofs.Ruled.{contains_of}
 use Rattle.constant_law.specs.Items.{AreAsked, IsScalarSpec}
@@ -137,7 +139,7 @@ number_fit (plain.struct n ts) v on fit = cc
 -- the id is that of an OpConstant
 made_constant : (gs : List Inst) (f : Function) (n : ℕ) → is_other_value gs f is_semantics n ≡ false → is_some (type_in gs f n) ≡ true → (g : Inst) × (global gs n ≡ Some g) × (g.op ≡ code.Constant)
 made_constant gs f n right typed =
-    let w = some_by is_semantics (constant_word gs n) (not_off (option_map_or is_semantics (constant_word gs n) false) (and_off (is_some (type_in gs f n)) (not (option_map_or is_semantics (constant_word gs n) false)) right typed)) in
+    let w = some_by is_semantics (constant_word gs n) (not-false (option_map_or is_semantics (constant_word gs n) false) (and_off (is_some (type_in gs f n)) (not (option_map_or is_semantics (constant_word gs n) false)) right typed)) in
     let g = some_part constant_if (global gs n) w.0 w.1 in
     (g.0, g.1, constant_op g.0.op (constant_on (is g.0.op code.Constant) (rows.word g.0 0) w.0 g.2))
 
@@ -167,7 +169,7 @@ module _ (bytes : List ℕ) (m : ModuleState) (o : Options) (read : IsReadFrom b
         by_spec (Some k) e = absurd (no_spec g.op same (asked.spec_ids g there (ap is_some e)))
 
     literal_so : has_literal src g ≡ true
-    literal_so = both_on (option_map_or is_scalar (type_tree gs g.ty) false) (not (is g.op code.SpecConstantOp)) (ap (λ (x : Option Tree). option_map_or is_scalar x false) shape ∙ on) (no_calculation g.op same)
+    literal_so = and_from (option_map_or is_scalar (type_tree gs g.ty) false) (not (is g.op code.SpecConstantOp)) (ap (λ (x : Option Tree). option_map_or is_scalar x false) shape ∙ on) (no_calculation g.op same)
 
     reads_plain : reading src g ≡ Plain
     reads_plain =
@@ -178,8 +180,8 @@ module _ (bytes : List ℕ) (m : ModuleState) (o : Options) (read : IsReadFrom b
     unfolding literal_word
     literal_is w same_source number_so =
         ap (λ (b : Bool). if b then Some (word_of (plain_value w.source g)) else None)
-        (both_on (is_constant g) (is_plain (reading w.source g) && is_number (option_and_then elem_of (type_tree (globals_in w) g.ty))) (is_constant_so g same)
-        (both_on (is_plain (reading w.source g)) (is_number (option_and_then elem_of (type_tree (globals_in w) g.ty))) (ap (λ (x : Source). is_plain (reading x g)) same_source ∙ ap is_plain reads_plain)
+        (and_from (is_constant g) (is_plain (reading w.source g) && is_number (option_and_then elem_of (type_tree (globals_in w) g.ty))) (is_constant_so g same)
+        (and_from (is_plain (reading w.source g)) (is_number (option_and_then elem_of (type_tree (globals_in w) g.ty))) (ap (λ (x : Source). is_plain (reading x g)) same_source ∙ ap is_plain reads_plain)
         (ap (λ (x : Source). is_number (option_and_then elem_of (type_tree x.of.globals g.ty))) same_source ∙ (ap (λ (x : Option Tree). is_number (option_and_then elem_of x)) shape ∙ number_so))))
 
   module _ (right : IsConforming m o.entry) (kinds : HaveKinds gs) (p : FunctionPlan) (among : IsIn p u.plans) where
@@ -207,7 +209,7 @@ module _ (bytes : List ℕ) (m : ModuleState) (o : Options) (read : IsReadFrom b
       there_read =
           let own = constant_value s c fit n made.0 made.1 (word v) value_is in
           let k = constant_of s (chosen s o.overrides) have right.results n (word v) own in
-          let same : k.0 ≡ made.0 = same_some k.0 made.0 (sym k.3 ∙ made.1) in
+          let same : k.0 ≡ made.0 = same_Some k.0 made.0 (sym k.3 ∙ made.1) in
           let shape : type_tree gs made.0.ty ≡ Some k.2 = ap (λ (g : Inst). type_tree gs g.ty) (sym same) ∙ k.4 in
           let scalar = scalar_fit k.2 (word v) tt k.5 in
           let literal = ap (option_and_then (literal_word Where.setting)) made.1 ∙ literal_is made.0 (found_in gs n made.0 made.1) made.2 k.2 shape scalar Where.setting refl (number_fit k.2 v scalar k.5) in

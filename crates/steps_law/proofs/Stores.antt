@@ -2,6 +2,7 @@
 use Rattle.std.proofs.Common.{◌≡◌, ◌&&◌, ◌||◌, ℕ, Bool, true, false, List, [], ◌∷◌, ◌++◌, length, drop, Contains, Option, Some, None, refl, sym, ap, ◌∙◌, subst, if◌then◌else◌}
 use Rattle.std.specs.Prelude.{option_and_then, slice_get}
 use Rattle.std.specs.Option.{option_map_or}
+use Rattle.std.proofs.lemmas.Option.{same_Some}
 use Rattle.spv_ops.specs.Opcode.{is, number}
 use Rattle.spv_ops.specs.Operands.{is_id}
 use Rattle.spv_ops.specs.OpGroups.{group_of}
@@ -59,7 +60,7 @@ use Rattle.path_law.specs.Parts.{shape_in, IsInput}
 use Rattle.path_law.specs.Walks.{writing, struct_names}
 use Rattle.path_law.proofs.Walks.{IsNoBlock}
 use Rattle.typed_law.specs.Conforms.{IsConforming, IsConformingIn}
-use Rattle.typed_law.proofs.Lists.{or_left, or_right, same_some}
+use Rattle.typed_law.proofs.Lists.{or_left, or_right}
 use Rattle.typed_law.proofs.Others.{target_of, typed_some, as_store}
 use Rattle.typed_law.proofs.Rules.{value_right}
 use Rattle.typed_law.proofs.Shapes.{row_of_shape}
@@ -213,7 +214,7 @@ module _ (m : ModuleState) (opts : Options) (right : IsConforming m opts.entry) 
     }
       where
         sized_of : (t : Tree) × (type_tree Gs target.0 ≡ Some t) × IsSized t → IsSized target.1
-        sized_of q = subst IsSized (same_some q.0 target.1 (sym q.1 ∙ target.3)) q.2
+        sized_of q = subst IsSized (same_Some q.0 target.1 (sym q.1 ∙ target.3)) q.2
 
     -- the law of stores
     pub store_is_left : SayOperandsHere → WaysHere → IsUsable (arg i 0) → Left kind.Store

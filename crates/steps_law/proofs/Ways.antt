@@ -3,7 +3,8 @@ use Rattle.std.proofs.Common.{◌≡◌, ◌⊎◌, ◌≤◌, ◌<◌, ◌==◌
 use Rattle.std.specs.Prelude.{is_some, option_map, option_and_then, slice_get, slice_index, slice_index_or}
 use Rattle.std.specs.Option.{option_map_or, option_or}
 use Rattle.std.specs.List.{enumerate_from}
-use Rattle.std.proofs.lemmas.Bool.{and_parts}
+use Rattle.std.proofs.lemmas.Bool.{and_parts, and_from}
+use Rattle.std.proofs.lemmas.Option.{same_Some}
 use Rattle.spv_ops.specs.Opcode.{is, number}
 use Rattle.spv_ops.specs.Groups.{is_chain, is_constant}
 use Rattle.spv_ops.specs.Operands.{is_id}
@@ -59,7 +60,7 @@ use Rattle.type_law.proofs.Chains.{HaveTypes as HaveTypesIn}
 use Rattle.plan_law.specs.InOrder.{IsAmong}
 use Rattle.plan_law.proofs.Order.{found}
 use Rattle.typed_law.specs.Conforms.{IsConforming, IsConformingIn}
-use Rattle.typed_law.proofs.Lists.{same_some, both_on, clash}
+use Rattle.typed_law.proofs.Lists.{clash}
 use Rattle.typed_law.proofs.Values.{inside, own_local}
 use Rattle.claim_law.specs.Claimed.{IsIn}
 use Rattle.claim_law.proofs.Constants.{found_in}
@@ -238,7 +239,7 @@ module _ (bytes : List ℕ) (m : ModuleState) (o : Options) (read : IsReadFrom b
 
         done_here : stands.0 ≡ b → IsOf q done
         done_here same =
-            let block_is : stands.1 ≡ body.block = same_some stands.1 body.block (sym stands.2 ∙ (ap (λ (k : ℕ). slice_get Fn.blocks k) same ∙ body.there)) in
+            let block_is : stands.1 ≡ body.block = same_Some stands.1 body.block (sym stands.2 ∙ (ap (λ (k : ℕ). slice_get Fn.blocks k) same ∙ body.there)) in
             all q (done_before m Fn in_it.order b body (form.blocks b body.block body.there) befores i rest split q (subst (λ (x : Block). IsIn q x.insts) block_is stands.3) (chain_no_phi q.op chain) less)
 
         -- its constants are mentioned in the text
@@ -301,7 +302,7 @@ module _ (bytes : List ℕ) (m : ModuleState) (o : Options) (read : IsReadFrom b
             inst = as_of stands.1.insts q stands.3;
             made = λ same. done_here (test_same stands.0 b same);
             own = no_module bytes m o read fine unit u inv told left p among q.result (own_local s o.entry right Fn in_mod q (as_among (insts_of Fn) q q_in));
-            base_shape = λ ty points. (ruled.leads.1, ap (type_tree gs) (same_some ty ruled.leads.0 (sym points ∙ ruled.leads.2)) ∙ ruled.leads.3);
+            base_shape = λ ty points. (ruled.leads.1, ap (type_tree gs) (same_Some ty ruled.leads.0 (sym points ∙ ruled.leads.2)) ∙ ruled.leads.3);
             indexes = all_indexes 0 (drop 1 q.args) (λ j n at. subst (λ (x : ℕ). IsWrittenIndex P calls z N s o.overrides Fn its_key globals b done q stands.0 x n) (let same : j ≡ 0 + j = omega arith in same) (one_index j n at));
           }
 
@@ -324,7 +325,7 @@ module _ (bytes : List ℕ) (m : ModuleState) (o : Options) (read : IsReadFrom b
             let slot = (and_parts (slice_index_or Marks r.block false || is_base r.user r.linked.arg) (is_slot Fn Marks r.user r.linked.arg) r.linked.slot).1 in
             let names_id = (and_parts (is_id r.user.op r.user.args r.linked.arg) (is_value r.user.op r.linked.arg && is_taken Fn Marks r.user r.linked.arg) slot).0 in
             any_in (λ (q : ℕ × ℕ). is_id r.user.op r.user.args q.0 && (q.1 == n)) (enumerate_from 0 r.user.args) (r.linked.arg, n) (numbered_first r.user.args r.linked.arg n r.linked.word)
-            (both_on (is_id r.user.op r.user.args r.linked.arg) (n == n) names_id (same_test n n refl))
+            (and_from (is_id r.user.op r.user.args r.linked.arg) (n == n) names_id (same_test n n refl))
 
         -- its type points to something
         pointing : is_pointer gs Fn n ≡ true
@@ -338,14 +339,14 @@ module _ (bytes : List ℕ) (m : ModuleState) (o : Options) (read : IsReadFrom b
         by_parameter on =
             subst Begins same_function
             (parameter_start bytes m o read fine unit u inv told left p among calls z b done n
-            (subst (λ (g : Function). (is_parameter g n && is_pointer gs g n) ≡ true) (sym same_function) (both_on (is_parameter Fn n) (is_pointer gs Fn n) on pointing)))
+            (subst (λ (g : Function). (is_parameter g n && is_pointer gs g n) ≡ true) (sym same_function) (and_from (is_parameter Fn n) (is_pointer gs Fn n) on pointing)))
 
         by_variable : (j : Inst) → IsIn j (insts_of Fn) → j.result ≡ n → step_kind j.op ≡ steps.variable → is_parameter Fn n ≡ false → Begins Fn
         by_variable j j_in same step off =
             subst Begins same_function
             (own_start bytes m o read fine unit u inv told left p among calls z b done n
             (subst (λ (g : Function). (not (is_parameter g n) && is_own_memory g n) ≡ true) (sym same_function)
-            (both_on (not (is_parameter Fn n)) (is_own_memory Fn n) (ap not off) (ap (is_own_memory Fn) (sym same) ∙ rules.memory Fn one j (as_of (insts_of Fn) j j_in) step))))
+            (and_from (not (is_parameter Fn n)) (is_own_memory Fn n) (ap not off) (ap (is_own_memory Fn) (sym same) ∙ rules.memory Fn one j (as_of (insts_of Fn) j j_in) step))))
 
         by_inst : (x : Option Inst) → inst_in Fn n ≡ x → is_parameter Fn n ≡ false → type_in gs Fn n ≡ option_and_then typed x → Begins Fn
         by_inst None made off type_is = absurd (clash (sym pointing ∙ ap (λ (y : Option ℕ). is_some (option_and_then (storage_class gs) y)) type_is))

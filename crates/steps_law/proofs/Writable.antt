@@ -4,6 +4,7 @@ use Rattle.std.specs.Prelude.{option_map, option_and_then, is_some}
 use Rattle.std.specs.Option.{option_map_or, option_or}
 use Rattle.std.specs.List.{list_any}
 use Rattle.std.proofs.lemmas.List.Elements.{Contains-append_left}
+use Rattle.std.proofs.lemmas.Bool.{not-false}
 use Rattle.spv_words.specs.declared.rule.Rule.TheVariants.{M2}
 use Rattle.spv_ops.specs.Opcode.{is}
 use Rattle.spv_ops.specs.Enumerants.{class_number}
@@ -63,7 +64,7 @@ use Rattle.path_law.proofs.Reached as reached
 use Rattle.path_law.proofs.Writings.{begins}
 use Rattle.typed_law.specs.Conforms.{IsConforming}
 use Rattle.typed_law.proofs.Calls.{global_variable_is, global_points}
-use Rattle.typed_law.proofs.Lists.{or_left, or_right, and_off, not_off, clash, none_by, none_at_fault, found_in}
+use Rattle.typed_law.proofs.Lists.{or_left, or_right, and_off, clash, none_by, none_at_fault, found_in}
 use Rattle.typed_law.proofs.Values.{same_count, typed_is, global_typed_some}
 use Rattle.unit_law.proofs.Shaped.{pointer_none}
 use Rattle.meets_law.proofs.ArrayLengths.{variable_typed}
@@ -126,7 +127,7 @@ module _ (s : Setting) (entry : Option (List ℕ)) (right : IsConforming s.of en
     no_pointer off =
         let g = row s f to t shaped in
         let is_one : not (is_pointer g.0) ≡ false = ap (λ (o : Option Inst). option_map_or (λ (x : Inst). not (is_pointer x)) o false) (sym g.1) ∙ off in
-        pointer_none Gs g.0 t (not_off (is_pointer g.0) is_one) g.2
+        pointer_none Gs g.0 t (not-false (is_pointer g.0) is_one) g.2
 
     -- it is known where the chain leads: else it might be of any type
     chain_class : (k : ℕ) → class_of Gs f (base q) ≡ Some k → class_of Gs f q.result ≡ Some k

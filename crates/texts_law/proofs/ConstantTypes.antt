@@ -1,5 +1,7 @@
 -- The type of a constant that functions of an accepted module's text mention stands in the text.
 use Rattle.std.proofs.Common.{◌≡◌, ℕ, true, List, Option, Some, inl, inr, refl, sym, ap, ◌∙◌, subst}
+use Rattle.std.proofs.lemmas.Bool.{or_right}
+use Rattle.std.proofs.lemmas.Option.{same_Some}
 use Rattle.spv_decor.specs.Decorations.{local_insts}
 use Rattle.spv_module.specs.Held.{global}
 use Rattle.spv_module.specs.State.{ModuleState}
@@ -25,14 +27,14 @@ use Rattle.unit_rules.specs.Unit.{source_of, IsUnitOf}
 use Rattle.plan_law.specs.InOrder.{IsAmong}
 use Rattle.plan_law.proofs.Order.{among_left as inst_left}
 use Rattle.fits_law.proofs.Steps.{named}
-use Rattle.typed_law.proofs.Lists.{found_in, same_some}
+use Rattle.typed_law.proofs.Lists.{found_in}
 use Rattle.typed_law.proofs.Used.{global_found, used_sized}
 use Rattle.global_law.specs.Sources.{chosen}
 use Rattle.global_law.proofs.Plain.{plain_is}
 use Rattle.constant_law.specs.Items.{AreAsked}
 use Rattle.constant_law.proofs.Valued.{IsValued}
 use Rattle.constant_law.proofs.Within.{constant_no_variable, constant_within}
-use Rattle.constant_law.proofs.Written.{or_on_right, IsHeld, own_type, held_by}
+use Rattle.constant_law.proofs.Written.{IsHeld, own_type, held_by}
 use Rattle.constant_law.proofs.GroupSizes.{size_has, part_is_of}
 use Rattle.constant_law.proofs.Reading.{size_reading, part_reading}
 use Rattle.constant_law.proofs.Standing.{declared_by}
@@ -102,7 +104,7 @@ module _ (bytes : List ℕ) (m : ModuleState) (o : Options) (read : IsReadFrom b
     constant = constant_at bytes m o read fine unit u inv told left p n v has mentioned
 
     same_type : (t : Tree) → type_tree Gs it.inst.ty ≡ Some t → t ≡ it.shape
-    same_type t e = same_some t it.shape (sym e ∙ it.typed_as)
+    same_type t e = same_Some t it.shape (sym e ∙ it.typed_as)
 
     by_reading : (q : Reading) → reading src it.inst ≡ q → IsText it.shape
     by_reading Plain reads = let c = plain_is s o.overrides it.inst reads in scalar_text it.shape (subst (λ (t : Tree). is_scalar t ≡ true) (same_type c.shape c.typed_as) c.scalar)
@@ -117,7 +119,7 @@ module _ (bytes : List ℕ) (m : ModuleState) (o : Options) (read : IsReadFrom b
         let declared : is_declared_constant src r it.inst ≡ true = declared_by s o.entry o.overrides found r asked it.inst constant reads needed in
         let sized : IsSized it.shape = used_sized m o.entry asked.right it.inst (inst_left it.inst Gs (local_insts m) among) (constant_no_variable it.inst.op constant) it.shape it.typed_as in
         let held : (j : ℕ) → has_struct j it.shape ≡ true → IsHeld s o.entry asked.right o.overrides r j =
-        λ j on. held_by s o.entry asked.right o.overrides r it.inst j among (or_on_right (is_written_variable r it.inst) (is_declared_constant src r it.inst) declared) (own_type s o.entry asked.right o.overrides r it.inst.ty j it.shape it.typed_as on) in (
+        λ j on. held_by s o.entry asked.right o.overrides r it.inst j among (or_right (is_written_variable r it.inst) (is_declared_constant src r it.inst) declared) (own_type s o.entry asked.right o.overrides r it.inst.ty j it.shape it.typed_as on) in (
           zero_declared s o.entry o.overrides found r asked fs functions it.inst.at it.shape (constant_within m o.entry asked.right it.inst it.shape among constant it.typed_as) sized held,
           asked.members it.inst it.shape among declared it.typed_as,
         )

@@ -2,6 +2,8 @@
 use Rattle.std.proofs.Common.{◌≡◌, ◌⊎◌, ◌==◌, ℕ, Bool, true, false, List, [], ◌∷◌, Option, Some, None, inl, inr, refl, sym, ap, ◌∙◌, map, not, subst}
 use Rattle.std.specs.Prelude.{find, is_some, option_map, option_and_then, slice_get, slice_index_or}
 use Rattle.std.specs.Option.{option_map_or, option_or}
+use Rattle.std.proofs.lemmas.Bool.{false_from_ne_true}
+use Rattle.std.proofs.lemmas.Option.{same_Some}
 use Rattle.spv_module.specs.Held.{global}
 use Rattle.spv_module.specs.State.{ModuleState}
 use Rattle.spv_module.specs.declared.inst.Id.{Id as IdOf}
@@ -33,7 +35,7 @@ use Rattle.lowering_law.specs.Arguments.{IsBasic}
 use Rattle.lowers_law.proofs.Types.{decide_basic}
 use Rattle.path_law.proofs.Types.{op_of, declared_as}
 use Rattle.typed_law.specs.Conforms.{IsConforming, IsParameter}
-use Rattle.typed_law.proofs.Lists.{and_left, same_some, some_part}
+use Rattle.typed_law.proofs.Lists.{and_left, some_part}
 use Rattle.typed_law.proofs.Types.{pointee_shaped}
 use Rattle.typed_law.proofs.Values.{local_row, shaped_some, variable_type_is}
 use Rattle.constant_law.proofs.Written.{no_pointee}
@@ -62,10 +64,6 @@ composite_op plain.int far = absurd (far tt)
 composite_op plain.uint far = absurd (far tt)
 composite_op (plain.vector e n) far = absurd (far tt)
 
-no_true : (t : Bool) → (t ≡ true → ⊥) → t ≡ false
-no_true false off = refl
-no_true true off = absurd (off refl)
-
 no_some : {A B : Type 0} (a : A) → None ≡ Some a → B
 no_some a e = cc
 
@@ -80,7 +78,7 @@ parameter_found f n ty is = by_find (find (λ (q : IdOf × IdOf). q.0.0 == n) f.
   where
     by_find : (o : Option (IdOf × IdOf)) → find (λ (q : IdOf × IdOf). q.0.0 == n) f.params ≡ o → option_map (λ (q : IdOf × IdOf). q.1.0) o ≡ Some ty → (q : IdOf × IdOf) × IsParameter q f.params × (q.1.0 ≡ ty)
     by_find None at e = cc
-    by_find (Some q) at e = (q, as_parameter f.params q (found_by (λ (x : IdOf × IdOf). x.0.0 == n) f.params q at).0, same_some q.1.0 ty e)
+    by_find (Some q) at e = (q, as_parameter f.params q (found_by (λ (x : IdOf × IdOf). x.0.0 == n) f.params q at).0, same_Some q.1.0 ty e)
 
 module _ (bytes : List ℕ) (m : ModuleState) (o : Options) (read : IsReadFrom bytes m) (fine : IsFine m o) (unit : TranslationUnit) (u : IsUnitOf m o unit) (inv : Invocation) (told : IsInvocation inv) (left : IsLeftOfGlobals bytes m o u.entry inv) (p : FunctionPlan) (planned : IsIn p u.plans) (right : IsConforming m o.entry) (kinds : HaveKinds m.globals) where
   abbrev s : Setting
@@ -111,7 +109,7 @@ module _ (bytes : List ℕ) (m : ModuleState) (o : Options) (read : IsReadFrom b
 
   -- what has a value's type is no variable, whose type is a pointer
   no_variable : (j : Inst) → IsIn j (insts_of Fn) → (j.ty ≡ 0 → ⊥) → (t : Tree) → type_tree Gs j.ty ≡ Some t → is_variable j ≡ false
-  no_variable j among some t shaped = no_true (is_variable j) never
+  no_variable j among some t shaped = false_from_ne_true (is_variable j) never
     where
       never : is_variable j ≡ true → ⊥
       never on =
@@ -168,7 +166,7 @@ module _ (bytes : List ℕ) (m : ModuleState) (o : Options) (read : IsReadFrom b
       let w = typed_parameter bytes m o read fine unit u inv told left p planned q.0 one in
       let own : type_tree Gs q.0.1.0 ≡ Some t = ap (type_tree Gs) q.2 ∙ shaped in
       let itself : q.0.1.0 ≡ w.type = sym (ap (λ (x : Option ℕ). option_map_or (λ (k : ℕ). k) x q.0.1.0) (no_pointee Gs q.0.1.0 t own)) ∙ w.self in
-      let shape_is : w.shape ≡ t = same_some w.shape t (sym w.typed_as ∙ (ap (type_tree Gs) (sym itself) ∙ own)) in
+      let shape_is : w.shape ≡ t = same_Some w.shape t (sym w.typed_as ∙ (ap (type_tree Gs) (sym itself) ∙ own)) in
       subst IsText shape_is (parameter_text bytes m o read fine unit u inv told left p planned q.0 one)
 
   -- The law: of any value that the block mentions, where those of the module that are composites have types in the text.

@@ -1,6 +1,7 @@
 -- No loop and no case inside a construct has a flag of the construct itself.
 use Rattle.std.proofs.Common.{◌≡◌, ◌<◌, ◌≢◌, ◌⊎◌, ℕ, true, List, [], ◌∷◌, length, Option, Some, None, is_some, inl, inr, refl, ap, sym, ◌∙◌, subst, arith}
 use Rattle.std.specs.List.{range_with_len}
+use Rattle.std.proofs.lemmas.Bool.{and_right}
 use Rattle.spv_module.specs.declared.inst.Function.{Function}
 use Rattle.structure_rules.specs.declared.graph.Node.{Node}
 use Rattle.structure_rules.specs.declared.graph.Role.TheVariants.{Case as CaseOf}
@@ -26,7 +27,6 @@ use Rattle.tree_law.specs.Placed.{IsPlaced, IsPlacedItem}
 use Rattle.tree_law.specs.Written.{IsWritten}
 use Rattle.tree_law.proofs.SwitchOrder.{fall_is, back, switch_own}
 use Rattle.tree_law.proofs.Placing.{item_placed, inside_placed, case_placed, behind_placed, plain_inner, chosen_inner, selected_place}
-use Rattle.tree_law.proofs.Leaving.{and_false}
 
 -- one of these constructs has this header
 abbrev pub IsUnder : ℕ → List Part → Type 0
@@ -65,7 +65,7 @@ module _ (f : Function) (g : List Node) (sound : IsSound g) (w : Blocks) (term :
           region_fresh z fo.3.0 (If h ∷ ps) fo.3.2 (inside_placed f g sound h 1 fo.3.0 (If h ∷ ps) pl.0 off round fo.3.1) (inr u),
         )
     item_fresh (loose h y z) ps fo pl u =
-        let round = plain_inner f g sound h ps (and_false (is_conditional (nth g h).exit) (is_selection (nth g h).merge) fo.1) pl.1 in
+        let round = plain_inner f g sound h ps (and_right (is_conditional (nth g h).exit) (is_selection (nth g h).merge) fo.1) pl.1 in
         let off = conditional_no_switch (nth g h).exit fo.0 in (
           region_fresh y fo.2.0 ps fo.2.2 (inside_placed f g sound h 0 fo.2.0 ps pl.0 off round fo.2.1) u,
           region_fresh z fo.3.0 ps fo.3.2 (inside_placed f g sound h 1 fo.3.0 ps pl.0 off round fo.3.1) u,

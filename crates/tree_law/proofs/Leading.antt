@@ -2,7 +2,7 @@
 use Rattle.std.proofs.Common.{◌≡◌, ◌<◌, ◌==◌, ◌&&◌, not, ℕ, Bool, true, false, List, [], ◌∷◌, length, slice_get, if◌then◌else◌, Option, Some, None, is_some, inl, inr, ◌⊎◌, refl, ap, sym, ◌∙◌, subst, arith}
 use Rattle.std.specs.List.{range_with_len}
 use Rattle.std.specs.Option.{option_and_then}
-use Rattle.std.proofs.lemmas.Bool.{or_left, or_right}
+use Rattle.std.proofs.lemmas.Bool.{or_left, or_right, and_right}
 use Rattle.std.proofs.lemmas.Bool.Decides.{eqb_tells}
 use Rattle.spv_ops.specs.Opcode.{is}
 use Rattle.spv_ops.specs.declared.Op.TheVariants as code
@@ -41,7 +41,7 @@ use Rattle.tree_law.specs.Written.{IsWritten}
 use Rattle.tree_law.proofs.Serving.{merges, exit_leads, choice_serves, body_serves, continue_serves, case_serves}
 use Rattle.tree_law.proofs.SwitchOrder.{fall_links_are, enters_own, order_is}
 use Rattle.tree_law.proofs.Placing.{starts_carried, head_at, starts_at, item_placed, inside_placed, case_placed, behind_placed, plain_inner, chosen_inner, selected_place, after_item, merged_item}
-use Rattle.tree_law.proofs.Leaving.{needs_at, and_false, groups_leave}
+use Rattle.tree_law.proofs.Leaving.{needs_at, groups_leave}
 use Rattle.tree_law.proofs.Fresh.{continue_placed, again_fresh, fresh_if, fell_role, fell_fresh}
 
 item_of : (f : Function) (g : List Node) (r : Region) (s : Start) → Follows f g r (At s) → IsItem r
@@ -229,7 +229,7 @@ module _ (f : Function) (g : List Node) (sound : IsSound g) (w : Blocks) (term :
     item_leads (loose h x y) s r n ps v breaks at sa fi be fo pl here rest se br =
         let exit = conditional_is (nth g h).exit fi.0 in
         let off = conditional_no_switch (nth g h).exit fi.0 in
-        let round = plain_inner f g sound h ps (and_false (is_conditional (nth g h).exit) (is_selection (nth g h).merge) fi.1) pl.1 in
+        let round = plain_inner f g sound h ps (and_right (is_conditional (nth g h).exit) (is_selection (nth g h).merge) fi.1) pl.1 in
         let b = written.branches h pl.0 exit in
         let cx : Carries g h b.0 fi.2.0 = subst (λ o. CarriesTo g h o fi.2.0) b.2 fi.2.1 in
         let cy : Carries g h b.1 fi.3.0 = subst (λ o. CarriesTo g h o fi.3.0) b.3 fi.3.1 in (
@@ -251,7 +251,7 @@ module _ (f : Function) (g : List Node) (sound : IsSound g) (w : Blocks) (term :
         let body : IsPlaced g (At (Body h)) (Loop h ∷ ps) = (pl.0, ap (λ qs. Loop h ∷ qs) pl.1, pl.2) in (
           here,
           body_block f g h x fi.1,
-          written.no_again h (ap (λ o. (nth g h).reached && is_some o) fi.0 ∙ and_false (nth g h).reached false refl),
+          written.no_again h (ap (λ o. (nth g h).reached && is_some o) fi.0 ∙ and_right (nth g h).reached false refl),
           fresh_if f g sound w term falls Cases written h (w.leave h) x (At (Body h)) (Loop h ∷ ps) refl fi.1 body (inl refl),
           (
             behind g h,

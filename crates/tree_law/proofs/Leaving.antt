@@ -1,8 +1,8 @@
 -- A break that is found in a region is an edge of the graph that leaves the nearest loop.
-use Rattle.std.proofs.Common.{◌≡◌, ◌==◌, ◌&&◌, ℕ, Bool, true, false, List, [], ◌∷◌, length, Option, Some, None, is_some, inl, inr, refl, ap, sym, ◌∙◌, subst, arith, if◌then◌else◌}
+use Rattle.std.proofs.Common.{◌≡◌, ◌==◌, ℕ, Bool, true, List, [], ◌∷◌, length, Option, Some, None, is_some, inl, inr, refl, ap, sym, ◌∙◌, subst, arith, if◌then◌else◌}
 use Rattle.std.specs.List.{list_any, range_with_len}
 use Rattle.std.specs.Option.{option_and_then}
-use Rattle.std.proofs.lemmas.Bool.{and_from, or_cases, or_left, or_right}
+use Rattle.std.proofs.lemmas.Bool.{and_from, or_cases, or_left, or_right, and_right}
 use Rattle.spv_module.specs.declared.inst.Function.{Function}
 use Rattle.structure_rules.specs.declared.graph.Node.{Node}
 use Rattle.structure_rules.specs.declared.graph.Part.{Part}
@@ -68,10 +68,6 @@ exit_leaves g (Return b) ps pl br = cc
 exit_leaves g (Lost b) ps pl br = cc
 exit_leaves g Closed ps pl br = cc
 
-pub and_false : (a b : Bool) → b ≡ false → (a && b) ≡ false
-and_false true b e = e
-and_false false b e = refl
-
 case_leaves : (g : List Node) (near : Option Part) (switched : Bool) → Leaves g near true → Leaves g near switched
 case_leaves g near switched l = record {
   from = l.from;
@@ -103,7 +99,7 @@ module _ (f : Function) (g : List Node) (sound : IsSound g) where
           | inr two ↦ region_leaves y fo.3.0 (If h ∷ ps) fo.3.2 (inside_placed f g sound h 1 fo.3.0 (If h ∷ ps) pl.0 off round fo.3.1) two
         ]
     item_leaves (loose h x y) ps fo pl br =
-        let round = plain_inner f g sound h ps (and_false (is_conditional (nth g h).exit) (is_selection (nth g h).merge) fo.1) pl.1 in
+        let round = plain_inner f g sound h ps (and_right (is_conditional (nth g h).exit) (is_selection (nth g h).merge) fo.1) pl.1 in
         let off = conditional_no_switch (nth g h).exit fo.0 in
         elim (or_cases (has_break x) (has_break y) br) [
           | inl one ↦ region_leaves x fo.2.0 ps fo.2.2 (inside_placed f g sound h 0 fo.2.0 ps pl.0 off round fo.2.1) one

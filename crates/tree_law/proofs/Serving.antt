@@ -1,7 +1,7 @@
 -- An edge out of a region leads where its kind says; and what serves a region goes over into the constructs in it.
-use Rattle.std.proofs.Common.{◌≡◌, ◌&&◌, ◌||◌, ℕ, Bool, true, false, List, [], ◌∷◌, Option, Some, None, is_some, if◌then◌else◌, refl, sym, ap, ◌∙◌, subst, ◌⊎◌, inl, inr, ⊎_elim}
+use Rattle.std.proofs.Common.{◌≡◌, ◌||◌, ℕ, Bool, true, false, List, [], ◌∷◌, Option, Some, None, is_some, if◌then◌else◌, refl, sym, ap, ◌∙◌, subst, ◌⊎◌, inl, inr, ⊎_elim}
 use Rattle.std.specs.Prelude.{option_and_then}
-use Rattle.std.proofs.lemmas.Bool.{false≢true}
+use Rattle.std.proofs.lemmas.Bool.{false≢true, and_parts}
 use Rattle.std.proofs.lemmas.Bool.Decides.{eqb_tells}
 use Rattle.structure_rules.specs.declared.graph.Node.{Node}
 use Rattle.structure_rules.specs.declared.graph.Part.{Part}
@@ -21,11 +21,6 @@ use Rattle.tree_law.specs.Serves.{nearest, top, switch_in, place_of, Sees, Serve
 pub value_some : (x : ℕ) (o : Option ℕ) → is_value x o ≡ true → o ≡ Some x
 value_some x None e = cc
 value_some x (Some y) e = elim (eqb_tells y x) [ inl w ↦ ap (λ q. Some q) w.1 | inr w ↦ absurd (false≢true (sym w.0 ∙ e)) ]
-
-and_parts : (a b : Bool) → (a && b) ≡ true → (a ≡ true) × (b ≡ true)
-and_parts true true h = (refl, refl)
-and_parts true false h = cc
-and_parts false b h = cc
 
 pub merges : (g : List Node) (t : ℕ) (o : Option ℕ) → merges_to g t o ≡ true → (h : ℕ) × (o ≡ Some h) × (merge_block g h ≡ Some t)
 merges g t None e = cc

@@ -3,6 +3,7 @@ use Rattle.std.proofs.Common.{◌≡◌, ◌+◌, ◌==◌, ◌%◌, ◌&&◌, �
 use Rattle.std.specs.Prelude.{filter}
 use Rattle.std.specs.List.{list_any, enumerate_from}
 use Rattle.std.proofs.lemmas.Bool.Decides.{nat_tests}
+use Rattle.std.proofs.lemmas.Option.{same_Some}
 use Rattle.spv_ops.specs.Opcode.{is}
 use Rattle.spv_ops.specs.declared.Op.TheVariants as code
 use Rattle.spv_module.specs.declared.inst.Inst.{Inst}
@@ -20,7 +21,7 @@ use Rattle.fits_law.specs.Typed.{IsOfWords}
 use Rattle.type_law.proofs.Rows.{int_has}
 use Rattle.type_law.proofs.Scalars.{or_left, or_right}
 use Rattle.type_law.proofs.Operands.{same_shape_of}
-use Rattle.type_law.proofs.Choices.{passes, some_same}
+use Rattle.type_law.proofs.Choices.{passes}
 use Rattle.type_law.proofs.Parts.{row}
 
 -- a number has any word
@@ -77,7 +78,7 @@ source_passes test n from id (a ∷ b ∷ ws) e right is =
     by_label (b == from) (or_left (test a) (list_any test (seconds (n + 1 + 1) ws)) parts) (source_passes test (n + 1 + 1) from id ws (even_after n e) (or_right (test a) (list_any test (seconds (n + 1 + 1) ws)) parts)) is
   where
     by_label : (t : Bool) → test a ≡ false → (source_from from ws ≡ Some id → test id ≡ false) → elim t [ true ↦ Some a | false ↦ source_from from ws ] ≡ Some id → test id ≡ false
-    by_label true own later is = let same : a ≡ id = some_same a id is in subst (λ x. test x ≡ false) same own
+    by_label true own later is = let same : a ≡ id = same_Some a id is in subst (λ x. test x ≡ false) same own
     by_label false own later is = later is
 
 module _ (s : Setting) (f : Function) where

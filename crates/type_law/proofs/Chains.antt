@@ -20,6 +20,7 @@ use Rattle.profile_rules.specs.declared.needs.Reached.TheVariants.{Part, Nothing
 use Rattle.profile_rules.specs.TypeRows.{is_int, is_vector, is_runtime_array, is_pointer, fails, differ, value_fails, is_not, constant_if, constant_word}
 use Rattle.profile_rules.specs.ValueRules.{walk, nth_member, member_by, chain_part, chain_step, chain_end, is_other_pointer, leads_elsewhere, breaks_t6}
 use Rattle.std.specs.List.{list_any}
+use Rattle.std.proofs.lemmas.Option.{same_Some}
 use Rattle.module_semantics.specs.Setting.{Setting, as_variable, global_variable}
 use Rattle.module_semantics.specs.State.{global, Held, value, pointer, Frame}
 use Rattle.module_semantics.specs.Operands.{of_module, as_value, as_word, word_at, words_at}
@@ -31,7 +32,7 @@ use Rattle.fits_law.proofs.Operations.{before_some}
 use Rattle.type_law.specs.Shaped.{AreConstants}
 use Rattle.type_law.proofs.Rows.{by_kind, vector_parts}
 use Rattle.type_law.proofs.Operands.{some_first}
-use Rattle.type_law.proofs.Choices.{some_same, scalar_elem}
+use Rattle.type_law.proofs.Choices.{scalar_elem}
 use Rattle.type_law.proofs.Vectors.{three_off}
 use Rattle.type_law.proofs.Parts.{array_kind, runtime_kind, struct_kind, all_nth, row, earlier_is, same_types}
 
@@ -76,7 +77,7 @@ module _ (s : Setting) (f : Function) where
 
       by_members : (o : Option Trees) → all_trees (tree_before Gs g.at) g.args ≡ o → option_map (struct g.result) o ≡ Some t → LeadsBy (member_by Gs T g id) t n
       by_members None all e = cc
-      by_members (Some ts) all e = by_constant ts (constant_word Gs id) (is_some (T id)) refl index.0 all (sym (some_same (struct g.result ts) t e))
+      by_members (Some ts) all e = by_constant ts (constant_word Gs id) (is_some (T id)) refl index.0 all (sym (same_Some (struct g.result ts) t e))
 
   array_part : (g : Inst) (t : Tree) (n : ℕ) → is g.op code.TypeArray ≡ true → tree_at Gs g ≡ Some t → LeadsBy (Part (word g 0)) t n
   array_part g t n on shape = by_part (tree_before Gs g.at (word g 0)) refl (length_by (word g 1) (global_inst Gs (word g 1))) (by_kind Gs (tree_before Gs g.at) g Array t (array_kind g.op on) shape)
@@ -84,14 +85,14 @@ module _ (s : Setting) (f : Function) where
       by_part : (o : Option Tree) → tree_before Gs g.at (word g 0) ≡ o → (l : Option Length) → array_tree o l ≡ Some t → LeadsBy (Part (word g 0)) t n
       by_part None there l e = cc
       by_part (Some u) there None e = cc
-      by_part (Some u) there (Some l) e = inr (word g 0, u, refl, earlier_is s f g.at (word g 0) u there, ap (λ x. element_shape x n) (sym (some_same (array u l) t e)))
+      by_part (Some u) there (Some l) e = inr (word g 0, u, refl, earlier_is s f g.at (word g 0) u there, ap (λ x. element_shape x n) (sym (same_Some (array u l) t e)))
 
   runtime_part : (g : Inst) (t : Tree) (n : ℕ) → is_runtime_array g ≡ true → tree_at Gs g ≡ Some t → LeadsBy (Part (word g 0)) t n
   runtime_part g t n on shape = by_part (tree_before Gs g.at (word g 0)) refl (by_kind Gs (tree_before Gs g.at) g Runtime t (runtime_kind g.op on) shape)
     where
       by_part : (o : Option Tree) → tree_before Gs g.at (word g 0) ≡ o → option_map runtime o ≡ Some t → LeadsBy (Part (word g 0)) t n
       by_part None there e = cc
-      by_part (Some u) there e = inr (word g 0, u, refl, earlier_is s f g.at (word g 0) u there, ap (λ x. element_shape x n) (sym (some_same (runtime u) t e)))
+      by_part (Some u) there e = inr (word g 0, u, refl, earlier_is s f g.at (word g 0) u there, ap (λ x. element_shape x n) (sym (same_Some (runtime u) t e)))
 
   vector_part : (g : Inst) (t : Tree) (n : ℕ) → is_vector g ≡ true → tree_at Gs g ≡ Some t → LeadsBy (Part (word g 0)) t n
   vector_part g t n on shape =
@@ -134,7 +135,7 @@ module _ (s : Setting) (f : Function) where
   constant_there c id w n right own told at = by_global (global_inst Gs id) refl
     where
       of_word : (v : ValueTree) → v ≡ word_value w → as_word (Some v) ≡ Some n → n ≡ w
-      of_word v same e = sym (some_same w n (ap (λ x. as_word (Some x)) (sym same) ∙ e))
+      of_word v same e = sym (same_Some w n (ap (λ x. as_word (Some x)) (sym same) ∙ e))
 
       by_value : (o : Option ValueTree) → s.constants id ≡ o → as_word (as_value (option_map value o)) ≡ Some n → n ≡ w
       by_value None is_value e = cc
@@ -193,7 +194,7 @@ module _ (s : Setting) (f : Function) where
     where
       leads_from : (o : Option Tree) (t : Tree) → o ≡ Some t → place_shape t indexes ≡ target_shape s f i.result → LeadsTo o indexes (target_shape s f i.result)
       leads_from None t e h = cc
-      leads_from (Some x) t e h = ap (λ y. place_shape y indexes) (some_same x t e) ∙ h
+      leads_from (Some x) t e h = ap (λ y. place_shape y indexes) (same_Some x t e) ∙ h
 
       by_walk : (p : ℕ) (r : Reached) → walk (chain_step Gs T) (Part p) (drop 1 i.args) ≡ r → leads_elsewhere Gs i.ty (option_and_then (storage_class Gs) (T (word i 0))) r ≡ false
           → (walk (chain_step Gs T) (Part p) (drop 1 i.args) ≡ Nothing) ⊎ ((c : ℕ) × (w : Tree) × (walk (chain_step Gs T) (Part p) (drop 1 i.args) ≡ Part c) × (type_tree Gs c ≡ Some w) × (place_shape t indexes ≡ Some w)) → place_shape t indexes ≡ target_shape s f i.result

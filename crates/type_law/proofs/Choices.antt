@@ -3,6 +3,8 @@ use Rattle.std.proofs.Common.{◌≡◌, ◌==◌, ◌&&◌, ◌||◌, ℕ, Bool
 use Rattle.std.specs.Prelude.{option_and_then, is_some}
 use Rattle.std.specs.Option.{option_map_or}
 use Rattle.std.proofs.lemmas.Bool.Decides.{eqb_tells}
+use Rattle.std.proofs.lemmas.Bool.{and_from, not-false}
+use Rattle.std.proofs.lemmas.Option.{same_Some}
 use Rattle.spv_module.specs.declared.inst.Inst.{Inst}
 use Rattle.spv_module.specs.declared.inst.Function.{Function}
 use Rattle.spv_module.specs.declared.tree.Elem.{Elem}
@@ -21,18 +23,11 @@ use Rattle.fits_law.specs.State.{value_shape}
 use Rattle.type_law.specs.Shaped.{size_by}
 use Rattle.type_law.proofs.Rows.{int_has, bool_has, vector_parts}
 use Rattle.type_law.proofs.Scalars.{or_left, or_right, row_of, before_row, shape_has, is_counted}
-use Rattle.type_law.proofs.Operands.{some_first, is_not_off, int_scalar, same_shape_of}
+use Rattle.type_law.proofs.Operands.{some_first, int_scalar, same_shape_of}
 
 pub both_off : (a b : Bool) → (a && b) ≡ false → a ≡ true → b ≡ false
 both_off true b e on = e
 both_off false b e on = cc
-
-pub both_on : (a b : Bool) → a ≡ true → b ≡ true → (a && b) ≡ true
-both_on true b on e = e
-both_on false b on e = cc
-
-pub some_same : {A : Type 0} (a b : A) → Some a ≡ Some b → a ≡ b
-some_same a b e = cc
 
 pub same_count : (m n : ℕ) → not (m == n) ≡ false → m ≡ n
 same_count m n e = elim (eqb_tells m n) [ inl w ↦ w.1 | inr w ↦ absurd (never (m == n) w.0 e) ]
@@ -42,9 +37,9 @@ same_count m n e = elim (eqb_tells m n) [ inl w ↦ w.1 | inr w ↦ absurd (neve
     never false off on = cc
 
 pub scalar_elem : (u : Tree) (e : Elem) → elem_of u ≡ Some e → u ≡ elem_tree e
-scalar_elem boolean e is = ap elem_tree (some_same elem.Bool e is)
-scalar_elem int e is = ap elem_tree (some_same elem.Int e is)
-scalar_elem uint e is = ap elem_tree (some_same elem.Uint e is)
+scalar_elem boolean e is = ap elem_tree (same_Some elem.Bool e is)
+scalar_elem int e is = ap elem_tree (same_Some elem.Int e is)
+scalar_elem uint e is = ap elem_tree (same_Some elem.Uint e is)
 scalar_elem (vector d n) e is = cc
 scalar_elem (array t l) e is = cc
 scalar_elem (runtime t) e is = cc
@@ -62,7 +57,7 @@ module _ (s : Setting) (f : Function) where
 
   -- the type with a row passes a test that it does not fail
   pub passes : (test : Inst → Bool) (ty : ℕ) (g : Inst) → type_row Gs ty ≡ Some g → fails test Gs ty ≡ false → test g ≡ true
-  passes test ty g is right = is_not_off (test g) (ap (λ o. option_map_or (λ x. not (test x)) o false) (sym is) ∙ right)
+  passes test ty g is right = not-false (test g) (ap (λ o. option_map_or (λ x. not (test x)) o false) (sym is) ∙ right)
 
   -- T16: a bool of a vector of bools
   bool_row : (g : Inst) (t : Tree) → is_bool g ≡ true → tree_at Gs g ≡ Some t → Has truths None t
@@ -103,8 +98,8 @@ module _ (s : Setting) (f : Function) where
       same_types a b t u ta tb right =
           let ra = row a t ta in
           let rb = row b u tb in
-          let same = same_count a b (both_off (is_some (type_row Gs a) && is_some (type_row Gs b)) (not (a == b)) right (both_on (is_some (type_row Gs a)) (is_some (type_row Gs b)) (ap is_some ra.1) (ap is_some rb.1))) in
-          some_same t u (sym ta ∙ ap (type_tree Gs) same ∙ tb)
+          let same = same_count a b (both_off (is_some (type_row Gs a) && is_some (type_row Gs b)) (not (a == b)) right (and_from (is_some (type_row Gs a)) (is_some (type_row Gs b)) (ap is_some ra.1) (ap is_some rb.1))) in
+          same_Some t u (sym ta ∙ ap (type_tree Gs) same ∙ tb)
 
   -- T17: a choice between values of the result's type, by a bool or a vector of as many bools
   condition_of : (ty c : ℕ) (t u : Tree) → is_no_condition Gs ty c ≡ false → type_tree Gs ty ≡ Some t → type_tree Gs c ≡ Some u → IsCondition u t

@@ -3,6 +3,7 @@ use Rattle.std.proofs.Common.{◌≡◌, ◌==◌, ℕ, Bool, true, false, List,
 use Rattle.std.specs.Prelude.{◌⊎◌, fold, option_and_then}
 use Rattle.std.specs.Option.{option_map_or, option_or}
 use Rattle.std.proofs.lemmas.Bool.Decides.{eqb_tells}
+use Rattle.std.proofs.lemmas.Option.{same_Some}
 use Rattle.spv_ops.specs.Opcode.{is, number}
 use Rattle.spv_ops.specs.declared.Op.{Op}
 use Rattle.spv_ops.specs.declared.Op.TheVariants as code
@@ -26,7 +27,6 @@ use Rattle.module_semantics.specs.Accesses.{input_value}
 use Rattle.fits_law.specs.State.{value_shape, target_shape, global_shape, HasShape, LeadsTo, ModuleFits}
 use Rattle.type_law.specs.Shaped.{EachFound, HaveResults, AreConstants, HasConstants}
 use Rattle.type_law.proofs.Operands.{some_first}
-use Rattle.type_law.proofs.Choices.{some_same}
 use Rattle.type_law.proofs.Places.{along_is}
 
 word_kind : (o : Op) → is o code.Constant ≡ true → constant_kind o ≡ Word
@@ -62,7 +62,7 @@ module _ (s : Setting) (chosen : ℕ → Option ℕ) (have : HasConstants s chos
   constant_of id v e = by_found (found_at Gs (value_step s.of chosen) Gs (λ id. None) id v results.each (sym (have id) ∙ e))
     where
       by_fits : (t : Tree) (w : ValueTree) (b : Bool) → fits t w ≡ b → (if b then Some w else None) ≡ Some v → (w ≡ v) × (fits t v ≡ true)
-      by_fits t w true is e = let same = some_same w v e in (same, subst (λ x. fits t x ≡ true) same is)
+      by_fits t w true is e = let same = same_Some w v e in (same, subst (λ x. fits t x ≡ true) same is)
       by_fits t w false is e = cc
 
       by_sound : (g : Inst) (h : ℕ → Option ValueTree) (b : Bool) → global_inst Gs id ≡ Some g → (if b then option_and_then (shaped_value h (chosen g.result) g) (type_tree Gs g.ty) else None) ≡ Some v
@@ -88,7 +88,7 @@ module _ (s : Setting) (chosen : ℕ → Option ℕ) (have : HasConstants s chos
       by_test : (g : Inst) (b : Bool) → is g.op code.Constant ≡ b → (if b then Some (word g 0) else None) ≡ Some w → (h : ℕ → Option ValueTree) (t : Tree) → value_by_kind h (chosen g.result) t g.args (constant_kind g.op) ≡ Some v → v ≡ word_value w
       by_test g true on e h t made =
           let kind_is = ap (λ k. value_by_kind h (chosen g.result) t g.args k) (word_kind g.op on) in
-          sym (some_same (word_value (word g 0)) v (sym kind_is ∙ made)) ∙ ap word_value (some_same (word g 0) w e)
+          sym (same_Some (word_value (word g 0)) v (sym kind_is ∙ made)) ∙ ap word_value (same_Some (word g 0) w e)
       by_test g false on e h t made = cc
 
   -- a type with a shape is not 0

@@ -4,6 +4,8 @@ use Rattle.std.specs.Prelude.{◌⊎◌, option_map, nat_lt}
 use Rattle.std.specs.Option.{option_map_or}
 use Rattle.std.specs.List.{list_all, zip}
 use Rattle.std.proofs.lemmas.Bool.Decides.{eqb_tells, nat_tests}
+use Rattle.std.proofs.lemmas.Bool.{and_parts, not-false, not-true, or_cases}
+use Rattle.std.proofs.lemmas.Option.{same_Some}
 use Rattle.spv_ops.specs.Opcode.{is}
 use Rattle.spv_ops.specs.declared.Op.TheVariants as code
 use Rattle.spv_module.specs.Held.{global as global_inst}
@@ -26,18 +28,10 @@ use Rattle.fits_law.specs.Takes.{Alike, AllAlike, Takes}
 use Rattle.fits_law.specs.State.{value_shape}
 use Rattle.fits_law.proofs.Steps.{named}
 use Rattle.type_law.proofs.Rows.{by_kind}
-use Rattle.type_law.proofs.Operands.{some_first, is_not_off}
-use Rattle.type_law.proofs.Choices.{some_same, same_count}
+use Rattle.type_law.proofs.Operands.{some_first}
+use Rattle.type_law.proofs.Choices.{same_count}
 use Rattle.type_law.proofs.Vectors.{alike_self}
 use Rattle.type_law.proofs.Parts.{array_kind, struct_kind, fixed_word, row, earlier_is}
-
-both_on : (a b : Bool) → (a && b) ≡ true → (a ≡ true) × (b ≡ true)
-both_on true b e = (refl, e)
-both_on false b e = cc
-
-one_on : (a b : Bool) → (a || b) ≡ true → (a ≡ true) ⊎ (b ≡ true)
-one_on true b e = inl refl
-one_on false b e = inr e
 
 -- a relation of shapes that each sized one has to itself, and arrays and structs have where their parts have it
 pub record IsByParts (R : Tree → Tree → Type 0) (Rs : Trees → Trees → Type 0) : Type 0 where
@@ -76,14 +70,14 @@ module _ (s : Setting) (f : Function) (R : Tree → Tree → Type 0) (Rs : Trees
       by_part : (o : Option Tree) → tree_before Gs g.at (word g 0) ≡ o → (l : Option Length) → length_by (word g 1) (global_inst Gs (word g 1)) ≡ l → array_tree o l ≡ Some t → (u : Tree) × (n : ℕ) × (tree_before Gs g.at (word g 0) ≡ Some u) × (t ≡ array u (Fixed n)) × (constant_word Gs (word g 1) ≡ Some n)
       by_part None there l is e = cc
       by_part (Some u) there None is e = cc
-      by_part (Some u) there (Some l) is e = by_length u l there is (sym (some_same (array u l) t e))
+      by_part (Some u) there (Some l) is e = by_length u l there is (sym (same_Some (array u l) t e))
 
   struct_parts : (g : Inst) (t : Tree) → is g.op code.TypeStruct ≡ true → tree_at Gs g ≡ Some t → (ts : Trees) × (all_trees (tree_before Gs g.at) g.args ≡ Some ts) × (t ≡ struct g.result ts)
   struct_parts g t on shape = by_members (all_trees (tree_before Gs g.at) g.args) refl (by_kind Gs (tree_before Gs g.at) g Struct t (struct_kind g.op on) shape)
     where
       by_members : (o : Option Trees) → all_trees (tree_before Gs g.at) g.args ≡ o → option_map (struct g.result) o ≡ Some t → (ts : Trees) × (all_trees (tree_before Gs g.at) g.args ≡ Some ts) × (t ≡ struct g.result ts)
       by_members None all e = cc
-      by_members (Some ts) all e = (ts, all, sym (some_same (struct g.result ts) t e))
+      by_members (Some ts) all e = (ts, all, sym (same_Some (struct g.result ts) t e))
 
   same_array : (x y : Tree) (l k : Length) → array x l ≡ array y k → (x ≡ y) × (l ≡ k)
   same_array x y l k e = (let one : x ≡ y = cc in one, let two : l ≡ k = cc in two)
@@ -95,11 +89,7 @@ module _ (s : Setting) (f : Function) (R : Tree → Tree → Type 0) (Rs : Trees
   same_struct a b ts us e = cc
 
   same_length : (a b n m : ℕ) → is_same_length Gs a b ≡ true → constant_word Gs a ≡ Some n → constant_word Gs b ≡ Some m → m ≡ n
-  same_length a b n m on an bm = same_count m n (off_not (not (m == n)) (subst (λ o. not (is_not n o) ≡ true) bm (subst (λ o. option_map_or (λ n. not (is_not n (constant_word Gs b))) o true ≡ true) an on)))
-    where
-      off_not : (b : Bool) → not b ≡ true → b ≡ false
-      off_not true e = cc
-      off_not false e = refl
+  same_length a b n m on an bm = same_count m n (not-true (not (m == n)) (subst (λ o. not (is_not n o) ≡ true) bm (subst (λ o. option_map_or (λ n. not (is_not n (constant_word Gs b))) o true ≡ true) an on)))
 
   -- a type of this shape has the values of each type that it matches
   abbrev Matches : Tree → Type 0
@@ -131,13 +121,13 @@ module _ (s : Setting) (f : Function) (R : Tree → Tree → Type 0) (Rs : Trees
       → ((h : Inst) → tree_at Gs g ≡ Some t → tree_at Gs h ≡ Some u → (IsArrays g h ≡ true) ⊎ (IsStructs g h ≡ true) → R u t) → R u t
   whole_alike t c b u g there gt bu st m parts =
       let h = row s f b u bu in
-      elim (one_on ((g.result == b) && not (is_void g)) (do_parts_match Gs (match_before Gs g.at) g h.0) (ap (λ o. option_map_or (λ h. ((g.result == b) && not (is_void g)) || do_parts_match Gs (match_before Gs g.at) g h) o true) (sym h.1) ∙ m)) [
-        | inl same ↦ of_same (g.result == b) (eqb_tells g.result b) (both_on (g.result == b) (not (is_void g)) same).0
-        | inr other ↦ parts h.0 (ap (λ o. option_map_or (tree_at Gs) o None) (sym there) ∙ gt) h.2 (one_on (IsArrays g h.0) (IsStructs g h.0) other)
+      elim (or_cases ((g.result == b) && not (is_void g)) (do_parts_match Gs (match_before Gs g.at) g h.0) (ap (λ o. option_map_or (λ h. ((g.result == b) && not (is_void g)) || do_parts_match Gs (match_before Gs g.at) g h) o true) (sym h.1) ∙ m)) [
+        | inl same ↦ of_same (g.result == b) (eqb_tells g.result b) (and_parts (g.result == b) (not (is_void g)) same).0
+        | inr other ↦ parts h.0 (ap (λ o. option_map_or (tree_at Gs) o None) (sym there) ∙ gt) h.2 (or_cases (IsArrays g h.0) (IsStructs g h.0) other)
       ]
     where
       of_same : (t' : Bool) → ((t' ≡ true) × (g.result ≡ b)) ⊎ ((t' ≡ false) × (g.result ≡ b → ⊥)) → t' ≡ true → R u t
-      of_same true (inl w) on = let same = some_same t u (sym gt ∙ (ap (type_tree Gs) (sym (named Gs c g there) ∙ w.1) ∙ bu)) in subst (λ y. R y t) {x = t} same (kept.self t st)
+      of_same true (inl w) on = let same = same_Some t u (sym gt ∙ (ap (type_tree Gs) (sym (named Gs c g there) ∙ w.1) ∙ bu)) in subst (λ y. R y t) {x = t} same (kept.self t st)
       of_same true (inr w) on = cc
       of_same false w on = cc
 
@@ -200,7 +190,7 @@ module _ (s : Setting) (f : Function) (R : Tree → Tree → Type 0) (Rs : Trees
 
     members_matched : (ts us : Trees) (g h : Inst) (ids js : List ℕ) → all_trees (tree_before Gs g.at) ids ≡ Some ts → all_trees (tree_before Gs h.at) js ≡ Some us → AreSized ts → AreSized us → (length ids == length js) ≡ true
         → list_all (λ (p : ℕ × ℕ). match_before Gs g.at p.0 p.1) (zip ids js) ≡ true → Rs us ts
-    members_matched no_trees us g h [] [] a b st su count m = let same = some_same no_trees us b in subst (λ y. Rs y no_trees) {x = no_trees} same kept.none
+    members_matched no_trees us g h [] [] a b st su count m = let same = same_Some no_trees us b in subst (λ y. Rs y no_trees) {x = no_trees} same kept.none
     members_matched no_trees us g h [] (j ∷ js) a b st su count m = absurd (other_counts 0 (suc (length js)) (λ e. omega (arith, e)) count)
     members_matched no_trees us g h (id ∷ ids) js a b st su count m = absurd (no_both (tree_before Gs g.at id) (all_trees (tree_before Gs g.at) ids) a)
     members_matched (tree t ts) us g h [] js a b st su count m = cc
@@ -209,7 +199,7 @@ module _ (s : Setting) (f : Function) (R : Tree → Tree → Type 0) (Rs : Trees
     members_matched (tree t ts) (tree u us) g h (id ∷ ids) (j ∷ js) a b st su count m =
         let p = both_parts (tree_before Gs g.at id) (all_trees (tree_before Gs g.at) ids) t ts a in
         let q = both_parts (tree_before Gs h.at j) (all_trees (tree_before Gs h.at) js) u us b in
-        let on = both_on (match_before Gs g.at id j) (list_all (λ (p : ℕ × ℕ). match_before Gs g.at p.0 p.1) (zip ids js)) m in
+        let on = and_parts (match_before Gs g.at id j) (list_all (λ (p : ℕ × ℕ). match_before Gs g.at p.0 p.1) (zip ids js)) m in
         let one = before_matches g.at id j t p.0 on.0 in
         kept.more u t us ts (matched t id j u one.0 one.1 (earlier_is s f g.at id t p.0) (earlier_is s f h.at j u q.0) st.0 su.0 one.3) (members_matched ts us g h ids js p.1 q.1 st.1 su.1 (fewer (length ids) (length js) count) on.1)
 
@@ -218,11 +208,11 @@ module _ (s : Setting) (f : Function) (R : Tree → Tree → Type 0) (Rs : Trees
   logical_matched i t a right shape value st sa =
       let own = some_first (type_tree Gs) (type_in Gs f (word i 0)) a value in
       let g = row s f own.0 a own.2 in
-      let on : do_match Gs own.0 i.ty ≡ true = is_not_off (do_match Gs own.0 i.ty) (ap (λ o. option_map_or (λ ty. not (do_match Gs ty i.ty)) o false) (sym own.1) ∙ right) in
+      let on : do_match Gs own.0 i.ty ≡ true = not-false (do_match Gs own.0 i.ty) (ap (λ o. option_map_or (λ ty. not (do_match Gs ty i.ty)) o false) (sym own.1) ∙ right) in
       matched a own.0 i.ty t g.0 (row_global own.0 g.0 g.1) own.2 shape sa st (ap (λ o. option_map_or (λ x. match_at Gs x i.ty) o true) (sym g.1) ∙ on)
     where
       row_if : (x g : Inst) (b : Bool) → (if b then Some x else None) ≡ Some g → x ≡ g
-      row_if x g true e = some_same x g e
+      row_if x g true e = same_Some x g e
       row_if x g false e = cc
 
       row_global : (ty : ℕ) (g : Inst) → type_row Gs ty ≡ Some g → global_inst Gs ty ≡ Some g

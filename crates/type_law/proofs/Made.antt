@@ -5,6 +5,8 @@ use Rattle.std.specs.Option.{option_map_or}
 use Rattle.std.specs.List.{list_any, list_all, zip}
 use Rattle.std.proofs.lemmas.Bool.Decides.{eqb_tells}
 use Rattle.std.proofs.lemmas.List.Sums.{sum_by-cons}
+use Rattle.std.proofs.lemmas.Bool.{and_from}
+use Rattle.std.proofs.lemmas.Option.{same_Some}
 use Rattle.spv_ops.specs.Opcode.{is}
 use Rattle.spv_ops.specs.declared.Op.TheVariants as code
 use Rattle.spv_module.specs.Held.{global}
@@ -34,7 +36,7 @@ use Rattle.fits_law.specs.Typed.{HaveShapes, IsLoad}
 use Rattle.type_law.proofs.Rows.{by_kind, vector_parts}
 use Rattle.type_law.proofs.Scalars.{or_left, or_right}
 use Rattle.type_law.proofs.Operands.{some_first, same_shape_of}
-use Rattle.type_law.proofs.Choices.{some_same, same_count, scalar_elem}
+use Rattle.type_law.proofs.Choices.{same_count, scalar_elem}
 use Rattle.type_law.proofs.Parts.{array_kind, struct_kind, fixed_word, row, earlier_is, same_types}
 
 module _ (s : Setting) (f : Function) where
@@ -63,7 +65,7 @@ module _ (s : Setting) (f : Function) where
 
   -- parts of the types of members
   each_member : (at : ℕ) (tys ids : List ℕ) (ts : Trees) (us : List Tree) → all_trees (tree_before Gs at) tys ≡ Some ts → length ids ≡ length tys → HaveShapes s f ids us → list_any (λ (p : ℕ × ℕ). is_other Gs T p.0 p.1) (zip tys ids) ≡ false → AreMembers ts us
-  each_member at [] [] ts [] all count have right = subst (λ x. AreMembers x []) (some_same no_trees ts all) tt
+  each_member at [] [] ts [] all count have right = subst (λ x. AreMembers x []) (same_Some no_trees ts all) tt
   each_member at [] [] ts (u ∷ us) all count have right = absurd have
   each_member at [] (id ∷ ids) ts us all count have right = absurd (omega (arith, count))
   each_member at (ty ∷ tys) [] ts us all count have right = absurd (omega (arith, count))
@@ -76,7 +78,7 @@ module _ (s : Setting) (f : Function) where
       by_parts None first q rest e later = cc
       by_parts (Some t) first None rest e later = cc
       by_parts (Some t) first (Some more) rest e later =
-          subst (λ x. AreMembers x (u ∷ us)) (some_same (tree t more) ts e)
+          subst (λ x. AreMembers x (u ∷ us)) (same_Some (tree t more) ts e)
           (same_shape_of s f ty id t u (or_left (is_other Gs T ty id) (list_any (λ (p : ℕ × ℕ). is_other Gs T p.0 p.1) (zip tys ids)) right) (earlier_is s f at ty t first) have.0, later more rest)
 
   array_made : (g : Inst) (t : Tree) (ids : List ℕ) (us : List Tree) → is g.op code.TypeArray ≡ true → tree_at Gs g ≡ Some t → IsSized t → HaveShapes s f ids us → option_map_or (λ n. are_other_parts Gs T n (word g 0) ids) (constant_word Gs (word g 1)) false ≡ false → AreParts t us
@@ -89,7 +91,7 @@ module _ (s : Setting) (f : Function) where
       by_part : (o : Option Tree) → tree_before Gs g.at (word g 0) ≡ o → (l : Option Length) → length_by (word g 1) (global Gs (word g 1)) ≡ l → array_tree o l ≡ Some t → AreParts t us
       by_part None there l is e = cc
       by_part (Some u) there None is e = cc
-      by_part (Some u) there (Some l) is e = by_length u l (earlier_is s f g.at (word g 0) u there) is (sym (some_same (array u l) t e))
+      by_part (Some u) there (Some l) is e = by_length u l (earlier_is s f g.at (word g 0) u there) is (sym (same_Some (array u l) t e))
 
   struct_made : (g : Inst) (t : Tree) (ids : List ℕ) (us : List Tree) → is g.op code.TypeStruct ≡ true → tree_at Gs g ≡ Some t → HaveShapes s f ids us → are_other_members Gs T g.args ids ≡ false → AreParts t us
   struct_made g t ids us on shape have right = by_members (all_trees (tree_before Gs g.at) g.args) refl (by_kind Gs (tree_before Gs g.at) g Struct t (struct_kind g.op on) shape)
@@ -97,7 +99,7 @@ module _ (s : Setting) (f : Function) where
       by_members : (o : Option Trees) → all_trees (tree_before Gs g.at) g.args ≡ o → option_map (struct g.result) o ≡ Some t → AreParts t us
       by_members None all e = cc
       by_members (Some ts) all e =
-          subst (λ x. AreParts x us) (some_same (struct g.result ts) t e)
+          subst (λ x. AreParts x us) (same_Some (struct g.result ts) t e)
           (each_member g.at g.args ids ts us all (same_count (length ids) (length g.args) (or_left (not (length ids == length g.args)) (list_any (λ (p : ℕ × ℕ). is_other Gs T p.0 p.1) (zip g.args ids)) right)) have
           (or_right (not (length ids == length g.args)) (list_any (λ (p : ℕ × ℕ). is_other Gs T p.0 p.1) (zip g.args ids)) right))
 
@@ -157,11 +159,7 @@ module _ (s : Setting) (f : Function) where
       let rest = all_give c q e ids us shape part have.1 (or_right (gives_none Gs T c id) (list_any (gives_none Gs T c) ids) right) in
       let first : given_or_zero Gs T c id ≡ own.0 = ap (λ o. option_map_or (λ (n : ℕ). n) o 0) own.1 in
       let sum : sum_by (given_or_zero Gs T c) (id ∷ ids) ≡ own.0 + sum_by (given_or_zero Gs T c) ids = sum_by-cons (given_or_zero Gs T c) id ids ∙ ap (λ n. n + sum_by (given_or_zero Gs T c) ids) first in
-      (both_on (is_some (given Gs T c id)) (list_all (λ id. is_some (given Gs T c id)) ids) (ap is_some own.1) rest.0, (own.0, sum_by (given_or_zero Gs T c) ids, own.2, rest.1, sum))
-    where
-      both_on : (a b : Bool) → a ≡ true → b ≡ true → (a && b) ≡ true
-      both_on true b on e = e
-      both_on false b on e = cc
+      (and_from (is_some (given Gs T c id)) (list_all (λ id. is_some (given Gs T c id)) ids) (ap is_some own.1) rest.0, (own.0, sum_by (given_or_zero Gs T c) ids, own.2, rest.1, sum))
 
   vector_made : (g : Inst) (t : Tree) (ids : List ℕ) (us : List Tree) → is_vector g ≡ true → tree_at Gs g ≡ Some t → HaveShapes s f ids us → is_other_count Gs T (word g 1) (word g 0) ids ≡ false → AreParts t us
   vector_made g t ids us on shape have right =

@@ -3,6 +3,7 @@ use Rattle.std.proofs.Common.{◌≡◌, ◌==◌, ◌&&◌, ℕ, Bool, true, fa
 use Rattle.std.specs.Prelude.{◌⊎◌, option_and_then, is_some}
 use Rattle.std.specs.Option.{option_map_or}
 use Rattle.std.proofs.lemmas.Bool.Decides.{eqb_tells}
+use Rattle.std.proofs.lemmas.Bool.{not-false}
 use Rattle.spv_module.specs.declared.inst.Inst.{Inst}
 use Rattle.spv_module.specs.declared.inst.Function.{Function}
 use Rattle.spv_module.specs.declared.tree.Elem.{Elem}
@@ -29,10 +30,6 @@ use Rattle.type_law.proofs.Scalars.{row_of, like_ints, compared_ints, like_bools
 pub some_first : {A B : Type 0} (f : A → Option B) (o : Option A) (b : B) → option_and_then f o ≡ Some b → (a : A) × (o ≡ Some a) × (f a ≡ Some b)
 some_first f None b e = cc
 some_first f (Some a) b e = (a, refl, e)
-
-pub is_not_off : (b : Bool) → not b ≡ false → b ≡ true
-is_not_off true e = refl
-is_not_off false e = cc
 
 -- numbers are alike
 alike_elems : (e d : Elem) → IsOfSort numbers e → IsOfSort numbers d → AreAlike e d
@@ -151,7 +148,7 @@ module _ (s : Setting) (f : Function) where
       let own = some_first (type_tree s.of.globals) (type_in s.of.globals f id) u shape in
       let row = row_of is_int numbers int_has s.of.globals own.0 u own.2 in
       let on : not (is_int row.0) ≡ false = ap (λ o. option_map_or (λ g. not (is_int g)) o false) (sym row.1) ∙ (ap (λ o. option_map_or (fails is_int s.of.globals) o false) (sym own.1) ∙ right) in
-      int_has s.of.globals (tree_before s.of.globals row.0.at) row.0 u (is_not_off (is_int row.0) on) row.2
+      int_has s.of.globals (tree_before s.of.globals row.0.at) row.0 u (not-false (is_int row.0) on) row.2
 
   -- a value that has to have a type
   pub same_shape_of : (ty id : ℕ) (t u : Tree) → is_other s.of.globals (type_in s.of.globals f) ty id ≡ false → type_tree s.of.globals ty ≡ Some t → value_shape s f id ≡ Some u → u ≡ t

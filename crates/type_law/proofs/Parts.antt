@@ -3,6 +3,8 @@ use Rattle.std.proofs.Common.{◌≡◌, ◌<◌, ◌==◌, ◌&&◌, ℕ, zero,
 use Rattle.std.specs.Prelude.{◌⊎◌, nat_lt, option_map, option_and_then, is_some, slice_index}
 use Rattle.std.specs.Option.{option_map_or}
 use Rattle.std.proofs.lemmas.Bool.Decides.{nat_tests}
+use Rattle.std.proofs.lemmas.Bool.{and_from}
+use Rattle.std.proofs.lemmas.Option.{same_Some}
 use Rattle.spv_ops.specs.Opcode.{is, number}
 use Rattle.spv_ops.specs.declared.Op.{Op}
 use Rattle.spv_ops.specs.declared.Op.TheVariants as code
@@ -31,7 +33,7 @@ use Rattle.fits_law.specs.State.{value_shape}
 use Rattle.type_law.proofs.Rows.{int_has, by_kind, vector_parts}
 use Rattle.type_law.proofs.Scalars.{row_of, before_row}
 use Rattle.type_law.proofs.Operands.{some_first, same_shape_of}
-use Rattle.type_law.proofs.Choices.{some_same, same_count, both_off, both_on, scalar_elem}
+use Rattle.type_law.proofs.Choices.{same_count, both_off, scalar_elem}
 
 -- a type with a shape is of one of five kinds besides scalars, by its opcode
 pub array_kind : (o : Op) → is o code.TypeArray ≡ true → kind o ≡ Array
@@ -52,7 +54,7 @@ struct_kind o e = cc
 -- the length of an array is the word of an OpConstant
 constant_length : (o : Op) (id w n : ℕ) → length_of o id w ≡ Some (Fixed n) → (is o code.Constant ≡ true) × (w ≡ n)
 unfolding number
-constant_length code.Constant id w n e = (refl, let same : Fixed w ≡ Fixed n = some_same (Fixed w) (Fixed n) e in fixed_same w n same)
+constant_length code.Constant id w n e = (refl, let same : Fixed w ≡ Fixed n = same_Some (Fixed w) (Fixed n) e in fixed_same w n same)
   where
     fixed_same : (w n : ℕ) → Fixed w ≡ Fixed n → w ≡ n
     fixed_same w n e = cc
@@ -82,8 +84,8 @@ all_nth f (id ∷ ids) ts k e less = by_parts (f id) refl (all_trees f ids) refl
         → (u : Tree) × (f (slice_index (id ∷ ids) k) ≡ Some u) × (nth_of ts k ≡ Some u)
     by_parts None is q rest k less e later = cc
     by_parts (Some t) is None rest k less e later = cc
-    by_parts (Some t) is (Some us) rest zero less e later = (t, is, ap (λ x. nth_of x 0) (sym (some_same (tree t us) ts e)))
-    by_parts (Some t) is (Some us) rest (suc k) less e later = let more = later us k rest (lower k (length ids) less) in (more.0, more.1, ap (λ x. nth_of x (suc k)) (sym (some_same (tree t us) ts e)) ∙ more.2)
+    by_parts (Some t) is (Some us) rest zero less e later = (t, is, ap (λ x. nth_of x 0) (sym (same_Some (tree t us) ts e)))
+    by_parts (Some t) is (Some us) rest (suc k) less e later = let more = later us k rest (lower k (length ids) less) in (more.0, more.1, ap (λ x. nth_of x (suc k)) (sym (same_Some (tree t us) ts e)) ∙ more.2)
       where
         lower : (k n : ℕ) → nat_lt (suc k) (suc n) ≡ true → nat_lt k n ≡ true
         lower k n e = grind (arith, nat_tests, e)
@@ -143,7 +145,7 @@ module _ (s : Setting) (f : Function) where
           → (option_map_or (λ n. one_of n g k) (constant_word Gs (word g 1)) Unknown ≡ Nothing) ⊎ ((c : ℕ) × (u : Tree) × (option_map_or (λ n. one_of n g k) (constant_word Gs (word g 1)) Unknown ≡ Part c) × (type_tree Gs c ≡ Some u) × (part_shape t k ≡ Some u) × IsSized u)
       by_part None there l is e = cc
       by_part (Some u) there None is e = cc
-      by_part (Some u) there (Some l) is e = by_length u l (earlier_is g.at (word g 0) u there) is (sym (some_same (array u l) t e))
+      by_part (Some u) there (Some l) is e = by_length u l (earlier_is g.at (word g 0) u there) is (sym (same_Some (array u l) t e))
 
   struct_leads : (g : Inst) (t : Tree) (k : ℕ) → is g.op code.TypeStruct ≡ true → tree_at Gs g ≡ Some t → IsSized t → Leads (nth_member g k) t k
   struct_leads g t k on shape sized = by_members (all_trees (tree_before Gs g.at) g.args) refl (by_kind Gs (tree_before Gs g.at) g Struct t (struct_kind g.op on) shape)
@@ -158,14 +160,14 @@ module _ (s : Setting) (f : Function) where
 
       by_members : (o : Option Trees) → all_trees (tree_before Gs g.at) g.args ≡ o → option_map (struct g.result) o ≡ Some t → (nth_member g k ≡ Nothing) ⊎ ((c : ℕ) × (u : Tree) × (nth_member g k ≡ Part c) × (type_tree Gs c ≡ Some u) × (part_shape t k ≡ Some u) × IsSized u)
       by_members None all e = cc
-      by_members (Some ts) all e = by_less ts (nat_lt k (length g.args)) refl all (sym (some_same (struct g.result ts) t e))
+      by_members (Some ts) all e = by_less ts (nat_lt k (length g.args)) refl all (sym (same_Some (struct g.result ts) t e))
 
   runtime_not : (g : Inst) (t : Tree) → is_runtime_array g ≡ true → tree_at Gs g ≡ Some t → IsSized t → ⊥
   runtime_not g t on shape sized = by_part (tree_before Gs g.at (word g 0)) (by_kind Gs (tree_before Gs g.at) g Runtime t (runtime_kind g.op on) shape)
     where
       by_part : (o : Option Tree) → option_map runtime o ≡ Some t → ⊥
       by_part None e = cc
-      by_part (Some u) e = subst IsSized (sym (some_same (runtime u) t e)) sized
+      by_part (Some u) e = subst IsSized (sym (same_Some (runtime u) t e)) sized
 
   step_leads : (ty k : ℕ) (t : Tree) → type_tree Gs ty ≡ Some t → IsSized t → Leads (literal_step Gs ty k) t k
   step_leads ty k t shape sized =
@@ -204,8 +206,8 @@ module _ (s : Setting) (f : Function) where
   same_types a b t u ta tb right =
       let ra = row a t ta in
       let rb = row b u tb in
-      let same = same_count a b (both_off (is_some (type_row Gs a) && is_some (type_row Gs b)) (not (a == b)) right (both_on (is_some (type_row Gs a)) (is_some (type_row Gs b)) (ap is_some ra.1) (ap is_some rb.1))) in
-      some_same t u (sym ta ∙ ap (type_tree Gs) same ∙ tb)
+      let same = same_count a b (both_off (is_some (type_row Gs a) && is_some (type_row Gs b)) (not (a == b)) right (and_from (is_some (type_row Gs a)) (is_some (type_row Gs b)) (ap is_some ra.1) (ap is_some rb.1))) in
+      same_Some t u (sym ta ∙ ap (type_tree Gs) same ∙ tb)
 
   -- T11: the part has the type of the result
   pub extract_takes : (ty id : ℕ) (ks : List ℕ) (t a : Tree) → is_elsewhere Gs ty (part_of Gs (type_in Gs f id) ks) ≡ false → type_tree Gs ty ≡ Some t → value_shape s f id ≡ Some a → IsSized a → Takes op.CompositeExtract t ks (a ∷ [])

@@ -2,6 +2,7 @@
 use Rattle.std.proofs.Common.{◌≡◌, ◌&&◌, ◌==◌, ℕ, zero, suc, Bool, true, false, List, [], ◌∷◌, Option, Some, None, refl, sym, ap, ◌∙◌, if◌then◌else◌}
 use Rattle.std.specs.Prelude.{option_map, option_and_then, nat_le, slice_index, unwrap_or}
 use Rattle.std.specs.Option.{option_map_or}
+use Rattle.std.proofs.lemmas.Option.{same_Some}
 use Rattle.spv_ops.specs.declared.Op.{Op}
 use Rattle.spv_ops.specs.declared.Op.TheVariants as code
 use Rattle.spv_module.specs.Held.{global as global_inst}
@@ -25,7 +26,7 @@ use Rattle.profile_rules.specs.TypeRows.{is_int}
 use Rattle.type_law.proofs.Rows.{int_has}
 use Rattle.type_law.proofs.Scalars.{before_row}
 use Rattle.type_law.proofs.Operands.{some_first}
-use Rattle.type_law.proofs.Choices.{some_same, scalar_elem}
+use Rattle.type_law.proofs.Choices.{scalar_elem}
 
 -- the part at an index by the kind of type
 abbrev part_of_kind : TypeKind → List ℕ → ℕ → ℕ
@@ -33,7 +34,7 @@ part_of_kind Struct args i = slice_index args i
 part_of_kind _ args i = slice_index args 0
 
 member_is : (f : ℕ → Option Tree) (ids : List ℕ) (ts : Trees) (i : ℕ) (u : Tree) → all_trees f ids ≡ Some ts → nth_of ts i ≡ Some u → f (slice_index ids i) ≡ Some u
-member_is f [] ts i u e at = let none : no_trees ≡ ts = some_same no_trees ts e in absurd (never (ap (λ x. nth_of x i) none ∙ at))
+member_is f [] ts i u e at = let none : no_trees ≡ ts = same_Some no_trees ts e in absurd (never (ap (λ x. nth_of x i) none ∙ at))
   where
     never : None ≡ Some u → ⊥
     never e = cc
@@ -42,15 +43,15 @@ member_is f (id ∷ ids) ts i u e at = by_parts (f id) refl (all_trees f ids) re
     by_parts : (o : Option Tree) → f id ≡ o → (q : Option Trees) → all_trees f ids ≡ q → (i : ℕ) → both o q ≡ Some ts → nth_of ts i ≡ Some u → ((rest : Trees) (k : ℕ) → all_trees f ids ≡ Some rest → nth_of rest k ≡ Some u → f (slice_index ids k) ≡ Some u) → f (slice_index (id ∷ ids) i) ≡ Some u
     by_parts None is q all i e at later = cc
     by_parts (Some t) is None all i e at later = cc
-    by_parts (Some t) is (Some rest) all zero e at later = is ∙ ap (λ x. nth_of x 0) (some_same (tree t rest) ts e) ∙ at
-    by_parts (Some t) is (Some rest) all (suc k) e at later = later rest k all (ap (λ x. nth_of x (suc k)) (some_same (tree t rest) ts e) ∙ at)
+    by_parts (Some t) is (Some rest) all zero e at later = is ∙ ap (λ x. nth_of x 0) (same_Some (tree t rest) ts e) ∙ at
+    by_parts (Some t) is (Some rest) all (suc k) e at later = later rest k all (ap (λ x. nth_of x (suc k)) (same_Some (tree t rest) ts e) ∙ at)
 
 module _ (s : Setting) where
   abbrev Gs : List Inst
   Gs = s.of.globals
 
   element_at : (g : Inst) (f : ℕ → Option Tree) (k : TypeKind) (t u : Tree) (i : ℕ) → tree_by_kind Gs f g k ≡ Some t → element_shape t i ≡ Some u → f (part_of_kind k g.args i) ≡ Some u
-  element_at g f BoolKind t u i e at = absurd (never (ap (λ x. element_shape x i) (some_same boolean t e) ∙ at))
+  element_at g f BoolKind t u i e at = absurd (never (ap (λ x. element_shape x i) (same_Some boolean t e) ∙ at))
     where
       never : None ≡ Some u → ⊥
       never e = cc
@@ -60,14 +61,14 @@ module _ (s : Setting) where
       never e = cc
 
       by_width : (w a b : Bool) → (if w then (if a then Some uint else (if b then Some int else None)) else None) ≡ Some t → f (slice_index g.args 0) ≡ Some u
-      by_width true true b e = absurd (never (ap (λ x. element_shape x i) (some_same uint t e) ∙ at))
-      by_width true false true e = absurd (never (ap (λ x. element_shape x i) (some_same int t e) ∙ at))
+      by_width true true b e = absurd (never (ap (λ x. element_shape x i) (same_Some uint t e) ∙ at))
+      by_width true false true e = absurd (never (ap (λ x. element_shape x i) (same_Some int t e) ∙ at))
       by_width true false false e = cc
       by_width false a b e = cc
   element_at g f Vector t u i e at = by_part (f (slice_index g.args 0)) refl e
     where
       by_size : (x : Tree) (d : Elem) (a b : Bool) → f (slice_index g.args 0) ≡ Some x → elem_of x ≡ Some d → (if a && b then Some (vector d (slice_index g.args 1)) else None) ≡ Some t → f (slice_index g.args 0) ≡ Some u
-      by_size x d true true there is h = there ∙ ap (λ y. Some y) (scalar_elem x d is) ∙ ap (λ y. element_shape y i) (some_same (vector d (slice_index g.args 1)) t h) ∙ at
+      by_size x d true true there is h = there ∙ ap (λ y. Some y) (scalar_elem x d is) ∙ ap (λ y. element_shape y i) (same_Some (vector d (slice_index g.args 1)) t h) ∙ at
       by_size x d true false there is h = cc
       by_size x d false b there is h = cc
 
@@ -83,17 +84,17 @@ module _ (s : Setting) where
       by_part : (o : Option Tree) → f (slice_index g.args 0) ≡ o → (l : Option Length) → array_tree o l ≡ Some t → f (slice_index g.args 0) ≡ Some u
       by_part None there l h = cc
       by_part (Some x) there None h = cc
-      by_part (Some x) there (Some l) h = there ∙ ap (λ y. element_shape y i) (some_same (array x l) t h) ∙ at
+      by_part (Some x) there (Some l) h = there ∙ ap (λ y. element_shape y i) (same_Some (array x l) t h) ∙ at
   element_at g f Runtime t u i e at = by_part (f (slice_index g.args 0)) refl e
     where
       by_part : (o : Option Tree) → f (slice_index g.args 0) ≡ o → option_map runtime o ≡ Some t → f (slice_index g.args 0) ≡ Some u
       by_part None there h = cc
-      by_part (Some x) there h = there ∙ ap (λ y. element_shape y i) (some_same (runtime x) t h) ∙ at
+      by_part (Some x) there h = there ∙ ap (λ y. element_shape y i) (same_Some (runtime x) t h) ∙ at
   element_at g f Struct t u i e at = by_parts (all_trees f g.args) refl e
     where
       by_parts : (o : Option Trees) → all_trees f g.args ≡ o → option_map (struct g.result) o ≡ Some t → f (slice_index g.args i) ≡ Some u
       by_parts None all h = cc
-      by_parts (Some ts) all h = member_is f g.args ts i u all (ap (λ y. element_shape y i) (some_same (struct g.result ts) t h) ∙ at)
+      by_parts (Some ts) all h = member_is f g.args ts i u all (ap (λ y. element_shape y i) (same_Some (struct g.result ts) t h) ∙ at)
   element_at g f Other t u i e at = cc
 
   by_opcode : (o : Op) (args : List ℕ) (i : ℕ) → part_by o args i ≡ part_of_kind (kind o) args i
@@ -128,7 +129,7 @@ module _ (s : Setting) where
     where
       by_test : (b : Bool) → (if b then None else Some v.ty) ≡ Some q → variable_type s v ≡ p
       by_test true e = cc
-      by_test false e = ap (λ o. unwrap_or o 0) (ap (pointee Gs) (some_same v.ty q e) ∙ at)
+      by_test false e = ap (λ o. unwrap_or o 0) (ap (pointee Gs) (same_Some v.ty q e) ∙ at)
 
   variable_is : (id : ℕ) (v : Inst) → global_variable s id ≡ Some v → global_inst Gs id ≡ Some v
   variable_is id v e = by_global (global_inst Gs id) e
@@ -165,4 +166,4 @@ module _ (s : Setting) where
           let own = some_first (pointee Gs) (global_type Gs id) part.0 part.1 in
           let typed_is : typed v ≡ Some own.0 = ap (option_and_then typed) (sym (seen_is id v is)) ∙ own.1 in
           let there = types_along path part.0 r u part.2 leads in
-          some_same t u (sym shape ∙ (ap (λ ty. type_tree Gs (type_along s ty path)) (variable_type_is v own.0 part.0 typed_is own.2) ∙ there))
+          same_Some t u (sym shape ∙ (ap (λ ty. type_tree Gs (type_along s ty path)) (variable_type_is v own.0 part.0 typed_is own.2) ∙ there))

@@ -4,6 +4,7 @@ use Rattle.std.specs.Prelude.{nat_le, nat_lt, option_map, option_and_then}
 use Rattle.std.specs.Option.{option_map_or}
 use Rattle.std.specs.List.{list_any}
 use Rattle.std.proofs.lemmas.Bool.Decides.{nat_tests, eqb_tells}
+use Rattle.std.proofs.lemmas.Option.{same_Some}
 use Rattle.spv_module.specs.Held.{global}
 use Rattle.spv_module.specs.declared.inst.Inst.{Inst}
 use Rattle.spv_module.specs.declared.inst.Function.{Function}
@@ -20,9 +21,6 @@ use Rattle.fits_law.specs.Takes.{Sort, numbers, truths, Has, IsOfSort}
 use Rattle.fits_law.specs.Typed.{HaveShapes}
 use Rattle.type_law.specs.Shaped.{size_by, AllHave}
 use Rattle.type_law.proofs.Rows.{int_has, bool_has, elem_sort, is_a_type, vector_parts}
-
-some_same : {A : Type 0} (a b : A) → Some a ≡ Some b → a ≡ b
-some_same a b e = cc
 
 some_first : {A B : Type 0} (f : A → Option B) (o : Option A) (b : B) → option_and_then f o ≡ Some b → (a : A) × (o ≡ Some a) × (f a ≡ Some b)
 some_first f None b e = cc
@@ -84,7 +82,7 @@ module _ (test : Inst → Bool) (k : Sort) (scalar : (gs : List Inst) (f : ℕ �
       by_parts : (u : Tree) (e : Elem) → tree_before gs g.at (word g 0) ≡ Some u → elem_of u ≡ Some e → t ≡ vector e (word g 1) → nat_le 2 (word g 1) ≡ true → option_map (λ c. one_if (test c) (word g 1)) (type_row gs (word g 0)) ≡ Some n → Has k (size_by n) t
       by_parts u e there is same two h =
           let row = row_of (word g 0) u (before_row g.at (word g 0) u there) in
-          let value : one_if (test row.0) (word g 1) ≡ n = some_same (one_if (test row.0) (word g 1)) n (ap (option_map (λ c. one_if (test c) (word g 1))) (sym row.1) ∙ h) in
+          let value : one_if (test row.0) (word g 1) ≡ n = same_Some (one_if (test row.0) (word g 1)) n (ap (option_map (λ c. one_if (test c) (word g 1))) (sym row.1) ∙ h) in
           let on = one_when (test row.0) (word g 1) n value some in
           let sort : IsOfSort k e = elem_sort k u e (scalar gs (tree_before gs row.0.at) row.0 u on.0 row.2) is in
           subst (λ m. Has k m t) (sym (ap size_by (sym on.1) ∙ more_of (word g 1) two) ∙ refl) (of_vector k e sort same on.1 two)
@@ -96,7 +94,7 @@ module _ (test : Inst → Bool) (k : Sort) (scalar : (gs : List Inst) (f : ℕ �
       by_vector : (b : Bool) → is_vector g ≡ b → (if b then option_map (λ c. one_if (test c) (word g 1)) (type_row gs (word g 0)) else Some (one_if (test g) 1)) ≡ Some n → Has k (size_by n) t
       by_vector true is h = let parts = vector_parts gs g t is shape in by_parts parts.0 parts.1 parts.2 parts.3 parts.4 parts.5 h
       by_vector false is h =
-          let on = one_when (test g) 1 n (some_same (one_if (test g) 1) n h) some in
+          let on = one_when (test g) 1 n (same_Some (one_if (test g) 1) n h) some in
           subst (λ m. Has k m t) (sym (one_of n (sym on.1))) (scalar gs (tree_before gs g.at) g t on.0 shape)
 
   pub shape_has : (ty : ℕ) (t : Tree) (n : ℕ) → type_tree gs ty ≡ Some t → option_and_then (count_in test gs) (type_row gs ty) ≡ Some n → (n == 0) ≡ false → Has k (size_by n) t

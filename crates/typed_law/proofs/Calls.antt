@@ -4,6 +4,8 @@ use Rattle.std.specs.Prelude.{◌⊎◌, find, nat_lt, option_map, option_and_th
 use Rattle.std.specs.Option.{option_map_or, option_or}
 use Rattle.std.specs.List.{list_any, zip}
 use Rattle.std.proofs.lemmas.Bool.Decides.{eqb_tells, nat_tests}
+use Rattle.std.proofs.lemmas.Bool.{and_from}
+use Rattle.std.proofs.lemmas.Option.{same_Some}
 use Rattle.spv_ops.specs.Opcode.{is, number}
 use Rattle.spv_ops.specs.Groups.{is_constant}
 use Rattle.spv_ops.specs.Shape.{shape}
@@ -48,7 +50,7 @@ use Rattle.type_law.specs.Shaped.{HasConstants}
 use Rattle.type_law.proofs.Operands.{some_first}
 use Rattle.type_law.proofs.Constants.{constant_of}
 use Rattle.typed_law.specs.Conforms.{IsParameter, IsConforming}
-use Rattle.typed_law.proofs.Lists.{or_left, or_right, and_off, same_some, found_in, earlier_some, some_by}
+use Rattle.typed_law.proofs.Lists.{or_left, or_right, and_off, found_in, earlier_some, some_by}
 use Rattle.typed_law.proofs.Rules.{operand_there, global_there, initializer_right, class_right}
 use Rattle.typed_law.proofs.Types.{pointee_shaped}
 use Rattle.typed_law.proofs.Used.{pointee_sized}
@@ -71,7 +73,7 @@ class_found n [] c e = cc
 class_found n (d ∷ cs) c e = by_test (class_number d == n) (eqb_tells (class_number d) n) e (λ rest. class_found n cs c rest)
   where
     by_test : (b : Bool) → ((b ≡ true) × (class_number d ≡ n)) ⊎ ((b ≡ false) × (class_number d ≡ n → ⊥)) → (if b then Some d else find (λ (x : StorageClass). class_number x == n) cs) ≡ Some c → (find (λ (x : StorageClass). class_number x == n) cs ≡ Some c → n ≡ class_number c) → n ≡ class_number c
-    by_test true (inl w) e next = sym w.1 ∙ ap class_number (same_some d c e)
+    by_test true (inl w) e next = sym w.1 ∙ ap class_number (same_Some d c e)
     by_test true (inr w) e next = cc
     by_test false w e next = next e
 
@@ -109,24 +111,20 @@ module _ (s : Setting) (entry : Option (List ℕ)) (right : IsConforming s.of en
 
       by_zero : option_map zero_of (type_tree Gs (variable_type s v)) ≡ Some x → fits t x ≡ true
       by_zero e =
-          let same = same_some (zero_of t) x (ap (option_map zero_of) (sym variable_is) ∙ e) in
+          let same = same_Some (zero_of t) x (ap (option_map zero_of) (sym variable_is) ∙ e) in
           subst (λ y. fits t y ≡ true) same (zero_fits t (pointee_sized s.of entry right v q there on (own 0).1 no_block at t shape))
 
       by_constant : (class id : ℕ) (rest : List ℕ) → v.args ≡ class ∷ id ∷ rest → s.constants id ≡ Some x → fits t x ≡ true
       by_constant class id rest args e =
           let c = constant_of s chosen have right.results id x e in
           let many : nat_lt 1 (length v.args) ≡ true = ap (λ (l : List ℕ). nat_lt 1 (length l)) args ∙ (let two : nat_lt 1 (suc (suc (length rest))) ≡ true = grind (arith, nat_tests) in two) in
-          let off = and_off (is_variable v && nat_lt 1 (length v.args)) (not ((word v 0 == class_number storage.Function) || (word v 0 == class_number storage.Private)) || is_other_value s.of v (word v 1)) (initializer_right s.of entry right v there) (both_on (is_variable v) (nat_lt 1 (length v.args)) on many) in
+          let off = and_off (is_variable v && nat_lt 1 (length v.args)) (not ((word v 0 == class_number storage.Function) || (word v 0 == class_number storage.Private)) || is_other_value s.of v (word v 1)) (initializer_right s.of entry right v there) (and_from (is_variable v) (nat_lt 1 (length v.args)) on many) in
           let told = or_right (not ((word v 0 == class_number storage.Function) || (word v 0 == class_number storage.Private))) (is_other_value s.of v (word v 1)) off in
           let id_is : word v 1 ≡ id = ap (λ (l : List ℕ). slice_index l 1) args in
           let of_it : (not (is_constant c.0.op) || is_of_other_type Gs v c.0) ≡ false =
           ap (λ o. option_map_or (λ (g : Inst). not (is_constant g.op) || is_of_other_type Gs v g) o (is_defined_elsewhere s.of (word v 1))) (sym c.3) ∙ (ap (λ n. option_map_or (λ (g : Inst). not (is_constant g.op) || is_of_other_type Gs v g) (global Gs n) (is_defined_elsewhere s.of (word v 1))) (sym id_is) ∙ told) in
           let type_is : c.0.ty ≡ q = same_count c.0.ty q (ap (λ o. option_map_or (λ (n : ℕ). not (c.0.ty == n)) o false) (sym at) ∙ or_right (not (is_constant c.0.op)) (is_of_other_type Gs v c.0) of_it) in
-          subst (λ y. fits y x ≡ true) (same_some c.2 t (sym c.4 ∙ (ap (type_tree Gs) type_is ∙ shape))) c.5
-        where
-          both_on : (a b : Bool) → a ≡ true → b ≡ true → (a && b) ≡ true
-          both_on true b on e = e
-          both_on false b on e = cc
+          subst (λ y. fits y x ≡ true) (same_Some c.2 t (sym c.4 ∙ (ap (type_tree Gs) type_is ∙ shape))) c.5
 
       by_args : (args : List ℕ) → v.args ≡ args → initial_by s (type_tree Gs (variable_type s v)) args ≡ Some x → fits t x ≡ true
       by_args [] args e = by_zero e
@@ -142,7 +140,7 @@ module _ (s : Setting) (entry : Option (List ℕ)) (right : IsConforming s.of en
   is_the_variable g v e = by_test (is_variable g) refl e
     where
       by_test : (b : Bool) → is_variable g ≡ b → elim b [ true ↦ Some g | false ↦ None ] ≡ Some v → (g ≡ v) × (is_variable v ≡ true)
-      by_test true on e = let same = same_some g v e in (same, ap is_variable (sym same) ∙ on)
+      by_test true on e = let same = same_Some g v e in (same, ap is_variable (sym same) ∙ on)
       by_test false on e = cc
 
   -- the variables of a call at its start

@@ -4,6 +4,8 @@ use Rattle.std.specs.Prelude.{◌⊎◌, filter, flat_map, nat_lt, is_some, Cont
 use Rattle.std.specs.Option.{option_map_or}
 use Rattle.std.specs.List.{list_any, enumerate_from}
 use Rattle.std.proofs.lemmas.Bool.Decides.{nat_tests}
+use Rattle.std.proofs.lemmas.Bool.{false_from_ne_true}
+use Rattle.std.proofs.lemmas.Option.{same_Some}
 use Rattle.spv_module.specs.declared.inst.Inst.{Inst}
 use Rattle.spv_module.specs.Held.{global}
 use Rattle.spv_types.specs.Types.{if_earlier, earlier}
@@ -31,23 +33,8 @@ pub and_off : (a b : Bool) → (a && b) ≡ false → a ≡ true → b ≡ false
 and_off true b e on = e
 and_off false b e on = cc
 
-pub not_off : (b : Bool) → not b ≡ false → b ≡ true
-not_off true e = refl
-not_off false e = cc
-
-pub not_on : (b : Bool) → not b ≡ true → b ≡ false
-not_on true e = cc
-not_on false e = refl
-
 pub clash : {A : Type 0} → true ≡ false → A
 clash e = cc
-
-pub no_true : (b : Bool) → (b ≡ true → ⊥) → b ≡ false
-no_true true far = absurd (far refl)
-no_true false far = refl
-
-pub same_some : {A : Type 0} (a b : A) → Some a ≡ Some b → a ≡ b
-same_some a b e = cc
 
 -- lists that are empty
 pub none_left : {A : Type 0} (xs ys : List A) → xs ++ ys ≡ [] → xs ≡ []
@@ -99,7 +86,7 @@ in_places test (y ∷ xs) x on there = by_test (test y) refl there (λ later. in
     by_test false at (inr later) next = next later
 
 pub none_at_fault : (test : Inst → Bool) (xs : List Inst) (x : Inst) → ((at : ℕ) → Contains (places test xs) at → ⊥) → IsAmong x xs → test x ≡ false
-none_at_fault test xs x right there = no_true (test x) (λ on. right x.at (in_places test xs x on there))
+none_at_fault test xs x right there = false_from_ne_true (test x) (λ on. right x.at (in_places test xs x on there))
 
 -- what is found
 pub found_in : (gs : List Inst) (id : ℕ) (g : Inst) → global gs id ≡ Some g → IsAmong g gs
@@ -107,14 +94,14 @@ found_in [] id g e = cc
 found_in (h ∷ gs) id g e = by_test (h.result == id) e (λ rest. found_in gs id g rest)
   where
     by_test : (b : Bool) → (if b then Some h else global gs id) ≡ Some g → (global gs id ≡ Some g → IsAmong g gs) → (h ≡ g) ⊎ IsAmong g gs
-    by_test true e next = inl (same_some h g e)
+    by_test true e next = inl (same_Some h g e)
     by_test false e next = inr (next e)
 
 pub earlier_some : (gs : List Inst) (n id : ℕ) (h : Inst) → earlier gs n id ≡ Some h → (global gs id ≡ Some h) × (h.at < n)
 earlier_some gs n id h e = by_global (global gs id) refl e
   where
     by_test : (g : Inst) (b : Bool) → nat_lt g.at n ≡ b → (if b then Some g else None) ≡ Some h → (g ≡ h) × (g.at < n)
-    by_test g true less e = (same_some g h e, grind (arith, nat_tests, less))
+    by_test g true less e = (same_Some g h e, grind (arith, nat_tests, less))
     by_test g false less e = cc
 
     by_global : (o : Option Inst) → global gs id ≡ o → if_earlier n o ≡ Some h → (global gs id ≡ Some h) × (h.at < n)
@@ -132,10 +119,6 @@ some_of (Some a) e = (a, refl)
 pub some_part : {A B : Type 0} (f : A → Option B) (o : Option A) (b : B) → option_and_then f o ≡ Some b → (a : A) × (o ≡ Some a) × (f a ≡ Some b)
 some_part f None b e = cc
 some_part f (Some a) b e = (a, refl, e)
-
-pub both_on : (a b : Bool) → a ≡ true → b ≡ true → (a && b) ≡ true
-both_on true b on e = e
-both_on false b on e = cc
 
 -- numbers
 pub from_zero : (k : ℕ) → nat_le 0 k ≡ true

@@ -2,6 +2,7 @@
 use Rattle.std.proofs.Common.{◌≡◌, ◌<◌, ◌^◌, ◌==◌, ℕ, Bool, true, false, List, [], ◌∷◌, drop, Option, Some, None, inl, inr, refl, sym, subst, if◌then◌else◌}
 use Rattle.std.specs.Prelude.{fold, option_map, option_and_then, unwrap_or, slice_index, IfSome}
 use Rattle.std.specs.Option.{option_or}
+use Rattle.std.proofs.lemmas.Option.{same_Some}
 use Rattle.spv_ops.specs.Opcode.{op_of}
 use Rattle.spv_ops.specs.declared.Op.{Op}
 use Rattle.spv_module.specs.State.{ModuleState}
@@ -21,10 +22,10 @@ use Rattle.plan_law.specs.InOrder.{IsAmong}
 use Rattle.fits_law.proofs.Operations.{before_some}
 use Rattle.typed_law.specs.Words.{AllOfWords, HoldWords}
 use Rattle.typed_law.proofs.LowValues.{composite_low, op_low, zero_low}
-use Rattle.typed_law.proofs.Lists.{same_some, some_part}
+use Rattle.typed_law.proofs.Lists.{some_part}
 
 each_held : (f : ℕ → Option ValueTree) (ids : List ℕ) (vs : List ValueTree) → HoldWords f → each_one f ids ≡ Some vs → AllOfWords vs
-each_held f [] vs h e = subst AllOfWords (same_some [] vs e) tt
+each_held f [] vs h e = subst AllOfWords (same_Some [] vs e) tt
 each_held f (id ∷ ids) vs h e = let b = before_some (f id) (each_one f ids) vs e in subst AllOfWords (sym b.4) (h id b.0 b.2, each_held f ids b.1 h b.3)
 
 module _ (m : ModuleState) (chosen : ℕ → Option ℕ) (given : (id : ℕ) → IfSome (chosen id) (λ (w : ℕ). w < 2 ^ 32)) where
@@ -42,18 +43,18 @@ module _ (m : ModuleState) (chosen : ℕ → Option ℕ) (given : (id : ℕ) →
       by_may false e = cc
 
   of_kind : (f : ℕ → Option ValueTree) → HoldWords f → (g : Inst) → slice_index g.args 0 < 2 ^ 32 → (t : Tree) (k : ConstantKind) (v : ValueTree) → value_by_kind f (chosen g.result) t g.args k ≡ Some v → IsOfWords v
-  of_kind f h g low t True v e = subst IsOfWords (same_some (truth true) v e) tt
-  of_kind f h g low t False v e = subst IsOfWords (same_some (truth false) v e) tt
-  of_kind f h g low t Word v e = subst IsOfWords (same_some (word (slice_index g.args 0)) v e) low
+  of_kind f h g low t True v e = subst IsOfWords (same_Some (truth true) v e) tt
+  of_kind f h g low t False v e = subst IsOfWords (same_Some (truth false) v e) tt
+  of_kind f h g low t Word v e = subst IsOfWords (same_Some (word (slice_index g.args 0)) v e) low
   of_kind f h g low t Composite v e = by_parts (each_one f g.args) refl e
     where
       by_parts : (o : Option (List ValueTree)) → each_one f g.args ≡ o → option_map composite o ≡ Some v → IsOfWords v
       by_parts None at e = cc
-      by_parts (Some vs) at e = subst IsOfWords (same_some (composite vs) v e) (composite_low vs (each_held f g.args vs h at))
-  of_kind f h g low t Zero v e = subst IsOfWords (same_some (zero_of t) v e) (zero_low t)
-  of_kind f h g low t SpecTrue v e = subst IsOfWords (same_some (truth _) v e) tt
-  of_kind f h g low t SpecFalse v e = subst IsOfWords (same_some (truth _) v e) tt
-  of_kind f h g low t SpecWord v e = subst IsOfWords (same_some (word (unwrap_or (chosen g.result) (slice_index g.args 0))) v e) (by_chosen (chosen g.result) (given g.result))
+      by_parts (Some vs) at e = subst IsOfWords (same_Some (composite vs) v e) (composite_low vs (each_held f g.args vs h at))
+  of_kind f h g low t Zero v e = subst IsOfWords (same_Some (zero_of t) v e) (zero_low t)
+  of_kind f h g low t SpecTrue v e = subst IsOfWords (same_Some (truth _) v e) tt
+  of_kind f h g low t SpecFalse v e = subst IsOfWords (same_Some (truth _) v e) tt
+  of_kind f h g low t SpecWord v e = subst IsOfWords (same_Some (word (unwrap_or (chosen g.result) (slice_index g.args 0))) v e) (by_chosen (chosen g.result) (given g.result))
     where
       by_chosen : (o : Option ℕ) → IfSome o (λ (w : ℕ). w < 2 ^ 32) → unwrap_or o (slice_index g.args 0) < 2 ^ 32
       by_chosen None at = low
@@ -65,7 +66,7 @@ module _ (m : ModuleState) (chosen : ℕ → Option ℕ) (given : (id : ℕ) →
   of_step f h g low v e = by_sound (is_sound m g) e
     where
       by_fits : (t : Tree) (w : ValueTree) (b : Bool) → (if b then Some w else None) ≡ Some v → IsOfWords w → IsOfWords v
-      by_fits t w true e of_w = subst IsOfWords (same_some w v e) of_w
+      by_fits t w true e of_w = subst IsOfWords (same_Some w v e) of_w
       by_fits t w false e of_w = cc
 
       by_sound : (b : Bool) → (if b then option_and_then (shaped_value f (chosen g.result) g) (type_tree m.globals g.ty) else None) ≡ Some v → IsOfWords v
@@ -81,7 +82,7 @@ module _ (m : ModuleState) (chosen : ℕ → Option ℕ) (given : (id : ℕ) →
     where
       by_step : (o : Option ValueTree) → value_step m chosen f g ≡ o → option_or o (f id) ≡ Some v → IsOfWords v
       by_step None at e = h id v e
-      by_step (Some w) at e = subst IsOfWords (same_some w v e) (of_step f h g low w at)
+      by_step (Some w) at e = subst IsOfWords (same_Some w v e) (of_step f h g low w at)
 
       by_test : (b : Bool) → elim b [ true ↦ option_or (value_step m chosen f g) (f id) | false ↦ f id ] ≡ Some v → IsOfWords v
       by_test true e = by_step (value_step m chosen f g) refl e

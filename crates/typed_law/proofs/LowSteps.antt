@@ -2,6 +2,7 @@
 use Rattle.std.proofs.Common.{◌≡◌, ◌<◌, ◌^◌, ◌==◌, ◌++◌, ℕ, Bool, true, false, List, [], ◌∷◌, length, map, drop, Option, Some, None, refl, sym, ap, subst, ◌∙◌, arith}
 use Rattle.std.proofs.Math.Nat.{div-le_self}
 use Rattle.std.specs.Prelude.{◌-◌, ◌/◌, option_map, option_and_then, slice_get, slice_index}
+use Rattle.std.proofs.lemmas.Option.{same_Some}
 use Rattle.spv_ops.specs.Enumerants.{decoration_number, built_in_of_number}
 use Rattle.spv_ops.specs.declared.Decoration.TheVariants as decoration
 use Rattle.spv_ops.specs.declared.AtomicOp.{AtomicOp}
@@ -40,21 +41,21 @@ use Rattle.module_semantics.specs.Run.{have_values, first_state, start_by, start
 use Rattle.fits_law.proofs.Operations.{before_some}
 use Rattle.typed_law.specs.Words.{AllOfWords, AreAllWords, HoldWords, IsSettingOfWords, IdsHoldWords, IsFrameOfWords, AreCallsOfWords, IsStateOfWords, LeadsToWords}
 use Rattle.typed_law.proofs.LowValues.{extracted_low, inserted_low, zero_low, read_low, op_low, first_low}
-use Rattle.typed_law.proofs.Lists.{same_some, some_part}
+use Rattle.typed_law.proofs.Lists.{some_part}
 
 -- maps with one more entry
 put_value : (f : ℕ → Option Held) (n : ℕ) (h : Held) → IdsHoldWords f → ((v : ValueTree) → h ≡ value v → IsOfWords v) → IdsHoldWords (put f n h)
 put_value f n h all mine id v e = by_test (id == n) e
   where
     by_test : (b : Bool) → elim b [ true ↦ Some h | false ↦ f id ] ≡ Some (value v) → IsOfWords v
-    by_test true e = mine v (same_some h (value v) e)
+    by_test true e = mine v (same_Some h (value v) e)
     by_test false e = all id v e
 
 put_variable : (f : ℕ → Option ValueTree) (n : ℕ) (w : ValueTree) → HoldWords f → IsOfWords w → HoldWords (put f n w)
 put_variable f n w all mine id v e = by_test (id == n) e
   where
     by_test : (b : Bool) → elim b [ true ↦ Some w | false ↦ f id ] ≡ Some v → IsOfWords v
-    by_test true e = subst IsOfWords (same_some w v e) mine
+    by_test true e = subst IsOfWords (same_Some w v e) mine
     by_test false e = all id v e
 
 same_value : (v w : ValueTree) → value v ≡ value w → v ≡ w
@@ -70,14 +71,14 @@ module _ (s : Setting) (right : IsSettingOfWords s) where
     where
       by_constant : (o : Option ValueTree) → s.constants id ≡ o → as_value (option_map value o) ≡ Some v → IsOfWords v
       by_constant None at e = cc
-      by_constant (Some w) at e = subst IsOfWords (same_some w v e) (right.constants id w at)
+      by_constant (Some w) at e = subst IsOfWords (same_Some w v e) (right.constants id w at)
 
       by_global : (o : Option Inst) → as_value (elim o [ Some g ↦ Some (pointer (global id) []) | None ↦ option_map value (s.constants id) ]) ≡ Some v → IsOfWords v
       by_global (Some g) e = cc
       by_global None e = by_constant (s.constants id) refl e
 
       by_held : (h : Held) → c.ids id ≡ Some h → as_value (Some h) ≡ Some v → IsOfWords v
-      by_held (value w) at e = subst IsOfWords (same_some w v e) (frame.0 id w at)
+      by_held (value w) at e = subst IsOfWords (same_Some w v e) (frame.0 id w at)
       by_held (pointer r path) at e = cc
 
       by_own : (o : Option Held) → c.ids id ≡ o → as_value (elim o [ Some h ↦ Some h | None ↦ of_module s id ]) ≡ Some v → IsOfWords v
@@ -85,7 +86,7 @@ module _ (s : Setting) (right : IsSettingOfWords s) where
       by_own None at e = by_global (global_variable s id) e
 
   values_low : (c : Frame) (ids : List ℕ) (vs : List ValueTree) → IsFrameOfWords c → values_at s c ids ≡ Some vs → AllOfWords vs
-  values_low c [] vs frame e = subst AllOfWords (same_some [] vs e) tt
+  values_low c [] vs frame e = subst AllOfWords (same_Some [] vs e) tt
   values_low c (id ∷ ids) vs frame e = let b = before_some (value_at s c id) (values_at s c ids) vs e in subst AllOfWords (sym b.4) (value_low c id b.0 frame b.2, values_low c ids b.1 frame b.3)
 
   some_leads : {A : Type 0} (o : Option A) (f : A → Act Conf) → ((a : A) → o ≡ Some a → LeadsToWords (f a)) → LeadsToWords (with_some o f)
@@ -111,11 +112,11 @@ module _ (s : Setting) (right : IsSettingOfWords s) where
       by_test false next e = next e
 
   three_low : (inv : Invocation) → IsInvocation inv → (b : BuiltIn) (v : ValueTree) → built_in_value inv b ≡ Some v → IsOfWords v
-  three_low inv told built.NumWorkgroups v e = subst IsOfWords (same_some (three inv.num_workgroups) v e) (told.num_workgroups.0, (told.num_workgroups.1, (told.num_workgroups.2, tt)))
-  three_low inv told built.WorkgroupId v e = subst IsOfWords (same_some (three inv.workgroup_id) v e) (told.workgroup_id.0, (told.workgroup_id.1, (told.workgroup_id.2, tt)))
-  three_low inv told built.LocalInvocationId v e = subst IsOfWords (same_some (three inv.local_invocation_id) v e) (told.local_invocation_id.0, (told.local_invocation_id.1, (told.local_invocation_id.2, tt)))
-  three_low inv told built.GlobalInvocationId v e = subst IsOfWords (same_some (three inv.global_invocation_id) v e) (told.global_invocation_id.0, (told.global_invocation_id.1, (told.global_invocation_id.2, tt)))
-  three_low inv told built.LocalInvocationIndex v e = subst IsOfWords (same_some (word inv.local_invocation_index) v e) told.local_invocation_index
+  three_low inv told built.NumWorkgroups v e = subst IsOfWords (same_Some (three inv.num_workgroups) v e) (told.num_workgroups.0, (told.num_workgroups.1, (told.num_workgroups.2, tt)))
+  three_low inv told built.WorkgroupId v e = subst IsOfWords (same_Some (three inv.workgroup_id) v e) (told.workgroup_id.0, (told.workgroup_id.1, (told.workgroup_id.2, tt)))
+  three_low inv told built.LocalInvocationId v e = subst IsOfWords (same_Some (three inv.local_invocation_id) v e) (told.local_invocation_id.0, (told.local_invocation_id.1, (told.local_invocation_id.2, tt)))
+  three_low inv told built.GlobalInvocationId v e = subst IsOfWords (same_Some (three inv.global_invocation_id) v e) (told.global_invocation_id.0, (told.global_invocation_id.1, (told.global_invocation_id.2, tt)))
+  three_low inv told built.LocalInvocationIndex v e = subst IsOfWords (same_Some (word inv.local_invocation_index) v e) told.local_invocation_index
   three_low inv told built.WorkgroupSize v e = cc
 
   input_low : (g : Inst) (v : ValueTree) → input_value s g ≡ Some v → IsOfWords v
@@ -136,7 +137,7 @@ module _ (s : Setting) (right : IsSettingOfWords s) where
   calls_changed depth id v g (b ∷ bs) all low e = by_test (length bs == depth) e (λ rest. calls_changed depth id v g bs all.1 low rest)
     where
       by_test : (t : Bool) → elim t [ true ↦ Some b.0 | false ↦ call_at depth bs ] ≡ Some g → (call_at depth bs ≡ Some g → AreCallsOfWords (with_call depth (with_variable id v g) bs)) → AreCallsOfWords (elim t [ true ↦ (with_variable id v g, b.1) ∷ bs | false ↦ b ∷ with_call depth (with_variable id v g) bs ])
-      by_test true e next = let own_frame : IsFrameOfWords g = subst IsFrameOfWords (same_some b.0 g e) all.0 in ((own_frame.0, put_variable g.variables id v own_frame.1 low), all.1)
+      by_test true e next = let own_frame : IsFrameOfWords g = subst IsFrameOfWords (same_Some b.0 g e) all.0 in ((own_frame.0, put_variable g.variables id v own_frame.1 low), all.1)
       by_test false e next = (all.0, next e)
 
   keeping_low : (c : Conf) (r : Root) (v : ValueTree) → IsStateOfWords c → IsOfWords v → IsStateOfWords (keeping r v c)
@@ -154,7 +155,7 @@ module _ (s : Setting) (right : IsSettingOfWords s) where
     where
       by_zero : (o : Option Tree) → option_map zero_of o ≡ Some w → IsOfWords w
       by_zero None e = cc
-      by_zero (Some t) e = subst IsOfWords (same_some (zero_of t) w e) (zero_low t)
+      by_zero (Some t) e = subst IsOfWords (same_Some (zero_of t) w e) (zero_low t)
 
       by_args : (args : List ℕ) (o : Option Tree) → initial_by s o args ≡ Some w → IsOfWords w
       by_args [] o e = by_zero o e
@@ -176,7 +177,7 @@ module _ (s : Setting) (right : IsSettingOfWords s) where
   held_low c id h frame e v same = value_low c id v frame (ap as_value e ∙ ap (λ x. as_value (Some x)) same)
 
   all_held_low : (c : Frame) (ids : List ℕ) (hs : List Held) → IsFrameOfWords c → each_one (held s c) ids ≡ Some hs → AreHeldOfWords hs
-  all_held_low c [] hs frame e = subst AreHeldOfWords (same_some [] hs e) tt
+  all_held_low c [] hs frame e = subst AreHeldOfWords (same_Some [] hs e) tt
   all_held_low c (id ∷ ids) hs frame e = let b = before_some (held s c id) (each_one (held s c) ids) hs e in subst AreHeldOfWords (sym b.4) (held_low c id b.0 frame b.2, all_held_low c ids b.1 frame b.3)
 
   passed_low : (depth : ℕ) (h : Held) → ((v : ValueTree) → h ≡ value v → IsOfWords v) → (v : ValueTree) → passed depth h ≡ value v → IsOfWords v
@@ -191,7 +192,7 @@ module _ (s : Setting) (right : IsSettingOfWords s) where
   argument_low depth (p ∷ ps) (h ∷ hs) all id v e = by_test (p.0.0 == id) (λ rest. argument_low depth ps hs all.1 id v rest) e
     where
       by_test : (t : Bool) → (argument_of ps (map (passed depth) hs) id ≡ Some (value v) → IsOfWords v) → elim t [ true ↦ Some (passed depth h) | false ↦ argument_of ps (map (passed depth) hs) id ] ≡ Some (value v) → IsOfWords v
-      by_test true next e = passed_low depth h all.0 v (same_some (passed depth h) (value v) e)
+      by_test true next e = passed_low depth h all.0 v (same_Some (passed depth h) (value v) e)
       by_test false next e = next e
 
   entered_low : (f : Function) (hs : List Held) → IdsHoldWords (argument_of f.params hs) → IsFrameOfWords (entered s f hs)
@@ -375,6 +376,6 @@ module _ (s : Setting) (right : IsSettingOfWords s) where
     where
       by_start : (b : Bool) (o : Option Function) → start_by s b o ≡ Some c → IsStateOfWords c
       by_start true (Some f) e =
-          subst IsStateOfWords (same_some (first_state s f) c e) (record { top = entered_low f [] (λ id v at. absurd (no_arguments f.params id (value v) at)); calls = tt; privates = initial_private_low })
+          subst IsStateOfWords (same_Some (first_state s f) c e) (record { top = entered_low f [] (λ id v at. absurd (no_arguments f.params id (value v) at)); calls = tt; privates = initial_private_low })
       by_start true None e = cc
       by_start false o e = cc

@@ -1,6 +1,7 @@
 -- What operations make of values of words is of words.
 use Rattle.std.proofs.Common.{◌≡◌, ◌<◌, ◌+◌, ◌^◌, ◌==◌, ℕ, zero, suc, Bool, true, false, not, List, [], ◌∷◌, ◌++◌, length, map, take, drop, replicate, Option, Some, None, refl, sym, subst, if◌then◌else◌, arith}
 use Rattle.std.specs.Prelude.{flat_map, nat_lt, option_map, option_and_then, slice_get, slice_set, slice_index}
+use Rattle.std.proofs.lemmas.Option.{same_Some}
 use Rattle.spv_module.specs.declared.tree.Elem.{Elem}
 use Rattle.spv_module.specs.declared.tree.Elem.TheVariants as elem
 use Rattle.spv_module.specs.declared.tree.Length.TheVariants.{Fixed, Spec}
@@ -23,7 +24,7 @@ use Rattle.fits_law.proofs.Literals.{extracted_along, inserted_along}
 use Rattle.fits_law.proofs.Operations.{before_some}
 use Rattle.typed_law.specs.Words.{AllOfWords, AreAllWords}
 use Rattle.typed_law.proofs.LowWords.{unary_low, binary_low, clamp_low, unsigned_field_low, signed_field_low, insert_low}
-use Rattle.typed_law.proofs.Lists.{same_some, some_part}
+use Rattle.typed_law.proofs.Lists.{some_part}
 
 -- what f gives of values of words is of words
 abbrev Keeps : (ValueTree → Option ValueTree) → Type 0
@@ -53,7 +54,7 @@ append_low (v ∷ vs) ws h k = (h.0, append_low vs ws h.1 k)
 
 got_low : (vs : List ValueTree) (i : ℕ) (r : ValueTree) → AllOfWords vs → slice_get vs i ≡ Some r → IsOfWords r
 got_low [] i r h e = cc
-got_low (v ∷ vs) zero r h e = subst IsOfWords (same_some v r e) h.0
+got_low (v ∷ vs) zero r h e = subst IsOfWords (same_Some v r e) h.0
 got_low (v ∷ vs) (suc i) r h e = got_low vs i r h.1 e
 
 set_low : (vs : List ValueTree) (i : ℕ) (v : ValueTree) → AllOfWords vs → IsOfWords v → AllOfWords (slice_set vs i v)
@@ -63,17 +64,17 @@ set_low (u ∷ vs) (suc i) v h k = (h.0, set_low vs i v h.1 k)
 
 some_list : (o : Option (List ValueTree)) (r : ValueTree) → ((vs : List ValueTree) → o ≡ Some vs → AllOfWords vs) → option_map composite o ≡ Some r → IsOfWords r
 some_list None r h e = cc
-some_list (Some vs) r h e = subst IsOfWords (same_some (composite vs) r e) (values_low vs (h vs refl))
+some_list (Some vs) r h e = subst IsOfWords (same_Some (composite vs) r e) (values_low vs (h vs refl))
 
 -- by component
 each_low : (f : ValueTree → Option ValueTree) → Keeps f → (xs rs : List ValueTree) → AllOfWords xs → each_one f xs ≡ Some rs → AllOfWords rs
-each_low f keeps [] rs h e = subst AllOfWords (same_some [] rs e) tt
+each_low f keeps [] rs h e = subst AllOfWords (same_Some [] rs e) tt
 each_low f keeps (x ∷ xs) rs h e =
     let b = before_some (f x) (each_one f xs) rs e in
     subst AllOfWords (sym b.4) (keeps x b.0 h.0 b.2, each_low f keeps xs b.1 h.1 b.3)
 
 each_two_low : (f : ValueTree → ValueTree → Option ValueTree) → KeepsTwo f → (xs ys rs : List ValueTree) → AllOfWords xs → AllOfWords ys → each_two f xs ys ≡ Some rs → AllOfWords rs
-each_two_low f keeps [] [] rs h k e = subst AllOfWords (same_some [] rs e) tt
+each_two_low f keeps [] [] rs h k e = subst AllOfWords (same_Some [] rs e) tt
 each_two_low f keeps [] (y ∷ ys) rs h k e = cc
 each_two_low f keeps (x ∷ xs) [] rs h k e = cc
 each_two_low f keeps (x ∷ xs) (y ∷ ys) rs h k e =
@@ -81,7 +82,7 @@ each_two_low f keeps (x ∷ xs) (y ∷ ys) rs h k e =
     subst AllOfWords (sym b.4) (keeps x y b.0 h.0 k.0 b.2, each_two_low f keeps xs ys b.1 h.1 k.1 b.3)
 
 each_three_low : (f : ValueTree → ValueTree → ValueTree → Option ValueTree) → KeepsThree f → (xs ys zs rs : List ValueTree) → AllOfWords xs → AllOfWords ys → AllOfWords zs → each_three f xs ys zs ≡ Some rs → AllOfWords rs
-each_three_low f keeps [] [] [] rs h k l e = subst AllOfWords (same_some [] rs e) tt
+each_three_low f keeps [] [] [] rs h k l e = subst AllOfWords (same_Some [] rs e) tt
 each_three_low f keeps (x ∷ xs) (y ∷ ys) (z ∷ zs) rs h k l e =
     let b = before_some (f x y z) (each_three f xs ys zs) rs e in
     subst AllOfWords (sym b.4) (keeps x y z b.0 h.0 k.0 l.0 b.2, each_three_low f keeps xs ys zs b.1 h.1 k.1 l.1 b.3)
@@ -115,10 +116,10 @@ three_low f keeps (word b) y z r h k l e = keeps (word b) y z r h k l e
 -- scalars
 some_word : (o : Option ℕ) (r : ValueTree) → ((n : ℕ) → o ≡ Some n → n < 2 ^ 32) → option_map word o ≡ Some r → IsOfWords r
 some_word None r h e = cc
-some_word (Some n) r h e = subst IsOfWords (same_some (word n) r e) (h n refl)
+some_word (Some n) r h e = subst IsOfWords (same_Some (word n) r e) (h n refl)
 
 unary_scalar_low : (o : Unary) → Keeps (unary_scalar o)
-unary_scalar_low o (word a) r h e = subst IsOfWords (same_some (word (unary_word o a)) r e) (unary_low o a h)
+unary_scalar_low o (word a) r h e = subst IsOfWords (same_Some (word (unary_word o a)) r e) (unary_low o a h)
 unary_scalar_low o (truth b) r h e = cc
 unary_scalar_low o (many vs) r h e = cc
 
@@ -130,26 +131,26 @@ binary_scalar_low o (truth a) b r h k e = cc
 binary_scalar_low o (many a) b r h k e = cc
 
 comparison_scalar_low : (o : Comparison) → KeepsTwo (comparison_scalar o)
-comparison_scalar_low o (word a) (word b) r h k e = subst IsOfWords (same_some (truth _) r e) tt
+comparison_scalar_low o (word a) (word b) r h k e = subst IsOfWords (same_Some (truth _) r e) tt
 comparison_scalar_low o (word a) (truth b) r h k e = cc
 comparison_scalar_low o (word a) (many b) r h k e = cc
 comparison_scalar_low o (truth a) b r h k e = cc
 comparison_scalar_low o (many a) b r h k e = cc
 
 logical_scalar_low : (o : Logical) → KeepsTwo (logical_scalar o)
-logical_scalar_low o (truth a) (truth b) r h k e = subst IsOfWords (same_some (truth _) r e) tt
+logical_scalar_low o (truth a) (truth b) r h k e = subst IsOfWords (same_Some (truth _) r e) tt
 logical_scalar_low o (truth a) (word b) r h k e = cc
 logical_scalar_low o (truth a) (many b) r h k e = cc
 logical_scalar_low o (word a) b r h k e = cc
 logical_scalar_low o (many a) b r h k e = cc
 
 not_scalar_low : Keeps not_scalar
-not_scalar_low (truth b) r h e = subst IsOfWords (same_some (truth (not b)) r e) tt
+not_scalar_low (truth b) r h e = subst IsOfWords (same_Some (truth (not b)) r e) tt
 not_scalar_low (word b) r h e = cc
 not_scalar_low (many b) r h e = cc
 
 clamp_scalar_low : (o : Clamp) → KeepsThree (clamp_scalar o)
-clamp_scalar_low o (word a) (word b) (word c) r h k l e = subst IsOfWords (same_some (word (clamp_word o a b c)) r e) (clamp_low o a b c h k l)
+clamp_scalar_low o (word a) (word b) (word c) r h k l e = subst IsOfWords (same_Some (word (clamp_word o a b c)) r e) (clamp_low o a b c h k l)
 clamp_scalar_low o (word a) (word b) (truth c) r h k l e = cc
 clamp_scalar_low o (word a) (word b) (many c) r h k l e = cc
 clamp_scalar_low o (word a) (truth b) c r h k l e = cc
@@ -158,8 +159,8 @@ clamp_scalar_low o (truth a) b c r h k l e = cc
 clamp_scalar_low o (many a) b c r h k l e = cc
 
 chosen_low : KeepsThree chosen
-chosen_low (truth true) a b r h k l e = subst IsOfWords (same_some a r e) k
-chosen_low (truth false) a b r h k l e = subst IsOfWords (same_some b r e) l
+chosen_low (truth true) a b r h k l e = subst IsOfWords (same_Some a r e) k
+chosen_low (truth false) a b r h k l e = subst IsOfWords (same_Some b r e) l
 chosen_low (word c) a b r h k l e = cc
 chosen_low (many c) a b r h k l e = cc
 
@@ -194,7 +195,7 @@ over_low f (many vs) r h e = by_truths (each_one as_truth (listed vs)) e
   where
     by_truths : (o : Option (List Bool)) → option_map (λ bs. truth (f bs)) o ≡ Some r → IsOfWords r
     by_truths None e = cc
-    by_truths (Some bs) e = subst IsOfWords (same_some (truth (f bs)) r e) tt
+    by_truths (Some bs) e = subst IsOfWords (same_Some (truth (f bs)) r e) tt
 over_low f (truth b) r h e = cc
 over_low f (word b) r h e = cc
 
@@ -208,17 +209,17 @@ with_part_low : (v part r : ValueTree) (i : ℕ) → IsOfWords v → IsOfWords p
 with_part_low (many vs) part r i h k e = by_less (nat_lt i (length (listed vs))) e
   where
     by_less : (b : Bool) → (if b then Some (composite (slice_set (listed vs) i part)) else None) ≡ Some r → IsOfWords r
-    by_less true e = subst IsOfWords (same_some (composite (slice_set (listed vs) i part)) r e) (values_low (slice_set (listed vs) i part) (set_low (listed vs) i part (listed_low vs h) k))
+    by_less true e = subst IsOfWords (same_Some (composite (slice_set (listed vs) i part)) r e) (values_low (slice_set (listed vs) i part) (set_low (listed vs) i part (listed_low vs h) k))
     by_less false e = cc
 with_part_low (truth b) part r i h k e = cc
 with_part_low (word b) part r i h k e = cc
 
 pub extracted_low : (js : List ℕ) → Keeps (extracted js)
-extracted_low [] v r h e = subst IsOfWords (same_some v r e) h
+extracted_low [] v r h e = subst IsOfWords (same_Some v r e) h
 extracted_low (j ∷ js) v r h e = let p = some_part (extracted js) (part_at v j) r e in extracted_low js p.0 r (part_low v p.0 j h p.1) p.2
 
 pub inserted_low : (object : ValueTree) (js : List ℕ) (v r : ValueTree) → IsOfWords object → IsOfWords v → inserted object js v ≡ Some r → IsOfWords r
-inserted_low object [] v r h k e = subst IsOfWords (same_some object r e) h
+inserted_low object [] v r h k e = subst IsOfWords (same_Some object r e) h
 inserted_low object (j ∷ js) v r h k e =
     let p = some_part (λ part. option_and_then (with_part v j) (inserted object js part)) (part_at v j) r e in
     let q = some_part (with_part v j) (inserted object js p.0) r p.2 in
@@ -243,11 +244,11 @@ picked_low : (zero_is : ValueTree) (vs : List ValueTree) (n : ℕ) (r : ValueTre
 picked_low zero_is vs n r h k e = by_test (n == 4294967295) e
   where
     by_test : (b : Bool) → (if b then Some zero_is else slice_get vs n) ≡ Some r → IsOfWords r
-    by_test true e = subst IsOfWords (same_some zero_is r e) h
+    by_test true e = subst IsOfWords (same_Some zero_is r e) h
     by_test false e = got_low vs n r k e
 
 picks_low : (zero_is : ValueTree) (vs : List ValueTree) (ns : List ℕ) (rs : List ValueTree) → IsOfWords zero_is → AllOfWords vs → each_one (picked zero_is vs) ns ≡ Some rs → AllOfWords rs
-picks_low zero_is vs [] rs h k e = subst AllOfWords (same_some [] rs e) tt
+picks_low zero_is vs [] rs h k e = subst AllOfWords (same_Some [] rs e) tt
 picks_low zero_is vs (n ∷ ns) rs h k e =
     let b = before_some (picked zero_is vs n) (each_one (picked zero_is vs) ns) rs e in
     subst AllOfWords (sym b.4) (picked_low zero_is vs n b.0 h k b.2, picks_low zero_is vs ns b.1 h k b.3)
@@ -374,11 +375,11 @@ op_low op.BitFieldUExtract t ls vs r h e = three_of (bit_field bit_field_unsigne
 op_low op.Any t ls vs r h e = one_of (over_truths _) (over_low _) vs r h e
 op_low op.All t ls vs r h e = one_of (over_truths _) (over_low _) vs r h e
 op_low op.Select t ls vs r h e = three_of (by_three chosen) (three_low chosen chosen_low) vs r h e
-op_low op.Undef t ls vs r h e = subst IsOfWords (same_some (zero_of t) r e) (zero_low t)
-op_low op.Copy t ls vs r h e = one_of Some (λ v q low at. subst IsOfWords (same_some v q at) low) vs r h e
+op_low op.Undef t ls vs r h e = subst IsOfWords (same_Some (zero_of t) r e) (zero_low t)
+op_low op.Copy t ls vs r h e = one_of Some (λ v q low at. subst IsOfWords (same_Some v q at) low) vs r h e
 op_low op.VectorExtractDynamic t ls vs r h e = two_of extracted_at (λ v i q low index at. extracted_at_low v i q low at) vs r h e
 op_low op.VectorInsertDynamic t ls vs r h e = three_of inserted_at (λ v object i q low of_object index at. inserted_at_low v object i q low of_object at) vs r h e
 op_low op.VectorShuffle t ls vs r h e = two_of (shuffled t ls) (shuffled_low t ls) vs r h e
-op_low op.CompositeConstruct t ls vs r h e = subst IsOfWords (same_some (constructed t vs) r e) (constructed_low t vs h)
+op_low op.CompositeConstruct t ls vs r h e = subst IsOfWords (same_Some (constructed t vs) r e) (constructed_low t vs h)
 op_low op.CompositeExtract t ls vs r h e = one_of (extracted_by ls) (λ v q low at. extracted_low ls v q low (extracted_along ls v q at).1) vs r h e
 op_low op.CompositeInsert t ls vs r h e = two_of (λ object whole. inserted_by object ls whole) (λ object whole q low of_whole at. inserted_low object ls whole q low of_whole (inserted_along object ls whole q at).1) vs r h e

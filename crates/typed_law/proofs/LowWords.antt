@@ -8,6 +8,7 @@ use Rattle.std.specs.Int.Count.{ones_in}
 use Rattle.std.proofs.lemmas.Nat.{or_of_32, xor_of_32, trailing_le}
 use Rattle.std.proofs.lemmas.Int.{rem_below}
 use Rattle.std.proofs.lemmas.Bool.Decides.{eqb_tells, nat_tests}
+use Rattle.std.proofs.lemmas.Option.{same_Some}
 use Rattle.op_semantics.specs.declared.operation.Unary.{Unary}
 use Rattle.op_semantics.specs.declared.operation.Unary.TheVariants.{SNegate, Not, BitReverse, BitCount, SAbs, SSign, FindILsb, FindSMsb, FindUMsb}
 use Rattle.op_semantics.specs.declared.operation.Binary.{Binary}
@@ -15,7 +16,6 @@ use Rattle.op_semantics.specs.declared.operation.Binary.TheVariants.{IAdd, ISub,
 use Rattle.op_semantics.specs.declared.operation.Clamp.{Clamp}
 use Rattle.op_semantics.specs.declared.operation.Clamp.TheVariants.{UClamp, SClamp}
 use Rattle.op_semantics.specs.Word.{signed, word_of, all_ones, int_modulo, lowest_one, highest_one, highest_unlike_sign, unary_word, divided, divided_signed, shift_size, binary_word, clamp_word, within_word, field, sign_extended, bit_field_unsigned, bit_field_signed, bit_field_insert, truths_equal}
-use Rattle.typed_law.proofs.Lists.{same_some}
 
 abbrev pub IsWord : ℕ → Type 0
 IsWord w = w < 2 ^ 32
@@ -162,7 +162,7 @@ unary_low FindUMsb a h = highest_low a
 
 -- what is found, if anything
 found_low : (o : Option ℕ) (n r : ℕ) → IsWord n → o ≡ Some n → o ≡ Some r → IsWord r
-found_low o n r h is at = subst IsWord (same_some n r (sym is ∙ at)) h
+found_low o n r h is at = subst IsWord (same_Some n r (sym is ∙ at)) h
 
 divided_low : (f : ℕ → ℕ → ℕ) (a b r : ℕ) → (0 < b → IsWord (f a b)) → divided f a b ≡ Some r → IsWord r
 divided_low f a b r h e = by_zero (b == 0) (eqb_tells b 0) e
@@ -170,7 +170,7 @@ divided_low f a b r h e = by_zero (b == 0) (eqb_tells b 0) e
     by_zero : (t : Bool) → ((t ≡ true) × (b ≡ 0)) ⊎ ((t ≡ false) × (b ≡ 0 → ⊥)) → (if t then None else Some (f a b)) ≡ Some r → IsWord r
     by_zero true w e = cc
     by_zero false (inl w) e = cc
-    by_zero false (inr w) e = let far = w.1 in subst IsWord (same_some (f a b) r e) (h (above b far))
+    by_zero false (inr w) e = let far = w.1 in subst IsWord (same_Some (f a b) r e) (h (above b far))
       where
         above : (n : ℕ) → (n ≡ 0 → ⊥) → 0 < n
         above zero far = absurd (far refl)
@@ -183,7 +183,7 @@ signed_low f a b r h e = by_zero (b == 0) ((a == 2 ^ 31) && (b == all_ones)) (eq
     by_zero true u w e = cc
     by_zero false true w e = cc
     by_zero false false (inl w) e = cc
-    by_zero false false (inr w) e = let far = w.1 in subst IsWord (same_some (word_of (f (signed a) (signed b))) r e) (h (above b far))
+    by_zero false false (inr w) e = let far = w.1 in subst IsWord (same_Some (word_of (f (signed a) (signed b))) r e) (h (above b far))
       where
         above : (n : ℕ) → (n ≡ 0 → ⊥) → 0 < n
         above zero far = absurd (far refl)
@@ -235,7 +235,7 @@ within_low : (offset count n r : ℕ) → (offset + count ≤ 32 → IsWord n) �
 within_low offset count n r h e = by_test (nat_le (offset + count) 32) refl e
   where
     by_test : (t : Bool) → nat_le (offset + count) 32 ≡ t → (if t then Some n else None) ≡ Some r → IsWord r
-    by_test true at e = subst IsWord (same_some n r e) (h (let le : offset + count ≤ 32 = grind (arith, nat_tests, at) in le))
+    by_test true at e = subst IsWord (same_Some n r e) (h (let le : offset + count ≤ 32 = grind (arith, nat_tests, at) in le))
     by_test false at e = cc
 
 pub unsigned_field_low : (offset count base r : ℕ) → IsWord base → bit_field_unsigned offset count base ≡ Some r → IsWord r

@@ -4,6 +4,8 @@ use Rattle.std.specs.Prelude.{◌⊎◌, nat_le, option_and_then, Contains, slic
 use Rattle.std.specs.Option.{option_map_or}
 use Rattle.std.specs.List.{list_any}
 use Rattle.std.proofs.lemmas.Bool.Decides.{eqb_tells, nat_tests}
+use Rattle.std.proofs.lemmas.Bool.{not-false}
+use Rattle.std.proofs.lemmas.Option.{same_Some}
 use Rattle.spv_ops.specs.Opcode.{number}
 use Rattle.spv_ops.specs.Shape.{shape, count_of}
 use Rattle.spv_ops.specs.Operands.{is_id}
@@ -53,7 +55,7 @@ use Rattle.type_law.proofs.Parts.{row, earlier_is, walk_leads, extract_takes, in
 use Rattle.type_law.proofs.Made.{made_takes}
 use Rattle.type_law.proofs.Copies.{logical_takes as copied_takes}
 use Rattle.typed_law.specs.Conforms.{IsConforming}
-use Rattle.typed_law.proofs.Lists.{or_left, or_right, not_off, clash, same_some, from_zero, at_least}
+use Rattle.typed_law.proofs.Lists.{or_left, or_right, clash, from_zero, at_least}
 use Rattle.typed_law.proofs.Values.{HasType, HasItsShape, passing, same_type, typed_value, value_sized, own_type, shaped_some, vector_shaped, int_shaped}
 use Rattle.typed_law.proofs.Shapes.{AreTyped, number_shapes, compared_shapes, truth_shapes, condition_shape, row_of_shape, shaped_type, made_shapes, whole_shape, copied_shape}
 
@@ -102,26 +104,26 @@ by_row P (r ∷ rows) n c all e = by_tests (r.0 == n) (r.1 == c) (eqb_tells r.0 
 
 extended_view : (n c : ℕ) (o : Operation) → operation_in extended_opcodes n ≡ Some o → is_extended n c ≡ true → ExtendedView c o
 extended_view n c o e on = by_row (λ x y. (q : Operation) → operation_in extended_opcodes x ≡ Some q → ExtendedView y q) extended_rows n c (
-  λ q at. of_unary refl SAbs (same_some (op.Unary SAbs) q at),
+  λ q at. of_unary refl SAbs (same_Some (op.Unary SAbs) q at),
   (
-    λ q at. of_unary refl SSign (same_some (op.Unary SSign) q at),
+    λ q at. of_unary refl SSign (same_Some (op.Unary SSign) q at),
     (
-      λ q at. of_binary refl UMin (same_some (op.Binary UMin) q at),
+      λ q at. of_binary refl UMin (same_Some (op.Binary UMin) q at),
       (
-        λ q at. of_binary refl SMin (same_some (op.Binary SMin) q at),
+        λ q at. of_binary refl SMin (same_Some (op.Binary SMin) q at),
         (
-          λ q at. of_binary refl UMax (same_some (op.Binary UMax) q at),
+          λ q at. of_binary refl UMax (same_Some (op.Binary UMax) q at),
           (
-            λ q at. of_binary refl SMax (same_some (op.Binary SMax) q at),
+            λ q at. of_binary refl SMax (same_Some (op.Binary SMax) q at),
             (
-              λ q at. of_clamp refl UClamp (same_some (op.Clamp UClamp) q at),
+              λ q at. of_clamp refl UClamp (same_Some (op.Clamp UClamp) q at),
               (
-                λ q at. of_clamp refl SClamp (same_some (op.Clamp SClamp) q at),
+                λ q at. of_clamp refl SClamp (same_Some (op.Clamp SClamp) q at),
                 (
-                  λ q at. of_unary refl FindILsb (same_some (op.Unary FindILsb) q at),
+                  λ q at. of_unary refl FindILsb (same_Some (op.Unary FindILsb) q at),
                   (
-                    λ q at. of_unary refl FindSMsb (same_some (op.Unary FindSMsb) q at),
-                    (λ q at. of_unary refl FindUMsb (same_some (op.Unary FindUMsb) q at), tt),
+                    λ q at. of_unary refl FindSMsb (same_Some (op.Unary FindSMsb) q at),
+                    (λ q at. of_unary refl FindUMsb (same_Some (op.Unary FindUMsb) q at), tt),
                   ),
                 ),
               ),
@@ -323,7 +325,7 @@ module _ (s : Setting) (entry : Option (List ℕ)) (right : IsConforming s.of en
   as_copied : breaks_t12 Gs V i ≡ false → HaveTypes i.args → length i.args ≡ 1 → IsGiven i.args [] op.Copy
   as_copied off typed many =
       let w = typed 0 (let less : 0 < length i.args = omega (arith, many) in less) in
-      let on = not_off (do_match Gs w.0 i.ty) (ap (λ o. option_map_or (λ ty. not (do_match Gs ty i.ty)) o false) (sym w.1) ∙ off) in
+      let on = not-false (do_match Gs w.0 i.ty) (ap (λ o. option_map_or (λ ty. not (do_match Gs ty i.ty)) o false) (sym w.1) ∙ off) in
       let a = copied_shape s entry right f in_it i.ty (word i 0) t shaped w on in
       let sized = value_sized s entry right f in_it (word i 0) w.0 w.1 a.0 (sym (ap (option_and_then (type_tree Gs)) w.1) ∙ a.1) in
       (a.0 ∷ [], have_one i.args a.0 many a.1, copied_takes s f [] i t a.0 off shaped a.1 result_sized sized)
@@ -404,7 +406,7 @@ module _ (s : Setting) (entry : Option (List ℕ)) (right : IsConforming s.of en
   -- T20
   as_extended : (o : Operation) → operation_in extended_opcodes (slice_index (take 1 (drop 1 i.args)) 0) ≡ Some o → 2 ≤ length i.args → breaks_t20 Gs V i ≡ false → HaveTypes (drop 2 i.args) → IsGiven (drop 2 i.args) (take 1 (drop 1 i.args)) o
   as_extended o e many off typed =
-      let on = not_off (is_extended (word i 1) (length (drop 2 i.args))) (or_left (not (is_extended (word i 1) (length (drop 2 i.args)))) (are_unlike_ints Gs V i.ty (drop 2 i.args)) off) in
+      let on = not-false (is_extended (word i 1) (length (drop 2 i.args))) (or_left (not (is_extended (word i 1) (length (drop 2 i.args)))) (are_unlike_ints Gs V i.ty (drop 2 i.args)) off) in
       let told = or_right (not (is_extended (word i 1) (length (drop 2 i.args)))) (are_unlike_ints Gs V i.ty (drop 2 i.args)) off in
       by_view told (extended_view (word i 1) (length (drop 2 i.args)) o (ap (λ (ls : List ℕ). operation_in extended_opcodes (slice_index ls 0)) (sym (second_of i.args many)) ∙ e) on)
     where
@@ -427,54 +429,54 @@ module _ (s : Setting) (entry : Option (List ℕ)) (right : IsConforming s.of en
 
   pub given_by : (p : Op) (o : Operation) → Facts s entry right f in_it i there p → operation_of p (literal_operands p i.args) ≡ Some o → Given p o
   unfolding group_of takes_of need is_id shape number operation operation_of
-  given_by code.SNegate o facts e = subst (Given code.SNegate) (same_some (op.Unary SNegate) o e) (as_unary i.args [] SNegate facts.number (all_typed code.SNegate facts (λ k. from_zero k) (λ k. refl)) (exactly 1 (length i.args) facts.least facts.most))
-  given_by code.Not o facts e = subst (Given code.Not) (same_some (op.Unary Not) o e) (as_unary i.args [] Not facts.number (all_typed code.Not facts (λ k. from_zero k) (λ k. refl)) (exactly 1 (length i.args) facts.least facts.most))
-  given_by code.BitReverse o facts e = subst (Given code.BitReverse) (same_some (op.Unary BitReverse) o e) (as_bits BitReverse facts.number (all_typed code.BitReverse facts (λ k. from_zero k) (λ k. refl)) (exactly 1 (length i.args) facts.least facts.most))
-  given_by code.BitCount o facts e = subst (Given code.BitCount) (same_some (op.Unary BitCount) o e) (as_bits BitCount facts.number (all_typed code.BitCount facts (λ k. from_zero k) (λ k. refl)) (exactly 1 (length i.args) facts.least facts.most))
-  given_by code.IAdd o facts e = subst (Given code.IAdd) (same_some (op.Binary IAdd) o e) (as_binary i.args [] IAdd facts.number (all_typed code.IAdd facts (λ k. from_zero k) (λ k. refl)) (exactly 2 (length i.args) facts.least facts.most))
-  given_by code.ISub o facts e = subst (Given code.ISub) (same_some (op.Binary ISub) o e) (as_binary i.args [] ISub facts.number (all_typed code.ISub facts (λ k. from_zero k) (λ k. refl)) (exactly 2 (length i.args) facts.least facts.most))
-  given_by code.IMul o facts e = subst (Given code.IMul) (same_some (op.Binary IMul) o e) (as_binary i.args [] IMul facts.number (all_typed code.IMul facts (λ k. from_zero k) (λ k. refl)) (exactly 2 (length i.args) facts.least facts.most))
-  given_by code.UDiv o facts e = subst (Given code.UDiv) (same_some (op.Binary UDiv) o e) (as_binary i.args [] UDiv facts.number (all_typed code.UDiv facts (λ k. from_zero k) (λ k. refl)) (exactly 2 (length i.args) facts.least facts.most))
-  given_by code.SDiv o facts e = subst (Given code.SDiv) (same_some (op.Binary SDiv) o e) (as_binary i.args [] SDiv facts.number (all_typed code.SDiv facts (λ k. from_zero k) (λ k. refl)) (exactly 2 (length i.args) facts.least facts.most))
-  given_by code.UMod o facts e = subst (Given code.UMod) (same_some (op.Binary UMod) o e) (as_binary i.args [] UMod facts.number (all_typed code.UMod facts (λ k. from_zero k) (λ k. refl)) (exactly 2 (length i.args) facts.least facts.most))
-  given_by code.SRem o facts e = subst (Given code.SRem) (same_some (op.Binary SRem) o e) (as_binary i.args [] SRem facts.number (all_typed code.SRem facts (λ k. from_zero k) (λ k. refl)) (exactly 2 (length i.args) facts.least facts.most))
-  given_by code.SMod o facts e = subst (Given code.SMod) (same_some (op.Binary SMod) o e) (as_binary i.args [] SMod facts.number (all_typed code.SMod facts (λ k. from_zero k) (λ k. refl)) (exactly 2 (length i.args) facts.least facts.most))
-  given_by code.ShiftRightLogical o facts e = subst (Given code.ShiftRightLogical) (same_some (op.Binary ShiftRightLogical) o e) (as_binary i.args [] ShiftRightLogical facts.number (all_typed code.ShiftRightLogical facts (λ k. from_zero k) (λ k. refl)) (exactly 2 (length i.args) facts.least facts.most))
-  given_by code.ShiftRightArithmetic o facts e = subst (Given code.ShiftRightArithmetic) (same_some (op.Binary ShiftRightArithmetic) o e) (as_binary i.args [] ShiftRightArithmetic facts.number (all_typed code.ShiftRightArithmetic facts (λ k. from_zero k) (λ k. refl)) (exactly 2 (length i.args) facts.least facts.most))
-  given_by code.ShiftLeftLogical o facts e = subst (Given code.ShiftLeftLogical) (same_some (op.Binary ShiftLeftLogical) o e) (as_binary i.args [] ShiftLeftLogical facts.number (all_typed code.ShiftLeftLogical facts (λ k. from_zero k) (λ k. refl)) (exactly 2 (length i.args) facts.least facts.most))
-  given_by code.BitwiseOr o facts e = subst (Given code.BitwiseOr) (same_some (op.Binary BitwiseOr) o e) (as_binary i.args [] BitwiseOr facts.number (all_typed code.BitwiseOr facts (λ k. from_zero k) (λ k. refl)) (exactly 2 (length i.args) facts.least facts.most))
-  given_by code.BitwiseXor o facts e = subst (Given code.BitwiseXor) (same_some (op.Binary BitwiseXor) o e) (as_binary i.args [] BitwiseXor facts.number (all_typed code.BitwiseXor facts (λ k. from_zero k) (λ k. refl)) (exactly 2 (length i.args) facts.least facts.most))
-  given_by code.BitwiseAnd o facts e = subst (Given code.BitwiseAnd) (same_some (op.Binary BitwiseAnd) o e) (as_binary i.args [] BitwiseAnd facts.number (all_typed code.BitwiseAnd facts (λ k. from_zero k) (λ k. refl)) (exactly 2 (length i.args) facts.least facts.most))
-  given_by code.IEqual o facts e = subst (Given code.IEqual) (same_some (op.Comparison IEqual) o e) (as_comparison IEqual facts.number (all_typed code.IEqual facts (λ k. from_zero k) (λ k. refl)) (exactly 2 (length i.args) facts.least facts.most))
-  given_by code.INotEqual o facts e = subst (Given code.INotEqual) (same_some (op.Comparison INotEqual) o e) (as_comparison INotEqual facts.number (all_typed code.INotEqual facts (λ k. from_zero k) (λ k. refl)) (exactly 2 (length i.args) facts.least facts.most))
-  given_by code.UGreaterThan o facts e = subst (Given code.UGreaterThan) (same_some (op.Comparison UGreaterThan) o e) (as_comparison UGreaterThan facts.number (all_typed code.UGreaterThan facts (λ k. from_zero k) (λ k. refl)) (exactly 2 (length i.args) facts.least facts.most))
-  given_by code.SGreaterThan o facts e = subst (Given code.SGreaterThan) (same_some (op.Comparison SGreaterThan) o e) (as_comparison SGreaterThan facts.number (all_typed code.SGreaterThan facts (λ k. from_zero k) (λ k. refl)) (exactly 2 (length i.args) facts.least facts.most))
-  given_by code.UGreaterThanEqual o facts e = subst (Given code.UGreaterThanEqual) (same_some (op.Comparison UGreaterThanEqual) o e) (as_comparison UGreaterThanEqual facts.number (all_typed code.UGreaterThanEqual facts (λ k. from_zero k) (λ k. refl)) (exactly 2 (length i.args) facts.least facts.most))
-  given_by code.SGreaterThanEqual o facts e = subst (Given code.SGreaterThanEqual) (same_some (op.Comparison SGreaterThanEqual) o e) (as_comparison SGreaterThanEqual facts.number (all_typed code.SGreaterThanEqual facts (λ k. from_zero k) (λ k. refl)) (exactly 2 (length i.args) facts.least facts.most))
-  given_by code.ULessThan o facts e = subst (Given code.ULessThan) (same_some (op.Comparison ULessThan) o e) (as_comparison ULessThan facts.number (all_typed code.ULessThan facts (λ k. from_zero k) (λ k. refl)) (exactly 2 (length i.args) facts.least facts.most))
-  given_by code.SLessThan o facts e = subst (Given code.SLessThan) (same_some (op.Comparison SLessThan) o e) (as_comparison SLessThan facts.number (all_typed code.SLessThan facts (λ k. from_zero k) (λ k. refl)) (exactly 2 (length i.args) facts.least facts.most))
-  given_by code.ULessThanEqual o facts e = subst (Given code.ULessThanEqual) (same_some (op.Comparison ULessThanEqual) o e) (as_comparison ULessThanEqual facts.number (all_typed code.ULessThanEqual facts (λ k. from_zero k) (λ k. refl)) (exactly 2 (length i.args) facts.least facts.most))
-  given_by code.SLessThanEqual o facts e = subst (Given code.SLessThanEqual) (same_some (op.Comparison SLessThanEqual) o e) (as_comparison SLessThanEqual facts.number (all_typed code.SLessThanEqual facts (λ k. from_zero k) (λ k. refl)) (exactly 2 (length i.args) facts.least facts.most))
-  given_by code.LogicalEqual o facts e = subst (Given code.LogicalEqual) (same_some (op.Logical LogicalEqual) o e) (as_logical LogicalEqual facts.number (all_typed code.LogicalEqual facts (λ k. from_zero k) (λ k. refl)) (exactly 2 (length i.args) facts.least facts.most))
-  given_by code.LogicalNotEqual o facts e = subst (Given code.LogicalNotEqual) (same_some (op.Logical LogicalNotEqual) o e) (as_logical LogicalNotEqual facts.number (all_typed code.LogicalNotEqual facts (λ k. from_zero k) (λ k. refl)) (exactly 2 (length i.args) facts.least facts.most))
-  given_by code.LogicalOr o facts e = subst (Given code.LogicalOr) (same_some (op.Logical LogicalOr) o e) (as_logical LogicalOr facts.number (all_typed code.LogicalOr facts (λ k. from_zero k) (λ k. refl)) (exactly 2 (length i.args) facts.least facts.most))
-  given_by code.LogicalAnd o facts e = subst (Given code.LogicalAnd) (same_some (op.Logical LogicalAnd) o e) (as_logical LogicalAnd facts.number (all_typed code.LogicalAnd facts (λ k. from_zero k) (λ k. refl)) (exactly 2 (length i.args) facts.least facts.most))
-  given_by code.LogicalNot o facts e = subst (Given code.LogicalNot) (same_some op.LogicalNot o e) (as_not facts.number (all_typed code.LogicalNot facts (λ k. from_zero k) (λ k. refl)) (exactly 1 (length i.args) facts.least facts.most))
-  given_by code.Any o facts e = subst (Given code.Any) (same_some op.Any o e) (let w = over_all facts.number (all_typed code.Any facts (λ k. from_zero k) (λ k. refl)) (exactly 1 (length i.args) facts.least facts.most) in (w.0 ∷ [], w.1, w.2))
-  given_by code.All o facts e = subst (Given code.All) (same_some op.All o e) (let w = over_all facts.number (all_typed code.All facts (λ k. from_zero k) (λ k. refl)) (exactly 1 (length i.args) facts.least facts.most) in (w.0 ∷ [], w.1, w.2))
-  given_by code.Select o facts e = subst (Given code.Select) (same_some op.Select o e) (as_select facts.number (all_typed code.Select facts (λ k. from_zero k) (λ k. refl)) (exactly 3 (length i.args) facts.least facts.most))
-  given_by code.BitFieldInsert o facts e = subst (Given code.BitFieldInsert) (same_some op.BitFieldInsert o e) (as_insert i.args (exactly 4 (length i.args) facts.least facts.most) (all_typed code.BitFieldInsert facts (λ k. from_zero k) (λ k. refl)) facts.number)
-  given_by code.BitFieldSExtract o facts e = subst (Given code.BitFieldSExtract) (same_some op.BitFieldSExtract o e) (let w = field_of i.args (exactly 3 (length i.args) facts.least facts.most) (all_typed code.BitFieldSExtract facts (λ k. from_zero k) (λ k. refl)) facts.number in (w.0 ∷ w.1 ∷ w.2 ∷ [], w.3, w.4))
-  given_by code.BitFieldUExtract o facts e = subst (Given code.BitFieldUExtract) (same_some op.BitFieldUExtract o e) (let w = field_of i.args (exactly 3 (length i.args) facts.least facts.most) (all_typed code.BitFieldUExtract facts (λ k. from_zero k) (λ k. refl)) facts.number in (w.0 ∷ w.1 ∷ w.2 ∷ [], w.3, w.4))
-  given_by code.Bitcast o facts e = subst (Given code.Bitcast) (same_some op.Copy o e) (as_bitcast facts.number (all_typed code.Bitcast facts (λ k. from_zero k) (λ k. refl)) (exactly 1 (length i.args) facts.least facts.most))
-  given_by code.CopyObject o facts e = subst (Given code.CopyObject) (same_some op.Copy o e) (as_copy facts.value (all_typed code.CopyObject facts (λ k. from_zero k) (λ k. refl)) (exactly 1 (length i.args) facts.least facts.most))
-  given_by code.CopyLogical o facts e = subst (Given code.CopyLogical) (same_some op.Copy o e) (as_copied facts.value (all_typed code.CopyLogical facts (λ k. from_zero k) (λ k. refl)) (exactly 1 (length i.args) facts.least facts.most))
-  given_by code.VectorExtractDynamic o facts e = subst (Given code.VectorExtractDynamic) (same_some op.VectorExtractDynamic o e) (as_taken facts.value (all_typed code.VectorExtractDynamic facts (λ k. from_zero k) (λ k. refl)) (exactly 2 (length i.args) facts.least facts.most))
-  given_by code.VectorInsertDynamic o facts e = subst (Given code.VectorInsertDynamic) (same_some op.VectorInsertDynamic o e) (as_put facts.value (all_typed code.VectorInsertDynamic facts (λ k. from_zero k) (λ k. refl)) (exactly 3 (length i.args) facts.least facts.most))
-  given_by code.VectorShuffle o facts e = subst (Given code.VectorShuffle) (same_some op.VectorShuffle o e) (as_shuffle facts.value (typed_at code.VectorShuffle facts 0 (let many : 2 ≤ length i.args = at_least 2 (length i.args) facts.least in let less : 0 < length i.args = omega (arith, many) in less) refl refl) (typed_at code.VectorShuffle facts 1 (let many : 2 ≤ length i.args = at_least 2 (length i.args) facts.least in let less : 1 < length i.args = omega (arith, many) in less) refl refl) (at_least 2 (length i.args) facts.least))
-  given_by code.CompositeConstruct o facts e = subst (Given code.CompositeConstruct) (same_some op.CompositeConstruct o e) (as_made facts.value (all_typed code.CompositeConstruct facts (λ k. from_zero k) (λ k. refl)))
-  given_by code.CompositeExtract o facts e = subst (Given code.CompositeExtract) (same_some op.CompositeExtract o e) (as_extract facts.value (typed_at code.CompositeExtract facts 0 (let many : 1 ≤ length i.args = at_least 1 (length i.args) facts.least in let less : 0 < length i.args = omega (arith, many) in less) refl refl) (at_least 1 (length i.args) facts.least))
-  given_by code.CompositeInsert o facts e = subst (Given code.CompositeInsert) (same_some op.CompositeInsert o e) (as_inserted facts.value (typed_at code.CompositeInsert facts 0 (let many : 2 ≤ length i.args = at_least 2 (length i.args) facts.least in let less : 0 < length i.args = omega (arith, many) in less) refl refl) (typed_at code.CompositeInsert facts 1 (let many : 2 ≤ length i.args = at_least 2 (length i.args) facts.least in let less : 1 < length i.args = omega (arith, many) in less) refl refl) (at_least 2 (length i.args) facts.least))
-  given_by code.Undef o facts e = subst (Given code.Undef) (same_some op.Undef o e) (([], tt, result_sized))
+  given_by code.SNegate o facts e = subst (Given code.SNegate) (same_Some (op.Unary SNegate) o e) (as_unary i.args [] SNegate facts.number (all_typed code.SNegate facts (λ k. from_zero k) (λ k. refl)) (exactly 1 (length i.args) facts.least facts.most))
+  given_by code.Not o facts e = subst (Given code.Not) (same_Some (op.Unary Not) o e) (as_unary i.args [] Not facts.number (all_typed code.Not facts (λ k. from_zero k) (λ k. refl)) (exactly 1 (length i.args) facts.least facts.most))
+  given_by code.BitReverse o facts e = subst (Given code.BitReverse) (same_Some (op.Unary BitReverse) o e) (as_bits BitReverse facts.number (all_typed code.BitReverse facts (λ k. from_zero k) (λ k. refl)) (exactly 1 (length i.args) facts.least facts.most))
+  given_by code.BitCount o facts e = subst (Given code.BitCount) (same_Some (op.Unary BitCount) o e) (as_bits BitCount facts.number (all_typed code.BitCount facts (λ k. from_zero k) (λ k. refl)) (exactly 1 (length i.args) facts.least facts.most))
+  given_by code.IAdd o facts e = subst (Given code.IAdd) (same_Some (op.Binary IAdd) o e) (as_binary i.args [] IAdd facts.number (all_typed code.IAdd facts (λ k. from_zero k) (λ k. refl)) (exactly 2 (length i.args) facts.least facts.most))
+  given_by code.ISub o facts e = subst (Given code.ISub) (same_Some (op.Binary ISub) o e) (as_binary i.args [] ISub facts.number (all_typed code.ISub facts (λ k. from_zero k) (λ k. refl)) (exactly 2 (length i.args) facts.least facts.most))
+  given_by code.IMul o facts e = subst (Given code.IMul) (same_Some (op.Binary IMul) o e) (as_binary i.args [] IMul facts.number (all_typed code.IMul facts (λ k. from_zero k) (λ k. refl)) (exactly 2 (length i.args) facts.least facts.most))
+  given_by code.UDiv o facts e = subst (Given code.UDiv) (same_Some (op.Binary UDiv) o e) (as_binary i.args [] UDiv facts.number (all_typed code.UDiv facts (λ k. from_zero k) (λ k. refl)) (exactly 2 (length i.args) facts.least facts.most))
+  given_by code.SDiv o facts e = subst (Given code.SDiv) (same_Some (op.Binary SDiv) o e) (as_binary i.args [] SDiv facts.number (all_typed code.SDiv facts (λ k. from_zero k) (λ k. refl)) (exactly 2 (length i.args) facts.least facts.most))
+  given_by code.UMod o facts e = subst (Given code.UMod) (same_Some (op.Binary UMod) o e) (as_binary i.args [] UMod facts.number (all_typed code.UMod facts (λ k. from_zero k) (λ k. refl)) (exactly 2 (length i.args) facts.least facts.most))
+  given_by code.SRem o facts e = subst (Given code.SRem) (same_Some (op.Binary SRem) o e) (as_binary i.args [] SRem facts.number (all_typed code.SRem facts (λ k. from_zero k) (λ k. refl)) (exactly 2 (length i.args) facts.least facts.most))
+  given_by code.SMod o facts e = subst (Given code.SMod) (same_Some (op.Binary SMod) o e) (as_binary i.args [] SMod facts.number (all_typed code.SMod facts (λ k. from_zero k) (λ k. refl)) (exactly 2 (length i.args) facts.least facts.most))
+  given_by code.ShiftRightLogical o facts e = subst (Given code.ShiftRightLogical) (same_Some (op.Binary ShiftRightLogical) o e) (as_binary i.args [] ShiftRightLogical facts.number (all_typed code.ShiftRightLogical facts (λ k. from_zero k) (λ k. refl)) (exactly 2 (length i.args) facts.least facts.most))
+  given_by code.ShiftRightArithmetic o facts e = subst (Given code.ShiftRightArithmetic) (same_Some (op.Binary ShiftRightArithmetic) o e) (as_binary i.args [] ShiftRightArithmetic facts.number (all_typed code.ShiftRightArithmetic facts (λ k. from_zero k) (λ k. refl)) (exactly 2 (length i.args) facts.least facts.most))
+  given_by code.ShiftLeftLogical o facts e = subst (Given code.ShiftLeftLogical) (same_Some (op.Binary ShiftLeftLogical) o e) (as_binary i.args [] ShiftLeftLogical facts.number (all_typed code.ShiftLeftLogical facts (λ k. from_zero k) (λ k. refl)) (exactly 2 (length i.args) facts.least facts.most))
+  given_by code.BitwiseOr o facts e = subst (Given code.BitwiseOr) (same_Some (op.Binary BitwiseOr) o e) (as_binary i.args [] BitwiseOr facts.number (all_typed code.BitwiseOr facts (λ k. from_zero k) (λ k. refl)) (exactly 2 (length i.args) facts.least facts.most))
+  given_by code.BitwiseXor o facts e = subst (Given code.BitwiseXor) (same_Some (op.Binary BitwiseXor) o e) (as_binary i.args [] BitwiseXor facts.number (all_typed code.BitwiseXor facts (λ k. from_zero k) (λ k. refl)) (exactly 2 (length i.args) facts.least facts.most))
+  given_by code.BitwiseAnd o facts e = subst (Given code.BitwiseAnd) (same_Some (op.Binary BitwiseAnd) o e) (as_binary i.args [] BitwiseAnd facts.number (all_typed code.BitwiseAnd facts (λ k. from_zero k) (λ k. refl)) (exactly 2 (length i.args) facts.least facts.most))
+  given_by code.IEqual o facts e = subst (Given code.IEqual) (same_Some (op.Comparison IEqual) o e) (as_comparison IEqual facts.number (all_typed code.IEqual facts (λ k. from_zero k) (λ k. refl)) (exactly 2 (length i.args) facts.least facts.most))
+  given_by code.INotEqual o facts e = subst (Given code.INotEqual) (same_Some (op.Comparison INotEqual) o e) (as_comparison INotEqual facts.number (all_typed code.INotEqual facts (λ k. from_zero k) (λ k. refl)) (exactly 2 (length i.args) facts.least facts.most))
+  given_by code.UGreaterThan o facts e = subst (Given code.UGreaterThan) (same_Some (op.Comparison UGreaterThan) o e) (as_comparison UGreaterThan facts.number (all_typed code.UGreaterThan facts (λ k. from_zero k) (λ k. refl)) (exactly 2 (length i.args) facts.least facts.most))
+  given_by code.SGreaterThan o facts e = subst (Given code.SGreaterThan) (same_Some (op.Comparison SGreaterThan) o e) (as_comparison SGreaterThan facts.number (all_typed code.SGreaterThan facts (λ k. from_zero k) (λ k. refl)) (exactly 2 (length i.args) facts.least facts.most))
+  given_by code.UGreaterThanEqual o facts e = subst (Given code.UGreaterThanEqual) (same_Some (op.Comparison UGreaterThanEqual) o e) (as_comparison UGreaterThanEqual facts.number (all_typed code.UGreaterThanEqual facts (λ k. from_zero k) (λ k. refl)) (exactly 2 (length i.args) facts.least facts.most))
+  given_by code.SGreaterThanEqual o facts e = subst (Given code.SGreaterThanEqual) (same_Some (op.Comparison SGreaterThanEqual) o e) (as_comparison SGreaterThanEqual facts.number (all_typed code.SGreaterThanEqual facts (λ k. from_zero k) (λ k. refl)) (exactly 2 (length i.args) facts.least facts.most))
+  given_by code.ULessThan o facts e = subst (Given code.ULessThan) (same_Some (op.Comparison ULessThan) o e) (as_comparison ULessThan facts.number (all_typed code.ULessThan facts (λ k. from_zero k) (λ k. refl)) (exactly 2 (length i.args) facts.least facts.most))
+  given_by code.SLessThan o facts e = subst (Given code.SLessThan) (same_Some (op.Comparison SLessThan) o e) (as_comparison SLessThan facts.number (all_typed code.SLessThan facts (λ k. from_zero k) (λ k. refl)) (exactly 2 (length i.args) facts.least facts.most))
+  given_by code.ULessThanEqual o facts e = subst (Given code.ULessThanEqual) (same_Some (op.Comparison ULessThanEqual) o e) (as_comparison ULessThanEqual facts.number (all_typed code.ULessThanEqual facts (λ k. from_zero k) (λ k. refl)) (exactly 2 (length i.args) facts.least facts.most))
+  given_by code.SLessThanEqual o facts e = subst (Given code.SLessThanEqual) (same_Some (op.Comparison SLessThanEqual) o e) (as_comparison SLessThanEqual facts.number (all_typed code.SLessThanEqual facts (λ k. from_zero k) (λ k. refl)) (exactly 2 (length i.args) facts.least facts.most))
+  given_by code.LogicalEqual o facts e = subst (Given code.LogicalEqual) (same_Some (op.Logical LogicalEqual) o e) (as_logical LogicalEqual facts.number (all_typed code.LogicalEqual facts (λ k. from_zero k) (λ k. refl)) (exactly 2 (length i.args) facts.least facts.most))
+  given_by code.LogicalNotEqual o facts e = subst (Given code.LogicalNotEqual) (same_Some (op.Logical LogicalNotEqual) o e) (as_logical LogicalNotEqual facts.number (all_typed code.LogicalNotEqual facts (λ k. from_zero k) (λ k. refl)) (exactly 2 (length i.args) facts.least facts.most))
+  given_by code.LogicalOr o facts e = subst (Given code.LogicalOr) (same_Some (op.Logical LogicalOr) o e) (as_logical LogicalOr facts.number (all_typed code.LogicalOr facts (λ k. from_zero k) (λ k. refl)) (exactly 2 (length i.args) facts.least facts.most))
+  given_by code.LogicalAnd o facts e = subst (Given code.LogicalAnd) (same_Some (op.Logical LogicalAnd) o e) (as_logical LogicalAnd facts.number (all_typed code.LogicalAnd facts (λ k. from_zero k) (λ k. refl)) (exactly 2 (length i.args) facts.least facts.most))
+  given_by code.LogicalNot o facts e = subst (Given code.LogicalNot) (same_Some op.LogicalNot o e) (as_not facts.number (all_typed code.LogicalNot facts (λ k. from_zero k) (λ k. refl)) (exactly 1 (length i.args) facts.least facts.most))
+  given_by code.Any o facts e = subst (Given code.Any) (same_Some op.Any o e) (let w = over_all facts.number (all_typed code.Any facts (λ k. from_zero k) (λ k. refl)) (exactly 1 (length i.args) facts.least facts.most) in (w.0 ∷ [], w.1, w.2))
+  given_by code.All o facts e = subst (Given code.All) (same_Some op.All o e) (let w = over_all facts.number (all_typed code.All facts (λ k. from_zero k) (λ k. refl)) (exactly 1 (length i.args) facts.least facts.most) in (w.0 ∷ [], w.1, w.2))
+  given_by code.Select o facts e = subst (Given code.Select) (same_Some op.Select o e) (as_select facts.number (all_typed code.Select facts (λ k. from_zero k) (λ k. refl)) (exactly 3 (length i.args) facts.least facts.most))
+  given_by code.BitFieldInsert o facts e = subst (Given code.BitFieldInsert) (same_Some op.BitFieldInsert o e) (as_insert i.args (exactly 4 (length i.args) facts.least facts.most) (all_typed code.BitFieldInsert facts (λ k. from_zero k) (λ k. refl)) facts.number)
+  given_by code.BitFieldSExtract o facts e = subst (Given code.BitFieldSExtract) (same_Some op.BitFieldSExtract o e) (let w = field_of i.args (exactly 3 (length i.args) facts.least facts.most) (all_typed code.BitFieldSExtract facts (λ k. from_zero k) (λ k. refl)) facts.number in (w.0 ∷ w.1 ∷ w.2 ∷ [], w.3, w.4))
+  given_by code.BitFieldUExtract o facts e = subst (Given code.BitFieldUExtract) (same_Some op.BitFieldUExtract o e) (let w = field_of i.args (exactly 3 (length i.args) facts.least facts.most) (all_typed code.BitFieldUExtract facts (λ k. from_zero k) (λ k. refl)) facts.number in (w.0 ∷ w.1 ∷ w.2 ∷ [], w.3, w.4))
+  given_by code.Bitcast o facts e = subst (Given code.Bitcast) (same_Some op.Copy o e) (as_bitcast facts.number (all_typed code.Bitcast facts (λ k. from_zero k) (λ k. refl)) (exactly 1 (length i.args) facts.least facts.most))
+  given_by code.CopyObject o facts e = subst (Given code.CopyObject) (same_Some op.Copy o e) (as_copy facts.value (all_typed code.CopyObject facts (λ k. from_zero k) (λ k. refl)) (exactly 1 (length i.args) facts.least facts.most))
+  given_by code.CopyLogical o facts e = subst (Given code.CopyLogical) (same_Some op.Copy o e) (as_copied facts.value (all_typed code.CopyLogical facts (λ k. from_zero k) (λ k. refl)) (exactly 1 (length i.args) facts.least facts.most))
+  given_by code.VectorExtractDynamic o facts e = subst (Given code.VectorExtractDynamic) (same_Some op.VectorExtractDynamic o e) (as_taken facts.value (all_typed code.VectorExtractDynamic facts (λ k. from_zero k) (λ k. refl)) (exactly 2 (length i.args) facts.least facts.most))
+  given_by code.VectorInsertDynamic o facts e = subst (Given code.VectorInsertDynamic) (same_Some op.VectorInsertDynamic o e) (as_put facts.value (all_typed code.VectorInsertDynamic facts (λ k. from_zero k) (λ k. refl)) (exactly 3 (length i.args) facts.least facts.most))
+  given_by code.VectorShuffle o facts e = subst (Given code.VectorShuffle) (same_Some op.VectorShuffle o e) (as_shuffle facts.value (typed_at code.VectorShuffle facts 0 (let many : 2 ≤ length i.args = at_least 2 (length i.args) facts.least in let less : 0 < length i.args = omega (arith, many) in less) refl refl) (typed_at code.VectorShuffle facts 1 (let many : 2 ≤ length i.args = at_least 2 (length i.args) facts.least in let less : 1 < length i.args = omega (arith, many) in less) refl refl) (at_least 2 (length i.args) facts.least))
+  given_by code.CompositeConstruct o facts e = subst (Given code.CompositeConstruct) (same_Some op.CompositeConstruct o e) (as_made facts.value (all_typed code.CompositeConstruct facts (λ k. from_zero k) (λ k. refl)))
+  given_by code.CompositeExtract o facts e = subst (Given code.CompositeExtract) (same_Some op.CompositeExtract o e) (as_extract facts.value (typed_at code.CompositeExtract facts 0 (let many : 1 ≤ length i.args = at_least 1 (length i.args) facts.least in let less : 0 < length i.args = omega (arith, many) in less) refl refl) (at_least 1 (length i.args) facts.least))
+  given_by code.CompositeInsert o facts e = subst (Given code.CompositeInsert) (same_Some op.CompositeInsert o e) (as_inserted facts.value (typed_at code.CompositeInsert facts 0 (let many : 2 ≤ length i.args = at_least 2 (length i.args) facts.least in let less : 0 < length i.args = omega (arith, many) in less) refl refl) (typed_at code.CompositeInsert facts 1 (let many : 2 ≤ length i.args = at_least 2 (length i.args) facts.least in let less : 1 < length i.args = omega (arith, many) in less) refl refl) (at_least 2 (length i.args) facts.least))
+  given_by code.Undef o facts e = subst (Given code.Undef) (same_Some op.Undef o e) (([], tt, result_sized))
   given_by code.ExtInst o facts e = as_extended o e (at_least 2 (length i.args) facts.least) facts.number (dropped_typed (λ k low less. typed_at code.ExtInst facts k less (behind_second k low) (behind_first k low)))
   given_by p o facts e = cc

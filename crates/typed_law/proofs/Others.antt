@@ -4,6 +4,8 @@ use Rattle.std.specs.Prelude.{◌%◌, is_some, option_map, option_and_then, sli
 use Rattle.std.specs.Option.{option_map_or}
 use Rattle.std.specs.List.{list_any, position_from, prefix_len}
 use Rattle.std.proofs.lemmas.Bool.Decides.{nat_tests}
+use Rattle.std.proofs.lemmas.Bool.{not-false}
+use Rattle.std.proofs.lemmas.Option.{same_Some}
 use Rattle.spv_ops.specs.Opcode.{is, number}
 use Rattle.spv_ops.specs.Groups.{is_atomic}
 use Rattle.spv_ops.specs.Shape.{shape}
@@ -49,7 +51,7 @@ use Rattle.type_law.proofs.Made.{load_typed}
 use Rattle.type_law.proofs.Chains as chains
 use Rattle.type_law.proofs.Chains.{chain_typed}
 use Rattle.typed_law.specs.Conforms.{IsConforming}
-use Rattle.typed_law.proofs.Lists.{or_left, or_right, and_left, and_off, not_off, clash, same_some, earlier_some, some_by, from_zero}
+use Rattle.typed_law.proofs.Lists.{or_left, or_right, and_left, and_off, clash, earlier_some, some_by, from_zero}
 use Rattle.typed_law.proofs.Rules.{type_there, operand_there, flow_right, access_right}
 use Rattle.typed_law.proofs.Types.{row_is, pointee_shaped}
 use Rattle.typed_law.proofs.Values.{IsRow, shape_of_row, value_type_has, inside, local_row, result_row, HasType, type_row_of, one_type, same_type, typed_value, typed_source, own_type, own_local, own_shape, int_shaped, type_suits, type_outside}
@@ -84,7 +86,7 @@ source_place from id (a ∷ []) e = cc
 source_place from id (a ∷ b ∷ args) e = by_label (b == from) e (λ later. source_place from id args later)
   where
     by_label : (t : Bool) → elim t [ true ↦ Some a | false ↦ source_from from args ] ≡ Some id → (source_from from args ≡ Some id → (k : ℕ) × (k < length args) × ((k % 2 == 0) ≡ true) × (slice_index args k ≡ id)) → (k : ℕ) × (k < length (a ∷ b ∷ args)) × ((k % 2 == 0) ≡ true) × (slice_index (a ∷ b ∷ args) k ≡ id)
-    by_label true e next = (0, (let less : 0 < suc (suc (length args)) = omega arith in less), refl, same_some a id e)
+    by_label true e next = (0, (let less : 0 < suc (suc (length args)) = omega arith in less), refl, same_Some a id e)
     by_label false e next =
         let w = next e in
         let less = w.1 in
@@ -96,7 +98,7 @@ contains_found [] id g e = cc
 contains_found (h ∷ fs) id g e = by_test (h.id.0 == id) e (λ rest. contains_found fs id g rest)
   where
     by_test : (b : Bool) → (if b then Some h else function_of fs id) ≡ Some g → (function_of fs id ≡ Some g → Contains fs g) → Contains (h ∷ fs) g
-    by_test true e next = (0, (let less : 0 < suc (length fs) = omega arith in less), same_some h g e)
+    by_test true e next = (0, (let less : 0 < suc (length fs) = omega arith in less), same_Some h g e)
     by_test false e next = let w = next e in let less = w.1 in (suc w.0, (let more : suc w.0 < suc (length fs) = omega (arith, less) in more), w.2)
 
 -- the place of a function leads to it
@@ -114,7 +116,7 @@ callee_is fs id g e = let w = place_found fs id 0 g e in ap (option_and_then (sl
 
 pub among_block : (bs : List Block) (k : ℕ) (b : Block) (i : Inst) → slice_get bs k ≡ Some b → IsAmong i b.insts → IsAmong i (flat bs)
 among_block [] k b i at there = cc
-among_block (c ∷ bs) zero b i at there = among_left i c.insts (flat bs) (subst (λ (x : Block). IsAmong i x.insts) (sym (same_some c b at)) there)
+among_block (c ∷ bs) zero b i at there = among_left i c.insts (flat bs) (subst (λ (x : Block). IsAmong i x.insts) (sym (same_Some c b at)) there)
 among_block (c ∷ bs) (suc k) b i at there = among_right i c.insts (flat bs) (among_block bs k b i at there)
 
 module _ (s : Setting) (entry : Option (List ℕ)) (right : IsConforming s.of entry) (f : Function) (in_it : Contains s.of.functions f) where
@@ -131,7 +133,7 @@ module _ (s : Setting) (entry : Option (List ℕ)) (right : IsConforming s.of en
   pub target_of : (id : ℕ) → IsTypedId id → value_fails is_pointer Gs V id ≡ false → (q : ℕ) × (t : Tree) × (pointee_of Gs f id ≡ Some q) × (type_tree Gs q ≡ Some t)
   target_of id w off =
       let g = type_row_of s entry right f in_it id w.0 w.1 in
-      let on : is_pointer g.0 ≡ true = not_off (is_pointer g.0) (ap (λ o. option_map_or (λ (x : Inst). not (is_pointer x)) o false) (sym (row_is s.of entry right w.0 g.0 g.1 g.2)) ∙ (ap (λ o. option_map_or (fails is_pointer Gs) o false) (sym w.1) ∙ off)) in
+      let on : is_pointer g.0 ≡ true = not-false (is_pointer g.0) (ap (λ o. option_map_or (λ (x : Inst). not (is_pointer x)) o false) (sym (row_is s.of entry right w.0 g.0 g.1 g.2)) ∙ (ap (λ o. option_map_or (fails is_pointer Gs) o false) (sym w.1) ∙ off)) in
       let q = pointee_shaped s.of entry right w.0 g.0 g.1 on in
       (q.0, q.1, ap (option_and_then (pointee Gs)) w.1 ∙ q.2, q.3)
 
@@ -180,7 +182,7 @@ module _ (s : Setting) (entry : Option (List ℕ)) (right : IsConforming s.of en
     as_length has off =
         let g = has_row has in
         let right_type = or_left (fails is_uint Gs i.ty) (is_some (V (word i 0)) && is_no_array_id Gs (word i 1) (word i 0)) off in
-        let on = not_off (is_uint g.0) (ap (λ o. option_map_or (λ (x : Inst). not (is_uint x)) o false) (sym (row_is s.of entry right i.ty g.0 g.1 g.2)) ∙ right_type) in
+        let on = not-false (is_uint g.0) (ap (λ o. option_map_or (λ (x : Inst). not (is_uint x)) o false) (sym (row_is s.of entry right i.ty g.0 g.1 g.2)) ∙ right_type) in
         let t = shape_of_row s entry right i.ty g (uint_shaped g.0 on) in
         length_typed s f i.ty i.result t.0 right_type t.1 (own_shape s entry right f in_it i there t.0 t.1)
 
@@ -190,11 +192,11 @@ module _ (s : Setting) (entry : Option (List ℕ)) (right : IsConforming s.of en
         let g = type_row_of s entry right f in_it (word i 0) w.0 w.1 in
         let row = row_is s.of entry right w.0 g.0 g.1 g.2 in
         let off = or_left (value_fails is_pointer Gs V (word i 0)) (option_map_or (λ p. differ Gs p i.ty) (pointee_of Gs f (word i 0)) false) other in
-        let on : is_pointer g.0 ≡ true = not_off (is_pointer g.0) (ap (λ o. option_map_or (λ (x : Inst). not (is_pointer x)) o false) (sym row) ∙ (ap (λ o. option_map_or (fails is_pointer Gs) o false) (sym w.1) ∙ off)) in
+        let on : is_pointer g.0 ≡ true = not-false (is_pointer g.0) (ap (λ o. option_map_or (λ (x : Inst). not (is_pointer x)) o false) (sym row) ∙ (ap (λ o. option_map_or (fails is_pointer Gs) o false) (sym w.1) ∙ off)) in
         let pointer_is : pointer Gs w.0 ≡ Some g.0 = ap (option_and_then as_pointer) g.1 ∙ ap (λ (b : Bool). if b then Some g.0 else None) on in
         let q : pointee Gs w.0 ≡ Some (word g.0 1) = ap (λ o. option_map (λ (p : Inst). slice_index p.args 1) o) pointer_is in
         let shape_q = pointee_shaped s.of entry right w.0 g.0 g.1 on in
-        let same_q : shape_q.0 ≡ word g.0 1 = same_some shape_q.0 (word g.0 1) (sym shape_q.2 ∙ q) in
+        let same_q : shape_q.0 ≡ word g.0 1 = same_Some shape_q.0 (word g.0 1) (sym shape_q.2 ∙ q) in
         let tree_q : type_tree Gs (word g.0 1) ≡ Some shape_q.1 = ap (type_tree Gs) (sym same_q) ∙ shape_q.3 in
         let h = row_of_shape s entry right f in_it (word g.0 1) shape_q.1 tree_q in
         let differs : differ Gs (word g.0 1) i.ty ≡ false = ap (λ o. option_map_or (λ p. differ Gs p i.ty) o false) (sym (ap (option_and_then (pointee Gs)) w.1 ∙ q)) ∙ or_right (value_fails is_pointer Gs V (word i 0)) (option_map_or (λ p. differ Gs p i.ty) (pointee_of Gs f (word i 0)) false) other in
@@ -204,7 +206,7 @@ module _ (s : Setting) (entry : Option (List ℕ)) (right : IsConforming s.of en
         let place : is_other_place Gs i.op (is_through s.of.heads Gs f BufferBlock (word i 0)) g.0 ≡ false = ap (λ o. option_map_or (is_other_place Gs i.op (is_through s.of.heads Gs f BufferBlock (word i 0))) o false) (sym pointer_is) ∙ leads in
         let number_is : is_other_number i.op h.0 ≡ false =
         ap (λ o. option_map_or (is_other_number i.op) o false) (sym h.1) ∙ or_right (not (is_shared_class (is_through s.of.heads Gs f BufferBlock (word i 0)) (word g.0 0))) (option_map_or (is_other_number i.op) (global Gs (word g.0 1)) false) place in
-        let int_is : is h.0.op code.TypeInt ≡ true = not_off (is h.0.op code.TypeInt) (or_left (not (is h.0.op code.TypeInt)) (is_of_other_sign i.op (word h.0 1)) number_is) in
+        let int_is : is h.0.op code.TypeInt ≡ true = not-false (is h.0.op code.TypeInt) (or_left (not (is h.0.op code.TypeInt)) (is_of_other_sign i.op (word h.0 1)) number_is) in
         let tree_ty : type_tree Gs i.ty ≡ Some shape_q.1 = ap (type_tree Gs) (sym same) ∙ tree_q in
         let fails_not : fails is_int Gs (word g.0 1) ≡ false = ap (λ o. option_map_or (λ (x : Inst). not (is_int x)) o false) (row_is s.of entry right (word g.0 1) h.0 h.1 h.2) ∙ ap not int_is in
         (int_words s f i.ty i.result shape_q.1 (subst (λ x. fails is_int Gs x ≡ false) same fails_not) tree_ty (own_shape s entry right f in_it i there shape_q.1 tree_ty), own_local s entry right f in_it i there)
@@ -222,7 +224,7 @@ module _ (s : Setting) (entry : Option (List ℕ)) (right : IsConforming s.of en
         let q = target_of (word i 0) (each 0 some) parts.0 in
         chain_typed s f i q.1 off known (chain_types (drop 1 i.args) (dropped i.args each)) (target_is (word i 0) q.0 q.1 q.2 q.3) (own_type s entry right f in_it i there (typed_some i there has)) (λ points.
         let g = has_row has in
-        let on = not_off (is_pointer g.0) (ap (λ o. option_map_or (λ (x : Inst). not (is_pointer x)) o false) (sym (row_is s.of entry right i.ty g.0 g.1 g.2)) ∙ points) in
+        let on = not-false (is_pointer g.0) (ap (λ o. option_map_or (λ (x : Inst). not (is_pointer x)) o false) (sym (row_is s.of entry right i.ty g.0 g.1 g.2)) ∙ points) in
         pointee_shaped s.of entry right i.ty g.0 g.1 on)
       where
         dropped : (args : List ℕ) → ((k : ℕ) → k < length args → IsTypedId (slice_index args k)) → (k : ℕ) → k < length (drop 1 args) → IsTypedId (slice_index (drop 1 args) k)

@@ -3,6 +3,7 @@ use Rattle.std.proofs.Common.{◌≡◌, ◌<◌, ◌+◌, ◌||◌, ◌&&◌, n
 use Rattle.std.specs.Prelude.{◌⊎◌, flat_map, Contains, slice_index}
 use Rattle.std.specs.List.{list_any, enumerate_from}
 use Rattle.std.proofs.lemmas.List.Elements.{Contains-append_left, Contains-append_right}
+use Rattle.std.proofs.lemmas.Bool.{not-false}
 use Rattle.spv_words.specs.declared.rule.Rule.{Rule}
 use Rattle.spv_words.specs.declared.rule.Rule.TheVariants.{T1, T21, M4, A3}
 use Rattle.spv_ops.specs.Operands.{is_id}
@@ -28,7 +29,7 @@ use Rattle.plan_law.specs.InOrder.{IsAmong}
 use Rattle.plan_law.proofs.Listed.{flat}
 use Rattle.type_law.proofs.Vectors.{three_off}
 use Rattle.typed_law.specs.Conforms.{IsConforming}
-use Rattle.typed_law.proofs.Lists.{or_left, or_right, not_off, and_off, none_left, none_right, none_by, none_among, any_at, none_at_fault}
+use Rattle.typed_law.proofs.Lists.{or_left, or_right, and_off, none_left, none_right, none_by, none_among, any_at, none_at_fault}
 
 refused : (b : Bool) (rule : Rule) (at : ℕ) → broken_if b rule at ≡ [] → b ≡ false
 refused true rule at e = cc
@@ -37,12 +38,12 @@ refused false rule at e = refl
 -- T1 of an instruction: its type and its operands are there
 module _ (there : Need → ℕ → Bool) (i : Inst) (right : lacks there i ≡ false) where
   pub type_there : has_type i.op ≡ true → there (type_need i.op) i.ty ≡ true
-  type_there has = not_off (there (type_need i.op) i.ty) (and_off (has_type i.op) (not (there (type_need i.op) i.ty)) (or_left (has_type i.op && not (there (type_need i.op) i.ty)) (list_any (lacks_operand there i) (enumerate_from 0 i.args)) right) has)
+  type_there has = not-false (there (type_need i.op) i.ty) (and_off (has_type i.op) (not (there (type_need i.op) i.ty)) (or_left (has_type i.op && not (there (type_need i.op) i.ty)) (list_any (lacks_operand there i) (enumerate_from 0 i.args)) right) has)
 
   pub operand_there : (k : ℕ) → k < length i.args → is_id i.op i.args k ≡ true → there (need i.op k) (slice_index i.args k) ≡ true
   operand_there k less has =
       let none = any_at (lacks_operand there i) i.args 0 k (or_right (has_type i.op && not (there (type_need i.op) i.ty)) (list_any (lacks_operand there i) (enumerate_from 0 i.args)) right) less in
-      not_off (there (need i.op k) (slice_index i.args k)) (and_off (is_id i.op i.args k) (not (there (need i.op k) (slice_index i.args k))) (subst (λ n. lacks_operand there i (n, slice_index i.args k) ≡ false) (let same : 0 + k ≡ k = omega arith in same) none) has)
+      not-false (there (need i.op k) (slice_index i.args k)) (and_off (is_id i.op i.args k) (not (there (need i.op k) (slice_index i.args k))) (subst (λ n. lacks_operand there i (n, slice_index i.args k) ≡ false) (let same : 0 + k ≡ k = omega arith in same) none) has)
 
 contains_flat : {A : Type 0} (g : A → List ℕ) (fs : List A) (f : A) (at : ℕ) → Contains fs f → Contains (g f) at → Contains (flat_map g fs) at
 contains_flat g [] f at there own = let less = there.1 in absurd (omega (arith, less))

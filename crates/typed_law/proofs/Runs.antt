@@ -1,6 +1,7 @@
 -- The run of a conforming module keeps values in the shapes of their types.
 use Rattle.std.proofs.Common.{◌≡◌, ◌==◌, ℕ, zero, suc, Bool, true, false, List, [], ◌∷◌, ◌++◌, length, map, drop, Option, Some, None, inl, inr, refl, sym, subst}
 use Rattle.std.specs.Prelude.{option_and_then, slice_get, Contains}
+use Rattle.std.proofs.lemmas.Option.{same_Some}
 use Rattle.spv_ops.specs.declared.AtomicOp.{AtomicOp}
 use Rattle.spv_ops.specs.declared.AtomicOp.TheVariants as atomics
 use Rattle.spv_ops.specs.declared.Terminator.{Terminator}
@@ -32,7 +33,6 @@ use Rattle.fits_law.proofs.Steps.{fits_step}
 use Rattle.type_law.specs.Shaped.{HasConstants}
 use Rattle.typed_law.specs.Conforms.{IsConforming}
 use Rattle.typed_law.specs.Runs.{IsUnderWay, AreUnderWay, IsOfModule, IsTypedState, LeadsOn}
-use Rattle.typed_law.proofs.Lists.{same_some}
 use Rattle.typed_law.proofs.Others.{contains_found, among_block}
 use Rattle.typed_law.proofs.Calls.{initial_in_fits, initial_private_fits}
 use Rattle.typed_law.proofs.Whole.{is_typed}
@@ -61,7 +61,7 @@ module _ (s : Setting) where
   calls_changed depth id v g (b ∷ bs) all e = by_test (length bs == depth) e (λ there. calls_changed depth id v g bs all.1 there)
     where
       by_test : (t : Bool) → elim t [ true ↦ Some b.0 | false ↦ call_at depth bs ] ≡ Some g → (call_at depth bs ≡ Some g → AreUnderWay M (with_call depth (with_variable id v g) bs)) → AreUnderWay M (elim t [ true ↦ (with_variable id v g, b.1) ∷ bs | false ↦ b ∷ with_call depth (with_variable id v g) bs ])
-      by_test true e next = let own : IsUnderWay M g = subst (IsUnderWay M) (same_some b.0 g e) all.0 in ((own.0, own.1), all.1)
+      by_test true e next = let own : IsUnderWay M g = subst (IsUnderWay M) (same_Some b.0 g e) all.0 in ((own.0, own.1), all.1)
       by_test false e next = (all.0, next e)
 
   keeping_goes : (r : Root) (v : ValueTree) (c : Conf) → IsOfModule M c → IsOfModule M (keeping r v c)
@@ -230,6 +230,6 @@ module _ (s : Setting) (entry : Option (List ℕ)) (right : IsConforming s.of en
       by_start : (b : Bool) (o : Option Function) → function_of s.of.functions s.entry ≡ o → start_by s b o ≡ Some c → IsTypedState s c
       by_start true (Some f) at e =
           let in_it = contains_found s.of.functions s.entry f at in
-          subst (IsTypedState s) (same_some (first_state s f) c e) (record { fit = first_fits f in_it; of_module = (entered_goes s f [] in_it, tt) })
+          subst (IsTypedState s) (same_Some (first_state s f) c e) (record { fit = first_fits f in_it; of_module = (entered_goes s f [] in_it, tt) })
       by_start true None at e = cc
       by_start false o at e = cc

@@ -4,6 +4,7 @@ use Rattle.std.specs.Prelude.{◌⊎◌, nat_lt, is_some, option_map, option_and
 use Rattle.std.specs.Option.{option_map_or}
 use Rattle.std.specs.List.{list_any, list_all, zip}
 use Rattle.std.proofs.lemmas.Bool.Decides.{eqb_tells, nat_tests}
+use Rattle.std.proofs.lemmas.Option.{same_Some}
 use Rattle.spv_ops.specs.Opcode.{is, number}
 use Rattle.spv_ops.specs.declared.Op.{Op}
 use Rattle.spv_ops.specs.declared.Op.TheVariants as code
@@ -30,7 +31,7 @@ use Rattle.type_law.proofs.Rows.{int_has, bool_has, by_kind, vector_parts, is_a_
 use Rattle.type_law.proofs.Scalars.{is_counted}
 use Rattle.type_law.proofs.Parts.{array_kind, struct_kind, fixed_word, all_nth, row, earlier_is, nothing_on}
 use Rattle.typed_law.specs.Conforms.{IsConforming}
-use Rattle.typed_law.proofs.Lists.{or_left, or_right, clash, same_some}
+use Rattle.typed_law.proofs.Lists.{or_left, or_right, clash}
 use Rattle.typed_law.proofs.Types.{row_is}
 use Rattle.typed_law.proofs.Values.{same_count, IsRow, T, HasType, HasItsShape, type_row_of, one_type, shape_of, same_type, counted, none_counted, vector_shaped, shapeless_no_vector, shapeless_no_int, shapeless_no_bool}
 
@@ -185,7 +186,7 @@ module _ (s : Setting) (entry : Option (List ℕ)) (right : IsConforming s.of en
       by_part : (o : Option Tree) → tree_before Gs g.at (word g 0) ≡ o → (l : Option Length) → length_by (word g 1) (global Gs (word g 1)) ≡ l → array_tree o l ≡ Some t → HaveTheirShapes ids
       by_part None there l is e = cc
       by_part (Some u) there None is e = cc
-      by_part (Some u) there (Some l) is e = by_length u l (earlier_is s f g.at (word g 0) u there) is (sym (same_some (array u l) t e))
+      by_part (Some u) there (Some l) is e = by_length u l (earlier_is s f g.at (word g 0) u there) is (sym (same_Some (array u l) t e))
 
   struct_shapes : (g : Inst) (t : Tree) (ids : List ℕ) → is g.op code.TypeStruct ≡ true → tree_at Gs g ≡ Some t → AreTyped ids → are_other_members Gs V g.args ids ≡ false → HaveTheirShapes ids
   struct_shapes g t ids on shape typed off = by_members (all_trees (tree_before Gs g.at) g.args) refl (by_kind Gs (tree_before Gs g.at) g Struct t (struct_kind g.op on) shape)

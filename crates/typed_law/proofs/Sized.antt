@@ -4,6 +4,8 @@ use Rattle.std.specs.Prelude.{◌⊎◌, fold, nat_le, option_map, slice_index}
 use Rattle.std.specs.Option.{option_map_or}
 use Rattle.std.specs.List.{list_any}
 use Rattle.std.proofs.lemmas.Bool.Decides.{eqb_tells, nat_tests}
+use Rattle.std.proofs.lemmas.Bool.{or_left as first_on, not-false, or_right as or_on}
+use Rattle.std.proofs.lemmas.Option.{same_Some}
 use Rattle.spv_ops.specs.Opcode.{is, number}
 use Rattle.spv_ops.specs.declared.Op.{Op}
 use Rattle.spv_ops.specs.declared.Op.TheVariants as code
@@ -22,7 +24,7 @@ use Rattle.profile_rules.specs.Places.{is_among}
 use Rattle.plan_law.specs.InOrder.{IsAmong, AreRising}
 use Rattle.fits_law.proofs.Steps.{named}
 use Rattle.typed_law.specs.Conforms.{IsConforming}
-use Rattle.typed_law.proofs.Lists.{or_left, or_right, and_off, not_off, same_some, found_in, earlier_some}
+use Rattle.typed_law.proofs.Lists.{or_left, or_right, and_off, found_in, earlier_some}
 
 -- what stands behind
 pub rising_low : (n : ℕ) (is : List Inst) (i : Inst) → AreRising n is → IsAmong i is → n ≤ i.at
@@ -44,44 +46,36 @@ module _ (gs : List Inst) (before : ℕ → Option Tree) (g : Inst) (fine : ℕ 
       by_part None is c at e = cc
       by_part (Some u) is None at e = cc
       by_part (Some u) is (Some c) at e =
-          subst IsSized (same_some (array u (Fixed (slice_index c.args 0))) t (ap (array_tree (Some u)) (sym (constant_fixed c.op (slice_index g.args 1) (slice_index c.args 0) (fixed c at))) ∙ e)) (sized (slice_index g.args 0) u is part)
+          subst IsSized (same_Some (array u (Fixed (slice_index c.args 0))) t (ap (array_tree (Some u)) (sym (constant_fixed c.op (slice_index g.args 1) (slice_index c.args 0) (fixed c at))) ∙ e)) (sized (slice_index g.args 0) u is part)
 
   all_sized : (ids : List ℕ) (ts : Trees) → ((p : ℕ) → is_among ids p ≡ true → fine p) → all_trees before ids ≡ Some ts → AreSized ts
-  all_sized [] ts parts e = subst AreSized (same_some no_trees ts e) tt
+  all_sized [] ts parts e = subst AreSized (same_Some no_trees ts e) tt
   all_sized (id ∷ ids) ts parts e = by_first (before id) refl (all_trees before ids) refl (λ us at. all_sized ids us (λ p there. parts p (or_on (id == p) (list_any (λ other. other == p) ids) there)) at) e
     where
-      or_on : (a b : Bool) → b ≡ true → (a || b) ≡ true
-      or_on true b e = refl
-      or_on false b e = e
-
       same_on : (id == id) ≡ true
       same_on = grind (arith, nat_tests)
-
-      first_on : (a b : Bool) → a ≡ true → (a || b) ≡ true
-      first_on true b e = refl
-      first_on false b e = cc
 
       by_first : (o : Option Tree) → before id ≡ o → (q : Option Trees) → all_trees before ids ≡ q → ((us : Trees) → all_trees before ids ≡ Some us → AreSized us) → both o q ≡ Some ts → AreSized ts
       by_first None is q at later e = cc
       by_first (Some u) is None at later e = cc
-      by_first (Some u) is (Some us) at later e = subst AreSized (same_some (tree u us) ts e) (sized id u is (parts id (first_on (id == id) (list_any (λ other. other == id) ids) same_on)), later us at)
+      by_first (Some u) is (Some us) at later e = subst AreSized (same_Some (tree u us) ts e) (sized id u is (parts id (first_on (id == id) (list_any (λ other. other == id) ids) same_on)), later us at)
 
   -- by the opcode that declares it
   pub sized_by : (o : Op) (t : Tree) → (is o code.TypeRuntimeArray ≡ false) → (is o code.TypeArray ≡ true → fine (slice_index g.args 0) × ((c : Inst) → global gs (slice_index g.args 1) ≡ Some c → is c.op code.Constant ≡ true))
       → (is o code.TypeStruct ≡ true → (p : ℕ) → is_among g.args p ≡ true → fine p) → tree_by_kind gs before g (kind o) ≡ Some t → IsSized t
   unfolding kind number
-  sized_by code.TypeBool t not_runtime arrays structs e = subst IsSized (same_some boolean t e) tt
+  sized_by code.TypeBool t not_runtime arrays structs e = subst IsSized (same_Some boolean t e) tt
   sized_by code.TypeInt t not_runtime arrays structs e = by_width (slice_index g.args 0 == 32) (slice_index g.args 1 == 0) (slice_index g.args 1 == 1) e
     where
       by_width : (a b c : Bool) → (if a then (if b then Some uint else (if c then Some int else None)) else None) ≡ Some t → IsSized t
-      by_width true true c e = subst IsSized (same_some uint t e) tt
-      by_width true false true e = subst IsSized (same_some int t e) tt
+      by_width true true c e = subst IsSized (same_Some uint t e) tt
+      by_width true false true e = subst IsSized (same_Some int t e) tt
       by_width true false false e = cc
       by_width false b c e = cc
   sized_by code.TypeVector t not_runtime arrays structs e = by_part (before (slice_index g.args 0)) e
     where
       by_size : (d : Elem) (b : Bool) → (if b then Some (vector d (slice_index g.args 1)) else None) ≡ Some t → IsSized t
-      by_size d true e = subst IsSized (same_some (vector d (slice_index g.args 1)) t e) tt
+      by_size d true e = subst IsSized (same_Some (vector d (slice_index g.args 1)) t e) tt
       by_size d false e = cc
 
       by_elem : (o : Option Elem) → option_map_or (sized_vector (slice_index g.args 1)) o None ≡ Some t → IsSized t
@@ -96,7 +90,7 @@ module _ (gs : List Inst) (before : ℕ → Option Tree) (g : Inst) (fine : ℕ 
     where
       by_members : (o : Option Trees) → all_trees before g.args ≡ o → option_map (struct g.result) o ≡ Some t → IsSized t
       by_members None is e = cc
-      by_members (Some ts) is e = subst IsSized (same_some (struct g.result ts) t e) (all_sized g.args ts (structs refl) is)
+      by_members (Some ts) is e = subst IsSized (same_Some (struct g.result ts) t e) (all_sized g.args ts (structs refl) is)
   sized_by o t not_runtime arrays structs e = cc
 
 -- what stands in the way of a value type
@@ -147,7 +141,7 @@ module _ (m : ModuleState) (entry : Option (List ℕ)) (right : IsConforming m e
     value_shaped m.heads Gs others g g.op off,
     λ t shape.
         sized_by Gs (tree_before Gs g.at) g (λ p. others p ≡ false) part g.op t (value_not_runtime m.heads Gs others g g.op off)
-        (λ on. let parts = value_array m.heads Gs others g g.op off on in (or_left (others (slice_index g.args 0)) (is_other_length Gs (slice_index g.args 1)) parts, λ c at. not_off (is c.op code.Constant) (ap (λ o. option_map_or (λ (x : Inst). not (is x.op code.Constant)) o false) (sym at) ∙ or_right (others (slice_index g.args 0)) (is_other_length Gs (slice_index g.args 1)) parts)))
+        (λ on. let parts = value_array m.heads Gs others g g.op off on in (or_left (others (slice_index g.args 0)) (is_other_length Gs (slice_index g.args 1)) parts, λ c at. not-false (is c.op code.Constant) (ap (λ o. option_map_or (λ (x : Inst). not (is x.op code.Constant)) o false) (sym at) ∙ or_right (others (slice_index g.args 0)) (is_other_length Gs (slice_index g.args 1)) parts)))
         (λ on p there. none_among others g.args p (value_struct m.heads Gs others g g.op off on) there)
         shape,
   )

@@ -4,6 +4,7 @@ use Rattle.std.specs.Prelude.{◌⊎◌, nat_le, option_map, option_and_then, sl
 use Rattle.std.specs.Option.{option_map_or}
 use Rattle.std.specs.List.{list_any}
 use Rattle.std.proofs.lemmas.Bool.Decides.{nat_tests}
+use Rattle.std.proofs.lemmas.Bool.{not-false}
 use Rattle.spv_ops.specs.Opcode.{is, number}
 use Rattle.spv_ops.specs.Groups.{is_type as is_type_op, is_specialization}
 use Rattle.spv_ops.specs.Operands.{is_id}
@@ -35,7 +36,7 @@ use Rattle.plan_law.specs.InOrder.{IsAmong}
 use Rattle.type_law.proofs.Rows.{int_has, bool_has}
 use Rattle.type_law.proofs.Vectors.{five_off}
 use Rattle.typed_law.specs.Conforms.{size_of, IsConforming}
-use Rattle.typed_law.proofs.Lists.{or_left, or_right, and_left, and_off, not_off, any_none, found_in, earlier_some, some_by, from_zero}
+use Rattle.typed_law.proofs.Lists.{or_left, or_right, and_left, and_off, any_none, found_in, earlier_some, some_by, from_zero}
 use Rattle.typed_law.proofs.Rules.{operand_there, global_there, formed_type, pointed_type}
 
 -- the opcodes of types that have shapes, and what T1 asks of their operands
@@ -210,12 +211,12 @@ module _ (m : ModuleState) (entry : Option (List ℕ)) (right : IsConforming m e
     vector_of : is g.op code.TypeVector ≡ true → ((args : List ℕ) → is_id g.op args 0 ≡ true) → need g.op 0 ≡ AnyType → 2 ≤ length g.args → (t : Tree) × (tree_by_kind Gs (tree_before Gs g.at) g Vector ≡ Some t)
     vector_of on ids needed many =
         let tests = and_off (is g.op code.TypeVector) (not (nat_le 2 (word g 1) && nat_le (word g 1) 4) || is_no_scalar m (word g 0)) (of_form g there).1 on in
-        let size = not_off (nat_le 2 (word g 1) && nat_le (word g 1) 4) (or_left (not (nat_le 2 (word g 1) && nat_le (word g 1) 4)) (is_no_scalar m (word g 0)) tests) in
+        let size = not-false (nat_le 2 (word g 1) && nat_le (word g 1) 4) (or_left (not (nat_le 2 (word g 1) && nat_le (word g 1) 4)) (is_no_scalar m (word g 0)) tests) in
         let scalar = or_right (not (nat_le 2 (word g 1) && nat_le (word g 1) 4)) (is_no_scalar m (word g 0)) tests in
         let h = type_before g.at (word g 0) (subst (λ q. is_there Gs g.at q (word g 0) ≡ true) needed (operand 0 (let inside : 0 < length g.args = omega (arith, many) in inside) (ids g.args))) in
         let w = earlier_some Gs g.at (word g 0) h.0 h.1 in
         let on_h : ((is h.0.op code.TypeBool) || (is h.0.op code.TypeInt)) ≡ true =
-        not_off ((is h.0.op code.TypeBool) || (is h.0.op code.TypeInt)) (ap (λ o. option_map_or (λ (t : Inst). not ((is t.op code.TypeBool) || (is t.op code.TypeInt))) o (is_defined_elsewhere m (word g 0))) (sym w.0) ∙ scalar) in
+        not-false ((is h.0.op code.TypeBool) || (is h.0.op code.TypeInt)) (ap (λ o. option_map_or (λ (t : Inst). not ((is t.op code.TypeBool) || (is t.op code.TypeInt))) o (is_defined_elsewhere m (word g 0))) (sym w.0) ∙ scalar) in
         let u = part_of (word g 0) h.0 h.1 h.2 (scalar_shaped h.0.op on_h) in
         let e = by_scalar h.0 u.0 (is h.0.op code.TypeBool) refl on_h u.2 in
         let t = vector_shape u.0 e.0 (word g 1) e.1 size in
@@ -233,7 +234,7 @@ module _ (m : ModuleState) (entry : Option (List ℕ)) (right : IsConforming m e
         let c = some_by (suits Constant) (earlier Gs g.at (word g 1)) (subst (λ q. is_there Gs g.at q (word g 1) ≡ true) constant (operand 1 behind (ids g.args 1))) in
         let w = earlier_some Gs g.at (word g 1) c.0 c.1 in
         let length_is : is_length m g.result c.0 ≡ true =
-        not_off (is_length m g.result c.0) (ap (λ o. option_map_or (λ (x : Inst). not (is_length m g.result x)) o (is_defined_elsewhere m (word g 1))) (sym w.0) ∙ and_off (is g.op code.TypeArray) (option_map_or (λ (x : Inst). not (is_length m g.result x)) (global Gs (word g 1)) (is_defined_elsewhere m (word g 1))) (of_form g there).2 on) in
+        not-false (is_length m g.result c.0) (ap (λ o. option_map_or (λ (x : Inst). not (is_length m g.result x)) o (is_defined_elsewhere m (word g 1))) (sym w.0) ∙ and_off (is g.op code.TypeArray) (option_map_or (λ (x : Inst). not (is_length m g.result x)) (global Gs (word g 1)) (is_defined_elsewhere m (word g 1))) (of_form g there).2 on) in
         let l = constant_length c.0.op (word g 1) (slice_index c.0.args 0) (by_constant c.0 (is c.0.op code.Constant) refl length_is) in
         (array u.0 l.0, ap (λ o. array_tree o (length_by (word g 1) (global Gs (word g 1)))) u.1 ∙ ap (λ o. array_tree (Some u.0) (length_by (word g 1) o)) w.0 ∙ ap (array_tree (Some u.0)) l.1)
       where
@@ -255,7 +256,7 @@ module _ (m : ModuleState) (entry : Option (List ℕ)) (right : IsConforming m e
 
     by_op : ShapedOp g.op → (t : Tree) × (tree_at Gs g ≡ Some t)
     by_op (of_bool k) = by_kind BoolKind k (boolean, refl)
-    by_op (of_int k on) = by_kind Int k (int_shape (word g 0) (word g 1) (not_off ((word g 0 == 32) && nat_le (word g 1) 1) (and_off (is g.op code.TypeInt) (not ((word g 0 == 32) && nat_le (word g 1) 1)) (of_form g there).0 on)))
+    by_op (of_int k on) = by_kind Int k (int_shape (word g 0) (word g 1) (not-false ((word g 0 == 32) && nat_le (word g 1) 1) (and_off (is g.op code.TypeInt) (not ((word g 0 == 32) && nat_le (word g 1) 1)) (of_form g there).0 on)))
     by_op (of_vector k on three ids needed) = by_kind Vector k (vector_of on ids needed (vector_least g.op (length g.args) k least))
     by_op (of_array k on ids needed constant) = by_kind Array k (array_of k on ids needed constant (operands_least g.op (length g.args) (inl k) least))
     by_op (of_runtime k ids needed) = by_kind Runtime k (runtime_of k ids needed (runtime_least g.op (length g.args) k least))

@@ -4,6 +4,8 @@ use Rattle.std.specs.Prelude.{◌⊎◌, flat_map, option_map, slice_index, ◌-
 use Rattle.std.specs.Option.{option_map_or}
 use Rattle.std.specs.List.{list_any, filter_map, cons_option}
 use Rattle.std.proofs.lemmas.Bool.Decides.{eqb_tells, nat_tests}
+use Rattle.std.proofs.lemmas.Bool.{and_from, false_from_ne_true, not-false, not-true, or_cases, or_left as or_on_left, or_right as or_on_right}
+use Rattle.std.proofs.lemmas.Option.{same_Some}
 use Rattle.spv_ops.specs.Opcode.{is, number}
 use Rattle.spv_ops.specs.Groups.{is_specialization}
 use Rattle.spv_ops.specs.Operands.{is_id}
@@ -30,23 +32,10 @@ use Rattle.plan_law.specs.InOrder.{IsAmong, AreRising}
 use Rattle.fits_law.proofs.Steps.{named}
 use Rattle.type_law.specs.Shaped.{EachFound}
 use Rattle.typed_law.specs.Conforms.{IsConforming}
-use Rattle.typed_law.proofs.Lists.{or_left, or_right, and_right, and_off, not_off, not_on, clash, no_true, same_some, both_on, found_in, earlier_some, from_zero}
+use Rattle.typed_law.proofs.Lists.{or_left, or_right, and_right, and_off, clash, found_in, earlier_some, from_zero}
 use Rattle.typed_law.proofs.Rules.{operand_there, global_there, used_type}
 use Rattle.typed_law.proofs.Types.{type_before, of_form}
 use Rattle.typed_law.proofs.Sized.{rising_low, sized_by}
-
--- ids among lists
-or_on_left : (a b : Bool) → a ≡ true → (a || b) ≡ true
-or_on_left true b e = refl
-or_on_left false b e = cc
-
-or_on_right : (a b : Bool) → b ≡ true → (a || b) ≡ true
-or_on_right true b e = refl
-or_on_right false b e = e
-
-or_either : (a b : Bool) → (a || b) ≡ true → (a ≡ true) ⊎ (b ≡ true)
-or_either true b e = inl refl
-or_either false b e = inr e
 
 among_append : (xs ys : List ℕ) (id : ℕ) → is_among (xs ++ ys) id ≡ (is_among xs id || is_among ys id)
 among_append [] ys id = refl
@@ -63,7 +52,7 @@ pub among_right : (xs ys : List ℕ) (id : ℕ) → is_among ys id ≡ true → 
 among_right xs ys id there = among_append xs ys id ∙ or_on_right (is_among xs id) (is_among ys id) there
 
 among_either : (xs ys : List ℕ) (id : ℕ) → is_among (xs ++ ys) id ≡ true → (is_among xs id ≡ true) ⊎ (is_among ys id ≡ true)
-among_either xs ys id there = or_either (is_among xs id) (is_among ys id) (sym (among_append xs ys id) ∙ there)
+among_either xs ys id there = or_cases (is_among xs id) (is_among ys id) (sym (among_append xs ys id) ∙ there)
 
 pub among_flat : (f : Inst → List ℕ) (xs : List Inst) (x : Inst) (id : ℕ) → IsAmong x xs → is_among (f x) id ≡ true → is_among (flat_map f xs) id ≡ true
 among_flat f [] x id there own = absurd there
@@ -139,7 +128,7 @@ runtime_shape gs before g code.TypeRuntimeArray u on e = by_part (before (slice_
   where
     by_part : (q : Option Tree) → before (slice_index g.args 0) ≡ q → option_map runtime q ≡ Some u → (t : Tree) × (before (slice_index g.args 0) ≡ Some t) × (u ≡ runtime t)
     by_part None is e = cc
-    by_part (Some t) is e = (t, is, sym (same_some (runtime t) u e))
+    by_part (Some t) is e = (t, is, sym (same_Some (runtime t) u e))
 runtime_shape gs before g o u on e = cc
 
 -- what has values, or is a runtime array of what has
@@ -180,7 +169,7 @@ module _ (m : ModuleState) (entry : Option (List ℕ)) (right : IsConforming m e
       by_test true at has next = elim (among_either (parts_of t) (held ts types) g.result has) [
         | inl early ↦
             let w = part_before t (all t (inl refl)).0 g.result early in
-            let one : w.0 ≡ g = same_some w.0 g (sym w.1 ∙ (all g (inr there)).1) in
+            let one : w.0 ≡ g = same_Some w.0 g (sym w.1 ∙ (all g (inr there)).1) in
             let less : g.at < t.at = subst (λ (x : Inst). x.at < t.at) one w.2 in
             let far = rising_low (t.at + 1) ts g rise.1 there in
             absurd (omega (arith, less, far))
@@ -205,13 +194,13 @@ module _ (m : ModuleState) (entry : Option (List ℕ)) (right : IsConforming m e
   unblocked : (g : Inst) → IsAmong g Gs → is_among (block_misuses m) g.result ≡ true → ((is g.op code.TypeStruct) && is_block m.heads g.result) ≡ false
   unblocked g there blocks =
       let a = (is g.op code.TypeStruct) && is_block m.heads g.result in
-      no_true a (λ on. clash (sym (both_on a (is_among (block_misuses m) g.result) on blocks) ∙ or_left (a && is_among (block_misuses m) g.result) ((is g.op code.TypeRuntimeArray) && is_among (runtime_misuses m) g.result) (used_type m entry right g there)))
+      false_from_ne_true a (λ on. clash (sym (and_from a (is_among (block_misuses m) g.result) on blocks) ∙ or_left (a && is_among (block_misuses m) g.result) ((is g.op code.TypeRuntimeArray) && is_among (runtime_misuses m) g.result) (used_type m entry right g there)))
 
   misused : (g : Inst) → IsAmong g Gs → (is_among (block_misuses m) g.result ≡ true) → (is_among (runtime_misuses m) g.result ≡ true) → (((is g.op code.TypeStruct) && is_block m.heads g.result) ≡ false) × (is g.op code.TypeRuntimeArray ≡ false)
   misused g there blocks runtimes =
       let a = (is g.op code.TypeStruct) && is_block m.heads g.result in (
         unblocked g there blocks,
-        no_true (is g.op code.TypeRuntimeArray) (λ on. clash (sym (both_on (is g.op code.TypeRuntimeArray) (is_among (runtime_misuses m) g.result) on runtimes) ∙ or_right (a && is_among (block_misuses m) g.result) ((is g.op code.TypeRuntimeArray) && is_among (runtime_misuses m) g.result) (used_type m entry right g there))),
+        false_from_ne_true (is g.op code.TypeRuntimeArray) (λ on. clash (sym (and_from (is g.op code.TypeRuntimeArray) (is_among (runtime_misuses m) g.result) on runtimes) ∙ or_right (a && is_among (block_misuses m) g.result) ((is g.op code.TypeRuntimeArray) && is_among (runtime_misuses m) g.result) (used_type m entry right g there))),
       )
 
   -- a part of a type of the module
@@ -247,12 +236,12 @@ module _ (m : ModuleState) (entry : Option (List ℕ)) (right : IsConforming m e
   used_length : (g : Inst) → IsAmong g Gs → IsUsed g → is g.op code.TypeArray ≡ true → (c : Inst) → global Gs (word g 1) ≡ Some c → is c.op code.Constant ≡ true
   used_length g there used on c at =
       let length_is : is_length m g.result c ≡ true =
-      not_off (is_length m g.result c) (ap (λ o. option_map_or (λ (x : Inst). not (is_length m g.result x)) o (is_defined_elsewhere m (word g 1))) (sym at) ∙ and_off (is g.op code.TypeArray) (option_map_or (λ (x : Inst). not (is_length m g.result x)) (global Gs (word g 1)) (is_defined_elsewhere m (word g 1))) (of_form m entry right g there).2 on) in
+      not-false (is_length m g.result c) (ap (λ o. option_map_or (λ (x : Inst). not (is_length m g.result x)) o (is_defined_elsewhere m (word g 1))) (sym at) ∙ and_off (is g.op code.TypeArray) (option_map_or (λ (x : Inst). not (is_length m g.result x)) (global Gs (word g 1)) (is_defined_elsewhere m (word g 1))) (of_form m entry right g there).2 on) in
       by_constant (is c.op code.Constant) length_is
     where
       by_constant : (b : Bool) → (if b then is_above_zero Gs c else (is_specialization c.op && is_workgroup_length m c g.result)) ≡ true → b ≡ true
       by_constant true e = refl
-      by_constant false e = clash (sym used.holds ∙ not_on (is_held Gs (other_types m) g.result) (and_right (not (is_no_int Gs c) && is_held Gs (pointees m is_workgroup) g.result) (not (is_held Gs (other_types m) g.result)) (and_right (is_specialization c.op) (is_workgroup_length m c g.result) e)))
+      by_constant false e = clash (sym used.holds ∙ not-true (is_held Gs (other_types m) g.result) (and_right (not (is_no_int Gs c) && is_held Gs (pointees m is_workgroup) g.result) (not (is_held Gs (other_types m) g.result)) (and_right (is_specialization c.op) (is_workgroup_length m c g.result) e)))
 
   -- so the shape of a type that values use has values, where those before it have
   module _ (g : Inst) (there : IsAmong g Gs) (used : IsUsed g) (known : (h : Inst) → IsAmong h Gs → h.at < g.at → IsUsed h → (u : Tree) → tree_at Gs h ≡ Some u → IsSized u) where

@@ -4,6 +4,8 @@ use Rattle.std.specs.Prelude.{◌⊎◌, find, flat_map, nat_lt, is_some, option
 use Rattle.std.specs.Option.{option_map_or, option_or}
 use Rattle.std.specs.List.{list_any, zip}
 use Rattle.std.proofs.lemmas.Bool.Decides.{eqb_tells, nat_tests}
+use Rattle.std.proofs.lemmas.Bool.{and_from, not-false}
+use Rattle.std.proofs.lemmas.Option.{same_Some}
 use Rattle.spv_ops.specs.Opcode.{is, number}
 use Rattle.spv_ops.specs.Groups.{is_type as is_type_op}
 use Rattle.spv_ops.specs.Shape.{shape, count_of}
@@ -39,7 +41,7 @@ use Rattle.fits_law.specs.State.{value_shape, IsLocal}
 use Rattle.type_law.proofs.Operands.{some_first}
 use Rattle.type_law.proofs.Vectors.{three_off}
 use Rattle.typed_law.specs.Conforms.{IsFormed, IsParameter, IsConforming, IsConformingIn}
-use Rattle.typed_law.proofs.Lists.{or_left, or_right, and_left, and_off, not_off, clash, same_some, any_none, found_in, earlier_some, some_by, both_on}
+use Rattle.typed_law.proofs.Lists.{or_left, or_right, and_left, and_off, clash, any_none, found_in, earlier_some, some_by}
 use Rattle.typed_law.proofs.Rules.{type_there, operand_there, global_there, pointed_type, types_there, declared_right}
 use Rattle.typed_law.proofs.Types.{type_shaped, row_is}
 use Rattle.typed_law.proofs.Sized.{value_type_is}
@@ -118,7 +120,7 @@ type_of i ty e = by_test (i.ty == 0) (eqb_tells i.ty 0) e
     by_test : (b : Bool) → ((b ≡ true) × (i.ty ≡ 0)) ⊎ ((b ≡ false) × (i.ty ≡ 0 → ⊥)) → (if b then None else Some i.ty) ≡ Some ty → (i.ty ≡ ty) × (i.ty ≡ 0 → ⊥)
     by_test true w e = cc
     by_test false (inl w) e = cc
-    by_test false (inr w) e = (same_some i.ty ty e, w.1)
+    by_test false (inr w) e = (same_Some i.ty ty e, w.1)
 
 pub typed_is : (i : Inst) → (i.ty ≡ 0 → ⊥) → typed i ≡ Some i.ty
 typed_is i some = by_test (i.ty == 0) (eqb_tells i.ty 0)
@@ -141,7 +143,7 @@ param_found [] id p e = cc
 param_found (q ∷ ps) id p e = by_test (q.0.0 == id) e (λ rest. param_found ps id p rest)
   where
     by_test : (b : Bool) → (if b then Some q else find (λ (r : Id × Id). r.0.0 == id) ps) ≡ Some p → (find (λ (r : Id × Id). r.0.0 == id) ps ≡ Some p → IsParameter p ps) → (q ≡ p) ⊎ IsParameter p ps
-    by_test true e next = inl (same_some q p e)
+    by_test true e next = inl (same_Some q p e)
     by_test false e next = inr (next e)
 
 param_none : (test : Id × Id → Bool) (ps : List (Id × Id)) (p : Id × Id) → list_any test ps ≡ false → IsParameter p ps → test p ≡ false
@@ -194,7 +196,7 @@ same_count m n e = elim (eqb_tells m n) [ inl w ↦ w.1 | inr w ↦ clash (sym (
 
 some_param : (o : Option (Id × Id)) (ps : List (Id × Id)) (id x : ℕ) → find (λ (q : Id × Id). q.0.0 == id) ps ≡ o → option_map (λ (p : Id × Id). p.1.0) o ≡ Some x → (p : Id × Id) × (p.1.0 ≡ x) × IsParameter p ps
 some_param None ps id x at e = cc
-some_param (Some p) ps id x at e = (p, same_some p.1.0 x e, param_found ps id p at)
+some_param (Some p) ps id x at e = (p, same_Some p.1.0 x e, param_found ps id p at)
 
 module _ (s : Setting) (entry : Option (List ℕ)) (right : IsConforming s.of entry) where
   abbrev Gs : List Inst
@@ -256,14 +258,14 @@ module _ (s : Setting) (entry : Option (List ℕ)) (right : IsConforming s.of en
     pub parameter_row : (p : Id × Id) → IsParameter p f.params → IsRow p.1.0
     parameter_row p there =
         let off = three_off (not (is_there Gs f.at AnyType f.result.0)) (not (is_there Gs f.at FunctionType f.ty.0)) (list_any (lacks_type Gs f.at) f.params) (types_there s.of entry right f in_it) in
-        let on = not_off (is_there Gs f.at AnyType p.1.0) (param_none (lacks_type Gs f.at) f.params p off.2 there) in
+        let on = not-false (is_there Gs f.at AnyType p.1.0) (param_none (lacks_type Gs f.at) f.params p off.2 there) in
         let g = some_by (suits AnyType) (earlier Gs f.at p.1.0) on in
         (g.0, (earlier_some Gs f.at p.1.0 g.0 g.1).0, g.2)
 
     pub result_row : IsRow f.result.0
     result_row =
         let off = three_off (not (is_there Gs f.at AnyType f.result.0)) (not (is_there Gs f.at FunctionType f.ty.0)) (list_any (lacks_type Gs f.at) f.params) (types_there s.of entry right f in_it) in
-        let g = some_by (suits AnyType) (earlier Gs f.at f.result.0) (not_off (is_there Gs f.at AnyType f.result.0) off.0) in
+        let g = some_by (suits AnyType) (earlier Gs f.at f.result.0) (not-false (is_there Gs f.at AnyType f.result.0) off.0) in
         (g.0, (earlier_some Gs f.at f.result.0 g.0 g.1).0, g.2)
 
     -- the OpTypeFunction of the function, and what it says of the parameters
@@ -278,7 +280,7 @@ module _ (s : Setting) (entry : Option (List ℕ)) (right : IsConforming s.of en
     pub declared_by : (g : Inst) × IsDeclaredBy g
     declared_by =
         let off = three_off (not (is_there Gs f.at AnyType f.result.0)) (not (is_there Gs f.at FunctionType f.ty.0)) (list_any (lacks_type Gs f.at) f.params) (types_there s.of entry right f in_it) in
-        let g = some_by (suits FunctionType) (earlier Gs f.at f.ty.0) (not_off (is_there Gs f.at FunctionType f.ty.0) off.1) in
+        let g = some_by (suits FunctionType) (earlier Gs f.at f.ty.0) (not-false (is_there Gs f.at FunctionType f.ty.0) off.1) in
         let w = earlier_some Gs f.at f.ty.0 g.0 g.1 in
         let is_it : function_type Gs f ≡ Some g.0 = ap (option_and_then function_type_if) w.0 ∙ ap (λ (b : Bool). if b then Some g.0 else None) g.2 in
         let told : is_misdeclared Gs f g.0 ≡ false = ap (λ o. option_map_or (is_misdeclared Gs f) o false) (sym is_it) ∙ declared_right s.of entry right f in_it in
@@ -292,7 +294,7 @@ module _ (s : Setting) (entry : Option (List ℕ)) (right : IsConforming s.of en
         by_local : (o : Option ℕ) → parameter_in f id ≡ o → option_or o (option_and_then typed (inst_in f id)) ≡ Some ty → IsRow ty
         by_local (Some x) at e =
             let p = some_param (find (λ (q : Id × Id). q.0.0 == id) f.params) f.params id x refl at in
-            subst IsRow (p.1 ∙ same_some x ty e) (parameter_row p.0 p.2)
+            subst IsRow (p.1 ∙ same_Some x ty e) (parameter_row p.0 p.2)
         by_local None at e =
             let i = some_first typed (inst_in f id) ty e in
             let own = type_of i.0 ty i.2 in
@@ -304,7 +306,7 @@ module _ (s : Setting) (entry : Option (List ℕ)) (right : IsConforming s.of en
             let h = some_first typed (global Gs id) x at in
             let own = type_of h.0 x h.2 in
             let g = global_row h.0 (found_in Gs id h.0 h.1) own.1 in
-            subst IsRow (own.0 ∙ same_some x ty e) (g.0, g.1, type_suits h.0.op g.0 g.2)
+            subst IsRow (own.0 ∙ same_Some x ty e) (g.0, g.1, type_suits h.0.op g.0 g.2)
         by_global None at e = by_local (parameter_in f id) refl e
 
     -- two types that do not differ are one
@@ -312,7 +314,7 @@ module _ (s : Setting) (entry : Option (List ℕ)) (right : IsConforming s.of en
     one_type a b v w e =
         let some_a : is_some (type_row Gs a) ≡ true = ap is_some (row_is s.of entry right a v.0 v.1 v.2) in
         let some_b : is_some (type_row Gs b) ≡ true = ap is_some (row_is s.of entry right b w.0 w.1 w.2) in
-        same_count a b (and_off (is_some (type_row Gs a) && is_some (type_row Gs b)) (not (a == b)) e (both_on (is_some (type_row Gs a)) (is_some (type_row Gs b)) some_a some_b))
+        same_count a b (and_off (is_some (type_row Gs a) && is_some (type_row Gs b)) (not (a == b)) e (and_from (is_some (type_row Gs a)) (is_some (type_row Gs b)) some_a some_b))
 
     -- P19: a parameter is of a value type, or a pointer
     pub parameter_right : (p : Id × Id) → IsParameter p f.params → is_other_parameter s.of.heads Gs p.1.0 ≡ false
@@ -346,13 +348,13 @@ module _ (s : Setting) (entry : Option (List ℕ)) (right : IsConforming s.of en
             let told : is_no_value_type s.of.heads Gs p.1.0 ≡ false =
             ap (λ (b : Bool). if b then is_no_variable s.of.heads Gs g else is_no_value_type s.of.heads Gs p.1.0) (sym off) ∙ (ap (λ o. option_map_or (λ (x : Inst). if is x.op code.TypePointer then is_no_variable s.of.heads Gs x else is_no_value_type s.of.heads Gs p.1.0) o false) (sym at) ∙ right_is) in
             let v = value_type_has p.1.0 (g, at, typed) told in
-            subst IsSized (same_some v.0 t (sym v.1 ∙ (ap (type_tree Gs) same ∙ shape))) v.2
+            subst IsSized (same_Some v.0 t (sym v.1 ∙ (ap (type_tree Gs) same ∙ shape))) v.2
 
         by_local : (o : Option ℕ) → parameter_in f id ≡ o → option_or o (option_and_then typed (inst_in f id)) ≡ Some ty → IsSized t
         by_local (Some x) at e =
             let p = some_param (find (λ (q : Id × Id). q.0.0 == id) f.params) f.params id x refl at in
             let g = parameter_row p.0 p.2 in
-            by_pointer p.0 (p.1 ∙ same_some x ty e) (parameter_right p.0 p.2) g.0 g.1 g.2 (is g.0.op code.TypePointer) refl
+            by_pointer p.0 (p.1 ∙ same_Some x ty e) (parameter_right p.0 p.2) g.0 g.1 g.2 (is g.0.op code.TypePointer) refl
         by_local None at e =
             let i = some_first typed (inst_in f id) ty e in
             let own = type_of i.0 ty i.2 in
@@ -364,7 +366,7 @@ module _ (s : Setting) (entry : Option (List ℕ)) (right : IsConforming s.of en
             let h = some_first typed (global Gs id) x at in
             let own = type_of h.0 x h.2 in
             let there = found_in Gs id h.0 h.1 in
-            by_inst h.0 (among_left h.0 Gs (local_insts s.of) there) (own.0 ∙ same_some x ty e) (global_row h.0 there own.1) (is_variable h.0) refl
+            by_inst h.0 (among_left h.0 Gs (local_insts s.of) there) (own.0 ∙ same_Some x ty e) (global_row h.0 there own.1) (is_variable h.0) refl
         by_global None at e = by_local (parameter_in f id) refl e
 
     -- the result of an instruction has its type, and none of a global's id
@@ -446,7 +448,7 @@ module _ (s : Setting) (entry : Option (List ℕ)) (right : IsConforming s.of en
         let g = type_row_of id w.0 w.1 in
         let row = row_is s.of entry right w.0 g.0 g.1 g.2 in
         let on : not (test g.0) ≡ false = ap (λ o. option_map_or (λ (x : Inst). not (test x)) o false) (sym row) ∙ (ap (λ o. option_map_or (fails test Gs) o false) (sym w.1) ∙ off) in
-        shape_of id w g.0 g.1 g.2 (shaped g.0 (not_off (test g.0) on))
+        shape_of id w g.0 g.1 g.2 (shaped g.0 (not-false (test g.0) on))
 
     pub same_type : (ty id : ℕ) → IsRow ty → HasType id → is_other Gs T ty id ≡ false → T id ≡ Some ty
     same_type ty id row w off = w.1 ∙ ap (λ x. Some x) (sym (one_type ty w.0 row (type_row_of id w.0 w.1) (ap (λ o. option_map_or (differ Gs ty) o false) (sym w.1) ∙ off)))

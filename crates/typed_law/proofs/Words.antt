@@ -3,6 +3,7 @@ use Rattle.std.proofs.Common.{◌≡◌, ◌<◌, ◌≤◌, ◌+◌, ◌==◌, 
 use Rattle.std.specs.Prelude.{◌⊎◌, ◌-◌, find, nat_le, nat_lt, unwrap_or, option_map, Contains, slice_index, slice_index_or}
 use Rattle.std.specs.Option.{option_map_or}
 use Rattle.std.proofs.lemmas.Bool.Decides.{eqb_tells, nat_tests}
+use Rattle.std.proofs.lemmas.Bool.{and_from, false_from_ne_true, not-false, or_right as or_right_on}
 use Rattle.spv_words.specs.Words.{insts, nth_inst, slice, is_at_fault}
 use Rattle.spv_words.specs.declared.rule.Rule.TheVariants.{T1}
 use Rattle.spv_words.specs.declared.rule.Refusal.{Refusal}
@@ -35,7 +36,6 @@ use Rattle.plan_law.proofs.Owned.{parameter_result}
 use Rattle.plan_law.proofs.Conforming.{said_of, are_in_order}
 use Rattle.type_law.specs.Shaped.{EachFound, HaveResults}
 use Rattle.typed_law.specs.Conforms.{BreakNone, size_of, IsFormed, IsParameter, IsConformingIn, IsConforming}
-use Rattle.typed_law.proofs.Lists.{both_on, not_off, no_true}
 
 -- it is one of the words' instructions
 abbrev pub IsOne : Inst1 → List Inst1 → Type 0
@@ -125,10 +125,6 @@ both_left : (a b : Bool) → (a && b) ≡ true → a ≡ true
 both_left true b e = refl
 both_left false b e = cc
 
-or_right_on : (a b : Bool) → b ≡ true → (a || b) ≡ true
-or_right_on true b e = refl
-or_right_on false b e = e
-
 room_below : (t r : Bool) (least len : ℕ) → nat_le (1 + count_of t + count_of r) least ≡ true → least ≤ len → 1 + count_of t + count_of r ≤ len
 room_below t r least len e le = let n = 1 + count_of t + count_of r in grind (arith, nat_tests, e, le)
 
@@ -155,7 +151,7 @@ module _ (ws : List ℕ) where
     within =
         let p = the_op (op_of x.opcode) refl in
         let right : is_misfit_of ws x p.0 ≡ false = ap (λ q. option_map_or (is_misfit_of ws x) q false) (sym p.1) ∙ counted in
-        subst (λ o. is_within 0 (shape o) x.len ≡ true) (sym (known_is x.opcode p.0 p.1)) (both_left (is_within 0 (shape p.0) x.len) (fits_opcode ws x p.0) (not_off (is_within 0 (shape p.0) x.len && fits_opcode ws x p.0) right))
+        subst (λ o. is_within 0 (shape o) x.len ≡ true) (sym (known_is x.opcode p.0 p.1)) (both_left (is_within 0 (shape p.0) x.len) (fits_opcode ws x p.0) (not-false (is_within 0 (shape p.0) x.len && fits_opcode ws x p.0) right))
 
     abbrev O : Op
     O = known x.opcode
@@ -181,7 +177,7 @@ module _ (ws : List ℕ) where
         listed (
           is_there,
           inl (or_right_on (has_type O && (nat_lt 1 x.len && is_out (slice_index ws 3) (inst_of ws x).ty)) (has_result O && (nat_lt (1 + count_of (has_type O)) x.len && is_out (slice_index ws 3) (inst_of ws x).result))
-              (both_on (has_result O) (nat_lt (1 + count_of (has_type O)) x.len && is_out (slice_index ws 3) (inst_of ws x).result) has (both_on (nat_lt (1 + count_of (has_type O)) x.len) (is_out (slice_index ws 3) (inst_of ws x).result) at out))),
+              (and_from (has_result O) (nat_lt (1 + count_of (has_type O)) x.len && is_out (slice_index ws 3) (inst_of ws x).result) has (and_from (nat_lt (1 + count_of (has_type O)) x.len) (is_out (slice_index ws 3) (inst_of ws x).result) at out))),
         )
       where
         behind : (t r : Bool) (len : ℕ) → r ≡ true → 1 + count_of t + count_of r ≤ len → nat_lt (1 + count_of t) len ≡ true
@@ -337,8 +333,8 @@ module _ (ws : List ℕ) (entry : Option (List ℕ)) (right : BreakNone ws entry
   of_all : (x : Inst1) → IsOne x (insts ws) → (kind_of ws x ≡ Debug → ⊥) → IsFormed (inst_of ws x)
   of_all x one is_there =
       formed ws x (none_found (is_at_fault (length ws)) (insts ws) x right.uncut one)
-      (by_place (λ y. is_unknown ws y ≡ false) nowhere (insts ws) (λ k less. no_true (is_unknown ws (nth_inst ws k)) (λ on. right.form.0 (nth_inst ws k).start (k, less, refl, on))) x one)
-      (by_place (λ y. is_misfit ws y ≡ false) nowhere (insts ws) (λ k less. no_true (is_misfit ws (nth_inst ws k)) (λ on. right.form.1.0 (nth_inst ws k).start (k, less, refl, on))) x one)
+      (by_place (λ y. is_unknown ws y ≡ false) nowhere (insts ws) (λ k less. false_from_ne_true (is_unknown ws (nth_inst ws k)) (λ on. right.form.0 (nth_inst ws k).start (k, less, refl, on))) x one)
+      (by_place (λ y. is_misfit ws y ≡ false) nowhere (insts ws) (λ k less. false_from_ne_true (is_misfit ws (nth_inst ws k)) (λ on. right.form.1.0 (nth_inst ws k).start (k, less, refl, on))) x one)
       (by_place (λ y. HasIdOut ws y → ⊥) nowhere (insts ws) (λ k less out. right.form.1.1.0 (nth_inst ws k).start (k, less, refl, inl out)) x one) is_there
 
   apart : AreDistinct (results ws)

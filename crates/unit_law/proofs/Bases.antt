@@ -3,6 +3,7 @@ use Rattle.std.proofs.Common.{◌≡◌, ◌==◌, ◌&&◌, ◌||◌, ◌++◌,
 use Rattle.std.specs.Prelude.{◌⊎◌, IfSome}
 use Rattle.std.specs.Option.{option_map_or}
 use Rattle.std.specs.List.{list_any}
+use Rattle.std.proofs.lemmas.Bool.{and_from, or_right, and_parts, or_cases}
 use Rattle.spv_ops.specs.Opcode.{is}
 use Rattle.spv_ops.specs.Groups.{is_chain}
 use Rattle.spv_ops.specs.declared.Op.TheVariants as code
@@ -15,22 +16,6 @@ use Rattle.claim_law.specs.Claimed.{IsIn}
 use Rattle.claim_law.proofs.Listed.{any_in}
 use Rattle.unit_law.proofs.Lists.{same_test, test_same, split_at}
 use Rattle.unit_law.proofs.Carried.{carried_on}
-
-both_on : (a b : Bool) → a ≡ true → b ≡ true → (a && b) ≡ true
-both_on true b on e = e
-both_on false b on e = cc
-
-second_on : (a b : Bool) → b ≡ true → (a || b) ≡ true
-second_on true b on = refl
-second_on false b on = on
-
-split_and : (a b : Bool) → (a && b) ≡ true → (a ≡ true) × (b ≡ true)
-split_and true b e = (refl, e)
-split_and false b e = cc
-
-split_or : (a b : Bool) → (a || b) ≡ true → (a ≡ true) ⊎ (b ≡ true)
-split_or true b e = inl refl
-split_or false b e = inr e
 
 none_at : (f : Function) (n : ℕ) (places : List SlotPlace) (at : SlotPlace) (i : Inst) → NoOperand f n places → IsIn at places → user f at ≡ Some i → i.result ≡ n → ⊥
 none_at f n [] at i none among there = absurd among
@@ -71,7 +56,7 @@ module _ (f : Function) where
 
       by_test : (b : Bool) → is_carried_with f (carried_from f ps) p ≡ b → elim b as (λ b. Bool) [ true ↦ carried_from f ps n || (n == p.result) | false ↦ carried_from f ps n ] ≡ true → (carried_from f ps n ≡ true → IsCarriedAt ps n) → IsCarriedAt (p ∷ ps) n
       by_test false is_it told later = more (later told)
-      by_test true is_it told later = elim (split_or (carried_from f ps n) (n == p.result) told) [
+      by_test true is_it told later = elim (or_cases (carried_from f ps n) (n == p.result) told) [
         | inl there ↦ more (later there)
         | inr same ↦ record {
           front = [];
@@ -79,7 +64,7 @@ module _ (f : Function) where
           by = p;
           whole = refl;
           result = sym (test_same n p.result same);
-          chain = (split_and (is_chain p.op) (carried_from f ps p.result || list_any (carries f (carried_from f ps) p.block) p.mentions) is_it).0;
+          chain = (and_parts (is_chain p.op) (carried_from f ps p.result || list_any (carries f (carried_from f ps) p.block) p.mentions) is_it).0;
           carried = on;
         }
       ]
@@ -99,14 +84,14 @@ module _ (f : Function) where
         (carried_on f x.0 (p ∷ (x.1 ++ w.by ∷ w.back)) p.result (own (x.1 ++ w.by ∷ w.back) (carried_on f x.1 (w.by ∷ w.back) i.result w.carried)))
       where
         by_test : (back : List Placed) (b : Bool) → b ≡ true → elim b as (λ b. Bool) [ true ↦ carried_from f back p.result || (p.result == p.result) | false ↦ carried_from f back p.result ] ≡ true
-        by_test back true on = second_on (carried_from f back p.result) (p.result == p.result) (same_test p.result p.result refl)
+        by_test back true on = or_right (carried_from f back p.result) (p.result == p.result) (same_test p.result p.result refl)
         by_test back false on = cc
 
         own : (back : List Placed) → carried_from f back i.result ≡ true → carried_from f (p ∷ back) p.result ≡ true
         own back on =
             let carried : carries f (carried_from f back) p.block at ≡ true
             = ap (λ (x : Option Inst). option_map_or (carries_by f (carried_from f back) p.block at) x false) there
-            ∙ second_on (is_elsewhere_by f p.block at i) ((at.arg == 0) && (is_chain i.op && carried_from f back i.result)) (both_on (at.arg == 0) (is_chain i.op && carried_from f back i.result) first (both_on (is_chain i.op) (carried_from f back i.result) chain on)) in
+            ∙ or_right (is_elsewhere_by f p.block at i) ((at.arg == 0) && (is_chain i.op && carried_from f back i.result)) (and_from (at.arg == 0) (is_chain i.op && carried_from f back i.result) first (and_from (is_chain i.op) (carried_from f back i.result) chain on)) in
             by_test back (is_carried_with f (carried_from f back) p)
-            (both_on (is_chain p.op) (carried_from f back p.result || list_any (carries f (carried_from f back) p.block) p.mentions) is_it
-            (second_on (carried_from f back p.result) (list_any (carries f (carried_from f back) p.block) p.mentions) (any_in (carries f (carried_from f back) p.block) p.mentions at mentioned carried)))
+            (and_from (is_chain p.op) (carried_from f back p.result || list_any (carries f (carried_from f back) p.block) p.mentions) is_it
+            (or_right (carried_from f back p.result) (list_any (carries f (carried_from f back) p.block) p.mentions) (any_in (carries f (carried_from f back) p.block) p.mentions at mentioned carried)))

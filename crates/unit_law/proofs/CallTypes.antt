@@ -3,6 +3,7 @@ use Rattle.std.proofs.Common.{◌≡◌, ◌<◌, ◌≤◌, ◌+◌, ◌==◌, 
 use Rattle.std.specs.Prelude.{is_some, slice_index, option_and_then}
 use Rattle.std.specs.Option.{option_map_or}
 use Rattle.std.specs.List.{list_any, position_from}
+use Rattle.std.proofs.lemmas.Option.{same_Some}
 use Rattle.spv_ops.specs.Opcode.{is, number}
 use Rattle.spv_ops.specs.OpGroups.{takes_of, group_of}
 use Rattle.spv_ops.specs.Operands.{is_id}
@@ -30,7 +31,7 @@ use Rattle.profile_rules.specs.Entry.{function_of}
 use Rattle.plan_law.specs.InOrder.{IsAmong}
 use Rattle.module_semantics.specs.Setting.{Setting}
 use Rattle.typed_law.specs.Conforms.{IsConforming}
-use Rattle.typed_law.proofs.Lists.{same_some, or_left, or_right, and_off, some_by, earlier_some, from_zero}
+use Rattle.typed_law.proofs.Lists.{or_left, or_right, and_off, some_by, earlier_some, from_zero}
 use Rattle.typed_law.proofs.Rules.{operand_there, global_there, pointed_type, flow_right}
 use Rattle.typed_law.proofs.Values.{IsRow, IsDeclaredBy, declared_by, local_row, type_suits, one_type, inside, value_type_has, function_id, function_need, function_least}
 use Rattle.typed_law.proofs.Others.{contains_found, callee_is, typed_some}
@@ -130,7 +131,7 @@ module _ (s : Setting) (entry : Option (List ℕ)) (right : IsConforming s.of en
   pub given_value : (w : IsRow s entry right i.ty) → is w.0.op code.TypeVoid ≡ false → IsShaped s entry right i.ty
   given_value w no_void =
       let first = given_type.1 in
-      let same : first.0 ≡ w.0 = same_some first.0 w.0 (sym first.1 ∙ (ap (global Gs) given_type.0 ∙ w.1)) in
+      let same : first.0 ≡ w.0 = same_Some first.0 w.0 (sym first.1 ∙ (ap (global Gs) given_type.0 ∙ w.1)) in
       let off : (not (is first.0.op code.TypeVoid) && is_no_value_type s.of.heads Gs (word d 0)) ≡ false =
       ap (λ q. option_map_or (λ (x : Inst). not (is x.op code.TypeVoid) && is_no_value_type s.of.heads Gs (word d 0)) q false) (sym first.1) ∙ or_left (is_other_result s.of.heads Gs (word d 0)) (list_any (is_other_parameter s.of.heads Gs) (drop 1 d.args)) right_type in
       let t = value_type_has s entry right (word d 0) first (and_off (not (is first.0.op code.TypeVoid)) (is_no_value_type s.of.heads Gs (word d 0)) off (ap (λ (x : Inst). not (is x.op code.TypeVoid)) same ∙ ap not no_void)) in

@@ -3,6 +3,7 @@ use Rattle.std.proofs.Common.{◌≡◌, ◌==◌, ◌&&◌, ◌||◌, ◌++◌,
 use Rattle.std.specs.Prelude.{◌⊎◌, slice_get, slice_index_or}
 use Rattle.std.specs.Option.{option_map_or}
 use Rattle.std.specs.List.{list_any}
+use Rattle.std.proofs.lemmas.Bool.{and_from, or_left, or_right}
 use Rattle.spv_ops.specs.Opcode.{is}
 use Rattle.spv_ops.specs.Groups.{is_chain}
 use Rattle.spv_ops.specs.declared.Op.TheVariants as code
@@ -38,18 +39,6 @@ use Rattle.unit_law.proofs.Forms.{placed, is_placed, form_at}
 use Rattle.unit_law.proofs.Ways.{HaveKinds, F, R, V, plan_is, ordered, reached_nth}
 use Rattle.unit_law.proofs.Sets.{formed_text}
 
-both_on : (a b : Bool) → a ≡ true → b ≡ true → (a && b) ≡ true
-both_on true b on e = e
-both_on false b on e = cc
-
-first_on : (a b : Bool) → a ≡ true → (a || b) ≡ true
-first_on true b on = refl
-first_on false b on = cc
-
-second_on : (a b : Bool) → b ≡ true → (a || b) ≡ true
-second_on true b on = refl
-second_on false b on = on
-
 module _ (f : Function) where
   -- what is carried after some results is carried after all
   pub carried_on : (front back : List Placed) (n : ℕ) → carried_from f back n ≡ true → carried_from f (front ++ back) n ≡ true
@@ -57,7 +46,7 @@ module _ (f : Function) where
   carried_on (p ∷ ps) back n on = by_test (is_carried_with f (carried_from f (ps ++ back)) p) (carried_on ps back n on)
     where
       by_test : (b : Bool) → carried_from f (ps ++ back) n ≡ true → elim b as (λ b. Bool) [ true ↦ carried_from f (ps ++ back) n || (n == p.result) | false ↦ carried_from f (ps ++ back) n ] ≡ true
-      by_test true on = first_on (carried_from f (ps ++ back) n) (n == p.result) on
+      by_test true on = or_left (carried_from f (ps ++ back) n) (n == p.result) on
       by_test false on = on
 
   -- a chain that is mentioned in another block than its own
@@ -67,17 +56,17 @@ module _ (f : Function) where
       subst (λ (qs : List Placed). carried_from f qs p.result ≡ true) (sym w.2) (carried_on w.0 (p ∷ w.1) p.result (own w.1))
     where
       by_test : (back : List Placed) (b : Bool) → b ≡ true → elim b as (λ b. Bool) [ true ↦ carried_from f back p.result || (p.result == p.result) | false ↦ carried_from f back p.result ] ≡ true
-      by_test back true on = second_on (carried_from f back p.result) (p.result == p.result) (same_test p.result p.result refl)
+      by_test back true on = or_right (carried_from f back p.result) (p.result == p.result) (same_test p.result p.result refl)
       by_test back false on = cc
 
       own : (back : List Placed) → carried_from f (p ∷ back) p.result ≡ true
       own back =
           let carried : carries f (carried_from f back) p.block at ≡ true
           = ap (λ (q : Option Inst). option_map_or (carries_by f (carried_from f back) p.block at) q false) there
-          ∙ first_on (is_elsewhere_by f p.block at i) ((at.arg == 0) && (is_chain i.op && carried_from f back i.result)) elsewhere in
+          ∙ or_left (is_elsewhere_by f p.block at i) ((at.arg == 0) && (is_chain i.op && carried_from f back i.result)) elsewhere in
           by_test back (is_carried_with f (carried_from f back) p)
-          (both_on (is_chain p.op) (carried_from f back p.result || list_any (carries f (carried_from f back) p.block) p.mentions) chain
-          (second_on (carried_from f back p.result) (list_any (carries f (carried_from f back) p.block) p.mentions) (any_in (carries f (carried_from f back) p.block) p.mentions at mentioned carried)))
+          (and_from (is_chain p.op) (carried_from f back p.result || list_any (carries f (carried_from f back) p.block) p.mentions) chain
+          (or_right (carried_from f back p.result) (list_any (carries f (carried_from f back) p.block) p.mentions) (any_in (carries f (carried_from f back) p.block) p.mentions at mentioned carried)))
 
 -- a result that has a variable wherever it is live has one where it is not gone
 always_formed : (gs : List Inst) (f : Function) (k : ℕ → Option ℕ) (p : Placed) → is_value gs p.ty ≡ true → is_always_named p.op ≡ true → is_gone (form_with gs f k p) ≡ false → (form_with gs f k p ≡ Local) ⊎ (form_with gs f k p ≡ Hoisted)
@@ -89,9 +78,9 @@ always_formed gs f k p value always kept = by_live (is_live p) refl (is_named gs
 
     named_on : is_live p ≡ true → is_named gs f k p ≡ true
     named_on live =
-        both_on (is_value gs p.ty) (is_live p && (is_named_by_use gs f p || (own_height k p == 17))) value
-        (both_on (is_live p) (is_named_by_use gs f p || (own_height k p == 17)) live
-        (first_on (is_named_by_use gs f p) (own_height k p == 17) (first_on (is_always_named p.op) _ always)))
+        and_from (is_value gs p.ty) (is_live p && (is_named_by_use gs f p || (own_height k p == 17))) value
+        (and_from (is_live p) (is_named_by_use gs f p || (own_height k p == 17)) live
+        (or_left (is_named_by_use gs f p) (own_height k p == 17) (or_left (is_always_named p.op) _ always)))
 
     by_live : (l : Bool) → is_live p ≡ l → (n : Bool) → is_named gs f k p ≡ n → is_gone (if l then (if n then (if is_hoisted f p then Hoisted else Local) else Forwarded) else Gone) ≡ false
         → ((if l then (if n then (if is_hoisted f p then Hoisted else Local) else Forwarded) else Gone) ≡ Local) ⊎ ((if l then (if n then (if is_hoisted f p then Hoisted else Local) else Forwarded) else Gone) ≡ Hoisted)
@@ -146,5 +135,5 @@ module _ (s : Setting) (entry : Option (List ℕ)) (right : IsConforming s.of en
         reached = ap (λ (g : List Node). (nth g block).reached) (plan_is s entry right kinds o unit u p among).graph_is ∙ (sym (reached_nth (graph Fn) block) ∙ here)
 
         by_form : (form_with s.of.globals Fn told.0 P ≡ Local) ⊎ (form_with s.of.globals Fn told.0 P ≡ Hoisted) → (words_of s.of.globals (name_of u.claimed) names).value (text_of Found (Id (id j.result)))
-        by_form (inl local) = formed_text s entry right kinds o unit u p among names structs block holder j there inside some Local (told.1 ∙ local) (first_on (nth p.graph block).reached (is j.op code.Variable) reached)
+        by_form (inl local) = formed_text s entry right kinds o unit u p among names structs block holder j there inside some Local (told.1 ∙ local) (or_left (nth p.graph block).reached (is j.op code.Variable) reached)
         by_form (inr top) = formed_text s entry right kinds o unit u p among names structs block holder j there inside some Hoisted (told.1 ∙ top) refl

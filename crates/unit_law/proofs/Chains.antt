@@ -3,6 +3,7 @@ use Rattle.std.proofs.Common.{◌≡◌, ◌+◌, ◌++◌, ◌==◌, ◌&&◌, 
 use Rattle.std.specs.Prelude.{drop, is_some, option_and_then, slice_get, unwrap_or}
 use Rattle.std.specs.Option.{option_map_or}
 use Rattle.std.specs.List.{list_any}
+use Rattle.std.proofs.lemmas.Bool.{and_from}
 use Rattle.spv_ops.specs.Groups.{is_chain}
 use Rattle.spv_module.specs.declared.inst.Inst.{Inst}
 use Rattle.spv_module.specs.declared.inst.Block.{Block}
@@ -43,10 +44,6 @@ use Rattle.unit_law.proofs.Steps.{HasMembers, IsWritable, one_step}
 nothing_left : (f : ℕ → ℕ → Reached) (ids : List ℕ) → walk f Nothing ids ≡ Nothing
 nothing_left f [] = refl
 nothing_left f (id ∷ ids) = nothing_left f ids
-
-both_on : (a b : Bool) → a ≡ true → b ≡ true → (a && b) ≡ true
-both_on true b e h = h
-both_on false b e h = cc
 
 both_off : (a b : Bool) → (a && b) ≡ false → a ≡ true → b ≡ false
 both_off true b e h = e
@@ -200,4 +197,4 @@ module _ (s : Setting) (entry : Option (List ℕ)) (right : IsConforming s.of en
     where
       same_rows : (a b : ℕ) (x y : Tree) → type_tree Gs a ≡ Some x → type_tree Gs b ≡ Some y → differ Gs a b ≡ false → a ≡ b
       same_rows a b x y one two apart =
-          same_count a b (both_off (is_some (type_row Gs a) && is_some (type_row Gs b)) (not (a == b)) apart (both_on (is_some (type_row Gs a)) (is_some (type_row Gs b)) (ap is_some (row s f a x one).1) (ap is_some (row s f b y two).1)))
+          same_count a b (both_off (is_some (type_row Gs a) && is_some (type_row Gs b)) (not (a == b)) apart (and_from (is_some (type_row Gs a)) (is_some (type_row Gs b)) (ap is_some (row s f a x one).1) (ap is_some (row s f b y two).1)))

@@ -1,6 +1,7 @@
 -- Composites and vectors that are put together ask for words that are declared.
 use Rattle.std.proofs.Common.{◌≡◌, ◌&&◌, ◌||◌, ◌+◌, not, ℕ, Bool, true, false, List, drop, Option, Some, refl, ap}
 use Rattle.std.specs.Prelude.{slice_get, slice_index, slice_index_or}
+use Rattle.std.proofs.lemmas.Bool.{and_from}
 use Rattle.spv_ops.specs.Opcode.{is, number}
 use Rattle.spv_ops.specs.OpGroups.{takes_of, group_of}
 use Rattle.spv_ops.specs.Operands.{is_id}
@@ -45,10 +46,6 @@ use Rattle.unit_law.proofs.Structs.{Written, HasNames}
 use Rattle.unit_law.proofs.Sets.{names_there, set_asked}
 use Rattle.unit_law.proofs.Kept.{shaped_type}
 use Rattle.unit_law.proofs.Carried.{always_text}
-
-both_on : (a b : Bool) → a ≡ true → b ≡ true → (a && b) ≡ true
-both_on true b on e = e
-both_on false b on e = cc
 
 -- what is put together, and with what, are values that are mentioned
 insert_id : (o : Op) (args : List ℕ) → is o code.CompositeInsert ≡ true → (is_id o args 0 ≡ true) × (is_id o args 1 ≡ true)
@@ -121,8 +118,8 @@ module _ (s : Setting) (entry : Option (List ℕ)) (right : IsConforming s.of en
         there = at;
         here = here;
         live = live;
-        slot = both_on (is_id i.op i.args k) (is_value i.op k && is_taken Fn Marks i k) names_id
-            (both_on (is_value i.op k) (is_taken Fn Marks i k) value (ap (λ (b : Bool). not b || is_label_reached Fn Marks (slice_index i.args (k + 1))) no_phi));
+        slot = and_from (is_id i.op i.args k) (is_value i.op k && is_taken Fn Marks i k) names_id
+            (and_from (is_value i.op k) (is_taken Fn Marks i k) value (ap (λ (b : Bool). not b || is_label_reached Fn Marks (slice_index i.args (k + 1))) no_phi));
         word = arg;
       };
       no_phi = no_phi;

@@ -3,6 +3,8 @@ use Rattle.std.proofs.Common.{◌≡◌, ◌+◌, ◌==◌, ◌&&◌, ◌||◌, 
 use Rattle.std.specs.Prelude.{◌⊎◌, is_some}
 use Rattle.std.specs.Option.{option_map_or}
 use Rattle.std.specs.List.{list_any, position_from}
+use Rattle.std.proofs.lemmas.Bool.{and_from, or_left, or_right}
+use Rattle.std.proofs.lemmas.Option.{same_Some}
 use Rattle.spv_ops.specs.Opcode.{is}
 use Rattle.spv_ops.specs.Groups.{is_constant as is_constant_op}
 use Rattle.spv_ops.specs.declared.Op.TheVariants as code
@@ -19,24 +21,11 @@ use Rattle.text_rules.specs.Constants.{Source, is_scalar, is_constant, has_liter
 use Rattle.text_rules.specs.declared.readings.Reading.TheVariants.{Named, GroupSize}
 use Rattle.text_rules.specs.Printed.{Reached, needs_constant, needed_from, is_needed, is_named, declares, has_operand, has_struct, is_declared_constant}
 use Rattle.unit_rules.specs.Unit.{source_of, IsUnitOf}
-use Rattle.typed_law.proofs.Lists.{same_some}
 use Rattle.claim_law.specs.Claimed.{IsIn}
 use Rattle.claim_law.proofs.Constants.{found_in}
 use Rattle.claim_law.proofs.Listed.{any_in}
 use Rattle.unit_law.proofs.Lists.{same_test}
 use Rattle.unit_law.proofs.Structs.{Written}
-
-both_on : (a b : Bool) → a ≡ true → b ≡ true → (a && b) ≡ true
-both_on true b on e = e
-both_on false b on e = cc
-
-second_on : (a b : Bool) → b ≡ true → (a || b) ≡ true
-second_on true b on = refl
-second_on false b on = on
-
-first_on : (a b : Bool) → a ≡ true → (a || b) ≡ true
-first_on true b on = refl
-first_on false b on = cc
 
 found_any : {X : Type 0} (p : X → Bool) (n : ℕ) (xs : List X) (k : ℕ) → position_from p n xs ≡ Some k → list_any p xs ≡ true
 found_any p n [] k e = cc
@@ -111,13 +100,13 @@ module _ (m : ModuleState) (o : Options) (unit : TranslationUnit) (u : IsUnitOf 
     needed : is_needed S All g.result ≡ true
     needed =
         subst (λ (k : ℕ). is_needed S All k ≡ true) (sym there.1)
-        (needed_first S (needs_constant S All) m.globals n (first_on (list_any (λ (k : ℕ). k == n) All.mentions) _ (any_in (λ (k : ℕ). k == n) All.mentions n n_in (same_test n n refl))))
+        (needed_first S (needs_constant S All) m.globals n (or_left (list_any (λ (k : ℕ). k == n) All.mentions) _ (any_in (λ (k : ℕ). k == n) All.mentions n n_in (same_test n n refl))))
 
     by_name : reading S g ≡ Named → Told
-    by_name named = inl (both_on (is_constant g) _ constant (both_on (is_named (reading S g)) _ (ap is_named named) (second_on (is_some (free_spec_id S g.result)) (is_needed S All g.result) needed)))
+    by_name named = inl (and_from (is_constant g) _ constant (and_from (is_named (reading S g)) _ (ap is_named named) (or_right (is_some (free_spec_id S g.result)) (is_needed S All g.result) needed)))
 
     plain_shape : (t : Tree) → type_tree m.globals g.ty ≡ Some t → ((k : ℕ) → has_struct k t ≡ true → ⊥) → Told
-    plain_shape t is_it none = inr (subst (λ (x : Tree). (k : ℕ) → has_struct k x ≡ true → ⊥) (same_some t v (sym is_it ∙ shaped)) none)
+    plain_shape t is_it none = inr (subst (λ (x : Tree). (k : ℕ) → has_struct k x ≡ true → ⊥) (same_Some t v (sym is_it ∙ shaped)) none)
 
     vector_free : (k : ℕ) → has_struct k (vector elem.Uint 3) ≡ true → ⊥
     vector_free k has = cc

@@ -3,6 +3,7 @@ use Rattle.std.proofs.Common.{◌≡◌, ◌==◌, ◌&&◌, ◌||◌, not, ℕ,
 use Rattle.std.specs.Prelude.{◌⊎◌, slice_get}
 use Rattle.std.specs.Option.{option_map_or}
 use Rattle.std.specs.List.{enumerate_from, list_any}
+use Rattle.std.proofs.lemmas.Bool.{or_right as second_on}
 use Rattle.spv_ops.specs.Opcode.{is}
 use Rattle.spv_ops.specs.Shape.{is_pure}
 use Rattle.spv_ops.specs.declared.Op.TheVariants as code
@@ -22,10 +23,6 @@ use Rattle.claim_law.specs.Claimed.{IsIn}
 use Rattle.claim_law.proofs.Listed.{in_flat}
 use Rattle.unit_law.specs.Mentioned.{Stands}
 use Rattle.unit_law.proofs.Lists.{same_test, other_test, test_same, split_at, numbered_first, of_numbered_first, none_passes, some_length, of_flat}
-
-second_on : (a b : Bool) → b ≡ true → (a || b) ≡ true
-second_on true b on = refl
-second_on false b on = on
 
 -- the result of an instruction, as it is planned
 abbrev pub placed : List Link → ℕ → Inst → Placed

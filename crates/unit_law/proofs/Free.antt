@@ -2,6 +2,8 @@
 use Rattle.std.proofs.Common.{◌≡◌, ◌<◌, ◌≤◌, ◌+◌, ◌&&◌, ◌||◌, ◌==◌, not, ℕ, zero, suc, Bool, true, false, List, [], ◌∷◌, ◌++◌, length, nat_le, Option, Some, None, option_map, inl, inr, refl, sym, ap, ◌∙◌, subst, arith, if◌then◌else◌}
 use Rattle.std.specs.Prelude.{◌⊎◌, flat_map, slice_index}
 use Rattle.std.specs.Option.{option_map_or}
+use Rattle.std.proofs.lemmas.Bool.{and_from, false_from_ne_true, or_right}
+use Rattle.std.proofs.lemmas.Option.{same_Some}
 use Rattle.spv_ops.specs.Opcode.{is, number}
 use Rattle.spv_ops.specs.Shape.{shape, count_of}
 use Rattle.spv_ops.specs.declared.Op.{Op}
@@ -22,7 +24,7 @@ use Rattle.profile_rules.specs.Places.{is_among}
 use Rattle.profile_rules.specs.TypeForm.{parts_of, pointees, value_types, signature_types, block_misuses, runtime_misuses}
 use Rattle.text_rules.specs.Printed.{has_struct, have_struct}
 use Rattle.typed_law.specs.Conforms.{IsConforming}
-use Rattle.typed_law.proofs.Lists.{or_left, both_on, clash, no_true, same_some, earlier_some}
+use Rattle.typed_law.proofs.Lists.{or_left, clash, earlier_some}
 use Rattle.typed_law.proofs.Rules.{used_type}
 use Rattle.typed_law.proofs.Used.{among_left}
 use Rattle.claim_law.specs.Claimed.{IsIn}
@@ -35,13 +37,9 @@ in_flat_list f [] x id there own = absurd there
 in_flat_list f (y ∷ xs) x id (inl same) own = among_left (f y) (flat_map f xs) id (subst (λ (z : Inst). is_among (f z) id ≡ true) (sym same) own)
 in_flat_list f (y ∷ xs) x id (inr there) own = later (f y) (flat_map f xs) id (in_flat_list f xs x id there own)
   where
-    second_on : (a b : Bool) → b ≡ true → (a || b) ≡ true
-    second_on true b on = refl
-    second_on false b on = on
-
     later : (ys zs : List ℕ) (k : ℕ) → is_among zs k ≡ true → is_among (ys ++ zs) k ≡ true
     later [] zs k on = on
-    later (y ∷ ys) zs k on = second_on (y == k) (is_among (ys ++ zs) k) (later ys zs k on)
+    later (y ∷ ys) zs k on = or_right (y == k) (is_among (ys ++ zs) k) (later ys zs k on)
 
 first_among : (a : ℕ) (args : List ℕ) → is_among (a ∷ args) a ≡ true
 first_among a args = ap (λ (b : Bool). b || is_among args a) (same_test a a refl)
@@ -87,7 +85,7 @@ module _ (m : ModuleState) (entry : Option (List ℕ)) (right : IsConforming m e
 
   free_struct : (g : Inst) → IsIn g m.globals → is g.op code.TypeStruct ≡ true → is_among (block_misuses m) g.result ≡ true → is_block m.heads g.result ≡ false
   free_struct g among on misused =
-      no_true (is_block m.heads g.result) (λ marked. clash (sym (both_on ((is g.op code.TypeStruct) && is_block m.heads g.result) (is_among (block_misuses m) g.result) (both_on (is g.op code.TypeStruct) (is_block m.heads g.result) on marked) misused)
+      false_from_ne_true (is_block m.heads g.result) (λ marked. clash (sym (and_from ((is g.op code.TypeStruct) && is_block m.heads g.result) (is_among (block_misuses m) g.result) (and_from (is g.op code.TypeStruct) (is_block m.heads g.result) on marked) misused)
       ∙ or_left (((is g.op code.TypeStruct) && is_block m.heads g.result) && is_among (block_misuses m) g.result) ((is g.op code.TypeRuntimeArray) && is_among (runtime_misuses m) g.result) (used_type m entry right g (as_among m.globals g among))))
 
   part_misused : (g : Inst) (p : ℕ) → IsIn g m.globals → is_among (parts_of g) p ≡ true → is_among (block_misuses m) p ≡ true
@@ -102,10 +100,6 @@ module _ (m : ModuleState) (entry : Option (List ℕ)) (right : IsConforming m e
 
     same_trees : (a b : Trees) → Some a ≡ Some b → a ≡ b
     same_trees a b e = cc
-
-    second_on : (a b : Bool) → b ≡ true → (a || b) ≡ true
-    second_on true b on = refl
-    second_on false b on = on
 
     either_free : (n : ℕ) (v : Tree) (vs : Trees) → AreFree v → AreAllFree vs → (a b : Bool) → has_struct n v ≡ a → have_struct n vs ≡ b → (a || b) ≡ true → IsFree n
     either_free n v vs one rest true b on more e = one n on
@@ -122,7 +116,7 @@ module _ (m : ModuleState) (entry : Option (List ℕ)) (right : IsConforming m e
         by_both (Some v) part None rest is later = cc
         by_both (Some v) part (Some vs) rest is later =
             subst AreAllFree (same_trees (tree v vs) ts is)
-            (λ n has. either_free n v vs (part_free id v (sub id (first_among id ids)) part) (later vs (λ p there. sub p (second_on (id == p) (is_among ids p) there)) rest) (has_struct n v) (have_struct n vs) refl refl has)
+            (λ n has. either_free n v vs (part_free id v (sub id (first_among id ids)) part) (later vs (λ p there. sub p (or_right (id == p) (is_among ids p) there)) rest) (has_struct n v) (have_struct n vs) refl refl has)
 
     least_is : (shape g.op).least ≤ 1 + count_of (has_type g.op) + count_of (has_result g.op) + length g.args
     least_is = (right.formed g (as_among m.globals g among)).least
@@ -130,11 +124,11 @@ module _ (m : ModuleState) (entry : Option (List ℕ)) (right : IsConforming m e
     array_free : (o : Option Tree) (l : Option Length) (t : Tree) → tree_before m.globals g.at (slice_index g.args 0) ≡ o → is g.op code.TypeArray ≡ true → array_tree o l ≡ Some t → AreFree t
     array_free None l t part on is = cc
     array_free (Some v) None t part on is = cc
-    array_free (Some v) (Some l) t part on is = subst AreFree (same_some (array v l) t is) (part_free (slice_index g.args 0) v (element_part g.op g.args (inl on) least_is) part)
+    array_free (Some v) (Some l) t part on is = subst AreFree (same_Some (array v l) t is) (part_free (slice_index g.args 0) v (element_part g.op g.args (inl on) least_is) part)
 
     runtime_free : (o : Option Tree) (t : Tree) → tree_before m.globals g.at (slice_index g.args 0) ≡ o → is g.op code.TypeRuntimeArray ≡ true → option_map runtime o ≡ Some t → AreFree t
     runtime_free None t part on is = cc
-    runtime_free (Some v) t part on is = subst AreFree (same_some (runtime v) t is) (part_free (slice_index g.args 0) v (element_part g.op g.args (inr on) least_is) part)
+    runtime_free (Some v) t part on is = subst AreFree (same_Some (runtime v) t is) (part_free (slice_index g.args 0) v (element_part g.op g.args (inr on) least_is) part)
 
     -- the parts of a struct, be it a block's or not
     members_free : (ts : Trees) → is g.op code.TypeStruct ≡ true → all_trees (tree_before m.globals g.at) g.args ≡ Some ts → AreAllFree ts
@@ -142,7 +136,7 @@ module _ (m : ModuleState) (entry : Option (List ℕ)) (right : IsConforming m e
 
     struct_free : (is g.op code.TypeStruct ≡ true → is_block m.heads g.result ≡ false) → (q : Option Trees) (t : Tree) → all_trees (tree_before m.globals g.at) g.args ≡ q → is g.op code.TypeStruct ≡ true → option_map (struct g.result) q ≡ Some t → AreFree t
     struct_free top None t all on is = cc
-    struct_free top (Some ts) t all on is = subst AreFree (same_some (struct g.result ts) t is) (λ n has. by_own n (g.result == n) refl has)
+    struct_free top (Some ts) t all on is = subst AreFree (same_Some (struct g.result ts) t is) (λ n has. by_own n (g.result == n) refl has)
       where
         by_own : (n : ℕ) (b : Bool) → (g.result == n) ≡ b → (b || have_struct n ts) ≡ true → IsFree n
         by_own n true same has =
@@ -155,7 +149,7 @@ module _ (m : ModuleState) (entry : Option (List ℕ)) (right : IsConforming m e
     vector_free (Some v) n t is = by_elem (elem_of v) is
       where
         by_size : (e : Elem) (a b : Bool) → (if a && b then Some (vector e n) else None) ≡ Some t → AreFree t
-        by_size e true true is = subst AreFree (same_some (vector e n) t is) (λ k has. never has)
+        by_size e true true is = subst AreFree (same_Some (vector e n) t is) (λ k has. never has)
         by_size e true false is = cc
         by_size e false b is = cc
 
@@ -164,12 +158,12 @@ module _ (m : ModuleState) (entry : Option (List ℕ)) (right : IsConforming m e
         by_elem (Some e) is = by_size e (nat_le 2 n) (nat_le n 4) is
 
     kind_free : (is g.op code.TypeStruct ≡ true → is_block m.heads g.result ≡ false) → (k : TypeKind) (t : Tree) → kind g.op ≡ k → tree_by_kind m.globals (tree_before m.globals g.at) g k ≡ Some t → AreFree t
-    kind_free top kinds.Bool t on is = subst AreFree (same_some boolean t is) (λ n has. never has)
+    kind_free top kinds.Bool t on is = subst AreFree (same_Some boolean t is) (λ n has. never has)
     kind_free top kinds.Int t on is = by_width (slice_index g.args 0 == 32) (slice_index g.args 1 == 0) (slice_index g.args 1 == 1) is
       where
         by_width : (a b c : Bool) → (if a then (if b then Some uint else (if c then Some int else None)) else None) ≡ Some t → AreFree t
-        by_width true true c is = subst AreFree (same_some uint t is) (λ n has. never has)
-        by_width true false true is = subst AreFree (same_some int t is) (λ n has. never has)
+        by_width true true c is = subst AreFree (same_Some uint t is) (λ n has. never has)
+        by_width true false true is = subst AreFree (same_Some int t is) (λ n has. never has)
         by_width true false false is = cc
         by_width false b c is = cc
     kind_free top kinds.Vector t on is = vector_free (tree_before m.globals g.at (slice_index g.args 0)) (slice_index g.args 1) t is

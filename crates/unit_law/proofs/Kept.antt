@@ -2,6 +2,7 @@
 use Rattle.std.proofs.Common.{◌≡◌, ◌+◌, ◌==◌, ◌&&◌, ◌||◌, not, ℕ, suc, Bool, true, false, List, [], ◌∷◌, drop, map, Option, Some, None, unwrap_or, inl, inr, refl, sym, ap, ◌∙◌, subst, arith, if◌then◌else◌}
 use Rattle.std.specs.Prelude.{slice_get, slice_index, slice_index_or, option_and_then}
 use Rattle.std.specs.List.{enumerate_from}
+use Rattle.std.proofs.lemmas.Bool.{and_from, not-true}
 use Rattle.spv_ops.specs.Opcode.{is, number}
 use Rattle.spv_ops.specs.OpGroups.{takes_of, group_of}
 use Rattle.spv_ops.specs.Operands.{is_id}
@@ -44,10 +45,6 @@ use Rattle.unit_law.proofs.Ways.{HaveKinds, S, F, R, V, plan_is, written_is}
 use Rattle.unit_law.proofs.Steps.{IsWritable}
 use Rattle.unit_law.proofs.Chains.{AreWritable, HasWay, place_uses}
 use Rattle.unit_law.proofs.Sets.{own_text}
-
-both_on : (a b : Bool) → a ≡ true → b ≡ true → (a && b) ≡ true
-both_on true b on e = e
-both_on false b on e = cc
 
 -- the object of a store is a value that it mentions
 store_id : (o : Op) (args : List ℕ) → is o code.Store ≡ true → is_id o args 1 ≡ true
@@ -142,7 +139,7 @@ module _ (s : Setting) (entry : Option (List ℕ)) (right : IsConforming s.of en
           held = in_filter (λ (x : ℕ × ℕ). not (is_constant_index Gs x.1)) (enumerate_from 0 (indexes i)) (j, n) (numbered_first (indexes i) j n at) (ap not off)
 
           listed : IsIn j (captured_numbers Gs p.scope.carried i)
-          listed = subst (λ (b : Bool). IsIn j (if b then map (λ (x : ℕ × ℕ). x.0) (captured_indexes Gs i) else [])) (sym (both_on (is_chain i.op) (p.scope.carried i.result) on carried_there)) (in_mapped (λ (x : ℕ × ℕ). x.0) (captured_indexes Gs i) (j, n) held)
+          listed = subst (λ (b : Bool). IsIn j (if b then map (λ (x : ℕ × ℕ). x.0) (captured_indexes Gs i) else [])) (sym (and_from (is_chain i.op) (p.scope.carried i.result) on carried_there)) (in_mapped (λ (x : ℕ × ℕ). x.0) (captured_indexes Gs i) (j, n) held)
 
       -- and elsewhere it is written so
       pub kept_writable : (printed : ℕ) → ((n : ℕ) → IsIn n (indexes i) → (is_constant_index Gs n || (block == printed)) ≡ true → UsesExpr W (index_expr Where.setting n)) → AllWritable (spot_of printed (block, i)) 0 (indexes i)
@@ -164,14 +161,10 @@ module _ (s : Setting) (entry : Option (List ℕ)) (right : IsConforming s.of en
         each kept (k ∷ ks) sub =
             let w = of_filter (λ (x : ℕ × ℕ). not (is_constant_index Gs x.1)) (enumerate_from 0 (indexes i)) k (sub k (inl refl)) in
             let at = of_numbered_first (indexes i) k.0 k.1 w.0 in
-            ((kept_text on kept k.0 k.1 at (off_of (is_constant_index Gs k.1) w.1), uses k.1 (at_place (indexes i) k.0 k.1 at)), each kept ks (λ x x_in. sub x (inr x_in)))
-          where
-            off_of : (b : Bool) → not b ≡ true → b ≡ false
-            off_of true e = cc
-            off_of false e = refl
+            ((kept_text on kept k.0 k.1 at (not-true (is_constant_index Gs k.1) w.1), uses k.1 (at_place (indexes i) k.0 k.1 at)), each kept ks (λ x x_in. sub x (inr x_in)))
 
         by_kept : (b : Bool) → Where.carried i.result ≡ b → AskKept W Found Where (IsValueIn Where Marks block) block i (captured_of Where i)
-        by_kept true kept = subst (λ (b : Bool). AskKept W Found Where (IsValueIn Where Marks block) block i (if b then captured_indexes Gs i else [])) (sym (both_on (is_chain i.op) (Where.carried i.result) on kept)) (each kept (captured_indexes Gs i) (λ x x_in. x_in))
+        by_kept true kept = subst (λ (b : Bool). AskKept W Found Where (IsValueIn Where Marks block) block i (if b then captured_indexes Gs i else [])) (sym (and_from (is_chain i.op) (Where.carried i.result) on kept)) (each kept (captured_indexes Gs i) (λ x x_in. x_in))
         by_kept false kept = subst (λ (b : Bool). AskKept W Found Where (IsValueIn Where Marks block) block i (if b then captured_indexes Gs i else [])) (sym (ap (λ (b : Bool). b && Where.carried i.result) on ∙ kept)) tt
 
     -- a store asks for its place and its object
@@ -187,8 +180,8 @@ module _ (s : Setting) (entry : Option (List ℕ)) (right : IsConforming s.of en
           there = at;
           here = here;
           live = live;
-          slot = both_on (is_id i.op i.args 1) (is_value i.op 1 && is_taken Fn Marks i 1) (store_id i.op i.args store)
-              (both_on (is_value i.op 1) (is_taken Fn Marks i 1) (store_value i.op store) (ap (λ (b : Bool). not b || is_label_reached Fn Marks (slice_index i.args 2)) (store_no_phi i.op store)));
+          slot = and_from (is_id i.op i.args 1) (is_value i.op 1 && is_taken Fn Marks i 1) (store_id i.op i.args store)
+              (and_from (is_value i.op 1) (is_taken Fn Marks i 1) (store_value i.op store) (ap (λ (b : Bool). not b || is_label_reached Fn Marks (slice_index i.args 2)) (store_no_phi i.op store)));
           word = arg;
         };
         no_phi = store_no_phi i.op store;

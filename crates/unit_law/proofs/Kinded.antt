@@ -1,7 +1,8 @@
 -- What stands outside of functions and has a type is a constant or a variable.
-use Rattle.std.proofs.Common.{◌≡◌, ◌==◌, ◌&&◌, ◌||◌, ℕ, Bool, true, false, List, Option, Some, None, unwrap_or, inl, inr, refl, sym, subst, if◌then◌else◌}
+use Rattle.std.proofs.Common.{◌≡◌, ◌==◌, ◌&&◌, ◌||◌, ℕ, Bool, true, false, List, Option, Some, None, unwrap_or, refl, sym, subst, if◌then◌else◌}
 use Rattle.std.specs.Prelude.{◌⊎◌}
 use Rattle.std.specs.Option.{option_map_or}
+use Rattle.std.proofs.lemmas.Bool.{or_cases}
 use Rattle.spv_words.specs.Words.{insts}
 use Rattle.spv_words.specs.declared.words.Inst1.{Inst1}
 use Rattle.spv_ops.specs.Groups.{is_constant}
@@ -34,10 +35,6 @@ kind_at n on typed = by_op (op_of n) on typed
     by_op None on typed = cc
     by_op (Some o) on typed = kind_typed o on typed
 
-either_of : (a b : Bool) → (a || b) ≡ true → (a ≡ true) ⊎ (b ≡ true)
-either_of true b on = inl refl
-either_of false b on = inr on
-
 -- of words that break no rule
 pub have_kinds : (ws : List ℕ) (entry : Option (List ℕ)) → BreakNone ws entry → HaveKinds (globals ws)
 have_kinds ws entry right g among some =
@@ -48,4 +45,4 @@ have_kinds ws entry right g among some =
   where
     by_kind : (x : Inst1) (b : Bool) → is_global_kind (if b then Debug else kind_of_opcode x.opcode) ≡ true → has_type (known x.opcode) ≡ true → (is_constant (known x.opcode) ≡ true) ⊎ (is (known x.opcode) code.Variable ≡ true)
     by_kind x true on typed = cc
-    by_kind x false on typed = either_of (is_constant (known x.opcode)) (is (known x.opcode) code.Variable) (kind_at x.opcode on typed)
+    by_kind x false on typed = or_cases (is_constant (known x.opcode)) (is (known x.opcode) code.Variable) (kind_at x.opcode on typed)

@@ -3,12 +3,14 @@ use Rattle.std.proofs.Common.{◌≡◌, ◌<◌, ◌+◌, ◌==◌, ℕ, zero, 
 use Rattle.std.specs.Prelude.{◌⊎◌, slice_get}
 use Rattle.std.specs.List.{enumerate_from, list_any}
 use Rattle.std.proofs.lemmas.Bool.Decides.{eqb_tells, nat_tests}
+use Rattle.std.proofs.lemmas.Bool.{false_from_ne_true}
+use Rattle.std.proofs.lemmas.Option.{same_Some}
 use Rattle.spv_module.specs.declared.inst.Id.{Id as IdOf}
 use Rattle.spv_module.specs.declared.inst.Inst.{Inst}
 use Rattle.spv_module.specs.declared.inst.Block.{Block}
 use Rattle.plan_law.specs.InOrder.{IsAmong}
 use Rattle.typed_law.specs.Conforms.{IsParameter}
-use Rattle.typed_law.proofs.Lists.{clash, no_true, same_some}
+use Rattle.typed_law.proofs.Lists.{clash}
 use Rattle.claim_law.specs.Claimed.{IsIn}
 use Rattle.claim_law.proofs.Listed.{numbered, any_in}
 
@@ -78,7 +80,7 @@ found_by test [] x is = cc
 found_by test (y ∷ xs) x is = by_test (test y) refl is (found_by test xs x)
   where
     by_test : (b : Bool) → test y ≡ b → cond b (Some y) (find test xs) ≡ Some x → (find test xs ≡ Some x → IsIn x xs × (test x ≡ true)) → IsIn x (y ∷ xs) × (test x ≡ true)
-    by_test true on is later = let same = same_some y x is in (inl same, ap test (sym same) ∙ on)
+    by_test true on is later = let same = same_Some y x is in (inl same, ap test (sym same) ∙ on)
     by_test false off is later = let w = later is in (inr w.0, w.1)
 
 pub found_some : {A : Type 0} (test : A → Bool) (xs : List A) (x : A) → IsIn x xs → test x ≡ true → is_some (find test xs) ≡ true
@@ -118,7 +120,7 @@ module _ {A : Type 0} (a b : A) where
 
 -- none passes
 pub none_passes : {A : Type 0} (test : A → Bool) (xs : List A) (x : A) → IsIn x xs → list_any test xs ≡ false → test x ≡ false
-none_passes test xs x among none = no_true (test x) (λ on. clash (sym (any_in test xs x among on) ∙ none))
+none_passes test xs x among none = false_from_ne_true (test x) (λ on. clash (sym (any_in test xs x among on) ∙ none))
 
 pub some_length : {A : Type 0} (xs : List A) (x : A) → IsIn x xs → nat_lt 0 (length xs) ≡ true
 some_length [] x among = absurd among

@@ -3,6 +3,7 @@ use Rattle.std.proofs.Common.{◌≡◌, ◌&&◌, ◌==◌, ℕ, Bool, true, fa
 use Rattle.std.specs.Prelude.{slice_index, slice_index_or}
 use Rattle.std.specs.Option.{option_map_or}
 use Rattle.std.specs.List.{list_all}
+use Rattle.std.proofs.lemmas.Option.{same_Some}
 use Rattle.spv_ops.specs.Opcode.{is, number}
 use Rattle.spv_ops.specs.OpGroups.{group_of}
 use Rattle.spv_ops.specs.declared.Op.{Op}
@@ -36,7 +37,6 @@ use Rattle.spell_law.specs.Named.{FitsShape, IsNamedType, Asks, AsksIfAny}
 use Rattle.spell_law.specs.Asked.{AreUsable, AsksOf, MeetsKind}
 use Rattle.spell_law.proofs.Values.{basic-fits}
 use Rattle.typed_law.specs.Conforms.{IsConforming}
-use Rattle.typed_law.proofs.Lists.{same_some}
 use Rattle.claim_law.specs.Claimed.{IsIn}
 use Rattle.unit_law.specs.Mentioned.{IsValueIn}
 use Rattle.unit_law.proofs.Ways.{HaveKinds, Found, F, R, V}
@@ -65,7 +65,7 @@ row_asks_none (r ∷ rows) n o all is = by_test (r.0 == n) (asks_none r.1) refl 
     by_test : (b v : Bool) → asks_none r.1 ≡ v → (v && list_all (λ (q : ℕ × Operation). asks_none q.1) rows) ≡ true → option_map (λ (q : ℕ × Operation). q.1) (cond b (Some r) (find (λ (q : ℕ × Operation). q.0 == n) rows)) ≡ Some o
         → (list_all (λ (q : ℕ × Operation). asks_none q.1) rows ≡ true → operation_in rows n ≡ Some o → asks_none o ≡ true) → asks_none o ≡ true
     by_test b false none all is later = cc
-    by_test true true none all is later = ap asks_none (sym (same_some r.1 o is)) ∙ none
+    by_test true true none all is later = ap asks_none (sym (same_Some r.1 o is)) ∙ none
     by_test false true none all is later = later all is
 
 module _ (W : Words) (names : Naming) where

@@ -3,6 +3,7 @@ use Rattle.std.proofs.Common.{◌≡◌, ◌<◌, ◌≤◌, ◌+◌, ◌==◌, 
 use Rattle.std.specs.Prelude.{◌⊎◌, slice_get, slice_index, slice_index_or, option_and_then}
 use Rattle.std.specs.List.{list_any, list_all}
 use Rattle.std.proofs.lemmas.Bool.Decides.{nat_tests}
+use Rattle.std.proofs.lemmas.Bool.{and_from, not-false}
 use Rattle.spv_ops.specs.Opcode.{is, number}
 use Rattle.spv_ops.specs.Shape.{shape, count_of}
 use Rattle.spv_ops.specs.Operands.{operands, ids_among, is_id_among, is_id}
@@ -36,7 +37,7 @@ use Rattle.block_law.specs.Ranked.{ids_by_kind, operand_ids}
 use Rattle.fits_law.specs.State.{value_shape}
 use Rattle.fits_law.specs.Typed.{HaveShapes}
 use Rattle.typed_law.specs.Conforms.{IsConforming}
-use Rattle.typed_law.proofs.Lists.{or_left, not_off, some_of}
+use Rattle.typed_law.proofs.Lists.{or_left, some_of}
 use Rattle.typed_law.proofs.Rules.{operand_there, value_right, number_right}
 use Rattle.typed_law.proofs.Values.{inside}
 use Rattle.typed_law.proofs.Operations.{Facts, given_by}
@@ -249,7 +250,7 @@ module _ (s : Setting) (entry : Option (List ℕ)) (right : IsConforming s.of en
           (o.0, operation_of_is i.op (literal_operands i.op i.args) other ∙ o.1)
       by_test true on =
           let broken : is_number_broken s.of.globals (type_in s.of.globals f) i groups.Extended ≡ false = ap (is_number_broken s.of.globals (type_in s.of.globals f) i) (sym (extended_group i.op on)) ∙ facts_of.number in
-          let known = not_off (is_extended (word i 1) (length (drop 2 i.args))) (or_left (not (is_extended (word i 1) (length (drop 2 i.args)))) (are_unlike_ints s.of.globals (type_in s.of.globals f) i.ty (drop 2 i.args)) broken) in
+          let known = not-false (is_extended (word i 1) (length (drop 2 i.args))) (or_left (not (is_extended (word i 1) (length (drop 2 i.args)))) (are_unlike_ints s.of.globals (type_in s.of.globals f) i.ty (drop 2 i.args)) broken) in
           let o = some_of (operation_in extended_opcodes (word i 1)) (extended_some extended_rows (word i 1) (length (drop 2 i.args)) rows_have known) in
           (o.0, extended_is i.op i.args on ∙ (ap (operation_in extended_opcodes) (second_word i.args) ∙ o.1))
 
@@ -280,14 +281,10 @@ module _ (s : Setting) (entry : Option (List ℕ)) (right : IsConforming s.of en
         there = at;
         here = here;
         live = live;
-        slot = both_on (is_id i.op i.args w.0) (is_value i.op w.0 && is_taken f reached i w.0) w.2 (both_on (is_value i.op w.0) (is_taken f reached i w.0) w.3 (first_off (is i.op code.Phi) (is_label_reached f reached (slice_index i.args (w.0 + 1))) (operation_no_phi id among)));
+        slot = and_from (is_id i.op i.args w.0) (is_value i.op w.0 && is_taken f reached i w.0) w.2 (and_from (is_value i.op w.0) (is_taken f reached i w.0) w.3 (first_off (is i.op code.Phi) (is_label_reached f reached (slice_index i.args (w.0 + 1))) (operation_no_phi id among)));
         word = w.1;
       }
     where
-      both_on : (a b : Bool) → a ≡ true → b ≡ true → (a && b) ≡ true
-      both_on true b on e = e
-      both_on false b on e = cc
-
       first_off : (a b : Bool) → a ≡ false → (not a || b) ≡ true
       first_off false b off = refl
       first_off true b off = cc

@@ -1,7 +1,9 @@
 -- The steps to a part of a value, by literals, are made of names of members that are claimed.
-use Rattle.std.proofs.Common.{◌≡◌, ◌&&◌, ◌||◌, ◌==◌, ℕ, zero, suc, Bool, true, false, List, [], ◌∷◌, Option, Some, None, option_map, nat_lt, nat_le, inl, refl, sym, ap, ◌∙◌, subst, if◌then◌else◌}
+use Rattle.std.proofs.Common.{◌≡◌, ◌&&◌, ◌==◌, ℕ, zero, suc, Bool, true, false, List, [], ◌∷◌, Option, Some, None, option_map, nat_lt, nat_le, inl, refl, sym, ap, ◌∙◌, subst, if◌then◌else◌}
 use Rattle.std.specs.Prelude.{slice_get, slice_index, option_and_then}
 use Rattle.std.specs.Option.{option_map_or}
+use Rattle.std.proofs.lemmas.Bool.{or_left, or_right}
+use Rattle.std.proofs.lemmas.Option.{same_Some}
 use Rattle.spv_ops.specs.Opcode.{is, number}
 use Rattle.spv_ops.specs.declared.Op.{Op}
 use Rattle.spv_ops.specs.declared.Op.TheVariants as code
@@ -37,7 +39,6 @@ use Rattle.spell_law.specs.Blocks.{FitWords}
 use Rattle.fits_law.specs.Takes.{nth_of, part_shape, shape_at}
 use Rattle.type_law.proofs.Parts.{earlier_is}
 use Rattle.typed_law.specs.Conforms.{IsConforming}
-use Rattle.typed_law.proofs.Lists.{same_some}
 use Rattle.typed_law.proofs.Used.{global_found}
 use Rattle.claim_law.specs.Claimed.{HasName}
 use Rattle.claim_law.proofs.Constants.{found_in}
@@ -60,9 +61,9 @@ no_array_struct : kinds.Array ≡ kinds.Struct → ⊥
 no_array_struct e = cc
 
 elem_is : (u : Tree) (e : Elem) → elem_of u ≡ Some e → u ≡ elem_tree e
-elem_is boolean e is = ap elem_tree (same_some elem.Bool e is)
-elem_is int e is = ap elem_tree (same_some elem.Int e is)
-elem_is uint e is = ap elem_tree (same_some elem.Uint e is)
+elem_is boolean e is = ap elem_tree (same_Some elem.Bool e is)
+elem_is int e is = ap elem_tree (same_Some elem.Int e is)
+elem_is uint e is = ap elem_tree (same_Some elem.Uint e is)
 elem_is (vector d n) e is = cc
 elem_is (array t l) e is = cc
 elem_is (runtime t) e is = cc
@@ -89,19 +90,10 @@ nth_arg f (x ∷ ids) ts k v is at = by_both (f x) refl (all_trees f ids) refl k
     by_both (Some w) one (Some us) all zero is at later = (refl, one ∙ (ap (λ t. nth_of t zero) (same_trees (tree w us) ts is) ∙ at))
     by_both (Some w) one (Some us) all (suc j) is at later = later us j v all (ap (λ t. nth_of t (suc j)) (same_trees (tree w us) ts is) ∙ at)
 
--- a struct in a part is one in the whole
-either_left : (a b : Bool) → a ≡ true → (a || b) ≡ true
-either_left true b on = refl
-either_left false b on = cc
-
-either_right : (a b : Bool) → b ≡ true → (a || b) ≡ true
-either_right true b on = refl
-either_right false b on = on
-
 pub nth_has : (ts : Trees) (k : ℕ) (v : Tree) (n : ℕ) → nth_of ts k ≡ Some v → has_struct n v ≡ true → have_struct n ts ≡ true
 nth_has no_trees k v n at has = cc
-nth_has (tree t ts) zero v n at has = either_left (has_struct n t) (have_struct n ts) (ap (has_struct n) (same_some t v at) ∙ has)
-nth_has (tree t ts) (suc k) v n at has = either_right (has_struct n t) (have_struct n ts) (nth_has ts k v n at has)
+nth_has (tree t ts) zero v n at has = or_left (has_struct n t) (have_struct n ts) (ap (has_struct n) (same_Some t v at) ∙ has)
+nth_has (tree t ts) (suc k) v n at has = or_right (has_struct n t) (have_struct n ts) (nth_has ts k v n at has)
 
 elem_none : (e : Elem) (n : ℕ) → has_struct n (elem_tree e) ≡ false
 elem_none elem.Bool n = refl
@@ -115,16 +107,16 @@ part_has uint k v n at has = cc
 part_has (vector e m) k v n at has = by_test (nat_lt k m) at
   where
     by_test : (b : Bool) → (if b then Some (elem_tree e) else None) ≡ Some v → false ≡ true
-    by_test true at = sym (elem_none e n) ∙ (ap (has_struct n) (same_some (elem_tree e) v at) ∙ has)
+    by_test true at = sym (elem_none e n) ∙ (ap (has_struct n) (same_Some (elem_tree e) v at) ∙ has)
     by_test false at = cc
 part_has (array t (Fixed m)) k v n at has = by_test (nat_lt k m) at
   where
     by_test : (b : Bool) → (if b then Some t else None) ≡ Some v → has_struct n t ≡ true
-    by_test true at = ap (has_struct n) (same_some t v at) ∙ has
+    by_test true at = ap (has_struct n) (same_Some t v at) ∙ has
     by_test false at = cc
 part_has (array t (Spec m)) k v n at has = cc
 part_has (runtime t) k v n at has = cc
-part_has (struct m ts) k v n at has = either_right (m == n) (have_struct n ts) (nth_has ts k v n at has)
+part_has (struct m ts) k v n at has = or_right (m == n) (have_struct n ts) (nth_has ts k v n at has)
 
 module _ (s : Setting) (entry : Option (List ℕ)) (right : IsConforming s.of entry) (f : Function) where
   abbrev Gs : List Inst
@@ -146,7 +138,7 @@ module _ (s : Setting) (entry : Option (List ℕ)) (right : IsConforming s.of en
   }
 
   part_by : (g : Inst) (q : TypeKind) (t : Tree) (k : ℕ) (v : Tree) → kind g.op ≡ q → tree_by_kind Gs (tree_before Gs g.at) g q ≡ Some t → part_shape t k ≡ Some v → IsPartOf g t k v
-  part_by g kinds.Bool t k v on is part = absurd (never (ap (λ x. part_shape x k) (same_some boolean t is) ∙ part))
+  part_by g kinds.Bool t k v on is part = absurd (never (ap (λ x. part_shape x k) (same_Some boolean t is) ∙ part))
     where
       never : None ≡ Some v → ⊥
       never e = cc
@@ -156,19 +148,19 @@ module _ (s : Setting) (entry : Option (List ℕ)) (right : IsConforming s.of en
       never e = cc
 
       by_width : (a b c : Bool) → (if a then (if b then Some uint else (if c then Some int else None)) else None) ≡ Some t → ⊥
-      by_width true true c is = never (ap (λ x. part_shape x k) (same_some uint t is) ∙ part)
-      by_width true false true is = never (ap (λ x. part_shape x k) (same_some int t is) ∙ part)
+      by_width true true c is = never (ap (λ x. part_shape x k) (same_Some uint t is) ∙ part)
+      by_width true false true is = never (ap (λ x. part_shape x k) (same_Some int t is) ∙ part)
       by_width true false false is = cc
       by_width false b c is = cc
   part_by g kinds.Vector t k v on is part = by_part (tree_before Gs g.at (slice_index g.args 0)) refl is
     where
       by_less : (e : Elem) (n : ℕ) (b : Bool) → (if b then Some (elem_tree e) else None) ≡ Some v → elem_tree e ≡ v
-      by_less e n true at = same_some (elem_tree e) v at
+      by_less e n true at = same_Some (elem_tree e) v at
       by_less e n false at = cc
 
       by_size : (u : Tree) → tree_before Gs g.at (slice_index g.args 0) ≡ Some u → (e : Elem) → elem_of u ≡ Some e → (n : ℕ) (a b : Bool) → (if a && b then Some (vector e n) else None) ≡ Some t → IsPartOf g t k v
       by_size u at e is_elem n true true is =
-          let same : elem_tree e ≡ v = by_less e n (nat_lt k n) (ap (λ x. part_shape x k) (same_some (vector e n) t is) ∙ part) in
+          let same : elem_tree e ≡ v = by_less e n (nat_lt k n) (ap (λ x. part_shape x k) (same_Some (vector e n) t is) ∙ part) in
           first_part g t k v (no_struct g.op kinds.Vector on no_vector_struct) (at ∙ ap (λ x. Some x) (elem_is u e is_elem ∙ same))
       by_size u at e is_elem n true false is = cc
       by_size u at e is_elem n false b is = cc
@@ -186,7 +178,7 @@ module _ (s : Setting) (entry : Option (List ℕ)) (right : IsConforming s.of en
       by_length u (Fixed n) at = by_less (nat_lt k n) at
         where
           by_less : (b : Bool) → (if b then Some u else None) ≡ Some v → u ≡ v
-          by_less true at = same_some u v at
+          by_less true at = same_Some u v at
           by_less false at = cc
       by_length u (Spec n) at = cc
 
@@ -194,7 +186,7 @@ module _ (s : Setting) (entry : Option (List ℕ)) (right : IsConforming s.of en
       by_part None at l is = cc
       by_part (Some u) at None is = cc
       by_part (Some u) at (Some l) is =
-          first_part g t k v (no_struct g.op kinds.Array on no_array_struct) (at ∙ ap (λ x. Some x) (by_length u l (ap (λ x. part_shape x k) (same_some (array u l) t is) ∙ part)))
+          first_part g t k v (no_struct g.op kinds.Array on no_array_struct) (at ∙ ap (λ x. Some x) (by_length u l (ap (λ x. part_shape x k) (same_Some (array u l) t is) ∙ part)))
   part_by g kinds.Runtime t k v on is part = absurd (by_part (tree_before Gs g.at (slice_index g.args 0)) is)
     where
       never : None ≡ Some v → ⊥
@@ -202,17 +194,17 @@ module _ (s : Setting) (entry : Option (List ℕ)) (right : IsConforming s.of en
 
       by_part : (o : Option Tree) → option_map runtime o ≡ Some t → ⊥
       by_part None is = cc
-      by_part (Some u) is = never (ap (λ x. part_shape x k) (same_some (runtime u) t is) ∙ part)
+      by_part (Some u) is = never (ap (λ x. part_shape x k) (same_Some (runtime u) t is) ∙ part)
   part_by g kinds.Struct t k v on is part = by_members (all_trees (tree_before Gs g.at) g.args) refl is
     where
       by_members : (q : Option Trees) → all_trees (tree_before Gs g.at) g.args ≡ q → option_map (struct g.result) q ≡ Some t → IsPartOf g t k v
       by_members None all is = cc
       by_members (Some ts) all is =
-          let same : struct g.result ts ≡ t = same_some (struct g.result ts) t is in
+          let same : struct g.result ts ≡ t = same_Some (struct g.result ts) t is in
           let w = nth_arg (tree_before Gs g.at) g.args ts k v all (ap (λ x. part_shape x k) same ∙ part) in
           record {
             shaped = ap (λ (b : Bool). type_tree Gs (slice_index g.args (if b then k else 0))) (struct_op g.op on) ∙ earlier_is s f g.at (slice_index g.args k) v w.1;
-            member = λ on_struct. (ap (has_struct g.result) (sym same) ∙ either_left (g.result == g.result) (have_struct g.result ts) (same_test g.result g.result refl), w.0);
+            member = λ on_struct. (ap (has_struct g.result) (sym same) ∙ or_left (g.result == g.result) (have_struct g.result ts) (same_test g.result g.result refl), w.0);
           }
   part_by g kinds.Other t k v on is part = cc
 
@@ -241,7 +233,7 @@ module _ (s : Setting) (entry : Option (List ℕ)) (right : IsConforming s.of en
             let written = has g.result w.0 in
             let own = found_in Gs ty g at in
             let same : written.ty ≡ g =
-            same_some written.ty g (sym (global_found s.of entry right written.ty (as_among Gs written.ty written.among)) ∙ (ap (global Gs) written.result ∙ global_found s.of entry right g (as_among Gs g own.0))) in
+            same_Some written.ty g (sym (global_found s.of entry right written.ty (as_among Gs written.ty written.among)) ∙ (ap (global Gs) written.result ∙ global_found s.of entry right g (as_among Gs g own.0))) in
             subst (λ (n : ℕ). HasName Found (Member (id n) k)) (written.result ∙ own.1)
             (part_named s.of o unit u written.ty k (slice_index g.args k) written.among written.is_struct written.written (subst (λ (x : Inst). slice_get x.args k ≡ Some (slice_index g.args k)) (sym same) w.1))
 

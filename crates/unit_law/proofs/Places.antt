@@ -3,6 +3,7 @@ use Rattle.std.proofs.Common.{◌≡◌, ◌+◌, ◌<◌, ◌++◌, ◌==◌, �
 use Rattle.std.specs.Prelude.{◌⊎◌, slice_get, slice_index, slice_index_or, option_and_then}
 use Rattle.std.specs.Option.{option_map_or}
 use Rattle.std.proofs.lemmas.Bool.Decides.{eqb_tells}
+use Rattle.std.proofs.lemmas.Bool.{and_from, or_right}
 use Rattle.spv_ops.specs.Opcode.{is}
 use Rattle.spv_ops.specs.Operands.{is_id}
 use Rattle.spv_ops.specs.Groups.{is_chain, is_constant}
@@ -53,14 +54,6 @@ use Rattle.unit_law.proofs.Sets.{chain_id, chain_value, chain_no_phi, index_uses
 use Rattle.unit_law.proofs.Kept.{dropped, here_writable, kept_writable}
 use Rattle.unit_law.proofs.Carried.{carried_by_use}
 use Rattle.unit_law.proofs.Bases.{base_carried, carried_at}
-
-pub both_on : (a b : Bool) → a ≡ true → b ≡ true → (a && b) ≡ true
-both_on true b on e = e
-both_on false b on e = cc
-
-pub second_on : (a b : Bool) → b ≡ true → (a || b) ≡ true
-second_on true b on = refl
-second_on false b on = on
 
 -- chains that make a pointer
 module _ (n : ℕ) where
@@ -204,8 +197,8 @@ module _ (s : Setting) (entry : Option (List ℕ)) (right : IsConforming s.of en
 
         pub value_at : (k : ℕ) → is_slot Fn Marks j k ≡ true
         value_at k =
-            both_on (is_id j.op j.args k) (is_value j.op k && is_taken Fn Marks j k) (chain_id j.op j.args k chain)
-            (both_on (is_value j.op k) (is_taken Fn Marks j k) (chain_value j.op k chain) (ap (λ (x : Bool). not x || is_label_reached Fn Marks (slice_index j.args (k + 1))) (chain_no_phi j.op chain)))
+            and_from (is_id j.op j.args k) (is_value j.op k && is_taken Fn Marks j k) (chain_id j.op j.args k chain)
+            (and_from (is_value j.op k) (is_taken Fn Marks j k) (chain_value j.op k chain) (ap (λ (x : Bool). not x || is_label_reached Fn Marks (slice_index j.args (k + 1))) (chain_no_phi j.op chain)))
 
         -- it mentions its base
         abbrev pub base_link : IsLinked Fn Marks home.0 j (base j)
@@ -214,8 +207,8 @@ module _ (s : Setting) (entry : Option (List ℕ)) (right : IsConforming s.of en
           arg = 0;
           there = place.1;
           live = live;
-          slot = both_on (slice_index_or Marks home.0 false || is_base j 0) (is_slot Fn Marks j 0)
-              (second_on (slice_index_or Marks home.0 false) (is_base j 0) (both_on (is_chain j.op) (0 == 0) chain (same_test 0 0 refl)))
+          slot = and_from (slice_index_or Marks home.0 false || is_base j 0) (is_slot Fn Marks j 0)
+              (or_right (slice_index_or Marks home.0 false) (is_base j 0) (and_from (is_chain j.op) (0 == 0) chain (same_test 0 0 refl)))
               (value_at 0);
           word = ruled.based;
         }

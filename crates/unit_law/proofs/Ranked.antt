@@ -2,6 +2,8 @@
 use Rattle.std.proofs.Common.{◌≡◌, ◌<◌, ◌≤◌, ◌+◌, ◌==◌, ◌&&◌, ◌||◌, ℕ, Bool, true, false, List, [], ◌∷◌, Option, Some, None, IfSome, IsSomeAnd, find, min, unwrap_or, nat_le, length, inl, inr, refl, sym, ap, ◌∙◌, subst, arith, if◌then◌else◌}
 use Rattle.std.specs.Option.{option_map_or}
 use Rattle.std.specs.List.{list_any}
+use Rattle.std.proofs.lemmas.Bool.{and_from, or_left, or_right}
+use Rattle.std.proofs.lemmas.Option.{same_Some}
 use Rattle.spv_ops.specs.Opcode.{is, number}
 use Rattle.spv_ops.specs.Groups.{is_atomic}
 use Rattle.spv_ops.specs.declared.Op.{Op}
@@ -20,7 +22,7 @@ use Rattle.plan_law.specs.Ordered.{NoOperand, NoneMentioned, AreOrdered, IsOpera
 use Rattle.plan_law.specs.InOrder.{AreInOrder}
 use Rattle.plan_law.proofs.Order.{found, in_order}
 use Rattle.plan_law.proofs.Heights.{forms_fall, form_low}
-use Rattle.typed_law.proofs.Lists.{same_some, some_of, clash, both_on}
+use Rattle.typed_law.proofs.Lists.{some_of, clash}
 use Rattle.claim_law.specs.Claimed.{IsIn}
 use Rattle.claim_law.proofs.Listed.{in_flat, at_place}
 use Rattle.claim_law.proofs.Constants.{found_in}
@@ -33,14 +35,6 @@ phi_named : (o : Op) → is o code.Phi ≡ true → is_named_other o ≡ true
 unfolding number
 phi_named code.Phi on = refl
 phi_named o on = cc
-
-second_on : (a b : Bool) → b ≡ true → (a || b) ≡ true
-second_on true b on = refl
-second_on false b on = on
-
-first_on : (a b : Bool) → a ≡ true → (a || b) ≡ true
-first_on true b on = refl
-first_on false b on = cc
 
 -- what a form that is forwarded says
 forwarded_by : (l n h : Bool) → (if l then (if n then (if h then Hoisted else Local) else Forwarded) else Gone) ≡ Forwarded → (l ≡ true) × (n ≡ false)
@@ -58,11 +52,11 @@ no_phi gs f k p value form = by_test (is p.op code.Phi) refl
     by_test : (b : Bool) → is p.op code.Phi ≡ b → b ≡ false
     by_test false phi = refl
     by_test true phi =
-        let always : is_always_named p.op ≡ true = second_on (is_atomic p.op) (is_named_other p.op) (phi_named p.op phi) in
-        let used : is_named_by_use gs f p ≡ true = first_on (is_always_named p.op) (nat_le 2 (length p.mentions) || list_any (wants_variable gs f p.block) p.mentions) always in
+        let always : is_always_named p.op ≡ true = or_right (is_atomic p.op) (is_named_other p.op) (phi_named p.op phi) in
+        let used : is_named_by_use gs f p ≡ true = or_left (is_always_named p.op) (nat_le 2 (length p.mentions) || list_any (wants_variable gs f p.block) p.mentions) always in
         let named : is_named gs f k p ≡ true =
-        both_on (is_value gs p.ty) (is_live p && (is_named_by_use gs f p || (own_height k p == 17))) value
-        (both_on (is_live p) (is_named_by_use gs f p || (own_height k p == 17)) parts.0 (first_on (is_named_by_use gs f p) (own_height k p == 17) used)) in
+        and_from (is_value gs p.ty) (is_live p && (is_named_by_use gs f p || (own_height k p == 17))) value
+        (and_from (is_live p) (is_named_by_use gs f p || (own_height k p == 17)) parts.0 (or_left (is_named_by_use gs f p) (own_height k p == 17) used)) in
         clash (sym named ∙ parts.1)
 
 -- mentions
@@ -168,7 +162,7 @@ module _ (m : ModuleState) (f : Function) (order : AreInOrder m f) (reached : Li
         let among : IsIn maker.inst (insts_of f) = in_flat (λ (b : Block). b.insts) f.blocks maker.holder maker.inst (at_place f.blocks maker.block maker.holder maker.there) maker.among in
         let same : maker.inst.result ≡ n = ap (λ (x : Placed). x.result) maker.is ∙ q_result in
         let at_it : inst_in f n ≡ Some maker.inst = subst (λ (k : ℕ). inst_in f k ≡ Some maker.inst) same (found maker.inst (insts_of f) order.apart (as_among (insts_of f) maker.inst among) maker.some) in
-        same_some maker.inst i (sym at_it ∙ there)
+        same_Some maker.inst i (sym at_it ∙ there)
 
     q_value : is_value m.globals Q.ty ≡ true
     q_value = ap (is_value m.globals) (sym (ap (λ (x : Placed). x.ty) maker.is) ∙ ap (λ (x : Inst). x.ty) maker_is) ∙ value
@@ -185,7 +179,7 @@ module _ (m : ModuleState) (f : Function) (order : AreInOrder m f) (reached : Li
     rank_is : rank n ≡ own_height H Q
     rank_is =
         ap (λ (o : Option Placed). option_map_or height_of o 0) first.1
-        ∙ ap (λ (b : Bool). if b then own_height H Q else 0) (both_on (is_value m.globals Q.ty) (is_forwarded (form S Q.result)) q_value (ap is_forwarded q_form))
+        ∙ ap (λ (b : Bool). if b then own_height H Q else 0) (and_from (is_value m.globals Q.ty) (is_forwarded (form S Q.result)) q_value (ap is_forwarded q_form))
 
     rank_some : 0 < rank n
     rank_some =

@@ -4,6 +4,7 @@ use Rattle.std.specs.Prelude.{flat_map, nat_le, is_some, option_and_then, slice_
 use Rattle.std.specs.Option.{option_map_or}
 use Rattle.std.specs.List.{list_any}
 use Rattle.std.proofs.lemmas.Bool.Decides.{nat_tests}
+use Rattle.std.proofs.lemmas.Bool.{not-false}
 use Rattle.spv_words.specs.declared.rule.Rule.{Rule}
 use Rattle.spv_words.specs.declared.rule.Rule.TheVariants.{T1}
 use Rattle.spv_ops.specs.Opcode.{is, number}
@@ -41,7 +42,7 @@ use Rattle.type_law.proofs.Rows.{vector_parts}
 use Rattle.type_law.proofs.Vectors.{three_off, five_off}
 use Rattle.type_law.proofs.Parts.{earlier_is, walk_leads}
 use Rattle.typed_law.specs.Conforms.{IsConforming}
-use Rattle.typed_law.proofs.Lists.{or_left, or_right, and_left, not_off, clash, none_left, none_right, none_among}
+use Rattle.typed_law.proofs.Lists.{or_left, or_right, and_left, clash, none_left, none_right, none_among}
 use Rattle.typed_law.proofs.Rules.{operand_there, value_right, number_right}
 use Rattle.typed_law.proofs.Types.{row_is}
 use Rattle.typed_law.proofs.Values.{IsRow, shape_of_row, value_type_has, global_row, inside, local_row, HasType, HasItsShape, type_row_of, one_type, same_type, none_counted, value_sized, vector_shaped, bool_shaped, int_shaped, type_suits}
@@ -277,7 +278,7 @@ module _ (s : Setting) (entry : Option (List ℕ)) (right : IsConforming s.of en
 
     by_test : (test : Inst → Bool) → ((g : Inst) → test g ≡ true → is_shapeless g.op ≡ false) → fails test Gs i.ty ≡ false → IsShaped i.ty
     by_test test shaped off =
-        let on = not_off (test row.0) (ap (λ o. option_map_or (λ (x : Inst). not (test x)) o false) (sym (row_is s.of entry right i.ty row.0 row.1 row.2)) ∙ off) in
+        let on = not-false (test row.0) (ap (λ o. option_map_or (λ (x : Inst). not (test x)) o false) (sym (row_is s.of entry right i.ty row.0 row.1 row.2)) ∙ off) in
         shape_of_row s entry right i.ty row (shaped row.0 on)
 
     by_count : (test : Inst → Bool) → ((g : Inst) → is_shapeless g.op ≡ true → test g ≡ false) → (rest : ℕ → Bool) → option_map_or (λ n. (n == 0) || rest n) (option_and_then (count_in test Gs) (type_row Gs i.ty)) false ≡ false → IsShaped i.ty
@@ -293,7 +294,7 @@ module _ (s : Setting) (entry : Option (List ℕ)) (right : IsConforming s.of en
         let parts = three_off (value_fails is_vector Gs V (word i 0)) (value_fails is_int Gs V (word i 1)) (option_map_or (differ Gs i.ty) (option_and_then (component Gs) (V (word i 0))) false) off in
         let g = type_row_of s entry right f in_it (word i 0) w.0 w.1 in
         let known = row_is s.of entry right w.0 g.0 g.1 g.2 in
-        let on : is_vector g.0 ≡ true = not_off (is_vector g.0) (ap (λ o. option_map_or (λ (x : Inst). not (is_vector x)) o false) (sym known) ∙ (ap (λ o. option_map_or (fails is_vector Gs) o false) (sym w.1) ∙ parts.0)) in
+        let on : is_vector g.0 ≡ true = not-false (is_vector g.0) (ap (λ o. option_map_or (λ (x : Inst). not (is_vector x)) o false) (sym known) ∙ (ap (λ o. option_map_or (fails is_vector Gs) o false) (sym w.1) ∙ parts.0)) in
         let t = shape_of_row s entry right w.0 g (vector_shaped g.0.op on) in
         let v = vector_parts Gs g.0 t.0 on (sym (ap (λ o. option_map_or (tree_at Gs) o None) g.1) ∙ t.1) in
         let part : type_tree Gs (word g.0 0) ≡ Some v.0 = earlier_is s f g.0.at (word g.0 0) v.0 v.2 in

@@ -5,6 +5,8 @@ use Rattle.std.specs.Option.{option_map_or, option_or}
 use Rattle.std.specs.List.{list_any, list_all, zip}
 use Rattle.std.proofs.lemmas.Bool.Decides.{nat_tests}
 use Rattle.std.proofs.lemmas.List.Elements.{Contains-append_left, Contains-append_right}
+use Rattle.std.proofs.lemmas.Bool.{false_from_ne_true, not-false}
+use Rattle.std.proofs.lemmas.Option.{same_Some}
 use Rattle.spv_words.specs.declared.rule.Rule.TheVariants.{M5}
 use Rattle.spv_ops.specs.Opcode.{is, number}
 use Rattle.spv_ops.specs.Groups.{is_constant}
@@ -45,7 +47,7 @@ use Rattle.module_semantics.specs.Setting.{Setting}
 use Rattle.fits_law.proofs.Steps.{named}
 use Rattle.type_law.proofs.Vectors.{three_off}
 use Rattle.typed_law.specs.Conforms.{IsConforming}
-use Rattle.typed_law.proofs.Lists.{same_some, and_left, and_right, and_off, not_off, clash, no_true, some_part, earlier_some, from_zero, any_at, none_at_fault}
+use Rattle.typed_law.proofs.Lists.{and_left, and_right, and_off, clash, some_part, earlier_some, from_zero, any_at, none_at_fault}
 use Rattle.typed_law.proofs.Rules.{operand_there, value_right, number_right, flow_right}
 use Rattle.typed_law.proofs.Types.{row_is}
 use Rattle.typed_law.proofs.Operations.{four_off}
@@ -171,7 +173,7 @@ module _ (s : Setting) (entry : Option (List ℕ)) (right : IsConforming s.of en
   shaped_free ty t shaped g at on = other_none Gs g t (function_kind g.op on) (sym (ap (λ q. option_map_or (tree_at Gs) q None) at) ∙ shaped)
 
   row_free : (ty : ℕ) (w : IsRow s entry right ty) → (is w.0.op code.TypeFunction ≡ true → ⊥) → NoFunction ty
-  row_free ty w off g at on = off (ap (λ (x : Inst). is x.op code.TypeFunction) (same_some w.0 g (sym w.1 ∙ at)) ∙ on)
+  row_free ty w off g at on = off (ap (λ (x : Inst). is x.op code.TypeFunction) (same_Some w.0 g (sym w.1 ∙ at)) ∙ on)
 
   -- the type of an operand, where this is known of what stands before
   operand_free : (id ty n : ℕ) → is_there_in s.of f n Value id ≡ true → V id ≡ Some ty → ((j : Inst) → IsAmong j (insts_of f) → j.at < n → (j.ty ≡ 0 → ⊥) → NoFunction j.ty) → NoFunction ty
@@ -210,7 +212,7 @@ module _ (s : Setting) (entry : Option (List ℕ)) (right : IsConforming s.of en
       by_parameter outside (Some y) lent told =
           let q = mapped_some (λ (r : IdOf × IdOf). r.1.0) (find (λ (r : IdOf × IdOf). r.0.0 == id) f.params) y lent in
           let w = found_by (λ (r : IdOf × IdOf). r.0.0 == id) f.params q.0 q.1 in
-          let same : q.0.1.0 ≡ ty = same_some q.0.1.0 y (ap (option_map (λ (r : IdOf × IdOf). r.1.0)) (sym q.1) ∙ lent) ∙ same_some y ty told in
+          let same : q.0.1.0 ≡ ty = same_Some q.0.1.0 y (ap (option_map (λ (r : IdOf × IdOf). r.1.0)) (sym q.1) ∙ lent) ∙ same_Some y ty told in
           let g = parameter_row s entry right f in_it q.0 (as_parameter q.0 f.params w.0) in
           subst NoFunction same (row_free q.0.1.0 g (by_pointer q.0 g (parameter_right s entry right f in_it q.0 (as_parameter q.0 f.params w.0)) (is g.0.op code.TypePointer) refl))
         where
@@ -235,7 +237,7 @@ module _ (s : Setting) (entry : Option (List ℕ)) (right : IsConforming s.of en
           let h = some_part typed (global Gs id) y at in
           let own = own_type_of h.0 y h.2 in
           let there = found_in Gs id h.0 h.1 in
-          subst NoFunction (own.0 ∙ same_some y ty told) (by_kind h.0 (as_among Gs h.0 there.0) own.1 (kinds_of h.0 there.0 own.1))
+          subst NoFunction (own.0 ∙ same_Some y ty told) (by_kind h.0 (as_among Gs h.0 there.0) own.1 (kinds_of h.0 there.0 own.1))
 
   -- where a chain's indexes lead is known
   step_known : (ty id : ℕ) (t : Tree) → type_tree Gs ty ≡ Some t → is_some (V id) ≡ true → (chain_step Gs V ty id ≡ Nothing) ⊎ ((c : ℕ) × (u : Tree) × (chain_step Gs V ty id ≡ Part c) × (type_tree Gs c ≡ Some u))
@@ -367,7 +369,7 @@ module _ (s : Setting) (entry : Option (List ℕ)) (right : IsConforming s.of en
         select_shaped : NoFunction i.ty → IsShaped s entry right i.ty
         select_shaped free =
             shape_of_row s entry right i.ty own_row
-            (kinds_left own_row.0.op select_void (no_pointer_at 1 second (select_no_pointer i.op (select_op i.op is_it)) (i.ty, second_is) own_row.0 own_row.1) (no_true (is own_row.0.op code.TypeFunction) (free own_row.0 own_row.1)))
+            (kinds_left own_row.0.op select_void (no_pointer_at 1 second (select_no_pointer i.op (select_op i.op is_it)) (i.ty, second_is) own_row.0 own_row.1) (false_from_ne_true (is own_row.0.op code.TypeFunction) (free own_row.0 own_row.1)))
 
       -- T12
       module _ (is_it : group_of i.op ≡ groups.CopyLogical) where
@@ -383,7 +385,7 @@ module _ (s : Setting) (entry : Option (List ℕ)) (right : IsConforming s.of en
         matches : (((from_row.0.result == i.ty) && not (is_void from_row.0)) || do_parts_match Gs (match_before Gs from_row.0.at) from_row.0 own_row.0) ≡ true
         matches =
             let off = ap (is_value_broken s.of V i) (sym is_it) ∙ value_right s.of entry right f in_it i there in
-            let on : do_match Gs from.0 i.ty ≡ true = not_off (do_match Gs from.0 i.ty) (ap (λ q. option_map_or (λ ty. not (do_match Gs ty i.ty)) q false) (sym from.1) ∙ off) in
+            let on : do_match Gs from.0 i.ty ≡ true = not-false (do_match Gs from.0 i.ty) (ap (λ q. option_map_or (λ ty. not (do_match Gs ty i.ty)) q false) (sym from.1) ∙ off) in
             ap (λ q. option_map_or (λ x. ((from_row.0.result == i.ty) && not (is_void from_row.0)) || do_parts_match Gs (match_before Gs from_row.0.at) from_row.0 x) q true) (sym (row_is s.of entry right i.ty own_row.0 own_row.1 own_row.2))
             ∙ (ap (λ q. option_map_or (λ x. match_at Gs x i.ty) q true) (sym (row_is s.of entry right from.0 from_row.0 from_row.1 from_row.2)) ∙ on)
 
@@ -394,7 +396,7 @@ module _ (s : Setting) (entry : Option (List ℕ)) (right : IsConforming s.of en
             let parts = by_match (from_row.0.result == i.ty) (is_void from_row.0) (is from_row.0.op code.TypeArray) (is own_row.0.op code.TypeArray) (is from_row.0.op code.TypeStruct) (is own_row.0.op code.TypeStruct)
             (match_before Gs from_row.0.at (word from_row.0 0) (word own_row.0 0)) (is_same_length Gs (word from_row.0 1) (word own_row.0 1)) (length from_row.0.args == length own_row.0.args) (list_all (λ (q : ℕ × ℕ). match_before Gs from_row.0.at q.0 q.1) (zip from_row.0.args own_row.0.args)) none.0 none.1 matches in
             let one : from.0 ≡ i.ty = sym (named Gs from.0 from_row.0 from_row.1) ∙ test_same from_row.0.result i.ty parts.0 in
-            (one, ap (λ (g : Inst). is g.op code.TypeVoid) (same_some own_row.0 from_row.0 (sym own_row.1 ∙ (ap (global Gs) (sym one) ∙ from_row.1))) ∙ parts.1)
+            (one, ap (λ (g : Inst). is g.op code.TypeVoid) (same_Some own_row.0 from_row.0 (sym own_row.1 ∙ (ap (global Gs) (sym one) ∙ from_row.1))) ∙ parts.1)
           where
             by_match : (a v x y z w p q k l : Bool) → y ≡ false → w ≡ false → ((a && not v) || ((x && y && p && q) || (z && w && k && l))) ≡ true → (a ≡ true) × (v ≡ false)
             by_match true false x y z w p q k l no_array no_struct e = (refl, refl)
@@ -417,7 +419,7 @@ module _ (s : Setting) (entry : Option (List ℕ)) (right : IsConforming s.of en
             by_shape true shapeless =
                 let w = same_as shapeless in
                 shape_of_row s entry right i.ty own_row
-                (kinds_left own_row.0.op w.1 (no_pointer_at 0 first (copy_no_pointer i.op (copy_op i.op is_it)) from own_row.0 (ap (global Gs) w.0 ∙ own_row.1)) (no_true (is own_row.0.op code.TypeFunction) (free w.0 own_row.0 own_row.1)))
+                (kinds_left own_row.0.op w.1 (no_pointer_at 0 first (copy_no_pointer i.op (copy_op i.op is_it)) from own_row.0 (ap (global Gs) w.0 ∙ own_row.1)) (false_from_ne_true (is own_row.0.op code.TypeFunction) (free w.0 own_row.0 own_row.1)))
 
       -- T6: a chain's type is a pointer
       pub chain_pointer : group_of i.op ≡ groups.Chain → is own_row.0.op code.TypePointer ≡ true
@@ -445,13 +447,13 @@ module _ (s : Setting) (entry : Option (List ℕ)) (right : IsConforming s.of en
           by_part : (c : ℕ) → is_other_pointer Gs i.ty (option_and_then (storage_class Gs) (V (word i 0))) c ≡ false → is own_row.0.op code.TypePointer ≡ true
           by_part c off =
               let parts = three_off (fails is_pointer Gs i.ty) (option_map_or (λ (x : ℕ). is_not x (storage_class Gs i.ty)) (option_and_then (storage_class Gs) (V (word i 0))) false) (option_map_or (differ Gs c) (pointee Gs i.ty) false) off in
-              not_off (is_pointer own_row.0) (ap (λ q. option_map_or (λ (g : Inst). not (is_pointer g)) q false) (sym (row_is s.of entry right i.ty own_row.0 own_row.1 own_row.2)) ∙ parts.0)
+              not-false (is_pointer own_row.0) (ap (λ q. option_map_or (λ (g : Inst). not (is_pointer g)) q false) (sym (row_is s.of entry right i.ty own_row.0 own_row.1 own_row.2)) ∙ parts.0)
 
       pub variable_pointer : group_of i.op ≡ groups.Variable → is own_row.0.op code.TypePointer ≡ true
       variable_pointer is_it =
           let some = typed_some s entry right f in_it i there has in
           let g = local_row s entry right f in_it i there some in
-          ap (λ (x : Inst). is x.op code.TypePointer) (same_some own_row.0 g.0 (sym own_row.1 ∙ g.1)) ∙ variable_type_is i.op g.0 (variable_op i.op is_it) g.2
+          ap (λ (x : Inst). is x.op code.TypePointer) (same_Some own_row.0 g.0 (sym own_row.1 ∙ g.1)) ∙ variable_type_is i.op g.0 (variable_op i.op is_it) g.2
 
       left_free : (g : OpGroup) → group_of i.op ≡ g → is_left g ≡ true → ((j : Inst) → IsAmong j (insts_of f) → j.at < i.at → (j.ty ≡ 0 → ⊥) → NoFunction j.ty) → NoFunction i.ty
       left_free groups.Phi is_it on known = let t = phi_shaped is_it in shaped_free i.ty t.0 t.1

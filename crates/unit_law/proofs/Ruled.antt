@@ -3,6 +3,7 @@ use Rattle.std.proofs.Common.{◌≡◌, ◌<◌, ◌≤◌, ℕ, suc, true, fal
 use Rattle.std.specs.Prelude.{◌⊎◌, option_and_then, slice_index}
 use Rattle.std.specs.Option.{option_map_or}
 use Rattle.std.specs.List.{list_any}
+use Rattle.std.proofs.lemmas.Bool.{not-false}
 use Rattle.spv_ops.specs.Opcode.{is, number}
 use Rattle.spv_ops.specs.OpGroups.{takes_of, group_of}
 use Rattle.spv_ops.specs.Operands.{is_id}
@@ -34,7 +35,7 @@ use Rattle.path_law.specs.Chains.{ChainsRise, NoneMakes}
 use Rattle.path_law.proofs.Order.{chains_rise}
 use Rattle.spell_law.specs.Uses.{UsesExpr}
 use Rattle.typed_law.specs.Conforms.{IsConforming}
-use Rattle.typed_law.proofs.Lists.{from_zero, at_least, not_off}
+use Rattle.typed_law.proofs.Lists.{from_zero, at_least}
 use Rattle.typed_law.proofs.Rules.{operand_there, value_right, number_right}
 use Rattle.typed_law.proofs.Types.{row_is, pointee_shaped}
 use Rattle.typed_law.proofs.Values.{inside, local_row, HasType, own_type, type_suits}
@@ -83,7 +84,7 @@ module _ (s : Setting) (entry : Option (List ℕ)) (right : IsConforming s.of en
       own = own_type s entry right Fn in_it i there (typed_some s entry right Fn in_it i there has);
       points = λ points. (
           let g = local_row s entry right Fn in_it i there (typed_some s entry right Fn in_it i there has) in
-          let on = not_off (is_pointer g.0) (ap (λ (q : Option Inst). option_map_or (λ (x : Inst). not (is_pointer x)) q false) (sym (row_is s.of entry right i.ty g.0 g.1 (type_suits i.op g.0 g.2))) ∙ points) in
+          let on = not-false (is_pointer g.0) (ap (λ (q : Option Inst). option_map_or (λ (x : Inst). not (is_pointer x)) q false) (sym (row_is s.of entry right i.ty g.0 g.1 (type_suits i.op g.0 g.2))) ∙ points) in
           pointee_shaped s.of entry right i.ty g.0 g.1 on
           );
     }

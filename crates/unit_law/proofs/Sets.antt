@@ -3,6 +3,7 @@ use Rattle.std.proofs.Common.{◌≡◌, ◌+◌, ◌==◌, ◌&&◌, ◌||◌, 
 use Rattle.std.specs.Prelude.{nat_le, slice_get, slice_index, slice_index_or}
 use Rattle.std.specs.Option.{option_map_or}
 use Rattle.std.proofs.lemmas.Bool.Decides.{nat_tests}
+use Rattle.std.proofs.lemmas.Bool.{and_from, or_left, or_right}
 use Rattle.spv_ops.specs.Opcode.{is, number}
 use Rattle.spv_ops.specs.OpGroups.{takes_of, group_of}
 use Rattle.spv_ops.specs.Operands.{is_id}
@@ -58,18 +59,6 @@ use Rattle.unit_law.proofs.Structs.{Written, HasNames, named_type_uses}
 use Rattle.unit_law.proofs.TypesWritten.{live_type_written}
 use Rattle.unit_law.proofs.ValueNames.{result_names}
 use Rattle.unit_law.proofs.Chains.{HasWay, place_uses}
-
-both_on : (a b : Bool) → a ≡ true → b ≡ true → (a && b) ≡ true
-both_on true b on e = e
-both_on false b on e = cc
-
-first_on : (a b : Bool) → a ≡ true → (a || b) ≡ true
-first_on true b on = refl
-first_on false b on = cc
-
-second_on : (a b : Bool) → b ≡ true → (a || b) ≡ true
-second_on true b on = refl
-second_on false b on = on
 
 -- each operand of a chain is a value that it mentions
 low_zero : (k : ℕ) → nat_le 0 k ≡ true
@@ -154,7 +143,7 @@ module _ (s : Setting) (entry : Option (List ℕ)) (right : IsConforming s.of en
 
       -- a result that gets a value asks for its type and its name
       pub set_asked : (x : Form) → Where.form i.result ≡ x → AsksSet W Found Where (IsValueIn Where Marks block) block i x
-      set_asked Local form = (named_type_uses s.of o unit u names declared lengths i.ty t shaped (names_there Local form refl), formed_text Local form (first_on (nth p.graph block).reached (is i.op code.Variable) reached))
+      set_asked Local form = (named_type_uses s.of o unit u names declared lengths i.ty t shaped (names_there Local form refl), formed_text Local form (or_left (nth p.graph block).reached (is i.op code.Variable) reached))
       set_asked Hoisted form = formed_text Hoisted form refl
       set_asked Gone form = tt
       set_asked Forwarded form = tt
@@ -172,17 +161,17 @@ module _ (s : Setting) (entry : Option (List ℕ)) (right : IsConforming s.of en
         there = at;
         here = here;
         live = live;
-        slot = both_on (is_id i.op i.args (suc k)) (is_value i.op (suc k) && is_taken Fn Marks i (suc k)) (chain_id i.op i.args (suc k) on)
-            (both_on (is_value i.op (suc k)) (is_taken Fn Marks i (suc k)) (chain_value i.op (suc k) on) (ap (λ (b : Bool). not b || is_label_reached Fn Marks (slice_index i.args (suc k + 1))) (chain_no_phi i.op on)));
+        slot = and_from (is_id i.op i.args (suc k)) (is_value i.op (suc k) && is_taken Fn Marks i (suc k)) (chain_id i.op i.args (suc k) on)
+            (and_from (is_value i.op (suc k)) (is_taken Fn Marks i (suc k)) (chain_value i.op (suc k) on) (ap (λ (b : Bool). not b || is_label_reached Fn Marks (slice_index i.args (suc k + 1))) (chain_no_phi i.op on)));
         word = arg;
       }
 
       wanted : (c : ℕ) → wants_by Gs Fn c (mention_at Fn Marks block i n mention) i ≡ true
       unfolding mention
       wanted c =
-          second_on (is_elsewhere_by Fn c (mention_at Fn Marks block i n mention) i) (is i.op code.Phi || ((is_chain i.op && not (suc k == 0)) || repeats_operands Gs Fn i))
-          (second_on (is i.op code.Phi) ((is_chain i.op && not (suc k == 0)) || repeats_operands Gs Fn i)
-          (first_on (is_chain i.op && not (suc k == 0)) (repeats_operands Gs Fn i) (both_on (is_chain i.op) (not (suc k == 0)) on (no_zero k))))
+          or_right (is_elsewhere_by Fn c (mention_at Fn Marks block i n mention) i) (is i.op code.Phi || ((is_chain i.op && not (suc k == 0)) || repeats_operands Gs Fn i))
+          (or_right (is i.op code.Phi) ((is_chain i.op && not (suc k == 0)) || repeats_operands Gs Fn i)
+          (or_left (is_chain i.op && not (suc k == 0)) (repeats_operands Gs Fn i) (and_from (is_chain i.op) (not (suc k == 0)) on (no_zero k))))
 
       -- what is no global has a variable
       index_named : (t : Tree) → type_tree Gs (type_of Where n) ≡ Some t → Where.setting.global n ≡ None → HasName Found (Id (id n)) × (Where.form n ≡ Forwarded → ⊥)

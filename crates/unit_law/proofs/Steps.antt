@@ -3,6 +3,8 @@ use Rattle.std.proofs.Common.{◌≡◌, ◌<◌, ◌==◌, ◌||◌, ℕ, zero,
 use Rattle.std.specs.Prelude.{slice_get, slice_index, option_and_then}
 use Rattle.std.specs.Option.{option_map_or}
 use Rattle.std.proofs.lemmas.Bool.Decides.{nat_tests}
+use Rattle.std.proofs.lemmas.Bool.{or_right}
+use Rattle.std.proofs.lemmas.Option.{same_Some}
 use Rattle.spv_ops.specs.Opcode.{is, number}
 use Rattle.spv_ops.specs.declared.Op.{Op}
 use Rattle.spv_ops.specs.declared.Op.TheVariants as code
@@ -45,7 +47,6 @@ use Rattle.type_law.proofs.Parts.{row, all_nth}
 use Rattle.type_law.proofs.Places.{part_leads}
 use Rattle.path_law.proofs.Types.{op_of, declared_as, is_struct_shape, struct_by, struct_number}
 use Rattle.typed_law.specs.Conforms.{IsConforming}
-use Rattle.typed_law.proofs.Lists.{same_some}
 use Rattle.typed_law.proofs.Used.{global_found}
 use Rattle.claim_law.specs.Claimed.{HasName}
 use Rattle.claim_law.proofs.Told.{named_is, axes_told}
@@ -59,7 +60,7 @@ pub elem_free : (t : Tree) (k : ℕ) (v : Tree) (n : ℕ) → element_shape t k 
 elem_free boolean k v n at has = cc
 elem_free int k v n at has = cc
 elem_free uint k v n at has = cc
-elem_free (vector e m) k v n at has = by_elem (sym (ap (has_struct n) (same_some (elem_tree e) v at)))
+elem_free (vector e m) k v n at has = by_elem (sym (ap (has_struct n) (same_Some (elem_tree e) v at)))
   where
     by_elem : has_struct n v ≡ has_struct n (elem_tree e) → has_struct n (vector e m) ≡ true
     by_elem same = never e (sym same ∙ has)
@@ -68,13 +69,9 @@ elem_free (vector e m) k v n at has = by_elem (sym (ap (has_struct n) (same_some
         never elem.Bool on = on
         never elem.Int on = on
         never elem.Uint on = on
-elem_free (array t l) k v n at has = ap (has_struct n) (same_some t v at) ∙ has
-elem_free (runtime t) k v n at has = ap (has_struct n) (same_some t v at) ∙ has
-elem_free (struct m ts) k v n at has = either_right (m == n) (have_struct n ts) (nth_has ts k v n at has)
-  where
-    either_right : (a b : Bool) → b ≡ true → (a || b) ≡ true
-    either_right true b on = refl
-    either_right false b on = on
+elem_free (array t l) k v n at has = ap (has_struct n) (same_Some t v at) ∙ has
+elem_free (runtime t) k v n at has = ap (has_struct n) (same_Some t v at) ∙ has
+elem_free (struct m ts) k v n at has = or_right (m == n) (have_struct n ts) (nth_has ts k v n at has)
 
 less_of : (a b : ℕ) → nat_lt a b ≡ true → a < b
 less_of a b e = grind (arith, nat_tests, e)
@@ -117,7 +114,7 @@ module _ (s : Setting) (entry : Option (List ℕ)) (right : IsConforming s.of en
           by_shape (struct n ts) shaped has e =
               let w = has n (ap (λ (b : Bool). b || have_struct n ts) (same_test n n refl)) in
               let ty_is : w.ty.result ≡ ty = w.result ∙ struct_number s ty n ts shaped in
-              let same : w.ty ≡ g = same_some w.ty g (sym (global_found s.of entry right w.ty (as_among Gs w.ty w.among)) ∙ (ap (global Gs) ty_is ∙ at)) in
+              let same : w.ty ≡ g = same_Some w.ty g (sym (global_found s.of entry right w.ty (as_among Gs w.ty w.among)) ∙ (ap (global Gs) ty_is ∙ at)) in
               subst (λ (q : ℕ). HasName Found (Member (id q) k)) ty_is (part_named s.of o unit u w.ty k x w.among w.is_struct w.written (subst (λ (y : Inst). slice_get y.args k ≡ Some x) (sym same) arg))
           by_shape t shaped has e = cc
 
@@ -209,7 +206,7 @@ module _ (s : Setting) (entry : Option (List ℕ)) (right : IsConforming s.of en
             let whole : type_tree Gs ty ≡ Some (struct m ts) = has.shaped ∙ ap (λ (x : Tree). Some x) shape in
             let w = (of_types Gs ty (struct m ts) whole).0 in
             let ty_is : w.ty.result ≡ ty = w.result ∙ struct_number s ty m ts whole in
-            let same : w.ty ≡ G = same_some w.ty G (sym (global_found s.of entry right w.ty (as_among Gs w.ty w.among)) ∙ (ap (global Gs) ty_is ∙ declared.1)) in
+            let same : w.ty ≡ G = same_Some w.ty G (sym (global_found s.of entry right w.ty (as_among Gs w.ty w.among)) ∙ (ap (global Gs) ty_is ∙ declared.1)) in
             subst (λ (x : Inst). all_trees (tree_before Gs x.at) x.args ≡ Some ts) same w.parts
 
         by_less : (i : ℕ) → constant_word Gs n ≡ Some i → (b : Bool) → nat_lt i (length G.args) ≡ b → chain_step Gs T ty n ≡ (if b then Part (word G i) else Nothing) → IsStep spot k ty n

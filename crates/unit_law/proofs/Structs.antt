@@ -1,8 +1,9 @@
 -- In the text of a module a struct that the type of something written has is written: so it has a name, and so have its members.
-use Rattle.std.proofs.Common.{◌≡◌, ◌==◌, ◌&&◌, ◌||◌, not, ℕ, Bool, true, false, List, Option, Some, refl, sym, ap, ◌∙◌, subst}
+use Rattle.std.proofs.Common.{◌≡◌, ◌==◌, ◌&&◌, ◌||◌, not, ℕ, true, false, List, Option, Some, refl, sym, ap, ◌∙◌, subst}
 use Rattle.std.specs.Prelude.{slice_get}
 use Rattle.std.specs.Option.{option_map_or}
 use Rattle.std.specs.List.{list_any}
+use Rattle.std.proofs.lemmas.Bool.{and_from, or_left, or_right}
 use Rattle.spv_ops.specs.Opcode.{is}
 use Rattle.spv_ops.specs.declared.Op.TheVariants as code
 use Rattle.spv_module.specs.State.{ModuleState}
@@ -26,7 +27,6 @@ use Rattle.unit_rules.specs.Translation.{Naming, id_text, names_of}
 use Rattle.unit_rules.specs.Unit.{reached_of, source_of, IsUnitOf}
 use Rattle.spell_law.specs.Uses.{Words, UsesExtent, UsesType, UsesExpr}
 use Rattle.typed_law.specs.Conforms.{IsConforming}
-use Rattle.typed_law.proofs.Lists.{both_on}
 use Rattle.claim_law.specs.Claimed.{IsIn, HasName}
 use Rattle.claim_law.proofs.Listed.{any_in}
 use Rattle.claim_law.proofs.Keys.{struct_claimed, member_claimed}
@@ -37,14 +37,6 @@ use Rattle.unit_law.specs.Words.{words_of}
 use Rattle.unit_law.proofs.Lists.{same_test}
 use Rattle.unit_law.proofs.Types.{AreNamedIn, type_uses, zero_at_uses}
 use Rattle.unit_law.proofs.Free.{AreFree}
-
-first_on : (a b : Bool) → a ≡ true → (a || b) ≡ true
-first_on true b on = refl
-first_on false b on = cc
-
-second_on : (a b : Bool) → b ≡ true → (a || b) ≡ true
-second_on true b on = refl
-second_on false b on = on
 
 module _ (m : ModuleState) (o : Options) (unit : TranslationUnit) (u : IsUnitOf m o unit) where
   abbrev S : Source
@@ -59,8 +51,8 @@ module _ (m : ModuleState) (o : Options) (unit : TranslationUnit) (u : IsUnitOf 
   -- it is written where something written has it, and is no block's
   pub struct_written : (g : Inst) (ty : ℕ) → is g.op code.TypeStruct ≡ true → is_block m.heads g.result ≡ false → IsIn ty (written_types S Written) → type_has_struct m.globals g.result ty ≡ true → is_written_struct S Written g ≡ true
   struct_written g ty struct free among has =
-      both_on (is g.op code.TypeStruct) (not (is_block m.heads g.result) && list_any (type_has_struct m.globals g.result) (written_types S Written)) struct
-      (both_on (not (is_block m.heads g.result)) (list_any (type_has_struct m.globals g.result) (written_types S Written)) (ap not free) (any_in (type_has_struct m.globals g.result) (written_types S Written) ty among has))
+      and_from (is g.op code.TypeStruct) (not (is_block m.heads g.result) && list_any (type_has_struct m.globals g.result) (written_types S Written)) struct
+      (and_from (not (is_block m.heads g.result)) (list_any (type_has_struct m.globals g.result) (written_types S Written)) (ap not free) (any_in (type_has_struct m.globals g.result) (written_types S Written) ty among has))
 
   pub struct_named : (g : Inst) → IsIn g m.globals → is g.op code.TypeStruct ≡ true → is_written_struct S Written g ≡ true → HasName Found (Id (id g.result))
   struct_named g among struct written = has_name_of m o unit u (Id (id g.result)) (struct_claimed S Written (Plans m o unit u) g among struct written)
@@ -70,14 +62,14 @@ module _ (m : ModuleState) (o : Options) (unit : TranslationUnit) (u : IsUnitOf 
   member_named g k ty among struct written at = has_name_of m o unit u (Member (id g.result) k) (member_claimed S Written (Plans m o unit u) g k ty among struct written at)
 
   pub part_named : (g : Inst) (k ty : ℕ) → IsIn g m.globals → is g.op code.TypeStruct ≡ true → is_written_struct S Written g ≡ true → slice_get g.args k ≡ Some ty → HasName Found (Member (id g.result) k)
-  part_named g k ty among struct written at = member_named g k ty among struct (first_on (is_written_struct S Written g) (is_written_block S Written g.result) written) at
+  part_named g k ty among struct written at = member_named g k ty among struct (or_left (is_written_struct S Written g) (is_written_block S Written g.result) written) at
 
   pub block_member_named : (v g : Inst) (k ty : ℕ) → IsIn v m.globals → is_written_variable Written v ≡ true → block_of m.globals v ≡ Some g → IsIn g m.globals → is g.op code.TypeStruct ≡ true → slice_get g.args k ≡ Some ty → HasName Found (Member (id g.result) k)
   block_member_named v g k ty there written block among struct at =
       member_named g k ty among struct
-      (second_on (is_written_struct S Written g) (is_written_block S Written g.result)
+      (or_right (is_written_struct S Written g) (is_written_block S Written g.result)
       (any_in (λ (x : Inst). is_written_variable Written x && has_block S g.result x) m.globals v there
-      (both_on (is_written_variable Written v) (has_block S g.result v) written
+      (and_from (is_written_variable Written v) (has_block S g.result v) written
       (ap (λ (q : Option Inst). option_map_or (λ (h : Inst). h.result == g.result) q false) block ∙ same_test g.result g.result refl))))
       at
 

@@ -3,6 +3,8 @@ use Rattle.std.proofs.Common.{◌≡◌, ◌<◌, ◌&&◌, ◌==◌, ◌||◌, 
 use Rattle.std.specs.Prelude.{slice_index}
 use Rattle.std.specs.Option.{option_map_or}
 use Rattle.std.proofs.lemmas.Bool.Decides.{nat_tests}
+use Rattle.std.proofs.lemmas.Bool.{or_left, or_right}
+use Rattle.std.proofs.lemmas.Option.{same_Some}
 use Rattle.spv_ops.specs.Opcode.{is, number}
 use Rattle.spv_ops.specs.declared.Op.{Op}
 use Rattle.spv_ops.specs.declared.Op.TheVariants as code
@@ -26,7 +28,7 @@ use Rattle.text_rules.specs.Printed.{has_struct, have_struct}
 use Rattle.text_rules.specs.Types.{Spelling, vector_base, with_extent, type_text, zero_elem, times, zero_text, zero_texts}
 use Rattle.spell_law.specs.Uses.{Words, UsesExtent, UsesBase, UsesType, UsesExpr, UseExprs}
 use Rattle.global_law.proofs.Declared.{outline_same}
-use Rattle.typed_law.proofs.Lists.{same_some, earlier_some}
+use Rattle.typed_law.proofs.Lists.{earlier_some}
 use Rattle.claim_law.specs.Claimed.{IsIn}
 use Rattle.claim_law.proofs.Constants.{found_in}
 use Rattle.unit_law.specs.Types.{IsLengthOf, IsOfTypes, AreOfTypes}
@@ -46,7 +48,7 @@ struct_op o e = cc
 module _ (gs : List Inst) where
   module _ (g : Inst) (among : IsIn g gs) (parts : (p : ℕ) (u : Tree) → tree_before gs g.at p ≡ Some u → IsOfTypes gs u) where
     sized_of : (n : ℕ) (e : Elem) (a b : Bool) (t : Tree) → nat_le 2 n ≡ a → nat_le n 4 ≡ b → (if a && b then Some (vector e n) else None) ≡ Some t → IsOfTypes gs t
-    sized_of n e true true t low high is = subst (IsOfTypes gs) (same_some (vector e n) t is) (grind (arith, nat_tests, low, high), grind (arith, nat_tests, low, high))
+    sized_of n e true true t low high is = subst (IsOfTypes gs) (same_Some (vector e n) t is) (grind (arith, nat_tests, low, high), grind (arith, nat_tests, low, high))
     sized_of n e true false t low high is = cc
     sized_of n e false b t low high is = cc
 
@@ -61,11 +63,11 @@ module _ (gs : List Inst) where
     array_of : (o : Option Tree) (l : Option Length) (t : Tree) → tree_before gs g.at (slice_index g.args 0) ≡ o → length_by (slice_index g.args 1) (global gs (slice_index g.args 1)) ≡ l → is g.op code.TypeArray ≡ true → array_tree o l ≡ Some t → IsOfTypes gs t
     array_of None l t part long on is = cc
     array_of (Some v) None t part long on is = cc
-    array_of (Some v) (Some l) t part long on is = subst (IsOfTypes gs) (same_some (array v l) t is) (record { ty = g; among = among; is_array = on; length = long }, parts (slice_index g.args 0) v part)
+    array_of (Some v) (Some l) t part long on is = subst (IsOfTypes gs) (same_Some (array v l) t is) (record { ty = g; among = among; is_array = on; length = long }, parts (slice_index g.args 0) v part)
 
     runtime_of : (o : Option Tree) (t : Tree) → tree_before gs g.at (slice_index g.args 0) ≡ o → option_map runtime o ≡ Some t → IsOfTypes gs t
     runtime_of None t part is = cc
-    runtime_of (Some v) t part is = subst (IsOfTypes gs) (same_some (runtime v) t is) (parts (slice_index g.args 0) v part)
+    runtime_of (Some v) t part is = subst (IsOfTypes gs) (same_Some (runtime v) t is) (parts (slice_index g.args 0) v part)
 
     same_trees : (a b : Trees) → Some a ≡ Some b → a ≡ b
     same_trees a b e = cc
@@ -81,15 +83,15 @@ module _ (gs : List Inst) where
 
     struct_of : (q : Option Trees) (t : Tree) → all_trees (tree_before gs g.at) g.args ≡ q → is g.op code.TypeStruct ≡ true → option_map (struct g.result) q ≡ Some t → IsOfTypes gs t
     struct_of None t all on is = cc
-    struct_of (Some ts) t all on is = subst (IsOfTypes gs) (same_some (struct g.result ts) t is) (record { ty = g; among = among; is_struct = on; result = refl; parts = all }, all_of g.args ts all)
+    struct_of (Some ts) t all on is = subst (IsOfTypes gs) (same_Some (struct g.result ts) t is) (record { ty = g; among = among; is_struct = on; result = refl; parts = all }, all_of g.args ts all)
 
     kind_of_types : (k : TypeKind) (t : Tree) → kind g.op ≡ k → tree_by_kind gs (tree_before gs g.at) g k ≡ Some t → IsOfTypes gs t
-    kind_of_types kinds.Bool t on is = subst (IsOfTypes gs) (same_some boolean t is) tt
+    kind_of_types kinds.Bool t on is = subst (IsOfTypes gs) (same_Some boolean t is) tt
     kind_of_types kinds.Int t on is = by_width (slice_index g.args 0 == 32) (slice_index g.args 1 == 0) (slice_index g.args 1 == 1) is
       where
         by_width : (a b c : Bool) → (if a then (if b then Some uint else (if c then Some int else None)) else None) ≡ Some t → IsOfTypes gs t
-        by_width true true c is = subst (IsOfTypes gs) (same_some uint t is) tt
-        by_width true false true is = subst (IsOfTypes gs) (same_some int t is) tt
+        by_width true true c is = subst (IsOfTypes gs) (same_Some uint t is) tt
+        by_width true false true is = subst (IsOfTypes gs) (same_Some int t is) tt
         by_width true false false is = cc
         by_width false b c is = cc
     kind_of_types kinds.Vector t on is = vector_of (tree_before gs g.at (slice_index g.args 0)) (slice_index g.args 1) t is
@@ -160,14 +162,6 @@ module _ (W : Words) (gs : List Inst) (s : Source) (ids : ℕ → Text) (lengths
   elem_uses elem.Int = omega arith
   elem_uses elem.Uint = omega arith
 
-  either_left : (a b : Bool) → a ≡ true → (a || b) ≡ true
-  either_left true b on = refl
-  either_left false b on = cc
-
-  either_right : (a b : Bool) → b ≡ true → (a || b) ≡ true
-  either_right true b on = refl
-  either_right false b on = on
-
   mutual
     pub zero_uses : (t : Tree) → IsOfTypes gs t → AreNamedIn t → UsesExpr W (zero_text Spelled t)
     zero_uses boolean of_it named = tt
@@ -177,11 +171,11 @@ module _ (W : Words) (gs : List Inst) (s : Source) (ids : ℕ → Text) (lengths
     zero_uses (array t (Fixed n)) of_it named = (shape_uses (array t (Fixed n)) of_it named, times_use n (zero_text Spelled t) (zero_uses t of_it.1 named))
     zero_uses (array t (Spec id)) of_it named = (shape_uses (array t (Spec id)) of_it named, tt)
     zero_uses (runtime t) of_it named = (shape_uses (runtime t) of_it named, tt)
-    zero_uses (struct n ts) of_it named = (shape_uses (struct n ts) of_it named, zeros_use ts of_it.1 (λ k has. named k (either_right (n == k) (have_struct k ts) has)))
+    zero_uses (struct n ts) of_it named = (shape_uses (struct n ts) of_it named, zeros_use ts of_it.1 (λ k has. named k (or_right (n == k) (have_struct k ts) has)))
 
     zeros_use : (ts : Trees) → AreOfTypes gs ts → AreNamedInAll ts → UseExprs W (zero_texts Spelled ts)
     zeros_use no_trees of_it named = tt
-    zeros_use (tree t ts) of_it named = (zero_uses t of_it.0 (λ k has. named k (either_left (has_struct k t) (have_struct k ts) has)), zeros_use ts of_it.1 (λ k has. named k (either_right (has_struct k t) (have_struct k ts) has)))
+    zeros_use (tree t ts) of_it named = (zero_uses t of_it.0 (λ k has. named k (or_left (has_struct k t) (have_struct k ts) has)), zeros_use ts of_it.1 (λ k has. named k (or_right (has_struct k t) (have_struct k ts) has)))
 
   -- of a type by its id
   module _ (same : s.of.globals ≡ gs) (names : Names) (named_ids : names.id ≡ ids) (ty : ℕ) (t : Tree) (shaped : type_tree gs ty ≡ Some t) (named : AreNamedIn t) where

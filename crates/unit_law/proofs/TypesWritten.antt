@@ -2,6 +2,7 @@
 use Rattle.std.proofs.Common.{◌≡◌, ◌&&◌, ◌||◌, ℕ, Bool, true, false, List, [], ◌∷◌, ◌++◌, map, filter, flat_map, inl, inr, refl, sym, ap, ◌∙◌, subst, if◌then◌else◌}
 use Rattle.std.specs.Prelude.{slice_index_or}
 use Rattle.std.specs.List.{enumerate_from}
+use Rattle.std.proofs.lemmas.Bool.{or_right}
 use Rattle.spv_ops.specs.Shape.{is_pure}
 use Rattle.spv_module.specs.State.{ModuleState}
 use Rattle.spv_module.specs.declared.inst.Id.{Id as IdOf}
@@ -30,10 +31,6 @@ kept_live form i kept = by_pure (is_pure i.op) (is_gone (form i.result)) kept
     by_pure true false off = refl
     by_pure true true off = cc
     by_pure false b off = refl
-
-second_on : (a b : Bool) → b ≡ true → (a || b) ≡ true
-second_on true b on = refl
-second_on false b on = on
 
 module _ (m : ModuleState) (o : Options) (unit : TranslationUnit) (u : IsUnitOf m o unit) where
   abbrev S : Source
@@ -84,7 +81,7 @@ module _ (m : ModuleState) (o : Options) (unit : TranslationUnit) (u : IsUnitOf 
     top_type_written i of_it top composite = by_here (slice_index_or (liveness_of S p).reached of_it.number false) refl
       where
         wanted : is_wanted m.globals p.scope.form p.scope.carried i ≡ true
-        wanted = second_on (is_captured p.scope.carried i) (is_hoisted (p.scope.form i.result) && is_composite m.globals i.ty) (ap (λ (x : Form). is_hoisted x && is_composite m.globals i.ty) top ∙ composite)
+        wanted = or_right (is_captured p.scope.carried i) (is_hoisted (p.scope.form i.result) && is_composite m.globals i.ty) (ap (λ (x : Form). is_hoisted x && is_composite m.globals i.ty) top ∙ composite)
 
         by_here : (b : Bool) → slice_index_or (liveness_of S p).reached of_it.number false ≡ b → IsIn i.ty Types
         by_here true here = live_type_written i of_it here (ap is_gone top)

@@ -1,6 +1,7 @@
 -- The values of a block are usable: each is read as a global, has a name, or is written as an operation on usable values that are lower.
 use Rattle.std.proofs.Common.{◌≡◌, ℕ, Bool, true, false, List, [], ◌∷◌, Option, Some, inl, inr, refl, sym, ◌∙◌, subst}
 use Rattle.std.specs.Prelude.{◌⊎◌, slice_index_or}
+use Rattle.std.proofs.lemmas.Option.{same_Some}
 use Rattle.spv_ops.specs.Opcode.{is, number}
 use Rattle.spv_ops.specs.OpGroups.{group_of}
 use Rattle.spv_ops.specs.declared.Op.{Op}
@@ -24,7 +25,6 @@ use Rattle.unit_rules.specs.Unit.{IsUnitOf}
 use Rattle.block_law.specs.Ranked.{operand_ids, AreBelow, IsForwardedBy}
 use Rattle.spell_law.specs.Asked.{AreRanked}
 use Rattle.typed_law.specs.Conforms.{IsConforming}
-use Rattle.typed_law.proofs.Lists.{same_some}
 use Rattle.claim_law.specs.Claimed.{IsIn, HasName}
 use Rattle.claim_law.proofs.Constants.{found_in}
 use Rattle.unit_law.specs.Mentioned.{IsMentioned, IsValueIn}
@@ -89,7 +89,7 @@ module _ (s : Setting) (entry : Option (List ℕ)) (right : IsConforming s.of en
         by_way : (HasName (Found s entry right kinds o unit u p among) (Id (id n)) × (Where.form n ≡ Forwarded → ⊥)) ⊎ ((j : Inst) × ((inst_in Fn n ≡ Some j) × (Where.form n ≡ Forwarded) × ((k : ℕ) × (inst_at Fn block k ≡ Some j) × IsLive Fn Marks block k) × (type_tree s.of.globals j.ty ≡ Some v.shape))) → AreBelow Ranks (Ranks n) (operand_ids i)
         by_way (inl named) = absurd (named.1 by.form)
         by_way (inr w) =
-            let same : w.0 ≡ i = same_some w.0 i (sym w.1.0 ∙ by.there) in
+            let same : w.0 ≡ i = same_Some w.0 i (sym w.1.0 ∙ by.there) in
             subst (λ (j : Inst). AreBelow Ranks (Ranks n) (operand_ids j)) same
             (operands_fall block w.1.2.0 w.0 w.1.2.1 (found_in (insts_of Fn) n w.0 w.1.0).0 v.mentioned.here w.1.2.2 v.shape w.1.3 n w.1.0 w.1.1 (operand_ids w.0) (λ k k_in. k_in))
 

@@ -3,6 +3,7 @@ use Rattle.std.proofs.Common.{◌≡◌, ◌||◌, ◌==◌, not, ℕ, Bool, tru
 use Rattle.std.specs.Prelude.{slice_index, option_and_then}
 use Rattle.std.specs.List.{cons_option}
 use Rattle.std.specs.Option.{option_map_or}
+use Rattle.std.proofs.lemmas.Bool.{or_right}
 use Rattle.spv_ops.specs.Opcode.{is}
 use Rattle.spv_ops.specs.declared.Op.TheVariants as code
 use Rattle.spv_module.specs.Held.{global}
@@ -55,13 +56,9 @@ value_type_in (j ∷ is) i (inl same) off = subst (λ (x : Inst). is_among (filt
     by_test false e = ap (λ (b : Bool). b || is_among (filter_map value_type is) i.ty) (same_test i.ty i.ty refl)
 value_type_in (j ∷ is) i (inr there) off = by_option (value_type j) (value_type_in is i there off)
   where
-    second_on : (a b : Bool) → b ≡ true → (a || b) ≡ true
-    second_on true b on = refl
-    second_on false b on = on
-
     by_option : (o : Option ℕ) → is_among (filter_map value_type is) i.ty ≡ true → is_among (cons_option o (filter_map value_type is)) i.ty ≡ true
     by_option None e = e
-    by_option (Some x) e = second_on (x == i.ty) (is_among (filter_map value_type is) i.ty) e
+    by_option (Some x) e = or_right (x == i.ty) (is_among (filter_map value_type is) i.ty) e
 
 module _ (s : Setting) (entry : Option (List ℕ)) (right : IsConforming s.of entry) (kinds : HaveKinds s.of.globals) (o : Options) (unit : TranslationUnit) (u : IsUnitOf s.of o unit) (p : FunctionPlan) (among : IsIn p u.plans) where
   abbrev Fn : Function

@@ -1,8 +1,10 @@
 -- A value of a block, if it is no global: it has a name, or it is the result of a live instruction of the block that stands in expressions there.
-use Rattle.std.proofs.Common.{◌≡◌, ◌==◌, ◌||◌, ℕ, zero, suc, Bool, true, false, List, [], ◌∷◌, map, Option, Some, None, Contains, unwrap_or, inl, inr, refl, sym, ap, ◌∙◌, subst, if◌then◌else◌}
+use Rattle.std.proofs.Common.{◌≡◌, ◌==◌, ℕ, zero, suc, Bool, true, false, List, [], ◌∷◌, map, Option, Some, None, Contains, unwrap_or, inl, inr, refl, sym, ap, ◌∙◌, subst, if◌then◌else◌}
 use Rattle.std.specs.Prelude.{◌⊎◌, find, slice_get, slice_index_or, option_and_then, option_map}
 use Rattle.std.specs.Option.{option_map_or, option_or}
 use Rattle.std.specs.List.{AllZip}
+use Rattle.std.proofs.lemmas.Bool.{or_left}
+use Rattle.std.proofs.lemmas.Option.{none-some, same_Some}
 use Rattle.spv_ops.specs.Opcode.{is}
 use Rattle.spv_ops.specs.Groups.{is_constant as is_constant_op}
 use Rattle.spv_ops.specs.declared.Op.TheVariants as code
@@ -37,7 +39,7 @@ use Rattle.plan_law.specs.InOrder.{AreInOrder}
 use Rattle.plan_law.specs.Ordered.{AreOrdered}
 use Rattle.plan_law.proofs.Order.{in_order}
 use Rattle.typed_law.specs.Conforms.{IsConforming}
-use Rattle.typed_law.proofs.Lists.{same_some, some_part, clash}
+use Rattle.typed_law.proofs.Lists.{some_part, clash}
 use Rattle.typed_law.proofs.Values.{typed_result, has_a_type, variable_type_is, global_row, inside}
 use Rattle.claim_law.specs.Claimed.{IsIn, HasName}
 use Rattle.claim_law.proofs.Listed.{in_flat, at_place}
@@ -70,20 +72,13 @@ own_type_of i ty is = by_test (i.ty == 0) refl is
   where
     by_test : (b : Bool) → (i.ty == 0) ≡ b → (if b then None else Some i.ty) ≡ Some ty → (i.ty ≡ ty) × (i.ty ≡ 0 → ⊥)
     by_test true zero_is is = cc
-    by_test false some is = (same_some i.ty ty is, λ lacks. clash (sym (same_test i.ty 0 lacks) ∙ some))
-
-first_on : (a b : Bool) → a ≡ true → (a || b) ≡ true
-first_on true b on = refl
-first_on false b on = cc
+    by_test false some is = (same_Some i.ty ty is, λ lacks. clash (sym (same_test i.ty 0 lacks) ∙ some))
 
 no_hoisted : Hoisted ≡ Forwarded → ⊥
 no_hoisted e = cc
 
 no_local : Local ≡ Forwarded → ⊥
 no_local e = cc
-
-no_some : {A : Type 0} (a : A) → None ≡ Some a → ⊥
-no_some a e = cc
 
 pub mapped_some : {A B : Type 0} (f : A → B) (x : Option A) (b : B) → option_map f x ≡ Some b → (a : A) × (x ≡ Some a)
 mapped_some f None b e = cc
@@ -190,7 +185,7 @@ module _ (s : Setting) (entry : Option (List ℕ)) (right : IsConforming s.of en
         (k.0, subst (λ (c : ℕ). inst_at F c k.0 ≡ Some j) same k.1, subst (λ (c : ℕ). IsLive F R c k.0) same (maker_live F R block i n m home.0 k.0 j k.1 result.1))
 
     by_own : (V.form n ≡ Local) ⊎ (V.form n ≡ Forwarded) → home.0 ≡ b → Way b n j
-    by_own (inl local) same = inl (named_by Local local (first_on (nth p.graph home.0).reached (is j.op code.Variable) (reached_here same)), λ forwarded. no_local (sym local ∙ forwarded))
+    by_own (inl local) same = inl (named_by Local local (or_left (nth p.graph home.0).reached (is j.op code.Variable) (reached_here same)), λ forwarded. no_local (sym local ∙ forwarded))
     by_own (inr forwarded) same = inr (forwarded, live_here same)
 
     by_stands : Stands (V.form n) home.0 b → Way b n j
@@ -215,7 +210,7 @@ module _ (s : Setting) (entry : Option (List ℕ)) (right : IsConforming s.of en
         by_way (inr own) = by_form own.0 own.1
           where
             by_form : (V.form n ≡ Local) ⊎ (V.form n ≡ Forwarded) → home.0 ≡ b → HasName Found (Id (id n))
-            by_form (inl local) same = named_by Local local (first_on (nth p.graph home.0).reached (is j.op code.Variable) (reached_here same))
+            by_form (inl local) same = named_by Local local (or_left (nth p.graph home.0).reached (is j.op code.Variable) (reached_here same))
             by_form (inr forwarded) same = absurd (result_apart wants forwarded)
 
   abbrev Gs : List Inst
@@ -260,7 +255,7 @@ module _ (s : Setting) (entry : Option (List ℕ)) (right : IsConforming s.of en
             let j_in : IsIn by.inst (insts_of F) = in_flat (λ (b : Block). b.insts) F.blocks by.holder by.inst (at_place F.blocks by.block by.holder by.there) by.among in
             let own = (ordered.own by.inst (as_among (insts_of F) by.inst j_in) by.some).made in
             let result_is : by.inst.result ≡ n = ap (λ (x : Placed). x.result) by.is ∙ w.2 in
-            no_some y (sym own ∙ (ap (parameter_in F) result_is ∙ made))
+            none-some y (sym own ∙ (ap (parameter_in F) result_is ∙ made))
 
     by_local : (x : Option ℕ) → parameter_in F n ≡ x → (ty : ℕ) → type_tree Gs ty ≡ Some t → option_or x (option_and_then typed (inst_in F n)) ≡ Some ty → IsMadeSo
     by_local None made ty shaped is = by_inst ty shaped is
@@ -283,10 +278,10 @@ module _ (s : Setting) (entry : Option (List ℕ)) (right : IsConforming s.of en
         let g = some_part typed (global Gs n) y at in
         let own = own_type_of g.0 y g.2 in
         let there = found_in Gs n g.0 g.1 in
-        absurd (never_global g.0 there.0 g.1 own.1 (ap (type_tree Gs) (own.0 ∙ same_some y ty is) ∙ shaped) (kinds g.0 there.0 own.1))
+        absurd (never_global g.0 there.0 g.1 own.1 (ap (type_tree Gs) (own.0 ∙ same_Some y ty is) ∙ shaped) (kinds g.0 there.0 own.1))
 
     by_type : (x : Option ℕ) → type_in Gs F n ≡ x → type_tree Gs (unwrap_or x 0) ≡ Some t → IsMadeSo
-    by_type None is shaped = absurd (no_some t (sym (ap (λ x. option_map_or (tree_at Gs) x None) right.results.none) ∙ shaped))
+    by_type None is shaped = absurd (none-some t (sym (ap (λ x. option_map_or (tree_at Gs) x None) right.results.none) ∙ shaped))
     by_type (Some ty) is shaped = by_global (global_type Gs n) refl ty shaped is
 
     pub maker : IsMadeSo

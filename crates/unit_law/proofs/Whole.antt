@@ -3,6 +3,7 @@ use Rattle.std.proofs.Common.{◌≡◌, ◌<◌, ◌≤◌, ◌==◌, ◌&&◌,
 use Rattle.std.specs.Prelude.{slice_get, slice_index}
 use Rattle.std.specs.Option.{option_map_or}
 use Rattle.std.specs.List.{list_any, concat, range_with_len, zip}
+use Rattle.std.proofs.lemmas.Bool.{and_from, or_left, or_right}
 use Rattle.spv_ops.specs.Opcode.{is}
 use Rattle.spv_ops.specs.declared.Op.TheVariants as code
 use Rattle.spv_module.specs.declared.inst.Inst.{Inst}
@@ -30,7 +31,6 @@ use Rattle.function_plan.specs.Orders.{order_of, order_by}
 use Rattle.region_law.specs.Leads.{In}
 use Rattle.tree_law.proofs.SwitchOrder.{in_list, list_in, in_range, order_is}
 use Rattle.spell_law.specs.Blocks.{IsTarget, HasLabel, FitWords, IsHereAt, IsEntered, GoesOn, IsWhole, IsWholeItem, AreWhole}
-use Rattle.typed_law.proofs.Lists.{both_on}
 use Rattle.unit_law.specs.Switches.{IsSwitchAt, IsReached, Chooses, Leads, by_condition, by_selector}
 use Rattle.unit_law.proofs.Lists.{same_test}
 
@@ -96,16 +96,8 @@ module _ (f : Function) (sound : IsSound (graph f)) (switches : (h : ℕ) → (n
   -- edges lead to reached blocks
   leads_at : (ts : List ℕ) (k t : ℕ) → slice_get ts k ≡ Some t → list_any (λ (x : ℕ). x == t) ts ≡ true
   leads_at [] k t at = cc
-  leads_at (x ∷ ts) zero t at = let same : x ≡ t = cc in first_on (x == t) (list_any (λ (y : ℕ). y == t) ts) (same_test x t same)
-    where
-      first_on : (a b : Bool) → a ≡ true → (a || b) ≡ true
-      first_on true b on = refl
-      first_on false b on = cc
-  leads_at (x ∷ ts) (suc k) t at = second_on (x == t) (list_any (λ (y : ℕ). y == t) ts) (leads_at ts k t at)
-    where
-      second_on : (a b : Bool) → b ≡ true → (a || b) ≡ true
-      second_on true b on = refl
-      second_on false b on = on
+  leads_at (x ∷ ts) zero t at = let same : x ≡ t = cc in or_left (x == t) (list_any (λ (y : ℕ). y == t) ts) (same_test x t same)
+  leads_at (x ∷ ts) (suc k) t at = or_right (x == t) (list_any (λ (y : ℕ). y == t) ts) (leads_at ts k t at)
 
   carried_next : (b t : ℕ) (n : Next) → Here b → leads_to t (nth g b) ≡ true → Carries g b t n → IsReachedNext n
   carried_next b t (At (Block u)) here leads c = subst Here (sym c.0) (sound.reached b t here leads)
@@ -237,7 +229,7 @@ module _ (f : Function) (sound : IsSound (graph f)) (switches : (h : ℕ) → (n
     -- the order in which the groups are written has a first
     order_chains : w.order h ≡ concat (chains_of g h) ++ filter (λ t. not (list_any (λ u. u == t) (concat (chains_of g h)))) (switch_targets g h)
     order_chains =
-        written h ∙ ap (λ (b : Bool). if b then order_of g h else []) (both_on (nth g h).reached (orders.is_switch (nth g h).exit) here (same_switch (nth g h).exit ∙ on))
+        written h ∙ ap (λ (b : Bool). if b then order_of g h else []) (and_from (nth g h).reached (orders.is_switch (nth g h).exit) here (same_switch (nth g h).exit ∙ on))
 
     default_in : In (index_of f at.default) (switch_targets g h)
     default_in =

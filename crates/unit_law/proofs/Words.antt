@@ -3,6 +3,7 @@ use Rattle.std.proofs.Common.{◌≡◌, ◌&&◌, ◌||◌, ℕ, Bool, true, fa
 use Rattle.std.specs.Prelude.{◌⊎◌}
 use Rattle.std.specs.List.{list_all}
 use Rattle.std.proofs.lemmas.Slice.Eq.{bytes_eq-Decides}
+use Rattle.std.proofs.lemmas.Bool.{or_from}
 use Rattle.spv_ops.specs.declared.AtomicOp.{AtomicOp}
 use Rattle.spv_ops.specs.declared.Op.TheVariants as code
 use Rattle.spv_module.specs.Lists.{id}
@@ -45,11 +46,7 @@ barred_of (v ∷ ws) w all on = by_test (bytes_eq w v) refl (is_barred v) refl a
     by_test b same false is all on later = cc
 
 not_barred : (w : Text) → IsFree w → is_barred w ≡ false
-not_barred w free = both (is_word w) (has_prefix w) free.word free.prefix
-  where
-    both : (a b : Bool) → a ≡ false → b ≡ false → (a || b) ≡ false
-    both false b p q = q
-    both true b p q = cc
+not_barred w free = or_from (is_word w) (has_prefix w) free.word free.prefix
 
 no_main : (n : ℕ) → Id (id n) ≡ Main → ⊥
 no_main n e = cc

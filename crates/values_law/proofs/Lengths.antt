@@ -3,8 +3,9 @@ use Rattle.std.proofs.Common.{◌≡◌, ◌++◌, ◌⊎◌, ◌<◌, ◌==◌,
 use Rattle.std.specs.Prelude.{is_some, nat_lt, option_map, option_and_then, slice_index}
 use Rattle.std.specs.Option.{option_map_or}
 use Rattle.std.specs.List.{enumerate_from, list_any}
-use Rattle.std.proofs.lemmas.Bool.{and_parts}
+use Rattle.std.proofs.lemmas.Bool.{and_parts, and_from, not-false}
 use Rattle.std.proofs.lemmas.Bool.Decides.{nat_tests}
+use Rattle.std.proofs.lemmas.Option.{same_Some}
 use Rattle.spv_ops.specs.Opcode.{is}
 use Rattle.spv_ops.specs.Enumerants.{class_number}
 use Rattle.spv_ops.specs.Operands.{is_id}
@@ -64,7 +65,7 @@ use Rattle.agree_law.specs.Agree.{Naming, Agree}
 use Rattle.agree_law.specs.Blocks.{measured}
 use Rattle.call_law.specs.Known.{IsFunctionOf, LendsWhole}
 use Rattle.typed_law.specs.Conforms.{IsConforming}
-use Rattle.typed_law.proofs.Lists.{same_some, or_left, or_right, and_off, not_off, both_on}
+use Rattle.typed_law.proofs.Lists.{or_left, or_right, and_off}
 use Rattle.typed_law.proofs.Rules.{value_right}
 use Rattle.typed_law.proofs.Shapes.{row_of_shape}
 use Rattle.typed_law.proofs.Types.{row_is}
@@ -189,7 +190,7 @@ module _ (bytes : List ℕ) (m : ModuleState) (o : Options) (read : IsReadFrom b
     shape_is has =
         let t = made_shaped s o.entry right Fn in_it j stands has (ap makes group) in
         let g = row_of_shape s o.entry right Fn in_it j.ty t.0 t.1 in
-        let on : is_uint g.0 ≡ true = not_off (is_uint g.0) (ap (λ (q : Option Inst). option_map_or (λ (x : Inst). not (is_uint x)) q false) (sym (row_is m o.entry right j.ty g.0 g.1 g.2)) ∙ or_left (fails is_uint Gs j.ty) (is_some (T (word j 0)) && is_no_array_id Gs (word j 1) (word j 0)) broken) in
+        let on : is_uint g.0 ≡ true = not-false (is_uint g.0) (ap (λ (q : Option Inst). option_map_or (λ (x : Inst). not (is_uint x)) q false) (sym (row_is m o.entry right j.ty g.0 g.1 g.2)) ∙ or_left (fails is_uint Gs j.ty) (is_some (T (word j 0)) && is_no_array_id Gs (word j 1) (word j 0)) broken) in
         let shaped : type_tree Gs j.ty ≡ Some plain.uint = ap (λ (q : Option Inst). option_map_or (tree_at Gs) q None) g.1 ∙ uint_tree s g.0 on in
         shapes_are m o right kinds unit u inv p among j.result plain.uint (own_shape s o.entry right Fn in_it j stands plain.uint shaped)
 
@@ -198,7 +199,7 @@ module _ (bytes : List ℕ) (m : ModuleState) (o : Options) (read : IsReadFrom b
       v_in = found_in Gs (word j 0) v at
 
       block_on : is_block_variable v ≡ true
-      block_on = not_off (is_block_variable v) (or_left (not (is_block_variable v)) (option_map_or (lacks_array Gs (word j 1)) (option_and_then (type_row Gs) (pointee Gs v.ty)) false) off)
+      block_on = not-false (is_block_variable v) (or_left (not (is_block_variable v)) (option_map_or (lacks_array Gs (word j 1)) (option_and_then (type_row Gs) (pointee Gs v.ty)) false) off)
 
       on_variable : is v.op code.Variable ≡ true
       on_variable = (and_parts (is v.op code.Variable) (is_block_class (word v 0)) block_on).0
@@ -218,7 +219,7 @@ module _ (bytes : List ℕ) (m : ModuleState) (o : Options) (read : IsReadFrom b
       operand : has_operand j v.result ≡ true
       operand =
           any_in (λ (q : ℕ × ℕ). is_id j.op j.args q.0 && (q.1 == v.result)) (enumerate_from 0 j.args) (0, word j 0) (numbered_first j.args 0 (word j 0) (at_index j.args 0 many))
-          (both_on (is_id j.op j.args 0) (word j 0 == v.result) first.names_id (same_test (word j 0) v.result (sym v_in.1)))
+          (and_from (is_id j.op j.args 0) (word j 0 == v.result) first.names_id (same_test (word j 0) v.result (sym v_in.1)))
 
       mentioned : is_operand_in (reached_in m o unit u inv).functions v.result ≡ true
       mentioned =
@@ -231,7 +232,7 @@ module _ (bytes : List ℕ) (m : ModuleState) (o : Options) (read : IsReadFrom b
       -- it is of no other class
       other : (g : Inst) → global_variable s v.result ≡ Some g → (c : ℕ) → word g 0 ≡ c → is_block_class c ≡ false → ⊥
       other g is c class none =
-          let same : v ≡ g = same_some v g (sym own ∙ is) in
+          let same : v ≡ g = same_Some v g (sym own ∙ is) in
           clash (sym class_on ∙ (ap is_block_class (ap (λ (x : Inst). word x 0) same ∙ class) ∙ none))
 
       block_is : IsBlock P N s src key globals v.result w.shape (root v.result) []
@@ -245,7 +246,7 @@ module _ (bytes : List ℕ) (m : ModuleState) (o : Options) (read : IsReadFrom b
           by_kind (inr (inr (inr is))) = is
 
       inst_is : block_is.inst ≡ v
-      inst_is = same_some block_is.inst v (sym block_is.there ∙ own)
+      inst_is = same_Some block_is.inst v (sym block_is.there ∙ own)
 
       row : IsRow s o.entry right w.type
       row = row_of_shape s o.entry right Fn in_it w.type w.shape w.typed_as
@@ -258,7 +259,7 @@ module _ (bytes : List ℕ) (m : ModuleState) (o : Options) (read : IsReadFrom b
       member : IsRuntimeMember s o.entry right Fn in_it row.0 block_is.parts (word j 1)
       member =
           let parts = three_off (not (is row.0.op code.TypeStruct)) (not (nat_lt (word j 1) (length row.0.args))) (fails is_runtime_array Gs (word row.0 (word j 1))) lacks_none in
-          runtime_member s o.entry right Fn in_it row.0 w.type (variable_type s block_is.inst) block_is.parts (word j 1) row.1 (w.typed_as ∙ ap (λ (t : Tree). Some t) block_is.shape) (not_off (is row.0.op code.TypeStruct) parts.0) (not_off (nat_lt (word j 1) (length row.0.args)) parts.1) parts.2
+          runtime_member s o.entry right Fn in_it row.0 w.type (variable_type s block_is.inst) block_is.parts (word j 1) row.1 (w.typed_as ∙ ap (λ (t : Tree). Some t) block_is.shape) (not-false (is row.0.op code.TypeStruct) parts.0) (not-false (nat_lt (word j 1) (length row.0.args)) parts.1) parts.2
 
       -- P17: a push constant has no runtime array
       in_memory : (word block_is.inst 0 ≡ class_number storage.StorageBuffer) ⊎ (word block_is.inst 0 ≡ class_number storage.Uniform)
@@ -270,10 +271,10 @@ module _ (bytes : List ℕ) (m : ModuleState) (o : Options) (read : IsReadFrom b
           never : word block_is.inst 0 ≡ class_number storage.PushConstant → ⊥
           never class =
               let parts = three_off (not (is row.0.op code.TypeStruct)) (not (nat_lt (word j 1) (length row.0.args))) (fails is_runtime_array Gs (word row.0 (word j 1))) lacks_none in
-              let less = less_of (word j 1) (length row.0.args) (not_off (nat_lt (word j 1) (length row.0.args)) parts.1) in
+              let less = less_of (word j 1) (length row.0.args) (not-false (nat_lt (word j 1) (length row.0.args)) parts.1) in
               let among_args : is_among row.0.args member.row.result ≡ true =
               subst (λ (k : ℕ). is_among row.0.args k ≡ true) (sym (named Gs (word row.0 (word j 1)) member.row member.there)) (is_there row.0.args (word j 1) less) in
-              clash (sym member.is_runtime ∙ no_runtime m o.entry right v (as_among Gs v v_in.0) on_variable (no_storage class) row.0 w.type row.1 w.points_to (not_off (is row.0.op code.TypeStruct) parts.0) member.row (as_among Gs member.row (found_in Gs (word row.0 (word j 1)) member.row member.there).0) among_args)
+              clash (sym member.is_runtime ∙ no_runtime m o.entry right v (as_among Gs v v_in.0) on_variable (no_storage class) row.0 w.type row.1 w.points_to (not-false (is row.0.op code.TypeStruct) parts.0) member.row (as_among Gs member.row (found_in Gs (word row.0 (word j 1)) member.row member.there).0) among_args)
             where
               is_there : (xs : List ℕ) (k : ℕ) → k < length xs → is_among xs (slice_index xs k) ≡ true
               is_there xs k less = any_in (λ (x : ℕ). x == slice_index xs k) xs (slice_index xs k) (at_place xs k (slice_index xs k) (at_index xs k less)) (same_test (slice_index xs k) (slice_index xs k) refl)

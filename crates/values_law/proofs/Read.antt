@@ -1,6 +1,7 @@
 -- What a block of an accepted module's function reads of the module says what the module has: where a live instruction of a reached block mentions a constant, its expression says its value. A variable that is built in has none.
 use Rattle.std.proofs.Common.{◌≡◌, ◌==◌, ℕ, Bool, List, [], Option, Some, None, refl, sym, ap, ◌∙◌}
 use Rattle.std.specs.Prelude.{option_map}
+use Rattle.std.proofs.lemmas.Option.{none-some, same_Some}
 use Rattle.spv_module.specs.Held.{global}
 use Rattle.spv_module.specs.State.{ModuleState}
 use Rattle.spv_module.specs.declared.inst.Inst.{Inst}
@@ -42,12 +43,6 @@ use Rattle.outside_law.specs.Left.{IsLeftOfGlobals}
 use Rattle.outside_law.proofs.Text.{P as program_in}
 use Rattle.outside_law.proofs.Constants.{IsMentioned as IsListed, constant_says}
 
-no_none : {A : Type 0} (a : A) → None ≡ Some a → ⊥
-no_none a e = cc
-
-same_of : {A : Type 0} (a b : A) → Some a ≡ Some b → a ≡ b
-same_of a b e = cc
-
 value_held : (x : Option ValueTree) (v : ValueTree) → as_value (option_map holds_value x) ≡ Some v → x ≡ Some v
 value_held None v e = cc
 value_held (Some w) v e = e
@@ -65,7 +60,7 @@ pub constant_value : (s : Setting) (c : Conf) → ConfFits s c → (n : ℕ) (g 
 constant_value s c fits n g there v has = by_ids (c.top.ids n) refl has
   where
     by_ids : (x : Option Held) → c.top.ids n ≡ x → as_value (elim x as (λ x. Option Held) [ Some h ↦ Some h | None ↦ of_module s n ]) ≡ Some v → s.constants n ≡ Some v
-    by_ids (Some h) own has = absurd (no_none g (sym (fits.top.0 n h own).0 ∙ there))
+    by_ids (Some h) own has = absurd (none-some g (sym (fits.top.0 n h own).0 ∙ there))
     by_ids None own has = constant_held s n v has
 
 module _ (bytes : List ℕ) (m : ModuleState) (o : Options) (read : IsReadFrom bytes m) (fine : IsFine m o) (unit : TranslationUnit) (u : IsUnitOf m o unit) (inv : Invocation) (told : IsInvocation inv) (left : IsLeftOfGlobals bytes m o u.entry inv)
@@ -102,5 +97,5 @@ module _ (bytes : List ℕ) (m : ModuleState) (o : Options) (read : IsReadFrom b
       let g = some_part (global_by (source_of m o u.entry) (id_text (name_of u.claimed))) (global m.globals n) e is in
       let constant = constant_value s c fits n g.0 g.1 v has in
       let says = constant_says bytes m o read fine unit u inv told left p n v constant (listed b n user mentioned) calls c z agree in
-      let same : e ≡ says.0 = same_of e says.0 (sym is ∙ says.1) in
+      let same : e ≡ says.0 = same_Some e says.0 (sym is ∙ says.1) in
       ap (λ (x : Expr). evaluate P calls x z) (written_as_read Where b n e is ∙ same) ∙ says.2

@@ -2,6 +2,7 @@
 use Rattle.std.proofs.Common.{◌≡◌, ◌++◌, ◌&&◌, ◌-◌, not, ℕ, Bool, true, false, List, length, Contains, Option, Some, None, refl, sym, ap, ◌∙◌, subst, if◌then◌else◌}
 use Rattle.std.specs.Prelude.{nat_lt, slice_index, take, flat_map, option_map}
 use Rattle.std.specs.Option.{option_map_or}
+use Rattle.std.proofs.lemmas.Bool.{and_from, false_from_ne_true, not-false}
 use Rattle.spv_ops.specs.Opcode.{is, number}
 use Rattle.spv_ops.specs.declared.Op.{Op}
 use Rattle.spv_ops.specs.declared.Op.TheVariants as code
@@ -29,7 +30,7 @@ use Rattle.fits_law.proofs.Steps.{named}
 use Rattle.type_law.proofs.Parts.{struct_kind, all_nth}
 use Rattle.type_law.proofs.Places.{part_leads}
 use Rattle.typed_law.specs.Conforms.{IsConforming}
-use Rattle.typed_law.proofs.Lists.{or_right, not_off, no_true, both_on, found_in}
+use Rattle.typed_law.proofs.Lists.{or_right, found_in}
 use Rattle.typed_law.proofs.Rules.{used_type}
 use Rattle.typed_law.proofs.Shapes.{row_of_shape}
 use Rattle.typed_law.proofs.Types.{row_is}
@@ -74,7 +75,7 @@ module _ (m : ModuleState) (entry : Option (List ℕ)) (right : IsConforming m e
       among_left (flat_map (fixed_parts m) Gs ++ pointees m (λ x. true) ++ value_types m) (signature_types m) h.result
       (among_left (flat_map (fixed_parts m) Gs ++ pointees m (λ x. true)) (value_types m) h.result
       (among_left (flat_map (fixed_parts m) Gs) (pointees m (λ x. true)) h.result (among_flat (fixed_parts m) Gs g h.result (found_in Gs q g at) fixed))) in
-      no_true (is h.op code.TypeRuntimeArray) (λ is_one. clash (sym (both_on (is h.op code.TypeRuntimeArray) (is_among (runtime_misuses m) h.result) is_one runtimes) ∙ or_right (((is h.op code.TypeStruct) && is_block m.heads h.result) && is_among (block_misuses m) h.result) ((is h.op code.TypeRuntimeArray) && is_among (runtime_misuses m) h.result) (used_type m entry right h h_there)))
+      false_from_ne_true (is h.op code.TypeRuntimeArray) (λ is_one. clash (sym (and_from (is h.op code.TypeRuntimeArray) (is_among (runtime_misuses m) h.result) is_one runtimes) ∙ or_right (((is h.op code.TypeStruct) && is_block m.heads h.result) && is_among (block_misuses m) h.result) ((is h.op code.TypeRuntimeArray) && is_among (runtime_misuses m) h.result) (used_type m entry right h h_there)))
     where
       clash : {A : Type 0} → true ≡ false → A
       clash e = cc
@@ -99,7 +100,7 @@ module _ (s : Setting) (entry : Option (List ℕ)) (right : IsConforming s.of en
       let part_is : part_type s ty k ≡ word g k = ap (λ (o : Option Inst). option_map_or (λ (x : Inst). part_by x.op x.args k) o 0) at ∙ struct_by g.op g.args k struct in
       let tree : type_tree Gs' (word g k) ≡ Some u.0 = sym (ap (type_tree Gs') part_is) ∙ part_leads s ty k (plain.struct id parts) u.0 shape u.2 in
       let h = row_of_shape s entry right f in_it (word g k) u.0 tree in
-      let on : is h.0.op code.TypeRuntimeArray ≡ true = not_off (is_runtime_array h.0) (ap (λ (o : Option Inst). option_map_or (λ (x : Inst). not (is_runtime_array x)) o false) (sym (row_is s.of entry right (word g k) h.0 h.1 h.2)) ∙ off) in
+      let on : is h.0.op code.TypeRuntimeArray ≡ true = not-false (is_runtime_array h.0) (ap (λ (o : Option Inst). option_map_or (λ (x : Inst). not (is_runtime_array x)) o false) (sym (row_is s.of entry right (word g k) h.0 h.1 h.2)) ∙ off) in
       let own : tree_at Gs' h.0 ≡ Some u.0 = ap (λ (o : Option Inst). option_map_or (tree_at Gs') o None) (sym h.1) ∙ tree in
       let e = runtime_of (tree_before Gs' h.0.at (slice_index h.0.args 0)) u.0 (ap (tree_by_kind Gs' (tree_before Gs' h.0.at) h.0) (sym (runtime_kind h.0.op on)) ∙ own) in
       record { row = h.0; there = h.1; is_runtime = on; element = e.0; at = u.2 ∙ ap (λ (t : Tree). Some t) e.1 }

@@ -2,6 +2,7 @@
 use Rattle.std.proofs.Common.{◌≡◌, not, ℕ, Bool, true, false, List, Option, Some, None, refl, sym, ap, ◌∙◌, if◌then◌else◌}
 use Rattle.std.specs.Prelude.{◌^◌, nat_lt, Contains}
 use Rattle.std.specs.Option.{option_map_or}
+use Rattle.std.proofs.lemmas.Bool.{not-false, not-true}
 use Rattle.spv_ops.specs.Opcode.{is}
 use Rattle.spv_ops.specs.OpGroups.{group_of}
 use Rattle.spv_ops.specs.declared.Op.{Op}
@@ -30,7 +31,7 @@ use Rattle.expr_forward.specs.Statements.{is_void_in}
 use Rattle.function_text.specs.Functions.{case_by}
 use Rattle.plan_law.specs.InOrder.{IsAmong}
 use Rattle.typed_law.specs.Conforms.{IsConforming}
-use Rattle.typed_law.proofs.Lists.{or_left, not_off, not_on}
+use Rattle.typed_law.proofs.Lists.{or_left}
 use Rattle.typed_law.proofs.Rules.{flow_right}
 use Rattle.typed_law.proofs.Types.{row_is}
 use Rattle.typed_law.proofs.Values.{result_row}
@@ -62,14 +63,14 @@ module _ (s : Setting) (entry : Option (List ℕ)) (right : IsConforming s.of en
   gives_nothing i there kind =
       let w = flow_right s.of entry right f in_it i there in
       let off : breaks_t24_return Gs f ≡ false = ap (is_flow_broken s.of f w.0 i) (sym (return_group i.op kind)) ∙ w.1 in
-      void_by true (not_off (is_void row.0) (ap (λ o. option_map_or (λ (g : Inst). not (is_void g)) o false) (sym row.2) ∙ off))
+      void_by true (not-false (is_void row.0) (ap (λ o. option_map_or (λ (g : Inst). not (is_void g)) o false) (sym row.2) ∙ off))
 
   pub gives_some : (i : Inst) → IsAmong i (insts_of f) → step_kind i.op ≡ steps.return_value → is_void_in Gs f.result.0 ≡ false
   gives_some i there kind =
       let w = flow_right s.of entry right f in_it i there in
       let off : breaks_t24_value Gs (type_in Gs f) f i ≡ false = ap (is_flow_broken s.of f w.0 i) (sym (value_group i.op kind)) ∙ w.1 in
       let none : fails (λ g. not (is_void g)) Gs f.result.0 ≡ false = or_left (fails (λ g. not (is_void g)) Gs f.result.0) (is_other Gs (type_in Gs f) f.result.0 (word_of i 0)) off in
-      void_by false (not_on (is_void row.0) (not_off (not (is_void row.0)) (ap (λ o. option_map_or (λ (g : Inst). not (not (is_void g))) o false) (sym row.2) ∙ none)))
+      void_by false (not-true (is_void row.0) (not-false (not (is_void row.0)) (ap (λ o. option_map_or (λ (g : Inst). not (not (is_void g))) o false) (sym row.2) ∙ none)))
 
 -- the literal of a case, of the type of its selector
 abbrev pub number_shape : Option Elem → Shape

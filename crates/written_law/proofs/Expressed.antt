@@ -3,6 +3,8 @@ use Rattle.std.proofs.Common.{◌≡◌, ◌⊎◌, ◌≤◌, ◌+◌, ◌==◌
 use Rattle.std.specs.Prelude.{slice_get, slice_index, nat_le, nat_lt}
 use Rattle.std.specs.List.{list_any}
 use Rattle.std.specs.Option.{option_map_or}
+use Rattle.std.proofs.lemmas.Bool.{and_from, or_left as first_true, false_from_ne_true}
+use Rattle.std.proofs.lemmas.Option.{none-some}
 use Rattle.spv_ops.specs.Opcode.{is, number}
 use Rattle.spv_ops.specs.OpGroups.{group_of}
 use Rattle.spv_ops.specs.Groups.{is_chain}
@@ -39,7 +41,7 @@ use Rattle.call_law.specs.Known.{IsFunctionOf, LendsWhole}
 use Rattle.plan_law.specs.Ordered.{AreOrdered}
 use Rattle.plan_law.proofs.Order.{in_order}
 use Rattle.typed_law.specs.Conforms.{IsConforming, IsFormed}
-use Rattle.typed_law.proofs.Lists.{clash, no_true, and_off, or_left}
+use Rattle.typed_law.proofs.Lists.{clash, and_off, or_left}
 use Rattle.typed_law.proofs.Values.{typed_result, has_a_type, own_type, inside}
 use Rattle.claim_law.specs.Claimed.{IsIn}
 use Rattle.unit_law.proofs.Lists.{as_among, in_block}
@@ -237,25 +239,14 @@ formed_variable true true false on is = refl
 formed_variable true false hoisted on is = cc
 formed_variable false named hoisted on is = cc
 
-both_true : (a b : Bool) → a ≡ true → b ≡ true → (a && b) ≡ true
-both_true true b on is = is
-both_true false b on is = cc
-
-first_true : (a b : Bool) → a ≡ true → (a || b) ≡ true
-first_true true b on = refl
-first_true false b on = cc
-
 left_on : (a b : Bool) → (a && b) ≡ true → a ≡ true
 left_on true b on = refl
 left_on false b on = cc
 
-no_some : {A : Type 0} (a : A) → None ≡ Some a → ⊥
-no_some a e = cc
-
 module _ (s : Setting) (entry : Option (List ℕ)) (right : IsConforming s.of entry) where
   -- what has a shape has a type
   pub no_zero : (ty : ℕ) (t : Tree) → type_tree s.of.globals ty ≡ Some t → ty ≡ 0 → ⊥
-  no_zero ty t shaped is = no_some t (sym (ap (λ (x : Option Inst). option_map_or (tree_at s.of.globals) x None) right.results.none) ∙ subst (λ (k : ℕ). type_tree s.of.globals k ≡ Some t) is shaped)
+  no_zero ty t shaped is = none-some t (sym (ap (λ (x : Option Inst). option_map_or (tree_at s.of.globals) x None) right.results.none) ∙ subst (λ (k : ℕ). type_tree s.of.globals k ≡ Some t) is shaped)
 
 module _ (s : Setting) (entry : Option (List ℕ)) (right : IsConforming s.of entry) (kinds : HaveKinds s.of.globals) (o : Options) (unit : TranslationUnit) (u : IsUnitOf s.of o unit) (p : FunctionPlan) (among : IsIn p u.plans) where
   abbrev gs : List Inst
@@ -302,8 +293,8 @@ module _ (s : Setting) (entry : Option (List ℕ)) (right : IsConforming s.of en
       pub always_variable : is_always_named j.op ≡ true → is_pure j.op ≡ false → is_value gs j.ty ≡ true → is_variable_form (Where.form j.result) ≡ true
       always_variable named effect value =
           ap is_variable_form told.1 ∙ formed_variable (is_live P) (is_named gs Fn told.0 P) (is_hoisted Fn P) live
-          (both_true (is_value gs j.ty) (is_live P && (is_named_by_use gs Fn P || (own_height told.0 P == 17))) value
-          (both_true (is_live P) (is_named_by_use gs Fn P || (own_height told.0 P == 17)) live
+          (and_from (is_value gs j.ty) (is_live P && (is_named_by_use gs Fn P || (own_height told.0 P == 17))) value
+          (and_from (is_live P) (is_named_by_use gs Fn P || (own_height told.0 P == 17)) live
           (first_true (is_named_by_use gs Fn P) (own_height told.0 P == 17) (first_true (is_always_named j.op) (nat_le 2 (length P.mentions) || list_any (wants_variable gs Fn P.block) P.mentions) named))))
         where
           live : is_live P ≡ true
@@ -321,7 +312,7 @@ module _ (s : Setting) (entry : Option (List ℕ)) (right : IsConforming s.of en
           or_left (is_always_named P.op) (nat_le 2 (length P.mentions) || list_any (wants_variable gs Fn P.block) P.mentions) by_use
 
     pub local_no_phi : Where.form j.result ≡ Local → is_phi j ≡ false
-    local_no_phi form = no_true (is_phi j) (λ on. no_local (formed_so.result (phi_result j.op on)) on form)
+    local_no_phi form = false_from_ne_true (is_phi j) (λ on. no_local (formed_so.result (phi_result j.op on)) on form)
 
     module _ (t : Tree) (shaped : type_tree gs j.ty ≡ Some t) (form : Where.form j.result ≡ Forwarded) where
       has_type_so : has_type j.op ≡ true
@@ -344,6 +335,6 @@ module _ (s : Setting) (entry : Option (List ℕ)) (right : IsConforming s.of en
         pub forwarded_kind : ((step_kind j.op ≡ steps.operation) ⊎ (step_kind j.op ≡ steps.array_length)) × (is_phi j ≡ false)
         forwarded_kind =
             kind_by j.op has_type_so
-            (no_true (is_chain j.op) (λ on. clash (sym (lends.chains Fn is_one j of_it (chain_step j.op on)).1 ∙ no_pointer)))
-            (no_true (is j.op code.Variable) (λ on. clash (sym (lends.variables Fn is_one j of_it (variable_step j.op on)) ∙ no_pointer)))
+            (false_from_ne_true (is_chain j.op) (λ on. clash (sym (lends.chains Fn is_one j of_it (chain_step j.op on)).1 ∙ no_pointer)))
+            (false_from_ne_true (is j.op code.Variable) (λ on. clash (sym (lends.variables Fn is_one j of_it (variable_step j.op on)) ∙ no_pointer)))
             unnamed_so

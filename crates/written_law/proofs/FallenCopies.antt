@@ -4,6 +4,7 @@ use Rattle.std.specs.Prelude.{slice_get, option_map}
 use Rattle.std.specs.Option.{option_map_or}
 use Rattle.std.specs.List.{list_any, enumerate_from}
 use Rattle.std.proofs.lemmas.List.{reverse-append}
+use Rattle.std.proofs.lemmas.Bool.{and_from}
 use Rattle.spv_module.specs.State.{ModuleState}
 use Rattle.spv_module.specs.declared.inst.Inst.{Inst}
 use Rattle.spv_module.specs.declared.inst.Block.{Block}
@@ -28,7 +29,7 @@ use Rattle.expr_forward.specs.Scope.{Scope}
 use Rattle.name_alloc.specs.declared.claims.Key.TheVariants.{Fell}
 use Rattle.claim_law.specs.Claimed.{IsIn}
 use Rattle.claim_law.proofs.Listed.{in_flat, any_in}
-use Rattle.typed_law.proofs.Lists.{clash, both_on}
+use Rattle.typed_law.proofs.Lists.{clash}
 use Rattle.unit_law.proofs.Lists.{same_test, numbered_first}
 use Rattle.naming_law.proofs.Tree.{among_that}
 use Rattle.safe_law.proofs.Flags.{planned, found}
@@ -112,7 +113,7 @@ module _ (m : ModuleState) (o : Options) (unit : TranslationUnit) (u : IsUnitOf 
       by_test : (b : Bool) → has_live_phi form block ≡ b → b ≡ false
       by_test false on = refl
       by_test true on =
-          let needs : needs_fell (graph F) (phi_blocks form F) t ≡ true = both_on (is_some (fallen_from (graph F) t)) (list_any (λ b. b == t) (phi_blocks form F)) fallen (phi_there t block there on) in
+          let needs : needs_fell (graph F) (phi_blocks form F) t ≡ true = and_from (is_some (fallen_from (graph F) t)) (list_any (λ b. b == t) (phi_blocks form F)) fallen (phi_there t block there on) in
           let low = inside F.blocks t there in
           let size = graph_sized F in
           clash (sym (plan.fell_is t ∙ among_that (needs_fell (graph F) (phi_blocks form F)) (length (graph F)) 0 t needs (let least : 0 ≤ t = omega arith in least) (let high : t < 0 + length (graph F) = omega (arith, low, size) in high)) ∙ off)

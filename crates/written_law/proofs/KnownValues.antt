@@ -1,6 +1,7 @@
 -- What is known of the values of a call under way, where the module's state fits its types and is of words: their shapes, and the words of constants that are written as literals.
 use Rattle.std.proofs.Common.{◌≡◌, ◌&&◌, ℕ, Bool, true, false, [], Option, Some, None, refl, sym, ap, ◌∙◌, subst, if◌then◌else◌}
 use Rattle.std.specs.Prelude.{option_map, option_and_then}
+use Rattle.std.proofs.lemmas.Option.{same_Some}
 use Rattle.spv_module.specs.Held.{global as global_inst}
 use Rattle.spv_module.specs.State.{ModuleState}
 use Rattle.spv_module.specs.declared.inst.Inst.{Inst}
@@ -33,7 +34,7 @@ use Rattle.global_law.specs.Sources.{source_of}
 use Rattle.global_law.proofs.Plain.{plain_has}
 use Rattle.typed_law.specs.Conforms.{IsConforming}
 use Rattle.typed_law.specs.Words.{IsSettingOfWords, IsStateOfWords}
-use Rattle.typed_law.proofs.Lists.{and_left, and_right, same_some}
+use Rattle.typed_law.proofs.Lists.{and_left, and_right}
 use Rattle.claim_law.specs.Claimed.{IsIn}
 use Rattle.unit_law.proofs.Ways.{HaveKinds, F, V, Found, written_is}
 use Rattle.naming_law.proofs.Keys.{S, names}
@@ -97,7 +98,7 @@ module _ (m : ModuleState) (opts : Options) (right : IsConforming m opts.entry) 
         where
           by_id : (x : Option Held) → c.top.ids n ≡ x → operands.as_value (elim x [ Some h ↦ Some h | None ↦ of_module s n ]) ≡ Some v → P
           by_id None at e = by_variable P (module_value at) (global_variable s n) e
-          by_id (Some (value w)) at e = own (at ∙ ap (λ (q : ValueTree). Some (value q)) (same_some w v e))
+          by_id (Some (value w)) at e = own (at ∙ ap (λ (q : ValueTree). Some (value q)) (same_Some w v e))
           by_id (Some (pointer r path)) at e = cc
 
     pub low_values : (n : ℕ) (v : ValueTree) → value_at s c.top n ≡ Some v → IsOfWords v
@@ -114,7 +115,7 @@ module _ (m : ModuleState) (opts : Options) (right : IsConforming m opts.entry) 
             let reads = plain_reading (reading (source_of s opts.overrides) g) (and_left (is_plain (reading (source_of s opts.overrides) g)) (is_number (option_and_then elem_of (type_tree m.globals g.ty))) parts) in
             let number = and_right (is_plain (reading (source_of s opts.overrides) g)) (is_number (option_and_then elem_of (type_tree m.globals g.ty))) parts in
             let k = plain_has s opts.overrides (λ i. refl) right.results n g v there reads has in
-            let own : word_of (plain_value (source_of s opts.overrides) g) ≡ w = same_some (word_of (plain_value (source_of s opts.overrides) g)) w e in
+            let own : word_of (plain_value (source_of s opts.overrides) g) ≡ w = same_Some (word_of (plain_value (source_of s opts.overrides) g)) w e in
             number_value k.shape v (ap (λ (o : Option Tree). is_number (option_and_then elem_of o)) (sym k.typed_as) ∙ number) k.fit ∙ ap word (sym (ap word_of k.value) ∙ own)
         by_test false on e = cc
 

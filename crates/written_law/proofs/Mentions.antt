@@ -1,6 +1,7 @@
 -- What an instruction with an effect reads it mentions: it is live; so does a terminator its first operand, and a live OpArrayLength.
 use Rattle.std.proofs.Common.{◌≡◌, ◌≤◌, ◌+◌, ◌&&◌, ◌||◌, not, ℕ, Bool, true, false, List, [], ◌∷◌, length, Some, refl, ap, subst, arith}
 use Rattle.std.specs.Prelude.{slice_get, slice_index, slice_index_or}
+use Rattle.std.proofs.lemmas.Bool.{and_from}
 use Rattle.spv_ops.specs.Opcode.{is, number}
 use Rattle.spv_ops.specs.OpGroups.{group_of, takes_of}
 use Rattle.spv_ops.specs.Operands.{is_id}
@@ -13,10 +14,6 @@ use Rattle.spv_module.specs.declared.inst.Function.{Function}
 use Rattle.module_semantics.specs.Steps.{array_length, step_kind}
 use Rattle.use_chains.specs.Slots.{is_value, is_label_reached, is_taken, inst_at, IsLive}
 use Rattle.unit_law.specs.Mentioned.{IsMentioned}
-
-both_on : (a b : Bool) → a ≡ true → b ≡ true → (a && b) ≡ true
-both_on true b on e = e
-both_on false b on e = cc
 
 first_off : (a b : Bool) → a ≡ false → (not a || b) ≡ true
 first_off false b off = refl
@@ -31,8 +28,8 @@ live_mentions f reached block place i there here live no_phi k n word names valu
   there = there;
   here = here;
   live = live;
-  slot = both_on (is_id i.op i.args k) (is_value i.op k && is_taken f reached i k) names
-      (both_on (is_value i.op k) (is_taken f reached i k) value (first_off (is i.op code.Phi) (is_label_reached f reached (slice_index i.args (k + 1))) no_phi));
+  slot = and_from (is_id i.op i.args k) (is_value i.op k && is_taken f reached i k) names
+      (and_from (is_value i.op k) (is_taken f reached i k) value (first_off (is i.op code.Phi) (is_label_reached f reached (slice_index i.args (k + 1))) no_phi));
   word = word;
 }
 

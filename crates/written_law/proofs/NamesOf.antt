@@ -1,5 +1,6 @@
 -- The names of a planned function's text are those of its plan, as it is asked of the expressions of its values.
-use Rattle.std.proofs.Common.{◌≡◌, ◌&&◌, ◌||◌, ℕ, Bool, true, false, refl, sym, subst}
+use Rattle.std.proofs.Common.{◌≡◌, ◌&&◌, ℕ, Bool, true, refl, sym, subst}
+use Rattle.std.proofs.lemmas.Bool.{or_left, or_right}
 use Rattle.spv_module.specs.State.{ModuleState}
 use Rattle.conformance.specs.Rules.{Options}
 use Rattle.traces.specs.Invocations.{Invocation}
@@ -15,14 +16,6 @@ use Rattle.unit_law.proofs.Ways.{HaveKinds, V, plan_is}
 use Rattle.naming_law.specs.Names.{is_result, is_value_parameter, is_local_form}
 use Rattle.naming_law.proofs.Keys.{S, names}
 use Rattle.written_law.proofs.Says.{AreNamesOf}
-
-on_left : (a b : Bool) → a ≡ true → (a || b) ≡ true
-on_left true b on = refl
-on_left false b on = cc
-
-on_right : (a b : Bool) → b ≡ true → (a || b) ≡ true
-on_right true b on = refl
-on_right false b on = on
 
 module _ (m : ModuleState) (opts : Options) (right : IsConforming m opts.entry) (kinds : HaveKinds m.globals) (unit : TranslationUnit) (u : IsUnitOf m opts unit) (inv : Invocation) (p : FunctionPlan) (among : IsIn p u.plans) (lends : LendsWhole (S m opts unit u inv)) (b : ℕ) where
   abbrev Where : Scope
@@ -44,7 +37,7 @@ module _ (m : ModuleState) (opts : Options) (right : IsConforming m opts.entry) 
   pub names_are : AreNamesOf (S m opts unit u inv) opts.entry right kinds opts unit u p among lends b (names m opts unit u inv p)
   names_are = record {
     name_is = λ n. refl;
-    parameter = λ n on. on_left (is_parameter_in n p.scope) (is_top_in n p.scope) (scope_so (is_parameter_in n) on);
-    hoisted = λ n on. on_right (is_parameter_in n p.scope) (is_top_in n p.scope) (scope_so (is_top_in n) on);
+    parameter = λ n on. or_left (is_parameter_in n p.scope) (is_top_in n p.scope) (scope_so (is_parameter_in n) on);
+    hoisted = λ n on. or_right (is_parameter_in n p.scope) (is_top_in n p.scope) (scope_so (is_top_in n) on);
     local = λ n on. scope_so (is_local_in n) on;
   }

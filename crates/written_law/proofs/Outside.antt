@@ -2,6 +2,7 @@
 use Rattle.std.proofs.Common.{◌≡◌, ℕ, List, Option, Some, None, unwrap_or, refl, sym, ap, ◌∙◌}
 use Rattle.std.specs.Prelude.{option_and_then}
 use Rattle.std.specs.Option.{option_or}
+use Rattle.std.proofs.lemmas.Option.{none-some}
 use Rattle.spv_module.specs.Held.{global}
 use Rattle.spv_module.specs.declared.inst.Inst.{Inst}
 use Rattle.spv_module.specs.declared.inst.Function.{Function}
@@ -19,9 +20,6 @@ use Rattle.claim_law.specs.Claimed.{IsIn}
 use Rattle.claim_law.proofs.Constants.{found_in}
 use Rattle.unit_law.proofs.Ways.{HaveKinds, F, V, own_type_of, local_outside, never_global}
 use Rattle.written_law.proofs.Expressed.{no_zero}
-
-no_some : {A : Type 0} (a : A) → None ≡ Some a → ⊥
-no_some a e = cc
 
 module _ (s : Setting) (entry : Option (List ℕ)) (right : IsConforming s.of entry) (kinds : HaveKinds s.of.globals) (o : Options) (unit : TranslationUnit) (u : IsUnitOf s.of o unit) (p : FunctionPlan) (among : IsIn p u.plans) where
   abbrev gs : List Inst
@@ -45,7 +43,7 @@ module _ (s : Setting) (entry : Option (List ℕ)) (right : IsConforming s.of en
 
         by_local : (x : Option ℕ) → local_type Fn n ≡ x → type_in gs Fn n ≡ x → ⊥
         by_local None told is = no_zero s entry right 0 t (shaped_by None is) refl
-        by_local (Some ty) told is = no_some g (sym (local_outside s entry right kinds o unit u p among n ty told) ∙ at)
+        by_local (Some ty) told is = none-some g (sym (local_outside s entry right kinds o unit u p among n ty told) ∙ at)
 
         by_typed : (x : Option ℕ) → typed g ≡ x → ⊥
         by_typed None is = by_local (local_type Fn n) refl (type_by None is)

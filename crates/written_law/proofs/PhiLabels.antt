@@ -1,9 +1,10 @@
 -- Every second operand of a phi is a label of its function (T1).
-use Rattle.std.proofs.Common.{◌≡◌, ◌+◌, ◌==◌, ◌%◌, ◌&&◌, ◌||◌, ℕ, zero, suc, Bool, true, false, List, [], ◌∷◌, map, filter, Option, Some, None, is_some, refl, sym, ap, ◌∙◌, subst, if◌then◌else◌, arith}
+use Rattle.std.proofs.Common.{◌≡◌, ◌+◌, ◌==◌, ◌%◌, ◌||◌, ℕ, zero, suc, Bool, true, false, List, [], ◌∷◌, map, filter, Option, Some, None, is_some, refl, sym, ap, ◌∙◌, subst, if◌then◌else◌, arith}
 use Rattle.std.specs.Prelude.{slice_get}
 use Rattle.std.specs.Option.{option_map_or}
 use Rattle.std.specs.List.{enumerate_from, list_all}
 use Rattle.std.proofs.lemmas.Bool.Decides.{nat_tests}
+use Rattle.std.proofs.lemmas.Bool.{and_from}
 use Rattle.spv_ops.specs.Opcode.{is, number}
 use Rattle.spv_ops.specs.OpGroups.{takes_of, group_of}
 use Rattle.spv_ops.specs.Operands.{is_id}
@@ -23,10 +24,6 @@ use Rattle.typed_law.proofs.Lists.{from_zero}
 use Rattle.typed_law.proofs.Rules.{operand_there}
 use Rattle.written_law.proofs.Done.{word_there}
 
-both_on : (a b : Bool) → a ≡ true → b ≡ true → (a && b) ≡ true
-both_on true b on e = e
-both_on false b on e = cc
-
 odd_no : (k : ℕ) → (k % 2 == 1) ≡ true → (k % 2 == 0) ≡ false
 odd_no k e = grind (arith, nat_tests, e)
 
@@ -37,7 +34,7 @@ all_seconds P n (w ∷ ws) each =
     by_test (n % 2 == 1) refl (all_seconds P (n + 1) ws (λ k v at odd. each (suc k) v at (let same : n + suc k ≡ n + 1 + k = omega arith in ap (λ (x : ℕ). x % 2 == 1) same ∙ odd)))
   where
     by_test : (b : Bool) → (n % 2 == 1) ≡ b → list_all P (map (λ (x : ℕ × ℕ). x.1) (filter (λ (x : ℕ × ℕ). x.0 % 2 == 1) (enumerate_from (n + 1) ws))) ≡ true → list_all P (map (λ (x : ℕ × ℕ). x.1) (if b then (n, w) ∷ filter (λ (x : ℕ × ℕ). x.0 % 2 == 1) (enumerate_from (n + 1) ws) else filter (λ (x : ℕ × ℕ). x.0 % 2 == 1) (enumerate_from (n + 1) ws))) ≡ true
-    by_test true on rest = both_on (P w) (list_all P (map (λ (x : ℕ × ℕ). x.1) (filter (λ (x : ℕ × ℕ). x.0 % 2 == 1) (enumerate_from (n + 1) ws)))) (each zero w refl (let same : n + zero ≡ n = omega arith in ap (λ (x : ℕ). x % 2 == 1) same ∙ on)) rest
+    by_test true on rest = and_from (P w) (list_all P (map (λ (x : ℕ × ℕ). x.1) (filter (λ (x : ℕ × ℕ). x.0 % 2 == 1) (enumerate_from (n + 1) ws)))) (each zero w refl (let same : n + zero ≡ n = omega arith in ap (λ (x : ℕ). x % 2 == 1) same ∙ on)) rest
     by_test false off rest = rest
 
 phi_id : (o : Op) (args : List ℕ) (k : ℕ) → is o code.Phi ≡ true → is_id o args k ≡ true

@@ -3,6 +3,8 @@ use Rattle.std.proofs.Common.{◌≡◌, ◌⊎◌, ◌==◌, ◌&&◌, ◌||◌
 use Rattle.std.specs.Prelude.{slice_get, slice_index, option_map, option_and_then}
 use Rattle.std.specs.Option.{option_map_or, option_or}
 use Rattle.std.specs.List.{enumerate_from}
+use Rattle.std.proofs.lemmas.Bool.{and_from, or_left}
+use Rattle.std.proofs.lemmas.Option.{none-some}
 use Rattle.spv_ops.specs.Opcode.{is, number}
 use Rattle.spv_ops.specs.Groups.{is_chain}
 use Rattle.spv_ops.specs.OpGroups.{group_of}
@@ -60,9 +62,6 @@ as_of [] j in_it = absurd in_it
 as_of (k ∷ is) j (inl same) = inl same
 as_of (k ∷ is) j (inr in_it) = inr (as_of is j in_it)
 
-no_some : {A : Type 0} (a : A) → None ≡ Some a → ⊥
-no_some a e = cc
-
 -- a value is no pointer
 pub value_no_pointer : (gs : List Inst) (f : Function) (n ty : ℕ) (t : Tree) → type_in gs f n ≡ Some ty → type_tree gs ty ≡ Some t → is_pointer gs f n ≡ false
 value_no_pointer gs f n ty t typed shaped = ap (λ (o : Option ℕ). is_some (option_and_then (λ (k : ℕ). option_map (λ (g : Inst). slice_index g.args 0) (pointer gs k)) o)) typed ∙ ap (λ (o : Option Inst). is_some (option_map (λ (g : Inst). slice_index g.args 0) o)) (by_global (global gs ty) shaped)
@@ -74,18 +73,6 @@ value_no_pointer gs f n ty t typed shaped = ap (λ (o : Option ℕ). is_some (op
     by_global : (o : Option Inst) → option_map_or (tree_at gs) o None ≡ Some t → option_and_then as_pointer o ≡ None
     by_global None e = refl
     by_global (Some g) e = by_test g e (is g.op code.TypePointer) refl
-
-both_on : (a b : Bool) → a ≡ true → b ≡ true → (a && b) ≡ true
-both_on true b on e = e
-both_on false b on e = cc
-
-on_left : (a b : Bool) → a ≡ true → (a || b) ≡ true
-on_left true b on = refl
-on_left false b on = cc
-
-on_right : (a b : Bool) → b ≡ true → (a || b) ≡ true
-on_right true b on = refl
-on_right false b on = on
 
 module _ (s : Setting) (entry : Option (List ℕ)) (right : IsConforming s.of entry) (kinds : HaveKinds s.of.globals) (o : Options) (unit : TranslationUnit) (u : IsUnitOf s.of o unit) (p : FunctionPlan) (among : IsIn p u.plans) (lends : LendsWhole s) where
   abbrev gs : List Inst
@@ -114,11 +101,11 @@ module _ (s : Setting) (entry : Option (List ℕ)) (right : IsConforming s.of en
       type_by x at = ap (λ (g : Option Inst). option_or (option_and_then typed g) (local_type Fn n)) local ∙ ap (λ (y : Option ℕ). option_or y (option_and_then typed (inst_in Fn n))) at
 
       by_inst : (x : Option Inst) → inst_in Fn n ≡ x → type_in gs Fn n ≡ option_and_then typed x → (j : Inst) × IsMadeBy n t j
-      by_inst None made type_is = absurd (no_some t (sym (ap (option_and_then (type_tree gs)) type_is) ∙ whole))
+      by_inst None made type_is = absurd (none-some t (sym (ap (option_and_then (type_tree gs)) type_is) ∙ whole))
       by_inst (Some j) made type_is = by_typed (typed j) refl
         where
           by_typed : (x : Option ℕ) → typed j ≡ x → (k : Inst) × IsMadeBy n t k
-          by_typed None lacks = absurd (no_some t (sym (ap (option_and_then (type_tree gs)) (type_is ∙ lacks)) ∙ whole))
+          by_typed None lacks = absurd (none-some t (sym (ap (option_and_then (type_tree gs)) (type_is ∙ lacks)) ∙ whole))
           by_typed (Some ty) is =
               let own = own_type_of j ty is in
               let ty_is : type_in gs Fn n ≡ Some j.ty = type_is ∙ (is ∙ ap (λ (k : ℕ). Some k) (sym own.0)) in
@@ -128,7 +115,7 @@ module _ (s : Setting) (entry : Option (List ℕ)) (right : IsConforming s.of en
       by_parameter None at = inr (by_inst (inst_in Fn n) refl (type_by None at))
       by_parameter (Some ty) at =
           let ty_is : type_in gs Fn n ≡ Some ty = type_by (Some ty) at in
-          inl (both_on (is_parameter Fn n) (not (is_pointer gs Fn n)) (ap is_some at) (ap not (value_no_pointer gs Fn n ty t ty_is (sym (ap (option_and_then (type_tree gs)) ty_is) ∙ whole))))
+          inl (and_from (is_parameter Fn n) (not (is_pointer gs Fn n)) (ap is_some at) (ap not (value_no_pointer gs Fn n ty t ty_is (sym (ap (option_and_then (type_tree gs)) ty_is) ∙ whole))))
 
   -- a result that is a value is one of no variable and of no chain
   module _ (is_one : IsFunctionOf Fn s.of.functions) (n : ℕ) (t : Tree) (j : Inst) (by : IsMadeBy n t j) where
@@ -171,8 +158,8 @@ module _ (s : Setting) (entry : Option (List ℕ)) (right : IsConforming s.of en
           let reached : (nth p.graph home_is.0).reached ≡ true = reached_here s entry right kinds o unit u p among block n i j w b counts by.made by.some_type (shaped_value gs j.ty t by.shaped) same in
           any_in (block_names Where.form p.graph n) (enumerate_from 0 Fn.blocks) (home_is.0, home_is.1) (numbered_first Fn.blocks home_is.0 home_is.1 home_is.2)
           (any_in (names_id Where.form (nth p.graph home_is.0).reached n) home_is.1.insts j home_is.3
-          (both_on _ (j.result == n)
-          (ap (λ (x : Form). has_name_by x (nth p.graph home_is.0).reached (is j.op code.Variable)) (ap Where.form own.1 ∙ form) ∙ on_left (nth p.graph home_is.0).reached (is j.op code.Variable) reached)
+          (and_from _ (j.result == n)
+          (ap (λ (x : Form). has_name_by x (nth p.graph home_is.0).reached (is j.op code.Variable)) (ap Where.form own.1 ∙ form) ∙ or_left (nth p.graph home_is.0).reached (is j.op code.Variable) reached)
           (same_test j.result n own.1)))
 
       -- with a variable at the top; or of the block, with a variable there or without
@@ -183,6 +170,6 @@ module _ (s : Setting) (entry : Option (List ℕ)) (right : IsConforming s.of en
       placed = by_stands stands_so
         where
           by_stands : Stands (Where.form n) home_is.0 b → IsPlaced
-          by_stands (inl top) = inl (both_on (is_hoisted (Where.form n)) (is_result Fn n) (ap is_hoisted top) result_on)
-          by_stands (inr (inl form, same)) = inr (same, inl (both_on (is_local_form (Where.form n)) _ (ap is_local_form form) (both_on (is_result Fn n) _ result_on (named_there same form))))
+          by_stands (inl top) = inl (and_from (is_hoisted (Where.form n)) (is_result Fn n) (ap is_hoisted top) result_on)
+          by_stands (inr (inl form, same)) = inr (same, inl (and_from (is_local_form (Where.form n)) _ (ap is_local_form form) (and_from (is_result Fn n) _ result_on (named_there same form))))
           by_stands (inr (inr form, same)) = inr (same, inr form)

@@ -1,6 +1,7 @@
 -- What the values of a block are written as says what they have: those that an instruction mentions which stands no later than the one that is next.
 use Rattle.std.proofs.Common.{◌≡◌, ◌⊎◌, ◌≤◌, ◌<◌, ◌==◌, ◌&&◌, ℕ, Bool, true, false, List, [], ◌∷◌, ◌++◌, Option, Some, None, unwrap_or, inl, inr, refl, sym, ap, ◌∙◌, subst, arith}
 use Rattle.std.specs.Prelude.{slice_get, slice_index_or, option_map, option_and_then}
+use Rattle.std.proofs.lemmas.Option.{same_Some}
 use Rattle.spv_ops.specs.OpGroups.{group_of}
 use Rattle.spv_module.specs.Held.{global}
 use Rattle.spv_module.specs.Lists.{id}
@@ -42,7 +43,6 @@ use Rattle.block_law.specs.Ranked.{operand_ids, AreBelow, AreUsableBelow, IsForw
 use Rattle.block_law.proofs.Steady.{written_as, written_by_name}
 use Rattle.call_law.specs.Known.{IsFunctionOf, LendsWhole}
 use Rattle.typed_law.specs.Conforms.{IsConforming}
-use Rattle.typed_law.proofs.Lists.{same_some}
 use Rattle.typed_law.proofs.Values.{typed_result, has_a_type, inside}
 use Rattle.claim_law.specs.Claimed.{IsIn, HasName}
 use Rattle.claim_law.proofs.Constants.{found_in}
@@ -181,7 +181,7 @@ module _ (s : Setting) (entry : Option (List ℕ)) (right : IsConforming s.of en
       by_way : (HasName (Found s entry right kinds o unit u p among) (Id (id n)) × (Where.form n ≡ Forwarded → ⊥)) ⊎ ((j : Inst) × IsOwnResult s entry right kinds o unit u p among b n r.value.shape j) → AreUsableBelow (IsReady at) rank (rank n) (operand_ids i)
       by_way (inl named) = absurd (named.1 by.form)
       by_way (inr w) =
-          let same : w.0 ≡ i = same_some w.0 i (sym w.1.0 ∙ by.there) in
+          let same : w.0 ≡ i = same_Some w.0 i (sym w.1.0 ∙ by.there) in
           subst (λ (j : Inst). AreUsableBelow (IsReady at) rank (rank n) (operand_ids j)) same
           (all_ready at n r w.0 w.1 (operand_ids w.0) (λ k k_in. k_in)
           (subst (λ (j : Inst). AreBelow rank (rank n) (operand_ids j)) (sym same) ((ranked s entry right kinds o unit u p among b).falls n i r.value by)))
@@ -219,7 +219,7 @@ module _ (s : Setting) (entry : Option (List ℕ)) (right : IsConforming s.of en
       by_placed j by (inr (same, inl form)) =
           let home = home_is s entry right kinds o unit u p among lends is_one n r.value.shape j by b r.value.user r.value.mentioned b (counts_here s entry right kinds o unit u p among b r.value.user n r.value.mentioned r.value.no_phi) in
           let of_it = found_in (insts_of Fn) n j by.made in
-          let block_is : home.1 ≡ body.block = same_some home.1 body.block (sym home.2 ∙ (ap (λ (k : ℕ). slice_get Fn.blocks k) same ∙ body.there)) in
+          let block_is : home.1 ≡ body.block = same_Some home.1 body.block (sym home.2 ∙ (ap (λ (k : ℕ). slice_get Fn.blocks k) same ∙ body.there)) in
           let local_is : Where.form j.result ≡ Local = ap Where.form of_it.1 ∙ local_form_is (Where.form n) (left_on (is_local_form (Where.form n)) _ form) in
           inr (names.local n form, have_done done j n (made_done n r j by.made by.shaped (subst (λ (x : Block). IsIn j x.insts) block_is home.3) (local_no_phi s entry right kinds o unit u p among j of_it.0 local_is)) of_it.1)
       by_placed j by (inr (same, inr form)) = absurd (named form)
