@@ -1,3 +1,4 @@
 pub mod Narrowed
 pub mod Acts
 pub mod Ready
+pub mod About

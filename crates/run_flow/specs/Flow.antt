@@ -58,10 +58,7 @@ branch_by end s c rest i = steps.branch_step end s c i
 abbrev pub call_to : Function → Setting → state.Conf → List Inst → Inst → Act state.Conf
 call_to f s c rest i = with_some (each_one (held s c.top) (drop 1 i.args)) (λ arguments. goes [] (steps.called s c rest i f arguments))
 
--- the returns
-abbrev pub return_by : Setting → state.Conf → Act state.Conf
-return_by s c = steps.return_step c c.below
-
+-- the return of a value
 abbrev pub return_value_by : Setting → state.Conf → List Inst → Inst → Act state.Conf
 return_value_by s c rest i = steps.return_value_step s c i
 

@@ -1,16 +1,13 @@
 // Edges between blocks.
 ghost use Rattle.std.specs.Prelude.{◌≡◌, List, Some, IfOk, OnErr, option_map, slice_get};
 ghost use Rattle.spv_module.specs.declared.inst.Function.{Function};
-ghost use Rattle.spv_types.specs.View.{value_of};
 ghost use Rattle.op_semantics.specs.Component.{each_one};
-ghost use Rattle.memory_places.specs.Kernel.{ForEach};
-ghost use Rattle.run_state.specs.Ids.{ids_of};
-ghost use Rattle.run_state.specs.Confs.{function_at};
-ghost use Rattle.run_acts.specs.Acts.{IsStepOf, IsStill};
+ghost use Rattle.run_acts.specs.About.{value_of, ForEach, ids_of, function_at, IsStepOf, IsStill};
 ghost use Rattle.run_flow.specs.Flow.{values_of, phi_by, edge_to, edge_by, branch_by, IsMoveOf};
 
 use crate::targets::target_label;
 use memory_places::MemoryMap;
+use run_acts::Site;
 use run_operands::value;
 use run_state::{Conf, Ids, go_to, phis_of, present_label, source_from};
 use spv_index::Locals;
@@ -104,19 +101,17 @@ fn edge_step(
 /// that is chosen. There is no meaning where none is chosen, and there is an error only for want of memory, which leaves all as it
 /// was.
 pub fn branch_step(
-    alloc: Global,
-    map: &MemoryMap<'_>,
+    site: &Site,
     locals: &Locals<'_>,
     end: Terminator,
     conf: &mut Conf,
-    inst: &Inst,
 ) -> Result<Step, Memory>
-    requires here { function_at map.now.of.functions conf.old.top.function ≡ locals.now }
-    ensures step { ForEach map.now (λ s. IfOk result (IsStepOf (branch_by end) s conf.old conf.new inst.now)) }
-    ensures err { OnErr result (IsStill map.now conf.old conf.new) }
+    requires here { function_at site.now.map.now.of.functions conf.old.top.function ≡ locals.now }
+    ensures step { ForEach site.now.map.now (λ s. IfOk result (IsStepOf (branch_by end) s conf.old conf.new site.now.inst.now)) }
+    ensures err { OnErr result (IsStill site.now.map.now conf.old conf.new) }
 {
-    match target_label(map, &conf.top, end, inst) {
+    match target_label(site.map, &conf.top, end, site.inst) {
         None => Ok(Step::Fails),
-        Some(label) => edge_step(alloc, map, locals, conf, label),
+        Some(label) => edge_step(site.alloc, site.map, locals, conf, label),
     }
 }

@@ -1,22 +1,18 @@
 // Calls that end, and instructions of which nothing is to do.
 ghost use Rattle.std.specs.Prelude.{◌≡◌, ◌+◌, ◌<◌, ◌^◌, List, [], IfOk, OnErr, option_map};
 ghost use Rattle.spv_module.specs.declared.inst.Function.{Function};
-ghost use Rattle.spv_types.specs.View.{value_of};
 ghost use Rattle.traces.specs.Runs.{goes};
 ghost use Rattle.module_semantics.specs.Steps as steps;
-ghost use Rattle.memory_places.specs.Kernel.{ForEach};
-ghost use Rattle.run_state.specs.Ids.{ids_of};
-ghost use Rattle.run_state.specs.Confs.{conf_of, behind};
 ghost use Rattle.run_operands.specs.Looks.{value_by};
-ghost use Rattle.run_acts.specs.Narrowed.{narrowed};
-ghost use Rattle.run_acts.specs.Acts.{IsAct, IsStepOf, IsStill};
+ghost use Rattle.run_acts.specs.About.{value_of, ForEach, ids_of, behind, conf_of, narrowed, IsAct, IsStepOf, IsStill};
 ghost use Rattle.run_flow.specs.Flow.{return_value_by};
 
 use memory_places::MemoryMap;
+use run_acts::Site;
 use run_calls::give;
 use run_operands::value;
 use run_state::{Conf, Ids, advance, leave};
-use spv_module::{Inst, Value};
+use spv_module::Value;
 use spv_words::Memory;
 use std::alloc::Global;
 use step_run::Step;
@@ -73,16 +69,11 @@ fn give_back(conf: &mut Conf, value: Value) -> Result<Step, Memory>
 /// OpReturnValue (SPIR-V 1.6, section "Control-Flow Instructions"): the call below goes on with the value, and with the first call the
 /// invocation ends. There is no meaning where the operand has no value. There is an error only for want of memory, which leaves all
 /// as it was.
-pub fn return_value_step(
-    alloc: Global,
-    map: &MemoryMap<'_>,
-    conf: &mut Conf,
-    inst: &Inst,
-) -> Result<Step, Memory>
-    ensures step { ForEach map.now (λ s. IfOk result (IsStepOf return_value_by s conf.old conf.new inst.now)) }
-    ensures err { OnErr result (IsStill map.now conf.old conf.new) }
+pub fn return_value_step(site: &Site, conf: &mut Conf) -> Result<Step, Memory>
+    ensures step { ForEach site.now.map.now (λ s. IfOk result (IsStepOf return_value_by s conf.old conf.new site.now.inst.now)) }
+    ensures err { OnErr result (IsStill site.now.map.now conf.old conf.new) }
 {
-    match value_again(alloc, map, &conf.top.ids, inst.operand(0))? {
+    match value_again(site.alloc, site.map, &conf.top.ids, site.inst.operand(0))? {
         None => Ok(Step::Fails),
         Some(value) => give_back(conf, value),
     }

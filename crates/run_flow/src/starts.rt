@@ -1,11 +1,9 @@
 // What variables have at the start.
 ghost use Rattle.std.specs.Prelude.{◌≡◌, ◌++◌, ℕ, IfOk, OnOk, option_map};
 ghost use Rattle.spv_index.specs.Locals.{insts_of};
-ghost use Rattle.spv_types.specs.View.{value_of};
 ghost use Rattle.module_semantics.specs.Accesses as accesses;
-ghost use Rattle.memory_places.specs.Kernel.{plain};
 ghost use Rattle.memory_places.specs.Starts.{start_of};
-ghost use Rattle.run_state.specs.Ids.{variables_of};
+ghost use Rattle.run_acts.specs.About.{value_of, plain, variables_of};
 ghost use Rattle.run_flow.specs.Begun.{variables_among, with_entry};
 
 use memory_places::{MemoryMap, Start};

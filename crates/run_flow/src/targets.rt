@@ -3,8 +3,7 @@ ghost use Rattle.std.specs.Prelude.{◌≡◌, List, option_map, drop, if◌then
 ghost use Rattle.spv_module.specs.declared.inst.Function.{Function};
 ghost use Rattle.module_semantics.specs.Operands.{arg};
 ghost use Rattle.module_semantics.specs.Steps as steps;
-ghost use Rattle.memory_places.specs.Kernel.{ForEach};
-ghost use Rattle.run_state.specs.Confs.{frame_of};
+ghost use Rattle.run_acts.specs.About.{ForEach, frame_of};
 
 use memory_places::MemoryMap;
 use run_operands::{truth, word};

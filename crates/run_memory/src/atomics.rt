@@ -5,18 +5,15 @@ ghost use Rattle.spv_module.specs.declared.inst.Inst.{Inst as Instruction};
 ghost use Rattle.op_semantics.specs.Component.{before};
 ghost use Rattle.step_events.specs.Asked.{asked};
 ghost use Rattle.module_semantics.specs.Steps as steps;
-ghost use Rattle.memory_places.specs.Kernel.{ForEach};
-ghost use Rattle.run_state.specs.Ids.{ids_of, root_of};
-ghost use Rattle.run_state.specs.Confs.{conf_of};
 ghost use Rattle.run_operands.specs.Looks.{word_by};
-ghost use Rattle.run_acts.specs.Acts.{IsStepOf};
+ghost use Rattle.run_acts.specs.About.{ForEach, ids_of, root_of, conf_of, IsStepOf};
 ghost use Rattle.run_memory.specs.Outcomes.{update_in, update_at, updated_by};
 
 use crate::operands::pointer_at;
 use group_items::Event;
 use memory_places::MemoryMap;
 use op_semantics::{Unary, unary_word};
-use run_acts::seen;
+use run_acts::{Site, seen};
 use run_operands::{word, words};
 use run_state::{Conf, Ids, Root};
 use spv_module::Inst;
@@ -72,17 +69,20 @@ fn words_from(
 
 /// What an atomic instruction changes along a path in a variable.
 fn update_along<'s>(
-    alloc: Global,
-    map: &MemoryMap<'_>,
+    site: &Site,
     op: AtomicOp,
     conf: &Conf,
-    inst: &Inst,
     variable: &'s Inst,
     path: &'s [u32],
 ) -> Result<Option<Update<'s>>, Memory>
-    ensures { ForEach map.now (λ s. IfOk result (λ u. (fs : List Function) (rest : List Instruction) → update_in s (conf_of fs conf.now) rest inst.now op path.now variable.now ≡ updated_by s (conf_of fs conf.now) rest inst.now op u)) }
+    ensures { ForEach site.now.map.now (λ s. IfOk result (λ u. (fs : List Function) (rest : List Instruction) → update_in s (conf_of fs conf.now) rest site.now.inst.now op path.now variable.now ≡ updated_by s (conf_of fs conf.now) rest site.now.inst.now op u)) }
 {
-    match words_from(alloc, map, &conf.top.ids, atomic_operands(op, inst))? {
+    match words_from(
+        site.alloc,
+        site.map,
+        &conf.top.ids,
+        atomic_operands(op, site.inst),
+    )? {
         None => Ok(None),
         Some(operands) => {
             Ok(Some(Update {
@@ -96,53 +96,43 @@ fn update_along<'s>(
 
 /// The same in any variable.
 fn update_there<'s>(
-    alloc: Global,
-    map: &'s MemoryMap<'_>,
+    site: &Site<'s, '_>,
     op: AtomicOp,
     conf: &Conf,
-    inst: &Inst,
     root: Root,
     path: &'s [u32],
 ) -> Result<Option<Update<'s>>, Memory>
-    ensures { ForEach map.now (λ s. IfOk result (λ u. (fs : List Function) (rest : List Instruction) → update_at s (conf_of fs conf.now) rest inst.now op (root_of root, path.now) ≡ updated_by s (conf_of fs conf.now) rest inst.now op u)) }
+    ensures { ForEach site.now.map.now (λ s. IfOk result (λ u. (fs : List Function) (rest : List Instruction) → update_at s (conf_of fs conf.now) rest site.now.inst.now op (root_of root, path.now) ≡ updated_by s (conf_of fs conf.now) rest site.now.inst.now op u)) }
 {
-    match seen(map, root) {
+    match seen(site.map, root) {
         None => Ok(None),
-        Some(variable) => update_along(alloc, map, op, conf, inst, variable, path),
+        Some(variable) => update_along(site, op, conf, variable, path),
     }
 }
 
 /// What an atomic instruction changes; nothing, where it has no meaning.
 pub fn update_of<'s>(
-    alloc: Global,
-    map: &'s MemoryMap<'_>,
+    site: &Site<'s, '_>,
     op: AtomicOp,
     conf: &'s Conf,
-    inst: &Inst,
 ) -> Result<Option<Update<'s>>, Memory>
-    ensures { ForEach map.now (λ s. IfOk result (λ u. (fs : List Function) (rest : List Instruction) → steps.atomic_step op s (conf_of fs conf.now) rest inst.now ≡ updated_by s (conf_of fs conf.now) rest inst.now op u)) }
+    ensures { ForEach site.now.map.now (λ s. IfOk result (λ u. (fs : List Function) (rest : List Instruction) → steps.atomic_step op s (conf_of fs conf.now) rest site.now.inst.now ≡ updated_by s (conf_of fs conf.now) rest site.now.inst.now op u)) }
 {
-    match pointer_at(map, &conf.top.ids, inst, 0) {
+    match pointer_at(site.map, &conf.top.ids, site.inst, 0) {
         None => Ok(None),
-        Some((root, path)) => update_there(alloc, map, op, conf, inst, root, path),
+        Some((root, path)) => update_there(site, op, conf, root, path),
     }
 }
 
 /// An atomic instruction: the word that it finds is asked for, and the event has 0 for it yet. There is an error only for want of
 /// memory (SPIR-V 1.6, section "Atomic Instructions").
-pub fn atomic_step(
-    alloc: Global,
-    map: &MemoryMap<'_>,
-    op: AtomicOp,
-    conf: &Conf,
-    inst: &Inst,
-) -> Result<Step, Memory>
-    ensures { ForEach map.now (λ s. IfOk result (IsStepOf (steps.atomic_step op) s conf.now conf.now inst.now)) }
+pub fn atomic_step(site: &Site, op: AtomicOp, conf: &Conf) -> Result<Step, Memory>
+    ensures { ForEach site.now.map.now (λ s. IfOk result (IsStepOf (steps.atomic_step op) s conf.now conf.now site.now.inst.now)) }
 {
-    match update_of(alloc, map, op, conf, inst)? {
+    match update_of(site, op, conf)? {
         None => Ok(Step::Fails),
         Some(update) => {
-            let place = map.location(alloc, update.variable, update.path)?;
+            let place = site.map.location(site.alloc, update.variable, update.path)?;
             Ok(Step::Asks(Event::Rmw(atomic_kind(op), place, update.operands, 0)))
         }
     }

@@ -1,14 +1,10 @@
 // What variables have that no other invocation sees.
 ghost use Rattle.std.specs.Prelude.{◌≡◌, List, Some, option_map, option_and_then};
 ghost use Rattle.spv_module.specs.declared.inst.Function.{Function};
-ghost use Rattle.spv_types.specs.View.{value_of};
 ghost use Rattle.op_semantics.specs.Composite.{extracted};
-ghost use Rattle.group_items.specs.Sides.{told_of, IsWhole};
 ghost use Rattle.module_semantics.specs.Accesses as accesses;
 ghost use Rattle.module_semantics.specs.State as state;
-ghost use Rattle.memory_places.specs.Kernel.{setting_for};
-ghost use Rattle.run_state.specs.Ids.{root_of};
-ghost use Rattle.run_state.specs.Confs.{conf_of};
+ghost use Rattle.run_acts.specs.About.{value_of, told_of, IsWhole, setting_for, root_of, conf_of};
 
 use group_items::Invocation;
 use memory_places::{MemoryMap, class_of};

@@ -12,7 +12,7 @@ mod taking;
 mod writes;
 
 pub use atomics::atomic_step;
-pub use barriers::{control_barrier_step, memory_barrier_step};
+pub use barriers::{Barrier, barrier_step};
 pub use loads::load_step;
 pub use taking::take;
 pub use writes::store_step;

@@ -2,26 +2,21 @@
 ghost use Rattle.std.specs.Prelude.{◌≡◌, ◌+◌, ◌<◌, ◌^◌, List, Some, None, IfOk, OnErr};
 ghost use Rattle.spv_module.specs.declared.inst.Function.{Function};
 ghost use Rattle.spv_module.specs.declared.inst.Inst.{Inst as Instruction};
-ghost use Rattle.spv_types.specs.View.{tree_of};
 ghost use Rattle.traces.specs.Events.{reading};
 ghost use Rattle.group_items.specs.Events.{event_of, access_of};
-ghost use Rattle.group_items.specs.Sides.{told_of, IsWhole};
 ghost use Rattle.module_semantics.specs.Accesses as accesses;
 ghost use Rattle.module_semantics.specs.State as state;
 ghost use Rattle.module_semantics.specs.Steps as steps;
-ghost use Rattle.memory_places.specs.Kernel.{setting_for, ForEach};
 ghost use Rattle.memory_places.specs.Leaves.{places_with};
-ghost use Rattle.run_state.specs.Ids.{root_of};
-ghost use Rattle.run_state.specs.Confs.{conf_of};
-ghost use Rattle.run_acts.specs.Narrowed.{narrowed, narrow_access};
-ghost use Rattle.run_acts.specs.Acts.{IsStepOf, IsStill};
+ghost use Rattle.run_acts.specs.About.{tree_of, told_of, IsWhole, setting_for, ForEach, root_of, conf_of, narrowed, IsStepOf, IsStill};
+ghost use Rattle.run_acts.specs.Narrowed.{narrow_access};
 ghost use Rattle.run_memory.specs.Outcomes.{loaded_from, IsLoaded};
 
 use crate::kept::part_kept;
 use crate::operands::pointer_at;
 use group_items::{Event, Invocation};
 use memory_places::MemoryMap;
-use run_acts::{seen, set_result};
+use run_acts::{Site, seen, set_result};
 use run_state::{Conf, Held, Root};
 use spv_module::{Inst, Shape, Value};
 use spv_words::Memory;
@@ -77,17 +72,12 @@ fn source_at<'s>(
 }
 
 /// Where a load reads.
-pub fn source_of<'s>(
-    alloc: Global,
-    map: &'s MemoryMap<'_>,
-    conf: &'s Conf,
-    inst: &Inst,
-) -> Result<Source<'s>, Memory>
-    ensures { ForEach map.now (λ s. IfOk result (λ source. (fs : List Function) (rest : List Instruction) → steps.load_step s (conf_of fs conf.now) rest inst.now ≡ loaded_from s (conf_of fs conf.now) rest inst.now source)) }
+pub fn source_of<'s>(site: &Site<'s, '_>, conf: &'s Conf) -> Result<Source<'s>, Memory>
+    ensures { ForEach site.now.map.now (λ s. IfOk result (λ source. (fs : List Function) (rest : List Instruction) → steps.load_step s (conf_of fs conf.now) rest site.now.inst.now ≡ loaded_from s (conf_of fs conf.now) rest site.now.inst.now source)) }
 {
-    match pointer_at(map, &conf.top.ids, inst, 0) {
+    match pointer_at(site.map, &conf.top.ids, site.inst, 0) {
         None => Ok(Source::Missing),
-        Some((root, path)) => source_at(alloc, map, root, path),
+        Some((root, path)) => source_at(site.alloc, site.map, root, path),
     }
 }
 
@@ -124,21 +114,15 @@ fn load_kept(
 }
 
 /// What a load comes to.
-fn load(
-    alloc: Global,
-    map: &MemoryMap<'_>,
-    inv: &Invocation,
-    conf: &Conf,
-    inst: &Inst,
-) -> Result<Loaded, Memory>
+fn load(site: &Site, inv: &Invocation, conf: &Conf) -> Result<Loaded, Memory>
     requires { IsWhole inv.now }
-    ensures { IfOk result (λ l. (fs : List Function) (rest : List Instruction) → IsLoaded (narrowed (steps.load_step (setting_for map.now (told_of inv.now)) (conf_of fs conf.now) rest inst.now)) (conf_of fs conf.now) rest inst.now l) }
+    ensures { IfOk result (λ l. (fs : List Function) (rest : List Instruction) → IsLoaded (narrowed (steps.load_step (setting_for site.now.map.now (told_of inv.now)) (conf_of fs conf.now) rest site.now.inst.now)) (conf_of fs conf.now) rest site.now.inst.now l) }
 {
-    match source_of(alloc, map, conf, inst)? {
+    match source_of(site, conf)? {
         Source::Missing => Ok(Loaded::Missing),
-        Source::Kept(root, path) => load_kept(alloc, map, inv, conf, root, path),
+        Source::Kept(root, path) => load_kept(site.alloc, site.map, inv, conf, root, path),
         Source::Seen(variable, path, shape) => {
-            Ok(Loaded::Asked(read_event(alloc, map, variable, path, &shape)?))
+            Ok(Loaded::Asked(read_event(site.alloc, site.map, variable, path, &shape)?))
         }
     }
 }
@@ -146,21 +130,15 @@ fn load(
 /// OpLoad. Of a variable that other invocations see the words are asked for: the event has none yet. There is an error only for
 /// want of memory, and it leaves all as it was (SPIR-V 1.6, section "Memory
 /// Instructions").
-pub fn load_step(
-    alloc: Global,
-    map: &MemoryMap<'_>,
-    inv: &Invocation,
-    conf: &mut Conf,
-    inst: &Inst,
-) -> Result<Step, Memory>
+pub fn load_step(site: &Site, inv: &Invocation, conf: &mut Conf) -> Result<Step, Memory>
     requires told { IsWhole inv.now }
     requires room { conf.old.top.at + 1 < 2 ^ 64 }
-    ensures step { IfOk result (IsStepOf steps.load_step (setting_for map.now (told_of inv.now)) conf.old conf.new inst.now) }
-    ensures err { OnErr result (IsStill map.now conf.old conf.new) }
+    ensures step { IfOk result (IsStepOf steps.load_step (setting_for site.now.map.now (told_of inv.now)) conf.old conf.new site.now.inst.now) }
+    ensures err { OnErr result (IsStill site.now.map.now conf.old conf.new) }
 {
-    match load(alloc, map, inv, conf, inst)? {
+    match load(site, inv, conf)? {
         Loaded::Missing => Ok(Step::Fails),
-        Loaded::Value(value) => set_result(conf, inst, Held::Value(value)),
+        Loaded::Value(value) => set_result(conf, site.inst, Held::Value(value)),
         Loaded::Asked(event) => Ok(Step::Asks(event)),
     }
 }

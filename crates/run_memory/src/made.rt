@@ -5,8 +5,7 @@ ghost use Rattle.traces.specs.Runs.{goes};
 ghost use Rattle.group_items.specs.Events.{event_of};
 ghost use Rattle.step_run.specs.Answers.{answers_in};
 ghost use Rattle.module_semantics.specs.Steps.{advanced};
-ghost use Rattle.run_state.specs.Confs.{behind, conf_of};
-ghost use Rattle.run_acts.specs.Acts.{IsAct};
+ghost use Rattle.run_acts.specs.About.{behind, conf_of, IsAct};
 
 use group_items::Event;
 use run_state::{Conf, advance};

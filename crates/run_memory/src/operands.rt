@@ -1,10 +1,9 @@
 // Operands of an instruction, by their places.
 ghost use Rattle.std.specs.Prelude.{◌≡◌, option_map};
-ghost use Rattle.spv_types.specs.View.{value_of};
 ghost use Rattle.module_semantics.specs.Operands.{arg};
-ghost use Rattle.run_state.specs.Ids.{ids_of};
 ghost use Rattle.run_operands.specs.Targets.{target_of};
 ghost use Rattle.run_operands.specs.Looks.{value_by, word_by, pointer_by};
+ghost use Rattle.run_acts.specs.About.{value_of, ids_of};
 
 use memory_places::MemoryMap;
 use run_operands::{pointer, value, word};

@@ -1,29 +1,24 @@
 // OpStore.
 ghost use Rattle.std.specs.Prelude.{◌≡◌, ◌+◌, ◌<◌, ◌^◌, ℕ, List, [], ◌∷◌, IfOk, OnOk, OnErr, option_and_then};
 ghost use Rattle.spv_module.specs.declared.inst.Function.{Function};
-ghost use Rattle.spv_types.specs.View.{value_of};
 ghost use Rattle.op_semantics.specs.Composite.{inserted};
 ghost use Rattle.traces.specs.Events as trace;
 ghost use Rattle.traces.specs.Runs.{goes};
 ghost use Rattle.group_items.specs.Events.{locations_of};
-ghost use Rattle.group_items.specs.Sides.{told_of, IsWhole};
 ghost use Rattle.module_semantics.specs.Accesses.{keeping};
 ghost use Rattle.module_semantics.specs.State as state;
 ghost use Rattle.module_semantics.specs.Steps as steps;
-ghost use Rattle.memory_places.specs.Kernel.{setting_for};
-ghost use Rattle.run_state.specs.Ids.{root_of, variables_of};
-ghost use Rattle.run_state.specs.Confs.{behind, conf_of};
 ghost use Rattle.run_variables.specs.Stored.{kept_by};
-ghost use Rattle.run_acts.specs.Acts.{IsAct, IsStepOf, IsStill};
-ghost use Rattle.run_memory.specs.Outcomes.{kept_with};
+ghost use Rattle.run_acts.specs.About.{value_of, told_of, IsWhole, setting_for, root_of, variables_of, behind, conf_of, IsAct, IsStepOf, IsStill};
+ghost use Rattle.run_memory.specs.Outcomes.{kept_with, stored_by};
 
 use crate::made::make;
 use crate::stores::{Stored, store_of};
 use group_items::{Event, Invocation, LeafPlace};
-use memory_places::MemoryMap;
+use run_acts::Site;
 use run_state::{Conf, Root, advance};
 use run_variables::store_at;
-use spv_module::{Inst, Value};
+use spv_module::Value;
 use spv_words::Memory;
 use std::alloc::Global;
 use std::collections::BTreeMap;
@@ -77,24 +72,28 @@ fn write(
     Ok(make(conf, events))
 }
 
-/// OpStore. There is an error only for want of memory, and it leaves all as it was (SPIR-V 1.6, section "Memory
-/// Instructions").
-pub fn store_step(
-    alloc: Global,
-    map: &MemoryMap<'_>,
-    inv: &Invocation,
-    conf: &mut Conf,
-    inst: &Inst,
-) -> Result<Step, Memory>
-    requires told { IsWhole inv.now }
+/// Does what a store comes to, and goes on behind the instruction.
+fn settle(alloc: Global, conf: &mut Conf, stored: Stored) -> Result<Step, Memory>
     requires room { conf.old.top.at + 1 < 2 ^ 64 }
-    ensures step { IfOk result (IsStepOf steps.store_step (setting_for map.now (told_of inv.now)) conf.old conf.new inst.now) }
-    ensures err { OnErr result (IsStill map.now conf.old conf.new) }
+    ensures step { (fs : List Function) → IfOk result (IsAct (stored_by (conf_of fs conf.old) (behind fs conf.old) stored) (conf_of fs conf.old) (conf_of fs conf.new)) }
+    ensures err { (fs : List Function) → OnErr result (conf_of fs conf.new ≡ conf_of fs conf.old) }
 {
-    match store_of(alloc, map, inv, conf, inst)? {
+    match stored {
         Stored::Missing => Ok(Step::Fails),
         Stored::Part(root, path, value) => Ok(replace(conf, root, &path, value)),
         Stored::Whole(id, value) => keep(conf, id, value),
         Stored::Seen(places, words) => write(alloc, conf, places, words),
     }
+}
+
+/// OpStore. There is an error only for want of memory, and it leaves all as it was (SPIR-V 1.6, section "Memory
+/// Instructions").
+pub fn store_step(site: &Site, inv: &Invocation, conf: &mut Conf) -> Result<Step, Memory>
+    requires told { IsWhole inv.now }
+    requires room { conf.old.top.at + 1 < 2 ^ 64 }
+    ensures step { IfOk result (IsStepOf steps.store_step (setting_for site.now.map.now (told_of inv.now)) conf.old conf.new site.now.inst.now) }
+    ensures err { OnErr result (IsStill site.now.map.now conf.old conf.new) }
+{
+    let stored = store_of(site, inv, conf)?;
+    settle(site.alloc, conf, stored)
 }

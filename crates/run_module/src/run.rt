@@ -14,6 +14,7 @@ use command_line::RunLimit;
 use constant_values::resolve;
 use dispatch_case::Case;
 use group_sched::Stop;
+use memory_places::MemoryMap;
 use module_check::check_module;
 use profile_check::{Entry, Options};
 use run_lines::run_program;
@@ -39,9 +40,9 @@ fn run_from(
     case: &Case,
     entry: &Entry,
 ) -> Result<CaseRun, Fault>
+    requires passes { IsFine «module».now (asked options.now) }
     requires heads { decor.now ≡ «module».now.heads }
     requires read { IsRead «module».now }
-    requires passes { IsFine «module».now (asked options.now) }
     requires can { CanRun «module».now entry.now.function.0 }
     requires size { entry.now.size.items ≡ group_size «module».now entry.now.function.0 }
     requires fine { IsTrue (is_fine (parts_of case.now)) }
@@ -51,7 +52,8 @@ fn run_from(
     let overrides = &options.overrides;
     let special = words_given(alloc, overrides.pairs.as_slice())?;
     let constants = resolve(alloc, module, decor, overrides, &special)?;
-    let program = ModuleProgram::new(alloc, module, decor, &constants, entry.function)?;
+    let map = MemoryMap::new(alloc, module, decor, &constants, entry.function)?;
+    let program = ModuleProgram::new(alloc, map, entry.function)?;
     let size = size_of(entry.size.as_slice(), &special);
     match run_program(alloc, program, case, size, special) {
         Ok(lines) => Ok(CaseRun::Said(lines)),
@@ -70,9 +72,9 @@ pub fn run_case(
     options: &Options,
     case: &Case,
 ) -> Result<CaseRun, Fault>
+    requires fine { IsTrue (is_fine (parts_of case.now)) }
     requires heads { decor.now ≡ «module».now.heads }
     requires read { IsRead «module».now }
-    requires fine { IsTrue (is_fine (parts_of case.now)) }
     ensures passes { OnOk result (IsFine «module».now (asked options.now)) }
     ensures run { IfOk result (IsRunOf «module».now (asked options.now) (parts_of case.now)) }
     ensures refused { IfErr result (IsFault «module».now (asked options.now)) }

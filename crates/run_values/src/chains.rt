@@ -3,13 +3,12 @@ ghost use Rattle.std.specs.Prelude.{◌≡◌, ◌+◌, ◌<◌, ◌^◌, ◌++�
 ghost use Rattle.spv_module.specs.declared.inst.Function.{Function};
 ghost use Rattle.traces.specs.Runs.{goes};
 ghost use Rattle.module_semantics.specs.Steps as steps;
-ghost use Rattle.memory_places.specs.Kernel.{ForEach};
-ghost use Rattle.run_state.specs.Ids.{held_of, is_listed};
-ghost use Rattle.run_state.specs.Confs.{behind, conf_of, frame_of, function_at};
-ghost use Rattle.run_acts.specs.Acts.{IsAct, IsStepOf, IsStill};
+ghost use Rattle.run_state.specs.Ids.{is_listed};
+ghost use Rattle.run_acts.specs.About.{ForEach, held_of, behind, conf_of, frame_of, function_at, IsAct, IsStepOf, IsStill};
 ghost use Rattle.run_values.specs.Chained.{allows as allows_of, chained, led_without};
 
 use memory_places::MemoryMap;
+use run_acts::Site;
 use run_operands::{pointer, words};
 use run_state::{Conf, Frame, Held, forget_all, set};
 use spv_index::{Locals, behind_first, pointee_of};
@@ -42,24 +41,23 @@ fn joined(alloc: Global, path: &[u32], indexes: Vec<u32>) -> Result<Vec<u32>, Me
 }
 
 /// Where a chain leads: as far as its base, and on by its indexes, if these are allowed.
-fn target(
-    alloc: Global,
-    map: &MemoryMap<'_>,
-    locals: &Locals,
-    frame: &Frame,
-    inst: &Inst,
-) -> Result<Option<Held>, Memory>
-    requires here { function_at map.now.of.functions frame.now.function ≡ locals.now }
-    ensures { ForEach map.now (λ s. IfOk result (λ held. option_map held_of held ≡ chained s (frame_of s.of.functions frame.now) inst.now)) }
+fn target(site: &Site, locals: &Locals, frame: &Frame) -> Result<Option<Held>, Memory>
+    requires here { function_at site.now.map.now.of.functions frame.now.function ≡ locals.now }
+    ensures { ForEach site.now.map.now (λ s. IfOk result (λ held. option_map held_of held ≡ chained s (frame_of s.of.functions frame.now) site.now.inst.now)) }
 {
-    let base = inst.operand(0);
-    match pointer(map, &frame.ids, base) {
+    let base = site.inst.operand(0);
+    match pointer(site.map, &frame.ids, base) {
         None => Ok(None),
-        Some((root, path)) => match words(alloc, map, &frame.ids, behind_first(inst))? {
+        Some((root, path)) => match words(
+            site.alloc,
+            site.map,
+            &frame.ids,
+            behind_first(site.inst),
+        )? {
             None => Ok(None),
             Some(indexes) => {
-                if allows(map, locals, base, &indexes) {
-                    Ok(Some(Held::Pointer(root, joined(alloc, path, indexes)?)))
+                if allows(site.map, locals, base, &indexes) {
+                    Ok(Some(Held::Pointer(root, joined(site.alloc, path, indexes)?)))
                 } else {
                     Ok(None)
                 }
@@ -84,21 +82,19 @@ fn lead(conf: &mut Conf, inst: &Inst, based: &[u32], held: Held) -> Result<Step,
 /// based on it have nothing until they are set again; the function and the ids of these chains are given. There is an error only
 /// for want of memory, and it leaves all as it was.
 pub fn chain_step(
-    alloc: Global,
-    map: &MemoryMap<'_>,
+    site: &Site,
     locals: &Locals,
     based: &[u32],
     conf: &mut Conf,
-    inst: &Inst,
 ) -> Result<Step, Memory>
     requires room { conf.old.top.at + 1 < 2 ^ 64 }
-    requires here { function_at map.now.of.functions conf.old.top.function ≡ locals.now }
-    requires based { (id : ℕ) → is_listed based.now id ≡ steps.is_based_on locals.now inst.now.result id }
-    ensures step { ForEach map.now (λ s. IfOk result (IsStepOf steps.chain_step s conf.old conf.new inst.now)) }
-    ensures err { OnErr result (IsStill map.now conf.old conf.new) }
+    requires here { function_at site.now.map.now.of.functions conf.old.top.function ≡ locals.now }
+    requires based { (id : ℕ) → is_listed based.now id ≡ steps.is_based_on locals.now site.now.inst.now.result id }
+    ensures step { ForEach site.now.map.now (λ s. IfOk result (IsStepOf steps.chain_step s conf.old conf.new site.now.inst.now)) }
+    ensures err { OnErr result (IsStill site.now.map.now conf.old conf.new) }
 {
-    match target(alloc, map, locals, &conf.top, inst)? {
+    match target(site, locals, &conf.top)? {
         None => Ok(Step::Fails),
-        Some(held) => lead(conf, inst, based, held),
+        Some(held) => lead(conf, site.inst, based, held),
     }
 }

@@ -2,20 +2,16 @@
 ghost use Rattle.std.specs.Prelude.{◌≡◌, ◌+◌, ◌<◌, ◌^◌, List, IfOk, OnErr, option_and_then};
 ghost use Rattle.std.specs.Option.{option_copied};
 ghost use Rattle.spv_module.specs.declared.inst.Function.{Function};
-ghost use Rattle.group_items.specs.Sides.{told_of};
 ghost use Rattle.module_semantics.specs.Setting.{Setting};
 ghost use Rattle.module_semantics.specs.Operands.{Target};
 ghost use Rattle.module_semantics.specs.Accesses as accesses;
 ghost use Rattle.module_semantics.specs.Steps as steps;
-ghost use Rattle.memory_places.specs.Kernel.{ForEach, setting_for};
-ghost use Rattle.run_state.specs.Ids.{ids_of};
-ghost use Rattle.run_state.specs.Confs.{conf_of};
 ghost use Rattle.run_operands.specs.Looks.{pointer_by};
-ghost use Rattle.run_acts.specs.Acts.{IsStepOf, IsStill};
+ghost use Rattle.run_acts.specs.About.{told_of, setting_for, ForEach, ids_of, conf_of, IsStepOf, IsStill};
 
 use group_items::Invocation;
 use memory_places::MemoryMap;
-use run_acts::{seen, set_result};
+use run_acts::{Site, seen, set_result};
 use run_operands::pointer;
 use run_state::{Conf, Held, Ids, Root};
 use spv_module::{Inst, Value};
@@ -35,21 +31,18 @@ fn seen_from<'a>(map: &MemoryMap<'a>, ids: &Ids, id: u32) -> Option<&'a Inst>
 
 /// OpArrayLength: the elements of the runtime array that is a member of a block, where the invocation is told the sizes of buffers.
 /// There is an error only for want of memory, and it leaves all as it was.
-pub fn length_step(
-    map: &MemoryMap<'_>,
-    inv: &Invocation,
-    conf: &mut Conf,
-    inst: &Inst,
-) -> Result<Step, Memory>
+pub fn length_step(site: &Site, inv: &Invocation, conf: &mut Conf) -> Result<Step, Memory>
     requires room { conf.old.top.at + 1 < 2 ^ 64 }
-    ensures step { IfOk result (IsStepOf steps.length_step (setting_for map.now (told_of inv.now)) conf.old conf.new inst.now) }
-    ensures err { OnErr result (IsStill map.now conf.old conf.new) }
+    ensures step { IfOk result (IsStepOf steps.length_step (setting_for site.now.map.now (told_of inv.now)) conf.old conf.new site.now.inst.now) }
+    ensures err { OnErr result (IsStill site.now.map.now conf.old conf.new) }
 {
-    match seen_from(map, &conf.top.ids, inst.operand(0)) {
+    match seen_from(site.map, &conf.top.ids, site.inst.operand(0)) {
         None => Ok(Step::Fails),
         Some(variable) => {
-            let count = map.elements(inv.sizes.as_slice(), variable, inst.operand(1));
-            set_result(conf, inst, Held::Value(Value::Word(count)))
+            let count = site
+                .map
+                .elements(inv.sizes.as_slice(), variable, site.inst.operand(1));
+            set_result(conf, site.inst, Held::Value(Value::Word(count)))
         }
     }
 }

@@ -2,12 +2,15 @@
 use Rattle.std.proofs.Common.{◌≡◌, [], ◌∷◌, refl, ap, sym, subst}
 use Rattle.std.specs.Prelude.{Result, IfOk}
 use Rattle.spv_ops.specs.OpGroups.{group_of}
+use Rattle.spv_ops.specs.declared.AtomicOp.{AtomicOp}
 use Rattle.spv_ops.specs.declared.OpGroup.{OpGroup}
+use Rattle.spv_ops.specs.declared.OpGroup.TheVariants as groups
+use Rattle.spv_ops.specs.declared.Terminator.{Terminator}
 use Rattle.spv_module.specs.declared.inst.Inst.{Inst}
 use Rattle.step_run.specs.declared.program.Step.{Step}
 use Rattle.step_run.specs.declared.program.Step.TheVariants.{Fails}
 use Rattle.module_semantics.specs.Setting.{Setting}
-use Rattle.module_semantics.specs.Steps.{StepKind, step_in, step_kind, step_by, act_on, act}
+use Rattle.module_semantics.specs.Steps.{StepKind, operation, step_in, step_kind, step_by, act_on, act}
 use Rattle.run_state.specs.declared.conf.Conf.{Conf}
 use Rattle.run_state.specs.Confs.{frame_of, behind, conf_of}
 use Rattle.run_acts.specs.Narrowed.{narrowed}
@@ -32,3 +35,18 @@ module _ (s : Setting) (old new : Conf) where
   -- by what kind of step it is
   pub of_kind : {E : Type 0} (i : Inst) (r : Result Step E) (k j : StepKind) → k ≡ j → IfOk r (IsStepOf (step_by j) s old new i) → IfOk r (IsStepOf (step_by k) s old new i)
   of_kind i r k j same h = subst (λ k. IfOk r (IsStepOf (step_by k) s old new i)) (sym same) h
+
+-- what is of no other group is an operation
+pub others_operate : (g : OpGroup) → (g ≡ groups.Variable → ⊥) → (g ≡ groups.Load → ⊥) → (g ≡ groups.Store → ⊥) → (g ≡ groups.Chain → ⊥) → (g ≡ groups.ArrayLength → ⊥) → ((o : AtomicOp) → g ≡ groups.Atomic o → ⊥) → (g ≡ groups.ControlBarrier → ⊥) → (g ≡ groups.MemoryBarrier → ⊥) → (g ≡ groups.Call → ⊥) → (g ≡ groups.Merge → ⊥) → ((e : Terminator) → g ≡ groups.Terminator e → ⊥) → step_in g ≡ operation
+others_operate groups.Variable a b c d e f g h i j k = absurd (a refl)
+others_operate groups.Load a b c d e f g h i j k = absurd (b refl)
+others_operate groups.Store a b c d e f g h i j k = absurd (c refl)
+others_operate groups.Chain a b c d e f g h i j k = absurd (d refl)
+others_operate groups.ArrayLength a b c d e f g h i j k = absurd (e refl)
+others_operate (groups.Atomic o) a b c d e f g h i j k = absurd (f o refl)
+others_operate groups.ControlBarrier a b c d e f g h i j k = absurd (g refl)
+others_operate groups.MemoryBarrier a b c d e f g h i j k = absurd (h refl)
+others_operate groups.Call a b c d e f g h i j k = absurd (i refl)
+others_operate groups.Merge a b c d e f g h i j k = absurd (j refl)
+others_operate (groups.Terminator o) a b c d e f g h i j k = absurd (k o refl)
+others_operate _ a b c d e f g h i j k = refl

@@ -1,16 +1,12 @@
 // A module with what its invocations need.
-ghost use Rattle.std.specs.Prelude.{◌≡◌, ◌++◌, IfOk, option_map};
+ghost use Rattle.std.specs.Prelude.{◌≡◌, IfOk, option_map};
 ghost use Rattle.module_semantics.specs.Run as run;
-ghost use Rattle.memory_places.specs.Conditions.{CanRun};
-ghost use Rattle.memory_places.specs.Kernel.{kernel, ForEach};
-ghost use Rattle.run_state.specs.Confs.{conf_of};
+ghost use Rattle.run_acts.specs.About.{ForEach, conf_of};
 ghost use Rattle.run_flow.specs.Begun.{variables_among};
 
-use constant_values::Constants;
 use memory_places::MemoryMap;
 use run_flow::{Routines, first_frame, first_privates, variable_ids};
 use run_state::Conf;
-use spv_decor::Decor;
 use spv_module::{Id, Module};
 use spv_words::Memory;
 use std::alloc::Global;
@@ -40,24 +36,20 @@ fn variables_of(alloc: Global, module: &Module) -> Result<Vec<u32>, Memory>
 }
 
 impl<'a> ModuleProgram<'a> {
-    /// The program of a module that meets the profile within the limits. There is an error only for want of memory.
-    pub fn new(
-        alloc: Global,
-        module: &'a Module,
-        decor: &'a Decor<'a>,
-        constants: &'a Constants,
-        entry: Id,
-    ) -> Result<ModuleProgram<'a>, Memory>
-        requires heads { decor.now ≡ «module».now.heads }
-        requires fits { CanRun «module».now entry.0 }
-        ensures { IfOk result (λ program. program.map ≡ kernel «module».now entry.0 constants.now) }
+    /// The program of a module with its memory from an entry. There is an error only for want of memory.
+    pub fn new(alloc: Global, map: MemoryMap<'a>, entry: Id) -> Result<ModuleProgram<'a>, Memory>
+        requires { entry.0 ≡ map.entry }
+        ensures { IfOk result (λ program. program.map ≡ map) }
     {
+        let module = map.module();
+        let routines = Routines::of(alloc, module)?;
+        let variables = variables_of(alloc, module)?;
         Ok(ModuleProgram {
             alloc,
-            map: MemoryMap::new(alloc, module, decor, constants, entry)?,
-            routines: Routines::of(alloc, module)?,
+            map,
+            routines,
             entry,
-            variables: variables_of(alloc, module)?,
+            variables,
         })
     }
 

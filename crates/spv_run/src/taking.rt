@@ -1,14 +1,12 @@
 // Words that were asked for.
 ghost use Rattle.std.specs.Prelude.{◌≡◌, OnOk, OnErr};
-ghost use Rattle.memory_places.specs.Kernel.{ForEach};
-ghost use Rattle.run_state.specs.Confs.{conf_of};
-ghost use Rattle.run_acts.specs.Narrowed.{told_words};
-ghost use Rattle.run_acts.specs.Acts.{IsStill};
+ghost use Rattle.run_acts.specs.About.{ForEach, conf_of, told_words, IsStill};
 ghost use Rattle.spv_run.specs.Runs.{act_by};
 ghost use Rattle.spv_run.specs.States.{HasTaken, IsThere};
 
 use crate::kernel::ModuleProgram;
 use crate::state::State;
+use run_acts::Site;
 use run_memory::take;
 use run_state::Conf;
 use spv_words::Memory;
@@ -21,7 +19,14 @@ impl<'a> ModuleProgram<'a> {
     {
         match self.fetch(conf) {
             None => Ok(()),
-            Some((_, inst)) => take(self.alloc, &self.map, conf, inst, words),
+            Some((_, inst)) => {
+                let site = Site {
+                    alloc: self.alloc,
+                    map: &self.map,
+                    inst,
+                };
+                take(&site, conf, words)
+            }
         }
     }
 

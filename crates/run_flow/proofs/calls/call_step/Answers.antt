@@ -8,10 +8,10 @@ use Rattle.run_flow.proofs.calls.call_step.Goals as goal
 
 pub returns-in-None-clause-step : goal.returns-in-None-clause-step
 returns-in-None-clause-step c = λ told.
-    let none : function_of c.args.map.now.of.functions (arg c.args.inst.now 0) ≡ None = ap (λ fs. function_of fs (arg c.args.inst.now 0)) (sym c.requires.functions) ∙ ap (function_of c.args.routines.now) (sym c.operand.ensures) ∙ c.in-None.ensures in
-    no_function c.args.map.now told c.args.conf.now c.args.conf.now c.args.inst.now none
+    let none : function_of c.args.site.now.map.now.of.functions (arg c.args.site.now.inst.now 0) ≡ None = ap (λ fs. function_of fs (arg c.args.site.now.inst.now 0)) (sym c.requires.functions) ∙ ap (function_of c.args.routines.now) (sym c.operand.ensures) ∙ c.in-None.ensures in
+    no_function c.args.site.now.map.now told c.args.conf.now c.args.conf.now c.args.site.now.inst.now none
 
 pub returns-in-Some-clause-step : goal.returns-in-Some-clause-step
 returns-in-Some-clause-step c = λ told.
-    let some : function_of c.args.map.now.of.functions (arg c.args.inst.now 0) ≡ Some c.in-Some.routine.now = ap (λ fs. function_of fs (arg c.args.inst.now 0)) (sym c.requires.functions) ∙ ap (function_of c.args.routines.now) (sym c.operand.ensures) ∙ c.in-Some.ensures.1 in
-    if_ok c.begin_call.result (λ step is. of_function c.args.map.now told c.args.conf.now c.begin_call.new.conf c.args.inst.now c.in-Some.routine.now step some is) (c.begin_call.ensures.step told)
+    let some : function_of c.args.site.now.map.now.of.functions (arg c.args.site.now.inst.now 0) ≡ Some c.in-Some.routine.now = ap (λ fs. function_of fs (arg c.args.site.now.inst.now 0)) (sym c.requires.functions) ∙ ap (function_of c.args.routines.now) (sym c.operand.ensures) ∙ c.in-Some.ensures.1 in
+    if_ok c.begin_call.result (λ step is. of_function c.args.site.now.map.now told c.args.conf.now c.begin_call.new.conf c.args.site.now.inst.now c.in-Some.routine.now step some is) (c.begin_call.ensures.step told)

@@ -9,7 +9,7 @@ use Rattle.run_memory.specs.Outcomes.{update_in}
 use Rattle.run_memory.proofs.atomics.update_there.Goals as goal
 
 pub returns-in-None : goal.returns-in-None
-returns-in-None c = λ told fs rest. ap (λ (q : Option Inst). with_some q (update_in (setting_for c.args.map.now told) (conf_of fs c.args.conf.now) rest c.args.inst.now c.args.op c.args.path.now)) (sym (c.in-None.ensures told))
+returns-in-None c = λ told fs rest. ap (λ (q : Option Inst). with_some q (update_in (setting_for c.args.site.now.map.now told) (conf_of fs c.args.conf.now) rest c.args.site.now.inst.now c.args.op c.args.path.now)) (sym (c.in-None.ensures told))
 
 pub returns-in-Some : goal.returns-in-Some
-returns-in-Some c = λ told. if_ok c.update_along.result (c.update_along.ensures told) (λ u h fs rest. ap (λ (q : Option Inst). with_some q (update_in (setting_for c.args.map.now told) (conf_of fs c.args.conf.now) rest c.args.inst.now c.args.op c.args.path.now)) (sym (c.in-Some.ensures told)) ∙ h fs rest)
+returns-in-Some c = λ told. if_ok c.update_along.result (c.update_along.ensures told) (λ u h fs rest. ap (λ (q : Option Inst). with_some q (update_in (setting_for c.args.site.now.map.now told) (conf_of fs c.args.conf.now) rest c.args.site.now.inst.now c.args.op c.args.path.now)) (sym (c.in-Some.ensures told)) ∙ h fs rest)

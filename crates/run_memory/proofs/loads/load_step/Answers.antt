@@ -13,26 +13,26 @@ use Rattle.run_memory.proofs.loads.load_step.Goals as goal
 
 pub returns-in-Missing-clause-step : goal.returns-in-Missing-clause-step
 returns-in-Missing-clause-step c =
-    let fs = c.args.map.now.of.functions in
+    let fs = c.args.site.now.map.now.of.functions in
     let d = conf_of fs c.args.conf.now in
     let rest = behind fs c.args.conf.now in
-    (subst (IsLoaded (narrowed (steps.load_step (setting_for c.args.map.now (told_of c.args.inv.now)) d rest c.args.inst.now)) d rest c.args.inst.now) c.in-Missing.is (c.in_ok-load.ensures fs rest), refl)
+    (subst (IsLoaded (narrowed (steps.load_step (setting_for c.args.site.now.map.now (told_of c.args.inv.now)) d rest c.args.site.now.inst.now)) d rest c.args.site.now.inst.now) c.in-Missing.is (c.in_ok-load.ensures fs rest), refl)
 
 pub returns-in-Value-clause-step : goal.returns-in-Value-clause-step
 returns-in-Value-clause-step c =
-    let fs = c.args.map.now.of.functions in
+    let fs = c.args.site.now.map.now.of.functions in
     let d = conf_of fs c.args.conf.now in
     let rest = behind fs c.args.conf.now in
-    let h = subst (IsLoaded (narrowed (steps.load_step (setting_for c.args.map.now (told_of c.args.inv.now)) d rest c.args.inst.now)) d rest c.args.inst.now) c.in-Value.is (c.in_ok-load.ensures fs rest) in
+    let h = subst (IsLoaded (narrowed (steps.load_step (setting_for c.args.site.now.map.now (told_of c.args.inv.now)) d rest c.args.site.now.inst.now)) d rest c.args.site.now.inst.now) c.in-Value.is (c.in_ok-load.ensures fs rest) in
     if_ok c.set_result.result (c.set_result.ensures.set fs) (λ step k. subst (λ (a : Act Conf). IsAct a d (conf_of fs c.set_result.new.conf) step) (sym h) k)
 
 pub returns-in-Value-clause-err : goal.returns-in-Value-clause-err
-returns-in-Value-clause-err c = on_err c.set_result.result c.set_result.ensures.err (λ h. h c.args.map.now.of.functions)
+returns-in-Value-clause-err c = on_err c.set_result.result c.set_result.ensures.err (λ h. h c.args.site.now.map.now.of.functions)
 
 pub returns-in-Asked-clause-step : goal.returns-in-Asked-clause-step
 returns-in-Asked-clause-step c =
-    let fs = c.args.map.now.of.functions in
+    let fs = c.args.site.now.map.now.of.functions in
     let d = conf_of fs c.args.conf.now in
     let rest = behind fs c.args.conf.now in
-    let h = subst (IsLoaded (narrowed (steps.load_step (setting_for c.args.map.now (told_of c.args.inv.now)) d rest c.args.inst.now)) d rest c.args.inst.now) c.in-Asked.is (c.in_ok-load.ensures fs rest) in
+    let h = subst (IsLoaded (narrowed (steps.load_step (setting_for c.args.site.now.map.now (told_of c.args.inv.now)) d rest c.args.site.now.inst.now)) d rest c.args.site.now.inst.now) c.in-Asked.is (c.in_ok-load.ensures fs rest) in
     (h.0, (h.1.0, (h.1.1.0, (h.1.1.1, refl))))

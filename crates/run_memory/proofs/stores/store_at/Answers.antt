@@ -16,11 +16,11 @@ use Rattle.run_memory.proofs.stores.store_at.Goals as goal
 pub returns-in-None : goal.returns-in-None
 returns-in-None c =
     if_ok c.store_kept.result c.store_kept.ensures (λ w h d rest.
-    ap (λ (o : Option Inst). narrowed (store_to (setting_for c.args.map.now (told_of c.args.inv.now)) d rest (root_of c.args.root, c.args.path.now) (value_of c.args.value.now) o)) (sym (c.in-None.ensures (told_of c.args.inv.now)))
-    ∙ kept_narrowed d rest (root_of c.args.root) (option_and_then (inserted (value_of c.args.value.now) c.args.path.now) (kept (setting_for c.args.map.now (told_of c.args.inv.now)) d (root_of c.args.root)))
+    ap (λ (o : Option Inst). narrowed (store_to (setting_for c.args.storing.now.map.now (told_of c.args.storing.now.inv.now)) d rest (root_of c.args.root, c.args.storing.now.path.now) (value_of c.args.storing.now.value.now) o)) (sym (c.in-None.ensures (told_of c.args.storing.now.inv.now)))
+    ∙ kept_narrowed d rest (root_of c.args.root) (option_and_then (inserted (value_of c.args.storing.now.value.now) c.args.storing.now.path.now) (kept (setting_for c.args.storing.now.map.now (told_of c.args.storing.now.inv.now)) d (root_of c.args.root)))
     ∙ sym (h d rest))
 
 pub returns-in-Some : goal.returns-in-Some
 returns-in-Some c =
-    if_ok c.store_seen.result (c.store_seen.ensures (told_of c.args.inv.now)) (λ w h d rest.
-    ap (λ (o : Option Inst). narrowed (store_to (setting_for c.args.map.now (told_of c.args.inv.now)) d rest (root_of c.args.root, c.args.path.now) (value_of c.args.value.now) o)) (sym (c.in-Some.ensures (told_of c.args.inv.now))) ∙ h d rest (root_of c.args.root))
+    if_ok c.store_seen.result (c.store_seen.ensures (told_of c.args.storing.now.inv.now)) (λ w h d rest.
+    ap (λ (o : Option Inst). narrowed (store_to (setting_for c.args.storing.now.map.now (told_of c.args.storing.now.inv.now)) d rest (root_of c.args.root, c.args.storing.now.path.now) (value_of c.args.storing.now.value.now) o)) (sym (c.in-Some.ensures (told_of c.args.storing.now.inv.now))) ∙ h d rest (root_of c.args.root))

@@ -13,12 +13,12 @@ use Rattle.run_memory.proofs.Classes.{variable_named}
 use Rattle.run_memory.proofs.stores.store_by_module.Goals as goal
 
 pub returns-in-None : goal.returns-in-None
-returns-in-None c = λ d rest. ap (λ (o : Option Inst). kept_with d rest (global c.args.id) (option_and_then (inserted (value_of c.args.value.now) c.args.path.now) (option_and_then (global_value (setting_for c.args.map.now (told_of c.args.inv.now)) d) o))) (c.in-None.ensures (told_of c.args.inv.now))
+returns-in-None c = λ d rest. ap (λ (o : Option Inst). kept_with d rest (global c.args.id) (option_and_then (inserted (value_of c.args.storing.now.value.now) c.args.storing.now.path.now) (option_and_then (global_value (setting_for c.args.storing.now.map.now (told_of c.args.storing.now.inv.now)) d) o))) (c.in-None.ensures (told_of c.args.storing.now.inv.now))
 
 pub returns-in-Some : goal.returns-in-Some
 returns-in-Some c =
     let v = c.in-Some.variable.now in
     if_ok c.store_global.result c.store_global.ensures (λ w h d rest.
     h d rest
-    ∙ ap (λ (id : ℕ). kept_with d rest (global id) (option_and_then (inserted (value_of c.args.value.now) c.args.path.now) (global_value (setting_for c.args.map.now (told_of c.args.inv.now)) d v))) (variable_named (setting_for c.args.map.now (told_of c.args.inv.now)) c.args.id v (c.in-Some.ensures (told_of c.args.inv.now)))
-    ∙ ap (λ (o : Option Inst). kept_with d rest (global c.args.id) (option_and_then (inserted (value_of c.args.value.now) c.args.path.now) (option_and_then (global_value (setting_for c.args.map.now (told_of c.args.inv.now)) d) o))) (c.in-Some.ensures (told_of c.args.inv.now)))
+    ∙ ap (λ (id : ℕ). kept_with d rest (global id) (option_and_then (inserted (value_of c.args.storing.now.value.now) c.args.storing.now.path.now) (global_value (setting_for c.args.storing.now.map.now (told_of c.args.storing.now.inv.now)) d v))) (variable_named (setting_for c.args.storing.now.map.now (told_of c.args.storing.now.inv.now)) c.args.id v (c.in-Some.ensures (told_of c.args.storing.now.inv.now)))
+    ∙ ap (λ (o : Option Inst). kept_with d rest (global c.args.id) (option_and_then (inserted (value_of c.args.storing.now.value.now) c.args.storing.now.path.now) (option_and_then (global_value (setting_for c.args.storing.now.map.now (told_of c.args.storing.now.inv.now)) d) o))) (c.in-Some.ensures (told_of c.args.storing.now.inv.now)))

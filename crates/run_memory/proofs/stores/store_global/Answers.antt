@@ -12,7 +12,7 @@ use Rattle.run_memory.specs.Outcomes.{kept_with}
 use Rattle.run_memory.proofs.stores.store_global.Goals as goal
 
 pub returns-in-None : goal.returns-in-None
-returns-in-None c = λ d rest. ap (λ (o : Option StorageClass). kept_with d rest (global c.args.variable.now.result) (option_and_then (inserted (value_of c.args.value.now) c.args.path.now) (global_value_by (setting_for c.args.map.now (told_of c.args.inv.now)) d c.args.variable.now o))) c.in-None.ensures
+returns-in-None c = λ d rest. ap (λ (o : Option StorageClass). kept_with d rest (global c.args.variable.now.result) (option_and_then (inserted (value_of c.args.storing.now.value.now) c.args.storing.now.path.now) (global_value_by (setting_for c.args.storing.now.map.now (told_of c.args.storing.now.inv.now)) d c.args.variable.now o))) c.in-None.ensures
 
 pub returns-in-Some : goal.returns-in-Some
-returns-in-Some c = if_ok c.store_in.result c.store_in.ensures (λ w h d rest. h d rest ∙ ap (λ (o : Option StorageClass). kept_with d rest (global c.args.variable.now.result) (option_and_then (inserted (value_of c.args.value.now) c.args.path.now) (global_value_by (setting_for c.args.map.now (told_of c.args.inv.now)) d c.args.variable.now o))) c.in-Some.ensures)
+returns-in-Some c = if_ok c.store_in.result c.store_in.ensures (λ w h d rest. h d rest ∙ ap (λ (o : Option StorageClass). kept_with d rest (global c.args.variable.now.result) (option_and_then (inserted (value_of c.args.storing.now.value.now) c.args.storing.now.path.now) (global_value_by (setting_for c.args.storing.now.map.now (told_of c.args.storing.now.inv.now)) d c.args.variable.now o))) c.in-Some.ensures)

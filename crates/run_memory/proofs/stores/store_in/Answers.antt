@@ -14,10 +14,10 @@ use Rattle.run_memory.proofs.Classes.{none_in_class}
 use Rattle.run_memory.proofs.stores.store_in.Goals as goal
 
 pub returns-in-Private : goal.returns-in-Private
-returns-in-Private c = if_ok c.store_part.result c.store_part.ensures (λ w h d rest. h d rest ∙ ap (λ (k : StorageClass). kept_with d rest (global c.args.variable.now.result) (option_and_then (inserted (value_of c.args.value.now) c.args.path.now) (global_value_by (setting_for c.args.map.now (told_of c.args.inv.now)) d c.args.variable.now (Some k)))) (sym c.in-Private.is))
+returns-in-Private c = if_ok c.store_part.result c.store_part.ensures (λ w h d rest. h d rest ∙ ap (λ (k : StorageClass). kept_with d rest (global c.args.variable.now.result) (option_and_then (inserted (value_of c.args.storing.now.value.now) c.args.storing.now.path.now) (global_value_by (setting_for c.args.storing.now.map.now (told_of c.args.storing.now.inv.now)) d c.args.variable.now (Some k)))) (sym c.in-Private.is))
 
 pub returns-in-Input : goal.returns-in-Input
-returns-in-Input c = if_ok c.store_input.result c.store_input.ensures (λ w h d rest. h d rest ∙ ap (λ (k : StorageClass). kept_with d rest (global c.args.variable.now.result) (option_and_then (inserted (value_of c.args.value.now) c.args.path.now) (global_value_by (setting_for c.args.map.now (told_of c.args.inv.now)) d c.args.variable.now (Some k)))) (sym c.in-Input.is))
+returns-in-Input c = if_ok c.store_input.result c.store_input.ensures (λ w h d rest. h d rest ∙ ap (λ (k : StorageClass). kept_with d rest (global c.args.variable.now.result) (option_and_then (inserted (value_of c.args.storing.now.value.now) c.args.storing.now.path.now) (global_value_by (setting_for c.args.storing.now.map.now (told_of c.args.storing.now.inv.now)) d c.args.variable.now (Some k)))) (sym c.in-Input.is))
 
 pub returns-in_default : goal.returns-in_default
-returns-in_default c = λ d rest. ap (λ (o : Option ValueTree). kept_with d rest (global c.args.variable.now.result) (option_and_then (inserted (value_of c.args.value.now) c.args.path.now) o)) (none_in_class (setting_for c.args.map.now (told_of c.args.inv.now)) d c.args.variable.now c.args.class c.in_default.not-Private c.in_default.not-Input)
+returns-in_default c = λ d rest. ap (λ (o : Option ValueTree). kept_with d rest (global c.args.variable.now.result) (option_and_then (inserted (value_of c.args.storing.now.value.now) c.args.storing.now.path.now) o)) (none_in_class (setting_for c.args.storing.now.map.now (told_of c.args.storing.now.inv.now)) d c.args.variable.now c.args.class c.in_default.not-Private c.in_default.not-Input)

@@ -9,7 +9,7 @@ use Rattle.run_memory.specs.Outcomes.{kept_with}
 use Rattle.run_memory.proofs.stores.store_input.Goals as goal
 
 pub returns-in-None : goal.returns-in-None
-returns-in-None c = λ d rest. ap (λ (o : Option ValueTree). kept_with d rest (global c.args.variable.now.result) (option_and_then (inserted (value_of c.args.value.now) c.args.path.now) o)) c.in-None.ensures
+returns-in-None c = λ d rest. ap (λ (o : Option ValueTree). kept_with d rest (global c.args.variable.now.result) (option_and_then (inserted (value_of c.args.storing.now.value.now) c.args.storing.now.path.now) o)) c.in-None.ensures
 
 pub returns-in-Some : goal.returns-in-Some
-returns-in-Some c = if_ok c.store_over.result c.store_over.ensures (λ w h d rest. h d rest ∙ ap (λ (o : Option ValueTree). kept_with d rest (global c.args.variable.now.result) (option_and_then (inserted (value_of c.args.value.now) c.args.path.now) o)) c.in-Some.ensures)
+returns-in-Some c = if_ok c.store_over.result c.store_over.ensures (λ w h d rest. h d rest ∙ ap (λ (o : Option ValueTree). kept_with d rest (global c.args.variable.now.result) (option_and_then (inserted (value_of c.args.storing.now.value.now) c.args.storing.now.path.now) o)) c.in-Some.ensures)

@@ -12,7 +12,7 @@ use Rattle.run_acts.specs.Narrowed.{narrowed}
 use Rattle.run_memory.proofs.stores.store_operand.Goals as goal
 
 pub returns-in-None : goal.returns-in-None
-returns-in-None c = λ fs rest. ap (λ (o : Option ValueTree). narrowed (with_some o (λ v. store_to (setting_for c.args.map.now (told_of c.args.inv.now)) (conf_of fs c.args.conf.now) rest (root_of c.args.root, c.args.path.now) v (seen (setting_for c.args.map.now (told_of c.args.inv.now)) (root_of c.args.root))))) (sym c.in-None.ensures)
+returns-in-None c = λ fs rest. ap (λ (o : Option ValueTree). narrowed (with_some o (λ v. store_to (setting_for c.args.site.now.map.now (told_of c.args.inv.now)) (conf_of fs c.args.conf.now) rest (root_of c.args.root, c.args.path.now) v (seen (setting_for c.args.site.now.map.now (told_of c.args.inv.now)) (root_of c.args.root))))) (sym c.in-None.ensures)
 
 pub returns-in-Some : goal.returns-in-Some
-returns-in-Some c = if_ok c.store_at.result c.store_at.ensures (λ w h fs rest. ap (λ (o : Option ValueTree). narrowed (with_some o (λ v. store_to (setting_for c.args.map.now (told_of c.args.inv.now)) (conf_of fs c.args.conf.now) rest (root_of c.args.root, c.args.path.now) v (seen (setting_for c.args.map.now (told_of c.args.inv.now)) (root_of c.args.root))))) (sym c.in-Some.ensures) ∙ h (conf_of fs c.args.conf.now) rest)
+returns-in-Some c = if_ok c.store_at.result c.store_at.ensures (λ w h fs rest. ap (λ (o : Option ValueTree). narrowed (with_some o (λ v. store_to (setting_for c.args.site.now.map.now (told_of c.args.inv.now)) (conf_of fs c.args.conf.now) rest (root_of c.args.root, c.args.path.now) v (seen (setting_for c.args.site.now.map.now (told_of c.args.inv.now)) (root_of c.args.root))))) (sym c.in-Some.ensures) ∙ h (conf_of fs c.args.conf.now) rest)

@@ -10,5 +10,5 @@ use Rattle.run_memory.proofs.stores.store_seen.Goals as goal
 
 pub returns : goal.returns
 returns c = λ told d rest r.
-    ap (λ (l : List Location). goes (trace.write l (words_of (value_of c.args.value.now)) ∷ []) (advanced d rest)) (sym (c.in_ok-places.ensures told))
+    ap (λ (l : List Location). goes (trace.write l (words_of (value_of c.args.storing.now.value.now)) ∷ []) (advanced d rest)) (sym (c.in_ok-places.ensures told))
     ∙ ap (λ (l : List ℕ). goes (trace.write (locations_of c.in_ok-places.places.items) l ∷ []) (advanced d rest)) (sym c.in_ok-words.ensures)

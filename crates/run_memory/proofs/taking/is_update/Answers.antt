@@ -13,5 +13,5 @@ pub returns : goal.returns
 returns c = λ told fs rest words.
     let d = conf_of fs c.args.conf.now in
     ap (λ (a : Act Conf). told_words (narrowed a) words d) (c.in_ok-update_of.ensures told fs rest)
-    ∙ update_taken (setting_for c.args.map.now told) d rest c.args.inst.now c.args.op c.in_ok-update_of.field-0 words
-    ∙ ap (λ (b : Bool). if b then set_found d rest c.args.inst.now c.args.op words else d) (sym c.is_some.ensures)
+    ∙ update_taken (setting_for c.args.site.now.map.now told) d rest c.args.site.now.inst.now c.args.op c.in_ok-update_of.field-0 words
+    ∙ ap (λ (b : Bool). if b then set_found d rest c.args.site.now.inst.now c.args.op words else d) (sym c.is_some.ensures)

@@ -1,49 +1,17 @@
-use Rattle.std.proofs.Common.{ℕ, List, ap, sym, subst, refl, ◌∙◌}
-use Rattle.std.specs.Prelude.{option_and_then}
-use Rattle.spv_types.specs.View.{value_of}
-use Rattle.op_semantics.specs.Composite.{inserted}
+use Rattle.std.proofs.Common.{sym, subst}
 use Rattle.step_run.proofs.Threads.{if_ok}
 use Rattle.traces.specs.Runs.{Act}
 use Rattle.module_semantics.specs.State.{Conf}
-use Rattle.run_state.specs.Ids.{root_of}
 use Rattle.run_state.specs.Confs.{conf_of, behind}
-use Rattle.run_variables.specs.Stored.{kept_by}
 use Rattle.run_acts.specs.Acts.{IsAct}
-use Rattle.run_memory.specs.Outcomes.{kept_with, stored_by}
 use Rattle.run_memory.proofs.writes.store_step.Goals as goal
 
-pub returns-in-Missing-clause-step : goal.returns-in-Missing-clause-step
-returns-in-Missing-clause-step c =
-    let fs = c.args.map.now.of.functions in
+pub returns-clause-step : goal.returns-clause-step
+returns-clause-step c =
+    let fs = c.args.site.now.map.now.of.functions in
     let d = conf_of fs c.args.conf.now in
     let rest = behind fs c.args.conf.now in
-    ((c.in_ok-store_of.ensures fs rest ∙ ap (stored_by d rest) c.in-Missing.is), refl)
+    if_ok c.settle.result (c.settle.ensures.step fs) (λ step k. subst (λ (a : Act Conf). IsAct a d (conf_of fs c.settle.new.conf) step) (sym (c.in_ok-stored.ensures fs rest)) k)
 
-pub returns-in-Part-clause-step : goal.returns-in-Part-clause-step
-returns-in-Part-clause-step c =
-    let fs = c.args.map.now.of.functions in
-    let d = conf_of fs c.args.conf.now in
-    let rest = behind fs c.args.conf.now in
-    let r = root_of c.in-Part.root in
-    let h = (c.in_ok-store_of.ensures fs rest ∙ ap (stored_by d rest) c.in-Part.is) ∙ ap (λ (p : List ℕ). kept_with d rest r (option_and_then (inserted (value_of c.in-Part.value) p) (kept_by d r))) (sym c.deref.ensures.value) in
-    subst (λ (a : Act Conf). IsAct a d (conf_of fs c.replace.new.conf) c.replace.result) (sym h) (c.replace.ensures fs)
-
-pub returns-in-Whole-clause-step : goal.returns-in-Whole-clause-step
-returns-in-Whole-clause-step c =
-    let fs = c.args.map.now.of.functions in
-    let d = conf_of fs c.args.conf.now in
-    let rest = behind fs c.args.conf.now in
-    if_ok c.keep.result (c.keep.ensures.step fs) (λ step k. subst (λ (a : Act Conf). IsAct a d (conf_of fs c.keep.new.conf) step) (sym (c.in_ok-store_of.ensures fs rest ∙ ap (stored_by d rest) c.in-Whole.is)) k)
-
-pub returns-in-Whole-clause-err : goal.returns-in-Whole-clause-err
-returns-in-Whole-clause-err c = c.keep.ensures.err c.args.map.now.of.functions
-
-pub returns-in-Seen-clause-step : goal.returns-in-Seen-clause-step
-returns-in-Seen-clause-step c =
-    let fs = c.args.map.now.of.functions in
-    let d = conf_of fs c.args.conf.now in
-    let rest = behind fs c.args.conf.now in
-    if_ok c.write.result (c.write.ensures.step fs) (λ step k. subst (λ (a : Act Conf). IsAct a d (conf_of fs c.write.new.conf) step) (sym (c.in_ok-store_of.ensures fs rest ∙ ap (stored_by d rest) c.in-Seen.is)) k)
-
-pub returns-in-Seen-clause-err : goal.returns-in-Seen-clause-err
-returns-in-Seen-clause-err c = c.write.ensures.err c.args.map.now.of.functions
+pub returns-clause-err : goal.returns-clause-err
+returns-clause-err c = c.settle.ensures.err c.args.site.now.map.now.of.functions

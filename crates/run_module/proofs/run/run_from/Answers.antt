@@ -23,7 +23,7 @@ run_program-requires-clause-takes c =
     let pairs = c.args.options.now.overrides.pairs.items in
     let special = get nat_cmp c.in_ok-special.special in
     let given : (id : ℕ) → special id ≡ given_words pairs id = λ id. c.in_ok-special.ensures id ∙ ap (λ (ps : List (ℕ × Given)). given_words ps id) c.as_slice.ensures.value in
-    subst (λ (k : Kernel). Takes k special) (sym c.in_ok-program.ensures) (λ id. sym (constants_same c.args.«module».now pairs special given id) ∙ sym (c.in_ok-constants.ensures.values id))
+    subst (λ (k : Kernel). Takes k special) (sym (c.in_ok-program.ensures ∙ c.in_ok-map.ensures)) (λ id. sym (constants_same c.args.«module».now pairs special given id) ∙ sym (c.in_ok-constants.ensures.values id))
 
 pub returns-in-Ok-clause-run : goal.returns-in-Ok-clause-run
 returns-in-Ok-clause-run c =
@@ -36,7 +36,7 @@ returns-in-Ok-clause-run c =
     let given : (id : ℕ) → special id ≡ given_words pairs id = λ id. c.in_ok-special.ensures id ∙ ap (λ (ps : List (ℕ × Given)). given_words ps id) c.as_slice.ensures.value in
     let is = c.size_of-size.ensures ∙ ap (λ (parts : List SizePart). triple_of (map (part_word special) parts)) (c.as_slice-2.ensures.value ∙ c.requires.size) in
     said_here c.requires.read.bytes m (asked c.args.options.now) c.requires.read.is c.requires.passes entry pairs c.in_ok-constants.constants k special c.in_ok-constants.ensures.values size (string_bytes c.in-Ok.lines) given is
-    (subst (λ (p : Kernel). IsSaid k size special (walks (walk p) k.steps) (string_bytes c.in-Ok.lines)) c.in_ok-program.ensures c.in-Ok.ensures.said)
+    (subst (λ (p : Kernel). IsSaid k size special (walks (walk p) k.steps) (string_bytes c.in-Ok.lines)) (c.in_ok-program.ensures ∙ c.in_ok-map.ensures) c.in-Ok.ensures.said)
 
 pub returns-in-Err-Invocations-clause-run : goal.returns-in-Err-Invocations-clause-run
 returns-in-Err-Invocations-clause-run c =
@@ -62,4 +62,4 @@ returns-in-Err-Events-clause-run c =
     let is = c.size_of-size.ensures ∙ ap (λ (parts : List SizePart). triple_of (map (part_word special) parts)) (c.as_slice-2.ensures.value ∙ c.requires.size) in
     let much = c.in-Err-Events.ensures.events (rw c.in-Err-Events.field-0-is refl) in
     much_here c.requires.read.bytes m (asked c.args.options.now) c.requires.read.is c.requires.passes entry pairs c.in_ok-constants.constants k special c.in_ok-constants.ensures.values size given is
-    (subst (λ (p : Kernel). IsTooMuch (setup_of k size special) (walks (walk p) k.steps) k.first) c.in_ok-program.ensures much)
+    (subst (λ (p : Kernel). IsTooMuch (setup_of k size special) (walks (walk p) k.steps) k.first) (c.in_ok-program.ensures ∙ c.in_ok-map.ensures) much)

@@ -11,17 +11,17 @@ use Rattle.run_values.proofs.variables.length_step.Goals as goal
 
 pub returns-in-None-clause-step : goal.returns-in-None-clause-step
 returns-in-None-clause-step c =
-    let s = setting_for c.args.map.now (told_of c.args.inv.now) in
+    let s = setting_for c.args.site.now.map.now (told_of c.args.inv.now) in
     let fs = s.of.functions in
-    let old = c.args.conf.now in (sym (length_fails s (conf_of fs old) (behind fs old) c.args.inst.now c.operand.result c.operand.ensures (c.in-None.ensures (told_of c.args.inv.now))), refl)
+    let old = c.args.conf.now in (sym (length_fails s (conf_of fs old) (behind fs old) c.args.site.now.inst.now c.operand.result c.operand.ensures (c.in-None.ensures (told_of c.args.inv.now))), refl)
 
 pub returns-in-Some-clause-step : goal.returns-in-Some-clause-step
 returns-in-Some-clause-step c =
     let told = told_of c.args.inv.now in
-    let s = setting_for c.args.map.now told in
+    let s = setting_for c.args.site.now.map.now told in
     let fs = s.of.functions in
     let old = c.args.conf.now in
     subst (λ a. IfOk c.set_result.result (IsAct a (conf_of fs old) (conf_of fs c.set_result.new.conf)))
-    (length_goes s (conf_of fs old) (behind fs old) c.args.inst.now c.operand.result c.operand-in-Some.result c.elements-count.result c.in-Some.variable.now _ c.operand.ensures c.operand-in-Some.ensures (c.in-Some.ensures told)
+    (length_goes s (conf_of fs old) (behind fs old) c.args.site.now.inst.now c.operand.result c.operand-in-Some.result c.elements-count.result c.in-Some.variable.now _ c.operand.ensures c.operand-in-Some.ensures (c.in-Some.ensures told)
     (c.elements-count.ensures told (ap bytes_in (sym c.as_slice.ensures.value))) (ap state.value (value-Word c.elements-count.result)))
     (c.set_result.ensures.set fs)
