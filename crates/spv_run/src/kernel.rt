@@ -39,7 +39,7 @@ impl<'a> ModuleProgram<'a> {
     /// The program of a module with its memory from an entry. There is an error only for want of memory.
     pub fn new(alloc: Global, map: MemoryMap<'a>, entry: Id) -> Result<ModuleProgram<'a>, Memory>
         requires { entry.0 ≡ map.entry }
-        ensures { IfOk result (λ program. program.map ≡ map) }
+        ensures { IfOk result (λ program. program.map ≡ map.entry) }
     {
         let module = map.module();
         let routines = Routines::of(alloc, module)?;
