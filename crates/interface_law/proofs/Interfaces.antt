@@ -207,12 +207,7 @@ module _ (m : ModuleState) (o : Options) (unit : TranslationUnit) (u : IsUnitOf 
   -- The law.
   pub has_interface : HasInterface m o unit
   has_interface = record {
-    entry = u.entry;
-    is_entry = u.is_entry;
-    order = u.order;
-    calls = u.calls;
-    claimed = u.claimed;
-    lawful = u.lawful;
+    made = u;
     blocks =
         ap (filter is_block_item) items_are ∙ filter-append is_block_item (declarations s r names) (map function_decl (in_order u.order u.plans))
         ∙ behind_none (filter is_block_item (declarations s r names)) (filter is_block_item (map function_decl (in_order u.order u.plans))) (no_blocks (in_order u.order u.plans)) ∙ blocks_among s r names m.globals

@@ -1,22 +1,17 @@
 -- The interface of a text (GLSL 4.60, sections 4.3.9, 4.4 and 4.4.1.4; the qualifiers of Vulkan): its blocks, the size of its workgroups, and the constants that a specialization may set, each as the module has it.
-use Rattle.std.specs.Prelude.{ℕ, ◌≡◌, ◌&&◌, Bool, true, false, List, [], ◌∷◌, filter, flat_map, map, is_some, Option, Some, None}
+use Rattle.std.specs.Prelude.{◌≡◌, ◌&&◌, Bool, true, false, List, [], ◌∷◌, filter, flat_map, map, is_some, Option, Some, None}
 use Rattle.spv_module.specs.State.{ModuleState}
-use Rattle.spv_module.specs.declared.inst.Id.{Id}
 use Rattle.spv_module.specs.declared.inst.Inst.{Inst}
 use Rattle.spv_module.specs.declared.inst.Function.{Function}
 use Rattle.layout_rules.specs.Blocks.{block_of}
-use Rattle.profile_rules.specs.Calls.{IsCallOrder, numbers}
 use Rattle.conformance.specs.Rules.{Options}
-use Rattle.module_check.specs.Judged.{IsEntry}
-use Rattle.name_alloc.specs.declared.claims.Claim.{Claim}
-use Rattle.name_alloc.specs.Law.{AreNames}
 use Rattle.name_alloc.specs.Naming.{name_of}
 use Rattle.glsl_ast.specs.Tree.{Decl, constant, block, TranslationUnit, translation_unit}
 use Rattle.glsl_ast.specs.declared.items.Size.{Size}
 use Rattle.text_rules.specs.Constants.{Source, is_constant, reading, free_spec_id, sizes}
 use Rattle.text_rules.specs.Printed.{is_operand_in, is_named}
 use Rattle.text_rules.specs.Declarations.{Names, block_decl, constant_decl}
-use Rattle.unit_rules.specs.Unit.{item_names_of, called, source_of}
+use Rattle.unit_rules.specs.Unit.{item_names_of, called, source_of, IsUnitOf}
 
 -- the blocks of a text, and its constants with a `constant_id`, in their order; the line of the size of workgroups
 abbrev pub is_block_item : Decl → Bool
@@ -48,14 +43,9 @@ item_of s names v = block_item s names v (block_of s.of.globals v)
 abbrev pub is_settable : Source → Inst → Bool
 is_settable s g = is_constant g && (is_named (reading s g) && is_some (free_spec_id s g.result))
 
--- With lawful names, of the functions that calls reach from the entry point: the blocks of the text are these blocks of the module, its constants with a `constant_id` these constants, each with its type and default, and the size of workgroups is the module's, part by part a number, or a SpecId with its default.
+-- By the entry point, the functions and the names of the tree that the definitions make (`made`): the blocks of the text are these blocks of the module, its constants with a `constant_id` these constants, each with its type and default, and the size of workgroups is the module's, part by part a number, or a SpecId with its default.
 pub record HasInterface (m : ModuleState) (o : Options) (unit : TranslationUnit) : Type 0 where
-  pub entry : ℕ
-  pub is_entry : IsEntry m o entry
-  pub order : List Id
-  pub calls : IsCallOrder m.functions entry (numbers order)
-  pub claimed : List Claim
-  pub lawful : AreNames (name_of claimed)
-  pub blocks : filter is_block_item (items_in unit) ≡ flat_map (item_of (source_of m o entry) (item_names_of (source_of m o entry) (name_of claimed))) (filter (is_seen (called order m.functions)) m.globals)
-  pub constants : filter is_spec_item (items_in unit) ≡ map (constant_decl (source_of m o entry) (item_names_of (source_of m o entry) (name_of claimed))) (filter (is_settable (source_of m o entry)) m.globals)
-  pub size : sizes_in unit ≡ sizes (source_of m o entry)
+  pub made : IsUnitOf m o unit
+  pub blocks : filter is_block_item (items_in unit) ≡ flat_map (item_of (source_of m o made.entry) (item_names_of (source_of m o made.entry) (name_of made.claimed))) (filter (is_seen (called made.order m.functions)) m.globals)
+  pub constants : filter is_spec_item (items_in unit) ≡ map (constant_decl (source_of m o made.entry) (item_names_of (source_of m o made.entry) (name_of made.claimed))) (filter (is_settable (source_of m o made.entry)) m.globals)
+  pub size : sizes_in unit ≡ sizes (source_of m o made.entry)
