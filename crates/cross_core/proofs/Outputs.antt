@@ -21,6 +21,8 @@ use Rattle.command_line.specs.Asked.{bytes_by, bytes_of}
 use Rattle.command_line.specs.Summary.{summary}
 use Rattle.dispatch_case.specs.Cases.{CaseParts}
 use Rattle.run_module.specs.Ends.{IsSaidOf}
+use Rattle.interface_law.specs.Interface.{HasInterface}
+use Rattle.interface_law.proofs.Interfaces.{has_interface}
 use Rattle.cross_core.specs.Keeps.{Keeps}
 use Rattle.cross_core.specs.Answers.{IsAnswer, IsAnswerBy, IsTextOf, IsRunText}
 use Rattle.command_line.specs.Endings.{ending_of, IsOutput}
@@ -67,6 +69,7 @@ glsl_answer o m u text is keeps same = record {
   reads = subst (λ (t : List ℕ). glsl_read t ≡ Some u) (sym same) (reads_back u is.grammar);
   translation = is;
   keeps = keeps;
+  interface = has_interface m o u is.translated;
 }
 
 -- the line of a report
@@ -86,6 +89,7 @@ module _ (o : Options) (left : Option (List ℕ)) (read : List ℕ) (same : IfSo
     reads = of.reads;
     translation = module_told left read (λ m. IsTranslationOf m o of.unit) same of.translation;
     keeps = module_told left read (λ m. Keeps m o of.unit) same of.keeps;
+    interface = module_told left read (λ m. HasInterface m o of.unit) same of.interface;
   }
 
   run_told : (c : CaseParts) (text : List ℕ) → IsRunText c o (Some (module_in read)) text → IsRunText c o (option_map module_in left) text

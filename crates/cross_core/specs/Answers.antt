@@ -17,15 +17,17 @@ use Rattle.run_module.specs.Ends.{IsSaidOf, IsAboveOf}
 use Rattle.command_line.specs.State.{Task, prints, judges, reports, sums, runs, CommandState}
 use Rattle.command_line.specs.Endings.{Above}
 use Rattle.command_line.specs.Summary.{summary}
+use Rattle.interface_law.specs.Interface.{HasInterface}
 use Rattle.cross_core.specs.Keeps.{Keeps}
 
--- the text that is laid out of a tree, and reads back as it; where the module is told, the tree is that of its text, and does what the module does
+-- the text that is laid out of a tree, and reads back as it; where the module is told, the tree is that of its text, does what the module does, and has its interface
 pub record IsTextOf (o : Options) (told : Option ModuleState) (text : List ℕ) : Type 0 where
   pub unit : TranslationUnit
   pub laid_out : text ≡ unit_text unit
   pub reads : glsl_read text ≡ Some unit
   pub translation : IfSome told (λ m. IsTranslationOf m o unit)
   pub keeps : IfSome told (λ m. Keeps m o unit)
+  pub interface : IfSome told (λ m. HasInterface m o unit)
 
 -- the lines of a run of a case; where the module is told, it is that of the module
 pub record IsRunText (c : CaseParts) (o : Options) (told : Option ModuleState) (text : List ℕ) : Type 0 where
