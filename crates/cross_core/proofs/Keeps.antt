@@ -17,7 +17,7 @@ use Rattle.dispatch_semantics.specs.Dispatch.{DispatchRun}
 use Rattle.constant_law.specs.Items.{HaveLengths}
 use Rattle.preservation.specs.Preserves.{module_side, text_side, IsGrid, first_state}
 use Rattle.preservation.proofs.Interleavings.{dispatches_agree}
-use Rattle.filled_law.proofs.Filled.{accepted_preserves}
+use Rattle.meaning_law.proofs.Filled.Filled.{accepted_preserves}
 use Rattle.cross_core.specs.Keeps.{Keeps}
 
 pub keeps : (m : ModuleState) (o : Options) → IsGiven m o → NoRuleBroken (Broken m) (P11 ∷ P12 ∷ []) → IsFine m o → (unit : TranslationUnit) → IsTranslationOf m o unit → Keeps m o unit

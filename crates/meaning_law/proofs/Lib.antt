@@ -1,8 +1,9 @@
-pub mod Order
-pub mod Accepted
-pub mod Left
-pub mod Known
-pub mod Main
-pub mod Entry
+pub mod Outside
+pub mod Texts
+pub mod Written
+pub mod Insts
+pub mod Moves
+pub mod Values
+pub mod Steps
 pub mod Whole
-pub mod Worded
+pub mod Filled

@@ -1,0 +1,23 @@
+-- What the instructions of the blocks of an accepted module do as they are written.
+pub mod Operands
+pub mod Semantics
+pub mod NoBarriers
+pub mod LocalTypes
+pub mod PartSteps
+pub mod InsertParts
+pub mod NoBlocks
+pub mod Writable
+pub mod Stores
+pub mod Operations
+pub mod Indexes
+pub mod Atomics
+pub mod NoAtomics
+pub mod Ways
+pub mod Copied
+pub mod Inserts
+pub mod Kept
+pub mod Pointed
+pub mod Called
+pub mod Arguments
+pub mod Calls
+pub mod Joined

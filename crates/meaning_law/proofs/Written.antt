@@ -1,0 +1,20 @@
+-- What the law of functions asks of the blocks and edges of a planned function, in the text of a module that is read and accepted.
+pub mod FallenCopies
+pub mod Shapes
+pub mod Ends
+pub mod Asked
+pub mod Placed
+pub mod EdgeMoves
+pub mod EdgeSource
+pub mod Done
+pub mod Mentions
+pub mod Says
+pub mod NamesOf
+pub mod Expressed
+pub mod EndsSay
+pub mod EndOperands
+pub mod Outside
+pub mod EdgePhis
+pub mod PhiLabels
+pub mod KnownValues
+pub mod Lowered

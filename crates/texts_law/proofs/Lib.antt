@@ -1,4 +1,0 @@
-pub mod BuiltIns
-pub mod ValueTypes
-pub mod ConstantTypes
-pub mod OperandTypes

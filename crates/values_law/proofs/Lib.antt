@@ -1,7 +1,0 @@
-pub mod Read
-pub mod RuntimeMembers
-pub mod Known
-pub mod Lengths
-pub mod Values
-pub mod Ends
-pub mod EdgesLeft
