@@ -1,0 +1,2 @@
+// What an accepted module and its options determine: the tree of its text. Laws alone.
+#![tactic(auto)]
