@@ -22,8 +22,9 @@ use Rattle.structure_recover.specs.Tree.{Region, ends, item, Item, plain, choose
 use Rattle.structure_recover.specs.Follows.{is_plain, heads_loop, target, Carries, CarriesTo, if_reached, merged, IsAfter, IsBehindBlock, IsBehind, StandsAt, continue_block, Follows, FollowsItem, FollowsGroups, first, IsTree}
 use Rattle.structure_recover.specs.Later.{block_of, IsReached}
 use Rattle.structure_recover.proofs.Onward.{target_leads}
-use Rattle.structure_recover.proofs.Rounds.{AllLead, filter_leads, continue_facts}
+use Rattle.structure_recover.proofs.Rounds.{AllLead, filter_leads, conditional_no_switch, continue_facts}
 use Rattle.structure_recover.proofs.Shape.{first_reached}
+use Rattle.tree_law.proofs.Placing.{head_at}
 
 -- a block ends in one way
 plain_conditional : (x : Terminator) → is_plain x ≡ true → is_conditional x ≡ true → ⊥
@@ -39,10 +40,7 @@ plain_switch terminator.Switch e d = cc
 plain_switch terminator.Leave e d = cc
 
 conditional_switch : (x : Terminator) → is_conditional x ≡ true → is_switch x ≡ true → ⊥
-conditional_switch terminator.Branch e d = cc
-conditional_switch terminator.Conditional e d = cc
-conditional_switch terminator.Switch e d = cc
-conditional_switch terminator.Leave e d = cc
+conditional_switch x e d = let never : true ≡ false = sym d ∙ conditional_no_switch x e in cc
 
 same_stop : (e d : Exit) → Stop e ≡ Stop d → e ≡ d
 same_stop e d same = cc
@@ -137,11 +135,7 @@ module _ (g : List Node) where
           by_test true c = subst (IsReached g) (sym c) (merged_reached b)
           by_test false c = after_reached b (nth g b).exit n here c
 
-      -- what begins a region
-      head_at : (i : Item) (s : Start) → StandsAt g i s → head i ≡ block_of s
-      head_at i (Block b) at = at.0
-      head_at i (Body h) at = at.0
-
+      -- what begins a region is a loop or is none
       same_loops : (i j : Item) (s : Start) → StandsAt g i s → StandsAt g j s → is_loop i ≡ is_loop j
       same_loops i j (Block b) at to = at.1 ∙ sym to.1
       same_loops i j (Body h) at to = at.1 ∙ sym to.1
@@ -164,8 +158,8 @@ module _ (g : List Node) where
         regions_one (item i r) (ends d) n here v w = absurd (subst (Follows f g (item i r)) w v)
         regions_one (item i r) (item j q) (Stop e) here v w = absurd v
         regions_one (item i r) (item j q) (At s) here v w =
-            let begun = head_at i s v.0 in
-            let one = items_one i j (begun ∙ sym (head_at j s w.0)) (same_loops i j s v.0 w.0) (subst (λ b. (nth g b).reached ≡ true) (sym begun) here) v.1 w.1 in
+            let begun = head_at g i s v.0 in
+            let one = items_one i j (begun ∙ sym (head_at g j s w.0)) (same_loops i j s v.0 w.0) (subst (λ b. (nth g b).reached ≡ true) (sym begun) here) v.1 w.1 in
             let later = behind_one s v.2.0 w.2.0 here v.2.1 w.2.1 in
             let rest = regions_one r q v.2.0 (behind_reached s v.2.0 here v.2.1) v.2.2 (subst (Follows f g q) (sym later) w.2.2) in
             λ k. item (one k) (rest k)
