@@ -55,8 +55,9 @@ use Rattle.text_rules.specs.Constants.{Source, if_free, free_spec_id, is_scalar,
 use Rattle.text_rules.specs.Printed.{Reached, has_struct, have_struct, has_operand, is_private, is_workgroup, is_block_variable, is_operand_in, is_written_variable, is_length_of, needs_constant, is_named, declares, needed_from, is_needed, is_declared_constant, is_written_struct, type_has_struct, written_types}
 use Rattle.text_rules.specs.Declarations.{Names, type_at, pointee_at, initial, expr_at, value_by, extent_by, length_extent, struct_decl, constant_decl, variable_decl, declaration}
 use Rattle.text_items.specs.Names.{calculated_with}
-use Rattle.path_law.specs.Parts.{StructNames, HasMembersApart, shape_in, fields_in}
+use Rattle.path_law.specs.Parts.{StructNames, HasMembersApart, shape_in, HasLength}
 use Rattle.path_law.specs.Walks.{struct_names}
+use Rattle.path_law.proofs.Parts.{all_sized_lengths, only_fields}
 use Rattle.path_law.proofs.Starts.{outside_is}
 use Rattle.lowering_law.specs.Says.{Says, AllSay}
 use Rattle.typed_law.proofs.Lists.{and_left, and_right, found_in, clash, from_zero}
@@ -71,8 +72,8 @@ use Rattle.global_law.proofs.Told.{IsSpec, items_invocation, told_item}
 use Rattle.global_law.proofs.Nulls.{given_item, null_item}
 use Rattle.global_law.proofs.Plain.{plain_is}
 use Rattle.global_law.proofs.Privates.{AreOtherVariables, items_find, own_value}
-use Rattle.global_law.proofs.Extents.{plain_extent, named_extent}
-use Rattle.global_law.proofs.Zeros.{HasZero, HaveZeros, is_declared}
+use Rattle.global_law.proofs.Extents.{extent_length, length_word, plain_extent, named_extent}
+use Rattle.global_law.proofs.Zeros.{HasZero, HaveZeros, is_declared, zero_lengths}
 use Rattle.constant_law.specs.Within.{IsSpecBefore, IsStructBefore, IsWithin, AreWithin, IsNoBlock}
 use Rattle.constant_law.specs.Items.{key_text, is_item, IsScalarSpec, AreAsked}
 use Rattle.constant_law.proofs.Valued.{IsValued, valued, IsOperand, AreOperands, operands}
@@ -224,7 +225,7 @@ module _ (s : Setting) (entry : Option (List ℕ)) (overrides : List (ℕ × Giv
     pub functions : (w : Text) → d.program.is_function w ≡ false
     pub size : d.program.things group_size_text ≡ Some (value (size_value s overrides))
     pub hidden : (x : Text) → HasNoVariable x → found d.globals x ≡ None
-    pub structs : (h : Inst) (ts : Trees) → IsAmong h Gs → h.at < k → is_written_struct source r h ≡ true → all_trees (tree_before Gs h.at) h.args ≡ Some ts → d.program.structs (names h.result) ≡ Some (fields_in s Y h.result 0 ts)
+    pub structs : (h : Inst) (ts : Trees) → IsAmong h Gs → h.at < k → is_written_struct source r h ≡ true → all_trees (tree_before Gs h.at) h.args ≡ Some ts → IsDeclared d.program s source key (plain.struct h.result ts)
     pub constants : (h : Inst) (t : Tree) (v : ValueTree) → IsAmong h Gs → h.at < k → is_declared_constant source r h ≡ true → s.constants h.result ≡ Some v → type_tree Gs h.ty ≡ Some t → d.program.things (names h.result) ≡ Some (value (typed (shape_in s Y t) v))
 
   -- globals by their ids and names
@@ -350,9 +351,9 @@ module _ (s : Setting) (entry : Option (List ℕ)) (overrides : List (ℕ × Giv
 
   -- so much is known of types
   module _ (k : ℕ) (d : Declared) (stands : Stands k d) where
-    struct_stands : (j : ℕ) (ts : Trees) → IsStructBefore (IsNoBlock s.of) s.of k j ts → IsHeld s entry asked.right overrides r j → d.program.structs (names j) ≡ Some (fields_in s Y j 0 ts)
+    struct_stands : (j : ℕ) (ts : Trees) → IsStructBefore (IsNoBlock s.of) s.of k j ts → IsHeld s entry asked.right overrides r j → IsDeclared d.program s source key (plain.struct j ts)
     struct_stands j ts w held =
-        subst (λ x. d.program.structs (names x) ≡ Some (fields_in s Y x 0 ts)) (named_so Gs j w.inst w.there) (stands.structs w.inst ts (found_in Gs j w.inst w.there) w.less (struct_written s entry asked.right overrides r k j ts w held) w.members)
+        subst (λ x. IsDeclared d.program s source key (plain.struct x ts)) (named_so Gs j w.inst w.there) (stands.structs w.inst ts (found_in Gs j w.inst w.there) w.less (struct_written s entry asked.right overrides r k j ts w held) w.members)
 
     mutual
       pub zero_stands : (t : Tree) → IsWithin (IsNoBlock s.of) s.of k t → IsSized t → ((j : ℕ) → has_struct j t ≡ true → IsHeld s entry asked.right overrides r j) → HasZero d.program s source key t
@@ -363,15 +364,17 @@ module _ (s : Setting) (entry : Option (List ℕ)) (overrides : List (ℕ × Giv
       zero_stands (plain.array t (Fixed n)) w sized held = zero_stands t w.0 sized held
       zero_stands (plain.array t (Spec l)) w sized held = absurd sized
       zero_stands (plain.runtime t) w sized held = absurd sized
-      zero_stands (plain.struct j ts) w sized held = (struct_stands j ts w.0 (held j (or_left (j == j) (have_struct j ts) (grind (arith, nat_tests)))), zeros_stand ts w.1 sized (λ i has. held i (or_right (j == i) (have_struct i ts) has)))
+      zero_stands (plain.struct j ts) w sized held =
+          let fields = struct_stands j ts w.0 (held j (or_left (j == j) (have_struct j ts) (grind (arith, nat_tests)))) in
+          (fields.1 ∙ ap (λ fs. Some fs) (only_fields s Y j 0 ts fields.0 (all_sized_lengths ts sized) fields.2), zeros_stand ts w.1 sized (λ i has. held i (or_right (j == i) (have_struct i ts) has)))
 
       zeros_stand : (ts : Trees) → AreWithin (IsNoBlock s.of) s.of k ts → AreSized ts → ((j : ℕ) → have_struct j ts ≡ true → IsHeld s entry asked.right overrides r j) → HaveZeros d.program s source key ts
       zeros_stand no_trees w sized held = tt
       zeros_stand (tree t ts) w sized held = (zero_stands t w.0 sized.0 (λ j has. held j (or_left (has_struct j t) (have_struct j ts) has)), zeros_stand ts w.1 sized.1 (λ j has. held j (or_right (has_struct j t) (have_struct j ts) has)))
 
-    -- a length that a specialization constant gives
-    extent_stands : (n : ℕ) → IsSpecBefore s.of k n → (u : Shape) → with_extent d.program (length_extent source names (Spec (id n))) u ≡ shapes.array u (array_length s n)
-    extent_stands n w u = by_reading (reading source c) refl
+    -- a length that a specialization constant gives, where it is one
+    extent_known : (n : ℕ) → IsSpecBefore s.of k n → (l : ℕ) → array_length s n ≡ Some l → (u : Shape) → with_extent d.program (length_extent source names (Spec (id n))) u ≡ shapes.array u (array_length s n)
+    extent_known n w l long u = by_reading (reading source c) refl
       where
         c : Inst
         c = w.inst
@@ -383,7 +386,7 @@ module _ (s : Setting) (entry : Option (List ℕ)) (overrides : List (ℕ × Giv
         itself = named_so Gs n c w.there
 
         told : (x : ℕ) × (s.constants n ≡ Some (value_word x)) × (array_length s n ≡ Some x)
-        told = subst (λ m. (x : ℕ) × (s.constants m ≡ Some (value_word x)) × (array_length s m ≡ Some x)) w.length (asked.lengths w.array c w.among w.opcode (ap (global Gs) w.length ∙ w.there) w.specialized)
+        told = (l, length_word s n l long, long)
 
         has : s.constants c.result ≡ Some (value_word told.0)
         has = ap s.constants itself ∙ told.1
@@ -424,6 +427,13 @@ module _ (s : Setting) (entry : Option (List ℕ)) (overrides : List (ℕ × Giv
             word_same : (a b : ℕ) → value_word a ≡ value_word b → a ≡ b
             word_same a b e = cc
 
+    extent_stands : (n : ℕ) → IsSpecBefore s.of k n → (m : Option ℕ) × ((u : Shape) → with_extent d.program (length_extent source names (Spec (id n))) u ≡ shapes.array u m) × HasLength (array_length s n) m
+    extent_stands n w = by_length (array_length s n) refl
+      where
+        by_length : (o : Option ℕ) → array_length s n ≡ o → (m : Option ℕ) × ((u : Shape) → with_extent d.program (length_extent source names (Spec (id n))) u ≡ shapes.array u m) × HasLength o m
+        by_length None none = let e = extent_length d.program source names (id n) in (e.0, e.1, tt)
+        by_length (Some l) long = (Some l, λ u. extent_known n w l long u ∙ ap (shapes.array u) long, refl)
+
     -- the type of what is no value, and those of members
     pub declared_stands : (t : Tree) → IsWithin (IsNoBlock s.of) s.of k t → ((j : ℕ) → has_struct j t ≡ true → IsHeld s entry asked.right overrides r j) → IsDeclared d.program s source key t
     declared_stands plain.boolean w held = tt
@@ -431,7 +441,7 @@ module _ (s : Setting) (entry : Option (List ℕ)) (overrides : List (ℕ × Giv
     declared_stands plain.uint w held = tt
     declared_stands (plain.vector e n) w held = tt
     declared_stands (plain.array t (Fixed n)) w held = declared_stands t w.0 held
-    declared_stands (plain.array t (Spec l)) w held = (declared_stands t w.0 held, λ u. extent_stands l.0 w.1 u)
+    declared_stands (plain.array t (Spec l)) w held = (declared_stands t w.0 held, extent_stands l.0 w.1)
     declared_stands (plain.runtime t) w held = declared_stands t w held
     declared_stands (plain.struct j ts) w held = struct_stands j ts w.0 (held j (or_left (j == j) (have_struct j ts) (grind (arith, nat_tests))))
 
@@ -611,7 +621,7 @@ module _ (s : Setting) (entry : Option (List ℕ)) (overrides : List (ℕ × Giv
                 let shapes_are = have_shapes s C asked.have asked.right.results asked.right.rising g.at g.args ops.0 vs ops.1 in
                 let fit_all = all_fit s C asked.have asked.right.results asked.right.rising g.at g.args ops.0 vs ops.1 in
                 let parts = constituents_are s g t ops.0 (composite_right s g sound kind) shape sized shapes_are in
-                let typed_as : type_of d.program (type_at source N g.ty) ≡ Some (shape_in s Y t) = type_declared s nothing overrides key calculated d.program g.ty t shape (is_declared d.program s source key t zero_is) in
+                let typed_as : type_of d.program (type_at source N g.ty) ≡ Some (shape_in s Y t) = type_declared s nothing overrides key calculated d.program g.ty t shape (zero_lengths d.program s source key t zero_is) (is_declared d.program s source key t zero_is) in
                 let says : Says d.program no_calls Z (value_by source N g kinds.Composite) (typed (shape_in s Y t) (composite vs)) =
                 composite_says d.program s source key no_calls Z (type_at source N g.ty) (exprs_in (map (expr_at source N) g.args)) t ops.0 vs typed_as zero_is parts fit_all (all_say g.args ops.0 vs ops.1 (all_operands g (λ k. composite_ids g.op g.args k kind))) in
                 said_there kinds.Composite kind free (subst (λ u. Says d.program no_calls Z (value_by source N g kinds.Composite) (typed (shape_in s Y t) u)) (same_Some (composite vs) v e) says)
@@ -678,19 +688,21 @@ module _ (s : Setting) (entry : Option (List ℕ)) (overrides : List (ℕ × Giv
     abbrev After : Declared
     After = with_items d (declaration source r N g)
 
-    struct_after : (h : Inst) (ts : Trees) → IsAmong h Gs → h.at < g.at + 1 → is_written_struct source r h ≡ true → all_trees (tree_before Gs h.at) h.args ≡ Some ts → After.program.structs (names h.result) ≡ Some (fields_in s Y h.result 0 ts)
+    struct_after : (h : Inst) (ts : Trees) → IsAmong h Gs → h.at < g.at + 1 → is_written_struct source r h ≡ true → all_trees (tree_before Gs h.at) h.args ≡ Some ts → IsDeclared After.program s source key (plain.struct h.result ts)
     struct_after h ts h_in less on all = by_only (only h h_in less)
       where
-        own_struct : (ts : Trees) → is_written_struct source r g ≡ true → all_trees (tree_before Gs g.at) g.args ≡ Some ts → After.program.structs (names g.result) ≡ Some (fields_in s Y g.result 0 ts)
+        own_struct : (ts : Trees) → is_written_struct source r g ≡ true → all_trees (tree_before Gs g.at) g.args ≡ Some ts → IsDeclared After.program s source key (plain.struct g.result ts)
         own_struct ts on all =
-            ap (λ l. (with_items d l).program.structs (names g.result)) (declares_struct g on)
-            ∙ struct_item s nothing overrides key calculated d g ts all
+            subst (λ l. IsDeclared (with_items d l).program s source key (plain.struct g.result ts)) (sym (declares_struct g on))
+            (struct_item s nothing overrides key calculated d g ts all
             (all_declared g.at d stands ts (members_unblocked s.of entry asked.right g ts there (and_left (is g.op code.TypeStruct) (not (is_block s.of.heads g.result) && list_any (type_has_struct Gs g.result) (written_types source r)) on) all)
-            (λ j has. held_member s entry asked.right overrides r g.result g ts j (own g there) all has (struct_held g on)))
+            (λ j has. held_member s entry asked.right overrides r g.result g ts j (own g there) all has (struct_held g on))))
 
-        by_only : (h.at < g.at) ⊎ (h ≡ g) → After.program.structs (names h.result) ≡ Some (fields_in s Y h.result 0 ts)
-        by_only (inl low) = structs_keep (declaration source r N g) d (names h.result) (other_structs (names h.result) g (λ also. earlier_off h h_in low (struct_is_item h on) (struct_is_item g also))) ∙ stands.structs h ts h_in low on all
-        by_only (inr same) = subst (λ (x : Inst). is_written_struct source r x ≡ true → all_trees (tree_before Gs x.at) x.args ≡ Some ts → After.program.structs (names x.result) ≡ Some (fields_in s Y x.result 0 ts)) (sym same) (own_struct ts) on all
+        by_only : (h.at < g.at) ⊎ (h ≡ g) → IsDeclared After.program s source key (plain.struct h.result ts)
+        by_only (inl low) =
+            let fields = stands.structs h ts h_in low on all in
+            (fields.0, structs_keep (declaration source r N g) d (names h.result) (other_structs (names h.result) g (λ also. earlier_off h h_in low (struct_is_item h on) (struct_is_item g also))) ∙ fields.1, fields.2)
+        by_only (inr same) = subst (λ (x : Inst). is_written_struct source r x ≡ true → all_trees (tree_before Gs x.at) x.args ≡ Some ts → IsDeclared After.program s source key (plain.struct x.result ts)) (sym same) (own_struct ts) on all
 
     constant_after : (h : Inst) (t : Tree) (v : ValueTree) → IsAmong h Gs → h.at < g.at + 1 → is_declared_constant source r h ≡ true → s.constants h.result ≡ Some v → type_tree Gs h.ty ≡ Some t → After.program.things (names h.result) ≡ Some (value (typed (shape_in s Y t) v))
     constant_after h t v h_in less on has shape = by_only (only h h_in less)

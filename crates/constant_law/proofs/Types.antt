@@ -60,9 +60,9 @@ module _ (p q : Program) (structs : (x : Text) → q.structs x ≡ p.structs x) 
   declared_moved plain.uint is = tt
   declared_moved (plain.vector e n) is = tt
   declared_moved (plain.array t (Fixed n)) is = declared_moved t is
-  declared_moved (plain.array t (Spec n)) is = (declared_moved t is.0, λ u. extent_moved (length_extent source (λ k. key (Id (id k))) (Spec n)) u ∙ is.1 u)
+  declared_moved (plain.array t (Spec n)) is = (declared_moved t is.0, (is.1.0, λ u. extent_moved (length_extent source (λ k. key (Id (id k))) (Spec n)) u ∙ is.1.1 u, is.1.2))
   declared_moved (plain.runtime t) is = declared_moved t is
-  declared_moved (plain.struct n ts) is = structs (key (Id (id n))) ∙ is
+  declared_moved (plain.struct n ts) is = (is.0, structs (key (Id (id n))) ∙ is.1, is.2)
 
   mutual
     pub zero_moved : (t : Tree) → HasZero p s source key t → HasZero q s source key t

@@ -62,7 +62,7 @@ use Rattle.typed_law.proofs.Sized.{rising_low}
 use Rattle.global_law.specs.Sources.{source_of, chosen}
 use Rattle.global_law.proofs.Blocks.{items_more, type_declared}
 use Rattle.global_law.proofs.Privates.{IsOtherVariable, AreOtherVariables, items_find, private_there, own_value, zero_begins, given_first, zero_first}
-use Rattle.global_law.proofs.Zeros.{HasZero, is_declared}
+use Rattle.global_law.proofs.Zeros.{HasZero, is_declared, zero_lengths}
 use Rattle.constant_law.specs.Items.{key_text, AreAsked}
 use Rattle.constant_law.proofs.Valued.{IsValued, valued}
 use Rattle.constant_law.proofs.Needed.{operand_at, operand_earlier}
@@ -282,7 +282,7 @@ module _ (s : Setting) (entry : Option (List ℕ)) (overrides : List (ℕ × Giv
 
       -- its expression gives it a value of its type
       pub private_valued : (a : ValueTree) → global_variable s v.result ≡ Some v → initial_private s v.result ≡ Some a → global_value D (type_of D.program (type_at source Ns (pointee_at source v.ty))) (initial source Ns v) ≡ Some (typed (shape_in s Y t) a)
-      private_valued a itself starts = ap (λ o. global_value D o (initial source Ns v)) (type_declared s nothing overrides key (Ns.calculated) D.program (pointee_at source v.ty) t shape_at (is_declared D.program s source key t zero_is)) ∙ begins a itself starts
+      private_valued a itself starts = ap (λ o. global_value D o (initial source Ns v)) (type_declared s nothing overrides key (Ns.calculated) D.program (pointee_at source v.ty) t shape_at (zero_lengths D.program s source key t zero_is) (is_declared D.program s source key t zero_is)) ∙ begins a itself starts
 
       -- So it begins, behind all items, with the value that it has in the module.
       pub private_begins : (fs : List Decl) → AreFunctions fs → (a : ValueTree) → global_variable s v.result ≡ Some v → initial_private s v.result ≡ Some a
@@ -291,7 +291,7 @@ module _ (s : Setting) (entry : Option (List ℕ)) (overrides : List (ℕ × Giv
       private_begins fs functions a itself starts =
           ap (λ (d : Declared). found d.globals (names v.result)) (items_more (declarations source r Ns) fs (first s overrides))
           ∙ items_find fs (with_items (first s overrides) (declarations source r Ns)) (names v.result) (functions_find fs (names v.result) functions)
-          ∙ private_there s overrides key (Ns.calculated) nothing r (first s overrides) before after v t a whole declares_private shape_at (is_declared D.program s source key t zero_is) (begins a itself starts)
+          ∙ private_there s overrides key (Ns.calculated) nothing r (first s overrides) before after v t a whole declares_private shape_at zero_is (begins a itself starts)
           (variables_after v there written after (λ h h_in. subst (IsAmong h) (sym whole) (among_behind before after v h h_in)) (behind before after 0 v (subst (AreRising 0) whole asked.right.rising)))
           ∙ ap (λ o. Some (variable_with (shape_in s Y t) o)) (sym starts)
 

@@ -1,23 +1,19 @@
 -- What is asked of the items of a text, besides that its module conforms.
 use Rattle.std.specs.Prelude.{◌≡◌, ◌⊎◌, ◌||◌, ◌==◌, ℕ, Bool, true, false, List, [], ◌∷◌, Option, Some, is_some, unwrap_or}
 use Rattle.std.specs.List.{list_any}
-use Rattle.spv_ops.specs.Opcode.{is}
-use Rattle.spv_ops.specs.declared.Op.TheVariants as code
 use Rattle.spv_module.specs.Held.{global}
 use Rattle.spv_module.specs.Lists.{id}
 use Rattle.spv_module.specs.declared.inst.Inst.{Inst}
 use Rattle.spv_module.specs.declared.tree.Elem.TheVariants as elem
 use Rattle.spv_types.specs.Tree as plain
-use Rattle.spv_types.specs.Tree.{Tree, word as value_word}
+use Rattle.spv_types.specs.Tree.{Tree}
 use Rattle.spv_types.specs.Types.{type_tree}
-use Rattle.spv_decor.specs.Rows.{word}
 use Rattle.profile_rules.specs.declared.given.Given.{Given}
 use Rattle.profile_rules.specs.declared.constant.ConstantKind.{ConstantKind}
 use Rattle.profile_rules.specs.declared.constant.ConstantKind.TheVariants as kinds
 use Rattle.profile_rules.specs.Constants.{constant_kind, spec_id}
 use Rattle.profile_rules.specs.Entry.{is_size_composite}
 use Rattle.module_semantics.specs.Setting.{Setting}
-use Rattle.module_semantics.specs.Memory.{array_length}
 use Rattle.plan_law.specs.InOrder.{IsAmong}
 use Rattle.type_law.specs.Shaped.{HasConstants}
 use Rattle.typed_law.specs.Conforms.{IsConforming}
@@ -60,10 +56,6 @@ pub record AreSizes (source : Source) : Type 0 where
   pub composite : (g : Inst) → IsAmong g source.of.globals → is_size_composite source.of.heads g ≡ true → (size_ids source ≡ g.args) × (type_tree source.of.globals g.ty ≡ Some (plain.vector elem.Uint 3))
   pub part : (n : ℕ) (g : Inst) → list_any (λ (k : ℕ). k == n) (size_ids source) ≡ true → global source.of.globals n ≡ Some g → (type_tree source.of.globals g.ty ≡ Some plain.uint) × ((constant_kind g.op ≡ kinds.Word) ⊎ (constant_kind g.op ≡ kinds.SpecWord))
 
--- a specialization constant that is the length of an array has a value, which is a length
-abbrev pub HaveLengths : Setting → Type 0
-HaveLengths s = (g : Inst) (c : Inst) → IsAmong g s.of.globals → is g.op code.TypeArray ≡ true → global s.of.globals (word g 1) ≡ Some c → is c.op code.Constant ≡ false → (w : ℕ) × (s.constants (word g 1) ≡ Some (value_word w)) × (array_length s (word g 1) ≡ Some w)
-
 -- What is asked of a module and of the names of its text, so that the constants in it say what the module has: the module conforms, its constants are of words; names are apart; and where a calculated constant is made of composites, members have names apart.
 pub record AreAsked (s : Setting) (entry : Option (List ℕ)) (overrides : List (ℕ × Given)) (found : Key → Option Text) (r : Reached) : Type 0 where
   pub right : IsConforming s.of entry
@@ -72,5 +64,4 @@ pub record AreAsked (s : Setting) (entry : Option (List ℕ)) (overrides : List 
   pub names : HaveNames (source_of s overrides) r (key_text found)
   pub spec_ids : AreSpecIds (source_of s overrides)
   pub sizes : AreSizes (source_of s overrides)
-  pub lengths : HaveLengths s
   pub members : (g : Inst) (t : Tree) → IsAmong g s.of.globals → is_declared_constant (source_of s overrides) r g ≡ true → type_tree s.of.globals g.ty ≡ Some t → HasMembersApart (struct_names (key_text found)) t

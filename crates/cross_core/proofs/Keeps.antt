@@ -10,11 +10,9 @@ use Rattle.glsl_ast.specs.Tree.{TranslationUnit}
 use Rattle.emit_glsl.specs.Given.{IsGiven}
 use Rattle.emit_glsl.specs.Text.{IsTranslationOf}
 use Rattle.traces.specs.Events.{Event}
-use Rattle.module_semantics.specs.Setting.{setting}
 use Rattle.dispatch_semantics.specs.Store.{Store}
 use Rattle.dispatch_semantics.specs.Grid.{Grid, group_of, count, invocation}
 use Rattle.dispatch_semantics.specs.Dispatch.{DispatchRun}
-use Rattle.constant_law.specs.Items.{HaveLengths}
 use Rattle.preservation.specs.Preserves.{module_side, text_side, IsGrid, first_state}
 use Rattle.preservation.proofs.Interleavings.{dispatches_agree}
 use Rattle.meaning_law.proofs.Filled.Filled.{accepted_preserves}
@@ -24,12 +22,12 @@ pub keeps : (m : ModuleState) (o : Options) → IsGiven m o → NoRuleBroken (Br
 keeps m o given decorated fine unit is = record {
   entry = is.translated.entry;
   is_entry = is.translated.is_entry;
-  preserves = λ inv told lengths. accepted_preserves given.read.bytes m o given.read.is fine unit is.translated inv told (record { octets = given.octets; given = given.words; decorated = decorated; lengths = lengths });
+  preserves = λ inv told. accepted_preserves given.read.bytes m o given.read.is fine unit is.translated inv told (record { octets = given.octets; given = given.words; decorated = decorated });
 }
 
 -- by any schedule: the same events in the same order, and the same memory
-pub every_dispatch : (m : ModuleState) (o : Options) (unit : TranslationUnit) (k : Keeps m o unit) (g : Grid) → IsGrid g → ((i : ℕ) → i < count g → HaveLengths (setting m k.entry o.overrides (invocation g i))) → (n : ℕ) (store : Store) (schedule : List ℕ) (events : List (ℕ × Event)) (last : Store)
+pub every_dispatch : (m : ModuleState) (o : Options) (unit : TranslationUnit) (k : Keeps m o unit) (g : Grid) → IsGrid g → (n : ℕ) (store : Store) (schedule : List ℕ) (events : List (ℕ × Event)) (last : Store)
     → DispatchRun (count g) (group_of g) (module_side m k.entry o.overrides g n) (first_state store) schedule events last
     → DispatchRun (count g) (group_of g) (text_side unit g (n + 1)) (first_state store) schedule events last
-every_dispatch m o unit k g told lengths n store schedule events last run =
-    dispatches_agree m k.entry o.overrides unit g (λ i less. k.preserves (invocation g i) (told i less) (lengths i less)) n store schedule events last run
+every_dispatch m o unit k g told n store schedule events last run =
+    dispatches_agree m k.entry o.overrides unit g (λ i less. k.preserves (invocation g i) (told i less)) n store schedule events last run

@@ -5,12 +5,10 @@ use Rattle.conformance.specs.Rules.{Options}
 use Rattle.module_check.specs.Judged.{IsEntry}
 use Rattle.glsl_ast.specs.Tree.{TranslationUnit}
 use Rattle.traces.specs.Invocations.{Invocation, IsInvocation}
-use Rattle.module_semantics.specs.Setting.{setting}
-use Rattle.constant_law.specs.Items.{HaveLengths}
 use Rattle.preservation.specs.Preserves.{PreservesIn}
 
--- For the function of the chosen entry point, and with the overrides of the command line: in every invocation whose specialization gives a length to each array that has a specialization constant for one, the text preserves what the module does. Whatever answers come to its reads and atomics, wherever the module's meaning is defined, it makes the same events in the same order, and ends exactly when the module ends.
+-- For the function of the chosen entry point, and with the overrides of the command line: in every invocation the text preserves what the module does. Whatever answers come to its reads and atomics, wherever the module's meaning is defined, it makes the same events in the same order, and ends exactly when the module ends.
 pub record Keeps (m : ModuleState) (o : Options) (unit : TranslationUnit) : Type 0 where
   pub entry : ℕ
   pub is_entry : IsEntry m o entry
-  pub preserves : (inv : Invocation) → IsInvocation inv → HaveLengths (setting m entry o.overrides inv) → PreservesIn m entry o.overrides unit inv
+  pub preserves : (inv : Invocation) → IsInvocation inv → PreservesIn m entry o.overrides unit inv

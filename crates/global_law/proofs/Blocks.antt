@@ -22,6 +22,7 @@ use Rattle.module_semantics.specs.Setting.{Setting, global_variable}
 use Rattle.name_alloc.specs.declared.claims.Key.{Key}
 use Rattle.name_alloc.specs.declared.claims.Key.TheVariants.{Id}
 use Rattle.glsl_ast.specs.Tree.{Text, Expr, Decl}
+use Rattle.glsl_semantics.specs.Shapes.{Shape}
 use Rattle.glsl_semantics.specs.States.{Thing, instance}
 use Rattle.glsl_semantics.specs.Expressions.{Program, type_of}
 use Rattle.glsl_semantics.specs.Items.{Declared, layout_of, with_member, members_of, with_item, with_items}
@@ -29,10 +30,10 @@ use Rattle.text_rules.specs.Constants.{Source}
 use Rattle.text_rules.specs.Printed.{Reached}
 use Rattle.text_rules.specs.Declarations.{Names, spelling, type_at, member_decl, place_of, rules_by, block_decl, declaration, declarations}
 use Rattle.type_law.proofs.Parts.{earlier_is}
-use Rattle.path_law.specs.Parts.{shape_in}
+use Rattle.path_law.specs.Parts.{shape_in, IsShape}
 use Rattle.path_law.specs.Walks.{struct_names}
 use Rattle.path_law.specs.Starts.{members_in, IsBlock}
-use Rattle.path_law.specs.Laid.{HasLengths}
+use Rattle.path_law.specs.Laid.{HasLengths, HaveLengths}
 use Rattle.agree_law.specs.Agree.{Naming}
 use Rattle.module_semantics.specs.State.{global as root}
 use Rattle.module_semantics.specs.Memory.{variable_type}
@@ -46,7 +47,7 @@ use Rattle.fits_law.proofs.Steps.{named}
 use Rattle.global_law.specs.Sources.{source_of}
 use Rattle.global_law.specs.Names.{names_of, IsDeclared}
 use Rattle.global_law.proofs.BuiltIns.{AreOtherNames, items_keep}
-use Rattle.global_law.proofs.Declared.{named_type, outline_same}
+use Rattle.global_law.proofs.Declared.{named_shape, named_type, outline_same}
 
 bytes_same : (w : Text) → bytes_eq w w ≡ true
 bytes_same w = (bytes_eq-Decides w w).1 refl
@@ -90,24 +91,28 @@ module _ (s : Setting) (f : Function) (overrides : List (ℕ × Given)) (key : K
   AreDeclared p no_trees = Unit {0}
   AreDeclared p (tree t ts) = IsDeclared p s source key t × AreDeclared p ts
 
-  pub type_declared : (p : Program) (ty : ℕ) (t : Tree) → type_tree Gs ty ≡ Some t → IsDeclared p s source key t → type_of p (type_at source N ty) ≡ Some (shape_in s (struct_names key) t)
-  type_declared p ty t shape is = ap (type_of p) (outline_same (spelling source N.id) Gs ty t shape) ∙ named_type p s source key t is
+  pub shape_declared : (p : Program) (ty : ℕ) (t : Tree) → type_tree Gs ty ≡ Some t → IsDeclared p s source key t → (q : Shape) × (type_of p (type_at source N ty) ≡ Some q) × IsShape s (struct_names key) t q
+  shape_declared p ty t shape is = let w = named_shape p s source key t is in (w.0, ap (type_of p) (outline_same (spelling source N.id) Gs ty t shape) ∙ w.1, w.2)
+
+  pub type_declared : (p : Program) (ty : ℕ) (t : Tree) → type_tree Gs ty ≡ Some t → HasLengths t → IsDeclared p s source key t → type_of p (type_at source N ty) ≡ Some (shape_in s (struct_names key) t)
+  type_declared p ty t shape lengths is = ap (type_of p) (outline_same (spelling source N.id) Gs ty t shape) ∙ named_type p s source key t lengths is
 
   -- the members of a block
-  members_declared : (p : Program) (v g : Inst) (k : ℕ) (ids : List ℕ) (ts : Trees) → all_trees (tree_before Gs g.at) ids ≡ Some ts → AreDeclared p ts → members_of p (map (member_decl source N v g) (enumerate_from k ids)) ≡ members_in s (struct_names key) g.result k ts
-  members_declared p v g k [] ts all are = subst (λ us. [] ≡ members_in s (struct_names key) g.result k us) (same_Some no_trees ts all) refl
-  members_declared p v g k (n ∷ ns) ts all are = by_parts (tree_before Gs g.at n) refl (all_trees (tree_before Gs g.at) ns) refl all are (λ us more there. members_declared p v g (k + 1) ns us more there)
+  members_declared : (p : Program) (v g : Inst) (k : ℕ) (ids : List ℕ) (ts : Trees) → all_trees (tree_before Gs g.at) ids ≡ Some ts → HaveLengths ts → AreDeclared p ts → members_of p (map (member_decl source N v g) (enumerate_from k ids)) ≡ members_in s (struct_names key) g.result k ts
+  members_declared p v g k [] ts all lengths are = subst (λ us. [] ≡ members_in s (struct_names key) g.result k us) (same_Some no_trees ts all) refl
+  members_declared p v g k (n ∷ ns) ts all lengths are = by_parts (tree_before Gs g.at n) refl (all_trees (tree_before Gs g.at) ns) refl all lengths are (λ us more long there. members_declared p v g (k + 1) ns us more long there)
     where
-      by_parts : (o : Option Tree) → tree_before Gs g.at n ≡ o → (q : Option Trees) → all_trees (tree_before Gs g.at) ns ≡ q → both o q ≡ Some ts → AreDeclared p ts
-          → ((us : Trees) → all_trees (tree_before Gs g.at) ns ≡ Some us → AreDeclared p us → members_of p (map (member_decl source N v g) (enumerate_from (k + 1) ns)) ≡ members_in s (struct_names key) g.result (k + 1) us)
+      by_parts : (o : Option Tree) → tree_before Gs g.at n ≡ o → (q : Option Trees) → all_trees (tree_before Gs g.at) ns ≡ q → both o q ≡ Some ts → HaveLengths ts → AreDeclared p ts
+          → ((us : Trees) → all_trees (tree_before Gs g.at) ns ≡ Some us → HaveLengths us → AreDeclared p us → members_of p (map (member_decl source N v g) (enumerate_from (k + 1) ns)) ≡ members_in s (struct_names key) g.result (k + 1) us)
           → members_of p (map (member_decl source N v g) (enumerate_from k (n ∷ ns))) ≡ members_in s (struct_names key) g.result k ts
-      by_parts None is q more e are later = cc
-      by_parts (Some t) is None more e are later = cc
-      by_parts (Some t) is (Some us) more e are later =
+      by_parts None is q more e lengths are later = cc
+      by_parts (Some t) is None more e lengths are later = cc
+      by_parts (Some t) is (Some us) more e lengths are later =
           let whole : tree t us ≡ ts = same_Some (tree t us) ts e in
           let there : AreDeclared p (tree t us) = subst (AreDeclared p) (sym whole) are in
+          let long : HaveLengths (tree t us) = subst HaveLengths (sym whole) lengths in
           subst (λ q. members_of p (map (member_decl source N v g) (enumerate_from k (n ∷ ns))) ≡ members_in s (struct_names key) g.result k q) whole
-          (ap₂ (λ o ms. with_member (N.member g.result k) (offset k) o ms) (type_declared p n t (earlier_is s f g.at n t is) there.0) (later us more there.1))
+          (ap₂ (λ o ms. with_member (N.member g.result k) (offset k) o ms) (type_declared p n t (earlier_is s f g.at n t is) long.0 there.0) (later us more long.1 there.1))
         where
           offset : ℕ → ℕ
           offset k = unwrap_or (member_value_of s.of.heads g.result k (decoration_number decoration.Offset)) 0
@@ -117,19 +122,19 @@ module _ (s : Setting) (f : Function) (overrides : List (ℕ × Given)) (key : K
   kind_there Std140 = refl
 
   -- the item of a block
-  pub block_item : (d : Declared) (v g : Inst) (k : Kind) (ts : Trees) → kind_at s.of.heads Gs v g ≡ Some k → all_trees (tree_before Gs g.at) g.args ≡ Some ts → AreDeclared d.program ts → (with_item d (block_decl source N v g)).program.things (key (Id (id v.result))) ≡ Some (instance (place_of source v) k (members_in s (struct_names key) g.result 0 ts))
-  block_item d v g k ts takes all are =
+  pub block_item : (d : Declared) (v g : Inst) (k : Kind) (ts : Trees) → kind_at s.of.heads Gs v g ≡ Some k → all_trees (tree_before Gs g.at) g.args ≡ Some ts → HaveLengths ts → AreDeclared d.program ts → (with_item d (block_decl source N v g)).program.things (key (Id (id v.result))) ≡ Some (instance (place_of source v) k (members_in s (struct_names key) g.result 0 ts))
+  block_item d v g k ts takes all lengths are =
       ap (λ b. elim b as (λ b. Option Thing) [ true ↦ Some (instance (place_of source v) (layout_of (rules_by (kind_at s.of.heads Gs v g))) (members_of d.program (map (member_decl source N v g) (enumerate_from 0 g.args)))) | false ↦ d.program.things (key (Id (id v.result))) ]) (bytes_same (key (Id (id v.result))))
-      ∙ ap₂ (λ q ms. Some (instance (place_of source v) q ms)) (ap (λ o. layout_of (rules_by o)) takes ∙ kind_there k) (members_declared d.program v g 0 g.args ts all are)
+      ∙ ap₂ (λ q ms. Some (instance (place_of source v) q ms)) (ap (λ o. layout_of (rules_by o)) takes ∙ kind_there k) (members_declared d.program v g 0 g.args ts all lengths are)
 
   -- So the name of a block variable stands for its block, behind all items.
   pub block_there : (r : Reached) (first : Declared) (before after : List Inst) (v g : Inst) (k : Kind) (ts : Trees) → Gs ≡ before ++ v ∷ after → declaration source r N v ≡ block_decl source N v g ∷ [] → kind_at s.of.heads Gs v g ≡ Some k → all_trees (tree_before Gs g.at) g.args ≡ Some ts
-      → AreDeclared (with_items first (flat_map (declaration source r N) before)).program ts → AreOtherNames (key (Id (id v.result))) (flat_map (declaration source r N) after)
+      → HaveLengths ts → AreDeclared (with_items first (flat_map (declaration source r N) before)).program ts → AreOtherNames (key (Id (id v.result))) (flat_map (declaration source r N) after)
       → (with_items first (declarations source r N)).program.things (key (Id (id v.result))) ≡ Some (instance (place_of source v) k (members_in s (struct_names key) g.result 0 ts))
-  block_there r first before after v g k ts whole is takes all are others =
+  block_there r first before after v g k ts whole is takes all lengths are others =
       ap (λ l. (with_items first l).program.things (key (Id (id v.result)))) (declared_between source r N before after v (block_decl source N v g) whole is)
       ∙ item_there (flat_map (declaration source r N) before) (flat_map (declaration source r N) after) (block_decl source N v g) first (key (Id (id v.result))) (instance (place_of source v) k (members_in s (struct_names key) g.result 0 ts))
-      (block_item (with_items first (flat_map (declaration source r N) before)) v g k ts takes all are) others
+      (block_item (with_items first (flat_map (declaration source r N) before)) v g k ts takes all lengths are) others
 
   -- So it begins paths.
   pub block_begins : (r : Reached) (first : Declared) (m : Naming) (globals : ℕ → Option Expr) (before after : List Inst) (v g : Inst) (ty : ℕ) (k : Kind) (ts : Trees) → Gs ≡ before ++ v ∷ after → declaration source r N v ≡ block_decl source N v g ∷ [] → kind_at s.of.heads Gs v g ≡ Some k → all_trees (tree_before Gs g.at) g.args ≡ Some ts
@@ -155,5 +160,5 @@ module _ (s : Setting) (f : Function) (overrides : List (ℕ × Given)) (key : K
         decorated = ap (is_block s.of.heads) at ∙ decorated;
         kind = k;
         takes = takes;
-        thing = block_there r first before after v g k ts whole written takes all declared others ∙ ap (λ n. Some (instance (place_of source v) k (members_in s (struct_names key) n 0 ts))) (named Gs ty g type_there ∙ sym at);
+        thing = block_there r first before after v g k ts whole written takes all lengths declared others ∙ ap (λ n. Some (instance (place_of source v) k (members_in s (struct_names key) n 0 ts))) (named Gs ty g type_there ∙ sym at);
       }

@@ -23,6 +23,7 @@ use Rattle.module_semantics.specs.Setting.{Setting}
 use Rattle.name_alloc.specs.declared.claims.Key.{Key}
 use Rattle.name_alloc.specs.declared.claims.Key.TheVariants.{Id}
 use Rattle.glsl_ast.specs.Tree.{Text, Extent, TypeName, type_name, open_end, number as count}
+use Rattle.glsl_semantics.specs.Shapes as shapes
 use Rattle.glsl_semantics.specs.Shapes.{Shape, struct}
 use Rattle.glsl_semantics.specs.Expressions.{Program, with_extent, with_extents, base_shape, type_of}
 use Rattle.text_rules.specs.Types as types
@@ -31,8 +32,10 @@ use Rattle.text_rules.specs.Outlines as outlines
 use Rattle.text_rules.specs.Outlines.{basic_of, length_at, outline_by, outline_step, outline_before, outline}
 use Rattle.text_rules.specs.Constants.{Source}
 use Rattle.text_rules.specs.Declarations.{length_extent, spelling}
-use Rattle.path_law.specs.Parts.{shape_in}
+use Rattle.path_law.specs.Parts.{StructNames, shape_in, IsShape}
+use Rattle.path_law.specs.Laid.{HasLengths}
 use Rattle.path_law.specs.Walks.{struct_names}
+use Rattle.path_law.proofs.Parts.{only_shape}
 use Rattle.global_law.specs.Names.{IsDeclared}
 
 -- an extent before a type
@@ -44,21 +47,38 @@ extent_is p x (type_name b es) u e = by_base (base_shape p b) e
     by_base (Some v) e = ap (λ q. Some (with_extent p x q)) (same_Some (with_extents p es v) u e)
 
 -- the name of a shape's type
-pub named_type : (p : Program) (s : Setting) (source : Source) (key : Key → Text) (t : Tree) → IsDeclared p s source key t → type_of p (type_text (spelling source (λ n. key (Id (id n)))) t) ≡ Some (shape_in s (struct_names key) t)
-named_type p s source key plain.boolean is = refl
-named_type p s source key plain.int is = refl
-named_type p s source key plain.uint is = refl
-named_type p s source key (plain.vector e n) is = by_elem e
-  where
-    by_elem : (e : Elem) → type_of p (type_name (vector_base e n) []) ≡ Some (shape_in s (struct_names key) (plain.vector e n))
-    by_elem elem.Bool = refl
-    by_elem elem.Int = refl
-    by_elem elem.Uint = refl
-named_type p s source key (plain.array t (Fixed n)) is = extent_is p (count n) (type_text (spelling source (λ n. key (Id (id n)))) t) (shape_in s (struct_names key) t) (named_type p s source key t is)
-named_type p s source key (plain.array t (Spec n)) is =
-    extent_is p (length_extent source (λ n. key (Id (id n))) (Spec n)) (type_text (spelling source (λ n. key (Id (id n)))) t) (shape_in s (struct_names key) t) (named_type p s source key t is.0) ∙ ap (λ a. Some a) (is.1 (shape_in s (struct_names key) t))
-named_type p s source key (plain.runtime t) is = extent_is p open_end (type_text (spelling source (λ n. key (Id (id n)))) t) (shape_in s (struct_names key) t) (named_type p s source key t is)
-named_type p s source key (plain.struct n ts) is = ap (λ o. option_map (with_extents p []) (option_map (struct (key (Id (id n)))) o)) is
+module _ (p : Program) (s : Setting) (source : Source) (key : Key → Text) where
+  abbrev S : Spelling
+  S = spelling source (λ n. key (Id (id n)))
+
+  abbrev Y : StructNames
+  Y = struct_names key
+
+  pub named_shape : (t : Tree) → IsDeclared p s source key t → (q : Shape) × (type_of p (type_text S t) ≡ Some q) × IsShape s Y t q
+  named_shape plain.boolean is = (shapes.boolean, refl, refl)
+  named_shape plain.int is = (shapes.int, refl, refl)
+  named_shape plain.uint is = (shapes.uint, refl, refl)
+  named_shape (plain.vector e n) is = (shapes.vector e n, by_elem e, refl)
+    where
+      by_elem : (e : Elem) → type_of p (type_name (vector_base e n) []) ≡ Some (shapes.vector e n)
+      by_elem elem.Bool = refl
+      by_elem elem.Int = refl
+      by_elem elem.Uint = refl
+  named_shape (plain.array t (Fixed n)) is =
+      let w = named_shape t is in
+      (shapes.array w.0 (Some n), extent_is p (count n) (type_text S t) w.0 w.1, (w.0, Some n, refl, w.2, refl))
+  named_shape (plain.array t (Spec n)) is =
+      let w = named_shape t is.0 in
+      let l = is.1 in
+      (shapes.array w.0 l.0, extent_is p (length_extent source (λ n. key (Id (id n))) (Spec n)) (type_text S t) w.0 w.1 ∙ ap (λ a. Some a) (l.1 w.0), (w.0, l.0, refl, w.2, l.2))
+  named_shape (plain.runtime t) is =
+      let w = named_shape t is in
+      (shapes.runtime w.0, extent_is p open_end (type_text S t) w.0 w.1, (w.0, refl, w.2))
+  named_shape (plain.struct n ts) is = (struct (key (Id (id n))) is.0, ap (λ o. option_map (with_extents p []) (option_map (struct (key (Id (id n)))) o)) is.1, (is.0, refl, is.2))
+
+  -- of which no array has a specialization constant as its length
+  pub named_type : (t : Tree) → HasLengths t → IsDeclared p s source key t → type_of p (type_text S t) ≡ Some (shape_in s Y t)
+  named_type t lengths is = let w = named_shape t is in w.1 ∙ ap (λ q. Some q) (only_shape s Y t w.0 lengths w.2)
 
 -- the length of an array, in its shape and in the outline by which it is named
 constant_op : (o : Op) (n w : ℕ) (l : Length) → length_of o n w ≡ Some l → (if is o code.Constant then Fixed w else Spec (id n)) ≡ l

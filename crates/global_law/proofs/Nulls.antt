@@ -35,7 +35,7 @@ use Rattle.global_law.specs.Sources.{source_of, chosen}
 use Rattle.global_law.specs.Names.{names_of}
 use Rattle.global_law.proofs.BuiltIns.{AreOtherNames}
 use Rattle.global_law.proofs.Blocks.{declared_between, item_there, type_declared}
-use Rattle.global_law.proofs.Zeros.{HasZero, is_declared, zero_says}
+use Rattle.global_law.proofs.Zeros.{HasZero, is_declared, zero_lengths, zero_says}
 use Rattle.global_law.proofs.Privates.{own_value}
 
 module _ (s : Setting) (overrides : List (ℕ × Given)) (key : Key → Text) (calculated : Inst → Expr) where
@@ -63,7 +63,7 @@ module _ (s : Setting) (overrides : List (ℕ × Given)) (key : Key → Text) (c
   given_item f d g t a bound shape zero known =
       let x = key (Id (id g.result)) in
       let itself : bytes_eq x x ≡ true = (bytes_eq-Decides x x).1 refl in
-      let typed_as : type_of d.program (type_at source N g.ty) ≡ Some (shape_in s Y t) = type_declared s f overrides key calculated d.program g.ty t shape (is_declared d.program s source key t zero) in
+      let typed_as : type_of d.program (type_at source N g.ty) ≡ Some (shape_in s Y t) = type_declared s f overrides key calculated d.program g.ty t shape (zero_lengths d.program s source key t zero) (is_declared d.program s source key t zero) in
       let given : constant_value d.program d.globals (free_spec_id source g.result) (type_of d.program (type_at source N g.ty)) (value_by source N g (constant_kind g.op)) ≡ Some (typed (shape_in s Y t) a)
       = ap₂ (λ i o. constant_value d.program d.globals i o (value_by source N g (constant_kind g.op))) bound typed_as ∙ known in
       ap (λ b. elim b as (λ b. Option Thing) [ true ↦ option_map value (constant_value d.program d.globals (free_spec_id source g.result) (type_of d.program (type_at source N g.ty)) (value_by source N g (constant_kind g.op))) | false ↦ d.program.things x ]) itself ∙ ap (option_map value) given

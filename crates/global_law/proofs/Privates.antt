@@ -36,10 +36,10 @@ use Rattle.type_law.specs.Shaped.{HaveResults, HasConstants}
 use Rattle.path_law.specs.Parts.{StructNames, shape_in}
 use Rattle.path_law.specs.Walks.{struct_names}
 use Rattle.global_law.specs.Sources.{source_of, chosen}
-use Rattle.global_law.specs.Names.{names_of, IsDeclared}
+use Rattle.global_law.specs.Names.{names_of}
 use Rattle.global_law.proofs.Plain.{plain_has, plain_says}
 use Rattle.global_law.proofs.Told.{if_own}
-use Rattle.global_law.proofs.Zeros.{HasZero, same_itself, zero_says}
+use Rattle.global_law.proofs.Zeros.{HasZero, is_declared, zero_lengths, same_itself, zero_says}
 use Rattle.path_law.proofs.Starts.{outside_is}
 use Rattle.global_law.proofs.Blocks.{declared_between, items_more, type_declared}
 
@@ -81,17 +81,17 @@ module _ (s : Setting) (overrides : List (ℕ × Given)) (key : Key → Text) (c
 
   -- A variable whose initial expression has this value is there with it, behind all items.
   pub private_there : (f : Function) (r : Reached) (first : Declared) (before after : List Inst) (v : Inst) (t : Tree) (a : ValueTree) → s.of.globals ≡ before ++ v ∷ after → declaration source r N v ≡ tree.global (type_at source N (pointee_at source v.ty)) (N.id v.result) (initial source N v) ∷ []
-      → type_tree s.of.globals (pointee_at source v.ty) ≡ Some t → IsDeclared (with_items first (flat_map (declaration source r N) before)).program s source key t
+      → type_tree s.of.globals (pointee_at source v.ty) ≡ Some t → HasZero (with_items first (flat_map (declaration source r N) before)).program s source key t
       → known_value (with_items first (flat_map (declaration source r N) before)).program (with_items first (flat_map (declaration source r N) before)).globals (shape_in s Y t) (initial source N v) ≡ Some (typed (shape_in s Y t) a)
       → AreOtherVariables (key (Id (id v.result))) (flat_map (declaration source r N) after)
       → found (with_items first (declarations source r N)).globals (key (Id (id v.result))) ≡ Some (variable_with (shape_in s Y t) (Some a))
-  private_there f r first before after v t a whole written shape is begins others =
+  private_there f r first before after v t a whole written shape zero begins others =
       let front = flat_map (declaration source r N) before in
       let item = tree.global (type_at source N (pointee_at source v.ty)) (N.id v.result) (initial source N v) in
       let d = with_items first front in
       let x = key (Id (id v.result)) in
       let given : global_value d (type_of d.program (type_at source N (pointee_at source v.ty))) (initial source N v) ≡ Some (typed (shape_in s Y t) a)
-      = ap (λ o. global_value d o (initial source N v)) (type_declared s f overrides key calculated d.program (pointee_at source v.ty) t shape is) ∙ begins in
+      = ap (λ o. global_value d o (initial source N v)) (type_declared s f overrides key calculated d.program (pointee_at source v.ty) t shape (zero_lengths d.program s source key t zero) (is_declared d.program s source key t zero)) ∙ begins in
       let itself : bytes_eq x x ≡ true = (bytes_eq-Decides x x).1 refl in
       ap (λ l. found (with_items first l).globals x) (declared_between source r N before after v item whole written)
       ∙ ap (λ (e : Declared). found e.globals x) (items_more front (item ∷ flat_map (declaration source r N) after) first)

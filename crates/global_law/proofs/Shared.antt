@@ -31,7 +31,7 @@ use Rattle.name_alloc.specs.declared.claims.Key.{Key}
 use Rattle.name_alloc.specs.declared.claims.Key.TheVariants.{Id}
 use Rattle.glsl_ast.specs.Tree as tree
 use Rattle.glsl_ast.specs.Tree.{Text, Expr, Decl}
-use Rattle.glsl_semantics.specs.Shapes.{Typed}
+use Rattle.glsl_semantics.specs.Shapes.{Shape, Typed}
 use Rattle.glsl_semantics.specs.Places.{in_shared}
 use Rattle.glsl_semantics.specs.States.{Thing, memory}
 use Rattle.glsl_semantics.specs.Expressions.{type_of}
@@ -40,7 +40,7 @@ use Rattle.text_rules.specs.Constants.{Source, reading, free_spec_id}
 use Rattle.text_rules.specs.Printed as printed
 use Rattle.text_rules.specs.Printed.{Reached, is_named, is_needed, type_has_struct, written_types, has_operand, is_operand_in, is_private, is_workgroup, is_block_variable, is_written_variable, is_declared_constant, is_written_struct}
 use Rattle.text_rules.specs.Declarations.{Names, struct_decl, constant_decl, variable_decl, type_at, pointee_at, initial, declaration, declarations}
-use Rattle.path_law.specs.Parts.{shape_in}
+use Rattle.path_law.specs.Parts.{IsShape}
 use Rattle.path_law.specs.Walks.{struct_names}
 use Rattle.path_law.specs.Starts.{IsShared}
 use Rattle.agree_law.specs.Agree.{Naming}
@@ -48,7 +48,7 @@ use Rattle.module_semantics.specs.State.{global as root}
 use Rattle.global_law.specs.Sources.{source_of}
 use Rattle.global_law.specs.Names.{names_of, IsDeclared}
 use Rattle.global_law.proofs.BuiltIns.{AreOtherNames}
-use Rattle.global_law.proofs.Blocks.{declared_between, item_there, type_declared}
+use Rattle.global_law.proofs.Blocks.{declared_between, item_there, shape_declared}
 
 zero_first : (n : ℕ) → n ≡ 0 + n
 zero_first n = omega (arith)
@@ -252,7 +252,7 @@ module _ (s : Setting) (overrides : List (ℕ × Given)) (key : Key → Text) (c
   -- So the name of a variable of a workgroup stands for the memory of its number, behind all items.
   pub shared_there : (f : Function) (first : Declared) (before after : List Inst) (v : Inst) (t : Tree) → first.shared_variables ≡ 0 → s.of.globals ≡ before ++ v ∷ after → is_in_class storage.Workgroup v ≡ true → is_mentioned s v.result ≡ true → HaveBlocks s before → AllOff (λ (g : Inst). g.result == v.result) before
       → type_tree s.of.globals (pointee_at source v.ty) ≡ Some t → IsDeclared (with_items first (flat_map (declaration source r N) before)).program s source key t → AreOtherNames (key (Id (id v.result))) (flat_map (declaration source r N) after)
-      → (with_items first (declarations source r N)).program.things (key (Id (id v.result))) ≡ Some (memory (in_shared (shared_number s v.result) []) (shape_in s (struct_names key) t))
+      → (q : Shape) × ((with_items first (declarations source r N)).program.things (key (Id (id v.result))) ≡ Some (memory (in_shared (shared_number s v.result) []) q)) × IsShape s (struct_names key) t q
   shared_there f first before after v t start whole class mentioned have off shape is others =
       let item = tree.shared (type_at source N (pointee_at source v.ty)) (N.id v.result) in
       let written : declaration source r N v ≡ item ∷ [] = workgroup_written v class ∙ ap (λ b. if b then item ∷ [] else []) mentioned in
@@ -263,16 +263,21 @@ module _ (s : Setting) (overrides : List (ℕ × Given)) (key : Key → Text) (c
       = ap (λ gs. option_map_or (λ (k : ℕ). k) (position_from (λ (g : Inst). g.result == v.result) 0 (filter is_shared gs)) 0) whole ∙ ap (λ o. option_map_or (λ (k : ℕ). k) o 0) (number_of is_shared (λ (g : Inst). g.result == v.result) before after v 0 shared itself off) in
       let count_there : (with_items first front).shared_variables ≡ shared_number s v.result = items_count front first ∙ ap₂ (λ a b. a + b) start (all_count before have) ∙ sym number in
       let same : bytes_eq (key (Id (id v.result))) (key (Id (id v.result))) ≡ true = (bytes_eq-Decides (key (Id (id v.result))) (key (Id (id v.result)))).1 refl in
-      ap (λ l. (with_items first l).program.things (key (Id (id v.result)))) (declared_between source r N before after v item whole written)
-      ∙ item_there front (flat_map (declaration source r N) after) item first (key (Id (id v.result))) (memory (in_shared (shared_number s v.result) []) (shape_in s (struct_names key) t))
-      (ap (λ b. elim b as (λ b. Option Thing) [ true ↦ option_map (memory (in_shared (with_items first front).shared_variables [])) (type_of (with_items first front).program (type_at source N (pointee_at source v.ty))) | false ↦ (with_items first front).program.things (key (Id (id v.result))) ]) same
-      ∙ ap₂ (λ n o. option_map (memory (in_shared n [])) o) count_there (type_declared s f overrides key calculated (with_items first front).program (pointee_at source v.ty) t shape is)) others
+      let typed_as = shape_declared s f overrides key calculated (with_items first front).program (pointee_at source v.ty) t shape is in (
+        typed_as.0,
+        ap (λ l. (with_items first l).program.things (key (Id (id v.result)))) (declared_between source r N before after v item whole written)
+            ∙ item_there front (flat_map (declaration source r N) after) item first (key (Id (id v.result))) (memory (in_shared (shared_number s v.result) []) typed_as.0)
+            (ap (λ b. elim b as (λ b. Option Thing) [ true ↦ option_map (memory (in_shared (with_items first front).shared_variables [])) (type_of (with_items first front).program (type_at source N (pointee_at source v.ty))) | false ↦ (with_items first front).program.things (key (Id (id v.result))) ]) same
+            ∙ ap₂ (λ n o. option_map (memory (in_shared n [])) o) count_there typed_as.1) others,
+        typed_as.2,
+      )
 
   -- So it begins paths.
   pub shared_begins : (f : Function) (first : Declared) (m : Naming) (named_as : Source) (globals : ℕ → Option Expr) (before after : List Inst) (v : Inst) (ty : ℕ) (t : Tree) → first.shared_variables ≡ 0 → s.of.globals ≡ before ++ v ∷ after → global_variable s v.result ≡ Some v → is_in_class storage.Workgroup v ≡ true → is_mentioned s v.result ≡ true
       → HaveBlocks s before → AllOff (λ (g : Inst). g.result == v.result) before → pointee s.of.globals v.ty ≡ Some ty → type_tree s.of.globals ty ≡ Some t → IsDeclared (with_items first (flat_map (declaration source r N) before)).program s source key t → AreOtherNames (key (Id (id v.result))) (flat_map (declaration source r N) after)
       → globals v.result ≡ None → m.is_outside (key (Id (id v.result))) ≡ true → IsShared (with_items first (declarations source r N)).program m s named_as key globals v.result t (root v.result) []
   shared_begins f first m named_as globals before after v ty t start whole there class mentioned have off points shape declared others itself outside =
+      let text = shared_there f first before after v t start whole class mentioned have off (ap (λ o. type_tree s.of.globals (unwrap_or o v.ty)) points ∙ shape) declared others in
       record {
         root = refl;
         whole = refl;
@@ -282,5 +287,7 @@ module _ (s : Setting) (overrides : List (ℕ × Given)) (key : Key → Text) (c
         itself = itself;
         outside = outside;
         typed_as = ap (λ o. type_tree s.of.globals (unwrap_or o 0)) points ∙ shape;
-        thing = shared_there f first before after v t start whole class mentioned have off (ap (λ o. type_tree s.of.globals (unwrap_or o v.ty)) points ∙ shape) declared others;
+        text_shape = text.0;
+        text_typed = text.2;
+        thing = text.1;
       }

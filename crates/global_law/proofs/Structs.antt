@@ -15,18 +15,18 @@ use Rattle.name_alloc.specs.declared.claims.Key.{Key}
 use Rattle.name_alloc.specs.declared.claims.Key.TheVariants.{Id}
 use Rattle.glsl_ast.specs.Tree as items
 use Rattle.glsl_ast.specs.Tree.{Text, Expr, Field, Decl}
-use Rattle.glsl_semantics.specs.Shapes.{Typed, Fields}
+use Rattle.glsl_semantics.specs.Shapes.{Typed, Fields, no_fields, field}
 use Rattle.glsl_semantics.specs.Expressions.{Program}
 use Rattle.glsl_semantics.specs.Items.{Declared, with_field, fields_of, with_global, with_item, with_items}
 use Rattle.text_rules.specs.Constants.{Source}
 use Rattle.text_rules.specs.Printed.{Reached}
 use Rattle.text_rules.specs.Declarations.{Names, type_at, struct_decl, declaration, declarations}
 use Rattle.type_law.proofs.Parts.{earlier_is}
-use Rattle.path_law.specs.Parts.{StructNames, fields_in}
+use Rattle.path_law.specs.Parts.{StructNames, AreFields}
 use Rattle.path_law.specs.Walks.{struct_names}
 use Rattle.global_law.specs.Sources.{source_of}
 use Rattle.global_law.specs.Names.{names_of}
-use Rattle.global_law.proofs.Blocks.{AreDeclared, declared_between, items_more, type_declared}
+use Rattle.global_law.proofs.Blocks.{AreDeclared, shape_declared}
 
 -- the item declares no struct of this name
 abbrev pub IsOtherStruct : Text → Decl → Type 0
@@ -71,39 +71,27 @@ module _ (s : Setting) (f : Function) (overrides : List (ℕ × Given)) (key : K
   member_field g m = items.field (type_at source N m.1) (N.member g.result m.0)
 
   -- the members of a struct
-  fields_declared : (p : Program) (g : Inst) (k : ℕ) (ids : List ℕ) (ts : Trees) → all_trees (tree_before Gs g.at) ids ≡ Some ts → AreDeclared s f overrides key calculated p ts → fields_of p (map (member_field g) (enumerate_from k ids)) ≡ Some (fields_in s Y g.result k ts)
-  fields_declared p g k [] ts all are = subst (λ us. fields_of p [] ≡ Some (fields_in s Y g.result k us)) (same_Some no_trees ts all) refl
+  fields_declared : (p : Program) (g : Inst) (k : ℕ) (ids : List ℕ) (ts : Trees) → all_trees (tree_before Gs g.at) ids ≡ Some ts → AreDeclared s f overrides key calculated p ts → (fs : Fields) × (fields_of p (map (member_field g) (enumerate_from k ids)) ≡ Some fs) × AreFields s Y g.result k ts fs
+  fields_declared p g k [] ts all are = (no_fields, refl, subst (λ us. AreFields s Y g.result k us no_fields) (same_Some no_trees ts all) refl)
   fields_declared p g k (n ∷ ns) ts all are = by_parts (tree_before Gs g.at n) refl (all_trees (tree_before Gs g.at) ns) refl all are (λ us more there. fields_declared p g (k + 1) ns us more there)
     where
       by_parts : (o : Option Tree) → tree_before Gs g.at n ≡ o → (q : Option Trees) → all_trees (tree_before Gs g.at) ns ≡ q → both o q ≡ Some ts → AreDeclared s f overrides key calculated p ts
-          → ((us : Trees) → all_trees (tree_before Gs g.at) ns ≡ Some us → AreDeclared s f overrides key calculated p us → fields_of p (map (member_field g) (enumerate_from (k + 1) ns)) ≡ Some (fields_in s Y g.result (k + 1) us))
-          → fields_of p (map (member_field g) (enumerate_from k (n ∷ ns))) ≡ Some (fields_in s Y g.result k ts)
+          → ((us : Trees) → all_trees (tree_before Gs g.at) ns ≡ Some us → AreDeclared s f overrides key calculated p us → (fs : Fields) × (fields_of p (map (member_field g) (enumerate_from (k + 1) ns)) ≡ Some fs) × AreFields s Y g.result (k + 1) us fs)
+          → (fs : Fields) × (fields_of p (map (member_field g) (enumerate_from k (n ∷ ns))) ≡ Some fs) × AreFields s Y g.result k ts fs
       by_parts None is q more e are later = cc
       by_parts (Some t) is None more e are later = cc
       by_parts (Some t) is (Some us) more e are later =
           let whole : tree t us ≡ ts = same_Some (tree t us) ts e in
           let there : AreDeclared s f overrides key calculated p (tree t us) = subst (AreDeclared s f overrides key calculated p) (sym whole) are in
-          subst (λ q. fields_of p (map (member_field g) (enumerate_from k (n ∷ ns))) ≡ Some (fields_in s Y g.result k q)) whole
-          (ap₂ (λ o fs. with_field (N.member g.result k) o fs) (type_declared s f overrides key calculated p n t (earlier_is s f g.at n t is) there.0) (later us more there.1))
+          let first = shape_declared s f overrides key calculated p n t (earlier_is s f g.at n t is) there.0 in
+          let rest = later us more there.1 in
+          let x = N.member g.result k in
+          (field x first.0 rest.0, ap₂ (λ o fs. with_field x o fs) first.1 rest.1, subst (λ us. AreFields s Y g.result k us (field x first.0 rest.0)) whole (first.0, rest.0, refl, first.2, rest.2))
 
   -- the item of a struct
-  pub struct_item : (d : Declared) (g : Inst) (ts : Trees) → all_trees (tree_before Gs g.at) g.args ≡ Some ts → AreDeclared s f overrides key calculated d.program ts → (with_item d (struct_decl source N g)).program.structs (key (Id (id g.result))) ≡ Some (fields_in s Y g.result 0 ts)
+  pub struct_item : (d : Declared) (g : Inst) (ts : Trees) → all_trees (tree_before Gs g.at) g.args ≡ Some ts → AreDeclared s f overrides key calculated d.program ts → (fs : Fields) × ((with_item d (struct_decl source N g)).program.structs (key (Id (id g.result))) ≡ Some fs) × AreFields s Y g.result 0 ts fs
   struct_item d g ts all are =
       let x = key (Id (id g.result)) in
       let itself : bytes_eq x x ≡ true = (bytes_eq-Decides x x).1 refl in
-      ap (λ b. elim b as (λ b. Option Fields) [ true ↦ fields_of d.program (map (member_field g) (enumerate_from 0 g.args)) | false ↦ d.program.structs x ]) itself
-      ∙ fields_declared d.program g 0 g.args ts all are
-
-  -- So the name of a struct stands for its members, behind all items.
-  pub struct_there : (r : Reached) (first : Declared) (before after : List Inst) (g : Inst) (ts : Trees) → Gs ≡ before ++ g ∷ after → declaration source r N g ≡ struct_decl source N g ∷ [] → all_trees (tree_before Gs g.at) g.args ≡ Some ts
-      → AreDeclared s f overrides key calculated (with_items first (flat_map (declaration source r N) before)).program ts → AreOtherStructs (key (Id (id g.result))) (flat_map (declaration source r N) after)
-      → (with_items first (declarations source r N)).program.structs (key (Id (id g.result))) ≡ Some (fields_in s Y g.result 0 ts)
-  struct_there r first before after g ts whole written all are others =
-      let front = flat_map (declaration source r N) before in
-      let item = struct_decl source N g in
-      let d = with_items first front in
-      let x = key (Id (id g.result)) in
-      ap (λ l. (with_items first l).program.structs x) (declared_between source r N before after g item whole written)
-      ∙ ap (λ (e : Declared). e.program.structs x) (items_more front (item ∷ flat_map (declaration source r N) after) first)
-      ∙ structs_keep (flat_map (declaration source r N) after) (with_item d item) x others
-      ∙ struct_item d g ts all are
+      let fields = fields_declared d.program g 0 g.args ts all are in
+      (fields.0, ap (λ b. elim b as (λ b. Option Fields) [ true ↦ fields_of d.program (map (member_field g) (enumerate_from 0 g.args)) | false ↦ d.program.structs x ]) itself ∙ fields.1, fields.2)

@@ -32,6 +32,7 @@ use Rattle.text_rules.specs.Declarations.{Names, type_at, value_by, constant_dec
 use Rattle.type_law.specs.Shaped.{HaveResults, HasConstants}
 use Rattle.type_law.proofs.Constants.{constant_of}
 use Rattle.path_law.specs.Parts.{StructNames, shape_in}
+use Rattle.path_law.specs.Laid.{HasLengths}
 use Rattle.path_law.specs.Walks.{struct_names}
 use Rattle.global_law.specs.Sources.{source_of, chosen}
 use Rattle.global_law.specs.Names.{names_of, IsDeclared}
@@ -63,12 +64,12 @@ pub items_invocation : (is : List Decl) (d : Declared) → (with_items d is).pro
 items_invocation [] d = refl
 items_invocation (i ∷ is) d = items_invocation is (with_item d i) ∙ item_invocation d i
 
--- the type of a scalar needs no struct
-scalar_declared : (p : Program) (s : Setting) (source : Source) (key : Key → Text) (t : Tree) → is_scalar t ≡ true → IsDeclared p s source key t
-scalar_declared p s source key plain.boolean on = tt
-scalar_declared p s source key plain.int on = tt
-scalar_declared p s source key plain.uint on = tt
-scalar_declared p s source key (plain.vector e n) on = tt
+-- the type of a scalar needs no struct and no length
+scalar_declared : (p : Program) (s : Setting) (source : Source) (key : Key → Text) (t : Tree) → is_scalar t ≡ true → HasLengths t × IsDeclared p s source key t
+scalar_declared p s source key plain.boolean on = (tt, tt)
+scalar_declared p s source key plain.int on = (tt, tt)
+scalar_declared p s source key plain.uint on = (tt, tt)
+scalar_declared p s source key (plain.vector e n) on = (tt, tt)
 scalar_declared p s source key (plain.array t l) on = cc
 scalar_declared p s source key (plain.runtime t) on = cc
 scalar_declared p s source key (plain.struct n ts) on = cc
@@ -222,7 +223,8 @@ module _ (s : Setting) (overrides : List (ℕ × Given)) (have : HasConstants s 
       let made : value_by_kind h (s.invocation.specialization spec) t g.args (constant_kind g.op) ≡ Some v
       = ap (λ o. value_by_kind h o t g.args (constant_kind g.op)) (sym chosen_is.0) ∙ ap (λ (x : Inst). value_by_kind h (chosen s overrides x.result) t x.args (constant_kind x.op)) (sym same) ∙ c.6 in
       let on = spec_scalar s Y t v h (s.invocation.specialization spec) g.args (constant_kind g.op) is c.5 made in
-      let typed_as : type_of d.program (type_at source N g.ty) ≡ Some (shape_in s Y t) = type_declared s f overrides key calculated d.program g.ty t shape (scalar_declared d.program s source key t on) in
+      let scalar = scalar_declared d.program s source key t on in
+      let typed_as : type_of d.program (type_at source N g.ty) ≡ Some (shape_in s Y t) = type_declared s f overrides key calculated d.program g.ty t shape scalar.0 scalar.1 in
       let given : constant_value d.program d.globals (free_spec_id source g.result) (type_of d.program (type_at source N g.ty)) (value_by source N g (constant_kind g.op)) ≡ Some (typed (shape_in s Y t) v)
       = ap₂ (λ o e. constant_value d.program d.globals (free_spec_id source g.result) o e) typed_as (written_by g (constant_kind g.op) is)
       ∙ ap₂ (λ inv o. constant_by d.program d.globals (shape_in s Y t) (literal (plain_literal source g)) (option_and_then inv o)) (ap (λ i. i.specialization) invocation) free

@@ -26,7 +26,9 @@ use Rattle.text_rules.specs.Types.{Spelling, type_text, zero_elem, zero_text, ze
 use Rattle.text_rules.specs.Constants.{Source}
 use Rattle.text_rules.specs.Declarations.{spelling}
 use Rattle.path_law.specs.Parts.{StructNames, shape_in, fields_in}
+use Rattle.path_law.specs.Laid.{HasLengths, HaveLengths}
 use Rattle.path_law.specs.Walks.{struct_names}
+use Rattle.path_law.proofs.Parts.{own_fields}
 use Rattle.global_law.specs.Names.{IsDeclared}
 use Rattle.global_law.proofs.Declared.{named_type}
 
@@ -63,7 +65,7 @@ module _ (p : Program) (s : Setting) (source : Source) (key : Key → Text) wher
     HasZero (plain.array t (Fixed n)) = HasZero t
     HasZero (plain.array t (Spec n)) = ⊥
     HasZero (plain.runtime t) = ⊥
-    HasZero (plain.struct n ts) = IsDeclared p s source key (plain.struct n ts) × HaveZeros ts
+    HasZero (plain.struct n ts) = (p.structs (key (Id (id n))) ≡ Some (fields_in s Y n 0 ts)) × HaveZeros ts
     HasZero _ = Unit {0}
 
     pub HaveZeros : Trees → Type 0
@@ -78,7 +80,22 @@ module _ (p : Program) (s : Setting) (source : Source) (key : Key → Text) wher
   is_declared (plain.array t (Fixed n)) z = is_declared t z
   is_declared (plain.array t (Spec n)) z = absurd z
   is_declared (plain.runtime t) z = absurd z
-  is_declared (plain.struct n ts) z = z.0
+  is_declared (plain.struct n ts) z = (fields_in s Y n 0 ts, z.0, own_fields s Y n 0 ts)
+
+  mutual
+    pub zero_lengths : (t : Tree) → HasZero t → HasLengths t
+    zero_lengths plain.boolean z = tt
+    zero_lengths plain.int z = tt
+    zero_lengths plain.uint z = tt
+    zero_lengths (plain.vector e n) z = tt
+    zero_lengths (plain.array t (Fixed n)) z = zero_lengths t z
+    zero_lengths (plain.array t (Spec n)) z = absurd z
+    zero_lengths (plain.runtime t) z = absurd z
+    zero_lengths (plain.struct n ts) z = all_zero_lengths ts z.1
+
+    all_zero_lengths : (ts : Trees) → HaveZeros ts → HaveLengths ts
+    all_zero_lengths no_trees z = tt
+    all_zero_lengths (tree t ts) z = (zero_lengths t z.0, all_zero_lengths ts z.1)
 
   -- a type is one with itself
   pub same_itself : (t : Tree) → HasZero t → same_shape (shape_in s Y t) (shape_in s Y t) ≡ true
@@ -120,7 +137,7 @@ module _ (p : Program) (s : Setting) (source : Source) (key : Key → Text) wher
     -- a constructor of these
     build_says : (t : Tree) (es : Exprs) (vs : List Typed) (v : Typed) → HasZero t → values p calls es z ≡ got [] (vs, z) → built (shape_in s Y t) vs ≡ Some v → denote p calls (Expr.build (type_text S t) es) z ≡ got [] (value v, z)
     build_says t es vs v has given is =
-        ap (λ o. or_stuck o (λ shape. then_get (values p calls es z) (λ x. done (built shape x.0) x.1))) (named_type p s source key t (is_declared t has))
+        ap (λ o. or_stuck o (λ shape. then_get (values p calls es z) (λ x. done (built shape x.0) x.1))) (named_type p s source key t (zero_lengths t has) (is_declared t has))
         ∙ ap (λ q. then_get q (λ x. done (built (shape_in s Y t) x.0) x.1)) given
         ∙ ap (λ o. with_before [] (done o z)) is
 

@@ -5,14 +5,10 @@ use Rattle.spv_words.specs.Breaks.{NoRuleBroken}
 use Rattle.spv_module.specs.State.{ModuleState}
 use Rattle.spv_decor.specs.Broken.{Broken}
 use Rattle.conformance.specs.Rules.{Options}
-use Rattle.traces.specs.Invocations.{Invocation}
-use Rattle.module_semantics.specs.Setting.{setting}
 use Rattle.typed_law.specs.Words.{AreBytes, AreGivenWords}
-use Rattle.constant_law.specs.Items.{HaveLengths}
 
--- Bytes are bytes, and overrides are words: by their types in a program. No rule on decorations is broken, as where they were read. And this invocation's specialization gives each array a length whose length is a specialization constant: one without a value, or a negative one, is a length for no rule, and no index leads into such an array.
-pub record IsLeftOfGlobals (bytes : List ℕ) (m : ModuleState) (o : Options) (entry : ℕ) (inv : Invocation) : Type 0 where
+-- Bytes are bytes, and overrides are words: by their types in a program. And no rule on decorations is broken, as where they were read.
+pub record IsLeftOfGlobals (bytes : List ℕ) (m : ModuleState) (o : Options) : Type 0 where
   pub octets : AreBytes bytes
   pub given : AreGivenWords o.overrides
   pub decorated : NoRuleBroken (Broken m) (P11 ∷ P12 ∷ [])
-  pub lengths : HaveLengths (setting m entry o.overrides inv)

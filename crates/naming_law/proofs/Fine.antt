@@ -31,6 +31,7 @@ use Rattle.module_semantics.specs.Setting.{Setting}
 use Rattle.agree_law.specs.Agree.{Naming}
 use Rattle.path_law.specs.Parts.{shape_in}
 use Rattle.path_law.specs.Walks.{struct_names}
+use Rattle.path_law.proofs.Parts.{sized_lengths}
 use Rattle.path_law.proofs.Accesses.{shape_itself}
 use Rattle.global_law.proofs.Declared.{named_type, outline_same}
 use Rattle.call_law.specs.Known.{IsFunctionOf}
@@ -76,7 +77,7 @@ module _ (m : ModuleState) (o : Options) (unit : TranslationUnit) (u : IsUnitOf 
     pub type_stands : (ty : ℕ) → IsTypeOfText P s o.overrides key ty → type_of P (type_at (source_of m o u.entry) (type_names (found m o unit u inv)) ty) ≡ Some (shape_by ty)
     type_stands ty w =
         ap (type_of P) (outline_same (spelling (source_of m o u.entry) (λ n. key (Id (id n)))) m.globals ty w.shape w.is)
-        ∙ (named_type P s (source_of m o u.entry) key w.shape w.declared
+        ∙ (named_type P s (source_of m o u.entry) key w.shape (sized_lengths w.shape w.sized) w.declared
         ∙ ap (λ (a : Option Tree). Some (shape_in s (struct_names key) (unwrap_or a plain.uint))) (sym w.is))
 
     pub same_type : (ty : ℕ) → IsTypeOfText P s o.overrides key ty → same_shape (shape_by ty) (shape_by ty) ≡ true

@@ -24,30 +24,15 @@ use Rattle.fits_law.specs.Takes.{nth_of}
 use Rattle.fits_law.specs.State.{element_shape, place_shape}
 use Rattle.type_law.specs.Shaped.{AreConstants}
 use Rattle.type_law.proofs.Places.{part_leads}
-use Rattle.path_law.specs.Laid.{IsLaidOut, HasLengths, HaveLengths}
+use Rattle.path_law.specs.Laid.{IsLaidOut}
 use Rattle.path_law.specs.Parts.{StructNames, shape_in, fields_in, IsInside}
 use Rattle.path_law.proofs.Bytes.{bytes_in, bytes_same, stride_same}
-use Rattle.path_law.proofs.Parts.{part_same}
+use Rattle.path_law.proofs.Parts.{sized_lengths, part_same}
 use Rattle.path_law.proofs.Types.{allowed_is}
 use Rattle.narrow_law.specs.Reach.{count_of, IsIn, IsShort, Along, Reaches}
 use Rattle.narrow_law.proofs.Sizes.{at_least, within}
 
--- what has a size has lengths, and so do its parts
-mutual
-  lengths_of : (t : Tree) → IsSized t → HasLengths t
-  lengths_of plain.boolean h = tt
-  lengths_of plain.int h = tt
-  lengths_of plain.uint h = tt
-  lengths_of (plain.vector e n) h = tt
-  lengths_of (plain.array t (Fixed n)) h = lengths_of t h
-  lengths_of (plain.array t (Spec id)) h = absurd h
-  lengths_of (plain.runtime t) h = absurd h
-  lengths_of (plain.struct id ts) h = all_lengths ts h
-
-  all_lengths : (ts : Trees) → AreSized ts → HaveLengths ts
-  all_lengths no_trees h = tt
-  all_lengths (tree t ts) h = (lengths_of t h.0, all_lengths ts h.1)
-
+-- what has a size has parts that have
 member_sized : (ts : Trees) (i : ℕ) (u : Tree) → AreSized ts → nth_of ts i ≡ Some u → IsSized u
 member_sized no_trees i u h at = cc
 member_sized (tree t ts) zero u h at = subst IsSized (same_Some t u at) h.0
@@ -160,7 +145,7 @@ module _ (s : Setting) (y : StructNames) (k : Kind) where
   pub bytes_low : (path : List ℕ) (ty : ℕ) (t : Tree) → type_tree Gs ty ≡ Some t → IsSized t → IsLaidOut s k ty t → Along s t path → bytes_along s ty path ≤ size_of k t + 16
   bytes_low path ty t shape h laid along =
       let r = reaches path t h along in
-      let lengths = lengths_of t h in
+      let lengths = sized_lengths t h in
       let same : bytes_in k (S t) path ≡ bytes_along s ty path = bytes_same s y k path ty t shape lengths laid r.1 in
       let stride : stride_over k (S t) ≡ stride_over k t = stride_same s y k t lengths in
       omega (arith, same, stride, within k path (S t) r.0, at_least (size_of k (S t)) (whole_alignment k (alignment_of k (S t))), stride_low k t)

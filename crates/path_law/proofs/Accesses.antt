@@ -45,8 +45,9 @@ use Rattle.agree_law.specs.Blocks.{Stands}
 use Rattle.agree_law.specs.Evaluates.{IsKept}
 use Rattle.agree_law.proofs.Machine.{machine}
 use Rattle.agree_law.proofs.Instructions.{ReadsSeen, Reads, WritesSeen, Updates}
-use Rattle.path_law.specs.Parts.{shape_in, HasScalars, part_value, IsPart}
+use Rattle.path_law.specs.Parts.{shape_in, IsShape, HasScalars, part_value, IsPart}
 use Rattle.path_law.specs.Walks.{writing, struct_names}
+use Rattle.path_law.proofs.Parts.{sized_lengths, only_shape}
 use Rattle.path_law.proofs.Leaves.{same_value, sized_in, places_are}
 use Rattle.path_law.proofs.Walks.{IsPlace, IsNoBlock, part_of}
 use Rattle.path_law.proofs.Pointers.{first_type, Leads, place_stands, expr_stands}
@@ -130,22 +131,27 @@ module _ (p : Program) (calls : Text → List Argument → State → Result (Opt
     pub site : Site
     pub thing : a ≡ memory site (S t)
     pub along : shape_along s v at ≡ Some t
-    pub scalars : HasScalars s (struct_names key) v at t site
+    pub scalars : HasScalars s v at t (S t) site
 
-  in_memory : (t : Tree) (r : Root) (at : List ℕ) (x : Text) (from : List ℕ) (v : Inst) (a : Thing) → IsPart s (struct_names key) c.at x from r at t a → seen s r ≡ Some v → InMemory t v at a
-  in_memory t r at x from v (value (typed q u)) is sees = absurd (no_some (seen s r) v is.0 sees)
-  in_memory t r at x from v (variable w way q o) is sees = absurd (no_some (seen s r) v is.0 sees)
-  in_memory t r at x from v (instance place kind members) is sees = absurd is
-  in_memory t r at x from v (memory site q) is sees =
+  -- the type of a value is in the text its shape
+  value_shape : (t : Tree) (q : Shape) → IsSized t → IsShape s (struct_names key) t q → q ≡ S t
+  value_shape t q sized is = only_shape s (struct_names key) t q (sized_lengths t sized) is
+
+  in_memory : (t : Tree) → IsSized t → (r : Root) (at : List ℕ) (x : Text) (from : List ℕ) (v : Inst) (a : Thing) → IsPart s (struct_names key) c.at x from r at t a → seen s r ≡ Some v → InMemory t v at a
+  in_memory t sized r at x from v (value (typed q u)) is sees = absurd (no_some (seen s r) v is.0 sees)
+  in_memory t sized r at x from v (variable w way q o) is sees = absurd (no_some (seen s r) v is.0 sees)
+  in_memory t sized r at x from v (instance place kind members) is sees = absurd is
+  in_memory t sized r at x from v (memory site q) is sees =
       let same : is.0 ≡ v = same_Some is.0 v (sym is.1 ∙ sees) in
-      record { site = site; thing = ap (memory site) is.2; along = subst (λ w. shape_along s w at ≡ Some t) same is.3; scalars = subst (λ w. HasScalars s (struct_names key) w at t site) same is.4 }
+      let shape : q ≡ S t = value_shape t q sized is.2 in
+      record { site = site; thing = ap (memory site) shape; along = subst (λ w. shape_along s w at ≡ Some t) same is.3; scalars = subst (λ a. HasScalars s v at t a site) shape (subst (λ w. HasScalars s w at t q site) same is.4) }
 
   -- and else: the value of the part, where it has one
-  held_value : (t : Tree) (r : Root) (at : List ℕ) (x : Text) (from : List ℕ) (v : ValueTree) (a : Thing) → IsPart s (struct_names key) c.at x from r at t a → seen s r ≡ None → part_value s c.at r at ≡ Some v → fetch a z ≡ got [] (typed (S t) v, z)
-  held_value t r at x from v (value (typed q u)) is unseen has = ap (λ a. got [] (typed a u, z)) is.1 ∙ ap (λ a. got [] (typed (S t) a, z)) (same_Some u v (sym is.2 ∙ has))
-  held_value t r at x from v (variable w way q o) is unseen has = ap (λ o. variable_value q o z) (is.2 ∙ has) ∙ ap (λ a. got [] (typed a v, z)) is.1
-  held_value t r at x from v (instance place kind members) is unseen has = absurd is
-  held_value t r at x from v (memory site q) is unseen has = absurd (no_some (seen s r) is.0 unseen is.1)
+  held_value : (t : Tree) → IsSized t → (r : Root) (at : List ℕ) (x : Text) (from : List ℕ) (v : ValueTree) (a : Thing) → IsPart s (struct_names key) c.at x from r at t a → seen s r ≡ None → part_value s c.at r at ≡ Some v → fetch a z ≡ got [] (typed (S t) v, z)
+  held_value t sized r at x from v (value (typed q u)) is unseen has = ap (λ a. got [] (typed a u, z)) (value_shape t q sized is.1) ∙ ap (λ a. got [] (typed (S t) a, z)) (same_Some u v (sym is.2 ∙ has))
+  held_value t sized r at x from v (variable w way q o) is unseen has = ap (λ o. variable_value q o z) (is.2 ∙ has) ∙ ap (λ a. got [] (typed a v, z)) (value_shape t q sized is.1)
+  held_value t sized r at x from v (instance place kind members) is unseen has = absurd is
+  held_value t sized r at x from v (memory site q) is unseen has = absurd (no_some (seen s r) is.0 unseen is.1)
 
   got_back : (g : Result (Typed × State)) (y : Typed × State) → g ≡ got [] y → with_before [] (then_get g (λ (y : Typed × State). got [] (y.0, y.1))) ≡ got [] y
   got_back g y is = ap (λ g. with_before [] (then_get g (λ (y : Typed × State). got [] (y.0, y.1)))) is
@@ -157,7 +163,7 @@ module _ (p : Program) (calls : Text → List Argument → State → Result (Opt
       seen_part : (g : Target) → pointer_at s c.at.top n ≡ Some g → (v : Inst) → seen s g.0 ≡ Some v → (u : Tree) → shape_along s v g.1 ≡ Some u → ReadsSeen p calls k m names s Holds f b keeps done i rest c z (place_expr W b n) v g.1 u
       seen_part g is v sees u along =
           let l = leads g.0 g.1 is in
-          let at = in_memory t g.0 g.1 (base_text W l.begin) l.from v l.to (part_there t q g.0 g.1 l) sees in
+          let at = in_memory t q.sized g.0 g.1 (base_text W l.begin) l.from v l.to (part_there t q g.0 g.1 l) sees in
           let same : t ≡ u = same_Some t u (sym at.along ∙ along) in
           record {
             site = at.site;
@@ -170,7 +176,7 @@ module _ (p : Program) (calls : Text → List Argument → State → Result (Opt
       own_part : (g : Target) → pointer_at s c.at.top n ≡ Some g → seen s g.0 ≡ None → (v : ValueTree) → option_and_then (extracted g.1) (kept s c.at g.0) ≡ Some v → evaluate p calls (place_expr W b n) z ≡ got [] (typed (m.shape i.result) v, z)
       own_part g is unseen v has =
           let l = leads g.0 g.1 is in
-          let fetched = held_value t g.0 g.1 (base_text W l.begin) l.from v l.to (part_there t q g.0 g.1 l) unseen has in
+          let fetched = held_value t q.sized g.0 g.1 (base_text W l.begin) l.from v l.to (part_there t q g.0 g.1 l) unseen has in
           ap (λ (g : Result (Thing × State)). then_fetch g (λ v y. got [] (v, y))) (expr_stands p calls z m s overrides f key globals right c.at stands.agree.all b n g.0 g.1 l)
           ∙ got_back (fetch l.to z) (typed (S t) v, z) fetched ∙ ap (λ a. got [] (typed a v, z)) (sym result)
 
@@ -179,7 +185,7 @@ module _ (p : Program) (calls : Text → List Argument → State → Result (Opt
       → WritesSeen p calls k m names s Holds f b keeps done i rest z (base_text W (path Gs f b n).base) (steps_text W (first_type p calls z m s overrides f key globals right c.at stands.agree.all b (path Gs f b n).base) (path Gs f b n).steps) (S t) v g.1
   writes_seen t q leads g is v sees =
       let l = leads g.0 g.1 is in
-      let at = in_memory t g.0 g.1 (base_text W l.begin) l.from v l.to (part_there t q g.0 g.1 l) sees in
+      let at = in_memory t q.sized g.0 g.1 (base_text W l.begin) l.from v l.to (part_there t q g.0 g.1 l) sees in
       record {
         site = at.site;
         stands_for = place_stands p calls z m s overrides f key globals right c.at stands.agree.all b n g.0 g.1 l ∙ ap (λ a. got [] (a, z)) at.thing;
@@ -204,7 +210,7 @@ module _ (p : Program) (calls : Text → List Argument → State → Result (Opt
       → Updates p calls k m names s Holds f b keeps done i rest o z w (expr (place_expr W b n) es) (S t) (access (location s v g.1))
   updates_met o t q leads w es access says g v is sees =
       let l = leads g.0 g.1 is in
-      let at = in_memory t g.0 g.1 (base_text W l.begin) l.from v l.to (part_there t q g.0 g.1 l) sees in
+      let at = in_memory t q.sized g.0 g.1 (base_text W l.begin) l.from v l.to (part_there t q g.0 g.1 l) sees in
       record {
         function = says.function;
         kind = says.kind;

@@ -129,12 +129,12 @@ module _ (s : Setting) (y : StructNames) where
     all_sized id j no_trees z = refl
     all_sized id j (tree t ts) z = and_from (is_sized (shape_in s y t)) (are_sized (fields_in s y id (j + 1) ts)) (sized_in t z.0) (all_sized id (j + 1) ts z.1)
 
-  each_there : (v : Inst) (path : List ℕ) (t : Tree) (at : Site) → HasScalars s y v path t at → (ps : List (List ℕ)) → AllLead t ps → map (λ rest. location_of (site_along (tree_of (shape_in s y t)) rest at)) ps ≡ map (λ rest. location s v (path ++ rest)) ps
+  each_there : (v : Inst) (path : List ℕ) (t : Tree) (at : Site) → HasScalars s v path t (shape_in s y t) at → (ps : List (List ℕ)) → AllLead t ps → map (λ rest. location_of (site_along (tree_of (shape_in s y t)) rest at)) ps ≡ map (λ rest. location s v (path ++ rest)) ps
   each_there v path t at has [] a = refl
   each_there v path t at has (p ∷ ps) a = ap₂ (λ (x : Location) (xs : List Location). x ∷ xs) (has p a.0) (each_there v path t at has ps a.1)
 
   -- Of a part of which a value is read, the text has the scalars where the module has them.
-  pub places_are : (v : Inst) (path : List ℕ) (t : Tree) (at : Site) → IsSized t → shape_along s v path ≡ Some t → HasScalars s y v path t at → locations (tree_of (shape_in s y t)) at ≡ module_memory.locations s v path
+  pub places_are : (v : Inst) (path : List ℕ) (t : Tree) (at : Site) → IsSized t → shape_along s v path ≡ Some t → HasScalars s v path t (shape_in s y t) at → locations (tree_of (shape_in s y t)) at ≡ module_memory.locations s v path
   places_are v path t at z shape has =
       ap (map (λ rest. location_of (site_along (tree_of (shape_in s y t)) rest at))) (same_paths t z)
       ∙ each_there v path t at has (scalar_paths t) (scalars_lead t)

@@ -47,13 +47,14 @@ use Rattle.region_law.proofs.Flags.{in_found}
 use Rattle.agree_law.specs.Agree.{Naming, variable_with, IfPointer, variable_in, target_value, IsFar, Agree}
 use Rattle.agree_law.proofs.Owned.{own_found}
 use Rattle.agree_law.proofs.Evaluating.{named_is}
-use Rattle.path_law.specs.Parts.{StructNames, AreMembersApart, HasMembersApart, shape_in, HasScalars, part_value, IsPart}
+use Rattle.path_law.specs.Parts.{StructNames, AreMembersApart, HasMembersApart, shape_in, IsShape, HasScalars, part_value, IsPart}
 use Rattle.path_law.specs.Laid.{IsLaidOut, HasLengths, HaveLengths}
 use Rattle.path_law.specs.Walks.{writing, struct_names}
 use Rattle.path_law.specs.Starts.{members_in, IsVariable, IsOwn, IsParameter, IsPrivate, IsBuiltIn, IsShared, IsBlock, IsStart}
 use Rattle.path_law.proofs.Bytes.{bytes_in, buffer_along, push_along, bytes_same}
 use Rattle.path_law.proofs.BlockLayouts.{block_laid}
 use Rattle.path_law.proofs.Types.{declared_as}
+use Rattle.path_law.proofs.Parts.{own_shape}
 use Rattle.path_law.proofs.Walks.{IsFound}
 
 -- classes by their numbers
@@ -171,13 +172,13 @@ module _ (p : Program) (calls : Text → List Argument → State → Result (Opt
         ∙ ap (λ a. a + bytes_along s (part_type s ty k) rest) (sym first) ∙ ap (λ a. bytes_along s a (k ∷ rest)) (sym is_type)
 
     in_buffers : (c : StorageClass) → class_of v ≡ Some c → ((path : List ℕ) → location_by s v path c ≡ event.buffer (decorated s (decoration_number decoration.DescriptorSet) v.result) (decorated s (decoration_number decoration.Binding) v.result) (bytes_along s (variable_type s v) path))
-        → HasScalars s Y v (k ∷ []) u (in_buffer (decorated s (decoration_number decoration.DescriptorSet) v.result) (decorated s (decoration_number decoration.Binding) v.result) kind (member_offset s ty k))
+        → HasScalars s v (k ∷ []) u (shape_in s Y u) (in_buffer (decorated s (decoration_number decoration.DescriptorSet) v.result) (decorated s (decoration_number decoration.Binding) v.result) kind (member_offset s ty k))
     in_buffers c of lies rest leads =
         ap location_of (buffer_along kind (decorated s (decoration_number decoration.DescriptorSet) v.result) (decorated s (decoration_number decoration.Binding) v.result) rest (tree_of (shape_in s Y u)) (member_offset s ty k))
         ∙ ap (event.buffer (decorated s (decoration_number decoration.DescriptorSet) v.result) (decorated s (decoration_number decoration.Binding) v.result)) (bytes_there rest leads)
         ∙ sym (lies (k ∷ rest)) ∙ sym (ap (λ o. location_by s v (k ∷ rest) (unwrap_or o storage.StorageBuffer)) of)
 
-    in_pushed : class_of v ≡ Some storage.PushConstant → HasScalars s Y v (k ∷ []) u (in_push kind (member_offset s ty k))
+    in_pushed : class_of v ≡ Some storage.PushConstant → HasScalars s v (k ∷ []) u (shape_in s Y u) (in_push kind (member_offset s ty k))
     in_pushed of rest leads =
         ap location_of (push_along kind rest (tree_of (shape_in s Y u)) (member_offset s ty k))
         ∙ ap event.push (bytes_there rest leads)
@@ -189,10 +190,10 @@ module _ (p : Program) (calls : Text → List Argument → State → Result (Opt
     push_place : word v 0 ≡ class_number storage.PushConstant → place_of W.source v ≡ Push
     push_place is = ap (λ a. if a == class_number storage.PushConstant then Push else Set (decorated s (decoration_number decoration.DescriptorSet) v.result) (decorated s (decoration_number decoration.Binding) v.result)) is
 
-    pub member_scalars : (word v 0 ≡ class_number storage.StorageBuffer) ⊎ ((word v 0 ≡ class_number storage.Uniform) ⊎ (word v 0 ≡ class_number storage.PushConstant)) → HasScalars s Y v (k ∷ []) u (site_at (place_of W.source v) kind (member_offset s ty k))
-    member_scalars (inl is) = subst (λ q. HasScalars s Y v (k ∷ []) u (site_at q kind (member_offset s ty k))) (sym (set_place 12 is refl)) (in_buffers storage.StorageBuffer (buffer_class v is) (λ path. refl))
-    member_scalars (inr (inl is)) = subst (λ q. HasScalars s Y v (k ∷ []) u (site_at q kind (member_offset s ty k))) (sym (set_place 2 is refl)) (in_buffers storage.Uniform (uniform_class v is) (λ path. refl))
-    member_scalars (inr (inr is)) = subst (λ q. HasScalars s Y v (k ∷ []) u (site_at q kind (member_offset s ty k))) (sym (push_place is)) (in_pushed (push_class v is))
+    pub member_scalars : (word v 0 ≡ class_number storage.StorageBuffer) ⊎ ((word v 0 ≡ class_number storage.Uniform) ⊎ (word v 0 ≡ class_number storage.PushConstant)) → HasScalars s v (k ∷ []) u (shape_in s Y u) (site_at (place_of W.source v) kind (member_offset s ty k))
+    member_scalars (inl is) = subst (λ q. HasScalars s v (k ∷ []) u (shape_in s Y u) (site_at q kind (member_offset s ty k))) (sym (set_place 12 is refl)) (in_buffers storage.StorageBuffer (buffer_class v is) (λ path. refl))
+    member_scalars (inr (inl is)) = subst (λ q. HasScalars s v (k ∷ []) u (shape_in s Y u) (site_at q kind (member_offset s ty k))) (sym (set_place 2 is refl)) (in_buffers storage.Uniform (uniform_class v is) (λ path. refl))
+    member_scalars (inr (inr is)) = subst (λ q. HasScalars s v (k ∷ []) u (shape_in s Y u) (site_at q kind (member_offset s ty k))) (sym (push_place is)) (in_pushed (push_class v is))
 
   module _ (c : Conf) (agree : Agree m c z) where
     -- what the name of a start stands for
@@ -214,7 +215,7 @@ module _ (p : Program) (calls : Text → List Argument → State → Result (Opt
         record {
           to = variable (m.name n) [] (m.shape n) o;
           there = ap (named p z) (sym named_so) ∙ there;
-          place = inl (unseen, is.typed_as, has, named_so, none_behind path);
+          place = inl (unseen, subst (IsShape s Y t) (sym is.typed_as) (own_shape s Y t), has, named_so, none_behind path);
         }
       where
         none_behind : (xs : List ℕ) → xs ≡ xs ++ []
@@ -255,21 +256,21 @@ module _ (p : Program) (calls : Text → List Argument → State → Result (Opt
         subst (λ a. Started n t a path) (sym is.root) (subst (Started n t (global n)) (sym is.whole) (record {
           to = value (typed (shape_in s Y t) is.value_is);
           there = ap (named p z) base ∙ outside_is p z is.text o.0 o.1 ∙ is.thing;
-          place = inl (ap (option_and_then seen_if) is.there ∙ ap (if_seen is.inst) (input_class is.inst is.class), refl, ap (option_and_then (extracted [])) has, is.fit, (is.inst, is.there, is.class));
+          place = inl (ap (option_and_then seen_if) is.there ∙ ap (if_seen is.inst) (input_class is.inst is.class), own_shape s Y t, ap (option_and_then (extracted [])) has, is.fit, (is.inst, is.there, is.class));
         }))
 
     shared_start : (n : ℕ) (t : Tree) (r : Root) (path : List ℕ) → IsShared p m s W.source key globals n t r path → Started n t r path
     shared_start n t r path is =
         let o = agree.outside (key (Id (id n))) is.outside in
         subst (λ a. Started n t a path) (sym is.root) (subst (Started n t (global n)) (sym is.whole) (record {
-          to = memory (in_shared (shared_number s n) []) (shape_in s Y t);
+          to = memory (in_shared (shared_number s n) []) is.text_shape;
           there = ap (named p z) (base_is n is.itself) ∙ outside_is p z (key (Id (id n))) o.0 o.1 ∙ is.thing;
           place = inl (
             is.inst,
             ap (option_and_then seen_if) is.there ∙ ap (if_seen is.inst) (shared_class is.inst is.class),
-            refl,
+            is.text_typed,
             is.typed_as,
-            λ rest leads. ap location_of (shared_along rest (tree_of (shape_in s Y t)) [] (shared_number s n)) ∙ ap (λ a. event.shared (shared_number s a) rest) (sym (variable_named s n is.inst is.there)) ∙ sym (ap (λ q. location_by s is.inst rest (unwrap_or q storage.StorageBuffer)) (shared_class is.inst is.class)),
+            λ rest leads. ap location_of (shared_along rest (tree_of is.text_shape) [] (shared_number s n)) ∙ ap (λ a. event.shared (shared_number s a) rest) (sym (variable_named s n is.inst is.there)) ∙ sym (ap (λ q. location_by s is.inst rest (unwrap_or q storage.StorageBuffer)) (shared_class is.inst is.class)),
           );
         }))
 
@@ -293,7 +294,7 @@ module _ (p : Program) (calls : Text → List Argument → State → Result (Opt
                   (
                     is.inst,
                     sees,
-                    refl,
+                    own_shape s Y u,
                     part_leads s ty k (plain.struct ty is.parts) u whole at,
                     member_scalars is.inst ty is.kind k u refl (part_leads s ty k (plain.struct ty is.parts) u whole at) (member_lengths is.parts k u (subst HasLengths is.shape is.lengths) at)
                         (block_laid s is.kind is.inst is.type ty ty is.parts k u is.takes is.type_there whole at) (struct_bytes s ty ty is.parts k whole) is.class,

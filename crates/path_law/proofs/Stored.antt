@@ -42,6 +42,7 @@ use Rattle.path_law.specs.Walks.{writing, struct_names}
 use Rattle.path_law.specs.Starts.{IsVariable, IsOwn, IsParameter, IsPrivate, IsShared, IsBlock, IsStart}
 use Rattle.path_law.proofs.Starts.{variable_named}
 use Rattle.path_law.proofs.Pointers.{first_type, Leads, place_stands}
+use Rattle.path_law.proofs.Parts.{sized_lengths, only_shape}
 use Rattle.path_law.proofs.Accesses.{shape_itself, PointerLeads, PointsTo, Part, part_there, writes_seen}
 
 no_some : {A : Type 0} (o : Option A) (a : A) → o ≡ None → o ≡ Some a → ⊥
@@ -173,7 +174,7 @@ module _ (p : Program) (calls : Text → List Argument → State → Result (Opt
             (λ (x : IsVariable p m s W.source key globals l.begin l.begins.shape). record {
               old = o;
               place = place_stands p calls z m s overrides f key globals right c.at stands.agree.all b n a.0 a.1 l ∙ ap (λ a. got [] (a, z)) there
-                  ∙ ap (λ d. got [] (variable d way u o, z)) (part.3 ∙ ap (λ o. option_map_or name_in o (key (Id (id l.begin)))) x.itself ∙ sym x.named) ∙ ap (λ d. got [] (variable (m.name l.begin) way d o, z)) part.1;
+                  ∙ ap (λ d. got [] (variable d way u o, z)) (part.3 ∙ ap (λ o. option_map_or name_in o (key (Id (id l.begin)))) x.itself ∙ sym x.named) ∙ ap (λ d. got [] (variable (m.name l.begin) way d o, z)) (only_shape s (struct_names key) t u (sized_lengths t q.sized) part.1);
             }) unseen (g.writable a.0 a.1 is) has had into goes
         by_thing l (instance at kind members) there part = absurd part
         by_thing l (memory at u) there part = absurd (no_some (seen s a.0) part.0 unseen part.1)

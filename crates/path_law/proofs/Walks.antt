@@ -30,7 +30,7 @@ use Rattle.access_paths.specs.declared.forms.Step.TheVariants as steps_of
 use Rattle.access_paths.specs.Ways.{Spot, is_constant_index, index_step, step, steps_from}
 use Rattle.glsl_ast.specs.Tree.{Text, Expr, name, LStep}
 use Rattle.glsl_semantics.specs.Shapes.{Typed}
-use Rattle.glsl_semantics.specs.States.{State, Thing, member_of, element_of}
+use Rattle.glsl_semantics.specs.States.{State, Thing, named_part, member_of, element_of}
 use Rattle.glsl_semantics.specs.Expressions.{Program, Argument, then_fetch, denote, steps}
 use Rattle.vec_lowering.specs.Component.{axis_name}
 use Rattle.expr_forward.specs.Scope as scope
@@ -42,9 +42,9 @@ use Rattle.type_law.specs.Shaped.{AreConstants}
 use Rattle.type_law.proofs.Places.{part_leads}
 use Rattle.lowering_law.proofs.Saying.{on_operand}
 use Rattle.lowering_law.proofs.Components.{axis_part}
-use Rattle.path_law.specs.Parts.{StructNames, HasMembersApart, HaveMembersApart, shape_in, IsInside, IsPart}
+use Rattle.path_law.specs.Parts.{StructNames, HasMembersApart, HaveMembersApart, IsInside, IsPart}
 use Rattle.path_law.specs.Walks.{writing, struct_names, SaysIndex, Walks, IsIndex, AreIndexes, ByConstants}
-use Rattle.path_law.proofs.Parts.{scalar_in, named_is, IsIndexed, indexed_is, member_named}
+use Rattle.path_law.proofs.Parts.{part_shape, named_is, IsIndexed, indexed_is, field_named}
 use Rattle.path_law.proofs.Types.{allowed_is, op_of, declared_as, is_struct_shape, struct_by, vector_size_is, struct_number, step_type_is}
 
 some_of : {A : Type 0} (o : Option A) → is_some o ≡ true → (a : A) × (o ≡ Some a)
@@ -146,7 +146,7 @@ module _ (p : Program) (calls : Text → List Argument → State → Result (Opt
 
       members_of : (path : List ℕ) (n : ℕ) (ts : Trees) (a : Thing) → IsPlace path (plain.struct n ts) a → (k : ℕ) (u : Tree) → nth_of ts k ≡ Some u → (b : Thing) × (member_of a (Y.member_name n k) ≡ Some b) × P (path ++ k ∷ []) u b
       members_of path n ts a (apart, inl is) k u at =
-          named_is s Y c x from r path (plain.struct n ts) u k (Y.member_name n k) a is at tt (member_named s Y n ts apart.0 ts 0 k k u (let none : k ≡ 0 + k = omega arith in none) at at)
+          named_is s Y c x from r path (plain.struct n ts) u k (Y.member_name n k) a is at tt (λ q stands. subst (λ x. named_part (Some x) (Y.member_name n k) ≡ Some (k, part_shape x k)) (sym stands.1) (field_named s Y n ts apart.0 ts stands.0 0 k k u stands.2 (let none : k ≡ 0 + k = omega arith in none) at at))
       members_of path n ts a (apart, inr is) k u at =
           let number : n ≡ is.0 = same_id n is.0 ts is.1 is.2 in
           let same : ts ≡ is.1 = same_trees n is.0 ts is.1 is.2 in
@@ -210,7 +210,7 @@ module _ (p : Program) (calls : Text → List Argument → State → Result (Opt
       -- a component by its letter
       letter_walks : (path : List ℕ) (i n : ℕ) (e : Elem) (u : Tree) (a : Thing) → i < n → n ≤ 4 → P path (plain.vector e n) a → element_shape (plain.vector e n) i ≡ Some u → (b : Thing) × Walks p calls z (LStep.member (axis_name i) ∷ []) a b × P (path ++ i ∷ []) u b
       letter_walks path i n e u a less four is there =
-          let b = named_is s Y c x from r path (plain.vector e n) u i (axis_name i) a is there less (axis_part e n i less four ∙ ap (λ q. Some (i, q)) (sym (scalar_in s Y e) ∙ ap (shape_in s Y) (same_Some (elem_tree e) u there))) in
+          let b = named_is s Y c x from r path (plain.vector e n) u i (axis_name i) a is there less (λ q stands. subst (λ x. named_part (Some x) (axis_name i) ≡ Some (i, part_shape x i)) (sym stands) (axis_part e n i less four)) in
           (b.0, (b.0, b.1, refl), b.2)
 
       -- an index, of what is no struct

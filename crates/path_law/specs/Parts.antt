@@ -26,7 +26,7 @@ pub record StructNames : Type 0 where
   pub struct_name : ℕ → Text
   pub member_name : ℕ → ℕ → Text
 
--- The type of a shape in the text: that of an array has the length that the array has in the run, where a specialization constant gives it.
+-- The type of a shape in the text, where each array in it has a length in the run.
 abbrev pub length_in : Setting → Length → Option ℕ
 length_in s (Fixed n) = Some n
 length_in s (Spec id) = array_length s id.0
@@ -45,6 +45,24 @@ abbrev mutual
   pub fields_in : Setting → StructNames → ℕ → ℕ → Trees → Fields
   fields_in s y id k no_trees = no_fields
   fields_in s y id k (tree t ts) = field (y.member_name id k) (shape_in s y t) (fields_in s y id (k + 1) ts)
+
+-- The length that an array has in the text is that of the run, where it has one there; an index into an array that has none leads nowhere, whatever the text makes of its length.
+abbrev pub HasLength : Option ℕ → Option ℕ → Type 0
+HasLength None n = Unit {0}
+HasLength (Some k) n = n ≡ Some k
+
+-- the text has the type of the shape as this one
+abbrev mutual
+  pub IsShape : Setting → StructNames → Tree → Shape → Type 0
+  IsShape s y (plain.array t l) q = (e : Shape) × (n : Option ℕ) × (q ≡ array e n) × IsShape s y t e × HasLength (length_in s l) n
+  IsShape s y (plain.runtime t) q = (e : Shape) × (q ≡ runtime e) × IsShape s y t e
+  IsShape s y (plain.struct id ts) q = (fs : Fields) × (q ≡ struct (y.struct_name id) fs) × AreFields s y id 0 ts fs
+  IsShape s y t q = q ≡ shape_in s y t
+
+  -- the members of the struct with this id from member k on
+  pub AreFields : Setting → StructNames → ℕ → ℕ → Trees → Fields → Type 0
+  AreFields s y id k no_trees fs = fs ≡ no_fields
+  AreFields s y id k (tree t ts) fs = (q : Shape) × (more : Fields) × (fs ≡ field (y.member_name id k) q more) × IsShape s y t q × AreFields s y id (k + 1) ts more
 
 -- no two members of a struct in the type have one name
 abbrev pub AreMembersApart : StructNames → ℕ → Trees → Type 0
@@ -71,9 +89,9 @@ IsInside s (plain.vector e n) i = i < n
 IsInside s (plain.array t l) i = IsBelow (length_in s l) i
 IsInside s _ i = Unit {0}
 
--- The scalars of a part with this shape lie in the text where they lie in the module: also those of an array without a length.
-abbrev pub HasScalars : Setting → StructNames → Inst → List ℕ → Tree → Site → Type 0
-HasScalars s y v path t at = (rest : List ℕ) → is_some (place_shape t rest) ≡ true → location_of (site_along (tree_of (shape_in s y t)) rest at) ≡ location s v (path ++ rest)
+-- The scalars of a part with this shape, which the text has as that one, lie in the text where they lie in the module: also those of an array without a length.
+abbrev pub HasScalars : Setting → Inst → List ℕ → Tree → Shape → Site → Type 0
+HasScalars s v path t q at = (rest : List ℕ) → is_some (place_shape t rest) ≡ true → location_of (site_along (tree_of q) rest at) ≡ location s v (path ++ rest)
 
 -- the value of a part of a variable that no other invocation sees
 abbrev pub part_value : Setting → Conf → Root → List ℕ → Option ValueTree
@@ -86,7 +104,7 @@ IsInput s _ = ⊥
 
 -- The thing is the part at these indexes, which has this shape, of the variable into which the root leads: its place in memory, where others see the variable, and along whose types the indexes lead to the shape; else its value, where it is built in, or that part of the text's variable with this name, which stands for the part at the first of the indexes.
 abbrev pub IsPart : Setting → StructNames → Conf → Text → List ℕ → Root → List ℕ → Tree → Thing → Type 0
-IsPart s y c x from r path t (value (typed q u)) = (seen s r ≡ None) × (q ≡ shape_in s y t) × (part_value s c r path ≡ Some u) × (fits t u ≡ true) × IsInput s r
-IsPart s y c x from r path t (variable w way q o) = (seen s r ≡ None) × (q ≡ shape_in s y t) × (o ≡ part_value s c r path) × (w ≡ x) × (path ≡ from ++ way)
+IsPart s y c x from r path t (value (typed q u)) = (seen s r ≡ None) × IsShape s y t q × (part_value s c r path ≡ Some u) × (fits t u ≡ true) × IsInput s r
+IsPart s y c x from r path t (variable w way q o) = (seen s r ≡ None) × IsShape s y t q × (o ≡ part_value s c r path) × (w ≡ x) × (path ≡ from ++ way)
 IsPart s y c x from r path t (instance place kind members) = ⊥
-IsPart s y c x from r path t (memory at q) = (v : Inst) × (seen s r ≡ Some v) × (q ≡ shape_in s y t) × (shape_along s v path ≡ Some t) × HasScalars s y v path t at
+IsPart s y c x from r path t (memory at q) = (v : Inst) × (seen s r ≡ Some v) × IsShape s y t q × (shape_along s v path ≡ Some t) × HasScalars s v path t q at

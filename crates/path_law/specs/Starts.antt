@@ -26,7 +26,7 @@ use Rattle.glsl_semantics.specs.Expressions.{Program}
 use Rattle.text_rules.specs.Declarations.{place_of}
 use Rattle.text_rules.specs.Constants.{Source}
 use Rattle.agree_law.specs.Agree.{Naming}
-use Rattle.path_law.specs.Parts.{StructNames, shape_in}
+use Rattle.path_law.specs.Parts.{StructNames, shape_in, IsShape}
 use Rattle.path_law.specs.Laid.{HasLengths}
 use Rattle.path_law.specs.Walks.{struct_names}
 
@@ -95,7 +95,9 @@ module _ (p : Program) (m : Naming) (s : Setting) (source : Source) (key : Key �
     pub itself : globals n ≡ None
     pub outside : m.is_outside (key (Id (id n))) ≡ true
     pub typed_as : type_tree s.of.globals (variable_type s inst) ≡ Some t
-    pub thing : p.things (key (Id (id n))) ≡ Some (memory (in_shared (shared_number s n) []) (shape_in s Y t))
+    pub text_shape : Shape
+    pub text_typed : IsShape s Y t text_shape
+    pub thing : p.things (key (Id (id n))) ≡ Some (memory (in_shared (shared_number s n) []) text_shape)
 
   -- the block of a variable, with the layout that it takes
   pub record IsBlock (n : ℕ) (t : Tree) (r : Root) (path : List ℕ) : Type 0 where

@@ -1,4 +1,4 @@
--- So the text of an accepted module preserves what the module does. It is asked that its words are octets, its overrides words, that no rule on decorations is broken, and of the invocation that lengths of arrays are lengths (`IsLeftOfGlobals`); of its functions nothing is asked.
+-- So the text of an accepted module preserves what the module does. It is asked that its words are octets, its overrides words, and that no rule on decorations is broken (`IsLeftOfGlobals`); of its functions and of the invocation nothing is asked.
 use Rattle.std.proofs.Common.{◌≡◌, ◌++◌, ℕ, true, false, List, map, Option, Some, refl, sym, subst}
 use Rattle.std.proofs.lemmas.Bool.{true_from_ne_false}
 use Rattle.spv_words.specs.Words.{words}
@@ -81,7 +81,7 @@ module _ (bytes : List ℕ) (m : ModuleState) (o : Options) (read : IsReadFrom b
   kinds_so : AreGlobals m.globals
   kinds_so g there some = kinds_in g (as_in m.globals g there) some
 
-  module _ (inv : Invocation) (told : IsInvocation inv) (outer : IsLeftOfGlobals bytes m o u.entry inv) where
+  module _ (inv : Invocation) (told : IsInvocation inv) (outer : IsLeftOfGlobals bytes m o) where
     -- its constants and the invocation are of words
     pub of_words : IsSettingOfWords (S m o unit u inv)
     of_words = subst (λ (n : ModuleState). IsSettingOfWords (setting n u.entry o.overrides inv)) (sym read.made) (setting_of_words (words bytes) (words_of_bytes bytes outer.octets) u.entry o.overrides outer.given inv told)

@@ -32,6 +32,7 @@ use Rattle.agree_law.specs.Agree.{Naming}
 use Rattle.fits_law.specs.State.{value_shape}
 use Rattle.path_law.specs.Parts.{shape_in}
 use Rattle.path_law.specs.Walks.{struct_names}
+use Rattle.path_law.proofs.Parts.{sized_lengths}
 use Rattle.global_law.specs.Sources.{source_of as run_source}
 use Rattle.global_law.specs.Names.{IsDeclared}
 use Rattle.global_law.proofs.Declared.{named_type, outline_same}
@@ -94,7 +95,7 @@ module _ (m : ModuleState) (opts : Options) (right : IsConforming m opts.entry) 
     phi_stands =
         ap (λ (ty : ℕ). type_of program (type_at Where.setting.source Where.names ty)) type_is
         ∙ (ap (type_of program) (outline_same (spelling src (λ n. key m opts unit u inv (Id (id n)))) gs i.ty of_phi.0 of_phi.1)
-        ∙ (named_type program s src (key m opts unit u inv) of_phi.0 (declared holder held reached i w.among w.is_phi w.kept of_phi.0 of_phi.1)
+        ∙ (named_type program s src (key m opts unit u inv) of_phi.0 (sized_lengths of_phi.0 of_phi.2) (declared holder held reached i w.among w.is_phi w.kept of_phi.0 of_phi.1)
         ∙ ap (λ (x : Shape). Some x) (sym shape_is)))
 
     stands_here : Stands (target q)

@@ -28,7 +28,7 @@ use Rattle.naming_law.proofs.Keys.{S, found as names_found, R}
 use Rattle.meaning_law.specs.Left.{IsLeftOfGlobals}
 use Rattle.meaning_law.proofs.Outside.OfWords.{setting_of_bytes}
 
-module _ (bytes : List ℕ) (m : ModuleState) (o : Options) (read : IsReadFrom bytes m) (fine : IsFine m o) (unit : TranslationUnit) (u : IsUnitOf m o unit) (inv : Invocation) (told : IsInvocation inv) (left : IsLeftOfGlobals bytes m o u.entry inv) where
+module _ (bytes : List ℕ) (m : ModuleState) (o : Options) (read : IsReadFrom bytes m) (fine : IsFine m o) (unit : TranslationUnit) (u : IsUnitOf m o unit) (inv : Invocation) (told : IsInvocation inv) (left : IsLeftOfGlobals bytes m o) where
   abbrev s : Setting
   s = S m o unit u inv
 
@@ -63,6 +63,5 @@ module _ (bytes : List ℕ) (m : ModuleState) (o : Options) (read : IsReadFrom b
         names = have_names s o.entry right o.overrides found r (Plans m o unit u) u.lawful claimed;
         spec_ids = spec_ids_are s o.entry right o.overrides left.decorated.0;
         sizes = sizes_conform s o.entry right o.overrides e.0 e.1 e.2;
-        lengths = left.lengths;
         members = constant_members s o.entry right o.overrides found r (Plans m o unit u) u.lawful claimed;
       }

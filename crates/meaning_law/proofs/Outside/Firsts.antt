@@ -58,7 +58,7 @@ use Rattle.accepted_law.proofs.Accepted.{accepted_conforming}
 use Rattle.path_law.specs.Parts.{shape_in}
 use Rattle.path_law.specs.Walks.{struct_names}
 use Rattle.global_law.proofs.Blocks.{type_declared}
-use Rattle.global_law.proofs.Zeros.{HasZero, is_declared, same_itself, zero_says}
+use Rattle.global_law.proofs.Zeros.{HasZero, is_declared, zero_lengths, same_itself, zero_says}
 use Rattle.function_law.specs.Tops.{IsClear, SaysFirst}
 use Rattle.constant_law.specs.Items.{AreAsked}
 use Rattle.constant_law.proofs.Constants.{AreFunctions}
@@ -95,7 +95,7 @@ some_place [] n e = cc
 some_place (a ∷ []) n e = cc
 some_place (a ∷ b ∷ args) n e = grind (arith, nat_tests)
 
-module _ (bytes : List ℕ) (m : ModuleState) (o : Options) (read : IsReadFrom bytes m) (fine : IsFine m o) (unit : TranslationUnit) (u : IsUnitOf m o unit) (inv : Invocation) (told : IsInvocation inv) (left : IsLeftOfGlobals bytes m o u.entry inv) (p : FunctionPlan) (planned : IsIn p u.plans) where
+module _ (bytes : List ℕ) (m : ModuleState) (o : Options) (read : IsReadFrom bytes m) (fine : IsFine m o) (unit : TranslationUnit) (u : IsUnitOf m o unit) (inv : Invocation) (told : IsInvocation inv) (left : IsLeftOfGlobals bytes m o) (p : FunctionPlan) (planned : IsIn p u.plans) where
   abbrev s : Setting
   s = S m o unit u inv
 
@@ -153,7 +153,7 @@ module _ (bytes : List ℕ) (m : ModuleState) (o : Options) (read : IsReadFrom b
 
     -- Its type is declared.
     pub variable_declared : type_of P (type_at src Ns (pointee_at src i.ty)) ≡ Some (N.shape i.result)
-    variable_declared = type_declared s f o.overrides key (λ g. literal (Uint 0)) P (pointee_at src i.ty) w.shape typed_as (is_declared P s src key w.shape zero) ∙ ap (λ t. Some t) (sym shape_is)
+    variable_declared = type_declared s f o.overrides key (λ g. literal (Uint 0)) P (pointee_at src i.ty) w.shape typed_as (zero_lengths P s src key w.shape zero) (is_declared P s src key w.shape zero) ∙ ap (λ t. Some t) (sym shape_is)
 
     pub variable_whole : same_shape (N.shape i.result) (N.shape i.result) ≡ true
     variable_whole = subst (λ t. same_shape t t ≡ true) (sym shape_is) (same_itself P s src key w.shape zero)

@@ -25,7 +25,7 @@ use Rattle.spv_module.specs.declared.tree.Length.TheVariants.{Fixed, Spec}
 use Rattle.spv_types.specs.Tree as plain
 use Rattle.spv_types.specs.Tree.{Tree, Trees, no_trees, tree}
 use Rattle.spv_types.specs.Types.{tree_at, type_tree}
-use Rattle.spv_types.specs.Leaves.{IsSized, AreSized}
+use Rattle.spv_types.specs.Leaves.{IsSized}
 use Rattle.spv_decor.specs.Rows.{word, value_of}
 use Rattle.spv_decor.specs.Decorations.{local_insts}
 use Rattle.spv_index.specs.BlockStructs.{has, is_block, is_block_struct, is_some_block}
@@ -71,6 +71,7 @@ use Rattle.typed_law.proofs.Used.{global_found}
 use Rattle.accepted_law.proofs.Accepted.{accepted_conforming}
 use Rattle.path_law.specs.Parts.{StructNames, HasMembersApart}
 use Rattle.path_law.specs.Laid.{HasLengths, HaveLengths}
+use Rattle.path_law.proofs.Parts.{sized_lengths}
 use Rattle.path_law.specs.Walks.{struct_names}
 use Rattle.path_law.specs.Starts.{IsPrivate, IsBuiltIn, IsShared, IsBlock}
 use Rattle.narrow_law.specs.Low.{IsFineMember}
@@ -129,21 +130,6 @@ none_some : {A B : Type 0} {a : A} → None ≡ Some a → B
 none_some e = cc
 
 -- what has values has no length that a specialization constant gives, and neither has a runtime array of it
-mutual
-  sized_lengths : (t : Tree) → IsSized t → HasLengths t
-  sized_lengths plain.boolean h = tt
-  sized_lengths plain.int h = tt
-  sized_lengths plain.uint h = tt
-  sized_lengths (plain.vector e n) h = tt
-  sized_lengths (plain.array t (Fixed n)) h = sized_lengths t h
-  sized_lengths (plain.array t (Spec l)) h = absurd h
-  sized_lengths (plain.runtime t) h = absurd h
-  sized_lengths (plain.struct k ts) h = all_sized_lengths ts h
-
-  all_sized_lengths : (ts : Trees) → AreSized ts → HaveLengths ts
-  all_sized_lengths no_trees h = tt
-  all_sized_lengths (tree t ts) h = (sized_lengths t h.0, all_sized_lengths ts h.1)
-
 member_lengths : (t : Tree) → IsFineMember t → HasLengths t
 member_lengths plain.boolean h = tt
 member_lengths plain.int h = tt
@@ -209,7 +195,7 @@ input_shape s built.GlobalInvocationId h t one at off = uvec3_tree s h t at off
 input_shape s built.LocalInvocationIndex h t one at off = same_Some t plain.uint (sym at ∙ uint_tree s h (not-false _ off))
 input_shape s built.WorkgroupSize h t one at off = absurd one
 
-module _ (bytes : List ℕ) (m : ModuleState) (o : Options) (read : IsReadFrom bytes m) (fine : IsFine m o) (unit : TranslationUnit) (u : IsUnitOf m o unit) (inv : Invocation) (told : IsInvocation inv) (left : IsLeftOfGlobals bytes m o u.entry inv) where
+module _ (bytes : List ℕ) (m : ModuleState) (o : Options) (read : IsReadFrom bytes m) (fine : IsFine m o) (unit : TranslationUnit) (u : IsUnitOf m o unit) (inv : Invocation) (told : IsInvocation inv) (left : IsLeftOfGlobals bytes m o) where
   abbrev s : Setting
   s = S m o unit u inv
 
@@ -437,7 +423,7 @@ module _ (bytes : List ℕ) (m : ModuleState) (o : Options) (read : IsReadFrom b
           points_to = q.2;
           typed_as = q.3;
           members = plain_members on no_block;
-          kind = inr (inr (inl (record { root = w.root; whole = w.whole; inst = w.inst; there = w.there; class = w.class; itself = w.itself; outside = w.outside; typed_as = w.typed_as; thing = things (names v.result) ∙ w.thing })));
+          kind = inr (inr (inl (record { root = w.root; whole = w.whole; inst = w.inst; there = w.there; class = w.class; itself = w.itself; outside = w.outside; typed_as = w.typed_as; text_shape = w.text_shape; text_typed = w.text_typed; thing = things (names v.result) ∙ w.thing })));
         }
 
     -- P14

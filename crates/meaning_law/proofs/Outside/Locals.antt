@@ -106,7 +106,7 @@ first_place : (bs : List Block) (d : DeclaresFirst bs) (k : ℕ) (b : Block) (i 
 first_place bs d zero b i at there on = refl
 first_place bs d (suc k) b i at there on = no_flip (is_variable i) on (none_at d.others k b i d.none_other (ap (λ l. slice_get l (suc k)) (sym d.whole) ∙ at) there)
 
-module _ (bytes : List ℕ) (m : ModuleState) (o : Options) (read : IsReadFrom bytes m) (fine : IsFine m o) (unit : TranslationUnit) (u : IsUnitOf m o unit) (inv : Invocation) (told : IsInvocation inv) (left : IsLeftOfGlobals bytes m o u.entry inv) (p : FunctionPlan) (planned : IsIn p u.plans) where
+module _ (bytes : List ℕ) (m : ModuleState) (o : Options) (read : IsReadFrom bytes m) (fine : IsFine m o) (unit : TranslationUnit) (u : IsUnitOf m o unit) (inv : Invocation) (told : IsInvocation inv) (left : IsLeftOfGlobals bytes m o) (p : FunctionPlan) (planned : IsIn p u.plans) where
   abbrev s : Setting
   s = S m o unit u inv
 

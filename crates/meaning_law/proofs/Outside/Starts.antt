@@ -98,7 +98,7 @@ pointer_to gs ty on = by_pointer (pointer gs ty) on
     by_pointer None e = cc
     by_pointer (Some g) e = (slice_index g.args 1, refl)
 
-module _ (bytes : List ℕ) (m : ModuleState) (o : Options) (read : IsReadFrom bytes m) (fine : IsFine m o) (unit : TranslationUnit) (u : IsUnitOf m o unit) (inv : Invocation) (told : IsInvocation inv) (left : IsLeftOfGlobals bytes m o u.entry inv) (p : FunctionPlan) (planned : IsIn p u.plans) where
+module _ (bytes : List ℕ) (m : ModuleState) (o : Options) (read : IsReadFrom bytes m) (fine : IsFine m o) (unit : TranslationUnit) (u : IsUnitOf m o unit) (inv : Invocation) (told : IsInvocation inv) (left : IsLeftOfGlobals bytes m o) (p : FunctionPlan) (planned : IsIn p u.plans) where
   abbrev s : Setting
   s = S m o unit u inv
 

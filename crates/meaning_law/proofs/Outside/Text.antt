@@ -71,7 +71,7 @@ written_are s found [] (p ∷ ps) all = absurd all
 written_are s found (f ∷ fs) [] all = absurd all
 written_are s found (f ∷ fs) (p ∷ ps) all = ap₂ (λ (g : Function) l. g ∷ l) (ap (λ w. w.setting.function) all.0.scope_is) (written_are s found fs ps all.1)
 
-module _ (bytes : List ℕ) (m : ModuleState) (o : Options) (read : IsReadFrom bytes m) (fine : IsFine m o) (unit : TranslationUnit) (u : IsUnitOf m o unit) (inv : Invocation) (told : IsInvocation inv) (left : IsLeftOfGlobals bytes m o u.entry inv) where
+module _ (bytes : List ℕ) (m : ModuleState) (o : Options) (read : IsReadFrom bytes m) (fine : IsFine m o) (unit : TranslationUnit) (u : IsUnitOf m o unit) (inv : Invocation) (told : IsInvocation inv) (left : IsLeftOfGlobals bytes m o) where
   abbrev s : Setting
   s = S m o unit u inv
 

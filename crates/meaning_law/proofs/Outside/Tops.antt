@@ -17,6 +17,7 @@ use Rattle.spv_module.specs.declared.inst.Block.{Block}
 use Rattle.spv_module.specs.State.{ModuleState}
 use Rattle.spv_module.specs.declared.inst.Inst.{Inst}
 use Rattle.spv_module.specs.declared.inst.Function.{Function}
+use Rattle.spv_types.specs.Leaves.{IsSized}
 use Rattle.spv_types.specs.Tree as plain
 use Rattle.spv_types.specs.Tree.{Tree}
 use Rattle.spv_types.specs.declared.kind.TypeKind.{TypeKind}
@@ -59,11 +60,13 @@ use Rattle.plan_law.proofs.Order.{found as found_at, among_right as body_right}
 use Rattle.region_law.proofs.Flags.{same_text}
 use Rattle.agree_law.specs.Agree.{Naming}
 use Rattle.typed_law.specs.Conforms.{IsConforming}
-use Rattle.typed_law.proofs.Used.{global_found}
+use Rattle.typed_law.proofs.Used.{global_found, used_sized}
 use Rattle.typed_law.proofs.Values.{among_functions, inside, own_local, own_type, shaped_some}
 use Rattle.accepted_law.proofs.Accepted.{accepted_conforming}
 use Rattle.path_law.specs.Parts.{shape_in}
+use Rattle.path_law.specs.Laid.{HasLengths}
 use Rattle.path_law.specs.Walks.{struct_names}
+use Rattle.path_law.proofs.Parts.{sized_lengths}
 use Rattle.global_law.specs.Names.{IsDeclared}
 use Rattle.global_law.proofs.Blocks.{type_declared}
 use Rattle.constant_law.specs.Items.{is_item}
@@ -162,7 +165,7 @@ all_say : (P : Program) (calls : Text → List Argument → State → Result (Op
 all_say P calls n [] each = tt
 all_say P calls n (t ∷ ts) each = (each t (inl refl), all_say P calls n ts (λ u among. each u (inr among)))
 
-module _ (bytes : List ℕ) (m : ModuleState) (o : Options) (read : IsReadFrom bytes m) (fine : IsFine m o) (unit : TranslationUnit) (u : IsUnitOf m o unit) (inv : Invocation) (told : IsInvocation inv) (left : IsLeftOfGlobals bytes m o u.entry inv) (p : FunctionPlan) (planned : IsIn p u.plans) where
+module _ (bytes : List ℕ) (m : ModuleState) (o : Options) (read : IsReadFrom bytes m) (fine : IsFine m o) (unit : TranslationUnit) (u : IsUnitOf m o unit) (inv : Invocation) (told : IsInvocation inv) (left : IsLeftOfGlobals bytes m o) (p : FunctionPlan) (planned : IsIn p u.plans) where
   abbrev s : Setting
   s = S m o unit u inv
 
@@ -266,7 +269,7 @@ module _ (bytes : List ℕ) (m : ModuleState) (o : Options) (read : IsReadFrom b
     hoisted_says : (i : Inst) (t : Tree) → IsIn i (insts_of f) → is_hoisted_in p.scope i ≡ true → type_tree Gs i.ty ≡ Some t → Says (hoisted_top p.scope N s i)
     hoisted_says i t there on shape = record {
       type =
-          ap₂ (λ a b. type_of P (type_at a b i.ty)) source_is names_are ∙ type_declared s f o.overrides key (λ g. literal (Uint 0)) P i.ty t shape declared
+          ap₂ (λ a b. type_of P (type_at a b i.ty)) source_is names_are ∙ type_declared s f o.overrides key (λ g. literal (Uint 0)) P i.ty t shape (sized_lengths t sized) declared
           ∙ ap (λ q. Some q) (sym shape_is);
       first = refl;
       inside = λ y out. own_name i there (p.scope.setting.key (Id (id i.result))) y (hoisted_name m o unit u inv p planned alone i there on) out;
@@ -277,6 +280,9 @@ module _ (bytes : List ℕ) (m : ModuleState) (o : Options) (read : IsReadFrom b
 
         misused : is_among (block_misuses m) i.ty ≡ true
         misused = value_misused m o.entry right i (body_right i Gs (local_insts m) (among_functions m.functions f i in_it among)) (no_variable i t there shape)
+
+        sized : IsSized t
+        sized = used_sized m o.entry right i (body_right i Gs (local_insts m) (among_functions m.functions f i in_it among)) (no_variable i t there shape) t shape
 
         declared : IsDeclared P s src key t
         declared = value_declared bytes m o read fine unit u inv told left p planned i.ty t shape misused
@@ -308,7 +314,7 @@ module _ (bytes : List ℕ) (m : ModuleState) (o : Options) (read : IsReadFrom b
       type =
           ap₂ (λ a b. type_of P (type_at a b (type_of_value p.scope n.1))) source_is names_are
           ∙ ap (λ k. type_of P (type_at src Ns k)) (ap (λ gs. unwrap_or (type_in gs f n.1) 0) globals_are ∙ ap (λ a. unwrap_or a 0) int.typed_as)
-          ∙ type_declared s f o.overrides key (λ g. literal (Uint 0)) P int.type int.shape int.shape_is declared
+          ∙ type_declared s f o.overrides key (λ g. literal (Uint 0)) P int.type int.shape int.shape_is lengths declared
           ∙ ap (λ q. Some q) (sym shape_is);
       first = refl;
       inside = λ y out.
@@ -323,6 +329,9 @@ module _ (bytes : List ℕ) (m : ModuleState) (o : Options) (read : IsReadFrom b
 
         int : IsIntId s o.entry right f in_it i among w.chain n.1
         int = index_int s o.entry right f in_it i among w.chain n.0 n.1 w.index
+
+        lengths : HasLengths int.shape
+        lengths = elim int.scalar [ inl is ↦ subst HasLengths (sym is) tt | inr is ↦ subst HasLengths (sym is) tt ]
 
         declared : IsDeclared P s src key int.shape
         declared = elim int.scalar [ inl is ↦ subst (IsDeclared P s src key) (sym is) tt | inr is ↦ subst (IsDeclared P s src key) (sym is) tt ]

@@ -76,7 +76,7 @@ module _ (s : Setting) (entry : Option (List ℕ)) (right : IsConforming s.of en
       and_off (not (is row.0.op code.TypeVoid)) (is_no_value_type s.of.heads Gs f.result.0)
       (ap (λ a. option_map_or (λ (g : Inst). not (is g.op code.TypeVoid) && is_no_value_type s.of.heads Gs f.result.0) a false) (sym row.1) ∙ result_right) (ap not no_void)
 
-module _ (bytes : List ℕ) (m : ModuleState) (o : Options) (read : IsReadFrom bytes m) (fine : IsFine m o) (unit : TranslationUnit) (u : IsUnitOf m o unit) (inv : Invocation) (told : IsInvocation inv) (left : IsLeftOfGlobals bytes m o u.entry inv) (p : FunctionPlan) (planned : IsIn p u.plans) where
+module _ (bytes : List ℕ) (m : ModuleState) (o : Options) (read : IsReadFrom bytes m) (fine : IsFine m o) (unit : TranslationUnit) (u : IsUnitOf m o unit) (inv : Invocation) (told : IsInvocation inv) (left : IsLeftOfGlobals bytes m o) (p : FunctionPlan) (planned : IsIn p u.plans) where
   abbrev s : Setting
   s = S m o unit u inv
 

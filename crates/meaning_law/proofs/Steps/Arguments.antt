@@ -74,7 +74,7 @@ pointed_so gs (Some ty) = by_row (pointer_row gs ty)
     by_row None = refl
     by_row (Some g) = refl
 
-module _ (bytes : List ℕ) (m : ModuleState) (o : Options) (read : IsReadFrom bytes m) (fine : IsFine m o) (unit : TranslationUnit) (u : IsUnitOf m o unit) (inv : Invocation) (told : IsInvocation inv) (left : IsLeftOfGlobals bytes m o u.entry inv)
+module _ (bytes : List ℕ) (m : ModuleState) (o : Options) (read : IsReadFrom bytes m) (fine : IsFine m o) (unit : TranslationUnit) (u : IsUnitOf m o unit) (inv : Invocation) (told : IsInvocation inv) (left : IsLeftOfGlobals bytes m o)
     (right : IsConforming m o.entry) (kinds : HaveKinds m.globals) (p : FunctionPlan) (among : IsIn p u.plans) (q : FunctionPlan) (called : IsIn q u.plans) (in_it : Contains m.functions (written q)) (is_one : IsFunctionOf (written p) m.functions) where
   abbrev s : Setting
   s = S m o unit u inv

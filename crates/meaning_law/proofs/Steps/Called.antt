@@ -60,7 +60,7 @@ found_some test (x ∷ ps) p among on = by_test (test x) refl among (λ later. f
 in_option : (x : Option FunctionPlan) (q : FunctionPlan) → x ≡ Some q → IsIn q (option_to_list x)
 in_option x q is = subst (λ (y : Option FunctionPlan). IsIn q (option_to_list y)) (sym is) (inl refl)
 
-module _ (bytes : List ℕ) (m : ModuleState) (o : Options) (read : IsReadFrom bytes m) (fine : IsFine m o) (unit : TranslationUnit) (u : IsUnitOf m o unit) (inv : Invocation) (told : IsInvocation inv) (left : IsLeftOfGlobals bytes m o u.entry inv) where
+module _ (bytes : List ℕ) (m : ModuleState) (o : Options) (read : IsReadFrom bytes m) (fine : IsFine m o) (unit : TranslationUnit) (u : IsUnitOf m o unit) (inv : Invocation) (told : IsInvocation inv) (left : IsLeftOfGlobals bytes m o) where
   abbrev found : Key → Option Text
   found = names_found m o unit u inv
 

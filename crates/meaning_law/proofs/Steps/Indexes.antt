@@ -112,7 +112,7 @@ module _ (f : Function) (links : List Link) where
   carried_mentioned n on =
       carried_from_mentioned (results links f) (λ p p_in. let w = made_by links f p p_in in subst (λ (q : Placed). q.mentions ≡ mentions_of links q.result) w.is refl) n on
 
-module _ (bytes : List ℕ) (m : ModuleState) (o : Options) (read : IsReadFrom bytes m) (fine : IsFine m o) (unit : TranslationUnit) (u : IsUnitOf m o unit) (inv : Invocation) (told : IsInvocation inv) (left : IsLeftOfGlobals bytes m o u.entry inv)
+module _ (bytes : List ℕ) (m : ModuleState) (o : Options) (read : IsReadFrom bytes m) (fine : IsFine m o) (unit : TranslationUnit) (u : IsUnitOf m o unit) (inv : Invocation) (told : IsInvocation inv) (left : IsLeftOfGlobals bytes m o)
     (right : IsConforming m o.entry) (kinds : HaveKinds m.globals) (p : FunctionPlan) (among : IsIn p u.plans) (lends : LendsWhole (S m o unit u inv)) where
   abbrev s : Setting
   s = S m o unit u inv

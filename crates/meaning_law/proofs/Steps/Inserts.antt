@@ -107,7 +107,7 @@ component_is x e n k o less four =
     ap (λ (b : Bool). if b then option_and_then (part_at_index (variable x [] (shapes.vector e n) o) k) (if nat_lt k n then Some (scalar e) else None) else None) (low_index k (omega (arith, less, four)))
     ∙ ap (λ (b : Bool). option_and_then (part_at_index (variable x [] (shapes.vector e n) o) k) (if b then Some (scalar e) else None)) (less_is k n less)
 
-module _ (bytes : List ℕ) (m : ModuleState) (o : Options) (read : IsReadFrom bytes m) (fine : IsFine m o) (unit : TranslationUnit) (u : IsUnitOf m o unit) (inv : Invocation) (told : IsInvocation inv) (left : IsLeftOfGlobals bytes m o u.entry inv)
+module _ (bytes : List ℕ) (m : ModuleState) (o : Options) (read : IsReadFrom bytes m) (fine : IsFine m o) (unit : TranslationUnit) (u : IsUnitOf m o unit) (inv : Invocation) (told : IsInvocation inv) (left : IsLeftOfGlobals bytes m o)
     (right : IsConforming m o.entry) (kinds : HaveKinds m.globals) (p : FunctionPlan) (among : IsIn p u.plans) (lends : LendsWhole (S m o unit u inv)) where
   abbrev s : Setting
   s = S m o unit u inv

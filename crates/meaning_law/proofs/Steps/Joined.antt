@@ -84,7 +84,7 @@ use Rattle.meaning_law.proofs.Steps.Semantics.{control_left, memory_left}
 use Rattle.meaning_law.proofs.Steps.Stores.{SayOperandsHere, WaysHere, load_is_left, store_is_left}
 use Rattle.meaning_law.proofs.Steps.Ways.{IsSeenAt, ways_in, effect_seen}
 
-module _ (bytes : List ℕ) (m : ModuleState) (o : Options) (read : IsReadFrom bytes m) (fine : IsFine m o) (unit : TranslationUnit) (u : IsUnitOf m o unit) (inv : Invocation) (told : IsInvocation inv) (left : IsLeftOfGlobals bytes m o u.entry inv)
+module _ (bytes : List ℕ) (m : ModuleState) (o : Options) (read : IsReadFrom bytes m) (fine : IsFine m o) (unit : TranslationUnit) (u : IsUnitOf m o unit) (inv : Invocation) (told : IsInvocation inv) (left : IsLeftOfGlobals bytes m o)
     (right : IsConforming m o.entry) (kinds : HaveKinds m.globals) (p : FunctionPlan) (among : IsIn p u.plans) where
   abbrev s : Setting
   s = S m o unit u inv

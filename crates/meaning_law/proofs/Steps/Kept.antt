@@ -52,7 +52,7 @@ use Rattle.meaning_law.proofs.Insts.KindSteps.{chain_step}
 use Rattle.meaning_law.proofs.Insts.New.{split_behind, stands_in, stands_among}
 use Rattle.meaning_law.proofs.Steps.Indexes.{carried_mentioned, number, own_shape, kept_shape, written_so, own_none, stands_there}
 
-module _ (bytes : List ℕ) (m : ModuleState) (o : Options) (read : IsReadFrom bytes m) (fine : IsFine m o) (unit : TranslationUnit) (u : IsUnitOf m o unit) (inv : Invocation) (told : IsInvocation inv) (left : IsLeftOfGlobals bytes m o u.entry inv)
+module _ (bytes : List ℕ) (m : ModuleState) (o : Options) (read : IsReadFrom bytes m) (fine : IsFine m o) (unit : TranslationUnit) (u : IsUnitOf m o unit) (inv : Invocation) (told : IsInvocation inv) (left : IsLeftOfGlobals bytes m o)
     (right : IsConforming m o.entry) (kinds : HaveKinds m.globals) (p : FunctionPlan) (among : IsIn p u.plans) (lends : LendsWhole (S m o unit u inv)) (one : IsFunctionOf (F (S m o unit u inv) o.entry right kinds o unit u p among) m.functions) where
   abbrev s : Setting
   s = S m o unit u inv

@@ -21,7 +21,7 @@ unfolding is_word has_prefix
 atomic_reserved atomics.Load = record { reserved = refl; no_main = refl; no_none = refl }
 atomic_reserved a = record { reserved = refl; no_main = refl; no_none = refl }
 
-module _ (bytes : List ℕ) (m : ModuleState) (o : Options) (read : IsReadFrom bytes m) (fine : IsFine m o) (unit : TranslationUnit) (u : IsUnitOf m o unit) (inv : Invocation) (told : IsInvocation inv) (left : IsLeftOfGlobals bytes m o u.entry inv) where
+module _ (bytes : List ℕ) (m : ModuleState) (o : Options) (read : IsReadFrom bytes m) (fine : IsFine m o) (unit : TranslationUnit) (u : IsUnitOf m o unit) (inv : Invocation) (told : IsInvocation inv) (left : IsLeftOfGlobals bytes m o) where
   abbrev P : Program
   P = program_in bytes m o read fine unit u inv told left
 

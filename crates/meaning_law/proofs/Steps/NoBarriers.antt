@@ -26,7 +26,7 @@ control_reserved : IsReserved (codes "barrier")
 unfolding is_word has_prefix
 control_reserved = record { reserved = refl; no_main = refl; no_none = refl }
 
-module _ (bytes : List ℕ) (m : ModuleState) (o : Options) (read : IsReadFrom bytes m) (fine : IsFine m o) (unit : TranslationUnit) (u : IsUnitOf m o unit) (inv : Invocation) (told : IsInvocation inv) (left : IsLeftOfGlobals bytes m o u.entry inv) where
+module _ (bytes : List ℕ) (m : ModuleState) (o : Options) (read : IsReadFrom bytes m) (fine : IsFine m o) (unit : TranslationUnit) (u : IsUnitOf m o unit) (inv : Invocation) (told : IsInvocation inv) (left : IsLeftOfGlobals bytes m o) where
   pub no_barriers : HasNoBarriers (program_in bytes m o read fine unit u inv told left)
   no_barriers = record {
     buffers = no_function bytes m o read fine unit u inv told left (codes "memoryBarrierBuffer") buffers_reserved;

@@ -63,7 +63,7 @@ use Rattle.meaning_law.proofs.Written.Shapes.{value_has, has_shape}
 use Rattle.meaning_law.proofs.Insts.New.{split_behind, stands_in, stands_among, no_phi}
 use Rattle.meaning_law.proofs.Values.Values.{left_of_values}
 
-module _ (bytes : List ℕ) (m : ModuleState) (o : Options) (read : IsReadFrom bytes m) (fine : IsFine m o) (unit : TranslationUnit) (u : IsUnitOf m o unit) (inv : Invocation) (told : IsInvocation inv) (left : IsLeftOfGlobals bytes m o u.entry inv)
+module _ (bytes : List ℕ) (m : ModuleState) (o : Options) (read : IsReadFrom bytes m) (fine : IsFine m o) (unit : TranslationUnit) (u : IsUnitOf m o unit) (inv : Invocation) (told : IsInvocation inv) (left : IsLeftOfGlobals bytes m o)
     (right : IsConforming m o.entry) (kinds : HaveKinds m.globals) (p : FunctionPlan) (among : IsIn p u.plans) (lends : LendsWhole (S m o unit u inv)) where
   abbrev s : Setting
   s = S m o unit u inv

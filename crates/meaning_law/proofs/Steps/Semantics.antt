@@ -143,7 +143,7 @@ made_constant gs f n right typed =
     let g = some_part constant_if (global gs n) w.0 w.1 in
     (g.0, g.1, constant_op g.0.op (constant_on (is g.0.op code.Constant) (rows.word g.0 0) w.0 g.2))
 
-module _ (bytes : List ℕ) (m : ModuleState) (o : Options) (read : IsReadFrom bytes m) (fine : IsFine m o) (unit : TranslationUnit) (u : IsUnitOf m o unit) (inv : Invocation) (told : IsInvocation inv) (left : IsLeftOfGlobals bytes m o u.entry inv) where
+module _ (bytes : List ℕ) (m : ModuleState) (o : Options) (read : IsReadFrom bytes m) (fine : IsFine m o) (unit : TranslationUnit) (u : IsUnitOf m o unit) (inv : Invocation) (told : IsInvocation inv) (left : IsLeftOfGlobals bytes m o) where
   abbrev s : Setting
   s = S m o unit u inv
 

@@ -122,7 +122,7 @@ in_plans order plans p among =
     let n = of_flat (plan_at plans) order p among in
     (found_by (has_id n.0) plans p (of_option p (find (has_id n.0) plans) n.2)).0
 
-module _ (bytes : List ℕ) (m : ModuleState) (o : Options) (read : IsReadFrom bytes m) (fine : IsFine m o) (unit : TranslationUnit) (u : IsUnitOf m o unit) (inv : Invocation) (told : IsInvocation inv) (left : IsLeftOfGlobals bytes m o u.entry inv) where
+module _ (bytes : List ℕ) (m : ModuleState) (o : Options) (read : IsReadFrom bytes m) (fine : IsFine m o) (unit : TranslationUnit) (u : IsUnitOf m o unit) (inv : Invocation) (told : IsInvocation inv) (left : IsLeftOfGlobals bytes m o) where
   abbrev found : Key → Option Text
   found = names_found m o unit u inv
 

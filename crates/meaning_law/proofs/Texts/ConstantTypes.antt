@@ -47,7 +47,7 @@ use Rattle.meaning_law.proofs.Outside.Constants.{IsMentioned, it as valued_at, c
 use Rattle.meaning_law.proofs.Outside.Text.{fs as function_items, are_functions, asked as asked_of}
 use Rattle.meaning_law.proofs.Texts.ValueTypes.{IsTextType}
 
-module _ (bytes : List ℕ) (m : ModuleState) (o : Options) (read : IsReadFrom bytes m) (fine : IsFine m o) (unit : TranslationUnit) (u : IsUnitOf m o unit) (inv : Invocation) (told : IsInvocation inv) (left : IsLeftOfGlobals bytes m o u.entry inv) (p : FunctionPlan) (planned : IsIn p u.plans) where
+module _ (bytes : List ℕ) (m : ModuleState) (o : Options) (read : IsReadFrom bytes m) (fine : IsFine m o) (unit : TranslationUnit) (u : IsUnitOf m o unit) (inv : Invocation) (told : IsInvocation inv) (left : IsLeftOfGlobals bytes m o) (p : FunctionPlan) (planned : IsIn p u.plans) where
   abbrev s : Setting
   s = S m o unit u inv
 

@@ -80,7 +80,7 @@ parameter_found f n ty is = by_find (find (λ (q : IdOf × IdOf). q.0.0 == n) f.
     by_find None at e = cc
     by_find (Some q) at e = (q, as_parameter f.params q (found_by (λ (x : IdOf × IdOf). x.0.0 == n) f.params q at).0, same_Some q.1.0 ty e)
 
-module _ (bytes : List ℕ) (m : ModuleState) (o : Options) (read : IsReadFrom bytes m) (fine : IsFine m o) (unit : TranslationUnit) (u : IsUnitOf m o unit) (inv : Invocation) (told : IsInvocation inv) (left : IsLeftOfGlobals bytes m o u.entry inv) (p : FunctionPlan) (planned : IsIn p u.plans) (right : IsConforming m o.entry) (kinds : HaveKinds m.globals) where
+module _ (bytes : List ℕ) (m : ModuleState) (o : Options) (read : IsReadFrom bytes m) (fine : IsFine m o) (unit : TranslationUnit) (u : IsUnitOf m o unit) (inv : Invocation) (told : IsInvocation inv) (left : IsLeftOfGlobals bytes m o) (p : FunctionPlan) (planned : IsIn p u.plans) (right : IsConforming m o.entry) (kinds : HaveKinds m.globals) where
   abbrev s : Setting
   s = S m o unit u inv
 

@@ -54,7 +54,7 @@ use Rattle.meaning_law.proofs.Outside.Asked.{claimed}
 use Rattle.meaning_law.proofs.Outside.Locals.{in_module, held_in, typed_parameter}
 use Rattle.meaning_law.proofs.Outside.Text.{fs as function_items, are_functions, asked as asked_of, P as program_in}
 
-module _ (bytes : List ℕ) (m : ModuleState) (o : Options) (read : IsReadFrom bytes m) (fine : IsFine m o) (unit : TranslationUnit) (u : IsUnitOf m o unit) (inv : Invocation) (told : IsInvocation inv) (left : IsLeftOfGlobals bytes m o u.entry inv) (p : FunctionPlan) (planned : IsIn p u.plans) where
+module _ (bytes : List ℕ) (m : ModuleState) (o : Options) (read : IsReadFrom bytes m) (fine : IsFine m o) (unit : TranslationUnit) (u : IsUnitOf m o unit) (inv : Invocation) (told : IsInvocation inv) (left : IsLeftOfGlobals bytes m o) (p : FunctionPlan) (planned : IsIn p u.plans) where
   abbrev s : Setting
   s = S m o unit u inv
 

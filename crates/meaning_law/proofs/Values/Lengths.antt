@@ -114,7 +114,7 @@ told_of inv zs items = items_invocation items (record { program = first_program 
 abbrev is_block_class : ℕ → Bool
 is_block_class c = (c == class_number storage.Uniform) || (c == class_number storage.PushConstant) || (c == class_number storage.StorageBuffer)
 
-module _ (bytes : List ℕ) (m : ModuleState) (o : Options) (read : IsReadFrom bytes m) (fine : IsFine m o) (unit : TranslationUnit) (u : IsUnitOf m o unit) (inv : Invocation) (told : IsInvocation inv) (left : IsLeftOfGlobals bytes m o u.entry inv)
+module _ (bytes : List ℕ) (m : ModuleState) (o : Options) (read : IsReadFrom bytes m) (fine : IsFine m o) (unit : TranslationUnit) (u : IsUnitOf m o unit) (inv : Invocation) (told : IsInvocation inv) (left : IsLeftOfGlobals bytes m o)
     (right : IsConforming m o.entry) (kinds : HaveKinds m.globals) (p : FunctionPlan) (among : IsIn p u.plans) (lends : LendsWhole (S m o unit u inv)) (b : ℕ) where
   abbrev s : Setting
   s = S m o unit u inv
