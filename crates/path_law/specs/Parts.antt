@@ -46,12 +46,12 @@ abbrev mutual
   fields_in s y id k no_trees = no_fields
   fields_in s y id k (tree t ts) = field (y.member_name id k) (shape_in s y t) (fields_in s y id (k + 1) ts)
 
--- The length that an array has in the text is that of the run, where it has one there; an index into an array that has none leads nowhere, whatever the text makes of its length.
+-- Where an array has a length in the run, it has this one in the text. No index leads into an array that has none, whatever length the text makes of it.
 abbrev pub HasLength : Option ℕ → Option ℕ → Type 0
 HasLength None n = Unit {0}
 HasLength (Some k) n = n ≡ Some k
 
--- the text has the type of the shape as this one
+-- A type of the text stands for the shape: it is that of `shape_in`, but for the lengths of arrays that have none in the run.
 abbrev mutual
   pub IsShape : Setting → StructNames → Tree → Shape → Type 0
   IsShape s y (plain.array t l) q = (e : Shape) × (n : Option ℕ) × (q ≡ array e n) × IsShape s y t e × HasLength (length_in s l) n
@@ -89,7 +89,7 @@ IsInside s (plain.vector e n) i = i < n
 IsInside s (plain.array t l) i = IsBelow (length_in s l) i
 IsInside s _ i = Unit {0}
 
--- The scalars of a part with this shape, which the text has as that one, lie in the text where they lie in the module: also those of an array without a length.
+-- The scalars of a part with this shape lie in the text, by its type there, where they lie in the module: also those of an array without a length.
 abbrev pub HasScalars : Setting → Inst → List ℕ → Tree → Shape → Site → Type 0
 HasScalars s v path t q at = (rest : List ℕ) → is_some (place_shape t rest) ≡ true → location_of (site_along (tree_of q) rest at) ≡ location s v (path ++ rest)
 
