@@ -1,0 +1,2 @@
+pub mod FewMembers
+pub mod Shapes
