@@ -6,7 +6,7 @@ use Rattle.std.proofs.lemmas.Bool.Decides.{nat_tests, eqb_tells}
 use Rattle.std.proofs.lemmas.List.{reverse-append, reverse-reverse, length-reverse, get_or_push, get_or_append_left}
 use mathlib.Core.List.{reverse-cons}
 use Rattle.spv_module.specs.declared.inst.Inst.{Inst}
-use Rattle.access_paths.specs.declared.links.Link.{Link}
+use Rattle.access_paths.specs.declared.link.Link.{Link}
 use Rattle.access_paths.specs.Links.{way_to, way_in, link_steps, steps_to, IsIn, AreBackTo, AreBack}
 
 -- from the last link of these, the one at the end counts as one more
@@ -71,15 +71,15 @@ step_to (l ∷ rev) k d back inside =
           subst P (sym at) whole
     ]
 
-pub step_in : (links : List Link) (k : ℕ) (d : Link) → AreBack links → k < length links → IsStep (way_in links) k (get_or links k d)
+step_in : (links : List Link) (k : ℕ) (d : Link) → AreBack links → k < length links → IsStep (way_in links) k (get_or links k d)
 step_in links k d back inside =
     let P : List Link → Type 0 = λ ls. IsStep (way_in links) k (get_or ls k d) in
     let inside_turned : k < length (reverse links) = omega (arith, length-reverse links) in
     subst P (reverse-reverse links) (step_to (reverse links) k d back inside_turned)
 
--- what stands for a link that there is not
-abbrev pub no_link : Link
-no_link = record { chain = 0; stands = 0; indexes = record { ref_ptr = (0, 0); now = [] }; from = None; before = None }
+-- the same of the link that stands there
+pub at_place : (links : List Link) (k : ℕ) (x : Link) → x ≡ get_or links k x → AreBack links → k < length links → IsStep (way_in links) k x
+at_place links k x here back inside = subst (IsStep (way_in links) k) (sym here) (step_in links k x back inside)
 
 -- a way of no links, and a way of one
 pub no_way : (gs : List Inst) (printed : ℕ) (links : List Link) → steps_to gs printed links None ≡ []

@@ -8,7 +8,7 @@ use Rattle.spv_module.specs.declared.inst.Inst.{Inst}
 use Rattle.spv_module.specs.declared.inst.Block.{Block}
 use Rattle.spv_module.specs.declared.inst.Function.{Function}
 use Rattle.access_paths.specs.declared.forms.Step.{Step}
-use Rattle.access_paths.specs.declared.links.Link.{Link}
+use Rattle.access_paths.specs.declared.link.Link.{Link}
 use Rattle.access_paths.specs.declared.links.Known.{Known}
 use Rattle.access_paths.specs.declared.links.Links.{Links}
 use Rattle.access_paths.specs.Ways.{Way, Spot, steps_from, with_inst, ways_in}

@@ -1,10 +1,11 @@
 // The indexes of a chain, and the steps that they make.
-ghost use Rattle.std.specs.Prelude.{◌≡◌, ◌++◌, IfOk, OnOk, map, option_and_then};
-ghost use Rattle.access_paths.specs.Ways.{is_constant_index as is_constant_index_of, captured_indexes as captured_indexes_of, member as member_of, step as step_of};
+ghost use Rattle.std.specs.Prelude.{◌≡◌, ◌<◌, ◌^◌, ◌++◌, IfOk, OnOk, length, map, option_and_then};
+ghost use Rattle.few_law.specs.Short.{HasFewArgs};
+ghost use Rattle.access_paths.specs.Ways.{is_constant_index as is_constant_index_of, indexes as indexes_of, captured_indexes as captured_indexes_of, member as member_of, step as step_of};
 ghost use Rattle.access_paths.specs.Links.{spot, link_steps};
 
 use crate::Step;
-use crate::links::Link;
+use crate::link::Link;
 use spv_index::{behind_first, constant_word, is_struct, next_type};
 use spv_module::{Id, Inst, Module};
 use spv_words::Memory;
@@ -21,31 +22,32 @@ pub fn is_constant_index(module: &Module, index: Id) -> bool
     }
 }
 
+/// The indexes of a chain, which are few.
+pub(crate) fn few_indexes(chain: &Inst) -> &[u32]
+    requires { HasFewArgs chain.now }
+    ensures indexes { result.now ≡ indexes_of chain.now }
+    ensures few { length result.now < 2 ^ 32 }
+{
+    behind_first(chain)
+}
+
 /// The indexes of a chain that are no constants, each with its number among the indexes, counted
-/// from 0. There is an error only for want of memory, or for more indexes than a `u32` counts.
+/// from 0. There is an error only for want of memory.
 pub fn captured_indexes(
     alloc: Global,
     module: &Module,
     chain: &Inst,
 ) -> Result<Vec<(u32, Id)>, Memory>
+    requires { HasFewArgs chain.now }
     ensures { IfOk result (λ list. map (λ n. (n.0, n.1.0)) list.items ≡ captured_indexes_of «module».now.globals chain.now) }
 {
     let mut list = Vec::new(alloc);
-    for (number, index) in behind_first(chain).iter().enumerate() {
+    for (number, index) in few_indexes(chain).iter().enumerate() {
         if !is_constant_index(module, Id(*index)) {
-            list.push((counted(number)?, Id(*index)))?;
+            list.push((number as u32, Id(*index)))?;
         }
     }
     Ok(list)
-}
-
-fn counted(number: usize) -> Result<u32, Memory>
-    ensures { IfOk result (λ n. n ≡ number) }
-{
-    match u32::try_from(number) {
-        Ok(number) => Ok(number),
-        Err(_) => Err(Memory),
-    }
 }
 
 /// The member of a struct type that an index names by an OpConstant.
@@ -103,7 +105,7 @@ pub fn add_steps(
 {
     let mut ty = link.from;
     for (number, index) in link.indexes.iter().enumerate() {
-        steps.push(step(module, link, printed, counted(number)?, *index, ty))?;
+        steps.push(step(module, link, printed, number as u32, *index, ty))?;
         ty = next_type(module, *index, ty);
     }
     Ok(())

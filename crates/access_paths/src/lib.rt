@@ -3,6 +3,7 @@
 
 mod forms;
 mod indexes;
+mod link;
 mod links;
 mod walk;
 

@@ -1,27 +1,17 @@
 // The chains of a function that have indexes, each with the one before it on its way.
-ghost use Rattle.std.specs.Prelude.{◌≡◌, ◌<◌, ◌∷◌, [], true, IfOk, OnOk, length};
+ghost use Rattle.std.specs.Prelude.{◌≡◌, ◌∷◌, [], true, IfOk, OnOk, length};
+ghost use Rattle.std.specs.List.{All};
 ghost use Rattle.spv_ops.specs.Groups.{is_chain as is_chain_op};
+ghost use Rattle.few_law.specs.Short.{HasFewArgs, IsShort};
 ghost use Rattle.access_paths.specs.Links.{AreBack, AreLinked, AreWays, HaveMore, IsExtended, IsIn, known_in};
 
-use spv_index::{Locals, behind_first, pointee_of};
+use crate::indexes::few_indexes;
+use crate::link::Link;
+use spv_index::{Locals, pointee_of};
 use spv_module::{Inst, Module};
 use spv_words::Memory;
 use std::alloc::{AllocError, Global};
 use std::collections::BTreeMap;
-
-/// A chain with indexes.
-#[derive(Clone, Copy)]
-pub struct Link<'a> {
-    /// Its result.
-    pub chain: u32,
-    /// The place of its block.
-    pub stands: usize,
-    pub indexes: &'a [u32],
-    /// The type to which the first index applies.
-    pub from: Option<u32>,
-    /// The place, among the links, of the one before it on its way.
-    pub before: Option<usize>,
-}
 
 /// A pointer: from what it leads, and the last link on its way.
 #[derive(Clone, Copy)]
@@ -79,6 +69,7 @@ impl<'a> Links<'a> {
     ) -> Result<(), AllocError>
         requires linked { AreLinked self.old }
         requires chain { is_chain_op inst.now.op ≡ true }
+        requires few { HasFewArgs inst.now }
         ensures { OnOk result (HaveMore «module».now.globals locals.now stands (inst.now ∷ []) self.old self.new) }
     {
         let base = inst.operand(0);
@@ -86,7 +77,7 @@ impl<'a> Links<'a> {
         let link = Link {
             chain: inst.result,
             stands,
-            indexes: behind_first(inst),
+            indexes: few_indexes(inst),
             from: pointee_of(module, locals, base),
             before: known.last,
         };
@@ -103,7 +94,8 @@ impl<'a> Links<'a> {
         stands: usize,
         insts: &'a [Inst],
     ) -> Result<(), AllocError>
-        requires { AreLinked self.old }
+        requires linked { AreLinked self.old }
+        requires few { All HasFewArgs insts.now }
         ensures { OnOk result (HaveMore «module».now.globals locals.now stands insts.now self.old self.new) }
     {
         for inst in insts {
@@ -116,6 +108,7 @@ impl<'a> Links<'a> {
 
     /// The links of a function.
     pub fn of(alloc: Global, module: &Module, locals: &Locals<'a>) -> Result<Links<'a>, Memory>
+        requires { IsShort locals.now }
         ensures { IfOk result (AreWays «module».now.globals locals.now) }
     {
         let mut links = Links {

@@ -1,11 +1,13 @@
 // The paths of a function's pointers.
 ghost use Rattle.std.specs.Prelude.{◌≡◌, ◌<◌, IfOk, Some, flat_map, length};
+ghost use Rattle.few_law.specs.Short.{IsShort};
 ghost use Rattle.access_paths.specs.Ways.{path as path_of};
 ghost use Rattle.access_paths.specs.Links.{AreBack, IsIn, link_steps, steps_to as steps_to_link, way_in};
 ghost use Rattle.access_paths.specs.State.{plain, paths_of};
 
 use crate::indexes::add_steps;
-use crate::links::{Link, Links};
+use crate::link::Link;
+use crate::links::Links;
 use crate::{Step, forms};
 use spv_index::Locals;
 use spv_module::{Function, Id, Module};
@@ -47,8 +49,9 @@ fn links_to<'a>(
     let mut way = Vec::new(alloc);
     let mut next = last;
     while let Some(place) = next {
-        way.push(links[place])?;
-        next = links[place].before;
+        let link = links[place];
+        way.push(link)?;
+        next = link.before;
     }
     way.reverse();
     Ok(way)
@@ -82,8 +85,9 @@ fn steps_to(
     requires within { place < length links.now }
     ensures { IfOk result (λ steps. steps.items ≡ steps_to_link «module».now.globals printed links.now (Some place)) }
 {
-    match links[place].before {
-        None => steps_of(alloc, module, from_ref(&links[place]), printed),
+    let link = links[place];
+    match link.before {
+        None => steps_of(alloc, module, from_ref(&link), printed),
         Some(_) => {
             let way = links_to(alloc, links, Some(place))?;
             steps_of(alloc, module, &way, printed)
@@ -114,6 +118,7 @@ impl<'a> Paths<'a> {
     /// The paths of the pointers of the function that these are the locals of. There is an error only
     /// for want of memory.
     pub fn of(alloc: Global, module: &'a Module, locals: &Locals<'a>) -> Result<Paths<'a>, Memory>
+        requires { IsShort locals.now }
         ensures { IfOk result (λ paths. paths ≡ paths_of «module».now.globals locals.now) }
     {
         Ok(Paths {
@@ -124,7 +129,7 @@ impl<'a> Paths<'a> {
     }
 
     /// The path of a pointer, printed in the block at a place. There is an error only for want of
-    /// memory, or for a chain with more indexes than a `u32` counts.
+    /// memory.
     pub fn path(&self, alloc: Global, block: usize, pointer: Id) -> Result<forms::Path, Memory>
         ensures { IfOk result (λ p. plain p ≡ path_of self.now.globals self.now.function block pointer.0) }
     {
@@ -141,7 +146,7 @@ impl<'a> Paths<'a> {
 /// (SPIR-V 1.6, "Memory Instructions"). The types through which it goes are those that the base of
 /// each chain points to. An index that is no constant, of a chain in another block, is captured:
 /// its id may have another value where the path is printed. There is an error only for want of
-/// memory, or for a chain with more indexes than a `u32` counts.
+/// memory.
 ///
 /// Each call goes over the whole function; for many pointers there is `Paths`.
 pub fn path<'a>(
@@ -151,6 +156,7 @@ pub fn path<'a>(
     block: usize,
     pointer: Id,
 ) -> Result<forms::Path, Memory>
+    requires { IsShort f.now }
     ensures { IfOk result (λ p. plain p ≡ path_of «module».now.globals f.now block pointer.0) }
 {
     let locals = Locals::of(alloc, f)?;

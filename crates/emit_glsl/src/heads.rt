@@ -2,7 +2,7 @@
 ghost use Rattle.std.specs.Prelude.{◌≡◌, [], true, flat_map, IfOk, map};
 ghost use Rattle.std.specs.List.{All, list_any};
 ghost use Rattle.text_items.specs.Asked.{is_asked};
-ghost use Rattle.text_items.specs.Few.{HasFewArgs};
+ghost use Rattle.few_law.specs.Short.{HasFewArgs};
 ghost use Rattle.text_items.specs.State.{functions_at};
 ghost use Rattle.function_plan.specs.Claimed.{claimed_by};
 ghost use Rattle.emit_glsl.specs.Reached.{reached_in, IsHead};

@@ -3,7 +3,7 @@ ghost use Rattle.std.specs.Prelude.{◌≡◌, ◌++◌, flat_map, IfOk, OnOk, m
 ghost use Rattle.std.specs.List.{All};
 ghost use Rattle.structure_rules.specs.Graph.{graph};
 ghost use Rattle.use_chains.specs.Small.{IsSmall};
-ghost use Rattle.text_items.specs.Few.{HasFewArgs};
+ghost use Rattle.few_law.specs.Short.{HasFewArgs};
 ghost use Rattle.glsl_ast.specs.View.{decl_of, unit_of as tree_of_unit};
 ghost use Rattle.emit_glsl.specs.Reached.{ArePlaces, decls_at, IsWritten, IsMade};
 ghost use Rattle.function_text.specs.State.{decl_with};

@@ -1,6 +1,8 @@
 // The statements of a block, an instruction after the other.
 ghost use Rattle.std.specs.Prelude.{◌≡◌, ◌++◌, ◌∷◌, [], IfOk, OnOk, flat_map, map};
+ghost use Rattle.std.specs.List.{All};
 ghost use Rattle.glsl_ast.specs.View.{stmt_of};
+ghost use Rattle.few_law.specs.Short.{HasFewArgs};
 ghost use Rattle.expr_forward.specs.Context.{scope_of};
 ghost use Rattle.expr_forward.specs.Statements.{block_text as block_text_of, capture, captured_of, chain_text, insts_at as insts_at_of, inst_text, kind_of, set_value};
 ghost use Rattle.expr_forward.specs.declared.kinds.InstKind.TheVariants as kind;
@@ -63,8 +65,9 @@ impl Context<'_, '_> {
     }
 
     /// The indexes of a chain that other blocks read from variables, each with its number among the indexes. There is an error
-    /// only for want of memory, or for more indexes than a `u32` counts.
+    /// only for want of memory.
     pub fn captured(&self, alloc: Global, inst: &Inst) -> Result<Vec<(u32, Id)>, Memory>
+        requires { HasFewArgs inst.now }
         ensures { IfOk result (λ list. map (λ n. (n.0, n.1.0)) list.items ≡ captured_of (scope_of self.now) inst.now) }
     {
         if inst.op.is_chain() && self.plan.carried(Id(inst.result)) {
@@ -76,7 +79,8 @@ impl Context<'_, '_> {
 
     /// The instructions of the block at a place, and none where there is no block.
     fn insts_at(&self, block: usize) -> &[Inst]
-        ensures { result.now ≡ insts_at_of (scope_of self.now) block }
+        ensures insts { result.now ≡ insts_at_of (scope_of self.now) block }
+        ensures few { All HasFewArgs result.now }
     {
         match self.locals.function().blocks.as_slice().get(block) {
             None => &[],
@@ -159,6 +163,7 @@ impl BlockContext<'_, '_, '_> {
 
     #[inline(never)]
     fn add_captures(&self, into: &mut Vec<Stmt>, inst: &Inst) -> Result<(), Memory>
+        requires { HasFewArgs inst.now }
         ensures { OnOk result (map stmt_of into.new.items ≡ map stmt_of into.old.items ++ chain_text (scope_of self.now.context.now) inst.now) }
     {
         for (number, index) in self.context.captured(self.alloc, inst)? {
@@ -170,6 +175,7 @@ impl BlockContext<'_, '_, '_> {
     /// Adds the statements of an instruction. A value without a variable has none.
     #[inline(always)]
     fn add_inst(&self, into: &mut Vec<Stmt>, inst: &Inst) -> Result<(), Memory>
+        requires { HasFewArgs inst.now }
         ensures { OnOk result (map stmt_of into.new.items ≡ map stmt_of into.old.items ++ inst_text (scope_of self.now.context.now) self.now.block inst.now (kind_of inst.now.op)) }
     {
         match InstKind::of(inst.op) {
@@ -188,6 +194,7 @@ impl BlockContext<'_, '_, '_> {
     }
 
     fn add_insts(&self, into: &mut Vec<Stmt>, insts: &[Inst]) -> Result<(), Memory>
+        requires { All HasFewArgs insts.now }
         ensures { OnOk result (map stmt_of into.new.items ≡ map stmt_of into.old.items ++ flat_map (λ i. inst_text (scope_of self.now.context.now) self.now.block i (kind_of i.op)) insts.now) }
     {
         for inst in insts {

@@ -1,3 +1,4 @@
+pub mod Small
 pub mod Numbered
 mod Spared
 pub mod Singled

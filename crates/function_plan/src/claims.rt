@@ -1,6 +1,7 @@
 // The names that a function claims.
 ghost use Rattle.std.specs.Prelude.{◌≡◌, [], IfOk, false, flat_map, map, min};
 ghost use Rattle.std.specs.List.{list_any};
+ghost use Rattle.few_law.specs.Short.{HasFewArgs};
 ghost use Rattle.hoist_plan.specs.Kept.{is_carried_in};
 ghost use Rattle.phi_copies.specs.Sequence.{is_save as is_save_move};
 ghost use Rattle.function_plan.specs.Planned.{spares_in, captured_numbers, number_in};
@@ -64,6 +65,7 @@ fn captured(
     naming: &Naming,
     inst: &Inst,
 ) -> Result<Vec<u32>, Memory>
+    requires { HasFewArgs inst.now }
     ensures { IfOk result (λ numbers. numbers.items ≡ captured_numbers «module».now.globals (is_carried_in naming.now) inst.now) }
 {
     if !is_captured(naming, inst) {

@@ -11,6 +11,7 @@ mod nodes;
 mod once;
 mod orders;
 mod plan;
+mod planning;
 mod single;
 
 pub use edge_moves::Moves;

@@ -1,6 +1,7 @@
 // Functions (GLSL 4.60, section 6.1).
 ghost use Rattle.std.specs.Prelude.{◌≡◌, ◌++◌, IfOk, OnOk, map, option_map};
 ghost use Rattle.glsl_ast.specs.View.{decl_of, param_of, stmt_of, type_of as type_name_of};
+ghost use Rattle.few_law.specs.Short.{IsShort};
 ghost use Rattle.structure_recover.specs.View.{region_of};
 ghost use Rattle.control_text.specs.Statements.{function_text as text_of_function};
 ghost use Rattle.expr_forward.specs.Context.{key_text, scope_of};
@@ -70,7 +71,8 @@ impl PlannedFunction<'_, '_> {
 
     /// The statements of a function: what stands at its top, and its control flow.
     fn body_text(&self, alloc: Global, function: &Function) -> Result<Vec<Stmt>, Memory>
-        requires { function.now ≡ self.now.context.function }
+        requires function { function.now ≡ self.now.context.function }
+        requires short { IsShort function.now }
         ensures { IfOk result (λ body. map stmt_of body.items ≡ text_of_body (plan_in self.now.context self.now.plan.now)) }
     {
         let mut body = Vec::new(alloc);

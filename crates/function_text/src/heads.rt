@@ -1,5 +1,7 @@
 // What stands at the top of a function: its variables, the values that are declared there, and captured indexes.
 ghost use Rattle.std.specs.Prelude.{◌≡◌, ◌++◌, IfOk, OnOk, map};
+ghost use Rattle.std.specs.List.{All};
+ghost use Rattle.few_law.specs.Short.{HasFewArgs, IsShortBlock};
 ghost use Rattle.glsl_ast.specs.View.{stmt_of};
 ghost use Rattle.expr_forward.specs.Context.{scope_of};
 ghost use Rattle.function_plan.specs.Planned.{is_captured as is_captured_inst};
@@ -115,6 +117,7 @@ impl PlannedFunction<'_, '_> {
 
     /// Appends the declarations of the captured indexes of a chain.
     fn add_captured_of(&self, chain: &Inst, out: &mut Vec<Stmt>) -> Result<(), Memory>
+        requires { HasFewArgs chain.now }
         ensures { OnOk result (map stmt_of out.new.items ≡ map stmt_of out.old.items ++ captured_texts_of (scope_of self.now.context) chain.now) }
     {
         if !self.is_captured(chain) {
@@ -127,6 +130,7 @@ impl PlannedFunction<'_, '_> {
 
     /// Appends the declarations of the captured indexes of the chains among instructions.
     fn add_captured(&self, insts: &[Inst], out: &mut Vec<Stmt>) -> Result<(), Memory>
+        requires { All HasFewArgs insts.now }
         ensures { OnOk result (map stmt_of out.new.items ≡ map stmt_of out.old.items ++ captured_texts (scope_of self.now.context) insts.now) }
     {
         for inst in insts {
@@ -137,6 +141,7 @@ impl PlannedFunction<'_, '_> {
 
     /// Appends the declarations of one kind among instructions.
     fn add_kind(&self, kind: TopKind, insts: &[Inst], out: &mut Vec<Stmt>) -> Result<(), Memory>
+        requires { All HasFewArgs insts.now }
         ensures { OnOk result (map stmt_of out.new.items ≡ map stmt_of out.old.items ++ kind_texts (scope_of self.now.context) kind insts.now) }
     {
         match kind {
@@ -153,6 +158,7 @@ impl PlannedFunction<'_, '_> {
         blocks: &[Block],
         out: &mut Vec<Stmt>,
     ) -> Result<(), Memory>
+        requires { All IsShortBlock blocks.now }
         ensures { OnOk result (map stmt_of out.new.items ≡ map stmt_of out.old.items ++ in_blocks (kind_texts (scope_of self.now.context) kind) blocks.now) }
     {
         for block in blocks {
@@ -165,6 +171,7 @@ impl PlannedFunction<'_, '_> {
     /// values that other blocks need, without a value; and the captured indexes of its chains. Each comes in the order of the
     /// function.
     pub fn add_top(&self, blocks: &[Block], out: &mut Vec<Stmt>) -> Result<(), Memory>
+        requires { All IsShortBlock blocks.now }
         ensures { OnOk result (map stmt_of out.new.items ≡ map stmt_of out.old.items ++ top_text (scope_of self.now.context) blocks.now) }
     {
         self.add_in_blocks(TopKind::Variable, blocks, out)?;

@@ -1,6 +1,7 @@
 // Where a function is written.
 ghost use Rattle.std.specs.Prelude.{◌≡◌, IfOk, is_some, map, option_map};
 ghost use Rattle.spv_index.specs.Pointers.{pointee as pointee_of};
+ghost use Rattle.few_law.specs.Short.{HasFewArgs};
 ghost use Rattle.name_alloc.specs.Lookup.{name_in};
 ghost use Rattle.glsl_ast.specs.Tree.{declare};
 ghost use Rattle.glsl_ast.specs.View.{name_text, expr_of, stmt_of, type_of as type_name_of_code};
@@ -151,6 +152,7 @@ impl<'a, 'b> PlannedFunction<'a, 'b> {
 
     /// The indexes of a chain that other blocks read from variables, each with its number among the indexes.
     pub fn captured(&self, alloc: Global, chain: &Inst) -> Result<Vec<(u32, Id)>, Memory>
+        requires { HasFewArgs chain.now }
         ensures { IfOk result (λ list. map index_of list.items ≡ captured_of (scope_of self.now.context) chain.now) }
     {
         self.context.captured(alloc, chain)

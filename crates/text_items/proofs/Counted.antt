@@ -9,7 +9,7 @@ use Rattle.spv_module.specs.declared.inst.Inst.{Inst}
 use Rattle.spv_index.specs.Pointers.{pointee}
 use Rattle.profile_rules.proofs.Globals.{found_global}
 use Rattle.layout_rules.specs.Blocks.{as_struct, block_of, is_block_class}
-use Rattle.text_items.specs.Few.{HasFewArgs}
+use Rattle.few_law.specs.Short.{HasFewArgs}
 
 contained : (gs : List Inst) (g : Inst) → All HasFewArgs gs → Contains gs g → HasFewArgs g
 contained gs g few there = subst HasFewArgs there.2 (few there.0 g there.1)

@@ -6,4 +6,3 @@ pub mod Plain
 pub mod Claimed
 pub mod View
 pub mod Asked
-pub mod Few

@@ -4,7 +4,7 @@ ghost use Rattle.std.specs.List.{enumerate_from};
 ghost use Rattle.layout_rules.specs.Blocks.{kind_at};
 ghost use Rattle.glsl_ast.specs.View.{decl_of, member_of, type_of};
 ghost use Rattle.text_rules.specs.Declarations.{type_at as type_at_of, is_buffer as is_buffer_variable, place_of as place_of_variable, rules_by as rules_by_kind, member_decl, block_decl};
-ghost use Rattle.text_items.specs.Few.{HasFewArgs};
+ghost use Rattle.few_law.specs.Short.{HasFewArgs};
 ghost use Rattle.text_items.specs.Names.{item_names};
 
 use crate::Written;

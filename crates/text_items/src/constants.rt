@@ -7,7 +7,7 @@ ghost use Rattle.profile_rules.specs.Constants.{constant_kind};
 ghost use Rattle.profile_rules.specs.declared.constant.ConstantKind.TheVariants.{Composite};
 ghost use Rattle.text_rules.specs.Declarations.{type_at as type_at_of, zero_at as zero_at_of, expr_at as expr_at_of, value_by, constant_decl, struct_decl};
 ghost use Rattle.constant_text.specs.Named.{id_names};
-ghost use Rattle.text_items.specs.Few.{HasFewArgs};
+ghost use Rattle.few_law.specs.Short.{HasFewArgs};
 ghost use Rattle.text_items.specs.Names.{field_at, expr_if_any};
 ghost use Rattle.text_items.specs.Wording.{source_of, names_of};
 

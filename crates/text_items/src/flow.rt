@@ -3,7 +3,7 @@ ghost use Rattle.std.specs.Prelude.{◌≡◌, ◌++◌, IfOk, OnOk, flat_map, m
 ghost use Rattle.std.specs.List.{All, enumerate_from};
 ghost use Rattle.text_rules.specs.Claims.{label as label_of, claim_captured as claims_of_captured, claim_spares as claims_of_spares, claim_flow as claims_of_flow, claim_function as claims_of_function, claims as all_claims};
 ghost use Rattle.text_items.specs.Claimed.{claim_flows as claims_of_flows};
-ghost use Rattle.text_items.specs.Few.{HasFewArgs};
+ghost use Rattle.few_law.specs.Short.{HasFewArgs, IsShortBlock, IsShort};
 ghost use Rattle.text_items.specs.View.{claims_of};
 
 use crate::Written;
@@ -26,6 +26,7 @@ fn label(function: &Function, block: usize) -> Id
 
 impl ClaimList {
     fn claim_captured<P: FunctionClaims>(&mut self, plan: &P, inst: &Inst) -> Result<(), Memory>
+        requires { HasFewArgs inst.now }
         ensures { OnOk result (self.new ≡ self.old ++ claims_of_captured (P.plan plan.now) inst.now) }
     {
         if !plan.has_captured(inst) {
@@ -39,6 +40,7 @@ impl ClaimList {
     }
 
     fn claim_indexes<P: FunctionClaims>(&mut self, plan: &P, insts: &[Inst]) -> Result<(), Memory>
+        requires { All HasFewArgs insts.now }
         ensures { OnOk result (self.new ≡ self.old ++ flat_map (claims_of_captured (P.plan plan.now)) insts.now) }
     {
         for inst in insts {
@@ -96,6 +98,7 @@ impl ClaimList {
         index: usize,
         block: &Block,
     ) -> Result<(), Memory>
+        requires { IsShortBlock block.now }
         ensures { OnOk result (self.new ≡ self.old ++ claims_of_flow (P.plan plan.now) (index, block.now)) }
     {
         self.add_flag(plan.again(index), Key::Again(block.label))?;
@@ -107,6 +110,7 @@ impl ClaimList {
     }
 
     fn claim_flows<P: FunctionClaims>(&mut self, plan: &P, blocks: &[Block]) -> Result<(), Memory>
+        requires { All IsShortBlock blocks.now }
         ensures { OnOk result (self.new ≡ self.old ++ flat_map (claims_of_flow (P.plan plan.now)) (enumerate_from 0 blocks.now)) }
     {
         for (index, block) in blocks.iter().enumerate() {
@@ -120,7 +124,8 @@ impl ClaimList {
         plan: &P,
         function: &Function,
     ) -> Result<(), Memory>
-        requires { function.now ≡ (P.plan plan.now).function }
+        requires function { function.now ≡ (P.plan plan.now).function }
+        requires short { IsShort function.now }
         ensures { OnOk result (self.new ≡ self.old ++ claims_of_flows (P.plan plan.now)) }
     {
         self.claim_flows(plan, function.blocks.as_slice())?;

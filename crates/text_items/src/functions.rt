@@ -1,5 +1,6 @@
 // The claims of the names of functions, their parameters and their variables.
 ghost use Rattle.std.specs.Prelude.{◌≡◌, ◌++◌, [], IfOk, OnOk, false, flat_map};
+ghost use Rattle.few_law.specs.Short.{HasFewArgs, IsShort};
 ghost use Rattle.text_rules.specs.Claims.{Plan, claim_spares, claim_function as claims_of_function};
 ghost use Rattle.text_items.specs.Claimed.{claim_own as claim_of_own, claim_param, claim_result, claim_all};
 
@@ -17,7 +18,8 @@ pub trait FunctionClaims {
 
     /// The function.
     fn function(&self) -> &Function
-        ensures { result.now ≡ (plan self.now).function };
+        ensures function { result.now ≡ (plan self.now).function }
+        ensures short { IsShort result.now };
 
     /// Whether the result with an id has a variable.
     fn is_named(&self, id: u32) -> bool
@@ -41,6 +43,7 @@ pub trait FunctionClaims {
 
     /// The numbers of the indexes of a chain that other blocks need.
     fn captured(&self, alloc: Global, inst: &Inst) -> Result<Vec<u32>, Memory>
+        requires { HasFewArgs inst.now }
         ensures { IfOk result (λ numbers. numbers.items ≡ (plan self.now).captured inst.now) };
 
     /// The blocks to which one leads, each once, in the order of its terminator.

@@ -3,7 +3,7 @@ ghost use Rattle.std.specs.Prelude.{◌≡◌, ◌++◌, ◌∷◌, [], IfOk, On
 ghost use Rattle.std.specs.List.{All};
 ghost use Rattle.glsl_ast.specs.View.{decl_of};
 ghost use Rattle.text_rules.specs.Declarations.{constant_decl, declaration, declarations as declarations_of};
-ghost use Rattle.text_items.specs.Few.{HasFewArgs};
+ghost use Rattle.few_law.specs.Short.{HasFewArgs};
 ghost use Rattle.text_items.specs.Names.{item_names};
 ghost use Rattle.text_items.specs.Wording.{source_of, names_of};
 

@@ -6,7 +6,7 @@ ghost use Rattle.std.specs.Ordering.{nat_cmp};
 ghost use Rattle.text_rules.specs.Printed.{is_written_variable};
 ghost use Rattle.text_rules.specs.Claims.{claim_id as claim_of_id, has_block, is_written_block, claim_members as claims_of_members, claim_variable as claims_of_variable, claim_global as claims_of_global};
 ghost use Rattle.text_items.specs.Claimed.{claim_member as claim_of_member};
-ghost use Rattle.text_items.specs.Few.{HasFewArgs};
+ghost use Rattle.few_law.specs.Short.{HasFewArgs};
 
 use crate::Written;
 use crate::list::ClaimList;

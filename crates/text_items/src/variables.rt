@@ -4,7 +4,7 @@ ghost use Rattle.std.specs.List.{All};
 ghost use Rattle.glsl_ast.specs.View.{decl_of, expr_of, type_of};
 ghost use Rattle.layout_rules.specs.Blocks.{block_of as block_of_variable};
 ghost use Rattle.text_rules.specs.Declarations.{type_at as type_at_of, zero_at as zero_at_of, pointee_at as pointee_at_of, initial as initial_of, variable_decl};
-ghost use Rattle.text_items.specs.Few.{HasFewArgs};
+ghost use Rattle.few_law.specs.Short.{HasFewArgs};
 ghost use Rattle.text_items.specs.Names.{item_names};
 ghost use Rattle.text_items.specs.Wording.{source_of, names_of};
 ghost use Rattle.text_items.specs.Plain.{shared_decl, private_decl, plain_decl};

@@ -1,8 +1,14 @@
 // The paths of a small module's pointers.
-use access_paths::{Paths, Step, captured_indexes, is_constant_index, path};
+ghost use Rattle.std.specs.Prelude.{◌≡◌, true};
+ghost use Rattle.std.specs.List.{All};
+ghost use Rattle.few_law.specs.Short.{HasFewArgs, IsShortBlock, IsShort};
+
+use access_paths::{Path, Paths, Step, captured_indexes, is_constant_index, path};
 use sample_modules::module_of;
 use spv_index::Locals;
-use spv_module::{Id, Module};
+use spv_module::{Block, Function, Id, Inst, Module};
+use spv_words::Memory;
+use std::alloc::Global;
 use std::test::Fail;
 
 // %5 a StorageBuffer variable of %9, a struct of the runtime array %4 of %3, a struct of two uint %8;
@@ -25,6 +31,85 @@ static MODULE: [u32; 196] = [
     0x50041, 0x17, 0x24, 0x20, 0x1E, 0x100FD, 0x10038,
 ];
 
+fn has_few_args(inst: &Inst) -> bool
+    ensures { result ≡ true → HasFewArgs inst.now }
+{
+    inst.args.len() <= u32::MAX as usize
+}
+
+fn have_few_args(insts: &[Inst]) -> bool
+    ensures { result ≡ true → All HasFewArgs insts.now }
+{
+    for inst in insts {
+        if !has_few_args(inst) {
+            return false;
+        }
+    }
+    true
+}
+
+fn is_short_block(block: &Block) -> bool
+    ensures { result ≡ true → IsShortBlock block.now }
+{
+    have_few_args(block.insts.as_slice())
+}
+
+fn are_short(blocks: &[Block]) -> bool
+    ensures { result ≡ true → All IsShortBlock blocks.now }
+{
+    for block in blocks {
+        if !is_short_block(block) {
+            return false;
+        }
+    }
+    true
+}
+
+/// Whether each instruction of a function has as few operands as the calls below ask.
+fn is_short(f: &Function) -> bool
+    ensures { result ≡ true → IsShort f.now }
+{
+    are_short(f.blocks.as_slice())
+}
+
+fn path_in<'a>(
+    alloc: Global,
+    module: &'a Module,
+    f: &'a Function,
+    block: usize,
+    pointer: Id,
+) -> Result<Option<Path>, Memory> {
+    if is_short(f) {
+        Ok(Some(path(alloc, module, f, block, pointer)?))
+    } else {
+        Ok(None)
+    }
+}
+
+fn paths_in<'a>(
+    alloc: Global,
+    module: &'a Module,
+    locals: &Locals<'a>,
+) -> Result<Option<Paths<'a>>, Memory> {
+    if is_short(locals.function()) {
+        Ok(Some(Paths::of(alloc, module, locals)?))
+    } else {
+        Ok(None)
+    }
+}
+
+fn captured_in(
+    alloc: Global,
+    module: &Module,
+    chain: &Inst,
+) -> Result<Option<Vec<(u32, Id)>>, Memory> {
+    if has_few_args(chain) {
+        Ok(Some(captured_indexes(alloc, module, chain)?))
+    } else {
+        Ok(None)
+    }
+}
+
 #[test]
 fn paths_of_pointers(rt: HostRuntime) -> Result<(), Fail> {
     let module = module_of(rt.alloc(), &[&MODULE])?;
@@ -39,7 +124,7 @@ fn paths_of_pointers(rt: HostRuntime) -> Result<(), Fail> {
     ];
     for (function, block, pointer, base, steps) in cases {
         let f = module.functions().get(function).ok_or("no function")?;
-        let found = path(rt.alloc(), &module, f, block, Id(pointer))?;
+        let found = path_in(rt.alloc(), &module, f, block, Id(pointer))?.ok_or("no path")?;
         assert_eq!(rt; found.base, Id(base));
         assert_eq!(rt; found.steps.as_slice(), steps);
     }
@@ -58,11 +143,11 @@ fn captured_of_chains(rt: HostRuntime) -> Result<(), Fail> {
     );
     let f = module.functions().get(0).ok_or("no function")?;
     let locals = Locals::of(rt.alloc(), f)?;
-    let paths = Paths::of(rt.alloc(), &module, &locals)?;
+    let paths = paths_in(rt.alloc(), &module, &locals)?.ok_or("no paths")?;
     assert_eq!(rt; paths.path(rt.alloc(), 1, Id(53))?.base, Id(5));
     let block = f.blocks.as_slice().get(1).ok_or("no block")?;
     let chain = block.insts.as_slice().get(1).ok_or("no chain")?;
-    let captured = captured_indexes(rt.alloc(), &module, chain)?;
+    let captured = captured_in(rt.alloc(), &module, chain)?.ok_or("no indexes")?;
     assert_eq!(rt; captured.as_slice(), [(1, Id(76))].as_slice());
     Ok(())
 }

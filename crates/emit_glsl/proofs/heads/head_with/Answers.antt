@@ -2,7 +2,7 @@ use Rattle.std.proofs.Common.{◌∙◌, List, ap, map, subst, sym}
 use Rattle.std.specs.List.{All, flat_map}
 use Rattle.name_alloc.specs.declared.claims.Claim.{Claim}
 use Rattle.name_alloc.specs.Naming.{name_of}
-use Rattle.text_items.specs.Few.{HasFewArgs}
+use Rattle.few_law.specs.Short.{HasFewArgs}
 use Rattle.text_items.specs.State.{WrittenState, functions_at}
 use Rattle.function_plan.specs.Claimed.{claimed_by}
 use Rattle.function_text.specs.Live.{types_in, mentions_in}

@@ -4,7 +4,7 @@ use Rattle.std.specs.List.{All}
 use Rattle.profile_rules.specs.declared.given.Given.{Given}
 use Rattle.glsl_ast.specs.View.{unit_of}
 use Rattle.text_rules.specs.Constants.{Source}
-use Rattle.text_items.specs.Few.{HasFewArgs}
+use Rattle.few_law.specs.Short.{HasFewArgs}
 use Rattle.emit_glsl.specs.Reached.{IsMade}
 use Rattle.emit_glsl.proofs.unit.text_of.Goals as goal
 

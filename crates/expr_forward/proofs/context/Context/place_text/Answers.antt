@@ -13,7 +13,7 @@ pub returns : goal.returns
 returns c =
     let w = setting_of c.args.self.now in
     let p = c.in_ok-path.path in
-    let of_function = subst (λ (q : PathsState). plain p ≡ path q.globals q.function c.args.block c.args.pointer.0) c.self.invariant c.in_ok-path.ensures in
+    let of_function = subst (λ (q : PathsState). plain p ≡ path q.globals q.function c.args.block c.args.pointer.0) c.self.invariant.0 c.in_ok-path.ensures in
     let path_is = subst (λ (s : ContextState). plain p ≡ path s.source.of.globals s.function c.args.block c.args.pointer.0) c.self.view_is of_function in
     let steps_are : map step_of c.in_ok-steps_from.field-0.items ≡ steps_text w (unwrap_or (pointee_of (globals_in w) w.function p.base.0) 0) p.steps.items =
     c.in_ok-steps_from.ensures ∙ ap (λ l. steps_text w (unwrap_or (pointee_of (globals_in w) w.function p.base.0) 0) l) c.deref.ensures.value in

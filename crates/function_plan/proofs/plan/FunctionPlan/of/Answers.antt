@@ -9,7 +9,11 @@ use Rattle.switch_ladder.specs.Flags.{blocks_that, needs_again, needs_leave, nee
 use Rattle.function_plan.specs.Orders.{is_among, order_by}
 use Rattle.function_plan.specs.Phis.{phi_blocks}
 use Rattle.function_plan.specs.Planned.{is_named_in, is_reached_node}
+use Rattle.function_plan.proofs.Small.{small_short}
 use Rattle.function_plan.proofs.plan.FunctionPlan.of.Goals as goal
+
+pub invariant_of-result : goal.invariant_of-result
+invariant_of-result g c = record { short = small_short c.args.locals c.requires.small }
 
 pub returns : goal.returns
 returns g c =

@@ -9,7 +9,7 @@ use Rattle.function_text.proofs.blocks.PlannedFunctionBlockText.case.Goals as go
 
 pub returns : goal.returns
 returns c =
-    let written : c.function.result.now ≡ c.args.self.now.context.function = c.function.ensures ∙ (ap (λ (p : FunctionPlan). p.locals) c.plan.ensures ∙ sym c.args.self.now.function_is) in
+    let written : c.function.result.now ≡ c.args.self.now.context.function = c.function.ensures.function ∙ (ap (λ (p : FunctionPlan). p.locals) c.plan.ensures ∙ sym c.args.self.now.function_is) in
     let id : c.first_operand-id.result ≡ first_operand c.args.self.now.context.function c.args.header = c.first_operand-id.ensures ∙ ap (λ (f : Function). first_operand f c.args.header) written in
     c.case_literal.ensures
     ∙ ap (λ (e : Option Elem). case_by e c.args.word) (c.elem.ensures ∙ ap (λ (n : ℕ). elem_at (scope_of c.args.self.now.context) (type_of (scope_of c.args.self.now.context) n)) id)

@@ -2,7 +2,7 @@ use Rattle.std.proofs.Common.{Bool, List, subst}
 use Rattle.std.specs.Prelude.{IfOk, Result, Ok, Err}
 use Rattle.use_chains.specs.Links.{AreLiveLinks}
 use Rattle.hoist_plan.proofs.Rising.{live_rise}
-use Rattle.function_plan.proofs.plan.naming_of.Goals as goal
+use Rattle.function_plan.proofs.planning.naming_of.Goals as goal
 
 both : {A E : Type 0} (P Q R : A → Type 0) (r : Result A E) → ((a : A) → P a → Q a → R a) → IfOk r P → IfOk r Q → IfOk r R
 both P Q R (Ok a) f p q = f a p q
