@@ -58,6 +58,7 @@ impl<'a, 'b> Writer<'a, 'b> {
         items: &mut Vec<Decl>,
         plan: Option<&'a FunctionPlan<'b>>,
     ) -> Result<(), Memory>
+        requires { All HasFewArgs self.now.readings.now.of.globals }
         ensures { OnOk result (map decl_of items.new.items ≡ map decl_of items.old.items ++ option_to_list (option_map (decl_with self.now.readings.now self.now.names.now self.now.globals.now) (option_copied plan.entry))) }
     {
         match plan {
@@ -84,7 +85,8 @@ impl<'a, 'b> Writer<'a, 'b> {
         places: &Places,
         order: &[Id],
     ) -> Result<(), Memory>
-        requires { ArePlaces plans.now places.now }
+        requires few { All HasFewArgs self.now.readings.now.of.globals }
+        requires places { ArePlaces plans.now places.now }
         ensures { OnOk result (map decl_of items.new.items ≡ map decl_of items.old.items ++ flat_map (decls_at self.now.readings.now self.now.names.now self.now.globals.now plans.now) order.now) }
     {
         items.reserve(order.len())?;

@@ -1,11 +1,12 @@
 // What is known where a function is written.
 ghost use Rattle.std.specs.Prelude.{◌≡◌, IfOk, is_some, option_map, unwrap_or};
+ghost use Rattle.std.specs.List.{All};
 ghost use Rattle.std.specs.Option.{option_copied};
 ghost use Rattle.spv_index.specs.Locals.{inst_in, type_in as type_in_of};
 ghost use Rattle.profile_rules.specs.MemoryRules.{pointee_of as pointee_in};
 ghost use Rattle.hoist_plan.specs.Kept.{form_in};
 ghost use Rattle.glsl_ast.specs.View.{name_text, expr_of};
-ghost use Rattle.few_law.specs.Short.{IsShort};
+ghost use Rattle.few_law.specs.Short.{HasFewArgs, IsShort};
 ghost use Rattle.expr_forward.specs.Context.{key_text};
 ghost use Rattle.expr_forward.specs.Globals.{global_in};
 
@@ -46,12 +47,13 @@ impl<'a, 'b> Model for Context<'a, 'b> {
     ghost coded = { Prim.hlevel (codes, given_names.the_row.coded, expressions.the_row.coded) };
 
     ghost use Rattle.std.specs.Prelude.{◌≡◌};
-    ghost use Rattle.few_law.specs.Short.{IsShort};
+    ghost use Rattle.std.specs.List.{All};
+    ghost use Rattle.few_law.specs.Short.{HasFewArgs, IsShort};
     ghost use Rattle.access_paths.specs.State.{paths_of};
 
     ghost view = { λ c. record { source = c.readings.now; function = c.locals.now; names = c.names.now; globals = c.globals.now; plan = c.plan.now } };
 
-    ghost invariant = { λ c. (c.paths ≡ paths_of c.readings.now.of.globals c.locals.now) × IsShort c.locals.now };
+    ghost invariant = { λ c. (c.paths ≡ paths_of c.readings.now.of.globals c.locals.now) × (IsShort c.locals.now × All HasFewArgs c.readings.now.of.globals) };
 }
 
 impl<'a, 'b> Context<'a, 'b> {
@@ -64,7 +66,8 @@ impl<'a, 'b> Context<'a, 'b> {
         globals: &'a Globals,
         plan: &'a Naming,
     ) -> Result<Context<'a, 'b>, Memory>
-        requires { IsShort locals.now }
+        requires few { All HasFewArgs readings.now.of.globals }
+        requires short { IsShort locals.now }
         ensures { IfOk result (λ c. c ≡ record { source = readings.now; function = locals.now; names = names.now; globals = globals.now; plan = plan.now }) }
     {
         Ok(Context {

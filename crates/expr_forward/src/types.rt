@@ -2,6 +2,7 @@
 ghost use Rattle.std.specs.Prelude.{◌≡◌, IfOk};
 ghost use Rattle.glsl_ast.specs.View.{expr_of, type_of};
 ghost use Rattle.spv_types.specs.View.{tree_of};
+ghost use Rattle.few_law.specs.Few.{HasFewMembers};
 ghost use Rattle.text_rules.specs.Outlines.{basic as basic_of_type};
 ghost use Rattle.text_rules.specs.Declarations.{shape_at as shape_at_of, type_at, zero_at};
 ghost use Rattle.expr_forward.specs.Context.{all_names};
@@ -26,9 +27,10 @@ impl Context<'_, '_> {
     /// The shape of a type, and uint of what has none.
     #[tactic(auto, using(spv_types::proofs::Views::shape_rows))]
     pub(crate) fn shape_at(&self, alloc: Global, ty: u32) -> Result<Shape, Memory>
-        ensures { IfOk result (λ s. tree_of s ≡ shape_at_of self.now.source ty) }
+        ensures shape { IfOk result (λ s. tree_of s ≡ shape_at_of self.now.source ty) }
+        ensures few { IfOk result (λ s. HasFewMembers (tree_of s)) }
     {
-        match judged_shape(alloc, self.module(), Id(ty))? {
+        match judged_shape(alloc, self.readings.module(), Id(ty))? {
             Some(shape) => Ok(shape),
             None => Ok(Shape::Uint),
         }

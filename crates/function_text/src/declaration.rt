@@ -1,5 +1,7 @@
 // The declaration of a function by its plan.
 ghost use Rattle.std.specs.Prelude.{◌≡◌, IfOk};
+ghost use Rattle.std.specs.List.{All};
+ghost use Rattle.few_law.specs.Short.{HasFewArgs};
 ghost use Rattle.glsl_ast.specs.View.{decl_of};
 ghost use Rattle.function_text.specs.State.{decl_with};
 
@@ -20,6 +22,7 @@ pub fn function_decl<'a, 'b>(
     globals: &'a Globals,
     plan: &'a FunctionPlan<'b>,
 ) -> Result<Decl, Memory>
+    requires { All HasFewArgs readings.now.of.globals }
     ensures { IfOk result (λ d. decl_of d ≡ decl_with readings.now names.now globals.now plan.now) }
 {
     let function = PlannedFunction::of(alloc, readings, names, globals, plan)?;

@@ -1,5 +1,6 @@
 // Where a function is written.
 ghost use Rattle.std.specs.Prelude.{◌≡◌, IfOk, is_some, map, option_map};
+ghost use Rattle.std.specs.List.{All};
 ghost use Rattle.spv_index.specs.Pointers.{pointee as pointee_of};
 ghost use Rattle.few_law.specs.Short.{HasFewArgs};
 ghost use Rattle.name_alloc.specs.Lookup.{name_in};
@@ -46,6 +47,7 @@ impl<'a, 'b> PlannedFunction<'a, 'b> {
         globals: &'a Globals,
         plan: &'a FunctionPlan<'b>,
     ) -> Result<PlannedFunction<'a, 'b>, Memory>
+        requires { All HasFewArgs readings.now.of.globals }
         ensures plan { IfOk result (λ p. p.plan.now ≡ plan.now) }
         ensures context { IfOk result (λ p. p.context ≡ record { source = readings.now; function = plan.now.locals; names = names.now; globals = globals.now; plan = plan.now.naming }) }
     {

@@ -1,7 +1,9 @@
 // The expressions of calculated constants (SPIR-V 1.6, OpSpecConstantOp).
 ghost use Rattle.std.specs.Prelude.{◌≡◌, IfOk, drop, map};
+ghost use Rattle.std.specs.List.{All};
 ghost use Rattle.std.specs.Option.{option_copied};
 ghost use Rattle.glsl_ast.specs.View.{expr_of};
+ghost use Rattle.few_law.specs.Short.{HasFewArgs};
 ghost use Rattle.profile_rules.specs.Constants.{inner_operands as inner_operands_of, inner_literals as inner_literals_of};
 ghost use Rattle.name_alloc.specs.Lookup.{name_in};
 ghost use Rattle.vec_lowering.specs.Composite.{argument_of};
@@ -114,6 +116,7 @@ fn calculated_by(
     inst: &Inst,
     op: Op,
 ) -> Result<Expr, Memory>
+    requires { All HasFewArgs readings.now.of.globals }
     ensures { IfOk result (λ e. expr_of e ≡ calculated_by_opcode readings.now (name_in names.now) (id_names names.now) inst.now (drop 1 inst.now.args) op) }
 {
     let words = behind_opcode(inst);
@@ -131,6 +134,7 @@ pub fn calculated(
     names: &Names,
     inst: &Inst,
 ) -> Result<Expr, Memory>
+    requires { All HasFewArgs readings.now.of.globals }
     ensures { IfOk result (λ e. expr_of e ≡ calculated_of readings.now names.now inst.now) }
 {
     match inner_op(inst.operand(0)) {

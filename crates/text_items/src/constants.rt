@@ -1,6 +1,6 @@
 // The declarations of constants and of structs.
 ghost use Rattle.std.specs.Prelude.{◌≡◌, ◌<◌, ◌^◌, IfOk, length, map};
-ghost use Rattle.std.specs.List.{enumerate_from};
+ghost use Rattle.std.specs.List.{All, enumerate_from};
 ghost use Rattle.std.specs.Option.{option_copied};
 ghost use Rattle.glsl_ast.specs.View.{decl_of, expr_of, field_of, type_of};
 ghost use Rattle.profile_rules.specs.Constants.{constant_kind};
@@ -85,6 +85,7 @@ fn composite(wording: &Wording, inst: &Inst) -> Result<Expr, Memory>
 /// What a constant is declared with.
 #[tactic(auto, using(glsl_ast::proofs::Views::expr_rows))]
 fn value(wording: &Wording, inst: &Inst) -> Result<Expr, Memory>
+    requires { All HasFewArgs (source_of wording.now).of.globals }
     ensures { IfOk result (λ e. expr_of e ≡ value_by (source_of wording.now) (names_of wording.now) inst.now (constant_kind inst.now.op)) }
 {
     match ConstantKind::of(inst.op) {
@@ -105,6 +106,7 @@ fn value(wording: &Wording, inst: &Inst) -> Result<Expr, Memory>
 
 /// The declaration of a constant, with its SpecId where it has one that is not overridden (GLSL 4.60, section 4.4.1.2).
 pub fn declare_constant(wording: &Wording, inst: &Inst) -> Result<Decl, Memory>
+    requires { All HasFewArgs (source_of wording.now).of.globals }
     ensures { IfOk result (λ d. decl_of d ≡ constant_decl (source_of wording.now) (names_of wording.now) inst.now) }
 {
     Ok(Decl::Const {

@@ -19,6 +19,7 @@ use std::alloc::Global;
 
 /// Adds the declaration of a constant.
 fn add_constant(items: &mut Vec<Decl>, wording: &Wording, inst: &Inst) -> Result<(), Memory>
+    requires { All HasFewArgs (source_of wording.now).of.globals }
     ensures { OnOk result (map decl_of items.new.items ≡ map decl_of items.old.items ++ constant_decl (source_of wording.now) (names_of wording.now) inst.now ∷ []) }
 {
     let constant = declare_constant(wording, inst)?;

@@ -1,8 +1,9 @@
 // Copies of a value to a type with other structs.
-ghost use Rattle.std.specs.Prelude.{◌≡◌, IfOk, map};
+ghost use Rattle.std.specs.Prelude.{◌≡◌, ◌<◌, ◌^◌, IfOk, length, map};
 ghost use Rattle.spv_types.specs.Tree.{array};
 ghost use Rattle.spv_module.specs.declared.tree.Length.TheVariants.{Fixed};
 ghost use Rattle.spv_types.specs.View.{tree_of, trees_of};
+ghost use Rattle.few_law.specs.Few.{HasFewMembers, HaveFewMembers};
 ghost use Rattle.glsl_ast.specs.View.{expr_of, exprs_of};
 ghost use Rattle.vec_lowering.specs.Named.{naming_of};
 ghost use Rattle.vec_lowering.specs.Component.{each_below};
@@ -71,19 +72,16 @@ fn fixed_length(length: Length) -> u32
     }
 }
 
-/// A member of a struct, by its place. Of more than 2 ^ 32 members there is no memory.
-fn member_at(alloc: Global, names: &Names, of: &Expr, id: u32, at: usize) -> Result<Expr, Memory>
+/// A member of a struct, by its place.
+fn member_at(alloc: Global, names: &Names, of: &Expr, id: u32, at: u32) -> Result<Expr, Memory>
     ensures { IfOk result (λ e. expr_of e ≡ composite.member_of (naming_of names.now) (expr_of of.now) id at) }
 {
-    let Ok(number) = u32::try_from(at) else {
-        return Err(Memory);
-    };
     let of = of.clone_in(alloc)?;
-    member(alloc, names, of, Key::Member(Id(id), number))
+    member(alloc, names, of, Key::Member(Id(id), at))
 }
 
 /// The value as one of a shape with other structs, from the shape that it has: constructors, and parts without a struct as
-/// they are (SPIR-V 1.6, OpCopyLogical).
+/// they are (SPIR-V 1.6, OpCopyLogical). Members are numbered by words. There is an error only for want of memory.
 #[cycle(copying)]
 #[tactic(auto, using(spv_types::proofs::Views::shape_rows, glsl_ast::proofs::Views::expr_rows))]
 pub fn copy(
@@ -93,6 +91,7 @@ pub fn copy(
     from: &Shape,
     of: Expr,
 ) -> Result<Expr, Memory>
+    requires { HasFewMembers (tree_of shape.now) }
     ensures { IfOk result (λ e. expr_of e ≡ composite.copied (naming_of names.now) (tree_of shape.now) (tree_of from.now) (expr_of of)) }
 {
     match shape {
@@ -115,6 +114,7 @@ fn copy_array(
     from: &Shape,
     of: Expr,
 ) -> Result<Expr, Memory>
+    requires { HasFewMembers (tree_of part.now) }
     ensures { IfOk result (λ e. expr_of e ≡ composite.copied (naming_of names.now) (array (tree_of part.now) length) (tree_of from.now) (expr_of of)) }
 {
     if !has_struct(part) {
@@ -134,6 +134,7 @@ fn copy_elements(
     from: &Shape,
     of: &Expr,
 ) -> Result<Vec<Expr>, Memory>
+    requires { HasFewMembers (tree_of part.now) }
     ensures { IfOk result (λ parts. map expr_of parts.items ≡ each_below count (λ k. composite.copied (naming_of names.now) (tree_of part.now) (tree_of from.now) (composite.element (expr_of of.now) k))) }
 {
     let mut parts = Vec::new(alloc);
@@ -145,7 +146,7 @@ fn copy_elements(
 }
 
 #[cycle(copying)]
-#[tactic(auto, using(crate::proofs::Parts::copy_rules, spv_types::proofs::Heads::member_smaller, spv_types::proofs::Views::shape_rows))]
+#[tactic(auto, using(crate::proofs::Parts::copy_rules, spv_types::proofs::Heads::member_smaller, few_law::proofs::Shapes::member_few, spv_types::proofs::Views::shape_rows))]
 fn copy_members(
     alloc: Global,
     names: &Names,
@@ -153,12 +154,14 @@ fn copy_members(
     from: &Shape,
     of: &Expr,
 ) -> Result<Vec<Expr>, Memory>
+    requires few { length members.now < 2 ^ 32 }
+    requires each { HaveFewMembers (trees_of members.now) }
     ensures { IfOk result (λ parts. exprs_of parts.items ≡ composite.copied_parts (naming_of names.now) (trees_of members.now) (composite.struct_id (tree_of from.now)) (composite.struct_parts (tree_of from.now)) 0 (expr_of of.now)) }
 {
     let mut parts = Vec::new(alloc);
     for (k, part) in members.iter().enumerate() {
         let none = Shape::Bool;
-        let of = member_at(alloc, names, of, struct_id(from), k)?;
+        let of = member_at(alloc, names, of, struct_id(from), k as u32)?;
         let from = nth_or(struct_parts(from), k, &none);
         parts.push(copy(alloc, names, part, from, of)?)?;
     }

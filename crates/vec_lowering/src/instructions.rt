@@ -1,6 +1,7 @@
 // The expression of an instruction, by its opcode.
 ghost use Rattle.std.specs.Prelude.{◌≡◌, ◌+◌, ◌≤◌, IfOk, map};
 ghost use Rattle.spv_types.specs.View.{tree_of};
+ghost use Rattle.few_law.specs.Few.{HasFewMembers};
 ghost use Rattle.glsl_ast.specs.View.{expr_of};
 ghost use Rattle.vec_lowering.specs.Named.{naming_of};
 ghost use Rattle.glsl_ast.specs.Height.{height};
@@ -59,6 +60,7 @@ fn shuffle_two(
 }
 
 fn copy_first(alloc: Global, names: &Names, shape: &Shape, args: Vec<Arg>) -> Result<Expr, Memory>
+    requires { HasFewMembers (tree_of shape.now) }
     ensures { IfOk result (λ e. expr_of e ≡ lowered.copied_from (naming_of names.now) (tree_of shape.now) (map argument_of args.items)) }
 {
     let Arg {
@@ -91,6 +93,7 @@ fn copy_by(
     operands: Vec<Arg>,
     names: &Names,
 ) -> Result<Expr, Memory>
+    requires { HasFewMembers (tree_of shape.now) }
     ensures { IfOk result (λ e. expr_of e ≡ lowered.copy_by (naming_of names.now) op (tree_of shape.now) (map argument_of operands.items)) }
 {
     if op == Op::CopyLogical {
@@ -111,6 +114,7 @@ fn write_operation(
     extra: &[u32],
     names: &Names,
 ) -> Result<Expr, Memory>
+    requires { HasFewMembers (tree_of shape.now) }
     ensures { IfOk result (λ e. expr_of e ≡ lowered.written (naming_of names.now) op operation (tree_of shape.now) extra.now (map argument_of operands.items)) }
 {
     match operation {
@@ -144,7 +148,7 @@ fn write_operation(
 ///
 /// `op` is the opcode, `ext`, of OpExtInst, the number in GLSL.std.450, and `extra` the literals of the instruction. A struct and
 /// a member have the names of their keys. An operand that is not there counts as `0u`, and of an opcode that is none of these
-/// operations the expression is a zero. There is an error only for want of memory.
+/// operations the expression is a zero. A struct in the shape has fewer than 2^32 members. There is an error only for want of memory.
 #[inline(always)]
 pub fn lower_vector(
     alloc: Global,
@@ -155,6 +159,7 @@ pub fn lower_vector(
     extra: &[u32],
     names: &Names,
 ) -> Result<Expr, Memory>
+    requires { HasFewMembers (tree_of shape) }
     ensures lowered { IfOk result (λ e. expr_of e ≡ lowered.lowered_vector (naming_of names.now) op ext (tree_of shape) extra.now (map argument_of operands.items)) }
     ensures height { IfOk result (λ e. depth (tree_of shape) ≤ 15 → deepest_argument (map argument_of operands.items) ≤ 15 → height (expr_of e) ≤ 40 + highest_argument (map argument_of operands.items)) }
 {

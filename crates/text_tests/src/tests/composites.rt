@@ -1,4 +1,8 @@
 // Expressions on vectors and composites, with ample memory.
+ghost use Rattle.std.specs.Prelude.{◌≡◌, IfOk};
+ghost use Rattle.spv_types.specs.Tree.{uint, struct, no_trees, tree};
+ghost use Rattle.spv_types.specs.View.{tree_of};
+
 use super::names::{is_name, named};
 use glsl_ast::{Base, Expr, Extent, Name, TypeName};
 use int_lowering::Arg;
@@ -18,7 +22,10 @@ static ITEMS: [(Key, &str); 4] = [
     (Key::Member(Id(3), 1), "sum"),
 ];
 
-fn item(alloc: Global, id: u32) -> Result<Shape, AllocError> {
+#[tactic(auto, using(spv_types::proofs::Views::shape_rows))]
+fn item(alloc: Global, id: u32) -> Result<Shape, AllocError>
+    ensures { IfOk result (λ s. tree_of s ≡ struct id (tree uint (tree uint no_trees))) }
+{
     let members = vec![in alloc; Shape::Uint, Shape::Uint]?;
     Ok(Shape::Struct(Id(id), members))
 }

@@ -23,5 +23,5 @@ returns-in-Some-clause-few c =
     let bs : List Block = c.as_slice.result.now in
     let same = c.as_slice.ensures ∙ ap (λ (f : Function). f.blocks) c.function.ensures in
     let found : slice_get bs c.args.block ≡ Some b = grind (arith, common_steps, gets, c.get.ensures.lookup, c.in-Some.is) in
-    let short : All IsShortBlock bs = subst (All IsShortBlock) (sym same) c.self.invariant.1 in
+    let short : All IsShortBlock bs = subst (All IsShortBlock) (sym same) c.self.invariant.1.0 in
     subst (All HasFewArgs) (sym c.as_slice-in-Some.ensures) (found_short bs c.args.block b short found)
