@@ -9,7 +9,7 @@ use crate::context::Context;
 use crate::refusal::{refuse_at, refuse_if};
 use spv_decor::text_of;
 use spv_module::Inst;
-use spv_ops::{Capability, Op};
+use spv_ops::{AddressingModel, Capability, MemoryModel, Op};
 use spv_words::{Fault, Rule};
 use std::alloc::{AllocError, Global};
 
@@ -89,7 +89,9 @@ fn is_memory_model(inst: &Inst) -> bool
 fn is_other_model(inst: &Inst) -> bool
     ensures { result ≡ is_other_model_row inst.now }
 {
-    is_memory_model(inst) && !(inst.operand(0) == 0 && inst.operand(1) == 1)
+    is_memory_model(inst)
+        && !(inst.operand(0) == AddressingModel::Logical.number()
+            && inst.operand(1) == MemoryModel::GLSL450.number())
 }
 
 fn has_memory_model(context: &Context) -> bool

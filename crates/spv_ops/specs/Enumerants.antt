@@ -8,6 +8,10 @@ use Rattle.spv_ops.specs.declared.enumerants.BuiltIn.{BuiltIn}
 use Rattle.spv_ops.specs.declared.enumerants.BuiltIn.TheVariants as built
 use Rattle.spv_ops.specs.declared.enumerants.ExecutionModel.{ExecutionModel}
 use Rattle.spv_ops.specs.declared.enumerants.ExecutionModel.TheVariants as model
+use Rattle.spv_ops.specs.declared.enumerants.AddressingModel.{AddressingModel}
+use Rattle.spv_ops.specs.declared.enumerants.AddressingModel.TheVariants as addressing
+use Rattle.spv_ops.specs.declared.enumerants.MemoryModel.{MemoryModel}
+use Rattle.spv_ops.specs.declared.enumerants.MemoryModel.TheVariants as memory
 use Rattle.spv_ops.specs.declared.enumerants.ExecutionMode.{ExecutionMode}
 use Rattle.spv_ops.specs.declared.enumerants.ExecutionMode.TheVariants as mode
 use Rattle.spv_ops.specs.declared.enumerants.Capability.{Capability}
@@ -79,6 +83,14 @@ execution_models = model.GLCompute ∷ []
 
 abbrev pub model_of_number : ℕ → Option ExecutionModel
 model_of_number n = find (λ c. model_number c == n) execution_models
+
+-- the number of the addressing model that a module of the profile may have (section 3.4)
+abbrev pub addressing_number : AddressingModel → ℕ
+addressing_number addressing.Logical = 0
+
+-- the number of its memory model (section 3.5)
+abbrev pub memory_model_number : MemoryModel → ℕ
+memory_model_number memory.GLSL450 = 1
 
 -- the numbers of execution modes (section 3.6)
 abbrev pub mode_number : ExecutionMode → ℕ

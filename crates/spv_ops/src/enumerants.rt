@@ -156,6 +156,38 @@ impl ExecutionModel {
     }
 }
 
+/// How pointers are addressed (SPIR-V 1.6, section 3.4).
+#[derive(Clone, Copy, Debug)]
+pub enum AddressingModel {
+    Logical = 0,
+}
+
+impl AddressingModel {
+    /// Its number.
+    #[inline(always)]
+    pub fn number(self) -> u32
+        ensures { result ≡ numbers.addressing_number self }
+    {
+        self as u32
+    }
+}
+
+/// The rules of memory (SPIR-V 1.6, section 3.5).
+#[derive(Clone, Copy, Debug)]
+pub enum MemoryModel {
+    GLSL450 = 1,
+}
+
+impl MemoryModel {
+    /// Its number.
+    #[inline(always)]
+    pub fn number(self) -> u32
+        ensures { result ≡ numbers.memory_model_number self }
+    {
+        self as u32
+    }
+}
+
 /// An execution mode (SPIR-V 1.6, section 3.6).
 #[derive(Clone, Copy, Debug)]
 pub enum ExecutionMode {

@@ -14,7 +14,8 @@ mod shape;
 pub use class::{OpClass, OpShape};
 pub use decorations::{has_literal, literals_of};
 pub use enumerants::{
-    BuiltIn, Capability, Decoration, ExecutionMode, ExecutionModel, Scope, StorageClass,
+    AddressingModel, BuiltIn, Capability, Decoration, ExecutionMode, ExecutionModel, MemoryModel,
+    Scope, StorageClass,
 };
 pub use op_group::{AtomicOp, OpGroup, Takes, Terminator};
 pub use opcode::Op;
