@@ -1,3 +1,4 @@
 pub mod Texts
 pub mod Sums
 pub mod Regions
+pub mod Totals

@@ -23,7 +23,7 @@ sum_none v [] none = refl
 sum_none v (t ∷ ts) none = let a : v t ≡ 0 = none t (inl refl) in let b = sum_none v ts (λ u i. none u (inr i)) in omega (arith, a, b)
 
 pub sum_joined : (v : ℕ → ℕ) (ts us : List ℕ) → kid_sum v (ts ++ us) ≡ kid_sum v ts + kid_sum v us
-sum_joined v [] us = refl
+sum_joined v [] us = omega arith
 sum_joined v (t ∷ ts) us = let rest = sum_joined v ts us in omega (arith, rest)
 
 -- the number itself, where it is this one
@@ -67,7 +67,7 @@ module _ (value : text.Arm → ℕ) where
   group_targets (g ∷ gs) = g.0 ∷ group_targets gs
 
   first_value : (o : Option text.Arm) (as' : List text.Arm) → all_values (option_to_list o ++ as') ≡ value_in o + all_values as'
-  first_value None as' = refl
+  first_value None as' = omega arith
   first_value (Some a) as' = refl
 
   kept_other : (f : ℕ → Option text.Arm) (t u : ℕ) → (t ≡ u → ⊥) → value_in (update nat_eq f t None u) ≡ value_in (f u)
