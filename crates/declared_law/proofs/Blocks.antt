@@ -110,7 +110,7 @@ module _ (x : Text) (w : Scope) where
       let c = barrier_none (semantics w (slice_index i.args 2)) in
       let d = no_local i (so refl) in
       omega (arith, a, c, d)
-  inst_times b i kind.MemoryBarrier so = barrier_none _ ∙ no_local i (so refl)
+  inst_times b i kind.MemoryBarrier so = barrier_none (semantics w (slice_index i.args 1)) ∙ no_local i (so refl)
   inst_times b i kind.Chain so = captures_none i (captured_of w i) ∙ no_local i (so refl)
   inst_times b i kind.CompositeInsert so = insert_times b i _ _ _
   inst_times b i kind.VectorInsertDynamic so = insert_times b i _ _ _

@@ -2,3 +2,5 @@ pub mod Texts
 pub mod Sums
 pub mod Regions
 pub mod Totals
+pub mod Blocks
+pub mod Loops
