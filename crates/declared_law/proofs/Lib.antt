@@ -4,3 +4,4 @@ pub mod Regions
 pub mod Totals
 pub mod Blocks
 pub mod Loops
+pub mod Falls

@@ -33,23 +33,18 @@ again_header g h on =
     by_merge (Selection t) on = cc
     by_merge (LoopMerge t c) on = refl
 
+loop_merge : (m : Merge) → IsLoopMerge m → is_loop_merge m ≡ true
+loop_merge Absent is = absurd is
+loop_merge (Selection t) is = absurd is
+loop_merge (LoopMerge t c) is = refl
+
 -- of constructs one within the other, each that is a loop is that of a header
 loop_of : (g : List Node) (n : ℕ) (ps : List Part) (h : ℕ) → IsNested g n ps → option_and_then loop_header (find is_loop ps) ≡ Some h → IsHeader g h
 loop_of g n [] h nested at = cc
 loop_of g n (If k ∷ ps) h nested at = loop_of g k ps h nested.4 at
 loop_of g n (Case s t ∷ ps) h nested at = loop_of g s ps h nested.4 at
 loop_of g n (Loop k ∷ ps) h nested at = let same : k ≡ h = cc in subst (IsHeader g) same (record { reached = nested.1; heads = loop_merge (nth g k).merge nested.2 })
-  where
-    loop_merge : (m : Merge) → IsLoopMerge m → is_loop_merge m ≡ true
-    loop_merge Absent is = absurd is
-    loop_merge (Selection t) is = absurd is
-    loop_merge (LoopMerge t c) is = refl
 loop_of g n (Cont k ∷ ps) h nested at = let same : k ≡ h = cc in subst (IsHeader g) same (record { reached = nested.1; heads = loop_merge (nth g k).merge nested.2 })
-  where
-    loop_merge : (m : Merge) → IsLoopMerge m → is_loop_merge m ≡ true
-    loop_merge Absent is = absurd is
-    loop_merge (Selection t) is = absurd is
-    loop_merge (LoopMerge t c) is = refl
 
 pub leave_header : (g : List Node) → IsSound g → (h : ℕ) → needs_leave g h ≡ true → IsHeader g h
 leave_header g sound h on =
