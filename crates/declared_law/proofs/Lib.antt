@@ -5,3 +5,6 @@ pub mod Totals
 pub mod Blocks
 pub mod Loops
 pub mod Falls
+pub mod Plans
+pub mod Bare
+pub mod Tops
