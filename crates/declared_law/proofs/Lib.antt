@@ -8,3 +8,5 @@ pub mod Falls
 pub mod Plans
 pub mod Bare
 pub mod Tops
+pub mod Bodies
+pub mod Sets

@@ -62,13 +62,13 @@ opened_none (stmt (declare t v (Some e)) ss) none = opened_none ss none
 opened_none ss none = refl
 
 module _ (w : Scope) where
-  abbrev named : Inst → Text
+  abbrev pub named : Inst → Text
   named i = w.setting.key (Id (id i.result))
 
-  abbrev index_named : Inst → ℕ × ℕ → Text
+  abbrev pub index_named : Inst → ℕ × ℕ → Text
   index_named i n = w.setting.key (Captured (id i.result) n.0)
 
-  abbrev kept_named : Inst → List Text
+  abbrev pub kept_named : Inst → List Text
   kept_named i = map (index_named i) (captured_of w i)
 
   variables_valued : (is : List Inst) → valued (stmts_in (map (variable_text w) is)) ≡ map named is
@@ -110,7 +110,10 @@ module _ (w : Scope) where
   abbrev all_insts : List Block → List Inst
   all_insts bs = flat_map (λ (b : Block). b.insts) bs
 
-  none_both : (a b : List Inst) → [] ≡ [] ++ []
+  abbrev nothing : List Inst → List Text
+  nothing is = []
+
+  none_both : (a b : List Inst) → nothing (a ++ b) ≡ nothing a ++ nothing b
   none_both a b = refl
 
   -- What stands at the top.
@@ -123,13 +126,13 @@ module _ (w : Scope) where
       rest : valued (stmts_in (in_blocks (hoisted_texts w) bs ++ in_blocks (captured_texts w) bs)) ≡ []
       rest =
           declared_both is_some (in_blocks (hoisted_texts w) bs) (in_blocks (captured_texts w) bs)
-          ∙ (ap (λ (l : List Text). l ++ valued (stmts_in (in_blocks (captured_texts w) bs))) (in_blocks_declared is_some (hoisted_texts w) (λ is. []) (λ is. hoisted_valued (filter (is_hoisted_in w) is)) none_both refl bs)
-          ∙ in_blocks_declared is_some (captured_texts w) (λ is. []) captured_valued none_both refl bs)
+          ∙ (ap (λ (l : List Text). l ++ valued (stmts_in (in_blocks (captured_texts w) bs))) (in_blocks_declared is_some (hoisted_texts w) nothing (λ is. hoisted_valued (filter (is_hoisted_in w) is)) none_both refl bs)
+          ∙ in_blocks_declared is_some (captured_texts w) nothing captured_valued none_both refl bs)
 
   pub top_unset : (bs : List Block) → unset (stmts_in (top_text w bs)) ≡ map named (filter (is_hoisted_in w) (all_insts bs)) ++ flat_map kept_named (all_insts bs)
   top_unset bs =
       declared_both is_none (in_blocks (variables_text w) bs) (in_blocks (hoisted_texts w) bs ++ in_blocks (captured_texts w) bs)
-      ∙ (ap (λ (l : List Text). l ++ unset (stmts_in (in_blocks (hoisted_texts w) bs ++ in_blocks (captured_texts w) bs))) (in_blocks_declared is_none (variables_text w) (λ is. []) (λ is. variables_unset (filter is_variable is)) none_both refl bs)
+      ∙ (ap (λ (l : List Text). l ++ unset (stmts_in (in_blocks (hoisted_texts w) bs ++ in_blocks (captured_texts w) bs))) (in_blocks_declared is_none (variables_text w) nothing (λ is. variables_unset (filter is_variable is)) none_both refl bs)
       ∙ (declared_both is_none (in_blocks (hoisted_texts w) bs) (in_blocks (captured_texts w) bs)
       ∙ (ap (λ (l : List Text). l ++ unset (stmts_in (in_blocks (captured_texts w) bs))) (in_blocks_declared is_none (hoisted_texts w) (λ is. map named (filter (is_hoisted_in w) is)) (λ is. hoisted_unset (filter (is_hoisted_in w) is)) (filtered_both (is_hoisted_in w) named) refl bs)
       ∙ ap (λ (l : List Text). map named (filter (is_hoisted_in w) (all_insts bs)) ++ l) (in_blocks_declared is_none (captured_texts w) (λ is. flat_map kept_named is) captured_unset (flat_both kept_named) refl bs))))
