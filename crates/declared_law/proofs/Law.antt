@@ -31,9 +31,10 @@ use Rattle.text_rules.specs.Declarations.{Names, type_at, pointee_at, initial, s
 use Rattle.expr_forward.specs.Scope.{Scope, globals}
 use Rattle.function_text.specs.Functions.{FunctionPlan, written, function_name, function_key, function_decl, body_text}
 use Rattle.unit_rules.specs.Translation.{Naming, text_of, scope_of, IsPlanOf}
-use Rattle.unit_rules.specs.Unit.{source_of, called, in_order, plan_at, has_id, reached_of, item_names_of, IsUnitOf}
+use Rattle.unit_rules.specs.Unit.{source_of, called, is_called, in_order, plan_at, has_id, reached_of, item_names_of, IsUnitOf}
 use Rattle.height_law.proofs.Closed.{sound-of}
-use Rattle.typed_law.specs.Conforms.{IsConforming, IsAmong}
+use Rattle.plan_law.specs.InOrder.{IsAmong}
+use Rattle.typed_law.specs.Conforms.{IsConforming}
 use Rattle.ruled_law.proofs.Ruled.{contains_of}
 use Rattle.call_law.specs.Known.{IsFunctionOf}
 use Rattle.claim_law.specs.Claimed.{IsIn, HasName}
@@ -41,10 +42,11 @@ use Rattle.claim_law.proofs.Listed.{in_left, in_right}
 use Rattle.formed_law.proofs.Inner.{accepted_inner}
 use Rattle.formed_law.proofs.Labelled.{accepted_labels}
 use Rattle.unit_law.proofs.Ways.{HaveKinds, planned, F, plan_is, written_is}
+use Rattle.unit_law.proofs.Lists.{of_filter, as_in}
 use Rattle.unit_law.proofs.ResultShapes.{stands_inside}
 use Rattle.grammar_law.proofs.Inner.{stands_within}
 use Rattle.naming_law.specs.Ends.{term_of}
-use Rattle.naming_law.proofs.Ends.{AreGroups}
+use Rattle.function_law.proofs.TreeWays.{AreGroups}
 use Rattle.naming_law.proofs.Keys.{S}
 use Rattle.naming_law.proofs.Unit.{found_plan}
 use Rattle.naming_law.proofs.Planned.{leave_inside, flags_apart}
@@ -139,7 +141,7 @@ module _ (bytes : List ℕ) (m : ModuleState) (o : Options) (read : IsReadFrom b
         in_it i there = subst (λ (f : Function). IsAmong i (insts_of f)) (sym of_it) there
 
         within : (i : Inst) → IsAmong i (insts_of (F s o.entry r kinds o unit u p among)) → stands_inside (group_of i.op) ≡ true
-        within i there = ?
+        within i there = stands_within bytes m read (F s o.entry r kinds o unit u p among) (of_filter (is_called u.order) m.functions (F s o.entry r kinds o unit u p among) (planned s o.entry r kinds o unit u p among).1).0 i (as_in (insts_of (F s o.entry r kinds o unit u p among)) i there)
 
         lacks : (i : Inst) → IsAmong i (insts_of (F s o.entry r kinds o unit u p among)) → has_type i.op ≡ false → i.result ≡ 0
         lacks i there off = (accepted_inner bytes m read (written p) one i (in_it i there)).1 off
@@ -164,12 +166,12 @@ module _ (bytes : List ℕ) (m : ModuleState) (o : Options) (read : IsReadFrom b
 
   in_plans : (p : FunctionPlan) (order : List IdOf) → IsIn p (in_order order u.plans) → IsIn p u.plans
   in_plans p [] there = absurd there
-  in_plans p (n ∷ order) there = by_plan (find (has_id n) u.plans) refl there
+  in_plans p (n ∷ order) there = by_plan (find (has_id n) u.plans) refl there (in_plans p order)
     where
-      by_plan : (q : Option FunctionPlan) → find (has_id n) u.plans ≡ q → IsIn p (option_to_list q ++ in_order order u.plans) → IsIn p u.plans
-      by_plan None at there = in_plans p order there
-      by_plan (Some q) at (inl same) = subst (λ (x : FunctionPlan). IsIn x u.plans) same (found_plan m o unit u inv u.plans n q at).0
-      by_plan (Some q) at (inr there) = in_plans p order there
+      by_plan : (q : Option FunctionPlan) → find (has_id n) u.plans ≡ q → IsIn p (option_to_list q ++ in_order order u.plans) → (IsIn p (in_order order u.plans) → IsIn p u.plans) → IsIn p u.plans
+      by_plan None at there later = later there
+      by_plan (Some q) at (inl same) later = subst (λ (x : FunctionPlan). IsIn x u.plans) same (found_plan m o unit u inv u.plans n q at).0
+      by_plan (Some q) at (inr there) later = later there
 
   -- The law, where names are told.
   pub has_variables : ((p : FunctionPlan) → IsIn p u.plans → IsLeftOfNames found p) → HasVariables m o unit

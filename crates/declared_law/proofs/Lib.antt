@@ -10,3 +10,6 @@ pub mod Bare
 pub mod Tops
 pub mod Bodies
 pub mod Sets
+pub mod Known
+pub mod Law
+pub mod Named

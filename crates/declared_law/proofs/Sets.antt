@@ -32,7 +32,8 @@ use Rattle.function_text.specs.Functions.{FunctionPlan}
 use Rattle.unit_rules.specs.Unit.{IsUnitOf}
 use Rattle.plan_law.specs.Ordered.{AreOrdered}
 use Rattle.plan_law.proofs.Order.{in_order}
-use Rattle.typed_law.specs.Conforms.{IsConforming, IsAmong}
+use Rattle.plan_law.specs.InOrder.{IsAmong}
+use Rattle.typed_law.specs.Conforms.{IsConforming}
 use Rattle.claim_law.specs.Claimed.{IsIn}
 use Rattle.claim_law.proofs.Listed.{in_flat, at_place}
 use Rattle.unit_law.proofs.Lists.{in_block, as_among, same_test, test_same}
