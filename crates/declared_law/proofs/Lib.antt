@@ -13,3 +13,4 @@ pub mod Sets
 pub mod Known
 pub mod Law
 pub mod Named
+pub mod Few

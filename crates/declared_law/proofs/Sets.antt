@@ -90,6 +90,10 @@ local_variable Forwarded on = cc
 clash : {A : Type 0} → true ≡ false → A
 clash e = cc
 
+-- so it is of all instructions of a function
+abbrev pub AreSet : Scope → Type 0
+AreSet w = (b : ℕ) (block : Block) → slice_get w.setting.function.blocks b ≡ Some block → (i : Inst) → IsIn i block.insts → IsSet w i (kind_of i.op)
+
 module _ (s : Setting) (entry : Option (List ℕ)) (right : IsConforming s.of entry) (kinds : HaveKinds s.of.globals) (o : Options) (unit : TranslationUnit) (u : IsUnitOf s.of o unit) (p : FunctionPlan) (among : IsIn p u.plans)
     (inner : (i : Inst) → IsAmong i (insts_of (F s entry right kinds o unit u p among)) → (stands_inside (group_of i.op) ≡ true) × (has_type i.op ≡ false → i.result ≡ 0)) where
   abbrev gs : List Inst
@@ -196,9 +200,6 @@ module _ (s : Setting) (entry : Option (List ℕ)) (right : IsConforming s.of en
         by_kind kind.Silent none off = none refl
 
   -- The law, by the plan's own scope.
-  abbrev pub AreSet : Scope → Type 0
-  AreSet w = (b : ℕ) (block : Block) → slice_get w.setting.function.blocks b ≡ Some block → (i : Inst) → IsIn i block.insts → IsSet w i (kind_of i.op)
-
   pub are_set : AreSet p.scope
   are_set =
       subst AreSet (sym (plan_is s entry right kinds o unit u p among).scope_is)
