@@ -1,5 +1,5 @@
 -- The functions of a text of an accepted module declare the variables of the module's functions.
-use Rattle.std.proofs.Common.{◌≡◌, ◌≤◌, ◌⊎◌, ℕ, Bool, true, false, List, [], ◌∷◌, ◌++◌, length, map, Option, Some, None, inl, inr, refl, sym, ap, ◌∙◌, subst, if◌then◌else◌}
+use Rattle.std.proofs.Common.{◌≡◌, ◌<◌, ◌≤◌, ◌^◌, ◌⊎◌, ℕ, Bool, true, false, List, [], ◌∷◌, ◌++◌, length, map, Option, Some, None, inl, inr, refl, sym, ap, ◌∙◌, subst, if◌then◌else◌}
 use Rattle.std.specs.Prelude.{flat_map, find}
 use Rattle.std.specs.Option.{option_to_list}
 use Rattle.std.proofs.lemmas.List.Elements.{All-contains}
@@ -34,11 +34,17 @@ use Rattle.unit_rules.specs.Translation.{Naming, text_of, scope_of, IsPlanOf}
 use Rattle.unit_rules.specs.Unit.{source_of, called, is_called, in_order, plan_at, has_id, reached_of, item_names_of, IsUnitOf}
 use Rattle.height_law.proofs.Closed.{sound-of}
 use Rattle.plan_law.specs.InOrder.{IsAmong}
-use Rattle.typed_law.specs.Conforms.{IsConforming}
-use Rattle.ruled_law.proofs.Ruled.{contains_of}
+use Rattle.formed_law.specs.Formed.{IsFormedFunction}
+use Rattle.agree_law.specs.Blocks.{IsOf}
+use Rattle.spv_words.specs.Words.{words}
+use Rattle.accepted_law.proofs.Accepted.{accepted_conforming}
+use Rattle.typed_law.proofs.Values.{inside}
+use Rattle.typed_law.specs.Conforms.{IsConforming, IsFormed}
+use Rattle.ruled_law.proofs.Ruled.{contains_of, among_of}
 use Rattle.call_law.specs.Known.{IsFunctionOf}
 use Rattle.claim_law.specs.Claimed.{IsIn, HasName}
 use Rattle.claim_law.proofs.Listed.{in_left, in_right}
+use Rattle.formed_law.proofs.Formed.{formed}
 use Rattle.formed_law.proofs.Inner.{accepted_inner}
 use Rattle.formed_law.proofs.Labelled.{accepted_labels}
 use Rattle.unit_law.proofs.Ways.{HaveKinds, planned, F, plan_is, written_is}
@@ -50,15 +56,20 @@ use Rattle.function_law.proofs.TreeWays.{AreGroups}
 use Rattle.naming_law.proofs.Keys.{S}
 use Rattle.naming_law.proofs.Unit.{found_plan}
 use Rattle.naming_law.proofs.Planned.{leave_inside, flags_apart}
-use Rattle.naming_law.proofs.Functions.{planned_of}
+use Rattle.naming_law.proofs.Functions.{planned_of, function_of_plan}
 use Rattle.naming_law.proofs.Tree.{tree_written}
-use Rattle.meaning_law.proofs.Accepted.{right, is_one, formed_so, few_so}
 use Rattle.declared_law.specs.Declared.{valued, unset, occurs, AreSame, function_in, functions_in}
-use Rattle.declared_law.specs.Variables.{is_spare, phi_pairs, with_value, without_value, Declares, IsBodyOf, HasVariables}
+use Rattle.declared_law.specs.Variables.{phi_pairs, with_value, without_value, Declares, IsBodyOf, HasVariables}
 use Rattle.declared_law.proofs.Plans.{IsKnown, spares}
 use Rattle.declared_law.proofs.Bodies.{body_unset, body_opened, body_valued}
 use Rattle.declared_law.proofs.Sets.{AreSet, are_set}
 use Rattle.declared_law.proofs.Known.{known}
+use Rattle.declared_law.proofs.Few.{few_spares}
+use Rattle.declared_law.proofs.Named.{are_spares, all_named}
+use Rattle.declared_law.proofs.Spared.{spares_named}
+use Rattle.function_plan.specs.Phis.{pairs}
+use Rattle.accepted_law.proofs.Small.{args_in, read_operands}
+use Rattle.grammar_law.proofs.FewPairs.{few_pairs}
 
 -- no item before the functions is one
 no_struct : (s : Source) (names : Names) (g : Inst) → function_in (struct_decl s names g) ≡ []
@@ -104,12 +115,9 @@ of_functions q [] there = absurd there
 of_functions q (p ∷ ps) (inl same) = (p, inl refl, same)
 of_functions q (p ∷ ps) (inr there) = let w = of_functions q ps there in (w.0, inr w.1, w.2)
 
--- What is left of a planned function: its spares are few, and its variables have names apart.
-pub record IsLeftOfNames (found : Naming) (p : FunctionPlan) : Type 0 where
-  pub are_spares : (key : Key) → IsIn key (spares p) → is_spare key ≡ true
-  pub few : length (spares p) ≤ length (phi_pairs (globals p.scope) (written p) p.scope.form p.scope.carried)
-  pub once : (x : Text) → occurs x (unset (stmts_in (body_text p)) ++ valued (stmts_in (body_text p))) ≤ 1
-  pub named : (key : Key) → IsIn key (without_value (globals p.scope) (written p) p.scope.form p.scope.carried ++ with_value (globals p.scope) (written p) p.scope.form p.scope.carried (spares p)) → HasName found key
+-- What is left of a planned function: its variables have names apart.
+abbrev pub IsOnce : FunctionPlan → Type 0
+IsOnce p = (x : Text) → occurs x (unset (stmts_in (body_text p)) ++ valued (stmts_in (body_text p))) ≤ 1
 
 module _ (bytes : List ℕ) (m : ModuleState) (o : Options) (read : IsReadFrom bytes m) (fine : IsFine m o) (kinds : HaveKinds m.globals) (unit : TranslationUnit) (u : IsUnitOf m o unit) (inv : Invocation) where
   abbrev src : Source
@@ -123,10 +131,16 @@ module _ (bytes : List ℕ) (m : ModuleState) (o : Options) (read : IsReadFrom b
 
   module _ (p : FunctionPlan) (among : IsIn p u.plans) where
     abbrev r : IsConforming m o.entry
-    r = right bytes m o read fine unit u inv
+    r = accepted_conforming bytes m o read fine
 
     abbrev one : IsFunctionOf (written p) m.functions
-    one = is_one bytes m o read fine unit u inv p among
+    one = function_of_plan bytes m o read fine unit u p among
+
+    form : IsFormedFunction (written p)
+    form = formed (words bytes) read.form.1.1.1.1.0 (written p) (subst (λ (n : ModuleState). IsFunctionOf (written p) n.functions) read.made one)
+
+    each_formed : (i : Inst) → IsOf i (insts_of (written p)) → IsFormed i
+    each_formed i there = (inside s o.entry r (written p) (contains_of m.functions (written p) one)).formed i (among_of (insts_of (written p)) i there)
 
     sound : IsSound (graph (written p))
     sound = sound-of (written p) (All-contains IsStructured m.functions (written p) fine.later.structure (contains_of m.functions (written p) one)).unbroken
@@ -146,23 +160,33 @@ module _ (bytes : List ℕ) (m : ModuleState) (o : Options) (read : IsReadFrom b
         lacks : (i : Inst) → IsAmong i (insts_of (F s o.entry r kinds o unit u p among)) → has_type i.op ≡ false → i.result ≡ 0
         lacks i there off = (accepted_inner bytes m read (written p) one i (in_it i there)).1 off
 
+    plan_so : IsPlanOf src found (written p) p
+    plan_so = planned_of bytes m o read fine unit u p among
+
+    known_so : IsKnown p
+    known_so =
+        let is_written = tree_written src found (written p) form each_formed p plan_so (flags_apart m o unit u p among (accepted_labels bytes m o read fine (written p) one)) (leave_inside (graph (written p))) in
+        known src found p plan_so sound (term_of (written p)) (AreGroups (written p)) is_written sets
+
+    few_so_pairs : (b t : ℕ) → length (pairs m.globals p.scope.form (written p) b t) < 2 ^ 32
+    few_so_pairs = few_pairs m.globals p.scope.form (written p) (All-contains (λ (f : Function). args_in (insts_of f) < 2 ^ 32) m.functions (written p) (read_operands bytes m read) (contains_of m.functions (written p) one))
+
+    globals_are : globals p.scope ≡ m.globals
+    globals_are = ap globals plan_so.scope_is
+
     -- The body of a planned function.
-    pub declares : IsLeftOfNames found p → (f : Function) → (plan : IsPlanOf src found f p) → Declares m.globals f (scope_of src found f plan.links).form (scope_of src found f plan.links).carried found (stmts_in (body_text p))
-    declares left f plan = record {
+    pub declares : IsOnce p → (f : Function) → (plan : IsPlanOf src found f p) → Declares m.globals f (scope_of src found f plan.links).form (scope_of src found f plan.links).carried found (stmts_in (body_text p))
+    declares once f plan = record {
       spares = spares p;
-      are_spares = left.are_spares;
-      few = subst (λ (w : Scope). length (spares p) ≤ length (phi_pairs (globals w) w.setting.function w.form w.carried)) plan.scope_is left.few;
+      are_spares = are_spares p;
+      few = subst (λ (w : Scope). length (spares p) ≤ length (phi_pairs m.globals w.setting.function w.form w.carried)) plan.scope_is (few_spares m.globals p sound plan_so.moves_are);
       at_top = body_opened p;
       without = subst (λ (w : Scope). AreSame (unset (stmts_in (body_text p))) (map w.setting.key (without_value (globals w) w.setting.function w.form w.carried))) plan.scope_is (λ x. ap (occurs x) (body_unset p));
       with = subst (λ (w : Scope). AreSame (valued (stmts_in (body_text p))) (map w.setting.key (with_value (globals w) w.setting.function w.form w.carried (spares p)))) plan.scope_is (body_valued p known_so);
-      once = left.once;
-      named = subst (λ (w : Scope). (key : Key) → IsIn key (without_value (globals w) w.setting.function w.form w.carried ++ with_value (globals w) w.setting.function w.form w.carried (spares p)) → HasName found key) plan.scope_is left.named;
+      once = once;
+      named = subst (λ (w : Scope). (key : Key) → IsIn key (without_value (globals w) w.setting.function w.form w.carried ++ with_value (globals w) w.setting.function w.form w.carried (spares p)) → HasName found key) plan.scope_is
+          (all_named m o unit u p among known_so plan_so.graph_is (globals p.scope) globals_are (spares_named m o unit u p among plan_so.graph_is few_so_pairs plan_so.moves_are));
     }
-      where
-        known_so : IsKnown p
-        known_so =
-            let is_written = tree_written src found (written p) (formed_so bytes m o read fine unit u inv (written p) one) (few_so bytes m o read fine unit u inv (written p) one) p (planned_of bytes m o read fine unit u p among) (flags_apart m o unit u p among (accepted_labels bytes m o read fine (written p) one)) (leave_inside (graph (written p))) in
-            known src found p (planned_of bytes m o read fine unit u p among) sound (term_of (written p)) (AreGroups (written p)) is_written sets
 
   in_plans : (p : FunctionPlan) (order : List IdOf) → IsIn p (in_order order u.plans) → IsIn p u.plans
   in_plans p [] there = absurd there
@@ -173,8 +197,8 @@ module _ (bytes : List ℕ) (m : ModuleState) (o : Options) (read : IsReadFrom b
       by_plan (Some q) at (inl same) later = subst (λ (x : FunctionPlan). IsIn x u.plans) same (found_plan m o unit u inv u.plans n q at).0
       by_plan (Some q) at (inr there) later = later there
 
-  -- The law, where names are told.
-  pub has_variables : ((p : FunctionPlan) → IsIn p u.plans → IsLeftOfNames found p) → HasVariables m o unit
+  -- The law, where no name is declared twice.
+  pub has_variables : ((p : FunctionPlan) → IsIn p u.plans → IsOnce p) → HasVariables m o unit
   has_variables left = record {
     entry = u.entry;
     is_entry = u.is_entry;
@@ -195,7 +219,7 @@ module _ (bytes : List ℕ) (m : ModuleState) (o : Options) (read : IsReadFrom b
       each q there =
           let w = of_functions q (in_order u.order u.plans) (subst (IsIn q) functions_are there) in
           let among = in_plans w.0 u.order w.1 in
-          let plan = planned s o.entry (right bytes m o read fine unit u inv) kinds o unit u w.0 among in
+          let plan = planned s o.entry (accepted_conforming bytes m o read fine) kinds o unit u w.0 among in
           (plan.0, plan.1, subst (λ (x : Text × Stmts). IsBodyOf m.globals u.entry found x plan.0) w.2 (record {
             links = plan.2.links;
             live = plan.2.live;

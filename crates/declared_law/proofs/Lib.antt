@@ -14,3 +14,4 @@ pub mod Known
 pub mod Law
 pub mod Named
 pub mod Few
+pub mod Spared

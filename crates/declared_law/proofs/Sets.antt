@@ -3,7 +3,6 @@ use Rattle.std.proofs.Common.{◌≡◌, ◌&&◌, ◌||◌, ◌==◌, not, ◌�
 use Rattle.std.specs.Prelude.{slice_get}
 use Rattle.std.specs.List.{list_any}
 use Rattle.std.specs.Option.{option_map_or}
-use Rattle.std.proofs.lemmas.Bool.{false_from_ne_true}
 use Rattle.spv_ops.specs.Opcode.{is, number}
 use Rattle.spv_ops.specs.OpGroups.{group_of}
 use Rattle.spv_ops.specs.Shape.{shape}
@@ -21,13 +20,13 @@ use Rattle.conformance.specs.Rules.{Options}
 use Rattle.module_semantics.specs.Setting.{Setting}
 use Rattle.hoist_plan.specs.declared.form.Form.{Form}
 use Rattle.hoist_plan.specs.declared.form.Form.TheVariants.{Gone, Forwarded, Local, Hoisted}
-use Rattle.hoist_plan.specs.Plan.{Placed, results, is_live, is_named, is_value, is_hoisted, is_elsewhere, form_with}
+use Rattle.hoist_plan.specs.Plan.{Placed, results, is_live, is_named, is_named_by_use, own_height, is_value, is_hoisted, is_elsewhere, form_with}
 use Rattle.glsl_ast.specs.Tree.{TranslationUnit}
 use Rattle.expr_forward.specs.declared.kinds.InstKind.{InstKind}
 use Rattle.expr_forward.specs.declared.kinds.InstKind.TheVariants as kind
 use Rattle.expr_forward.specs.Scope.{Scope}
 use Rattle.expr_forward.specs.Kinds.{kind_of}
-use Rattle.expr_forward.specs.Statements.{is_void_in, is_void, has_result, is_variable_form}
+use Rattle.expr_forward.specs.Statements.{is_void_in, is_void, has_result}
 use Rattle.function_text.specs.Functions.{FunctionPlan}
 use Rattle.unit_rules.specs.Unit.{IsUnitOf}
 use Rattle.plan_law.specs.Ordered.{AreOrdered}
@@ -41,7 +40,6 @@ use Rattle.unit_law.proofs.Forms.{placed, is_placed, form_at, unmade_gone}
 use Rattle.unit_law.proofs.Ways.{HaveKinds, F, R, V, ordered, plan_is, in_module}
 use Rattle.unit_law.proofs.ResultShapes.{stands_inside}
 use Rattle.unit_law.proofs.ResultTypes.{own_row, chain_pointer, variable_pointer}
-use Rattle.written_law.proofs.Expressed.{variable_value}
 use Rattle.declared_law.specs.Variables.{is_local}
 use Rattle.declared_law.proofs.Blocks.{sets, IsSet}
 
@@ -81,12 +79,6 @@ unset_cases groups.Variable e = inr (inl refl)
 unset_cases groups.Phi e = inr (inr refl)
 unset_cases g e = cc
 
-local_variable : (x : Form) → is_local x ≡ true → is_variable_form x ≡ true
-local_variable Local on = refl
-local_variable Hoisted on = cc
-local_variable Gone on = cc
-local_variable Forwarded on = cc
-
 clash : {A : Type 0} → true ≡ false → A
 clash e = cc
 
@@ -115,14 +107,32 @@ module _ (s : Setting) (entry : Option (List ℕ)) (right : IsConforming s.of en
     zero_local : i.result ≡ 0 → is_local (Where.form i.result) ≡ false
     zero_local zero = ap (λ (n : ℕ). is_local (Where.form n)) zero ∙ ap is_local (unmade_gone gs Fn (plan_is s entry right kinds o unit u p among).links)
 
-    -- a value of no type that may have a variable has none
+    -- the form of a result
+    abbrev FormAt : Type 0
+    FormAt = (P : Placed) × (k : ℕ → Option ℕ) × (Where.form i.result ≡ form_with gs Fn k P) × (P.ty ≡ i.ty) × (P.op ≡ i.op)
+
+    form_of : (i.result == 0) ≡ false → FormAt
+    form_of off =
+        let home = in_block Fn.blocks i there_in in
+        let links = (plan_is s entry right kinds o unit u p among).links in
+        let order : AreOrdered Fn (results links Fn) = in_order s.of Fn (ordered s entry right kinds o unit u p among) (R s entry right kinds o unit u p among) links (plan_is s entry right kinds o unit u p among).live in
+        let told = form_at gs Fn links order (placed links home.0 i) (is_placed links Fn home.0 home.1 i home.2 home.3 (λ zero. clash (sym (same_test i.result 0 zero) ∙ off))) in
+        (placed links home.0 i, told.0, told.1, refl, refl)
+
+    -- what is no value has no variable
     no_value : is_value gs i.ty ≡ false → is_local (Where.form i.result) ≡ false
     no_value off = by_zero (i.result == 0) refl
       where
+        unnamed : (l n h : Bool) → n ≡ false → is_local (if l then (if n then (if h then Hoisted else Local) else Forwarded) else Gone) ≡ false
+        unnamed true true h off = cc
+        unnamed true false h off = refl
+        unnamed false n h off = refl
+
         by_zero : (q : Bool) → (i.result == 0) ≡ q → is_local (Where.form i.result) ≡ false
         by_zero true e = zero_local (test_same i.result 0 e)
-        by_zero false e = false_from_ne_true (is_local (Where.form i.result)) (λ on.
-            clash (sym (variable_value s entry right kinds o unit u p among i there_in (λ zero. clash (sym (same_test i.result 0 zero) ∙ e)) (local_variable (Where.form i.result) on)) ∙ off))
+        by_zero false e =
+            let w = form_of e in
+            ap is_local w.2 ∙ unnamed (is_live w.0) (is_named gs Fn w.1 w.0) (is_hoisted Fn w.0) (ap (λ (v : Bool). v && (is_live w.0 && (is_named_by_use gs Fn w.0 || (own_height w.1 w.0 == 17)))) (ap (is_value gs) w.3 ∙ off))
 
     pointer_no_value : (g : Inst) → global gs i.ty ≡ Some g → is g.op code.TypePointer ≡ true → is_value gs i.ty ≡ false
     pointer_no_value g at on = ap (λ (x : Option Inst). not (option_map_or (λ (y : Inst). is y.op code.TypeVoid) x false || option_map_or (λ (y : Inst). is y.op code.TypePointer) x false)) at ∙ by_tests (is g.op code.TypeVoid) (is g.op code.TypePointer) on
@@ -147,12 +157,8 @@ module _ (s : Setting) (entry : Option (List ℕ)) (right : IsConforming s.of en
         by_zero : (q : Bool) → (i.result == 0) ≡ q → is_local (Where.form i.result) ≡ false
         by_zero true e = zero_local (test_same i.result 0 e)
         by_zero false e =
-            let home = in_block Fn.blocks i there_in in
-            let links = (plan_is s entry right kinds o unit u p among).links in
-            let order : AreOrdered Fn (results links Fn) = in_order s.of Fn (ordered s entry right kinds o unit u p among) (R s entry right kinds o unit u p among) links (plan_is s entry right kinds o unit u p among).live in
-            let P : Placed = placed links home.0 i in
-            let told = form_at gs Fn links order P (is_placed links Fn home.0 home.1 i home.2 home.3 (λ zero. clash (sym (same_test i.result 0 zero) ∙ e))) in
-            ap is_local told.1 ∙ hoisted_form (is_live P) (is_named gs Fn told.0 P) (is_hoisted Fn P) (ap (λ (a : Bool). a || list_any (is_elsewhere Fn P.block) P.mentions) phi)
+            let w = form_of e in
+            ap is_local w.2 ∙ hoisted_form (is_live w.0) (is_named gs Fn w.1 w.0) (is_hoisted Fn w.0) (ap (λ (a : Bool). a || list_any (is_elsewhere Fn w.0.block) w.0.mentions) (ap (λ (x : Op). is x code.Phi) w.4 ∙ phi))
 
     typed_unset : has_type i.op ≡ true → may_set (kind_of i.op) ≡ false → is_local (Where.form i.result) ≡ false
     typed_unset has off = by_group (unset_cases (group_of i.op) (by_parts (has_type i.op) (stands_inside (group_of i.op)) (may_set (kind_of i.op)) (is_unset (group_of i.op)) has (inner i there).0 off (unset_by i.op)))
