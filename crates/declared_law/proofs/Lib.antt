@@ -15,3 +15,4 @@ pub mod Law
 pub mod Named
 pub mod Few
 pub mod Spared
+pub mod Apart

@@ -110,12 +110,12 @@ module _ (gs : List Inst) (f : Function) where
   ]
 
 -- each result is that of one instruction
-have_not : (id : ℕ) (is : List Inst) (j : Inst) → HaveNot id is → IsIn j is → j.result ≡ id → ⊥
+pub have_not : (id : ℕ) (is : List Inst) (j : Inst) → HaveNot id is → IsIn j is → j.result ≡ id → ⊥
 have_not id [] j none there same = there
 have_not id (x ∷ is) j none (inl here) same = none.0 (ap (λ (y : Inst). y.result) here ∙ same)
 have_not id (x ∷ is) j none (inr there) same = have_not id is j none.1 there same
 
-one_inst : (is : List Inst) (i j : Inst) → AreApart is → IsIn i is → IsIn j is → i.result ≡ j.result → (i.result ≡ 0 → ⊥) → i ≡ j
+pub one_inst : (is : List Inst) (i j : Inst) → AreApart is → IsIn i is → IsIn j is → i.result ≡ j.result → (i.result ≡ 0 → ⊥) → i ≡ j
 one_inst [] i j apart a b same some = absurd a
 one_inst (x ∷ is) i j apart (inl a) (inl b) same some = sym a ∙ b
 one_inst (x ∷ is) i j apart (inl a) (inr b) same some =
@@ -195,7 +195,7 @@ chain_result code.AccessChain on = refl
 chain_result code.InBoundsAccessChain on = refl
 chain_result o on = cc
 
-number_from : (xs : List ℕ) (from : ℕ) (n : ℕ × ℕ) → IsIn n (enumerate_from from xs) → from ≤ n.0
+pub number_from : (xs : List ℕ) (from : ℕ) (n : ℕ × ℕ) → IsIn n (enumerate_from from xs) → from ≤ n.0
 number_from [] from n there = absurd there
 number_from (x ∷ xs) from n (inl same) = let here : from ≡ n.0 = ap (λ (q : ℕ × ℕ). q.0) same in omega (arith, here)
 number_from (x ∷ xs) from n (inr there) = let later = number_from xs (from + 1) n there in omega (arith, later)
