@@ -110,9 +110,12 @@ ids_apart test (i ∷ is) apart some = by_test (test i) refl (ids_apart test is 
   where
     by_test : (b : Bool) → test i ≡ b → KeysApart (map of_result (filter test is)) → KeysApart (map of_result (if b then i ∷ filter test is else filter test is))
     by_test false off rest = rest
-    by_test true on rest = ((λ there.
-        let j = of_mapped of_result (filter test is) (of_result i) there in
-        have_not i.result is j.0 (apart.0 (some i (inl refl) on)) (of_filtered test is j.0 j.1).0 (ap number_of j.2)), rest)
+    by_test true on rest = (
+      (λ there.
+          let j = of_mapped of_result (filter test is) (of_result i) there in
+          have_not i.result is j.0 (apart.0 (some i (inl refl) on)) (of_filtered test is j.0 j.1).0 (ap number_of j.2)),
+      rest,
+    )
 
 pub ids_far : (a b : Inst → Bool) (is : List Inst) → AreApart is → ((i : Inst) → IsIn i is → a i ≡ true → i.result ≡ 0 → ⊥) → ((i : Inst) → IsIn i is → a i ≡ true → b i ≡ true → ⊥) → (i j : Inst) → IsIn i is → a i ≡ true → IsIn j is → b j ≡ true → of_result i ≡ of_result j → ⊥
 ids_far a b is apart some far i j i_in on j_in also same =
@@ -187,10 +190,13 @@ module _ (gs : List Inst) (f : Function) (form : ℕ → Form) (carried : ℕ �
 
       by_test : (q : Bool) → KeysApart (map (flag_key gs f form carried key) (filter needs ts)) → KeysApart (map (flag_key gs f form carried key) (if q then t ∷ filter needs ts else filter needs ts))
       by_test false rest = rest
-      by_test true rest = ((λ there.
-          let u = of_mapped (flag_key gs f form carried key) (filter needs ts) (flag_key gs f form carried key t) there in
-          let u_in = as_number_in ts u.0 (of_filtered needs ts u.0 u.1).0 in
-          apart.0 (subst (λ (n : ℕ). In n ts) (own u.0 t (inr u_in) (inl refl) u.2) u_in)), rest)
+      by_test true rest = (
+        (λ there.
+            let u = of_mapped (flag_key gs f form carried key) (filter needs ts) (flag_key gs f form carried key t) there in
+            let u_in = as_number_in ts u.0 (of_filtered needs ts u.0 u.1).0 in
+            apart.0 (subst (λ (n : ℕ). In n ts) (own u.0 t (inr u_in) (inl refl) u.2) u_in)),
+        rest,
+      )
 
   -- kept indexes
   numbers_apart : (i : Inst) (xs : List ℕ) (from : ℕ) (test : ℕ × ℕ → Bool) → KeysApart (map (index_key gs f form carried i) (filter test (enumerate_from from xs)))
@@ -199,11 +205,14 @@ module _ (gs : List Inst) (f : Function) (form : ℕ → Form) (carried : ℕ �
     where
       by_test : (q : Bool) → KeysApart (map (index_key gs f form carried i) (filter test (enumerate_from (from + 1) xs))) → KeysApart (map (index_key gs f form carried i) (if q then (from, x) ∷ filter test (enumerate_from (from + 1) xs) else filter test (enumerate_from (from + 1) xs)))
       by_test false rest = rest
-      by_test true rest = ((λ there.
-          let n = of_mapped (index_key gs f form carried i) (filter test (enumerate_from (from + 1) xs)) (index_key gs f form carried i (from, x)) there in
-          let later = number_from xs (from + 1) n.0 (of_filtered test (enumerate_from (from + 1) xs) n.0 n.1).0 in
-          let same : n.0.0 ≡ from = ap index_of n.2 in
-          absurd (omega (arith, later, same))), rest)
+      by_test true rest = (
+        (λ there.
+            let n = of_mapped (index_key gs f form carried i) (filter test (enumerate_from (from + 1) xs)) (index_key gs f form carried i (from, x)) there in
+            let later = number_from xs (from + 1) n.0 (of_filtered test (enumerate_from (from + 1) xs) n.0 n.1).0 in
+            let same : n.0.0 ≡ from = ap index_of n.2 in
+            absurd (omega (arith, later, same))),
+        rest,
+      )
 
   kept_number : (i : Inst) (k : Key) → IsIn k (kept_of gs f form carried i) → (number_of k ≡ i.result) × (is_chain i.op ≡ true)
   kept_number i k there = by_test (is_chain i.op) (carried i.result) there

@@ -34,7 +34,6 @@ use Rattle.declared_law.proofs.Bare.{IsBare, bare_both, bare_region}
 use Rattle.declared_law.proofs.Tops.{AllDeclare, opened_first, opened_none, named, index_named, kept_named, top_valued, top_unset, top_declares}
 use Rattle.declared_law.proofs.Plans.{IsKnown, spares, count, count_both, tree_declares}
 
-
 -- what is written of an instruction, and of an edge, declares nothing without a value
 module _ (w : Scope) where
   bare_set_by : (i : Inst) (e : Expr) (form : Form) → IsBare (set_by w i e form)

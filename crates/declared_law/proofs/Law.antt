@@ -219,10 +219,13 @@ module _ (bytes : List ℕ) (m : ModuleState) (o : Options) (read : IsReadFrom b
       each q there =
           let w = of_functions q (in_order u.order u.plans) (subst (IsIn q) functions_are there) in
           let among = in_plans w.0 u.order w.1 in
-          let plan = planned s o.entry (accepted_conforming bytes m o read fine) kinds o unit u w.0 among in
-          (plan.0, plan.1, subst (λ (x : Text × Stmts). IsBodyOf m.globals u.entry found x plan.0) w.2 (record {
-            links = plan.2.links;
-            live = plan.2.live;
-            name = ap function_name plan.2.scope_is;
-            declares = declares w.0 among (left w.0 among) plan.0 plan.2;
-          }))
+          let plan = planned s o.entry (accepted_conforming bytes m o read fine) kinds o unit u w.0 among in (
+            plan.0,
+            plan.1,
+            subst (λ (x : Text × Stmts). IsBodyOf m.globals u.entry found x plan.0) w.2 (record {
+              links = plan.2.links;
+              live = plan.2.live;
+              name = ap function_name plan.2.scope_is;
+              declares = declares w.0 among (left w.0 among) plan.0 plan.2;
+            }),
+          )
