@@ -1,14 +1,12 @@
 -- Keys of a function's variables are apart, so no name is declared twice.
-use Rattle.std.proofs.Common.{◌≡◌, ◌<◌, ◌≤◌, ◌+◌, ◌==◌, ◌&&◌, ℕ, zero, suc, Bool, true, false, List, [], ◌∷◌, ◌++◌, length, map, filter, Option, Some, None, inl, inr, refl, sym, ap, ◌∙◌, subst, arith, if◌then◌else◌}
+use Rattle.std.proofs.Common.{◌≡◌, ◌<◌, ◌≤◌, ◌+◌, ◌==◌, ◌&&◌, ℕ, Bool, true, false, List, [], ◌∷◌, ◌++◌, map, filter, Some, None, inl, inr, refl, sym, ap, ◌∙◌, subst, arith, if◌then◌else◌}
 use Rattle.std.specs.Prelude.{not, flat_map, bytes_eq}
-use Rattle.std.specs.List.{enumerate_from, range_with_len}
+use Rattle.std.specs.List.{enumerate_from}
 use Rattle.spv_ops.specs.Groups.{is_chain}
-use Rattle.spv_module.specs.Lists.{id}
 use Rattle.spv_module.specs.declared.inst.Id.{Id as IdOf}
 use Rattle.spv_module.specs.declared.inst.Inst.{Inst}
 use Rattle.spv_module.specs.declared.inst.Block.{Block}
 use Rattle.spv_module.specs.declared.inst.Function.{Function}
-use Rattle.spv_index.specs.Locals.{insts_of}
 use Rattle.structure_rules.specs.Graph.{graph, nth}
 use Rattle.hoist_plan.specs.declared.form.Form.{Form}
 use Rattle.access_paths.specs.Ways.{captured_indexes, indexes, is_constant_index}
@@ -22,13 +20,13 @@ use Rattle.region_law.specs.Leads.{In, AreApart as AreApartNumbers}
 use Rattle.region_law.proofs.Flags.{same_text}
 use Rattle.unit_rules.specs.Translation.{Naming, text_of}
 use Rattle.claim_law.specs.Claimed.{IsIn, HasName}
-use Rattle.claim_law.proofs.Listed.{in_left, in_right, in_flat}
+use Rattle.claim_law.proofs.Listed.{in_left, in_right}
 use Rattle.claim_law.proofs.Told.{named_is}
 use Rattle.naming_law.proofs.Tops.{of_filtered, of_mapped, of_either, of_flat}
 use Rattle.naming_law.proofs.Once.{have_not, one_inst, number_from}
 use Rattle.declared_law.specs.Declared.{occurs}
 use Rattle.declared_law.specs.Variables.{of_result, is_local_here, locals_of, index_key, kept_of, flag_key}
-use Rattle.declared_law.proofs.Named.{AllKeys, all_both, all_flat, all_mapped}
+use Rattle.declared_law.proofs.Named.{AllKeys}
 
 abbrev pub KeysApart : List Key → Type 0
 KeysApart [] = Unit {0}

@@ -1,5 +1,5 @@
 -- The statements of a tree declare nothing without a value.
-use Rattle.std.proofs.Common.{◌≡◌, ℕ, Bool, true, false, cond, List, [], ◌∷◌, ◌++◌, map, Option, Some, None, refl, sym, ap, ◌∙◌, if◌then◌else◌}
+use Rattle.std.proofs.Common.{◌≡◌, ℕ, Bool, true, false, cond, List, [], ◌∷◌, ◌++◌, Option, Some, None, refl, ap, ◌∙◌, if◌then◌else◌}
 use Rattle.std.specs.Prelude.{nat_eq, is_none}
 use Rattle.std.specs.Option.{option_map_or, option_to_list}
 use Rattle.std.specs.Map.{update, update_all}
@@ -11,8 +11,8 @@ use Rattle.structure_recover.specs.Tree.{Region, ends, item, Item, plain, choose
 use Rattle.glsl_ast.specs.Tree as text
 use Rattle.glsl_ast.specs.Tree.{Text, Expr, Stmt, stmts_in, arms_in}
 use Rattle.control_text.specs.declared.place.Place.{Place}
-use Rattle.control_text.specs.Statements.{Blocks, set_flag, declare_flag, flags, conditional, unless_fallen, leave_again, turn, inside_loop, inside_switch, groups_have_break, plain_block, leave_loop, edge_text, exit_text, entering, onward, entering_case, behind_switch, labels_text, fell_flags, loop_flags, loop_text, region_text, item_text, groups_text, in_order, by_target}
-use Rattle.declared_law.specs.Declared.{declared, declared_in, unset}
+use Rattle.control_text.specs.Statements.{Blocks, set_flag, declare_flag, flags, conditional, unless_fallen, leave_again, turn, inside_loop, inside_switch, groups_have_break, plain_block, leave_loop, edge_text, exit_text, entering, onward, entering_case, behind_switch, fell_flags, loop_flags, loop_text, region_text, item_text, groups_text, in_order, by_target}
+use Rattle.declared_law.specs.Declared.{declared_in, unset}
 use Rattle.declared_law.proofs.Texts.{declared_both}
 
 -- lists of statements that declare nothing so

@@ -1,5 +1,5 @@
 -- The statements of a block declare with a value its results that have the form Local, and nothing else.
-use Rattle.std.proofs.Common.{◌≡◌, ◌+◌, ◌==◌, ℕ, Bool, true, false, List, [], ◌∷◌, ◌++◌, map, filter, Option, Some, None, inl, inr, refl, sym, ap, ◌∙◌, subst, arith, if◌then◌else◌}
+use Rattle.std.proofs.Common.{◌≡◌, ◌+◌, ◌==◌, ℕ, Bool, true, false, List, [], ◌∷◌, ◌++◌, map, filter, inl, inr, refl, sym, ap, ◌∙◌, arith, if◌then◌else◌}
 use Rattle.std.specs.Prelude.{bytes_eq, bit_and, codes, flat_map, slice_index}
 use Rattle.spv_module.specs.Lists.{id}
 use Rattle.spv_module.specs.declared.inst.Inst.{Inst}
@@ -12,7 +12,7 @@ use Rattle.expr_forward.specs.declared.kinds.InstKind.TheVariants as kind
 use Rattle.expr_forward.specs.Scope.{Scope}
 use Rattle.expr_forward.specs.Kinds.{kind_of}
 use Rattle.expr_forward.specs.Values.{value}
-use Rattle.expr_forward.specs.Statements.{callee_text, call_arguments, atomic_name, atomic_arguments, semantics, set_by, set, is_void, call_text, atomic_text, has_result, bare_call, when_bit, memory_barrier, control_barrier_text, memory_barrier_text, capture, captured_of, chain_text, insert_text, is_variable_form, insert_where_named, inst_text}
+use Rattle.expr_forward.specs.Statements.{callee_text, call_arguments, atomic_name, atomic_arguments, semantics, set_by, set, is_void, has_result, bare_call, when_bit, memory_barrier, capture, captured_of, insert_text, is_variable_form, insert_where_named, inst_text}
 use Rattle.claim_law.specs.Claimed.{IsIn}
 use Rattle.declared_law.specs.Declared.{occurs}
 use Rattle.declared_law.specs.Variables.{is_local}

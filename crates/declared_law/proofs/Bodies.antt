@@ -1,10 +1,9 @@
 -- The body of a planned function declares the variables of the function.
-use Rattle.std.proofs.Common.{◌≡◌, ◌+◌, ◌≤◌, ◌==◌, ◌&&◌, ℕ, Bool, true, false, List, [], ◌∷◌, ◌++◌, length, map, filter, Option, Some, None, append-nil, refl, sym, ap, ◌∙◌, subst, arith, if◌then◌else◌}
+use Rattle.std.proofs.Common.{◌≡◌, ◌+◌, ◌≤◌, ◌==◌, ◌&&◌, ℕ, Bool, true, false, List, [], ◌∷◌, ◌++◌, map, filter, None, append-nil, refl, sym, ap, ◌∙◌, arith, if◌then◌else◌}
 use Rattle.std.specs.Prelude.{flat_map, bit_and, codes, slice_index, is_none}
 use Rattle.spv_ops.specs.Groups.{is_chain}
 use Rattle.spv_module.specs.Lists.{id}
 use Rattle.spv_module.specs.declared.inst.Inst.{Inst}
-use Rattle.spv_module.specs.declared.inst.Block.{Block}
 use Rattle.spv_module.specs.declared.inst.Function.{Function}
 use Rattle.spv_index.specs.Locals.{insts_of}
 use Rattle.hoist_plan.specs.declared.form.Form.{Form}
@@ -16,22 +15,18 @@ use Rattle.name_alloc.specs.declared.claims.Key.{Key}
 use Rattle.name_alloc.specs.declared.claims.Key.TheVariants.{Id}
 use Rattle.glsl_ast.specs.Tree.{Text, Expr, LStep, Stmt, Stmts, stmts_in}
 use Rattle.control_text.specs.Statements.{function_text}
-use Rattle.text_rules.specs.Constants.{Source}
 use Rattle.expr_forward.specs.declared.kinds.InstKind.{InstKind}
 use Rattle.expr_forward.specs.declared.kinds.InstKind.TheVariants as kind
 use Rattle.expr_forward.specs.Scope.{Scope, globals}
 use Rattle.expr_forward.specs.Kinds.{kind_of}
 use Rattle.expr_forward.specs.Values.{value}
-use Rattle.expr_forward.specs.Statements.{set_by, set, is_void, call_text, has_result, atomic_text, semantics, bare_call, when_bit, memory_barrier, capture, captured_of, insert_text, is_variable_form, insert_where_named, inst_text, insts_at, block_text}
-use Rattle.function_text.specs.Functions.{FunctionPlan, written, is_variable, is_hoisted_in, move_text, copies_text, blocks_of, top_text, body_text}
-use Rattle.unit_rules.specs.Translation.{Naming, text_of, scope_of}
-use Rattle.use_chains.specs.Links.{Link}
-use Rattle.claim_law.specs.Claimed.{IsIn, HasName}
+use Rattle.expr_forward.specs.Statements.{set_by, set, is_void, has_result, semantics, bare_call, when_bit, memory_barrier, capture, captured_of, insert_text, is_variable_form, insert_where_named, inst_text, insts_at}
+use Rattle.function_text.specs.Functions.{FunctionPlan, written, is_variable, is_hoisted_in, move_text, blocks_of, top_text, body_text}
 use Rattle.declared_law.specs.Declared.{valued, unset, opened, occurs, AreSame}
-use Rattle.declared_law.specs.Variables.{of_result, is_spare, variables, hoisted, locals, index_key, kept_of, kept, all_flags, phi_pairs, with_value, without_value, Declares}
-use Rattle.declared_law.proofs.Texts.{occurs_both, declared_both, times_in, times_both}
+use Rattle.declared_law.specs.Variables.{of_result, variables, hoisted, locals, index_key, kept_of, kept, all_flags, with_value, without_value}
+use Rattle.declared_law.proofs.Texts.{declared_both, times_in, times_both}
 use Rattle.declared_law.proofs.Bare.{IsBare, bare_both, bare_region}
-use Rattle.declared_law.proofs.Tops.{AllDeclare, opened_first, opened_none, named, index_named, kept_named, top_valued, top_unset, top_declares}
+use Rattle.declared_law.proofs.Tops.{opened_first, opened_none, named, index_named, kept_named, top_valued, top_unset, top_declares}
 use Rattle.declared_law.proofs.Plans.{IsKnown, spares, count, count_both, tree_declares}
 
 -- what is written of an instruction, and of an edge, declares nothing without a value

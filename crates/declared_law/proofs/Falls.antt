@@ -1,12 +1,10 @@
 -- A case target into which another falls is the target of one switch: so what the switches that are reached count for it counts once.
-use Rattle.std.proofs.Common.{◌≡◌, ◌+◌, ◌<◌, ◌≤◌, ◌==◌, ◌&&◌, ℕ, Bool, true, false, List, [], ◌∷◌, length, filter, Option, Some, None, inl, inr, refl, sym, ap, ◌∙◌, subst, arith, if◌then◌else◌}
-use Rattle.std.specs.Prelude.{is_some}
-use Rattle.std.specs.List.{list_any, range_with_len}
+use Rattle.std.proofs.Common.{◌≡◌, ◌+◌, ◌<◌, ◌≤◌, ◌==◌, ◌&&◌, ℕ, Bool, true, false, List, [], ◌∷◌, length, filter, Option, Some, None, refl, sym, ap, ◌∙◌, arith, if◌then◌else◌}
+use Rattle.std.specs.List.{range_with_len}
 use Rattle.std.proofs.lemmas.Bool.{and_parts}
-use Rattle.std.proofs.lemmas.Bool.Decides.{eqb_tells}
 use Rattle.structure_rules.specs.declared.graph.Node.{Node}
 use Rattle.structure_rules.specs.Graph.{nth, leads_to, is_switch}
-use Rattle.structure_rules.specs.Nesting.{role, case_links}
+use Rattle.structure_rules.specs.Nesting.{case_links}
 use Rattle.nest_place.specs.Nests.{IsSound}
 use Rattle.nest_place.proofs.LinkLemmas.{has_first}
 use Rattle.nest_place.proofs.Parenthood.{edge_if, case_from}
@@ -15,7 +13,6 @@ use Rattle.nest_place.proofs.Around.{role_facts}
 use Rattle.structure_recover.specs.Follows.{switch_targets}
 use Rattle.structure_recover.proofs.Counting.{kid_sum}
 use Rattle.switch_ladder.specs.Ladder.{fallen_from}
-use Rattle.region_law.specs.Leads.{In, AreApart}
 use Rattle.tree_law.proofs.SwitchOrder.{in_range, switch_own, back, fall_is}
 use Rattle.declared_law.proofs.Sums.{sum_same, sum_both, sum_none, sum_only, only, only_other, only_own}
 use Rattle.declared_law.proofs.Totals.{range_apart, if_reached}

@@ -1,5 +1,5 @@
 -- A function has at most as many spares as its live phis have values: an edge has at most as many as the phis have values for it.
-use Rattle.std.proofs.Common.{◌≡◌, ◌≤◌, ◌+◌, ◌==◌, ◌&&◌, ℕ, zero, suc, Bool, true, false, List, [], ◌∷◌, ◌++◌, length, map, filter, reverse, Option, Some, None, inl, inr, refl, sym, ap, ◌∙◌, subst, arith, if◌then◌else◌}
+use Rattle.std.proofs.Common.{◌≡◌, ◌≤◌, ◌+◌, ◌==◌, ◌&&◌, ℕ, Bool, true, false, List, [], ◌∷◌, ◌++◌, length, map, filter, Option, Some, None, inl, inr, refl, sym, ap, ◌∙◌, subst, arith, if◌then◌else◌}
 use Rattle.std.specs.Prelude.{flat_map, slice_get}
 use Rattle.std.specs.Option.{option_map_or}
 use Rattle.std.specs.List.{enumerate_from, range_with_len}
@@ -7,7 +7,7 @@ use Rattle.std.proofs.lemmas.Bool.Decides.{eqb_tells}
 use Rattle.spv_module.specs.declared.inst.Inst.{Inst}
 use Rattle.spv_module.specs.declared.inst.Block.{Block}
 use Rattle.spv_module.specs.declared.inst.Function.{Function}
-use Rattle.spv_index.specs.Locals.{block_in, insts_of}
+use Rattle.spv_index.specs.Locals.{block_in}
 use Rattle.structure_recover.proofs.Counting.{kid_sum, one}
 use Rattle.region_law.specs.Leads.{In, AreApart}
 use Rattle.structure_rules.specs.declared.graph.Exit.{Exit as Terminator}
@@ -36,9 +36,8 @@ use Rattle.declared_law.specs.Variables.{phi_pairs}
 use Rattle.declared_law.proofs.Totals.{range_apart}
 use Rattle.declared_law.proofs.Plans.{spare_of_move, edge_spares, to_spares, exit_spares, block_spares, spares}
 use Rattle.hoist_plan.specs.declared.form.Form.{Form}
-use Rattle.phi_copies.specs.Sequence.{Pair}
-use Rattle.function_plan.specs.Phis.{firsts, is_live_phi, live_phis, values_in, is_block, comes_from, pair_with, given_words, given_by, pairs_into, pairs}
-use Rattle.declared_law.proofs.Sums.{sum_same, sum_both, sum_none, sum_only, only, only_other, only_own}
+use Rattle.function_plan.specs.Phis.{firsts, is_live_phi, values_in, is_block, comes_from, pair_with, given_by, pairs_into, pairs}
+use Rattle.declared_law.proofs.Sums.{sum_same, sum_both, sum_none}
 use Rattle.declared_law.proofs.Falls.{swapped, sum_filtered}
 
 -- sums of what is at most as much

@@ -29,9 +29,9 @@ use Rattle.text_rules.specs.Constants.{Source}
 use Rattle.text_rules.specs.Printed.{Reached, is_private, is_written_variable, is_declared_constant, is_written_struct}
 use Rattle.text_rules.specs.Declarations.{Names, type_at, pointee_at, initial, struct_decl, constant_decl, variable_decl, declaration, declarations}
 use Rattle.expr_forward.specs.Scope.{Scope, globals}
-use Rattle.function_text.specs.Functions.{FunctionPlan, written, function_name, function_key, function_decl, body_text}
-use Rattle.unit_rules.specs.Translation.{Naming, text_of, scope_of, IsPlanOf}
-use Rattle.unit_rules.specs.Unit.{source_of, called, is_called, in_order, plan_at, has_id, reached_of, item_names_of, IsUnitOf}
+use Rattle.function_text.specs.Functions.{FunctionPlan, written, function_name, function_decl, body_text}
+use Rattle.unit_rules.specs.Translation.{Naming, scope_of, IsPlanOf}
+use Rattle.unit_rules.specs.Unit.{source_of, called, is_called, in_order, has_id, reached_of, item_names_of, IsUnitOf}
 use Rattle.height_law.proofs.Closed.{sound-of}
 use Rattle.plan_law.specs.InOrder.{IsAmong}
 use Rattle.formed_law.specs.Formed.{IsFormedFunction}
@@ -43,11 +43,10 @@ use Rattle.typed_law.specs.Conforms.{IsConforming, IsFormed}
 use Rattle.ruled_law.proofs.Ruled.{contains_of, among_of}
 use Rattle.call_law.specs.Known.{IsFunctionOf}
 use Rattle.claim_law.specs.Claimed.{IsIn, HasName}
-use Rattle.claim_law.proofs.Listed.{in_left, in_right}
 use Rattle.formed_law.proofs.Formed.{formed}
 use Rattle.formed_law.proofs.Inner.{accepted_inner}
 use Rattle.formed_law.proofs.Labelled.{accepted_labels}
-use Rattle.unit_law.proofs.Ways.{HaveKinds, planned, F, plan_is, written_is}
+use Rattle.unit_law.proofs.Ways.{HaveKinds, planned, F, written_is}
 use Rattle.unit_law.proofs.Lists.{of_filter, as_in}
 use Rattle.unit_law.proofs.ResultShapes.{stands_inside}
 use Rattle.grammar_law.proofs.Inner.{stands_within}

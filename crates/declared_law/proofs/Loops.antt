@@ -1,5 +1,5 @@
 -- Flags of loops are those of headers of loops that are reached.
-use Rattle.std.proofs.Common.{◌≡◌, ◌&&◌, ℕ, suc, Bool, true, false, List, [], ◌∷◌, length, not, Option, Some, None, inl, inr, refl, sym, ap, ◌∙◌, subst, if◌then◌else◌}
+use Rattle.std.proofs.Common.{◌≡◌, ◌&&◌, ℕ, suc, Bool, true, false, List, [], ◌∷◌, length, Option, Some, None, refl, sym, ap, ◌∙◌, subst, if◌then◌else◌}
 use Rattle.std.specs.Prelude.{is_some, find, option_and_then}
 use Rattle.std.specs.List.{list_any, range_with_len}
 use Rattle.std.proofs.lemmas.Bool.{and_parts}
@@ -8,7 +8,7 @@ use Rattle.structure_rules.specs.declared.graph.Merge.TheVariants.{Absent, Selec
 use Rattle.structure_rules.specs.declared.graph.Node.{Node}
 use Rattle.structure_rules.specs.declared.graph.Part.{Part}
 use Rattle.structure_rules.specs.declared.graph.Part.TheVariants.{If, Loop, Cont, Case}
-use Rattle.structure_rules.specs.Graph.{nth, edges, is_value, continue_named, continue_target}
+use Rattle.structure_rules.specs.Graph.{nth, edges, is_value, continue_named}
 use Rattle.structure_rules.specs.Nesting.{inner}
 use Rattle.structure_rules.specs.EdgeKinds.{is_loop, loop_header, nearest_loop, innermost_switch, is_break}
 use Rattle.nest_place.specs.Nests.{IsSound}

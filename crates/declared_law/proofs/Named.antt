@@ -2,7 +2,7 @@
 use Rattle.std.proofs.Common.{◌≡◌, ◌<◌, ◌+◌, ◌==◌, ◌&&◌, ◌||◌, ◌⊎◌, ℕ, zero, suc, Bool, true, false, List, [], ◌∷◌, ◌++◌, length, map, filter, Option, Some, None, inl, inr, refl, sym, ap, ◌∙◌, subst, arith, if◌then◌else◌}
 use Rattle.std.specs.Prelude.{flat_map, slice_get}
 use Rattle.std.specs.Option.{option_map_or}
-use Rattle.std.specs.List.{list_any, enumerate_from, range_with_len}
+use Rattle.std.specs.List.{enumerate_from, range_with_len}
 use Rattle.spv_ops.specs.Opcode.{is}
 use Rattle.spv_ops.specs.Groups.{is_chain}
 use Rattle.spv_ops.specs.declared.Op.TheVariants as code
@@ -27,13 +27,13 @@ use Rattle.phi_copies.specs.declared.moves.Move.{Move}
 use Rattle.phi_copies.specs.declared.moves.Move.TheVariants.{Set, Save, Restore}
 use Rattle.access_paths.specs.Ways.{captured_indexes}
 use Rattle.name_alloc.specs.declared.claims.Key.{Key}
-use Rattle.name_alloc.specs.declared.claims.Key.TheVariants.{Id, Again, Leave, Fell, Captured, Spare}
+use Rattle.name_alloc.specs.declared.claims.Key.TheVariants.{Again, Leave, Fell}
 use Rattle.name_alloc.specs.Naming.{name_of}
 use Rattle.glsl_ast.specs.Tree.{TranslationUnit}
 use Rattle.text_rules.specs.Claims.{label}
 use Rattle.function_plan.specs.Phis.{phi_blocks}
-use Rattle.function_plan.specs.Planned.{has_name, has_name_by}
-use Rattle.function_text.specs.Functions.{FunctionPlan, written, is_variable, is_hoisted}
+use Rattle.function_plan.specs.Planned.{has_name_by}
+use Rattle.function_text.specs.Functions.{FunctionPlan, written, is_variable}
 use Rattle.unit_rules.specs.Translation.{Naming}
 use Rattle.unit_rules.specs.Unit.{claims_by, source_of, IsUnitOf}
 use Rattle.region_law.specs.Leads.{In}

@@ -1,9 +1,8 @@
 -- What the tree of a planned function declares with a value: its results of the form Local, its flags, and the spares of its edges.
-use Rattle.std.proofs.Common.{◌≡◌, ◌+◌, ◌<◌, ◌==◌, ◌&&◌, ℕ, suc, zero, Bool, true, false, List, [], ◌∷◌, ◌++◌, length, map, filter, Option, Some, None, inl, inr, refl, sym, ap, ◌∙◌, subst, arith, if◌then◌else◌}
-use Rattle.std.specs.Prelude.{flat_map, slice_get, is_some, bytes_eq}
+use Rattle.std.proofs.Common.{◌≡◌, ◌+◌, ◌<◌, ◌==◌, ◌&&◌, ℕ, Bool, true, false, List, [], ◌∷◌, ◌++◌, length, map, filter, Option, Some, None, inl, inr, refl, sym, ap, ◌∙◌, arith, if◌then◌else◌}
+use Rattle.std.specs.Prelude.{flat_map, slice_get, is_some}
 use Rattle.std.specs.Option.{option_map_or}
 use Rattle.std.specs.List.{enumerate_from, list_any, range_with_len}
-use Rattle.std.proofs.lemmas.Bool.{and_parts}
 use Rattle.spv_module.specs.Lists.{id}
 use Rattle.spv_module.specs.declared.inst.Id.{Id as IdOf}
 use Rattle.spv_module.specs.declared.inst.Inst.{Inst}
@@ -31,21 +30,19 @@ use Rattle.phi_copies.specs.declared.moves.Move.{Move}
 use Rattle.phi_copies.specs.declared.moves.Move.TheVariants.{Set, Save, Restore}
 use Rattle.name_alloc.specs.declared.claims.Key.{Key}
 use Rattle.name_alloc.specs.declared.claims.Key.TheVariants.{Id, Again, Leave, Fell, Spare}
-use Rattle.glsl_ast.specs.Tree.{Text, stmts_in}
-use Rattle.control_text.specs.declared.place.Place.{Place}
-use Rattle.control_text.specs.Statements.{Blocks, declare_flag, flags as flag_texts, function_text}
+use Rattle.glsl_ast.specs.Tree.{Text}
+use Rattle.control_text.specs.Statements.{Blocks, function_text}
 use Rattle.text_rules.specs.Claims.{label}
 use Rattle.expr_forward.specs.Kinds.{kind_of}
-use Rattle.expr_forward.specs.Statements.{inst_text, insts_at, block_text}
+use Rattle.expr_forward.specs.Statements.{inst_text, block_text}
 use Rattle.function_plan.specs.Phis.{phi_blocks}
-use Rattle.function_text.specs.Functions.{FunctionPlan, written, when, move_text, copies_text, blocks_of}
+use Rattle.function_text.specs.Functions.{FunctionPlan, written, when, move_text, blocks_of}
 use Rattle.unit_law.proofs.Lists.{of_numbered_first}
 use Rattle.claim_law.specs.Claimed.{IsIn}
-use Rattle.claim_law.proofs.Listed.{at_place}
-use Rattle.declared_law.specs.Declared.{valued, occurs}
+use Rattle.declared_law.specs.Declared.{occurs}
 use Rattle.declared_law.specs.Variables.{of_result, is_local_here, locals_of, locals, flag_key, flags, all_flags}
-use Rattle.declared_law.proofs.Texts.{occurs_both, times_in, times_both}
-use Rattle.declared_law.proofs.Sums.{sum_same, sum_both, sum_none}
+use Rattle.declared_law.proofs.Texts.{times_in}
+use Rattle.declared_law.proofs.Sums.{sum_same, sum_both}
 use Rattle.declared_law.proofs.Totals.{weighed, if_reached, tree_weighed}
 use Rattle.declared_law.proofs.Regions.{IsTold, of_block, of_edge, of_flag, of_fell, to_target, of_exit, of_loop, weight, weights, region_times}
 use Rattle.declared_law.proofs.Blocks.{IsSet, insts_times}

@@ -12,7 +12,7 @@ use Rattle.structure_rules.specs.declared.graph.EdgeKind.TheVariants.{Enter, Mer
 use Rattle.structure_rules.specs.declared.graph.Exit.{Exit as Terminator}
 use Rattle.structure_rules.specs.declared.graph.Exit.TheVariants as terminator
 use Rattle.structure_rules.specs.declared.graph.Node.{Node}
-use Rattle.structure_rules.specs.Graph.{nth, leads_to, merge_block, is_conditional, is_switch, is_selection}
+use Rattle.structure_rules.specs.Graph.{nth, merge_block, is_conditional, is_switch, is_selection}
 use Rattle.nest_place.specs.Nests.{IsSound}
 use Rattle.structure_recover.specs.declared.region.Exit.{Exit}
 use Rattle.structure_recover.specs.declared.region.Exit.TheVariants.{Edge, Return, Lost, Closed}
@@ -31,9 +31,9 @@ use Rattle.tree_law.proofs.Placing.{after_item, merged_item}
 use Rattle.glsl_ast.specs.Tree as text
 use Rattle.glsl_ast.specs.Tree.{Text, stmts_in, arms_in}
 use Rattle.control_text.specs.declared.place.Place.{Place}
-use Rattle.control_text.specs.Statements.{Blocks, set_flag, declare_flag, flags, conditional, turn, inside_loop, inside_switch, groups_have_break, plain_block, leave_loop, edge_text, exit_text, entering, onward, entering_case, behind_switch, labels_text, fell_flags, loop_flags, loop_text, region_text, item_text, groups_text, in_order, by_target, leave_again}
+use Rattle.control_text.specs.Statements.{Blocks, declare_flag, flags, conditional, turn, inside_loop, inside_switch, groups_have_break, plain_block, leave_loop, edge_text, exit_text, entering, onward, entering_case, behind_switch, fell_flags, loop_flags, loop_text, region_text, item_text, groups_text, in_order, by_target}
 use Rattle.declared_law.specs.Declared.{valued, declared_in, occurs}
-use Rattle.declared_law.proofs.Texts.{occurs_both, times_in, times_both, times_first, set_none, conditional_times, unless_times, leave_none, turn_times, loop_times}
+use Rattle.declared_law.proofs.Texts.{occurs_both, times_in, times_both, set_none, conditional_times, unless_times, leave_none, turn_times, loop_times}
 use Rattle.declared_law.proofs.Sums.{all_values, group_values, group_targets, ordered_values}
 
 -- what is written of blocks and edges, as the tree asks for it: targets, the flags of loops that have a continue construct, and the order of the groups of a switch

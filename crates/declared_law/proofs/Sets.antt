@@ -1,5 +1,5 @@
 -- Results that have the form Local are those of instructions that are written as declarations.
-use Rattle.std.proofs.Common.{◌≡◌, ◌&&◌, ◌||◌, ◌==◌, not, ◌⊎◌, ℕ, Bool, true, false, List, [], ◌∷◌, Option, Some, None, inl, inr, refl, sym, ap, ◌∙◌, subst, if◌then◌else◌}
+use Rattle.std.proofs.Common.{◌≡◌, ◌&&◌, ◌||◌, ◌==◌, not, ◌⊎◌, ℕ, Bool, true, false, List, [], ◌∷◌, Option, Some, inl, inr, refl, sym, ap, ◌∙◌, subst, if◌then◌else◌}
 use Rattle.std.specs.Prelude.{slice_get}
 use Rattle.std.specs.List.{list_any}
 use Rattle.std.specs.Option.{option_map_or}
@@ -18,7 +18,6 @@ use Rattle.spv_module.specs.declared.inst.Function.{Function}
 use Rattle.spv_index.specs.Locals.{insts_of}
 use Rattle.conformance.specs.Rules.{Options}
 use Rattle.module_semantics.specs.Setting.{Setting}
-use Rattle.hoist_plan.specs.declared.form.Form.{Form}
 use Rattle.hoist_plan.specs.declared.form.Form.TheVariants.{Gone, Forwarded, Local, Hoisted}
 use Rattle.hoist_plan.specs.Plan.{Placed, results, is_live, is_named, is_named_by_use, own_height, is_value, is_hoisted, is_elsewhere, form_with}
 use Rattle.glsl_ast.specs.Tree.{TranslationUnit}
@@ -26,7 +25,7 @@ use Rattle.expr_forward.specs.declared.kinds.InstKind.{InstKind}
 use Rattle.expr_forward.specs.declared.kinds.InstKind.TheVariants as kind
 use Rattle.expr_forward.specs.Scope.{Scope}
 use Rattle.expr_forward.specs.Kinds.{kind_of}
-use Rattle.expr_forward.specs.Statements.{is_void_in, is_void, has_result}
+use Rattle.expr_forward.specs.Statements.{is_void, has_result}
 use Rattle.function_text.specs.Functions.{FunctionPlan}
 use Rattle.unit_rules.specs.Unit.{IsUnitOf}
 use Rattle.plan_law.specs.Ordered.{AreOrdered}
@@ -41,7 +40,7 @@ use Rattle.unit_law.proofs.Ways.{HaveKinds, F, R, V, ordered, plan_is, in_module
 use Rattle.unit_law.proofs.ResultShapes.{stands_inside}
 use Rattle.unit_law.proofs.ResultTypes.{own_row, chain_pointer, variable_pointer}
 use Rattle.declared_law.specs.Variables.{is_local}
-use Rattle.declared_law.proofs.Blocks.{sets, IsSet}
+use Rattle.declared_law.proofs.Blocks.{IsSet}
 
 -- kinds that may be written as declarations
 abbrev may_set : InstKind → Bool

@@ -1,10 +1,7 @@
 -- The spares of a planned function have names: those that the claims of the text give.
-use Rattle.std.proofs.Common.{◌≡◌, ◌<◌, ◌^◌, ◌==◌, ℕ, Bool, true, false, List, [], ◌∷◌, ◌++◌, length, Option, Some, None, inl, inr, refl, sym, ap, ◌∙◌, subst, arith, if◌then◌else◌}
-use Rattle.std.specs.Prelude.{flat_map, slice_get}
+use Rattle.std.proofs.Common.{◌≡◌, ◌<◌, ◌^◌, ◌==◌, ℕ, Bool, true, false, List, [], ◌∷◌, ◌++◌, length, Option, Some, None, inl, inr, refl, sym, ◌∙◌, subst, arith, if◌then◌else◌}
 use Rattle.std.specs.List.{range_with_len}
 use Rattle.spv_module.specs.State.{ModuleState}
-use Rattle.spv_module.specs.Lists.{id}
-use Rattle.spv_module.specs.declared.inst.Block.{Block}
 use Rattle.spv_module.specs.declared.inst.Function.{Function}
 use Rattle.structure_rules.specs.declared.graph.Exit.{Exit as Terminator}
 use Rattle.structure_rules.specs.declared.graph.Exit.TheVariants as terminator
@@ -18,14 +15,12 @@ use Rattle.phi_copies.specs.declared.moves.Move.{Move}
 use Rattle.phi_copies.specs.declared.moves.Move.TheVariants.{Set, Save, Restore}
 use Rattle.phi_copies.specs.Sequence.{IsSequence}
 use Rattle.name_alloc.specs.declared.claims.Key.{Key}
-use Rattle.name_alloc.specs.declared.claims.Key.TheVariants.{Spare}
 use Rattle.name_alloc.specs.Naming.{name_of}
 use Rattle.glsl_ast.specs.Tree.{TranslationUnit}
 use Rattle.function_plan.specs.Once.{once, itself}
 use Rattle.function_plan.specs.Phis.{pairs, firsts}
 use Rattle.function_plan.specs.Targets.{targets_in}
 use Rattle.function_text.specs.Functions.{FunctionPlan, written}
-use Rattle.unit_rules.specs.Translation.{Naming}
 use Rattle.unit_rules.specs.Unit.{IsUnitOf}
 use Rattle.claim_law.specs.Claimed.{IsIn, HasName}
 use Rattle.claim_law.proofs.Listed.{at_place}

@@ -1,9 +1,9 @@
 -- What lists of statements declare with a value.
-use Rattle.std.proofs.Common.{◌≡◌, ◌+◌, ℕ, Bool, true, false, List, [], ◌∷◌, ◌++◌, Option, Some, None, cond, refl, ap, sym, ◌∙◌, arith, if◌then◌else◌}
+use Rattle.std.proofs.Common.{◌≡◌, ◌+◌, ℕ, Bool, List, [], ◌∷◌, ◌++◌, Option, Some, None, refl, ap, sym, ◌∙◌, arith, if◌then◌else◌}
 use Rattle.std.specs.Prelude.{is_some}
 use Rattle.glsl_ast.specs.Tree as text
-use Rattle.glsl_ast.specs.Tree.{Text, Expr, Stmt, stmts_in, name, when, not, type_name, boolean}
-use Rattle.control_text.specs.Statements.{set_flag, declare_flag, flags, conditional, unless_fallen, leave_again, turn}
+use Rattle.glsl_ast.specs.Tree.{Text, Expr, Stmt, stmts_in, name, not}
+use Rattle.control_text.specs.Statements.{set_flag, flags, conditional, unless_fallen, leave_again, turn}
 use Rattle.declared_law.specs.Declared.{declared_by, declared, valued, occurs}
 
 pub occurs_both : (x : Text) (xs ys : List Text) → occurs x (xs ++ ys) ≡ occurs x xs + occurs x ys

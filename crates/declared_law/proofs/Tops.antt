@@ -1,18 +1,15 @@
 -- The declarations at the top of a function: its variables, which have values, and results and kept indexes, which have none.
 use Rattle.std.proofs.Common.{◌≡◌, ◌&&◌, ℕ, Bool, true, false, List, [], ◌∷◌, ◌++◌, map, filter, Option, Some, None, append_assoc, append-nil, refl, sym, ap, ◌∙◌, if◌then◌else◌}
 use Rattle.std.specs.Prelude.{flat_map, is_none, is_some}
-use Rattle.spv_ops.specs.Groups.{is_chain}
 use Rattle.spv_module.specs.Lists.{id}
 use Rattle.spv_module.specs.declared.inst.Inst.{Inst}
 use Rattle.spv_module.specs.declared.inst.Block.{Block}
-use Rattle.access_paths.specs.Ways.{captured_indexes}
 use Rattle.name_alloc.specs.declared.claims.Key.TheVariants.{Id, Captured}
 use Rattle.glsl_ast.specs.Tree.{Text, Expr, Stmt, declare, Stmts, stmt, stmts_in}
-use Rattle.expr_forward.specs.Scope.{Scope, globals}
+use Rattle.expr_forward.specs.Scope.{Scope}
 use Rattle.expr_forward.specs.Statements.{captured_of}
 use Rattle.function_text.specs.Functions.{is_variable, is_hoisted_in, variable_text, hoisted_text, captured_text, captured_texts_of, variables_text, hoisted_texts, captured_texts, in_blocks, top_text}
 use Rattle.declared_law.specs.Declared.{declared, valued, unset, opened}
-use Rattle.declared_law.specs.Variables.{of_result, kept_of}
 use Rattle.declared_law.proofs.Texts.{declared_both}
 
 -- of the instructions of blocks

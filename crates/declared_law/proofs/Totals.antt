@@ -11,7 +11,7 @@ use Rattle.structure_recover.proofs.Counting.{kid_sum}
 use Rattle.region_law.specs.Leads.{In, AreApart}
 use Rattle.tree_law.proofs.SwitchOrder.{in_range}
 use Rattle.claim_law.specs.Claimed.{IsIn}
-use Rattle.declared_law.proofs.Sums.{sum_same, sum_both, sum_none, sum_only, only, only_other, only_own}
+use Rattle.declared_law.proofs.Sums.{sum_same, sum_both, sum_none, sum_only, only}
 
 abbrev pub weighed : {A : Type 0} → (ℕ → ℕ) → List (ℕ × A) → ℕ
 weighed v [] = 0

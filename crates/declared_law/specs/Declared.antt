@@ -1,5 +1,5 @@
 -- The variables that statements declare, in whatever braces.
-use Rattle.std.specs.Prelude.{ℕ, ◌+◌, ◌≡◌, Bool, true, false, List, [], ◌∷◌, ◌++◌, Option, Some, None, is_some, is_none, bytes_eq, flat_map, if◌then◌else◌}
+use Rattle.std.specs.Prelude.{ℕ, ◌+◌, ◌≡◌, Bool, List, [], ◌∷◌, ◌++◌, Option, Some, None, is_some, is_none, bytes_eq, flat_map, if◌then◌else◌}
 use Rattle.glsl_ast.specs.Tree.{Text, Expr, Stmt, declare, when, either, loop, switch, Stmts, no_stmts, stmt, Arms, no_arms, arm, Decl, function, TranslationUnit, translation_unit}
 
 -- the names of those that are declared so: with a value, or without one

@@ -1,5 +1,5 @@
 -- The variables that a function has in a text: those of the module, the values that have one, and what its control flow needs.
-use Rattle.std.specs.Prelude.{ℕ, ◌≡◌, ◌≤◌, ◌==◌, ◌&&◌, Bool, true, false, List, [], ◌++◌, filter, flat_map, length, map, Option, is_some, if◌then◌else◌}
+use Rattle.std.specs.Prelude.{ℕ, ◌≡◌, ◌≤◌, ◌==◌, ◌&&◌, Bool, true, false, List, [], ◌++◌, filter, flat_map, length, map, if◌then◌else◌}
 use Rattle.std.specs.List.{enumerate_from}
 use Rattle.spv_ops.specs.Groups.{is_chain}
 use Rattle.spv_module.specs.State.{ModuleState}
@@ -20,7 +20,7 @@ use Rattle.hoist_plan.specs.declared.form.Form.TheVariants.{Local}
 use Rattle.hoist_plan.specs.Plan.{Scope, form, is_carried}
 use Rattle.access_paths.specs.Ways.{captured_indexes}
 use Rattle.name_alloc.specs.declared.claims.Key.{Key}
-use Rattle.name_alloc.specs.declared.claims.Key.TheVariants.{Main, Id, Again, Leave, Fell, Captured, Spare}
+use Rattle.name_alloc.specs.declared.claims.Key.TheVariants.{Id, Again, Leave, Fell, Captured, Spare}
 use Rattle.name_alloc.specs.declared.claims.Claim.{Claim}
 use Rattle.name_alloc.specs.Law.{AreNames}
 use Rattle.name_alloc.specs.Naming.{name_of}
