@@ -174,7 +174,7 @@ module _ (gs : List Inst) (p : FunctionPlan) (sound : IsSound (graph (written p)
   edge_few : (b t : ℕ) → length (edge_spares p b t) ≤ many b t
   edge_few b t = let a = moves_length b t (p.moves b t) in let c = edge_saves (pairs gs p.scope.form f b t) (p.moves b t) (moves_are b t) in omega (arith, a, c)
 
-  in_all : (b k t : ℕ) → (nth g b).reached ≡ true → target g b k ≡ Some t → In t all
+  pub in_all : (b k t : ℕ) → (nth g b).reached ≡ true → target g b k ≡ Some t → In t all
   in_all b k t here at = let less = reached_inside g t (sound.reached b t here (target_leads (nth g b) k t at)) in in_range 0 (length g) t (omega arith) (omega (arith, less))
 
   to_few : (b k : ℕ) → (nth g b).reached ≡ true → length (to_spares p b (target g b k)) ≤ kid_sum (many b) all
@@ -185,7 +185,7 @@ module _ (gs : List Inst) (p : FunctionPlan) (sound : IsSound (graph (written p)
       by_target (Some t) at = let a = edge_few b t in let c = one_less (many b) t all (in_all b k t here at) in omega (arith, a, c)
 
   -- the targets of a conditional differ
-  differ : (b t u : ℕ) → (nth g b).reached ≡ true → is_conditional (nth g b).exit ≡ true → target g b 0 ≡ Some t → target g b 1 ≡ Some u → t ≡ u → ⊥
+  pub differ : (b t u : ℕ) → (nth g b).reached ≡ true → is_conditional (nth g b).exit ≡ true → target g b 0 ≡ Some t → target g b 1 ≡ Some u → t ≡ u → ⊥
   differ b t u here con first second same = by_targets (nth g b).targets (by_exit (nth g b).exit con ((graph_shaped f).fits b)) off first second
     where
       off : is_pair_of_same (nth g b).targets ≡ false

@@ -11,8 +11,9 @@ pub mod Tops
 pub mod Bodies
 pub mod Sets
 pub mod Known
-pub mod Law
 pub mod Named
 pub mod Few
 pub mod Spared
 pub mod Apart
+pub mod OnceSpares
+pub mod Law

@@ -96,6 +96,17 @@ module _ (p : FunctionPlan) where
       by_reached b true = exit_spare b (nth (graph (written p)) b).exit
       by_reached b false = λ key there. absurd there
 
+-- numbers of blocks
+pub in_all : (n from b : ℕ) → In b (range_with_len from n) → b < from + n
+in_all zero from b there = absurd there
+in_all (suc n) from b (inl same) = omega (arith, same)
+in_all (suc n) from b (inr there) = let less = in_all n (from + 1) b there in omega (arith, less)
+
+pub as_in : (ts : List ℕ) (b : ℕ) → IsIn b ts → In b ts
+as_in [] b there = absurd there
+as_in (t ∷ ts) b (inl same) = inl (sym same)
+as_in (t ∷ ts) b (inr there) = inr (as_in ts b there)
+
 module _ (m : ModuleState) (o : Options) (unit : TranslationUnit) (u : IsUnitOf m o unit) (p : FunctionPlan) (among : IsIn p u.plans) (known : IsKnown p) (graph_is : p.graph ≡ graph (written p)) (gs : List Inst) (globals_are : gs ≡ m.globals) where
   abbrev found : Naming
   found = name_of u.claimed
@@ -154,16 +165,6 @@ module _ (m : ModuleState) (o : Options) (unit : TranslationUnit) (u : IsUnitOf 
           (ap (λ (h : List Node). has_name_by (p.scope.form i.result) (nth h b.0).reached (is i.op code.Variable)) graph_is ∙ (ap (λ (r : Bool). has_name_by (p.scope.form i.result) r (is i.op code.Variable)) on ∙ local_name (p.scope.form i.result) (is i.op code.Variable) local))))
 
   -- flags
-  in_all : (n from b : ℕ) → In b (range_with_len from n) → b < from + n
-  in_all zero from b there = absurd there
-  in_all (suc n) from b (inl same) = omega (arith, same)
-  in_all (suc n) from b (inr there) = let less = in_all n (from + 1) b there in omega (arith, less)
-
-  as_in : (ts : List ℕ) (b : ℕ) → IsIn b ts → In b ts
-  as_in [] b there = absurd there
-  as_in (t ∷ ts) b (inl same) = inl (sym same)
-  as_in (t ∷ ts) b (inr there) = inr (as_in ts b there)
-
   flag_named : (key : IdOf → Key) (flag needs : ℕ → Bool) → ((b : ℕ) → In b (range_with_len 0 (length g)) → flag b ≡ needs b) → ((b : ℕ) (block : Block) → slice_get f.blocks b ≡ Some block → flag b ≡ true → Named (key block.label)) → AllKeys Named (flags gs f p.scope.form p.scope.carried key needs)
   flag_named key flag needs same named =
       all_mapped Named (flag_key gs f p.scope.form p.scope.carried key) (filter needs (range_with_len 0 (length g))) (all_passing needs (λ b. Named (flag_key gs f p.scope.form p.scope.carried key b)) (range_with_len 0 (length g)) (λ b there on.

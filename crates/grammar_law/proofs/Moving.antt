@@ -57,7 +57,7 @@ number_is : (j k : ℕ) → Some j ≡ Some k → j ≡ k
 number_is j k e = cc
 
 -- a spare is numbered by the spares before
-save_number : (ps : List Pair) (h : List Move) (j : ℕ) (t : Var) → IsCopyNext ps h (Save j t) ⊎ IsSaveNext ps h (Save j t) → (j ≡ saves h) × IsTargetOf ps t
+pub save_number : (ps : List Pair) (h : List Move) (j : ℕ) (t : Var) → IsCopyNext ps h (Save j t) ⊎ IsSaveNext ps h (Save j t) → (j ≡ saves h) × IsTargetOf ps t
 save_number ps h j t (inl copy) = not_both (is_save (Save j t)) refl (ap is_save copy.move ∙ save_move (pair_at ps copy.at) (spare_of h))
 save_number ps h j t (inr save) = (number save.move, (pair_at ps save.at, pair_in ps save.at save.first.holds.below, given save.move))
   where
