@@ -16,4 +16,5 @@ pub mod Few
 pub mod Spared
 pub mod Apart
 pub mod OnceSpares
+pub mod OnceAll
 pub mod Law

@@ -186,7 +186,7 @@ module _ (IsKeyOf : Inst → Text → Type 0) (tells : (i j : Inst) (x : Text) �
         ],
       )
 
-variable_result : (o : Op) → is o code.Variable ≡ true → has_result o ≡ true
+pub variable_result : (o : Op) → is o code.Variable ≡ true → has_result o ≡ true
 variable_result o on = typed_result o (variable_has o on)
 
 pub chain_result : (o : Op) → is_chain o ≡ true → has_result o ≡ true
@@ -230,14 +230,14 @@ module _ (m : ModuleState) (o : Options) (unit : TranslationUnit) (u : IsUnitOf 
   in_it : Contains m.functions f
   in_it = contains_of m.functions f is_one
 
-  apart : AreApart (insts_of f)
+  pub apart : AreApart (insts_of f)
   apart = (inside s entry right f in_it).order.apart
 
-  some_result : (i : Inst) → IsIn i (insts_of f) → has_result i.op ≡ true → i.result ≡ 0 → ⊥
+  pub some_result : (i : Inst) → IsIn i (insts_of f) → has_result i.op ≡ true → i.result ≡ 0 → ⊥
   some_result i there has = ((inside s entry right f in_it).formed i (among_in (insts_of f) i there)).result has
 
   -- a variable is no value, and what is declared without a value is one
-  no_value : (i : Inst) → IsIn i (insts_of f) → is_variable i ≡ true → is_value m.globals i.ty ≡ false
+  pub no_value : (i : Inst) → IsIn i (insts_of f) → is_variable i ≡ true → is_value m.globals i.ty ≡ false
   no_value i there on =
       let here = among_in (insts_of f) i there in
       let g = local_row s entry right f in_it i here (typed_some s entry right f in_it i here (variable_has i.op on)) in

@@ -49,7 +49,7 @@ leave_inside g h on =
     by_break b t true at on = by_header b t (option_and_then loop_header (nearest_loop g b)) refl (and_parts (is_break g b t) (is_some (innermost_switch g b)) at).0 on
 
 -- the label of a flag
-abbrev flow_number : Key → ℕ
+abbrev pub flow_number : Key → ℕ
 flow_number (Again l) = l.0
 flow_number (Leave l) = l.0
 flow_number (Fell l) = l.0
