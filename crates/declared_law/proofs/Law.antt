@@ -25,6 +25,7 @@ use Rattle.name_alloc.specs.declared.claims.Key.{Key}
 use Rattle.name_alloc.specs.Naming.{name_of}
 use Rattle.glsl_ast.specs.Tree as text
 use Rattle.glsl_ast.specs.Tree.{Text, Decl, Stmts, stmts_in, TranslationUnit}
+use Rattle.text_rules.specs.Claims.{label}
 use Rattle.text_rules.specs.Constants.{Source}
 use Rattle.text_rules.specs.Printed.{Reached, is_private, is_written_variable, is_declared_constant, is_written_struct}
 use Rattle.text_rules.specs.Declarations.{Names, type_at, pointee_at, initial, struct_decl, constant_decl, variable_decl, declaration, declarations}
@@ -54,7 +55,7 @@ use Rattle.naming_law.specs.Ends.{term_of}
 use Rattle.function_law.proofs.TreeWays.{AreGroups}
 use Rattle.naming_law.proofs.Keys.{S}
 use Rattle.naming_law.proofs.Unit.{found_plan}
-use Rattle.naming_law.proofs.Planned.{leave_inside, flags_apart}
+use Rattle.naming_law.proofs.Planned.{same_block, leave_inside, flags_apart}
 use Rattle.naming_law.proofs.Functions.{planned_of, function_of_plan}
 use Rattle.naming_law.proofs.Tree.{tree_written}
 use Rattle.declared_law.specs.Declared.{valued, unset, occurs, AreSame, function_in, functions_in}
@@ -66,6 +67,7 @@ use Rattle.declared_law.proofs.Known.{known}
 use Rattle.declared_law.proofs.Few.{few_spares}
 use Rattle.declared_law.proofs.Named.{are_spares, all_named}
 use Rattle.declared_law.proofs.Spared.{spares_named}
+use Rattle.declared_law.proofs.OnceAll.{declared_once}
 use Rattle.function_plan.specs.Phis.{pairs}
 use Rattle.accepted_law.proofs.Small.{args_in, read_operands}
 use Rattle.grammar_law.proofs.FewPairs.{few_pairs}
@@ -113,10 +115,6 @@ of_functions : (q : Text × Stmts) (ps : List FunctionPlan) → IsIn q (flat_map
 of_functions q [] there = absurd there
 of_functions q (p ∷ ps) (inl same) = (p, inl refl, same)
 of_functions q (p ∷ ps) (inr there) = let w = of_functions q ps there in (w.0, inr w.1, w.2)
-
--- What is left of a planned function: its variables have names apart.
-abbrev pub IsOnce : FunctionPlan → Type 0
-IsOnce p = (x : Text) → occurs x (unset (stmts_in (body_text p)) ++ valued (stmts_in (body_text p))) ≤ 1
 
 module _ (bytes : List ℕ) (m : ModuleState) (o : Options) (read : IsReadFrom bytes m) (fine : IsFine m o) (kinds : HaveKinds m.globals) (unit : TranslationUnit) (u : IsUnitOf m o unit) (inv : Invocation) where
   abbrev src : Source
@@ -173,18 +171,25 @@ module _ (bytes : List ℕ) (m : ModuleState) (o : Options) (read : IsReadFrom b
     globals_are : globals p.scope ≡ m.globals
     globals_are = ap globals plan_so.scope_is
 
+    -- labels are those of one block, and all variables have names
+    labels : (a b : ℕ) → a < length (written p).blocks → b < length (written p).blocks → label (written p) a ≡ label (written p) b → a ≡ b
+    labels a b a_in b_in same = same_block m o unit u p among (accepted_labels bytes m o read fine (written p) one) a b a_in b_in same
+
+    all_have : (key : Key) → IsIn key (without_value (globals p.scope) (written p) p.scope.form p.scope.carried ++ with_value (globals p.scope) (written p) p.scope.form p.scope.carried (spares p)) → HasName found key
+    all_have = all_named m o unit u p among known_so plan_so.graph_is (globals p.scope) globals_are (spares_named m o unit u p among plan_so.graph_is few_so_pairs plan_so.moves_are)
+
     -- The body of a planned function.
-    pub declares : IsOnce p → (f : Function) → (plan : IsPlanOf src found f p) → Declares m.globals f (scope_of src found f plan.links).form (scope_of src found f plan.links).carried found (stmts_in (body_text p))
-    declares once f plan = record {
+    pub declares : (f : Function) → (plan : IsPlanOf src found f p) → Declares m.globals f (scope_of src found f plan.links).form (scope_of src found f plan.links).carried found (stmts_in (body_text p))
+    declares f plan = record {
       spares = spares p;
       are_spares = are_spares p;
       few = subst (λ (w : Scope). length (spares p) ≤ length (phi_pairs m.globals w.setting.function w.form w.carried)) plan.scope_is (few_spares m.globals p sound plan_so.moves_are);
       at_top = body_opened p;
       without = subst (λ (w : Scope). AreSame (unset (stmts_in (body_text p))) (map w.setting.key (without_value (globals w) w.setting.function w.form w.carried))) plan.scope_is (λ x. ap (occurs x) (body_unset p));
       with = subst (λ (w : Scope). AreSame (valued (stmts_in (body_text p))) (map w.setting.key (with_value (globals w) w.setting.function w.form w.carried (spares p)))) plan.scope_is (body_valued p known_so);
-      once = once;
+      once = declared_once m o unit u inv p among o.entry r one known_so plan_so labels all_have;
       named = subst (λ (w : Scope). (key : Key) → IsIn key (without_value (globals w) w.setting.function w.form w.carried ++ with_value (globals w) w.setting.function w.form w.carried (spares p)) → HasName found key) plan.scope_is
-          (all_named m o unit u p among known_so plan_so.graph_is (globals p.scope) globals_are (spares_named m o unit u p among plan_so.graph_is few_so_pairs plan_so.moves_are));
+          all_have;
     }
 
   in_plans : (p : FunctionPlan) (order : List IdOf) → IsIn p (in_order order u.plans) → IsIn p u.plans
@@ -196,9 +201,9 @@ module _ (bytes : List ℕ) (m : ModuleState) (o : Options) (read : IsReadFrom b
       by_plan (Some q) at (inl same) later = subst (λ (x : FunctionPlan). IsIn x u.plans) same (found_plan m o unit u inv u.plans n q at).0
       by_plan (Some q) at (inr there) later = later there
 
-  -- The law, where no name is declared twice.
-  pub has_variables : ((p : FunctionPlan) → IsIn p u.plans → IsOnce p) → HasVariables m o unit
-  has_variables left = record {
+  -- The law.
+  pub has_variables : HasVariables m o unit
+  has_variables = record {
     entry = u.entry;
     is_entry = u.is_entry;
     order = u.order;
@@ -225,6 +230,6 @@ module _ (bytes : List ℕ) (m : ModuleState) (o : Options) (read : IsReadFrom b
               links = plan.2.links;
               live = plan.2.live;
               name = ap function_name plan.2.scope_is;
-              declares = declares w.0 among (left w.0 among) plan.0 plan.2;
+              declares = declares w.0 among plan.0 plan.2;
             }),
           )
