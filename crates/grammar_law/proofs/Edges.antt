@@ -54,7 +54,7 @@ use Rattle.grammar_law.proofs.PairsOf.{IsPairOf, pair_of, in_once}
 use Rattle.grammar_law.proofs.PhiNames.{target_value, target_type, source_uses}
 
 -- an edge is among those of the block
-in_targets : (ts : List ℕ) (t : ℕ) → list_any (λ (x : ℕ). x == t) ts ≡ true → IsIn t ts
+pub in_targets : (ts : List ℕ) (t : ℕ) → list_any (λ (x : ℕ). x == t) ts ≡ true → IsIn t ts
 in_targets [] t on = cc
 in_targets (x ∷ ts) t on = by_test (x == t) refl on (in_targets ts t)
   where

@@ -57,7 +57,7 @@ number_is : (j k : ℕ) → Some j ≡ Some k → j ≡ k
 number_is j k e = cc
 
 -- a spare is numbered by the spares before
-save_number : (ps : List Pair) (h : List Move) (j : ℕ) (t : Var) → IsCopyNext ps h (Save j t) ⊎ IsSaveNext ps h (Save j t) → (j ≡ saves h) × IsTargetOf ps t
+pub save_number : (ps : List Pair) (h : List Move) (j : ℕ) (t : Var) → IsCopyNext ps h (Save j t) ⊎ IsSaveNext ps h (Save j t) → (j ≡ saves h) × IsTargetOf ps t
 save_number ps h j t (inl copy) = not_both (is_save (Save j t)) refl (ap is_save copy.move ∙ save_move (pair_at ps copy.at) (spare_of h))
 save_number ps h j t (inr save) = (number save.move, (pair_at ps save.at, pair_in ps save.at save.first.holds.below, given save.move))
   where
@@ -198,6 +198,16 @@ whole_move : (ps qs : List Pair) (n : ℕ) (x : Move) → ((p : Pair) → IsIn p
 whole_move ps qs n (Set t src) sub w = (w.0, sub w.0 w.1, w.2, w.3)
 whole_move ps qs n (Save k t) sub w = (w.0, (w.1.0, sub w.1.0 w.1.1, w.1.2))
 whole_move ps qs n (Restore t k) sub w = (w.0, (w.1.0, sub w.1.0 w.1.1, w.1.2))
+
+-- an edge has at most as many spares as pairs
+pub edge_saves : (ps : List Pair) (moves : List Move) → IsSequence (firsts ps) moves → saves moves ≤ length ps
+edge_saves ps moves is =
+    let own : HaveOwnTargets (filter is_proper (firsts ps)) = AllPairs-filter (λ (p : Pair) (q : Pair). target p ≡ target q → ⊥) is_proper (firsts ps) (own_targets ps) in
+    let few : saves (reverse moves) ≤ length (filter is_proper (firsts ps)) = saves_few (filter is_proper (firsts ps)) (reverse moves) own is.next in
+    let first_few : length (firsts ps) ≤ length ps = once_few target (λ n. false) ps in
+    let proper_few = filter_few is_proper (firsts ps) in
+    let same = saves_reverse moves in
+    omega (arith, few, first_few, proper_few, same)
 
 -- the law
 pub edge_moves : (ps : List Pair) (moves : List Move) → IsSequence (firsts ps) moves → length ps < 2 ^ 32 → (x : Move) → IsIn x moves → IsMoveOf ps (spares_in moves) x

@@ -110,12 +110,12 @@ module _ (gs : List Inst) (f : Function) where
   ]
 
 -- each result is that of one instruction
-have_not : (id : ℕ) (is : List Inst) (j : Inst) → HaveNot id is → IsIn j is → j.result ≡ id → ⊥
+pub have_not : (id : ℕ) (is : List Inst) (j : Inst) → HaveNot id is → IsIn j is → j.result ≡ id → ⊥
 have_not id [] j none there same = there
 have_not id (x ∷ is) j none (inl here) same = none.0 (ap (λ (y : Inst). y.result) here ∙ same)
 have_not id (x ∷ is) j none (inr there) same = have_not id is j none.1 there same
 
-one_inst : (is : List Inst) (i j : Inst) → AreApart is → IsIn i is → IsIn j is → i.result ≡ j.result → (i.result ≡ 0 → ⊥) → i ≡ j
+pub one_inst : (is : List Inst) (i j : Inst) → AreApart is → IsIn i is → IsIn j is → i.result ≡ j.result → (i.result ≡ 0 → ⊥) → i ≡ j
 one_inst [] i j apart a b same some = absurd a
 one_inst (x ∷ is) i j apart (inl a) (inl b) same some = sym a ∙ b
 one_inst (x ∷ is) i j apart (inl a) (inr b) same some =
@@ -186,7 +186,7 @@ module _ (IsKeyOf : Inst → Text → Type 0) (tells : (i j : Inst) (x : Text) �
         ],
       )
 
-variable_result : (o : Op) → is o code.Variable ≡ true → has_result o ≡ true
+pub variable_result : (o : Op) → is o code.Variable ≡ true → has_result o ≡ true
 variable_result o on = typed_result o (variable_has o on)
 
 pub chain_result : (o : Op) → is_chain o ≡ true → has_result o ≡ true
@@ -195,7 +195,7 @@ chain_result code.AccessChain on = refl
 chain_result code.InBoundsAccessChain on = refl
 chain_result o on = cc
 
-number_from : (xs : List ℕ) (from : ℕ) (n : ℕ × ℕ) → IsIn n (enumerate_from from xs) → from ≤ n.0
+pub number_from : (xs : List ℕ) (from : ℕ) (n : ℕ × ℕ) → IsIn n (enumerate_from from xs) → from ≤ n.0
 number_from [] from n there = absurd there
 number_from (x ∷ xs) from n (inl same) = let here : from ≡ n.0 = ap (λ (q : ℕ × ℕ). q.0) same in omega (arith, here)
 number_from (x ∷ xs) from n (inr there) = let later = number_from xs (from + 1) n there in omega (arith, later)
@@ -230,14 +230,14 @@ module _ (m : ModuleState) (o : Options) (unit : TranslationUnit) (u : IsUnitOf 
   in_it : Contains m.functions f
   in_it = contains_of m.functions f is_one
 
-  apart : AreApart (insts_of f)
+  pub apart : AreApart (insts_of f)
   apart = (inside s entry right f in_it).order.apart
 
-  some_result : (i : Inst) → IsIn i (insts_of f) → has_result i.op ≡ true → i.result ≡ 0 → ⊥
+  pub some_result : (i : Inst) → IsIn i (insts_of f) → has_result i.op ≡ true → i.result ≡ 0 → ⊥
   some_result i there has = ((inside s entry right f in_it).formed i (among_in (insts_of f) i there)).result has
 
   -- a variable is no value, and what is declared without a value is one
-  no_value : (i : Inst) → IsIn i (insts_of f) → is_variable i ≡ true → is_value m.globals i.ty ≡ false
+  pub no_value : (i : Inst) → IsIn i (insts_of f) → is_variable i ≡ true → is_value m.globals i.ty ≡ false
   no_value i there on =
       let here = among_in (insts_of f) i there in
       let g = local_row s entry right f in_it i here (typed_some s entry right f in_it i here (variable_has i.op on)) in

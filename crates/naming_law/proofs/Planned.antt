@@ -49,7 +49,7 @@ leave_inside g h on =
     by_break b t true at on = by_header b t (option_and_then loop_header (nearest_loop g b)) refl (and_parts (is_break g b t) (is_some (innermost_switch g b)) at).0 on
 
 -- the label of a flag
-abbrev flow_number : Key → ℕ
+abbrev pub flow_number : Key → ℕ
 flow_number (Again l) = l.0
 flow_number (Leave l) = l.0
 flow_number (Fell l) = l.0
@@ -57,7 +57,7 @@ flow_number _ = 0
 
 module _ (m : ModuleState) (o : Options) (unit : TranslationUnit) (u : IsUnitOf m o unit) (p : FunctionPlan) (among : IsIn p u.plans) (once : AreOnceLabels (written p).blocks) where
   -- a block has a label of its own
-  same_block : (a b : ℕ) → a < length (written p).blocks → b < length (written p).blocks → (label_of p a).0 ≡ (label_of p b).0 → a ≡ b
+  pub same_block : (a b : ℕ) → a < length (written p).blocks → b < length (written p).blocks → (label_of p a).0 ≡ (label_of p b).0 → a ≡ b
   same_block a b in_a in_b same =
       let x = at_inside (written p).blocks a in_a in
       let y = at_inside (written p).blocks b in_b in

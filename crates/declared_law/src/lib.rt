@@ -1,0 +1,2 @@
+// The variables that the functions of a text declare. Definitions and laws alone.
+#![tactic(auto)]
