@@ -1,0 +1,6 @@
+pub mod Walked
+pub mod Sited
+pub mod Turned
+pub mod Placed
+pub mod Guarded
+pub mod Shaped

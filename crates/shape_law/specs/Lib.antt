@@ -1,0 +1,6 @@
+pub mod Deeds
+pub mod Walks
+pub mod Pairs
+pub mod Quiet
+pub mod Paired
+pub mod Shape
