@@ -4,3 +4,4 @@ pub mod Turned
 pub mod Placed
 pub mod Guarded
 pub mod Shaped
+pub mod Unseen

@@ -2,5 +2,6 @@ pub mod Deeds
 pub mod Walks
 pub mod Pairs
 pub mod Quiet
+pub mod Unseen
 pub mod Paired
 pub mod Shape
