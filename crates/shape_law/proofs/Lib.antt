@@ -5,3 +5,4 @@ pub mod Placed
 pub mod Guarded
 pub mod Shaped
 pub mod Unseen
+pub mod Leaves
