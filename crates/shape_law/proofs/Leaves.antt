@@ -92,7 +92,7 @@ module _ (w : Scope) where
   insert-leaves : (block : ℕ) (i : Inst) (composite : ℕ) (steps : List LStep) (object : ℕ) → AreLeaves (insert_where_named w block i composite steps object)
   insert-leaves block i composite steps object = if-leaves (is_variable_form (w.form i.result)) _ [] (both-leaves (set_by w i _ (w.form i.result)) (_ ∷ []) (set-leaves i _ (w.form i.result)) (tt, tt)) tt
 
-  inst-leaves : (block : ℕ) (i : Inst) (k : InstKind) → AreLeaves (inst_text w block i k)
+  pub inst-leaves : (block : ℕ) (i : Inst) (k : InstKind) → AreLeaves (inst_text w block i k)
   inst-leaves block i kind.Load = set-leaves i _ (w.form i.result)
   inst-leaves block i kind.Store = (tt, tt)
   inst-leaves block i kind.Call = if-leaves (is_void w i.ty) _ _ (tt, tt) (set-leaves i _ (w.form i.result))

@@ -6,3 +6,4 @@ pub mod Guarded
 pub mod Shaped
 pub mod Unseen
 pub mod Leaves
+pub mod Done

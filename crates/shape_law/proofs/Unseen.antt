@@ -68,7 +68,7 @@ module _ (o : Outer) where
   quiet-leaf again leaf off ts = refl
   quiet-leaf (give e) leaf off ts = ap (λ ds. if_any ds ts) off
 
-  leaf-quiet : (s : Stmt) → IsLeaf s → UsesStmt (unseen o) s → seen_of (own_deeds s) ≡ []
+  pub leaf-quiet : (s : Stmt) → IsLeaf s → UsesStmt (unseen o) s → seen_of (own_deeds s) ≡ []
   leaf-quiet (declare t x e) leaf uses = if-quiet e uses.2
   leaf-quiet (assign place e) leaf uses = none-of (place_deeds place) (deeds true e) (place-quiet place uses.0) (uses-quiet true e uses.1)
   leaf-quiet (Stmt.call f args) leaf uses = drop-first (calls f) (deeds_of args) uses.0.1 ∙ all-quiet args uses.1

@@ -5,3 +5,4 @@ pub mod Quiet
 pub mod Unseen
 pub mod Paired
 pub mod Shape
+pub mod Asked
