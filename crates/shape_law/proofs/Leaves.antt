@@ -65,7 +65,7 @@ module _ (o : Outer) where
   path-assigned (lvalue x steps) is = (x, first-seen (assigns x) (step_deeds steps) is.0 (steps-quiet o steps is.1))
 
 -- the statements of instructions
-both-leaves : (xs ys : List Stmt) → AreLeaves xs → AreLeaves ys → AreLeaves (xs ++ ys)
+pub both-leaves : (xs ys : List Stmt) → AreLeaves xs → AreLeaves ys → AreLeaves (xs ++ ys)
 both-leaves [] ys p q = q
 both-leaves (x ∷ xs) ys p q = (p.0, both-leaves xs ys p.1 q)
 

@@ -7,3 +7,4 @@ pub mod Shaped
 pub mod Unseen
 pub mod Leaves
 pub mod Done
+pub mod Functions
