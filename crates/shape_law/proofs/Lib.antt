@@ -8,3 +8,4 @@ pub mod Unseen
 pub mod Leaves
 pub mod Done
 pub mod Functions
+pub mod Planned
