@@ -9,3 +9,4 @@ pub mod Leaves
 pub mod Done
 pub mod Functions
 pub mod Planned
+pub mod Found
