@@ -10,3 +10,4 @@ pub mod Done
 pub mod Functions
 pub mod Planned
 pub mod Found
+pub mod Units
