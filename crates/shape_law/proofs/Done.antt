@@ -1,5 +1,5 @@
 -- What is seen of the statements of a block is what its instructions do.
-use Rattle.std.proofs.Common.{◌≡◌, ◌||◌, ◌&&◌, ◌==◌, ℕ, Bool, true, false, List, [], ◌∷◌, ◌++◌, map, filter, flat_map, drop, is_some, refl, sym, ◌∙◌, ap, ap₂, subst, append-nil, if◌then◌else◌}
+use Rattle.std.proofs.Common.{◌≡◌, ◌||◌, ◌&&◌, ◌==◌, ℕ, Bool, true, false, List, [], ◌∷◌, ◌++◌, map, filter, flat_map, drop, is_some, refl, sym, ◌∙◌, ap, ap₂, subst, if◌then◌else◌}
 use Rattle.std.specs.Prelude.{slice_index, codes, bit_and}
 use Rattle.std.specs.List.{AllZip, list_all}
 use Rattle.std.proofs.lemmas.List.Elements.{filter-append}
@@ -14,23 +14,23 @@ use Rattle.profile_rules.specs.MemoryRules.{pointee_of}
 use Rattle.hoist_plan.specs.declared.form.Form.{Form}
 use Rattle.hoist_plan.specs.declared.form.Form.TheVariants.{Local, Hoisted}
 use Rattle.name_alloc.specs.declared.claims.Key.TheVariants.{Id}
-use Rattle.glsl_ast.specs.Tree.{Text, Expr, exprs_in, LValue, Stmt}
+use Rattle.glsl_ast.specs.Tree.{Text, Expr, exprs_in, Stmt}
 use Rattle.text_rules.specs.Constants.{Source}
 use Rattle.expr_forward.specs.Kinds.{kind_in, kind_of}
 use Rattle.expr_forward.specs.declared.kinds.InstKind.{InstKind}
 use Rattle.expr_forward.specs.declared.kinds.InstKind.TheVariants as kind
 use Rattle.expr_forward.specs.Scope.{Scope, globals}
 use Rattle.expr_forward.specs.Values.{value}
-use Rattle.expr_forward.specs.Paths.{place_text, place_expr, lvalue_expr}
+use Rattle.expr_forward.specs.Paths.{place_text, place_expr}
 use Rattle.expr_forward.specs.Statements.{set_by, is_void, callee_text, call_argument, call_arguments, has_result, comparator, atomic_operand, atomic_name, atomic_arguments, bare_call, when_bit, memory_barrier, semantics, is_variable_form, inst_text}
-use Rattle.spell_law.specs.Uses.{UsesExpr, UseEach}
+use Rattle.spell_law.specs.Uses.{UseEach}
 use Rattle.spell_law.specs.Statements.{EachStmt}
-use Rattle.shape_law.specs.Deeds.{Deed, reads, assigns, calls, deeds, deeds_of, place_deeds, own_deeds}
+use Rattle.shape_law.specs.Deeds.{Deed, reads, assigns, calls, deeds, deeds_of, place_deeds}
 use Rattle.shape_law.specs.Walks.{Outer, is_in, atomics, barriers, is_seen}
 use Rattle.shape_law.specs.Pairs.{Act, loads, stores, enters, updates, bars, does, is_read, is_done}
 use Rattle.shape_law.specs.Shape as shape
-use Rattle.shape_law.specs.Shape.{constant_word, memory_barriers, acts_in, acts_of}
-use Rattle.shape_law.specs.Unseen.{unseen, AreLeaves, if_some, seen_in, IsPath}
+use Rattle.shape_law.specs.Shape.{memory_barriers, acts_in, acts_of}
+use Rattle.shape_law.specs.Unseen.{unseen, AreLeaves, if_some, seen_in}
 use Rattle.shape_law.specs.Asked.{HasVariable, IsArgument, AreArguments, AsksSeen, AllAskSeen}
 use Rattle.shape_law.proofs.Unseen.{uses-quiet, leaf-quiet}
 use Rattle.shape_law.proofs.Leaves.{seen-both, path-read, path-assigned, inst-leaves}

@@ -1,22 +1,19 @@
 -- The statements of a block have no statements inside, so each is seen by its own deeds.
 use Rattle.std.proofs.Common.{◌≡◌, ℕ, Bool, true, false, List, [], ◌∷◌, ◌++◌, map, filter, flat_map, refl, sym, ◌∙◌, ap, append_assoc, append-nil, if◌then◌else◌}
-use Rattle.std.proofs.lemmas.List.Elements.{filter-append}
-use Rattle.spv_ops.specs.declared.AtomicOp.{AtomicOp}
 use Rattle.spv_module.specs.declared.inst.Inst.{Inst}
 use Rattle.hoist_plan.specs.declared.form.Form.{Form}
 use Rattle.hoist_plan.specs.declared.form.Form.TheVariants.{Local, Hoisted}
-use Rattle.glsl_ast.specs.Tree as tree
 use Rattle.glsl_ast.specs.Tree.{Text, Expr, name, LStep, LValue, lvalue, Stmt, declare, assign, when, either, loop, switch, leave, again, give, stmts_in}
 use Rattle.expr_forward.specs.declared.kinds.InstKind.{InstKind}
 use Rattle.expr_forward.specs.declared.kinds.InstKind.TheVariants as kind
 use Rattle.expr_forward.specs.Scope.{Scope}
 use Rattle.expr_forward.specs.Paths.{further, lvalue_expr}
-use Rattle.expr_forward.specs.Statements.{set_by, set, call_text, is_void, atomic_text, has_result, bare_call, when_bit, memory_barrier, semantics, capture, captured_of, insert_where_named, is_variable_form, inst_text, insts_at, block_text, kind_of}
+use Rattle.expr_forward.specs.Statements.{set_by, is_void, has_result, bare_call, when_bit, memory_barrier, semantics, capture, captured_of, insert_where_named, is_variable_form, inst_text, insts_at, block_text, kind_of}
 use Rattle.shape_law.specs.Deeds.{Deed, reads, assigns, deeds, step_deeds, place_deeds, own_deeds}
 use Rattle.shape_law.specs.Walks as walks
-use Rattle.shape_law.specs.Walks.{Outer, is_in, is_seen, Token, if_any, walk_stmt, walk}
+use Rattle.shape_law.specs.Walks.{Outer, is_seen, Token, if_any, walk_stmt, walk}
 use Rattle.shape_law.specs.Quiet.{Does}
-use Rattle.shape_law.specs.Unseen.{unseen, IsLeaf, AreLeaves, if_some, seen_in, IsPath}
+use Rattle.shape_law.specs.Unseen.{IsLeaf, AreLeaves, if_some, seen_in, IsPath}
 use Rattle.shape_law.proofs.Unseen.{steps-quiet}
 
 module _ (o : Outer) where

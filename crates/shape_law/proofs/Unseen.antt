@@ -3,7 +3,6 @@ use Rattle.std.proofs.Common.{◌≡◌, ℕ, Bool, true, false, List, [], ◌�
 use Rattle.std.proofs.lemmas.List.Elements.{filter-append}
 use Rattle.phi_copies.specs.declared.moves.Move.{Move}
 use Rattle.phi_copies.specs.declared.moves.Move.TheVariants.{Set, Save, Restore}
-use Rattle.glsl_ast.specs.Tree as tree
 use Rattle.glsl_ast.specs.Tree.{Text, Expr, literal, name, build, not, flip, binary, choose, length_of, Exprs, no_exprs, expr, LStep, LValue, lvalue, Stmt, declare, assign, when, either, loop, switch, leave, again, give, stmts_in}
 use Rattle.control_text.specs.Statements.{Blocks}
 use Rattle.function_text.specs.Functions.{FunctionPlan, move_text}
@@ -11,7 +10,7 @@ use Rattle.spell_law.specs.Uses.{UsesExpr, UseExprs, UseSteps, UsesLValue}
 use Rattle.spell_law.specs.Statements.{UsesIfSome, UsesStmt, EachStmt}
 use Rattle.shape_law.specs.Deeds.{Deed, reads, assigns, calls, deeds, deeds_of, deeds_if, step_deeds, place_deeds, own_deeds}
 use Rattle.shape_law.specs.Walks.{Outer, is_in, is_seen, Token, if_any, walk_stmt, walk}
-use Rattle.shape_law.specs.Quiet.{IsQuiet, AreQuiet, Does, AreSeen}
+use Rattle.shape_law.specs.Quiet.{AreQuiet, Does, AreSeen}
 use Rattle.shape_law.specs.Unseen.{unseen, IsLeaf, AreLeaves}
 
 module _ (o : Outer) where
