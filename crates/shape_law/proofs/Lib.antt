@@ -10,4 +10,6 @@ pub mod Done
 pub mod Functions
 pub mod Planned
 pub mod Found
+pub mod Flow
 pub mod Units
+pub mod Barriers

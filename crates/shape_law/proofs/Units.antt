@@ -22,6 +22,8 @@ use Rattle.call_law.specs.Known.{IsFunctionOf}
 use Rattle.typed_law.specs.Words.{AreBytes}
 use Rattle.ruled_law.proofs.Ruled.{contains_of}
 use Rattle.claim_law.specs.Claimed.{IsIn}
+use Rattle.claim_law.specs.Apart.{IsFlow}
+use Rattle.claim_law.proofs.Flags.{again_is_flow, leave_is_flow, fell_is_flow}
 use Rattle.height_law.proofs.Closed.{sound-of}
 use Rattle.unit_law.specs.Switches.{IsReached, Chooses, Leads}
 use Rattle.unit_law.proofs.ArgWords.{args_words}
@@ -34,10 +36,11 @@ use Rattle.shape_law.specs.Walks.{Outer, is_in}
 use Rattle.shape_law.specs.Pairs.{Naming}
 use Rattle.shape_law.specs.Unseen.{unseen}
 use Rattle.shape_law.specs.Asked.{AllAskSeen}
-use Rattle.shape_law.specs.Shape.{outer_of, IsShaped, IsShapedIn, AreShaped, HasShape}
+use Rattle.shape_law.specs.Shape.{memory_ids, outer_of, IsShaped, IsShapedIn, AreShaped, HasShape}
 use Rattle.shape_law.proofs.Functions.{function_shaped}
 use Rattle.shape_law.proofs.Planned.{flags_keyed, again_written, orders_whole, plan_whole}
 use Rattle.shape_law.proofs.Found.{body_found}
+use Rattle.shape_law.proofs.Flow.{flow_unseen}
 
 in_numbers : (order : List IdOf) (n : IdOf) → IsIn n order → Contains (numbers order) n.0
 in_numbers [] n there = absurd there
@@ -61,9 +64,9 @@ module _ (bytes : List ℕ) (m : ModuleState) (o : Options) (read : IsReadFrom b
     pub condition : (b : ℕ) → IsReached (graph (written p)) b → Chooses (graph (written p)) b → UsesExpr (unseen (outer p)) ((blocks_of p).condition b)
     pub value : (b : ℕ) (e : Expr) → IsReached (graph (written p)) b → (blocks_of p).value b ≡ Some e → UsesExpr (unseen (outer p)) e
     pub copies : (b t : ℕ) → IsReached (graph (written p)) b → Leads (graph (written p)) b t → EachStmt (unseen (outer p)) ((blocks_of p).copies b t)
-    pub again : (b : ℕ) (x : Text) → (blocks_of p).again b ≡ Some x → is_in (outer p).memory x ≡ false
-    pub leave : (b : ℕ) (x : Text) → (blocks_of p).leave b ≡ Some x → is_in (outer p).memory x ≡ false
-    pub fell : (b : ℕ) (x : Text) → (blocks_of p).fell b ≡ Some x → is_in (outer p).memory x ≡ false
+
+  unseen_flow : (p : FunctionPlan) (x : Text) → IsFlow found x → is_in (outer p).memory x ≡ false
+  unseen_flow p x flow = flow_unseen found u.lawful x flow (memory_ids src (written p))
 
   module _ (names : (p : FunctionPlan) → IsIn p u.plans → IsUnseen p) where
     plan_shaped : (p : FunctionPlan) → IsIn p u.plans → IsShaped src found (outer p) (written p) (stmts_in (body_text p))
@@ -75,7 +78,7 @@ module _ (bytes : List ℕ) (m : ModuleState) (o : Options) (read : IsReadFrom b
         plan_whole src found (written p) p planned sound
         (switch_at (written p) (λ i i_in. ((accepted_conforming bytes m o read fine).inside (written p) there).formed i i_in) (λ i i_in. (args_words bytes m read octets (written p) there i i_in).args)) in
         let left = names p among in
-        function_shaped src found (outer p) p (IsReached (graph (written p))) (Chooses (graph (written p))) (Leads (graph (written p))) sound planned.tree whole left.asks left.top left.condition left.value left.copies left.again left.leave left.fell
+        function_shaped src found (outer p) p (IsReached (graph (written p))) (Chooses (graph (written p))) (Leads (graph (written p))) sound planned.tree whole left.asks left.top left.condition left.value left.copies (λ b x is. unseen_flow p x (again_is_flow m o unit u p among b x is)) (λ b x is. unseen_flow p x (leave_is_flow m o unit u p among b x is)) (λ b x is. unseen_flow p x (fell_is_flow m o unit u p among b x is))
         (again_written src found (written p) p planned sound) (flags_keyed m o unit u p among) (orders_whole src found (written p) p planned sound)
 
     called_shaped : (f : Function) → IsFunctionOf f m.functions → is_called u.order f ≡ true → IsShapedIn src found unit f
