@@ -156,7 +156,7 @@ module _ (m : ModuleState) (o : Options) (unit : TranslationUnit) (u : IsUnitOf 
     pub named_so : found (function_key u.entry (written p).id) ≡ Some (function_name p.scope)
     named_so = named_is found (function_key u.entry (written p).id) function_has ∙ ap (λ (x : Text). Some x) (sym name_is)
 
-  names_differ : (p q : FunctionPlan) → IsIn p u.plans → IsIn q u.plans → (written p).id.0 ≢ (written q).id.0 → function_name p.scope ≢ function_name q.scope
+  pub names_differ : (p q : FunctionPlan) → IsIn p u.plans → IsIn q u.plans → (written p).id.0 ≢ (written q).id.0 → function_name p.scope ≢ function_name q.scope
   names_differ p q one two differ same =
       differ (same_function u.entry (written p).id (written q).id
       (u.lawful.apart (function_key u.entry (written p).id) (function_key u.entry (written q).id) (function_name p.scope)

@@ -1,0 +1,15 @@
+pub mod Walked
+pub mod Sited
+pub mod Turned
+pub mod Placed
+pub mod Guarded
+pub mod Shaped
+pub mod Unseen
+pub mod Leaves
+pub mod Done
+pub mod Functions
+pub mod Planned
+pub mod Found
+pub mod Flow
+pub mod Units
+pub mod Barriers
