@@ -7,3 +7,4 @@ pub mod Told
 pub mod Flags
 pub mod Constants
 pub mod Variables
+pub mod Bodies

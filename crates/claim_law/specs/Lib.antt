@@ -1,3 +1,4 @@
 pub mod Claimed
 pub mod Apart
 pub mod Told
+pub mod Bodies

@@ -14,7 +14,6 @@ use Rattle.spv_module.specs.declared.inst.Function.{Function}
 use Rattle.spv_index.specs.Locals.{insts_of}
 use Rattle.structure_rules.specs.Graph.{graph}
 use Rattle.nest_place.specs.Nests.{IsSound}
-use Rattle.layout_rules.specs.Blocks.{block_of}
 use Rattle.conformance.specs.Rules.{Options}
 use Rattle.module_check.specs.Structure.{IsStructured}
 use Rattle.module_check.specs.Judged.{IsFine}
@@ -23,12 +22,9 @@ use Rattle.traces.specs.Invocations.{Invocation}
 use Rattle.module_semantics.specs.Setting.{Setting}
 use Rattle.name_alloc.specs.declared.claims.Key.{Key}
 use Rattle.name_alloc.specs.Naming.{name_of}
-use Rattle.glsl_ast.specs.Tree as text
 use Rattle.glsl_ast.specs.Tree.{Text, Decl, Stmts, stmts_in, TranslationUnit}
 use Rattle.text_rules.specs.Claims.{label}
 use Rattle.text_rules.specs.Constants.{Source}
-use Rattle.text_rules.specs.Printed.{Reached, is_private, is_written_variable, is_declared_constant, is_written_struct}
-use Rattle.text_rules.specs.Declarations.{Names, type_at, pointee_at, initial, struct_decl, constant_decl, variable_decl, declaration, declarations}
 use Rattle.expr_forward.specs.Scope.{Scope, globals}
 use Rattle.function_text.specs.Functions.{FunctionPlan, written, function_name, function_decl, body_text}
 use Rattle.unit_rules.specs.Translation.{Naming, scope_of, IsPlanOf}
@@ -58,7 +54,9 @@ use Rattle.naming_law.proofs.Unit.{found_plan}
 use Rattle.naming_law.proofs.Planned.{same_block, leave_inside, flags_apart}
 use Rattle.naming_law.proofs.Functions.{planned_of, function_of_plan}
 use Rattle.naming_law.proofs.Tree.{tree_written}
-use Rattle.declared_law.specs.Declared.{valued, unset, occurs, AreSame, function_in, functions_in}
+use Rattle.claim_law.specs.Bodies.{function_in, functions_in}
+use Rattle.claim_law.proofs.Bodies.{bodies_are}
+use Rattle.declared_law.specs.Declared.{valued, unset, occurs, AreSame}
 use Rattle.declared_law.specs.Variables.{phi_pairs, with_value, without_value, Declares, IsBodyOf, HasVariables}
 use Rattle.declared_law.proofs.Plans.{IsKnown, spares}
 use Rattle.declared_law.proofs.Bodies.{body_unset, body_opened, body_valued}
@@ -71,42 +69,6 @@ use Rattle.declared_law.proofs.OnceAll.{declared_once}
 use Rattle.function_plan.specs.Phis.{pairs}
 use Rattle.accepted_law.proofs.Small.{args_in, read_operands}
 use Rattle.grammar_law.proofs.FewPairs.{few_pairs}
-
--- no item before the functions is one
-no_struct : (s : Source) (names : Names) (g : Inst) → function_in (struct_decl s names g) ≡ []
-no_struct s names g = refl
-
-no_constant : (s : Source) (names : Names) (g : Inst) → function_in (constant_decl s names g) ≡ []
-no_constant s names g = refl
-
-no_variable : (s : Source) (names : Names) (v : Inst) (b : Option Inst) → flat_map function_in (variable_decl s names v b) ≡ []
-no_variable s names v (Some g) = refl
-no_variable s names v None = by_private (is_private v)
-  where
-    by_private : (q : Bool) → flat_map function_in ((if q then text.global (type_at s names (pointee_at s v.ty)) (names.id v.result) (initial s names v) else text.shared (type_at s names (pointee_at s v.ty)) (names.id v.result)) ∷ []) ≡ []
-    by_private true = refl
-    by_private false = refl
-
-no_item : (s : Source) (r : Reached) (names : Names) (g : Inst) → flat_map function_in (declaration s r names g) ≡ []
-no_item s r names g = by_tests (is_written_struct s r g) (is_declared_constant s r g) (is_written_variable r g)
-  where
-    by_tests : (a b c : Bool) → flat_map function_in (if a then struct_decl s names g ∷ [] else (if b then constant_decl s names g ∷ [] else (if c then variable_decl s names g (block_of s.of.globals g) else []))) ≡ []
-    by_tests true b c = refl
-    by_tests false true c = refl
-    by_tests false false true = no_variable s names g (block_of s.of.globals g)
-    by_tests false false false = refl
-
-functions_both : (a b : List Decl) → flat_map function_in (a ++ b) ≡ flat_map function_in a ++ flat_map function_in b
-functions_both [] b = refl
-functions_both (d ∷ a) b = ap (λ (l : List (Text × Stmts)). function_in d ++ l) (functions_both a b) ∙ sym (joined (function_in d) (flat_map function_in a) (flat_map function_in b))
-  where
-    joined : (a b c : List (Text × Stmts)) → (a ++ b) ++ c ≡ a ++ (b ++ c)
-    joined [] b c = refl
-    joined (y ∷ a) b c = ap (λ (l : List (Text × Stmts)). y ∷ l) (joined a b c)
-
-no_items : (s : Source) (r : Reached) (names : Names) (gs : List Inst) → flat_map function_in (flat_map (declaration s r names) gs) ≡ []
-no_items s r names [] = refl
-no_items s r names (g ∷ gs) = functions_both (declaration s r names g) (flat_map (declaration s r names) gs) ∙ (ap (λ (l : List (Text × Stmts)). l ++ flat_map function_in (flat_map (declaration s r names) gs)) (no_item s r names g) ∙ no_items s r names gs)
 
 abbrev function_of : FunctionPlan → Text × Stmts
 function_of p = (function_name p.scope, stmts_in (body_text p))
@@ -213,15 +175,9 @@ module _ (bytes : List ℕ) (m : ModuleState) (o : Options) (read : IsReadFrom b
     each = each;
   }
     where
-      functions_are : functions_in unit ≡ flat_map function_in (map function_decl (in_order u.order u.plans))
-      functions_are =
-          ap functions_in u.unit_is
-          ∙ (functions_both (declarations src (reached_of src u.plans) (item_names_of src found)) (map function_decl (in_order u.order u.plans))
-          ∙ ap (λ (l : List (Text × Stmts)). l ++ flat_map function_in (map function_decl (in_order u.order u.plans))) (no_items src (reached_of src u.plans) (item_names_of src found) m.globals))
-
       each : (q : Text × Stmts) → IsIn q (functions_in unit) → (f : Function) × IsIn f (called u.order m.functions) × IsBodyOf m.globals u.entry found q f
       each q there =
-          let w = of_functions q (in_order u.order u.plans) (subst (IsIn q) functions_are there) in
+          let w = of_functions q (in_order u.order u.plans) (subst (IsIn q) (bodies_are m o unit u) there) in
           let among = in_plans w.0 u.order w.1 in
           let plan = planned s o.entry (accepted_conforming bytes m o read fine) kinds o unit u w.0 among in (
             plan.0,

@@ -1,6 +1,6 @@
 -- The variables that statements declare, in whatever braces.
-use Rattle.std.specs.Prelude.{ℕ, ◌+◌, ◌≡◌, Bool, List, [], ◌∷◌, ◌++◌, Option, Some, None, is_some, is_none, bytes_eq, flat_map, if◌then◌else◌}
-use Rattle.glsl_ast.specs.Tree.{Text, Expr, Stmt, declare, when, either, loop, switch, Stmts, no_stmts, stmt, Arms, no_arms, arm, Decl, function, TranslationUnit, translation_unit}
+use Rattle.std.specs.Prelude.{ℕ, ◌+◌, ◌≡◌, Bool, List, [], ◌∷◌, ◌++◌, Option, Some, None, is_some, is_none, bytes_eq, if◌then◌else◌}
+use Rattle.glsl_ast.specs.Tree.{Text, Expr, Stmt, declare, when, either, loop, switch, Stmts, no_stmts, stmt, Arms, no_arms, arm}
 
 -- the names of those that are declared so: with a value, or without one
 module _ (so : Option Expr → Bool) where
@@ -42,11 +42,3 @@ occurs x (y ∷ ys) = (if bytes_eq x y then 1 else 0) + occurs x ys
 -- the same names, each as often
 abbrev pub AreSame : List Text → List Text → Type 0
 AreSame xs ys = (x : Text) → occurs x xs ≡ occurs x ys
-
--- the functions of a text: their names and bodies
-abbrev pub function_in : Decl → List (Text × Stmts)
-function_in (function result name params body) = (name, body) ∷ []
-function_in _ = []
-
-abbrev pub functions_in : TranslationUnit → List (Text × Stmts)
-functions_in (translation_unit sizes items) = flat_map function_in items

@@ -32,7 +32,8 @@ use Rattle.function_text.specs.Functions.{is_variable, is_hoisted, function_key}
 use Rattle.unit_rules.specs.Translation.{Naming, text_of}
 use Rattle.unit_rules.specs.Unit.{called}
 use Rattle.claim_law.specs.Claimed.{IsIn, HasName}
-use Rattle.declared_law.specs.Declared.{valued, unset, opened, occurs, AreSame, functions_in}
+use Rattle.claim_law.specs.Bodies.{functions_in}
+use Rattle.declared_law.specs.Declared.{valued, unset, opened, occurs, AreSame}
 
 abbrev pub is_local : Form → Bool
 is_local Local = true

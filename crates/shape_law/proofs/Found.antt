@@ -5,51 +5,19 @@ use Rattle.std.proofs.lemmas.Bool.Decides.{eqb_tells}
 use Rattle.spv_module.specs.State.{ModuleState}
 use Rattle.spv_module.specs.declared.inst.Id.{Id as IdOf}
 use Rattle.spv_module.specs.declared.inst.Inst.{Inst}
-use Rattle.layout_rules.specs.Blocks.{block_of}
 use Rattle.conformance.specs.Rules.{Options}
 use Rattle.traces.specs.Invocations.{Invocation}
 use Rattle.name_alloc.specs.Naming.{name_of as names_by}
-use Rattle.glsl_ast.specs.Tree as tree
 use Rattle.glsl_ast.specs.Tree.{Text, Stmts, Decl, stmts_in, TranslationUnit}
 use Rattle.text_rules.specs.Constants.{Source}
-use Rattle.text_rules.specs.Printed.{Reached, is_private, is_written_struct, is_declared_constant, is_written_variable}
-use Rattle.text_rules.specs.Declarations.{Names, type_at, pointee_at, initial, struct_decl, constant_decl, variable_decl, declaration, declarations}
 use Rattle.function_text.specs.Functions.{FunctionPlan, written, function_name, function_decl, body_text}
 use Rattle.unit_rules.specs.Unit.{has_id, in_order, source_of, reached_of, item_names_of, IsUnitOf}
 use Rattle.region_law.proofs.Flags.{same_text, own_text}
 use Rattle.claim_law.specs.Claimed.{IsIn}
 use Rattle.naming_law.proofs.Unit.{named_so, names_differ, found_plan}
-use Rattle.shape_law.specs.Shape.{as_function, functions_in, has_name, name_of, body_of}
-
--- no other item is a function
-no_variable : (s : Source) (names : Names) (v : Inst) (x : Option Inst) → flat_map as_function (variable_decl s names v x) ≡ []
-no_variable s names v (Some g) = refl
-no_variable s names v None = by_test (is_private v)
-  where
-    by_test : (b : Bool) → flat_map as_function ((if b then tree.global (type_at s names (pointee_at s v.ty)) (names.id v.result) (initial s names v) else tree.shared (type_at s names (pointee_at s v.ty)) (names.id v.result)) ∷ []) ≡ []
-    by_test true = refl
-    by_test false = refl
-
-no_item : (s : Source) (r : Reached) (names : Names) (g : Inst) → flat_map as_function (declaration s r names g) ≡ []
-no_item s r names g = by_tests (is_written_struct s r g) (is_declared_constant s r g) (is_written_variable r g)
-  where
-    by_tests : (a b c : Bool) → flat_map as_function (if a then struct_decl s names g ∷ [] else (if b then constant_decl s names g ∷ [] else (if c then variable_decl s names g (block_of s.of.globals g) else []))) ≡ []
-    by_tests true b c = refl
-    by_tests false true c = refl
-    by_tests false false true = no_variable s names g (block_of s.of.globals g)
-    by_tests false false false = refl
-
-behind : (xs ys : List Decl) → flat_map as_function xs ≡ [] → flat_map as_function (xs ++ ys) ≡ flat_map as_function ys
-behind [] ys none = refl
-behind (x ∷ xs) ys none = by_first (as_function x) none (behind xs ys)
-  where
-    by_first : (here : List (Text × Stmts)) → here ++ flat_map as_function xs ≡ [] → (flat_map as_function xs ≡ [] → flat_map as_function (xs ++ ys) ≡ flat_map as_function ys) → here ++ flat_map as_function (xs ++ ys) ≡ flat_map as_function ys
-    by_first [] none later = later none
-    by_first (d ∷ ds) none later = cc
-
-no_items : (s : Source) (r : Reached) (names : Names) (gs : List Inst) → flat_map as_function (flat_map (declaration s r names) gs) ≡ []
-no_items s r names [] = refl
-no_items s r names (g ∷ gs) = behind (declaration s r names g) (flat_map (declaration s r names) gs) (no_item s r names g) ∙ no_items s r names gs
+use Rattle.claim_law.specs.Bodies.{function_in}
+use Rattle.claim_law.proofs.Bodies.{bodies_are}
+use Rattle.shape_law.specs.Shape.{has_name, name_of, body_of}
 
 -- ids with one number have one plan
 one_plan : (ps : List FunctionPlan) (a b : IdOf) (p q : FunctionPlan) → a.0 ≡ b.0 → find (has_id a) ps ≡ Some p → find (has_id b) ps ≡ Some q → p ≡ q
@@ -60,7 +28,7 @@ one_plan ps a b p q same first second = some_same (sym first ∙ (ap (λ (n : �
 
 module _ (m : ModuleState) (o : Options) (unit : TranslationUnit) (u : IsUnitOf m o unit) (inv : Invocation) (n : IdOf) (p : FunctionPlan) (at : find (has_id n) u.plans ≡ Some p) where
   abbrev Bodies : List IdOf → List (Text × Stmts)
-  Bodies order = flat_map as_function (map function_decl (in_order order u.plans))
+  Bodies order = flat_map function_in (map function_decl (in_order order u.plans))
 
   abbrev body : Text × Stmts
   body = (function_name p.scope, stmts_in (body_text p))
@@ -69,7 +37,7 @@ module _ (m : ModuleState) (o : Options) (unit : TranslationUnit) (u : IsUnitOf 
   found_in [] there = absurd there
   found_in (k ∷ order) there = by_plan (find (has_id k) u.plans) refl there (found_in order)
     where
-      by_plan : (q : Option FunctionPlan) → find (has_id k) u.plans ≡ q → (k ≡ n) ⊎ IsIn n order → (IsIn n order → find (has_name (Some (function_name p.scope))) (Bodies order) ≡ Some body) → find (has_name (Some (function_name p.scope))) (flat_map as_function (map function_decl (option_to_list q ++ in_order order u.plans))) ≡ Some body
+      by_plan : (q : Option FunctionPlan) → find (has_id k) u.plans ≡ q → (k ≡ n) ⊎ IsIn n order → (IsIn n order → find (has_name (Some (function_name p.scope))) (Bodies order) ≡ Some body) → find (has_name (Some (function_name p.scope))) (flat_map function_in (map function_decl (option_to_list q ++ in_order order u.plans))) ≡ Some body
       by_plan None is (inl same) later = let never : None ≡ Some p = sym is ∙ (ap (λ (j : IdOf). find (has_id j) u.plans) same ∙ at) in cc
       by_plan None is (inr rest) later = later rest
       by_plan (Some q) is here later = by_name (bytes_eq (function_name q.scope) (function_name p.scope)) refl
@@ -97,15 +65,9 @@ module _ (m : ModuleState) (o : Options) (unit : TranslationUnit) (u : IsUnitOf 
           by_name true on = ap (λ (x : FunctionPlan). Some (function_name x.scope, stmts_in (body_text x))) (same_plan (same_text (function_name q.scope) (function_name p.scope) on))
           by_name false off = later (other here off)
 
-  functions_are : functions_in unit ≡ Bodies u.order
-  functions_are =
-      ap functions_in u.unit_is
-      ∙ behind (declarations (source_of m o u.entry) (reached_of (source_of m o u.entry) u.plans) (item_names_of (source_of m o u.entry) (names_by u.claimed))) (map function_decl (in_order u.order u.plans))
-      (no_items (source_of m o u.entry) (reached_of (source_of m o u.entry) u.plans) (item_names_of (source_of m o u.entry) (names_by u.claimed)) m.globals)
-
   -- The law.
   pub body_found : IsIn n u.order → body_of unit (name_of u.entry (names_by u.claimed) (written p)) ≡ Some (stmts_in (body_text p))
   body_found there =
       ap (body_of unit) (named_so m o unit u inv p (found_plan m o unit u inv u.plans n p at).0)
-      ∙ (ap (λ (ds : List (Text × Stmts)). option_map (λ (d : Text × Stmts). d.1) (find (has_name (Some (function_name p.scope))) ds)) functions_are
+      ∙ (ap (λ (ds : List (Text × Stmts)). option_map (λ (d : Text × Stmts). d.1) (find (has_name (Some (function_name p.scope))) ds)) (bodies_are m o unit u)
       ∙ ap (option_map (λ (d : Text × Stmts). d.1)) (found_in u.order there))

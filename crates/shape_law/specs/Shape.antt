@@ -23,10 +23,11 @@ use Rattle.profile_rules.specs.Calls.{IsCallOrder, numbers}
 use Rattle.conformance.specs.Rules.{Options}
 use Rattle.module_check.specs.Judged.{IsEntry}
 use Rattle.name_alloc.specs.declared.claims.Key.TheVariants.{Main, Id as IdOf}
-use Rattle.glsl_ast.specs.Tree.{Text, Stmts, Decl, function, TranslationUnit, translation_unit}
+use Rattle.glsl_ast.specs.Tree.{Text, Stmts, TranslationUnit}
 use Rattle.text_rules.specs.Constants.{Source, plain_value}
 use Rattle.text_rules.specs.Printed.{is_variable}
 use Rattle.unit_rules.specs.Unit.{called, source_of}
+use Rattle.claim_law.specs.Bodies.{functions_in}
 use Rattle.shape_law.specs.Walks.{Outer, walk}
 use Rattle.shape_law.specs.Pairs.{Act, repeats, exit_acts, with_round, loads, stores, enters, updates, bars, Pair, token_of, sites, is_of, Naming, is_flag, AreGuards, IsPlaced}
 
@@ -82,14 +83,6 @@ memory_ids s f =
 
 abbrev pub names_in : Naming → List ℕ → List Text
 names_in found ns = flat_map (λ (n : ℕ). option_to_list (found (IdOf (id n)))) ns
-
--- the functions of a text, with their bodies
-abbrev pub as_function : Decl → List (Text × Stmts)
-as_function (function result f params body) = (f, body) ∷ []
-as_function _ = []
-
-abbrev pub functions_in : TranslationUnit → List (Text × Stmts)
-functions_in (translation_unit lines items) = flat_map as_function items
 
 abbrev pub outer_of : Source → Naming → TranslationUnit → Function → Outer
 outer_of s found unit f = record { memory = names_in found (memory_ids s f) ++ built_ins; functions = map (λ (d : Text × Stmts). d.0) (functions_in unit) }
