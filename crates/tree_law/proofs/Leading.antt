@@ -87,13 +87,13 @@ merged_rest f g h r n X is fo rest = by_merge (merge_block g h) (subst (Follows 
 same_some_of : (a b : ℕ) → Some a ≡ Some b → a ≡ b
 same_some_of a b e = cc
 
-conditional_is : (x : Terminator) → is_conditional x ≡ true → x ≡ terminator.Conditional
+pub conditional_is : (x : Terminator) → is_conditional x ≡ true → x ≡ terminator.Conditional
 conditional_is terminator.Branch e = cc
 conditional_is terminator.Conditional e = refl
 conditional_is terminator.Switch e = cc
 conditional_is terminator.Leave e = cc
 
-switch_is : (x : Terminator) → is_switch x ≡ true → x ≡ terminator.Switch
+pub switch_is : (x : Terminator) → is_switch x ≡ true → x ≡ terminator.Switch
 switch_is terminator.Branch e = cc
 switch_is terminator.Conditional e = cc
 switch_is terminator.Switch e = refl

@@ -56,7 +56,7 @@ range_low a zero t h = absurd h
 range_low a (suc n) t (inl e) = omega (arith, e)
 range_low a (suc n) t (inr h) = let low = range_low (a + 1) n t h in omega (arith, low)
 
-range_apart : (a n : ℕ) → AreApart (range_with_len a n)
+pub range_apart : (a n : ℕ) → AreApart (range_with_len a n)
 range_apart a zero = tt
 range_apart a (suc n) = ((λ h. let low = range_low (a + 1) n a h in absurd (omega (arith, low))), range_apart (a + 1) n)
 
