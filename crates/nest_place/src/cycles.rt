@@ -10,7 +10,8 @@ ghost use Rattle.nest_place.specs.Nests.{AllInside};
 ghost use Rattle.nest_place.specs.Cycles.{entry as entry_of, Returns, AreInverse, AreHeights, FallsOnCycle, SomeCyclic};
 
 use crate::nest::Nest;
-use spv_words::{Fault, Refusal, Rule};
+use crate::refusal::refused;
+use spv_words::{Fault, Rule};
 use std::alloc::{AllocError, Global};
 
 /// What the table has for a block.
@@ -147,10 +148,7 @@ pub fn check_cycles(
 {
     for (block, node) in nest.nodes().iter().enumerate() {
         if node.reached && is_cyclic(nest, block, node.targets.as_slice(), next, heights) {
-            return Err(Fault::Refused(Refusal {
-                rule: Rule::K11,
-                at: node.exit_at,
-            }));
+            return Err(refused(Rule::K11, node.exit_at));
         }
     }
     Ok(())

@@ -10,8 +10,9 @@ ghost use Rattle.nest_place.specs.Checks.{IsUnbroken, IsBroken};
 ghost use Rattle.nest_place.specs.Nests.{AllInside};
 
 use crate::nest::Nest;
+use crate::refusal::refused;
 use crate::spots::is_loose;
-use spv_words::{Fault, Refusal, Rule};
+use spv_words::{Fault, Rule};
 
 /// Whether the edge to this block has a kind.
 #[tactic(auto, using(crate::proofs::Origins::some_kind))]
@@ -66,10 +67,7 @@ pub fn check_kinds(nest: &Nest) -> Result<(), Fault>
 {
     for (block, node) in nest.nodes().iter().enumerate() {
         if node.reached && !have_kinds(nest, block, node.targets.as_slice()) {
-            return Err(Fault::Refused(Refusal {
-                rule: Rule::K7,
-                at: node.exit_at,
-            }));
+            return Err(refused(Rule::K7, node.exit_at));
         }
     }
     Ok(())
@@ -84,10 +82,7 @@ pub fn check_loose(nest: &Nest) -> Result<(), Fault>
 {
     for (block, node) in nest.nodes().iter().enumerate() {
         if node.reached && is_loose(node) && enter_all(nest, block, node.targets.as_slice()) {
-            return Err(Fault::Refused(Refusal {
-                rule: Rule::K8,
-                at: node.exit_at,
-            }));
+            return Err(refused(Rule::K8, node.exit_at));
         }
     }
     Ok(())

@@ -5,7 +5,8 @@ ghost use Rattle.structure_rules.specs.Graph.{is_switch as is_switch_exit, is_co
 ghost use Rattle.structure_rules.specs.Structure.{is_bad_merge as is_bad_pair, is_bad_switch as is_bad_switch_node, has_first as has_first_block, has_same_targets as has_same_target_nodes};
 ghost use Rattle.nest_place.specs.Checks.{IsUnbroken, IsBroken};
 
-use spv_words::{Fault, Refusal, Rule};
+use crate::refusal::refused;
+use spv_words::{Fault, Rule};
 use structure_rules::{Exit, Merge, Node};
 
 /// Whether the merge instruction does not go with the terminator behind it.
@@ -81,16 +82,10 @@ pub fn check_merges(nodes: &[Node]) -> Result<(), Fault>
 {
     for node in nodes {
         if node.reached && is_bad_merge(node.merge, node.exit) {
-            return Err(Fault::Refused(Refusal {
-                rule: Rule::K1,
-                at: node.merge_at,
-            }));
+            return Err(refused(Rule::K1, node.merge_at));
         }
         if node.reached && is_bad_switch(node) {
-            return Err(Fault::Refused(Refusal {
-                rule: Rule::K1,
-                at: node.exit_at,
-            }));
+            return Err(refused(Rule::K1, node.exit_at));
         }
     }
     Ok(())
@@ -104,16 +99,10 @@ pub fn check_first(nodes: &[Node]) -> Result<(), Fault>
 {
     for node in nodes {
         if node.reached && has_first(node.targets.as_slice()) {
-            return Err(Fault::Refused(Refusal {
-                rule: Rule::K2,
-                at: node.exit_at,
-            }));
+            return Err(refused(Rule::K2, node.exit_at));
         }
         if node.reached && names_first(node.merge) {
-            return Err(Fault::Refused(Refusal {
-                rule: Rule::K2,
-                at: node.merge_at,
-            }));
+            return Err(refused(Rule::K2, node.merge_at));
         }
     }
     Ok(())
@@ -127,10 +116,7 @@ pub fn check_targets(nodes: &[Node]) -> Result<(), Fault>
 {
     for node in nodes {
         if node.reached && has_same_targets(node) {
-            return Err(Fault::Refused(Refusal {
-                rule: Rule::K6,
-                at: node.exit_at,
-            }));
+            return Err(refused(Rule::K6, node.exit_at));
         }
     }
     Ok(())

@@ -10,7 +10,8 @@ ghost use Rattle.nest_place.specs.Checks.{IsUnbroken, IsBroken};
 ghost use Rattle.nest_place.specs.Steps.{NoneNamesItself};
 
 use crate::links::{Clash, Link, NoTable, short_table_of};
-use spv_words::{Fault, Refusal, Rule};
+use crate::refusal::refused;
+use spv_words::{Fault, Rule};
 use std::alloc::{AllocError, Global};
 use std::marker::Model;
 use structure_rules::{Merge, Node};
@@ -89,10 +90,7 @@ fn check_itself(nodes: &[Node]) -> Result<(), Fault>
 {
     for (header, node) in nodes.iter().enumerate() {
         if node.reached && names_itself(header, node.merge) {
-            return Err(Fault::Refused(Refusal {
-                rule: Rule::K3,
-                at: node.merge_at,
-            }));
+            return Err(refused(Rule::K3, node.merge_at));
         }
     }
     Ok(())
@@ -110,10 +108,7 @@ fn namers(alloc: Global, nodes: &[Node]) -> Result<Vec<Option<usize>>, Fault>
     match short_table_of(alloc, nodes.len(), &links) {
         Ok(table) => Ok(table),
         Err(NoTable::Memory) => Err(Fault::Memory),
-        Err(NoTable::Clash(clash)) => Err(Fault::Refused(Refusal {
-            rule: Rule::K3,
-            at: nodes[clash.second].merge_at,
-        })),
+        Err(NoTable::Clash(clash)) => Err(refused(Rule::K3, nodes[clash.second].merge_at)),
     }
 }
 

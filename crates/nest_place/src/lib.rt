@@ -14,6 +14,7 @@ mod links;
 mod nest;
 mod outer;
 mod parents;
+mod refusal;
 mod spots;
 
 pub use found::Places;

@@ -4,7 +4,8 @@ ghost use Rattle.structure_rules.specs.Graph.{nth};
 ghost use Rattle.nest_place.specs.Links.{AreWithin, IsTable, IsSingle, IsRightEnd};
 ghost use Rattle.nest_place.specs.Checks.{fault_by};
 
-use spv_words::{Fault, Refusal, Rule};
+use crate::refusal::refused;
+use spv_words::{Fault, Rule};
 use std::alloc::{AllocError, Global};
 use structure_rules::Node;
 
@@ -50,10 +51,7 @@ impl NoTable {
     {
         match self {
             NoTable::Memory => Fault::Memory,
-            NoTable::Clash(clash) => Fault::Refused(Refusal {
-                rule,
-                at: word_of(nodes, clash.block),
-            }),
+            NoTable::Clash(clash) => refused(rule, word_of(nodes, clash.block)),
         }
     }
 }

@@ -11,7 +11,8 @@ use crate::forms::is_switch;
 use crate::headers::{Headers, add_links};
 use crate::kinds::merges_to;
 use crate::links::{Link, short_table_of};
-use spv_words::{Fault, Refusal, Rule};
+use crate::refusal::refused;
+use spv_words::{Fault, Rule};
 use std::alloc::{AllocError, Global};
 use std::marker::Model;
 use structure_rules::{Node, Role};
@@ -220,10 +221,7 @@ fn check_orphans(nodes: &[Node], roles: &[Role]) -> Result<(), Fault>
             && node.reached
             && block != 0
         {
-            return Err(Fault::Refused(Refusal {
-                rule: Rule::K4,
-                at: node.at,
-            }));
+            return Err(refused(Rule::K4, node.at));
         }
     }
     Ok(())
@@ -254,10 +252,7 @@ pub fn check_order(nodes: &[Node], roles: &[Role]) -> Result<(), Fault>
         if let Some(parent) = parent(roles[block])
             && block <= parent
         {
-            return Err(Fault::Refused(Refusal {
-                rule: Rule::K5,
-                at: node.at,
-            }));
+            return Err(refused(Rule::K5, node.at));
         }
     }
     Ok(())
