@@ -13,9 +13,9 @@ use Rattle.nest_place.proofs.Around.{role_facts}
 use Rattle.structure_recover.specs.Follows.{switch_targets}
 use Rattle.structure_recover.proofs.Counting.{kid_sum}
 use Rattle.switch_ladder.specs.Ladder.{fallen_from}
-use Rattle.tree_law.proofs.SwitchOrder.{in_range, switch_own, back, fall_is}
+use Rattle.tree_law.proofs.SwitchOrder.{in_range, range_apart, switch_own, back, fall_is}
 use Rattle.declared_law.proofs.Sums.{sum_same, sum_both, sum_none, sum_only, only, only_other, only_own}
-use Rattle.declared_law.proofs.Totals.{range_apart, if_reached}
+use Rattle.declared_law.proofs.Totals.{if_reached}
 
 pub swapped : (F : ℕ → ℕ → ℕ) (as' bs : List ℕ) → kid_sum (λ a. kid_sum (F a) bs) as' ≡ kid_sum (λ b. kid_sum (λ a. F a b) as') bs
 swapped F [] bs = sym (sum_none (λ b. 0) bs (λ b i. refl))

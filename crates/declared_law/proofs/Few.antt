@@ -3,6 +3,7 @@ use Rattle.std.proofs.Common.{◌≡◌, ◌≤◌, ◌+◌, ◌==◌, ◌&&◌,
 use Rattle.std.specs.Prelude.{flat_map, slice_get}
 use Rattle.std.specs.Option.{option_map_or}
 use Rattle.std.specs.List.{enumerate_from, range_with_len}
+use Rattle.std.proofs.lemmas.List.{length-append, length-map}
 use Rattle.std.proofs.lemmas.Bool.Decides.{eqb_tells}
 use Rattle.spv_module.specs.declared.inst.Inst.{Inst}
 use Rattle.spv_module.specs.declared.inst.Block.{Block}
@@ -22,7 +23,7 @@ use Rattle.structure_recover.proofs.Shape.{FitsExit, graph_shaped}
 use Rattle.structure_rules.specs.Structure.{is_pair_of_same}
 use Rattle.structure_recover.proofs.Onward.{target_leads}
 use Rattle.structure_recover.proofs.Rounds.{not_true}
-use Rattle.tree_law.proofs.SwitchOrder.{in_range}
+use Rattle.tree_law.proofs.SwitchOrder.{in_range, range_apart}
 use Rattle.phi_copies.specs.declared.moves.Move.{Move}
 use Rattle.phi_copies.specs.declared.moves.Move.TheVariants.{Set, Save, Restore}
 use Rattle.phi_copies.specs.Sequence.{IsSequence, is_save, saves}
@@ -33,7 +34,6 @@ use Rattle.function_text.specs.Functions.{FunctionPlan, written}
 use Rattle.unit_law.proofs.Lists.{of_numbered_first}
 use Rattle.claim_law.specs.Claimed.{IsIn}
 use Rattle.declared_law.specs.Variables.{phi_pairs}
-use Rattle.declared_law.proofs.Totals.{range_apart}
 use Rattle.declared_law.proofs.Plans.{spare_of_move, edge_spares, to_spares, exit_spares, block_spares, spares}
 use Rattle.hoist_plan.specs.declared.form.Form.{Form}
 use Rattle.function_plan.specs.Phis.{firsts, is_live_phi, values_in, is_block, comes_from, pair_with, given_by, pairs_into, pairs}
@@ -44,14 +44,6 @@ use Rattle.declared_law.proofs.Falls.{swapped, sum_filtered}
 pub sum_less : (v w : ℕ → ℕ) (ts : List ℕ) → ((t : ℕ) → In t ts → v t ≤ w t) → kid_sum v ts ≤ kid_sum w ts
 sum_less v w [] less = omega arith
 sum_less v w (t ∷ ts) less = let a = less t (inl refl) in let b = sum_less v w ts (λ u i. less u (inr i)) in omega (arith, a, b)
-
-length_both : {A : Type 0} (a b : List A) → length (a ++ b) ≡ length a + length b
-length_both [] b = omega arith
-length_both (x ∷ a) b = let rest = length_both a b in omega (arith, rest)
-
-length_mapped : {A B : Type 0} (f : A → B) (xs : List A) → length (map f xs) ≡ length xs
-length_mapped f [] = refl
-length_mapped f (x ∷ xs) = let rest = length_mapped f xs in omega (arith, rest)
 
 -- at most one block is the one that is found
 one_block : (o : Option ℕ) (bs : List ℕ) → AreApart bs → kid_sum (λ b. one (is_block b o)) bs ≤ 1
@@ -101,13 +93,13 @@ module _ (gs : List Inst) (form : ℕ → Form) (f : Function) (bs : List ℕ) (
           let a = sum_same (λ b. length (given_by gs f b i ++ flat_map (given_by gs f b) (filter (is_live_phi form) is))) (λ b. length (filter (comes_from f b) (values_in i.args)) + given b is) bs (λ b t. each b) in
           let c = sum_both (λ b. length (filter (comes_from f b) (values_in i.args))) (λ b. given b is) bs in
           let d = from_blocks (values_in i.args) in
-          let e = length_both (values_in i.args) (flat_map (λ (j : Inst). values_in j.args) (filter (is_live_phi form) is)) in
+          let e = length-append (values_in i.args) (flat_map (λ (j : Inst). values_in j.args) (filter (is_live_phi form) is)) in
           omega (arith, a, c, d, e, rest)
         where
           each : (b : ℕ) → length (given_by gs f b i ++ flat_map (given_by gs f b) (filter (is_live_phi form) is)) ≡ length (filter (comes_from f b) (values_in i.args)) + given b is
           each b =
-              let x = length_both (given_by gs f b i) (flat_map (given_by gs f b) (filter (is_live_phi form) is)) in
-              let y = length_mapped (pair_with gs i.result) (filter (comes_from f b) (values_in i.args)) in
+              let x = length-append (given_by gs f b i) (flat_map (given_by gs f b) (filter (is_live_phi form) is)) in
+              let y = length-map (filter (comes_from f b) (values_in i.args)) (pair_with gs i.result) in
               omega (arith, x, y)
 
 -- of a list, at least what one, or two, of it count
@@ -125,7 +117,7 @@ two_less v t u (x ∷ ts) (inr a) (inr b) apart = let d = two_less v t u ts a b 
 
 length_flat : (h : ℕ → List Key) (ts : List ℕ) → length (flat_map h ts) ≡ kid_sum (λ t. length (h t)) ts
 length_flat h [] = refl
-length_flat h (t ∷ ts) = let a = length_both (h t) (flat_map h ts) in let b = length_flat h ts in omega (arith, a, b)
+length_flat h (t ∷ ts) = let a = length-append (h t) (flat_map h ts) in let b = length_flat h ts in omega (arith, a, b)
 
 module _ (form : ℕ → Form) where
   abbrev values_of : List Inst → ℕ
@@ -139,8 +131,8 @@ module _ (form : ℕ → Form) where
           → length (flat_map (λ (j : Inst). values_in j.args) (if q then i ∷ filter (is_live_phi form) (a ++ b) else filter (is_live_phi form) (a ++ b))) ≡ length (flat_map (λ (j : Inst). values_in j.args) (if q then i ∷ filter (is_live_phi form) a else filter (is_live_phi form) a)) + values_of b
       by_test false e = e
       by_test true e =
-          let x = length_both (values_in i.args) (flat_map (λ (j : Inst). values_in j.args) (filter (is_live_phi form) (a ++ b))) in
-          let y = length_both (values_in i.args) (flat_map (λ (j : Inst). values_in j.args) (filter (is_live_phi form) a)) in
+          let x = length-append (values_in i.args) (flat_map (λ (j : Inst). values_in j.args) (filter (is_live_phi form) (a ++ b))) in
+          let y = length-append (values_in i.args) (flat_map (λ (j : Inst). values_in j.args) (filter (is_live_phi form) a)) in
           omega (arith, e, x, y)
 
   -- of blocks with their numbers
@@ -211,7 +203,7 @@ module _ (gs : List Inst) (p : FunctionPlan) (sound : IsSound (graph (written p)
 
   both_few : (b : ℕ) → (nth g b).reached ≡ true → is_conditional (nth g b).exit ≡ true → length (to_spares p b (target g b 0) ++ to_spares p b (target g b 1)) ≤ kid_sum (many b) all
   both_few b here con =
-      let a = length_both (to_spares p b (target g b 0)) (to_spares p b (target g b 1)) in
+      let a = length-append (to_spares p b (target g b 0)) (to_spares p b (target g b 1)) in
       let c = by_targets (target g b 0) (target g b 1) refl refl in
       omega (arith, a, c)
     where

@@ -18,7 +18,6 @@ use Rattle.conformance.specs.Rules.{Options}
 use Rattle.module_check.specs.Structure.{IsStructured}
 use Rattle.module_check.specs.Judged.{IsFine}
 use Rattle.module_check.specs.ReadFrom.{IsReadFrom}
-use Rattle.traces.specs.Invocations.{Invocation}
 use Rattle.module_semantics.specs.Setting.{Setting}
 use Rattle.name_alloc.specs.declared.claims.Key.{Key}
 use Rattle.name_alloc.specs.Naming.{name_of}
@@ -46,7 +45,9 @@ use Rattle.formed_law.proofs.Labelled.{accepted_labels}
 use Rattle.unit_law.proofs.Ways.{HaveKinds, planned, F, written_is}
 use Rattle.unit_law.proofs.Lists.{of_filter, as_in}
 use Rattle.unit_law.proofs.ResultShapes.{stands_inside}
+use Rattle.grammar_law.proofs.Held.{any_invocation}
 use Rattle.grammar_law.proofs.Inner.{stands_within}
+use Rattle.grammar_law.proofs.Outside.{have_kinds}
 use Rattle.naming_law.specs.Ends.{term_of}
 use Rattle.function_law.proofs.TreeWays.{AreGroups}
 use Rattle.naming_law.proofs.Keys.{S}
@@ -78,7 +79,7 @@ of_functions q [] there = absurd there
 of_functions q (p ∷ ps) (inl same) = (p, inl refl, same)
 of_functions q (p ∷ ps) (inr there) = let w = of_functions q ps there in (w.0, inr w.1, w.2)
 
-module _ (bytes : List ℕ) (m : ModuleState) (o : Options) (read : IsReadFrom bytes m) (fine : IsFine m o) (kinds : HaveKinds m.globals) (unit : TranslationUnit) (u : IsUnitOf m o unit) (inv : Invocation) where
+module _ (bytes : List ℕ) (m : ModuleState) (o : Options) (read : IsReadFrom bytes m) (fine : IsFine m o) (unit : TranslationUnit) (u : IsUnitOf m o unit) where
   abbrev src : Source
   src = source_of m o u.entry
 
@@ -86,11 +87,14 @@ module _ (bytes : List ℕ) (m : ModuleState) (o : Options) (read : IsReadFrom b
   found = name_of u.claimed
 
   abbrev s : Setting
-  s = S m o unit u inv
+  s = S m o unit u any_invocation
 
   module _ (p : FunctionPlan) (among : IsIn p u.plans) where
     abbrev r : IsConforming m o.entry
     r = accepted_conforming bytes m o read fine
+
+    abbrev kinds : HaveKinds m.globals
+    kinds = have_kinds bytes m o.entry read r
 
     abbrev one : IsFunctionOf (written p) m.functions
     one = function_of_plan bytes m o read fine unit u p among
@@ -149,7 +153,7 @@ module _ (bytes : List ℕ) (m : ModuleState) (o : Options) (read : IsReadFrom b
       at_top = body_opened p;
       without = subst (λ (w : Scope). AreSame (unset (stmts_in (body_text p))) (map w.setting.key (without_value (globals w) w.setting.function w.form w.carried))) plan.scope_is (λ x. ap (occurs x) (body_unset p));
       with = subst (λ (w : Scope). AreSame (valued (stmts_in (body_text p))) (map w.setting.key (with_value (globals w) w.setting.function w.form w.carried (spares p)))) plan.scope_is (body_valued p known_so);
-      once = declared_once m o unit u inv p among o.entry r one known_so plan_so labels all_have;
+      once = declared_once m o unit u any_invocation p among o.entry r one known_so plan_so labels all_have;
       named = subst (λ (w : Scope). (key : Key) → IsIn key (without_value (globals w) w.setting.function w.form w.carried ++ with_value (globals w) w.setting.function w.form w.carried (spares p)) → HasName found key) plan.scope_is
           all_have;
     }
@@ -160,18 +164,16 @@ module _ (bytes : List ℕ) (m : ModuleState) (o : Options) (read : IsReadFrom b
     where
       by_plan : (q : Option FunctionPlan) → find (has_id n) u.plans ≡ q → IsIn p (option_to_list q ++ in_order order u.plans) → (IsIn p (in_order order u.plans) → IsIn p u.plans) → IsIn p u.plans
       by_plan None at there later = later there
-      by_plan (Some q) at (inl same) later = subst (λ (x : FunctionPlan). IsIn x u.plans) same (found_plan m o unit u inv u.plans n q at).0
+      by_plan (Some q) at (inl same) later = subst (λ (x : FunctionPlan). IsIn x u.plans) same (found_plan m o unit u any_invocation u.plans n q at).0
       by_plan (Some q) at (inr there) later = later there
 
   -- The law.
-  pub has_variables : HasVariables m o unit
+  pub has_variables : HasVariables m o found unit
   has_variables = record {
     entry = u.entry;
     is_entry = u.is_entry;
     order = u.order;
     calls = u.calls;
-    claimed = u.claimed;
-    lawful = u.lawful;
     each = each;
   }
     where
@@ -179,7 +181,7 @@ module _ (bytes : List ℕ) (m : ModuleState) (o : Options) (read : IsReadFrom b
       each q there =
           let w = of_functions q (in_order u.order u.plans) (subst (IsIn q) (bodies_are m o unit u) there) in
           let among = in_plans w.0 u.order w.1 in
-          let plan = planned s o.entry (accepted_conforming bytes m o read fine) kinds o unit u w.0 among in (
+          let plan = planned s o.entry (accepted_conforming bytes m o read fine) (have_kinds bytes m o.entry read (accepted_conforming bytes m o read fine)) o unit u w.0 among in (
             plan.0,
             plan.1,
             subst (λ (x : Text × Stmts). IsBodyOf m.globals u.entry found x plan.0) w.2 (record {

@@ -18,3 +18,4 @@ pub mod Apart
 pub mod OnceSpares
 pub mod OnceAll
 pub mod Law
+mod Examples

@@ -46,7 +46,7 @@ use Rattle.naming_law.proofs.Once.{variable_result, chain_result, apart, some_re
 use Rattle.declared_law.specs.Declared.{valued, unset, occurs}
 use Rattle.declared_law.specs.Variables.{of_result, is_spare, is_local, is_local_here, is_hoisted_here, variables, hoisted, locals, index_key, kept_of, kept, flag_key, flags, all_flags, with_value, without_value}
 use Rattle.declared_law.proofs.Texts.{occurs_both}
-use Rattle.declared_law.proofs.Totals.{range_apart}
+use Rattle.tree_law.proofs.SwitchOrder.{range_apart}
 use Rattle.declared_law.proofs.Blocks.{IsSet}
 use Rattle.declared_law.proofs.Plans.{IsKnown, spares, count_both}
 use Rattle.declared_law.proofs.Bodies.{body_unset, body_valued}

@@ -24,7 +24,7 @@ use Rattle.region_law.specs.Leads.{In, AreApart as AreApartNumbers}
 use Rattle.claim_law.specs.Claimed.{IsIn}
 use Rattle.naming_law.proofs.Tops.{of_flat, of_filtered}
 use Rattle.grammar_law.proofs.Moving.{save_number}
-use Rattle.declared_law.proofs.Totals.{range_apart}
+use Rattle.tree_law.proofs.SwitchOrder.{range_apart}
 use Rattle.declared_law.proofs.Plans.{IsKnown, spare_of_move, edge_spares, to_spares, exit_spares, block_spares, spares}
 use Rattle.declared_law.proofs.Named.{AllKeys, all_both, all_flat, in_all, as_in}
 use Rattle.declared_law.proofs.Few.{in_all as leads_in, differ}

@@ -27,6 +27,7 @@ use Rattle.structure_recover.proofs.Rounds.{IsRound, IsRoundItem, AllLead, round
 use Rattle.structure_recover.proofs.Counting.{kid_sum}
 use Rattle.region_law.specs.Leads.{In, AreApart, IsOrder}
 use Rattle.structure_rules.specs.declared.graph.Part.TheVariants.{If, Loop, Cont, Case}
+use Rattle.tree_law.proofs.Leading.{conditional_is, switch_is}
 use Rattle.tree_law.proofs.Placing.{after_item, merged_item}
 use Rattle.glsl_ast.specs.Tree as text
 use Rattle.glsl_ast.specs.Tree.{Text, stmts_in, arms_in}
@@ -190,18 +191,6 @@ module _ (x : Text) (f : Function) (g : List Node) (w : Blocks) where
       by_loop : (q : Bool) → IsBehindBlock f g b n q → of_start n ≡ 0
       by_loop true a = ap of_start a ∙ (merged_end b).1
       by_loop false a = after_start b n (nth g b).exit a
-
-  conditional_is : (e : Terminator) → is_conditional e ≡ true → e ≡ terminator.Conditional
-  conditional_is terminator.Branch on = cc
-  conditional_is terminator.Conditional on = refl
-  conditional_is terminator.Switch on = cc
-  conditional_is terminator.Leave on = cc
-
-  switch_is : (e : Terminator) → is_switch e ≡ true → e ≡ terminator.Switch
-  switch_is terminator.Branch on = cc
-  switch_is terminator.Conditional on = cc
-  switch_is terminator.Switch on = refl
-  switch_is terminator.Leave on = cc
 
   -- behind a selection nothing is written of an edge
   selection_end : (h : ℕ) (n : Next) → is_conditional (nth g h).exit ≡ true → IsAfter f g h (nth g h).exit n → of_end n ≡ 0

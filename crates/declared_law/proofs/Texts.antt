@@ -1,5 +1,5 @@
 -- What lists of statements declare with a value.
-use Rattle.std.proofs.Common.{◌≡◌, ◌+◌, ℕ, Bool, List, [], ◌∷◌, ◌++◌, Option, Some, None, refl, ap, sym, ◌∙◌, arith, if◌then◌else◌}
+use Rattle.std.proofs.Common.{◌≡◌, ◌+◌, ℕ, Bool, List, [], ◌∷◌, ◌++◌, Option, Some, None, append_assoc, refl, ap, sym, ◌∙◌, arith, if◌then◌else◌}
 use Rattle.std.specs.Prelude.{is_some}
 use Rattle.glsl_ast.specs.Tree as text
 use Rattle.glsl_ast.specs.Tree.{Text, Expr, Stmt, stmts_in, name, not}
@@ -14,11 +14,7 @@ occurs_both x (y ∷ xs) ys = let rest = occurs_both x xs ys in omega (arith, re
 module _ (so : Option Expr → Bool) where
   pub declared_both : (a b : List Stmt) → declared so (stmts_in (a ++ b)) ≡ declared so (stmts_in a) ++ declared so (stmts_in b)
   declared_both [] b = refl
-  declared_both (s ∷ a) b = ap (λ (l : List Text). declared_by so s ++ l) (declared_both a b) ∙ sym (joined (declared_by so s) (declared so (stmts_in a)) (declared so (stmts_in b)))
-    where
-      joined : (a b c : List Text) → (a ++ b) ++ c ≡ a ++ (b ++ c)
-      joined [] b c = refl
-      joined (y ∷ a) b c = ap (λ (l : List Text). y ∷ l) (joined a b c)
+  declared_both (s ∷ a) b = ap (λ (l : List Text). declared_by so s ++ l) (declared_both a b) ∙ sym (append_assoc (declared_by so s) (declared so (stmts_in a)) (declared so (stmts_in b)))
 
 module _ (x : Text) where
   -- how often the name is declared with a value

@@ -1,6 +1,9 @@
 -- The declarations at the top of a function: its variables, which have values, and results and kept indexes, which have none.
-use Rattle.std.proofs.Common.{◌≡◌, ◌&&◌, ℕ, Bool, true, false, List, [], ◌∷◌, ◌++◌, map, filter, Option, Some, None, append_assoc, append-nil, refl, sym, ap, ◌∙◌, if◌then◌else◌}
+use Rattle.std.proofs.Common.{◌≡◌, ◌&&◌, ℕ, Bool, true, false, List, [], ◌∷◌, ◌++◌, map, filter, Option, Some, None, append-nil, refl, sym, ap, ◌∙◌, if◌then◌else◌}
 use Rattle.std.specs.Prelude.{flat_map, is_none, is_some}
+use Rattle.std.proofs.lemmas.List.{map-append}
+use Rattle.std.proofs.lemmas.List.Elements.{filter-append}
+use Rattle.std.proofs.lemmas.Grind.{flat_map-append}
 use Rattle.spv_module.specs.Lists.{id}
 use Rattle.spv_module.specs.declared.inst.Inst.{Inst}
 use Rattle.spv_module.specs.declared.inst.Block.{Block}
@@ -24,16 +27,7 @@ module _ (so : Option Expr → Bool) (texts : List Inst → List Stmt) (names : 
 
 -- those of a list that pass, by their names
 filtered_both : (test : Inst → Bool) (name : Inst → Text) (a b : List Inst) → map name (filter test (a ++ b)) ≡ map name (filter test a) ++ map name (filter test b)
-filtered_both test name [] b = refl
-filtered_both test name (i ∷ a) b = by_test (test i) (filtered_both test name a b)
-  where
-    by_test : (q : Bool) → map name (filter test (a ++ b)) ≡ map name (filter test a) ++ map name (filter test b) → map name (if q then i ∷ filter test (a ++ b) else filter test (a ++ b)) ≡ map name (if q then i ∷ filter test a else filter test a) ++ map name (filter test b)
-    by_test true e = ap (λ (l : List Text). name i ∷ l) e
-    by_test false e = e
-
-flat_both : (h : Inst → List Text) (a b : List Inst) → flat_map h (a ++ b) ≡ flat_map h a ++ flat_map h b
-flat_both h [] b = refl
-flat_both h (i ∷ a) b = ap (λ (l : List Text). h i ++ l) (flat_both h a b) ∙ sym (append_assoc (h i) (flat_map h a) (flat_map h b))
+filtered_both test name a b = ap (map name) (filter-append test a b) ∙ map-append name (filter test a) (filter test b)
 
 -- declarations alone
 abbrev pub AllDeclare : List Stmt → Type 0
@@ -132,7 +126,7 @@ module _ (w : Scope) where
       ∙ (ap (λ (l : List Text). l ++ unset (stmts_in (in_blocks (hoisted_texts w) bs ++ in_blocks (captured_texts w) bs))) (in_blocks_declared is_none (variables_text w) nothing (λ is. variables_unset (filter is_variable is)) none_both refl bs)
       ∙ (declared_both is_none (in_blocks (hoisted_texts w) bs) (in_blocks (captured_texts w) bs)
       ∙ (ap (λ (l : List Text). l ++ unset (stmts_in (in_blocks (captured_texts w) bs))) (in_blocks_declared is_none (hoisted_texts w) (λ is. map named (filter (is_hoisted_in w) is)) (λ is. hoisted_unset (filter (is_hoisted_in w) is)) (filtered_both (is_hoisted_in w) named) refl bs)
-      ∙ ap (λ (l : List Text). map named (filter (is_hoisted_in w) (all_insts bs)) ++ l) (in_blocks_declared is_none (captured_texts w) (λ is. flat_map kept_named is) captured_unset (flat_both kept_named) refl bs))))
+      ∙ ap (λ (l : List Text). map named (filter (is_hoisted_in w) (all_insts bs)) ++ l) (in_blocks_declared is_none (captured_texts w) (λ is. flat_map kept_named is) captured_unset (flat_map-append kept_named) refl bs))))
 
   mapped_declare : (f : Inst → Stmt) → ((i : Inst) → AllDeclare (f i ∷ [])) → (is : List Inst) → AllDeclare (map f is)
   mapped_declare f each [] = tt

@@ -1,5 +1,5 @@
 -- What a tree counts for its blocks, each reached block stands once: so each counts once.
-use Rattle.std.proofs.Common.{◌≡◌, ◌+◌, ◌<◌, ◌≤◌, ◌==◌, ℕ, suc, zero, Bool, true, false, List, [], ◌∷◌, length, filter, inl, inr, refl, sym, ap, ◌∙◌, subst, arith, if◌then◌else◌}
+use Rattle.std.proofs.Common.{◌≡◌, ◌+◌, ◌==◌, ℕ, Bool, true, false, List, [], ◌∷◌, length, filter, inl, inr, refl, sym, ap, ◌∙◌, subst, arith, if◌then◌else◌}
 use Rattle.std.specs.List.{range_with_len}
 use Rattle.std.proofs.lemmas.Bool.Decides.{eqb_tells}
 use Rattle.structure_rules.specs.declared.graph.Node.{Node}
@@ -9,22 +9,13 @@ use Rattle.structure_recover.specs.Tree.{Region}
 use Rattle.structure_recover.specs.Once.{Around, around, stands, standing, StandsOnce}
 use Rattle.structure_recover.proofs.Counting.{kid_sum}
 use Rattle.region_law.specs.Leads.{In, AreApart}
-use Rattle.tree_law.proofs.SwitchOrder.{in_range}
+use Rattle.tree_law.proofs.SwitchOrder.{in_range, range_apart}
 use Rattle.claim_law.specs.Claimed.{IsIn}
 use Rattle.declared_law.proofs.Sums.{sum_same, sum_both, sum_none, sum_only, only}
 
 abbrev pub weighed : {A : Type 0} → (ℕ → ℕ) → List (ℕ × A) → ℕ
 weighed v [] = 0
 weighed v (s ∷ ss) = v s.0 + weighed v ss
-
-range_low : (a n t : ℕ) → In t (range_with_len a n) → a ≤ t
-range_low a zero t there = absurd there
-range_low a (suc n) t (inl same) = omega (arith, same)
-range_low a (suc n) t (inr there) = let low = range_low (a + 1) n t there in omega (arith, low)
-
-pub range_apart : (a n : ℕ) → AreApart (range_with_len a n)
-range_apart a zero = tt
-range_apart a (suc n) = ((λ there. let low = range_low (a + 1) n a there in absurd (omega (arith, low))), range_apart (a + 1) n)
 
 module _ {A : Type 0} (v : ℕ → ℕ) where
   abbrev chosen : ℕ → List (ℕ × A) → List (ℕ × A)

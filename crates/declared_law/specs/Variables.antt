@@ -21,9 +21,6 @@ use Rattle.hoist_plan.specs.Plan.{Scope, form, is_carried}
 use Rattle.access_paths.specs.Ways.{captured_indexes}
 use Rattle.name_alloc.specs.declared.claims.Key.{Key}
 use Rattle.name_alloc.specs.declared.claims.Key.TheVariants.{Id, Again, Leave, Fell, Captured, Spare}
-use Rattle.name_alloc.specs.declared.claims.Claim.{Claim}
-use Rattle.name_alloc.specs.Law.{AreNames}
-use Rattle.name_alloc.specs.Naming.{name_of}
 use Rattle.glsl_ast.specs.Tree.{Text, Stmts, TranslationUnit}
 use Rattle.text_rules.specs.Claims.{label}
 use Rattle.function_plan.specs.Phis.{is_live_phi, phi_blocks, values_in}
@@ -126,12 +123,10 @@ pub record IsBodyOf (gs : List Inst) (entry : ℕ) (found : Naming) (q : Text ×
   pub name : q.0 ≡ text_of found (function_key entry f.id)
   pub declares : Declares gs f (form (scope_of gs f links)) (is_carried (scope_of gs f links)) found q.1
 
--- Each function of a text is one that calls reach from the entry point, and declares the variables that this has. Names are lawful.
-pub record HasVariables (m : ModuleState) (o : Options) (unit : TranslationUnit) : Type 0 where
+-- Where keys have these names, each function of a text is one that calls reach from the entry point, and declares the variables that this has.
+pub record HasVariables (m : ModuleState) (o : Options) (found : Naming) (unit : TranslationUnit) : Type 0 where
   pub entry : ℕ
   pub is_entry : IsEntry m o entry
   pub order : List IdOf
   pub calls : IsCallOrder m.functions entry (numbers order)
-  pub claimed : List Claim
-  pub lawful : AreNames (name_of claimed)
-  pub each : (q : Text × Stmts) → IsIn q (functions_in unit) → (f : Function) × IsIn f (called order m.functions) × IsBodyOf m.globals entry (name_of claimed) q f
+  pub each : (q : Text × Stmts) → IsIn q (functions_in unit) → (f : Function) × IsIn f (called order m.functions) × IsBodyOf m.globals entry found q f
