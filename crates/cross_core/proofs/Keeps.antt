@@ -22,7 +22,9 @@ pub keeps : (m : ModuleState) (o : Options) → IsGiven m o → NoRuleBroken (Br
 keeps m o given decorated fine unit is = record {
   entry = is.translated.entry;
   is_entry = is.translated.is_entry;
-  preserves = λ inv told. accepted_preserves given.read.bytes m o given.read.is fine unit is.translated inv told (record { octets = given.octets; given = given.words; decorated = decorated });
+  preserves = record {
+    events = λ inv told. accepted_preserves given.read.bytes m o given.read.is fine unit is.translated inv told (record { octets = given.octets; given = given.words; decorated = decorated });
+  };
 }
 
 -- by any schedule: the same events in the same order, and the same memory
@@ -30,4 +32,4 @@ pub every_dispatch : (m : ModuleState) (o : Options) (unit : TranslationUnit) (k
     → DispatchRun (count g) (group_of g) (module_side m k.entry o.overrides g n) (first_state store) schedule events last
     → DispatchRun (count g) (group_of g) (text_side unit g (n + 1)) (first_state store) schedule events last
 every_dispatch m o unit k g told n store schedule events last run =
-    dispatches_agree m k.entry o.overrides unit g (λ i less. k.preserves (invocation g i) (told i less)) n store schedule events last run
+    dispatches_agree m k.entry o.overrides unit g (λ i less. k.preserves.events (invocation g i) (told i less)) n store schedule events last run

@@ -1,3 +1,4 @@
 mod Given
 pub mod Keeps
+pub mod Trees
 pub mod Outputs

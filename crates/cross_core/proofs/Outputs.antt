@@ -9,7 +9,6 @@ use Rattle.glsl_ast.specs.Tree.{TranslationUnit}
 use Rattle.glsl_grammar.specs.Layout.{unit_text}
 use Rattle.glsl_grammar.specs.Reading.{glsl_read}
 use Rattle.glsl_grammar.proofs.ReadsBack.{reads_back}
-use Rattle.emit_glsl.specs.Text.{IsTranslationOf}
 use Rattle.serde_json.specs.Data.{Data}
 use Rattle.serde_json.specs.Written.{compact_text, has_float}
 use Rattle.reflection.specs.Report.{IsReport}
@@ -21,9 +20,7 @@ use Rattle.command_line.specs.Asked.{bytes_by, bytes_of}
 use Rattle.command_line.specs.Summary.{summary}
 use Rattle.dispatch_case.specs.Cases.{CaseParts}
 use Rattle.run_module.specs.Ends.{IsSaidOf}
-use Rattle.interface_law.specs.Interface.{HasInterface}
-use Rattle.interface_law.proofs.Interfaces.{has_interface}
-use Rattle.cross_core.specs.Keeps.{Keeps}
+use Rattle.cross_core.specs.Trees.{IsOfModule}
 use Rattle.cross_core.specs.Answers.{IsAnswer, IsAnswerBy, IsTextOf, IsRunText}
 use Rattle.command_line.specs.Endings.{ending_of, IsOutput}
 
@@ -62,14 +59,12 @@ module _ {K : Type 0} (written : K → Option (List ℕ)) (faults : K → ℕ) w
       subst (λ (p : Option ℕ). IsOutput written faults (IsAnswer command (bytes_by p left)) old new ending) (sym is) h
 
 -- the text that is laid out of a module's tree
-pub glsl_answer : (o : Options) (m : ModuleState) (u : TranslationUnit) (text : List ℕ) → IsTranslationOf m o u → Keeps m o u → text ≡ unit_text u → IsTextOf o (Some m) text
-glsl_answer o m u text is keeps same = record {
+pub glsl_answer : (o : Options) (m : ModuleState) (u : TranslationUnit) (text : List ℕ) → IsOfModule m o u → text ≡ unit_text u → IsTextOf o (Some m) text
+glsl_answer o m u text of same = record {
   unit = u;
   laid_out = same;
-  reads = subst (λ (t : List ℕ). glsl_read t ≡ Some u) (sym same) (reads_back u is.grammar);
-  translation = is;
-  keeps = keeps;
-  interface = has_interface m o u is.translated;
+  reads = subst (λ (t : List ℕ). glsl_read t ≡ Some u) (sym same) (reads_back u of.translation.grammar);
+  of_module = of;
 }
 
 -- the line of a report
@@ -87,9 +82,7 @@ module _ (o : Options) (left : Option (List ℕ)) (read : List ℕ) (same : IfSo
     unit = of.unit;
     laid_out = of.laid_out;
     reads = of.reads;
-    translation = module_told left read (λ m. IsTranslationOf m o of.unit) same of.translation;
-    keeps = module_told left read (λ m. Keeps m o of.unit) same of.keeps;
-    interface = module_told left read (λ m. HasInterface m o of.unit) same of.interface;
+    of_module = module_told left read (λ m. IsOfModule m o of.unit) same of.of_module;
   }
 
   run_told : (c : CaseParts) (text : List ℕ) → IsRunText c o (Some (module_in read)) text → IsRunText c o (option_map module_in left) text

@@ -8,7 +8,6 @@ use Rattle.reflection.specs.Report.{IsReport}
 use Rattle.glsl_ast.specs.Tree.{TranslationUnit}
 use Rattle.glsl_grammar.specs.Layout.{unit_text}
 use Rattle.glsl_grammar.specs.Reading.{glsl_read}
-use Rattle.emit_glsl.specs.Text.{IsTranslationOf}
 use Rattle.dispatch_semantics.specs.Store.{Store}
 use Rattle.group_items.specs.declared.schedule.End.{End}
 use Rattle.dispatch_case.specs.Cases.{CaseParts}
@@ -17,17 +16,14 @@ use Rattle.run_module.specs.Ends.{IsSaidOf, IsAboveOf}
 use Rattle.command_line.specs.State.{Task, prints, judges, reports, sums, runs, CommandState}
 use Rattle.command_line.specs.Endings.{Above}
 use Rattle.command_line.specs.Summary.{summary}
-use Rattle.interface_law.specs.Interface.{HasInterface}
-use Rattle.cross_core.specs.Keeps.{Keeps}
+use Rattle.cross_core.specs.Trees.{IsOfModule}
 
--- the text that is laid out of a tree, and reads back as it; where the module is told, the tree is that of its text, does what the module does, and has its interface
+-- the text that is laid out of a tree, and reads back as it; where the module is told, the tree is that module's
 pub record IsTextOf (o : Options) (told : Option ModuleState) (text : List ℕ) : Type 0 where
   pub unit : TranslationUnit
   pub laid_out : text ≡ unit_text unit
   pub reads : glsl_read text ≡ Some unit
-  pub translation : IfSome told (λ m. IsTranslationOf m o unit)
-  pub keeps : IfSome told (λ m. Keeps m o unit)
-  pub interface : IfSome told (λ m. HasInterface m o unit)
+  pub of_module : IfSome told (λ m. IsOfModule m o unit)
 
 -- the lines of a run of a case; where the module is told, it is that of the module
 pub record IsRunText (c : CaseParts) (o : Options) (told : Option ModuleState) (text : List ℕ) : Type 0 where
@@ -47,7 +43,7 @@ IsAnswerBy (runs c) o told text = IsRunText c o told text
 
 -- the summary of a module and the tree of its text
 abbrev pub IsSummaryOf : ModuleState → TranslationUnit → List ℕ → Type 0
-IsSummaryOf m unit line = (o : Options) → IsTranslationOf m o unit → Keeps m o unit → IsAnswerBy sums o (Some m) line
+IsSummaryOf m unit line = (o : Options) → IsOfModule m o unit → IsAnswerBy sums o (Some m) line
 
 -- what a command puts out, where the bytes of the module are told
 abbrev pub IsAnswer : CommandState → Option (List ℕ) → List ℕ → Type 0

@@ -1,2 +1,3 @@
 pub mod Keeps
+pub mod Trees
 pub mod Answers

@@ -11,4 +11,4 @@ returns c =
     let m : ModuleState = c.args.«module».now in
     let text : Text = c.bytes.result.now in
     let unit = unit_of c.args.unit.now in
-    IfOk-weaker c.summary_of.result _ _ (λ line same o translation keeps. (text, glsl_answer o m unit text translation keeps (c.bytes.ensures ∙ c.in_ok-text.ensures), same)) c.summary_of.ensures
+    IfOk-weaker c.summary_of.result _ _ (λ line same o of. (text, glsl_answer o m unit text of (c.bytes.ensures ∙ c.in_ok-text.ensures), same)) c.summary_of.ensures
