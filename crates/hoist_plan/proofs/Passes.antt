@@ -16,7 +16,7 @@ use Rattle.use_chains.specs.Links.{Link}
 use Rattle.hoist_plan.specs.declared.row.Chain.{Chain}
 use Rattle.hoist_plan.specs.declared.row.Row.{Row}
 use Rattle.hoist_plan.specs.declared.forms.Forms.{Forms}
-use Rattle.hoist_plan.specs.Kept.{chains_among, chains_of, known_in, placed, placed_chain, places_in}
+use Rattle.hoist_plan.specs.Kept.{chains_among, chains_of, known_in, placed, placed_chain, places_in, result_in}
 use Rattle.hoist_plan.specs.Plan.{Known, Placed, own_height, raised, operand_if, with_carried, carried_from, mentions_of, result_of, results_of_block, results}
 
 pub raise_more : (f : Function) (h : ℕ) (old new : ℕ → Option ℕ) (places : List SlotPlace) (k : ℕ) (d : SlotPlace) → k < length places → ((n : ℕ) → new n ≡ raised f h old (get_or places k d) n) → (n : ℕ) → fold (raised f h) new (drop (k + 1) places) n ≡ fold (raised f h) old (drop k places) n
@@ -99,7 +99,7 @@ chains_alone f (p ∷ ps) n =
 pub chains_carried : (links : List Link) (f : Function) (n : ℕ) → carried_from f (chains_of links f) n ≡ carried_from f (results links f) n
 chains_carried links f n = ap (λ ps. carried_from f ps n) (chains_are links f) ∙ chains_alone f (results links f) n
 
--- the result of an instruction that has one
+-- a result, where there is one
 of_not : (b c : Bool) → c ≡ not b → c ≡ true → b ≡ false
 of_not true c is e = sym e ∙ is
 of_not false c is e = refl
@@ -108,16 +108,14 @@ of_not_false : (b c : Bool) → c ≡ not b → c ≡ false → b ≡ true
 of_not_false true c is e = refl
 of_not_false false c is e = sym e ∙ is
 
-one_result : (links : List Link) (block : ℕ) (i : Inst) → (i.result == 0) ≡ false → placed (mentions_of links i.result) (record { block = block; op = i.op; ty = i.ty; result = i.result }) ∷ [] ≡ result_of links block i
-one_result links block i some = rw some refl
+one_result : (links : List Link) (r : Row) → (r.result == 0) ≡ false → placed (mentions_of links r.result) r ∷ [] ≡ result_in links r
+one_result links r some = rw some refl
 
-pub result_is : (links : List Link) (block : ℕ) (i : Inst) (mentions : List SlotPlace) (has : Bool) → has ≡ not (i.result == 0) → has ≡ true → mentions ≡ mentions_of links i.result
-    → placed mentions (record { block = block; op = i.op; ty = i.ty; result = i.result }) ∷ [] ≡ result_of links block i
-result_is links block i mentions has is on are =
-    ap (λ ms. placed ms (record { block = block; op = i.op; ty = i.ty; result = i.result }) ∷ []) are ∙ one_result links block i (of_not (i.result == 0) has is on)
+pub result_is : (links : List Link) (r : Row) (mentions : List SlotPlace) (has : Bool) → has ≡ not (r.result == 0) → has ≡ true → mentions ≡ mentions_of links r.result → placed mentions r ∷ [] ≡ result_in links r
+result_is links r mentions has is on are = ap (λ ms. placed ms r ∷ []) are ∙ one_result links r (of_not (r.result == 0) has is on)
 
-pub result_none : (links : List Link) (block : ℕ) (i : Inst) (has : Bool) → has ≡ not (i.result == 0) → has ≡ false → [] ≡ result_of links block i
-result_none links block i has is off = let none : (i.result == 0) ≡ true = of_not_false (i.result == 0) has is off in rw none refl
+pub result_none : (links : List Link) (r : Row) (has : Bool) → has ≡ not (r.result == 0) → has ≡ false → [] ≡ result_in links r
+result_none links r has is off = let none : (r.result == 0) ≡ true = of_not_false (r.result == 0) has is off in rw none refl
 
 -- a chain is put behind others
 pub chain_more : (chains : List Chain) (ms : List SlotPlace) (c : Chain) (is : Bool) → is ≡ is_chain c.row.op → is ≡ true → places_in c.mentions ≡ ms → map placed_chain (chains ++ c ∷ []) ≡ map placed_chain chains ++ chains_among (placed ms c.row ∷ [])

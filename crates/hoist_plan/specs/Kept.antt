@@ -1,5 +1,5 @@
 -- What a plan keeps.
-use Rattle.std.specs.Prelude.{ℕ, ◌≡◌, ◌+◌, ◌*◌, ◌&&◌, nat_le, Bool, true, List, [], ◌∷◌, filter, flat_map, length, Option, unwrap_or}
+use Rattle.std.specs.Prelude.{ℕ, ◌≡◌, ◌==◌, ◌+◌, ◌*◌, ◌&&◌, if◌then◌else◌, nat_le, Bool, true, List, [], ◌∷◌, filter, flat_map, length, Option, unwrap_or}
 use Rattle.std.specs.BTreeMap.{is_at}
 use Rattle.std.specs.List.{enumerate_from, list_any}
 use Rattle.std.specs.Map.{lookup}
@@ -18,7 +18,7 @@ use Rattle.hoist_plan.specs.declared.mentioned.Mentioned.TheVariants.{Once, List
 use Rattle.hoist_plan.specs.declared.row.Row.{Row}
 use Rattle.hoist_plan.specs.declared.row.Chain.{Chain}
 use Rattle.hoist_plan.specs.declared.forms.Forms.{Forms}
-use Rattle.hoist_plan.specs.Plan.{Known, Placed, result_of}
+use Rattle.hoist_plan.specs.Plan.{Known, Placed, mentions_of, result_of}
 
 abbrev pub places_in : Mentioned → List SlotPlace
 places_in (Once at) = at ∷ []
@@ -27,6 +27,10 @@ places_in (Listed places) = places.items
 -- a result, with where it is mentioned
 abbrev pub placed : List SlotPlace → Row → Placed
 placed mentions r = record { block = r.block; op = r.op; ty = r.ty; result = r.result; mentions = mentions }
+
+-- a result of this id, unless it is 0, with where it is mentioned
+abbrev pub result_in : List Link → Row → List Placed
+result_in links r = if r.result == 0 then [] else placed (mentions_of links r.result) r ∷ []
 
 abbrev pub placed_chain : Chain → Placed
 placed_chain c = placed (places_in c.mentions) c.row

@@ -6,7 +6,7 @@ ghost use Rattle.hoist_plan.specs.Kept.{form_in, is_carried_in, result_id, steps
 
 use crate::Form;
 use crate::carried::carried;
-use crate::rows::{Told, results};
+use crate::rows::{Linked, Told};
 use id_map::IdMap;
 use spv_index::Locals;
 use spv_module::{Id, Module};
@@ -73,7 +73,13 @@ pub fn plan<L: Ledger>(
     ensures steps { OnOk result (steps.new ≡ steps.old + sum_by steps_of (results_in uses.now locals.now)) }
     ensures bound { OnOk result (IsDistinct (λ a b. a == b) (map result_id (results_in uses.now locals.now)) → steps.new ≤ steps.old + (2 * length uses.now + length (results_in uses.now locals.now))) }
 {
-    let Told { forms, chains, .. } = results(alloc, module, locals, uses, steps)?;
+    let linked = Linked {
+        alloc,
+        module,
+        locals,
+        uses,
+    };
+    let Told { forms, chains, .. } = linked.results(steps)?;
     Ok(Naming {
         forms: forms.forms,
         carried: carried(alloc, locals, &chains)?,

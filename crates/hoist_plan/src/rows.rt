@@ -1,7 +1,7 @@
 // A walk over the results of a function, with where they are mentioned.
 ghost use Rattle.std.specs.Prelude.{◌≡◌, ◌==◌, not, ◌+◌, ◌*◌, ◌++◌, [], ◌∷◌, IfOk, OnOk, fold, length, map, sum_by};
-ghost use Rattle.hoist_plan.specs.Plan.{mentions_of, nothing, result_of, results_of_block, results as results_in, with_result};
-ghost use Rattle.hoist_plan.specs.Kept.{chains_among, chains_of, chains_of_block, chains_of_inst, known_in, placed, placed_chain, steps_of, AreRising};
+ghost use Rattle.hoist_plan.specs.Plan.{mentions_of, nothing, results_of_block, results as results_in, with_result};
+ghost use Rattle.hoist_plan.specs.Kept.{chains_among, chains_of, chains_of_block, chains_of_inst, known_in, placed, placed_chain, result_in, steps_of, AreRising};
 
 use crate::forms::{Forms, add_form};
 use crate::mentioned::Mentioned;
@@ -42,10 +42,10 @@ fn list_mentions<L: Ledger>(
     Ok(())
 }
 
-fn has_result(inst: &Inst) -> bool
-    ensures { result ≡ not (inst.now.result == 0) }
+fn has_result(row: Row) -> bool
+    ensures { result ≡ not (row.result == 0) }
 {
-    inst.result != 0
+    row.result != 0
 }
 
 /// Adds a result where it is a chain.
@@ -63,70 +63,6 @@ fn add_chain(
     let mentions = Mentioned::of(alloc, places)?;
     chains.push(Chain { row, mentions })?;
     Ok(())
-}
-
-/// A function of a module, with where its values are mentioned.
-#[derive(Clone, Copy)]
-struct Linked<'w, 'f> {
-    alloc: Global,
-    module: &'w Module,
-    locals: &'w Locals<'f>,
-    uses: &'w Uses,
-}
-
-impl<'w, 'f> Linked<'w, 'f> {
-    /// Adds the result of an instruction of the block at a place, where it has one.
-    fn add_result<L: Ledger>(
-        &self,
-        told: &mut Told,
-        place: usize,
-        inst: &Inst,
-        steps: &mut Steps<L>,
-    ) -> Result<(), Memory>
-        requires { AreRising self.now.uses.now }
-        ensures known { OnOk result (known_in told.new.forms ≡ fold (with_result self.now.«module».now.globals self.now.locals.now) (known_in told.old.forms) (result_of self.now.uses.now place inst.now)) }
-        ensures chains { OnOk result (map placed_chain told.new.chains.items ≡ map placed_chain told.old.chains.items ++ chains_of_inst self.now.uses.now place inst.now) }
-        ensures steps { OnOk result (steps.new ≡ steps.old + sum_by steps_of (result_of self.now.uses.now place inst.now)) }
-    {
-        if !has_result(inst) {
-            return Ok(());
-        }
-        list_mentions(&mut told.places, self.uses, Id(inst.result), steps)?;
-        let row = Row {
-            block: place,
-            op: inst.op,
-            ty: inst.ty,
-            result: inst.result,
-        };
-        add_form(
-            &mut told.forms,
-            self.module,
-            self.locals,
-            &row,
-            &told.places,
-        )?;
-        add_chain(self.alloc, &mut told.chains, row, &told.places)?;
-        Ok(())
-    }
-
-    /// Adds the results of the block at a place.
-    fn add_results_of_block<L: Ledger>(
-        &self,
-        told: &mut Told,
-        place: usize,
-        block: &Block,
-        steps: &mut Steps<L>,
-    ) -> Result<(), Memory>
-        requires { AreRising self.now.uses.now }
-        ensures known { OnOk result (known_in told.new.forms ≡ fold (with_result self.now.«module».now.globals self.now.locals.now) (known_in told.old.forms) (results_of_block self.now.uses.now (place, block.now))) }
-        ensures chains { OnOk result (map placed_chain told.new.chains.items ≡ map placed_chain told.old.chains.items ++ chains_of_block self.now.uses.now (place, block.now)) }
-        ensures steps { OnOk result (steps.new ≡ steps.old + sum_by steps_of (results_of_block self.now.uses.now (place, block.now))) }
-    {
-        for inst in block.insts.as_slice() {
-            self.add_result(told, place, inst, steps)?;
-        }
-        Ok(())
-    }
 }
 
 /// The span of the results of blocks.
@@ -152,29 +88,79 @@ fn none_for(alloc: Global, blocks: &[Block]) -> Result<Told, AllocError>
     })
 }
 
-/// The forms of the results of a function, and those that are chains, in text order.
-pub fn results<L: Ledger>(
-    alloc: Global,
-    module: &Module,
-    locals: &Locals,
-    uses: &Uses,
-    steps: &mut Steps<L>,
-) -> Result<Told, Memory>
-    requires { AreRising uses.now }
-    ensures known { IfOk result (λ told. known_in told.forms ≡ fold (with_result «module».now.globals locals.now) nothing (results_in uses.now locals.now)) }
-    ensures chains { IfOk result (λ told. map placed_chain told.chains.items ≡ chains_of uses.now locals.now) }
-    ensures steps { OnOk result (steps.new ≡ steps.old + sum_by steps_of (results_in uses.now locals.now)) }
-{
-    let linked = Linked {
-        alloc,
-        module,
-        locals,
-        uses,
-    };
-    let blocks = locals.function().blocks.as_slice();
-    let mut told = none_for(alloc, blocks)?;
-    for (place, block) in blocks.iter().enumerate() {
-        linked.add_results_of_block(&mut told, place, block, steps)?;
+/// A function of a module, with where its values are mentioned.
+#[derive(Clone, Copy)]
+pub struct Linked<'w, 'f> {
+    pub alloc: Global,
+    pub module: &'w Module,
+    pub locals: &'w Locals<'f>,
+    pub uses: &'w Uses,
+}
+
+impl<'w, 'f> Linked<'w, 'f> {
+    /// Adds a result, unless its id is 0.
+    fn add_result<L: Ledger>(
+        &self,
+        told: &mut Told,
+        row: Row,
+        steps: &mut Steps<L>,
+    ) -> Result<(), Memory>
+        requires { AreRising self.now.uses.now }
+        ensures known { OnOk result (known_in told.new.forms ≡ fold (with_result self.now.«module».now.globals self.now.locals.now) (known_in told.old.forms) (result_in self.now.uses.now row)) }
+        ensures chains { OnOk result (map placed_chain told.new.chains.items ≡ map placed_chain told.old.chains.items ++ chains_among (result_in self.now.uses.now row)) }
+        ensures steps { OnOk result (steps.new ≡ steps.old + sum_by steps_of (result_in self.now.uses.now row)) }
+    {
+        if !has_result(row) {
+            return Ok(());
+        }
+        list_mentions(&mut told.places, self.uses, Id(row.result), steps)?;
+        add_form(
+            &mut told.forms,
+            self.module,
+            self.locals,
+            &row,
+            &told.places,
+        )?;
+        add_chain(self.alloc, &mut told.chains, row, &told.places)?;
+        Ok(())
     }
-    Ok(told)
+
+    /// Adds the results of the block at a place.
+    fn add_results_of_block<L: Ledger>(
+        &self,
+        told: &mut Told,
+        place: usize,
+        block: &Block,
+        steps: &mut Steps<L>,
+    ) -> Result<(), Memory>
+        requires { AreRising self.now.uses.now }
+        ensures known { OnOk result (known_in told.new.forms ≡ fold (with_result self.now.«module».now.globals self.now.locals.now) (known_in told.old.forms) (results_of_block self.now.uses.now (place, block.now))) }
+        ensures chains { OnOk result (map placed_chain told.new.chains.items ≡ map placed_chain told.old.chains.items ++ chains_of_block self.now.uses.now (place, block.now)) }
+        ensures steps { OnOk result (steps.new ≡ steps.old + sum_by steps_of (results_of_block self.now.uses.now (place, block.now))) }
+    {
+        for inst in block.insts.as_slice() {
+            let row = Row {
+                block: place,
+                op: inst.op,
+                ty: inst.ty,
+                result: inst.result,
+            };
+            self.add_result(told, row, steps)?;
+        }
+        Ok(())
+    }
+    /// The forms of the results of the function, and those that are chains, in text order.
+    pub fn results<L: Ledger>(&self, steps: &mut Steps<L>) -> Result<Told, Memory>
+        requires { AreRising self.now.uses.now }
+        ensures known { IfOk result (λ told. known_in told.forms ≡ fold (with_result self.now.«module».now.globals self.now.locals.now) nothing (results_in self.now.uses.now self.now.locals.now)) }
+        ensures chains { IfOk result (λ told. map placed_chain told.chains.items ≡ chains_of self.now.uses.now self.now.locals.now) }
+        ensures steps { OnOk result (steps.new ≡ steps.old + sum_by steps_of (results_in self.now.uses.now self.now.locals.now)) }
+    {
+        let blocks = self.locals.function().blocks.as_slice();
+        let mut told = none_for(self.alloc, blocks)?;
+        for (place, block) in blocks.iter().enumerate() {
+            self.add_results_of_block(&mut told, place, block, steps)?;
+        }
+        Ok(told)
+    }
 }
