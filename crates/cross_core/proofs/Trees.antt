@@ -9,9 +9,9 @@ use Rattle.module_check.specs.Judged.{IsFine}
 use Rattle.glsl_ast.specs.Tree.{TranslationUnit}
 use Rattle.emit_glsl.specs.Given.{IsGiven}
 use Rattle.emit_glsl.specs.Text.{IsTranslationOf}
-use Rattle.one_law.proofs.One.{one_tree}
-use Rattle.interface_law.proofs.Interfaces.{has_interface}
-use Rattle.declared_law.proofs.Law.{has_variables}
+use Rattle.text_law.proofs.One.One.{one_tree}
+use Rattle.text_law.proofs.Interface.Interfaces.{has_interface}
+use Rattle.text_law.proofs.Variables.Law.{has_variables}
 use Rattle.cross_core.specs.Trees.{IsOfModule}
 use Rattle.cross_core.proofs.Keeps.{keeps}
 

@@ -5,8 +5,8 @@ use Rattle.conformance.specs.Rules.{Options}
 use Rattle.name_alloc.specs.Naming.{name_of}
 use Rattle.glsl_ast.specs.Tree.{TranslationUnit}
 use Rattle.emit_glsl.specs.Text.{IsTranslationOf}
-use Rattle.interface_law.specs.Interface.{HasInterface}
-use Rattle.declared_law.specs.Variables.{HasVariables}
+use Rattle.text_law.specs.Interface.{HasInterface}
+use Rattle.text_law.specs.Variables.{HasVariables}
 use Rattle.cross_core.specs.Keeps.{Keeps}
 
 -- It is the translation of the module, and there is no other; it does what the module does, and has the interface of the module and the variables of its functions.

@@ -1,0 +1,2 @@
+-- The interface of a text is the module's.
+pub mod Interfaces
