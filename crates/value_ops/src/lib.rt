@@ -15,5 +15,5 @@ mod words;
 
 pub use copies::copied;
 pub use operate::op_value;
-pub use parts::{part_by, put_part};
+pub use parts::{inserted, part_by, put_part};
 pub use words::{add_words, value_from, zero_value};
