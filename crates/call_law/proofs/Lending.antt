@@ -1,5 +1,5 @@
 -- Each pointer parameter leads to a whole variable of a call below, and no two to one, as arguments of calls are whole variables and parameters, each once (M4).
-use Rattle.std.proofs.Common.{◌≡◌, ◌≢◌, ◌≤◌, ◌⊎◌, ◌==◌, ◌&&◌, ◌||◌, not, ℕ, suc, Bool, true, false, List, [], ◌∷◌, length, map, drop, Option, Some, None, cond, inl, inr, refl, sym, ap, ◌∙◌, subst, arith}
+use Rattle.std.proofs.Common.{◌≡◌, ◌≢◌, ◌≤◌, ◌⊎◌, ◌==◌, ◌&&◌, not, ℕ, suc, Bool, true, false, List, [], ◌∷◌, length, map, drop, Option, Some, None, cond, inl, inr, refl, sym, ap, ◌∙◌, subst, arith}
 use Rattle.std.specs.Prelude.{option_map, is_some, find}
 use Rattle.std.specs.List.{list_any}
 use Rattle.std.proofs.lemmas.Bool.Decides.{eqb_tells}
@@ -14,6 +14,8 @@ use Rattle.module_semantics.specs.Setting.{Setting, global_variable}
 use Rattle.module_semantics.specs.State.{Root, global, own, lent, Held, value, pointer, Frame, put, with_call, with_variable}
 use Rattle.module_semantics.specs.Operands.{of_module, held, arg}
 use Rattle.module_semantics.specs.Steps.{call, step_kind, without_based, is_based_on, passed, argument_of, entered, with_phis}
+use Rattle.list_law.proofs.Tests.{not_both, or_left, or_right, and_off}
+pub use Rattle.list_law.proofs.Tests.{not_both as no_true, or_left as left_false, or_right as right_false, and_off as and_false}
 use Rattle.fits_law.proofs.Operations.{before_some}
 use Rattle.agree_law.specs.Agree.{IfPointer}
 use Rattle.agree_law.proofs.Stores.{length_with}
@@ -45,28 +47,13 @@ if_pointer P (Some (pointer r path)) on = on r path refl
 pub of_pointer : (P : Root → List ℕ → Type 0) (o : Option Held) (r : Root) (path : List ℕ) → o ≡ Some (pointer r path) → IfPointer o P → P r path
 of_pointer P o r path is has = subst (λ h. IfPointer h P) is has
 
-pub no_true : (t : Bool) → t ≡ true → t ≡ false → ⊥
-no_true t on off = let never : true ≡ false = sym on ∙ off in cc
-
-pub left_false : (a b : Bool) → (a || b) ≡ false → a ≡ false
-left_false true b e = cc
-left_false false b e = refl
-
-pub right_false : (a b : Bool) → (a || b) ≡ false → b ≡ false
-right_false true b e = cc
-right_false false b e = e
-
 both_not : (a b : Bool) → (a && not b) ≡ false → a ≡ true → b ≡ true
 both_not true true e on = refl
 both_not true false e on = cc
 both_not false b e on = cc
 
-pub and_false : (a b : Bool) → (a && b) ≡ false → a ≡ true → b ≡ false
-and_false true b e on = e
-and_false false b e on = cc
-
 pub no_parameter : (f : Function) (n : ℕ) → is_own_memory f n ≡ false → is_parameter f n ≡ false
-no_parameter f n off = left_false (is_parameter f n) _ off
+no_parameter f n off = or_left (is_parameter f n) _ off
 
 -- what is no parameter gets no argument
 pub none_given : (ps : List (Id × Id)) (hs : List Held) (n : ℕ) → is_some (option_map (λ (p : Id × Id). p.1.0) (find (λ (p : Id × Id). p.0.0 == n) ps)) ≡ false → argument_of ps hs n ≡ None
@@ -128,7 +115,7 @@ module _ (s : Setting) (whole : LendsWhole s) where
         of_pointer (λ q way. r ≢ q) (f.ids k) q way (old k q way (turned k too) has) (of_pointer (λ r path. IfPointer (f.ids k) (λ q way. r ≢ q)) (f.ids n) r path (old n r path (turned n on) is) (at.apart n k (turned n on) (turned k too) other))));
     variables = λ n on off. if_pointer _ (g.ids n) (λ r path is. elim (came n r path is) [
       | inl was ↦ of_pointer _ (f.ids n) r path was (at.variables n (subst (λ e. is_own_memory e n ≡ true) same on) (subst (λ e. is_parameter e n ≡ false) same off))
-      | inr made ↦ elim made [ inl w ↦ absurd (no_true _ (subst (λ e. is_own_memory e n ≡ true) same on) w.0) | inr w ↦ (w.2, w.3) ]
+      | inr made ↦ elim made [ inl w ↦ absurd (not_both _ (subst (λ e. is_own_memory e n ≡ true) same on) w.0) | inr w ↦ (w.2, w.3) ]
     ]);
   }
     where
@@ -138,7 +125,7 @@ module _ (s : Setting) (whole : LendsWhole s) where
       old : (n : ℕ) (r : Root) (path : List ℕ) → is_parameter f.function n ≡ true → g.ids n ≡ Some (pointer r path) → f.ids n ≡ Some (pointer r path)
       old n r path on is = elim (came n r path is) [
         | inl was ↦ was
-        | inr made ↦ elim made [ inl w ↦ absurd (no_true _ on (no_parameter f.function n w.0)) | inr w ↦ absurd (no_true _ on w.0) ]
+        | inr made ↦ elim made [ inl w ↦ absurd (not_both _ on (no_parameter f.function n w.0)) | inr w ↦ absurd (not_both _ on w.0) ]
       ]
 
   module _ (ds : List (Frame × ℕ)) (f : Frame) (at : IsLending s ds f) where
@@ -218,7 +205,7 @@ module _ (s : Setting) (whole : LendsWhole s) where
       given_so w (p ∷ ps) (id ∷ ids) hs e fine n =
           let b = before_some (held s f id) (each_one (held s f) ids) hs e in
           subst (λ l. IfPointer (argument_of (p ∷ ps) (Args l) n) (λ r path. IsOfBelow (w ∷ ds) r × (path ≡ []))) (sym b.4)
-          (by_test b.0 b.1 (p.0.0 == n) (passed_is (λ r path. IsOfBelow (w ∷ ds) r × (path ≡ [])) b.0 (mapped_if (IsWhole s ds f id) _ (Some b.0) (below_call w id) (argument_whole id b.0 b.2 (left_false (is_other_pointer s.of.globals f.function id) _ fine)))) (given_so w ps ids b.1 b.3 (right_false (is_other_pointer s.of.globals f.function id) _ fine) n))
+          (by_test b.0 b.1 (p.0.0 == n) (passed_is (λ r path. IsOfBelow (w ∷ ds) r × (path ≡ [])) b.0 (mapped_if (IsWhole s ds f id) _ (Some b.0) (below_call w id) (argument_whole id b.0 b.2 (or_left (is_other_pointer s.of.globals f.function id) _ fine)))) (given_so w ps ids b.1 b.3 (or_right (is_other_pointer s.of.globals f.function id) _ fine) n))
         where
           by_test : (h : Held) (hs : List Held) (t : Bool) → IfPointer (Some (passed (length ds) h)) (λ r path. IsOfBelow (w ∷ ds) r × (path ≡ [])) → IfPointer (argument_of ps (Args hs) n) (λ r path. IsOfBelow (w ∷ ds) r × (path ≡ []))
               → IfPointer (elim t as (λ t. Option Held) [ true ↦ Some (passed (length ds) h) | false ↦ argument_of ps (Args hs) n ]) (λ r path. IsOfBelow (w ∷ ds) r × (path ≡ []))
@@ -232,7 +219,7 @@ module _ (s : Setting) (whole : LendsWhole s) where
       typed_so (p ∷ ps) (id ∷ ids) hs e fine so n =
           let b = before_some (held s f id) (each_one (held s f) ids) hs e in
           subst (λ l. IfPointer (argument_of (p ∷ ps) (Args l) n) (λ r path. is_pointer s.of.globals g n ≡ true)) (sym b.4)
-          (by_test b.0 b.1 (p.0.0 == n) (eqb_tells p.0.0 n) (mapped_if (IsWhole s ds f id) (λ r path. is_pointer s.of.globals g p.0.0 ≡ true) (Some b.0) (λ r path is. so.0 is.0) (argument_whole id b.0 b.2 (left_false (is_other_pointer s.of.globals f.function id) _ fine))) (typed_so ps ids b.1 b.3 (right_false (is_other_pointer s.of.globals f.function id) _ fine) so.1 n))
+          (by_test b.0 b.1 (p.0.0 == n) (eqb_tells p.0.0 n) (mapped_if (IsWhole s ds f id) (λ r path. is_pointer s.of.globals g p.0.0 ≡ true) (Some b.0) (λ r path is. so.0 is.0) (argument_whole id b.0 b.2 (or_left (is_other_pointer s.of.globals f.function id) _ fine))) (typed_so ps ids b.1 b.3 (or_right (is_other_pointer s.of.globals f.function id) _ fine) so.1 n))
         where
           by_test : (h : Held) (hs : List Held) (t : Bool) → ((t ≡ true) × (p.0.0 ≡ n)) ⊎ ((t ≡ false) × (p.0.0 ≡ n → ⊥)) → IfPointer (Some h) (λ r path. is_pointer s.of.globals g p.0.0 ≡ true) → IfPointer (argument_of ps (Args hs) n) (λ r path. is_pointer s.of.globals g n ≡ true)
               → IfPointer (elim t as (λ t. Option Held) [ true ↦ Some (passed (length ds) h) | false ↦ argument_of ps (Args hs) n ]) (λ r path. is_pointer s.of.globals g n ≡ true)
@@ -248,10 +235,10 @@ module _ (s : Setting) (whole : LendsWhole s) where
       elsewhere id r path is (p ∷ ps) [] (h ∷ hs) e fine none n = cc
       elsewhere id r path is (p ∷ ps) (other ∷ ids) hs e fine none n =
           let b = before_some (held s f other) (each_one (held s f) ids) hs e in
-          let differ : id ≢ other = (λ same. let on : (other == id) ≡ true = elim (eqb_tells other id) [ inl w ↦ w.0 | inr w ↦ absurd (w.1 (sym same)) ] in no_true _ on (left_false (other == id) _ none)) in
+          let differ : id ≢ other = (λ same. let on : (other == id) ≡ true = elim (eqb_tells other id) [ inl w ↦ w.0 | inr w ↦ absurd (w.1 (sym same)) ] in not_both _ on (or_left (other == id) _ none)) in
           subst (λ l. IfPointer (argument_of (p ∷ ps) (Args l) n) (λ q way. from_call ds r ≢ q)) (sym b.4)
-          (by_test b.0 b.1 (p.0.0 == n) (passed_is (λ q way. from_call ds r ≢ q) b.0 (mapped_if (IsWhole s ds f other) (λ q way. from_call ds r ≢ from_call ds q) (Some b.0) (λ q way has. two_apart id other r q path way differ is has) (argument_whole other b.0 b.2 (left_false (is_other_pointer s.of.globals f.function other) _ fine))))
-          (elsewhere id r path is ps ids b.1 b.3 (right_false (is_other_pointer s.of.globals f.function other) _ fine) (right_false (other == id) _ none) n))
+          (by_test b.0 b.1 (p.0.0 == n) (passed_is (λ q way. from_call ds r ≢ q) b.0 (mapped_if (IsWhole s ds f other) (λ q way. from_call ds r ≢ from_call ds q) (Some b.0) (λ q way has. two_apart id other r q path way differ is has) (argument_whole other b.0 b.2 (or_left (is_other_pointer s.of.globals f.function other) _ fine))))
+          (elsewhere id r path is ps ids b.1 b.3 (or_right (is_other_pointer s.of.globals f.function other) _ fine) (or_right (other == id) _ none) n))
         where
           by_test : (h : Held) (hs : List Held) (t : Bool) → IfPointer (Some (passed (length ds) h)) (λ q way. from_call ds r ≢ q) → IfPointer (argument_of ps (Args hs) n) (λ q way. from_call ds r ≢ q)
               → IfPointer (elim t as (λ t. Option Held) [ true ↦ Some (passed (length ds) h) | false ↦ argument_of ps (Args hs) n ]) (λ q way. from_call ds r ≢ q)
@@ -265,11 +252,11 @@ module _ (s : Setting) (whole : LendsWhole s) where
       apart_so (p ∷ ps) [] (h ∷ hs) e fine once n k differ = cc
       apart_so (p ∷ ps) (id ∷ ids) hs e fine once n k differ =
           let b = before_some (held s f id) (each_one (held s f) ids) hs e in
-          let rest : list_any (is_other_pointer s.of.globals f.function) ids ≡ false = right_false (is_other_pointer s.of.globals f.function id) _ fine in
+          let rest : list_any (is_other_pointer s.of.globals f.function) ids ≡ false = or_right (is_other_pointer s.of.globals f.function id) _ fine in
           subst (λ l. IfPointer (argument_of (p ∷ ps) (Args l) n) (λ r path. IfPointer (argument_of (p ∷ ps) (Args l) k) (λ q way. r ≢ q))) (sym b.4)
           (by_tests b.0 b.1 (p.0.0 == n) (p.0.0 == k) (eqb_tells p.0.0 n) (eqb_tells p.0.0 k)
-          (λ j. passed_is (λ r path. IfPointer (argument_of ps (Args b.1) j) (λ q way. r ≢ q)) b.0 (mapped_if (IsWhole s ds f id) (λ r path. IfPointer (argument_of ps (Args b.1) j) (λ q way. from_call ds r ≢ q)) (Some b.0) (λ r path is. elsewhere id r path is ps ids b.1 b.3 rest (and_false (is_pointer s.of.globals f.function id) _ (left_false _ (repeats (is_pointer s.of.globals f.function) ids) once) is.0) j) (argument_whole id b.0 b.2 (left_false (is_other_pointer s.of.globals f.function id) _ fine))))
-          (apart_so ps ids b.1 b.3 rest (right_false _ (repeats (is_pointer s.of.globals f.function) ids) once) n k differ))
+          (λ j. passed_is (λ r path. IfPointer (argument_of ps (Args b.1) j) (λ q way. r ≢ q)) b.0 (mapped_if (IsWhole s ds f id) (λ r path. IfPointer (argument_of ps (Args b.1) j) (λ q way. from_call ds r ≢ q)) (Some b.0) (λ r path is. elsewhere id r path is ps ids b.1 b.3 rest (and_off (is_pointer s.of.globals f.function id) _ (or_left _ (repeats (is_pointer s.of.globals f.function) ids) once) is.0) j) (argument_whole id b.0 b.2 (or_left (is_other_pointer s.of.globals f.function id) _ fine))))
+          (apart_so ps ids b.1 b.3 rest (or_right _ (repeats (is_pointer s.of.globals f.function) ids) once) n k differ))
         where
           turned : (o q : Option Held) → IfPointer o (λ r path. IfPointer q (λ u way. r ≢ u)) → IfPointer q (λ u way. IfPointer o (λ r path. u ≢ r))
           turned o q has = if_pointer _ q (λ u way is. if_pointer _ o (λ r path e same. of_pointer (λ u way. r ≢ u) q u way is (of_pointer (λ r path. IfPointer q (λ u way. r ≢ u)) o r path e has) (sym same)))

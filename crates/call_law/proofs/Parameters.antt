@@ -9,6 +9,7 @@ use Rattle.spv_index.specs.Locals.{insts_of}
 use Rattle.module_semantics.specs.Setting.{Setting}
 use Rattle.module_semantics.specs.State.{own, Held, value, pointer, Frame, put, with_variable}
 use Rattle.module_semantics.specs.Steps.{base, with_based, based_among, is_based_on, without_based, with_phis}
+use Rattle.list_law.proofs.Tests.{and_right}
 use Rattle.agree_law.specs.Blocks.{IsOf}
 use Rattle.agree_law.proofs.Changes.{put_other}
 use Rattle.agree_law.proofs.Stores.{length_with}
@@ -24,15 +25,11 @@ based_result chain based (i ∷ is) n on = elim (based_result chain (with_based 
   | inr later ↦ inr (later.0, inr later.1, later.2)
 ]
   where
-    both : (a b : Bool) → (a && b) ≡ true → b ≡ true
-    both true b e = e
-    both false b e = cc
-
     same_result : (i.result == n) ≡ true → i.result ≡ n
     same_result e = elim (eqb_tells i.result n) [ inl w ↦ w.1 | inr w ↦ (let never : true ≡ false = sym e ∙ w.0 in cc) ]
 
     by_test : (t : Bool) → (is_chain i.op && (i.result == n)) ≡ t → elim t as (λ t. Bool) [ true ↦ elim (base i == chain) as (λ t. Bool) [ true ↦ true | false ↦ based (base i) ] | false ↦ based n ] ≡ true → (based n ≡ true) ⊎ ((j : Inst) × IsOf j (i ∷ is) × (j.result ≡ n))
-    by_test true is e = inr (i, inl refl, same_result (both (is_chain i.op) (i.result == n) is))
+    by_test true is e = inr (i, inl refl, same_result (and_right (is_chain i.op) (i.result == n) is))
     by_test false is e = inl e
 
 module _ (s : Setting) (whole : LendsWhole s) (h : ℕ) (g : Function) (given : ℕ → Option Held) where

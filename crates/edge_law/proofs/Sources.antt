@@ -14,7 +14,7 @@ use Rattle.phi_copies.specs.Sequence.{Pair, target, no_pair, pair_at, HaveOwnTar
 use Rattle.phi_copies.specs.Meaning.{State as Values, value as value_by}
 use Rattle.phi_copies.proofs.Reading.{as_number, source_unset}
 use Rattle.phi_copies.proofs.Moved.{IsMoved, after, moved}
-use Rattle.agree_law.proofs.Stores.{same_number}
+use Rattle.list_law.proofs.Numbers.{same_number}
 use Rattle.edge_law.specs.Copies.{V, read_by, AllRead}
 
 -- some pair passes, or none does

@@ -49,7 +49,7 @@ listed_in of [] x r there own = let less = there.1 in absurd (omega (arith, less
 listed_in of (y ∷ xs) x r (zero, less, same) own = Contains-append_left (of y) (flat_map of xs) r (subst (λ z. Contains (of z) r) (sym same) own)
 listed_in of (y ∷ xs) x r (suc k, less, same) own = Contains-append_right (of y) (flat_map of xs) r (listed_in of xs x r (k, (let low : k < length xs = omega (arith, less) in low), same) own)
 
-among_either : (i : Inst) (xs ys : List Inst) → IsAmong i (xs ++ ys) → IsAmong i xs ⊎ IsAmong i ys
+pub among_either : (i : Inst) (xs ys : List Inst) → IsAmong i (xs ++ ys) → IsAmong i xs ⊎ IsAmong i ys
 among_either i [] ys stands = inr stands
 among_either i (x ∷ xs) ys (inl same) = inl (inl same)
 among_either i (x ∷ xs) ys (inr stands) = elim (among_either i xs ys stands) [ inl left ↦ inl (inr left) | inr right ↦ inr right ]

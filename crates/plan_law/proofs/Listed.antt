@@ -1,5 +1,5 @@
 -- The instructions of a function stand in the order of the module's words, and have results as those have them.
-use Rattle.std.proofs.Common.{◌≡◌, ◌<◌, ◌≤◌, ◌+◌, ℕ, zero, suc, List, [], ◌∷◌, ◌++◌, length, map, inr, refl, sym, ap, subst, if◌then◌else◌, arith}
+use Rattle.std.proofs.Common.{◌≡◌, ◌<◌, ◌≤◌, ◌+◌, ℕ, zero, suc, List, [], ◌∷◌, ◌++◌, length, map, inr, refl, sym, subst, if◌then◌else◌, arith}
 use Rattle.std.specs.Prelude.{◌/◌, ◌-◌, flat_map, drop, slice_index}
 use Rattle.spv_words.specs.Words.{insts, insts_from, nth_inst}
 use Rattle.spv_words.specs.declared.rule.Rule.TheVariants.{P3}
@@ -16,6 +16,7 @@ use Rattle.spv_module.specs.Form.{after}
 use Rattle.spv_module.specs.Broken.{Broken}
 use Rattle.spv_module.specs.Ids.{result_by, result_of, results, IsRepeated}
 use Rattle.spv_module.specs.Lists.{is_global, globals_from, globals, with_inst, block_insts, block, with_block, blocks, function, with_function, functions_from, functions}
+pub use Rattle.list_law.proofs.Lists.{map_length}
 use Rattle.plan_law.specs.InOrder.{AreRising, HaveNot, AreApart}
 use Rattle.plan_law.specs.Distinct.{IsNone, AreDistinct, AllRise, AllApart}
 
@@ -60,10 +61,6 @@ distinct_from (x ∷ xs) far = (
     above_zero : (x : ℕ) → (x ≡ 0 → ⊥) → 0 < x
     above_zero zero some = absurd (some refl)
     above_zero (suc x) some = omega arith
-
-pub map_length : {A B : Type 0} (f : A → B) (xs : List A) → length (map f xs) ≡ length xs
-map_length f [] = refl
-map_length f (x ∷ xs) = ap (λ n. suc n) (map_length f xs)
 
 module _ (ws : List ℕ) where
   -- those up to the next label, with those of the blocks behind it

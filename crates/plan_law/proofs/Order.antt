@@ -4,7 +4,7 @@ use Rattle.std.specs.Prelude.{◌⊎◌, flat_map, find, is_some, slice_index_or
 use Rattle.std.specs.Option.{option_map_or}
 use Rattle.std.specs.List.{enumerate_from, list_any}
 use Rattle.std.proofs.lemmas.Bool.{cases_Bool}
-use Rattle.std.proofs.lemmas.Bool.Decides.{eqb_tells, nat_tests}
+use Rattle.std.proofs.lemmas.Bool.Decides.{eqb_tells}
 use Rattle.spv_ops.specs.Opcode.{is as is_op, number}
 use Rattle.spv_ops.specs.Operands.{is_id}
 use Rattle.spv_ops.specs.OpGroups.{takes_of, group_of}
@@ -28,6 +28,8 @@ use Rattle.use_chains.specs.declared.slot.SlotPlace.{SlotPlace}
 use Rattle.use_chains.specs.Slots.{is_value_by, is_value, is_taken, is_base, is_slot, is_slot_in, mention, slots_of_inst, slots_of_block, slots, inst_at}
 use Rattle.use_chains.specs.Links.{Link, chain, link_of, AreLiveLinks}
 use Rattle.hoist_plan.specs.Plan.{Placed, user, mentions_of, result_of, results_of_block, results}
+use Rattle.list_law.proofs.Numbers.{less_of}
+use Rattle.list_law.proofs.Tests.{not_both, or_left, or_right, and_right, and_left, but_not}
 use Rattle.plan_law.specs.Ordered.{NoOperand, NoneMentioned, NoneIs, AreOrdered}
 use Rattle.plan_law.specs.InOrder.{IsAmong, AreRising, HaveNot, AreApart, IsOwn, AreInOrder}
 
@@ -80,34 +82,6 @@ unfolding takes_of group_of number
 phi_alone code.Phi e = refl
 phi_alone o e = cc
 
-not_both : (b : Bool) → b ≡ true → b ≡ false → ⊥
-not_both true on off = cc
-not_both false on off = cc
-
-none_left : (a b : Bool) → (a || b) ≡ false → a ≡ false
-none_left true b e = cc
-none_left false b e = refl
-
-none_right : (a b : Bool) → (a || b) ≡ false → b ≡ false
-none_right true b e = cc
-none_right false b e = e
-
-both_left : (a b : Bool) → (a && b) ≡ true → a ≡ true
-both_left true b e = refl
-both_left false b e = cc
-
-both_right : (a b : Bool) → (a && b) ≡ true → b ≡ true
-both_right true b e = e
-both_right false b e = cc
-
-is_there : (a b : Bool) → a ≡ true → (a && not b) ≡ false → b ≡ true
-is_there true true on e = refl
-is_there true false on e = cc
-is_there false b on e = cc
-
-below_of : (a b : ℕ) → nat_lt a b ≡ true → a < b
-below_of a b e = grind (arith, nat_tests, e)
-
 module _ (m : ModuleState) (f : Function) (n id : ℕ) where
   before_by : (t : Takes) (k : ℕ) → is_value_by t k ≡ true → (t ≡ ValuesWithLabels → ⊥) → is_in_function m f n (need_by t k) id ≡ true → is_local_before f n id ≡ true
   before_by Values k value phi there = there
@@ -144,7 +118,7 @@ module _ (m : ModuleState) (f : Function) (n id : ℕ) where
   before_it j lacks_it is there =
       let now : (is_some (typed j) && nat_lt j.at n) ≡ true =
       ap (λ o. is_some o || (is_some (typed j) && nat_lt j.at n)) (sym lacks_it) ∙ (ap (λ o. is_some (parameter_in f id) || option_map_or (λ (i : Inst). is_some (typed i) && nat_lt i.at n) o false) (sym is) ∙ there) in
-      below_of j.at n (both_right (is_some (typed j)) (nat_lt j.at n) now)
+      less_of j.at n (and_right (is_some (typed j)) (nat_lt j.at n) now)
 
   pub before_of : (o : Op) (k : ℕ) (j : Inst) → is_value o k ≡ true → is_op o code.Phi ≡ false → IsOwn m f id → inst_in f id ≡ Some j → is_there_in m f n (need o k) id ≡ true → j.at < n
   unfolding need
@@ -221,7 +195,7 @@ module _ (m : ModuleState) (f : Function) (order : AreInOrder m f) where
 
   lacks_none : (i : Inst) → IsAmong i All → list_any (lacks_operand (is_there_in m f i.at) i) (enumerate_from 0 i.args) ≡ false
   lacks_none i stands =
-      none_right (has_type i.op && not (is_there_in m f i.at (type_need i.op) i.ty)) (list_any (lacks_operand (is_there_in m f i.at) i) (enumerate_from 0 i.args)) (order.there i stands)
+      or_right (has_type i.op && not (is_there_in m f i.at (type_need i.op) i.ty)) (list_any (lacks_operand (is_there_in m f i.at) i) (enumerate_from 0 i.args)) (order.there i stands)
 
   module _ (reached : List Bool) where
     both_uses : (xs ys : List Mention) → AreUses m f xs → AreUses m f ys → AreUses m f (xs ++ ys)
@@ -232,16 +206,16 @@ module _ (m : ModuleState) (f : Function) (order : AreInOrder m f) where
         → AreUses m f (map (mention b n i) (filter (λ (operand : ℕ × ℕ). is_slot_in f reached here i operand.0) (enumerate_from k args)))
     uses_of_operands here b n i there stands k [] right = tt
     uses_of_operands here b n i there stands k (x ∷ args) right =
-        let suited = none_left (lacks_operand (is_there_in m f i.at) i (k, x)) (list_any (lacks_operand (is_there_in m f i.at) i) (enumerate_from (k + 1) args)) right in
-        let more = uses_of_operands here b n i there stands (k + 1) args (none_right (lacks_operand (is_there_in m f i.at) i (k, x)) (list_any (lacks_operand (is_there_in m f i.at) i) (enumerate_from (k + 1) args)) right) in
+        let suited = or_left (lacks_operand (is_there_in m f i.at) i (k, x)) (list_any (lacks_operand (is_there_in m f i.at) i) (enumerate_from (k + 1) args)) right in
+        let more = uses_of_operands here b n i there stands (k + 1) args (or_right (lacks_operand (is_there_in m f i.at) i (k, x)) (list_any (lacks_operand (is_there_in m f i.at) i) (enumerate_from (k + 1) args)) right) in
         elim (cases_Bool (is_slot_in f reached here i k)) [
           | inl on ↦ subst (λ t. AreUses m f (map (mention b n i) (cond t ((k, x) ∷ rest) rest))) (sym on) (
             record {
               inst = i;
               there = there;
               among = stands;
-              names = both_left (is_id i.op i.args k) (is_value i.op k && is_taken f reached i k) (both_right (here || is_base i k) (is_slot f reached i k) on);
-              value = both_left (is_value i.op k) (is_taken f reached i k) (both_right (is_id i.op i.args k) (is_value i.op k && is_taken f reached i k) (both_right (here || is_base i k) (is_slot f reached i k) on));
+              names = and_left (is_id i.op i.args k) (is_value i.op k && is_taken f reached i k) (and_right (here || is_base i k) (is_slot f reached i k) on);
+              value = and_left (is_value i.op k) (is_taken f reached i k) (and_right (is_id i.op i.args k) (is_value i.op k && is_taken f reached i k) (and_right (here || is_base i k) (is_slot f reached i k) on));
               right = suited;
             },
             more,
@@ -294,7 +268,7 @@ module _ (m : ModuleState) (f : Function) (order : AreInOrder m f) where
       where
         never : i ≡ named.inst → ⊥
         never is =
-            let there = is_there (is_id named.inst.op named.inst.args at.arg) (is_there_in m f named.inst.at (need named.inst.op at.arg) id) named.names named.right in
+            let there = but_not (is_id named.inst.op named.inst.args at.arg) (is_there_in m f named.inst.at (need named.inst.op at.arg) id) named.names named.right in
             let less : j.at < named.inst.at =
             before_of m f named.inst.at j.result named.inst.op at.arg j named.value (ap (λ (x : Inst). is_op x.op code.Phi) (sym is) ∙ phi) (order.own j j_in j_some) (found j All order.apart j_in j_some)
             (subst (λ n. is_there_in m f named.inst.at (need named.inst.op at.arg) n ≡ true) same there) in

@@ -23,9 +23,10 @@ use Rattle.spv_module.specs.Broken.{IsUnbroken}
 use Rattle.spv_module.specs.Ids.{result_by, result_of}
 use Rattle.spv_module.specs.Lists.{id as id_of, is_global, globals_from, globals, with_inst, block_insts, block, with_block, blocks, with_param, params, function, with_function, functions_from, functions}
 use Rattle.spv_index.specs.Locals.{insts_of}
+use Rattle.list_law.proofs.Lists.{map_length}
 use Rattle.plan_law.specs.InOrder.{HaveNot}
 use Rattle.plan_law.specs.Distinct.{IsNone, AreDistinct, Avoid, AreNone, AllAvoid, AllNone}
-use Rattle.plan_law.proofs.Listed.{flat, map_length, none_has, distinct}
+use Rattle.plan_law.proofs.Listed.{flat, none_has, distinct}
 
 -- none of the functions' instructions has this result
 abbrev HaveNotAll : ℕ → List Function → Type 0

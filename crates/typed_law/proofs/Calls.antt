@@ -36,6 +36,9 @@ use Rattle.profile_rules.specs.ValueRules.{are_other_members}
 use Rattle.profile_rules.specs.FlowRules.{function_type, is_miscalled, breaks_t21}
 use Rattle.profile_rules.specs.Variables.{is_other_class, is_of_other_type, is_other_value}
 use Rattle.profile_rules.specs.Entry.{function_of}
+use Rattle.list_law.proofs.Numbers.{same_count}
+use Rattle.list_law.proofs.Options.{some_by}
+use Rattle.list_law.proofs.Tests.{or_left, or_right, and_off}
 use Rattle.plan_law.specs.InOrder.{IsAmong}
 use Rattle.plan_law.proofs.Order.{among_left, among_right}
 use Rattle.module_semantics.specs.Setting.{Setting, as_variable, global_variable}
@@ -50,11 +53,11 @@ use Rattle.type_law.specs.Shaped.{HasConstants}
 use Rattle.type_law.proofs.Operands.{some_first}
 use Rattle.type_law.proofs.Constants.{constant_of}
 use Rattle.typed_law.specs.Conforms.{IsParameter, IsConforming}
-use Rattle.typed_law.proofs.Lists.{or_left, or_right, and_off, found_in, earlier_some, some_by}
+use Rattle.typed_law.proofs.Lists.{found_in, earlier_some}
 use Rattle.typed_law.proofs.Rules.{operand_there, global_there, initializer_right, class_right}
 use Rattle.typed_law.proofs.Types.{pointee_shaped}
 use Rattle.typed_law.proofs.Used.{pointee_sized}
-use Rattle.typed_law.proofs.Values.{same_count, IsRow, inside, global_row, local_row, parameter_row, result_row, declared_by, IsDeclaredBy, HasType, one_type, same_type, own_type, own_local, variable_type_is, among_functions, function_id, function_need, function_least, type_suits, typed_is, global_typed_some}
+use Rattle.typed_law.proofs.Values.{IsRow, inside, global_row, local_row, parameter_row, result_row, declared_by, IsDeclaredBy, HasType, one_type, same_type, own_type, own_local, variable_type_is, among_functions, function_id, function_need, function_least, type_suits, typed_is, global_typed_some}
 use Rattle.typed_law.proofs.Others.{contains_found, callee_is, typed_some}
 
 -- variables of these classes are no blocks
@@ -62,7 +65,7 @@ own_class : (class : ℕ) → (class ≡ class_number storage.Function) ⊎ (cla
 own_class class (inl e) heads id = subst (λ c. (is_block_struct heads c id ≡ false) × ((c == class_number storage.Workgroup) ≡ false)) (sym e) (refl, refl)
 own_class class (inr e) heads id = subst (λ c. (is_block_struct heads c id ≡ false) × ((c == class_number storage.Workgroup) ≡ false)) (sym e) (refl, refl)
 
-variable_typed : (o : Op) → is o code.Variable ≡ true → has_type o ≡ true
+pub variable_typed : (o : Op) → is o code.Variable ≡ true → has_type o ≡ true
 unfolding number shape
 variable_typed code.Variable e = refl
 variable_typed o e = cc

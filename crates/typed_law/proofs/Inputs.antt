@@ -25,6 +25,7 @@ use Rattle.profile_rules.specs.Places.{is_among, is_variable}
 use Rattle.profile_rules.specs.TypeRows.{is_uint, type_row}
 use Rattle.profile_rules.specs.Variables.{is_pointee, inputs, is_other_input_type}
 use Rattle.profile_rules.specs.Entry.{is_no_uvec3, is_no_uint}
+use Rattle.list_law.proofs.Tests.{or_left, or_right, and_off, and_right, and_left}
 use Rattle.plan_law.proofs.Order.{among_left}
 use Rattle.traces.specs.Invocations.{Invocation, Triple}
 use Rattle.module_semantics.specs.Setting.{Setting, global_variable}
@@ -38,7 +39,7 @@ use Rattle.type_law.proofs.Rows.{int_has}
 use Rattle.type_law.proofs.Constants.{module_fits}
 use Rattle.fits_law.specs.Takes.{Has, numbers}
 use Rattle.typed_law.specs.Conforms.{IsConforming}
-use Rattle.typed_law.proofs.Lists.{or_left, or_right, and_left, and_right, and_off, found_in}
+use Rattle.typed_law.proofs.Lists.{found_in}
 use Rattle.typed_law.proofs.Rules.{input_right}
 use Rattle.typed_law.proofs.Calls.{class_is, global_variable_is, global_points}
 

@@ -1,7 +1,6 @@
 -- What is said of all of a list, said of one.
-use Rattle.std.proofs.Common.{◌≡◌, ◌<◌, ◌+◌, ◌==◌, ◌||◌, ◌&&◌, not, ℕ, zero, suc, Bool, true, false, List, [], ◌∷◌, ◌++◌, length, map, Option, Some, None, inl, inr, refl, sym, ap, subst, ◌∙◌, if◌then◌else◌, arith, ◌≤◌}
-use Rattle.std.specs.Prelude.{◌⊎◌, filter, flat_map, nat_lt, is_some, Contains, slice_index, slice_index_or, option_and_then, nat_le}
-use Rattle.std.specs.Option.{option_map_or}
+use Rattle.std.proofs.Common.{◌≡◌, ◌<◌, ◌+◌, ◌==◌, ℕ, zero, suc, Bool, true, false, List, [], ◌∷◌, length, map, Option, Some, None, inl, inr, refl, sym, ap, subst, ◌∙◌, if◌then◌else◌, arith, ◌≤◌}
+use Rattle.std.specs.Prelude.{◌⊎◌, filter, flat_map, nat_lt, Contains, slice_index, slice_index_or}
 use Rattle.std.specs.List.{list_any, enumerate_from}
 use Rattle.std.proofs.lemmas.Bool.Decides.{nat_tests}
 use Rattle.std.proofs.lemmas.Bool.{false_from_ne_true}
@@ -10,41 +9,14 @@ use Rattle.spv_module.specs.declared.inst.Inst.{Inst}
 use Rattle.spv_module.specs.Held.{global}
 use Rattle.spv_types.specs.Types.{if_earlier, earlier}
 use Rattle.profile_rules.specs.Places.{places}
+use Rattle.list_law.proofs.Lists.{contains_head, contains_tail}
+pub use Rattle.list_law.proofs.Lists.{none_left, none_right}
+pub use Rattle.list_law.proofs.Numbers.{from_zero}
+pub use Rattle.list_law.proofs.Options.{some_by, some_of, some_part}
+pub use Rattle.list_law.proofs.Tests.{or_left, or_right, and_left, and_right, and_off, clash}
 use Rattle.plan_law.specs.InOrder.{IsAmong}
 
-pub or_left : (a b : Bool) → (a || b) ≡ false → a ≡ false
-or_left true b e = cc
-or_left false b e = refl
-
-pub or_right : (a b : Bool) → (a || b) ≡ false → b ≡ false
-or_right true b e = cc
-or_right false b e = e
-
-pub and_left : (a b : Bool) → (a && b) ≡ true → a ≡ true
-and_left true b e = refl
-and_left false b e = cc
-
-pub and_right : (a b : Bool) → (a && b) ≡ true → b ≡ true
-and_right true b e = e
-and_right false b e = cc
-
--- not both, and the one
-pub and_off : (a b : Bool) → (a && b) ≡ false → a ≡ true → b ≡ false
-and_off true b e on = e
-and_off false b e on = cc
-
-pub clash : {A : Type 0} → true ≡ false → A
-clash e = cc
-
 -- lists that are empty
-pub none_left : {A : Type 0} (xs ys : List A) → xs ++ ys ≡ [] → xs ≡ []
-none_left [] ys e = refl
-none_left (x ∷ xs) ys e = cc
-
-pub none_right : {A : Type 0} (xs ys : List A) → xs ++ ys ≡ [] → ys ≡ []
-none_right [] ys e = e
-none_right (x ∷ xs) ys e = cc
-
 pub none_by : {A B : Type 0} (f : A → List B) (xs : List A) (x : A) → flat_map f xs ≡ [] → Contains xs x → f x ≡ []
 none_by f [] x e there = let less = there.1 in absurd (omega (arith, less))
 none_by f (y ∷ xs) x e (zero, less, same) = subst (λ z. f z ≡ []) same (none_left (f y) (flat_map f xs) e)
@@ -69,12 +41,6 @@ any_at test (x ∷ xs) n (suc k) e less =
     (any_at test xs (n + 1) k (or_right (test (n, x)) (list_any test (enumerate_from (n + 1) xs)) e) (let low : k < length xs = omega (arith, less) in low))
 
 -- no instruction of these passes the test, where none of them stands at a place
-contains_head : (at : ℕ) (ats : List ℕ) → Contains (at ∷ ats) at
-contains_head at ats = (0, (let less : 0 < suc (length ats) = omega arith in less), refl)
-
-contains_tail : (y at : ℕ) (ats : List ℕ) → Contains ats at → Contains (y ∷ ats) at
-contains_tail y at ats (k, less, same) = (suc k, (let more : suc k < suc (length ats) = omega (arith, less) in more), same)
-
 in_places : (test : Inst → Bool) (xs : List Inst) (x : Inst) → test x ≡ true → IsAmong x xs → Contains (places test xs) x.at
 in_places test [] x on there = absurd there
 in_places test (y ∷ xs) x on there = by_test (test y) refl there (λ later. in_places test xs x on later)
@@ -108,21 +74,6 @@ earlier_some gs n id h e = by_global (global gs id) refl e
     by_global None is e = cc
     by_global (Some g) is e = let w = by_test g (nat_lt g.at n) refl e in (is ∙ ap (λ (x : Inst). Some x) w.0, subst (λ (x : Inst). x.at < n) w.0 w.1)
 
-pub some_by : {A : Type 0} (test : A → Bool) (o : Option A) → option_map_or test o false ≡ true → (a : A) × (o ≡ Some a) × (test a ≡ true)
-some_by test None e = cc
-some_by test (Some a) e = (a, refl, e)
-
-pub some_of : {A : Type 0} (o : Option A) → is_some o ≡ true → (a : A) × (o ≡ Some a)
-some_of None e = cc
-some_of (Some a) e = (a, refl)
-
-pub some_part : {A B : Type 0} (f : A → Option B) (o : Option A) (b : B) → option_and_then f o ≡ Some b → (a : A) × (o ≡ Some a) × (f a ≡ Some b)
-some_part f None b e = cc
-some_part f (Some a) b e = (a, refl, e)
-
 -- numbers
-pub from_zero : (k : ℕ) → nat_le 0 k ≡ true
-from_zero k = grind (arith, nat_tests)
-
 pub at_least : (n l : ℕ) → 3 + n ≤ 3 + l → n ≤ l
 at_least n l least = omega (arith, least)

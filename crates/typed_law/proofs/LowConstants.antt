@@ -18,11 +18,11 @@ use Rattle.profile_rules.specs.declared.constant.ConstantKind.{ConstantKind}
 use Rattle.profile_rules.specs.declared.constant.ConstantKind.TheVariants.{True, False, Word, Composite, Zero, SpecTrue, SpecFalse, SpecWord, Operation as Calculated, Other}
 use Rattle.profile_rules.specs.TypeRules.{is_sound}
 use Rattle.profile_rules.specs.Constants.{constant_kind, may_give, inner_operands, inner_literals, value_by_operation, operation_value, value_by_kind, if_fits, shaped_value, value_step, with_value, constant_value}
+use Rattle.list_law.proofs.Options.{some_part}
 use Rattle.plan_law.specs.InOrder.{IsAmong}
 use Rattle.fits_law.proofs.Operations.{before_some}
 use Rattle.typed_law.specs.Words.{AllOfWords, HoldWords}
 use Rattle.typed_law.proofs.LowValues.{composite_low, op_low, zero_low}
-use Rattle.typed_law.proofs.Lists.{some_part}
 
 each_held : (f : ℕ → Option ValueTree) (ids : List ℕ) (vs : List ValueTree) → HoldWords f → each_one f ids ≡ Some vs → AllOfWords vs
 each_held f [] vs h e = subst AllOfWords (same_Some [] vs e) tt

@@ -38,10 +38,10 @@ use Rattle.module_semantics.specs.Accesses.{three, initial_by, initial, initial_
 use Rattle.module_semantics.specs.Steps as the
 use Rattle.module_semantics.specs.Steps.{with_some, advanced, set, set_value, computed, operation_step, base, without_based, is_based_on, lead_if, chain_step, length_step, variable_step, read_shape, load_from, load_step, store_to, store_step, atomic_operation, atomic_operands, set_found, atomic_step, memory_barriers, memory_barrier_step, control_barrier_step, phis, passed, argument_of, entered, called, call_step, return_step, given_to, return_value_step, target_label, source_from, phi_value, with_phis, present_label, gone_to, edge_step, branch_step, StepKind, step_kind, step_by, act_on, act}
 use Rattle.module_semantics.specs.Run.{have_values, first_state, start_by, start}
+use Rattle.list_law.proofs.Options.{some_part}
 use Rattle.fits_law.proofs.Operations.{before_some}
 use Rattle.typed_law.specs.Words.{AllOfWords, AreAllWords, HoldWords, IsSettingOfWords, IdsHoldWords, IsFrameOfWords, AreCallsOfWords, IsStateOfWords, LeadsToWords}
 use Rattle.typed_law.proofs.LowValues.{extracted_low, inserted_low, zero_low, read_low, op_low, first_low}
-use Rattle.typed_law.proofs.Lists.{some_part}
 
 -- maps with one more entry
 put_value : (f : ℕ → Option Held) (n : ℕ) (h : Held) → IdsHoldWords f → ((v : ValueTree) → h ≡ value v → IsOfWords v) → IdsHoldWords (put f n h)

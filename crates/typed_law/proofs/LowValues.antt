@@ -20,11 +20,11 @@ use Rattle.op_semantics.specs.Component.{listed, composite, each_one, each_two, 
 use Rattle.op_semantics.specs.Composite.{as_truth, over_truths, part_at, with_part, extracted, inserted, extracted_at, inserted_at, picked, shuffled, components, constructed, extracted_by, inserted_by}
 use Rattle.op_semantics.specs.Value.{of_one, of_two, of_three, of_four, value_of_operation}
 use Rattle.value_words.specs.Words.{elem_from, parts_from, value_from, values_from}
+use Rattle.list_law.proofs.Options.{some_part}
 use Rattle.fits_law.proofs.Literals.{extracted_along, inserted_along}
 use Rattle.fits_law.proofs.Operations.{before_some}
 use Rattle.typed_law.specs.Words.{AllOfWords, AreAllWords}
 use Rattle.typed_law.proofs.LowWords.{unary_low, binary_low, clamp_low, unsigned_field_low, signed_field_low, insert_low}
-use Rattle.typed_law.proofs.Lists.{some_part}
 
 -- what f gives of values of words is of words
 abbrev Keeps : (ValueTree → Option ValueTree) → Type 0

@@ -23,7 +23,7 @@ use Rattle.typed_law.proofs.LowValues.{first_low, drop_low}
 use Rattle.typed_law.proofs.LowConstants.{constants_low}
 use Rattle.typed_law.proofs.LowSteps.{words_step, words_start}
 
-take_low : (n : ℕ) (ws : List ℕ) → AreAllWords ws → AreAllWords (take n ws)
+pub take_low : (n : ℕ) (ws : List ℕ) → AreAllWords ws → AreAllWords (take n ws)
 take_low zero ws h = tt
 take_low (suc n) [] h = tt
 take_low (suc n) (w ∷ ws) h = (h.0, take_low n ws h.1)

@@ -41,6 +41,9 @@ use Rattle.profile_rules.specs.TypeRows.{is_bool, is_int, is_vector, is_void, fa
 use Rattle.profile_rules.specs.ValueRules.{breaks_t3_copy, breaks_t8_extract, breaks_t8_insert, breaks_t9, breaks_t10, breaks_t11_extract, breaks_t11_insert, breaks_t12, has_other_components, has_other_sizes, is_other_component, is_elsewhere, is_value_elsewhere, part_of, literal_step, walk, do_match}
 use Rattle.profile_rules.specs.NumberRules.{are_unlike_ints, breaks_t14, breaks_t15, breaks_t16, breaks_t17, breaks_t18, breaks_t20, is_no_bool_vector, is_no_condition, extended_rows, is_extended}
 use Rattle.profile_rules.specs.TypeRules.{is_value_broken, is_number_broken}
+use Rattle.list_law.proofs.Numbers.{from_zero}
+use Rattle.list_law.proofs.Tests.{or_left, or_right, clash}
+use Rattle.list_law.proofs.Lists.{behind_one}
 use Rattle.plan_law.specs.InOrder.{IsAmong}
 use Rattle.module_semantics.specs.Setting.{Setting}
 use Rattle.module_semantics.specs.Operands.{value_operands, literal_operands}
@@ -55,7 +58,7 @@ use Rattle.type_law.proofs.Parts.{row, earlier_is, walk_leads, extract_takes, in
 use Rattle.type_law.proofs.Made.{made_takes}
 use Rattle.type_law.proofs.Copies.{logical_takes as copied_takes}
 use Rattle.typed_law.specs.Conforms.{IsConforming}
-use Rattle.typed_law.proofs.Lists.{or_left, or_right, clash, from_zero, at_least}
+use Rattle.typed_law.proofs.Lists.{at_least}
 use Rattle.typed_law.proofs.Values.{HasType, HasItsShape, passing, same_type, typed_value, value_sized, own_type, shaped_some, vector_shaped, int_shaped}
 use Rattle.typed_law.proofs.Shapes.{AreTyped, number_shapes, compared_shapes, truth_shapes, condition_shape, row_of_shape, shaped_type, made_shapes, whole_shape, copied_shape}
 
@@ -71,7 +74,7 @@ second_of [] many = absurd (omega (arith, many))
 second_of (a ∷ []) many = absurd (omega (arith, many))
 second_of (a ∷ b ∷ args) many = refl
 
-behind_second : (k : ℕ) → 2 ≤ k → not (k == 1) ≡ true
+pub behind_second : (k : ℕ) → 2 ≤ k → not (k == 1) ≡ true
 behind_second k low = grind (arith, nat_tests, low)
 
 behind_first : (k : ℕ) → 2 ≤ k → first_or k Import Value ≡ Value
@@ -386,10 +389,6 @@ module _ (s : Setting) (entry : Option (List ℕ)) (right : IsConforming s.of en
       by_literals : (ks : List ℕ) → 1 ≤ length ks → (walk (literal_step Gs) (Part w.0) ks ≡ Nothing → ⊥) → HasItsShape s entry right f in_it (word i 0)
       by_literals [] some leads = absurd (omega (arith, some))
       by_literals (k ∷ ks) some leads = whole_shape s entry right f in_it (word i 0) k ks w leads
-
-      behind_one : (args : List ℕ) → nat_le (length args) 1 ≡ false → 1 ≤ length (drop 1 args)
-      behind_one [] few = cc
-      behind_one (a ∷ args) few = grind (arith, nat_tests, few)
 
   as_inserted : breaks_t11_insert Gs V i ≡ false → IsTypedId (word i 0) → IsTypedId (word i 1) → 2 ≤ length i.args → IsGiven (take 2 i.args) (drop 2 i.args) op.CompositeInsert
   as_inserted off object w many =

@@ -3,7 +3,6 @@ use Rattle.std.proofs.Common.{◌≡◌, ◌<◌, ◌+◌, ◌==◌, ◌||◌, �
 use Rattle.std.specs.Prelude.{◌%◌, is_some, option_map, option_and_then, slice_get, take_while, Contains, slice_index}
 use Rattle.std.specs.Option.{option_map_or}
 use Rattle.std.specs.List.{list_any, position_from, prefix_len}
-use Rattle.std.proofs.lemmas.Bool.Decides.{nat_tests}
 use Rattle.std.proofs.lemmas.Bool.{not-false}
 use Rattle.std.proofs.lemmas.Option.{same_Some}
 use Rattle.spv_ops.specs.Opcode.{is, number}
@@ -36,6 +35,9 @@ use Rattle.profile_rules.specs.declared.way.Way.TheVariants.{BufferBlock}
 use Rattle.profile_rules.specs.FlowRules.{callee, every_second, is_from_elsewhere, breaks_t22, breaks_t24_value}
 use Rattle.profile_rules.specs.TypeRules.{is_flow_broken}
 use Rattle.profile_rules.specs.Entry.{function_of}
+use Rattle.list_law.proofs.Options.{some_by}
+use Rattle.list_law.proofs.Tests.{or_left, or_right, and_off, and_left, clash}
+use Rattle.list_law.proofs.Numbers.{even_after, from_zero}
 use Rattle.plan_law.specs.InOrder.{IsAmong}
 use Rattle.plan_law.proofs.Listed.{flat}
 use Rattle.plan_law.proofs.Order.{among_left, among_right}
@@ -51,7 +53,7 @@ use Rattle.type_law.proofs.Made.{load_typed}
 use Rattle.type_law.proofs.Chains as chains
 use Rattle.type_law.proofs.Chains.{chain_typed}
 use Rattle.typed_law.specs.Conforms.{IsConforming}
-use Rattle.typed_law.proofs.Lists.{or_left, or_right, and_left, and_off, clash, earlier_some, some_by, from_zero}
+use Rattle.typed_law.proofs.Lists.{earlier_some}
 use Rattle.typed_law.proofs.Rules.{type_there, operand_there, flow_right, access_right}
 use Rattle.typed_law.proofs.Types.{row_is, pointee_shaped}
 use Rattle.typed_law.proofs.Values.{IsRow, shape_of_row, value_type_has, inside, local_row, result_row, HasType, type_row_of, one_type, same_type, typed_value, typed_source, own_type, own_local, own_shape, int_shaped, type_suits, type_outside}
@@ -61,7 +63,7 @@ use Rattle.typed_law.proofs.Operations.{Facts}
 uint_shaped : (g : Inst) → is_uint g ≡ true → is_shapeless g.op ≡ false
 uint_shaped g e = int_shaped g.op (and_left (is g.op code.TypeInt) (word g 0 == 32) (and_left ((is g.op code.TypeInt) && (word g 0 == 32)) (word g 1 == 0) e))
 
-phi_group : (o : Op) → is o code.Phi ≡ true → group_of o ≡ groups.Phi
+pub phi_group : (o : Op) → is o code.Phi ≡ true → group_of o ≡ groups.Phi
 unfolding number group_of
 phi_group code.Phi e = refl
 phi_group o e = cc
@@ -77,9 +79,6 @@ phi_source code.Phi args k e even = (from_zero k, ap (λ (b : Bool). if b then P
 phi_source o args k e even = cc
 
 -- a source of a phi stands at an even place
-even_after : (n : ℕ) → (n % 2 == 0) ≡ true → ((n + 2) % 2 == 0) ≡ true
-even_after n e = grind (arith, nat_tests, e)
-
 source_place : (from id : ℕ) (args : List ℕ) → source_from from args ≡ Some id → (k : ℕ) × (k < length args) × ((k % 2 == 0) ≡ true) × (slice_index args k ≡ id)
 source_place from id [] e = cc
 source_place from id (a ∷ []) e = cc

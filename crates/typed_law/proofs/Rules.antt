@@ -1,6 +1,6 @@
 -- What the rules say of one global and of one instruction of a conforming module.
 use Rattle.std.proofs.Common.{◌≡◌, ◌<◌, ◌+◌, ◌||◌, ◌&&◌, not, ℕ, zero, suc, Bool, true, false, List, [], ◌∷◌, ◌++◌, length, Option, inl, inr, refl, sym, subst, arith}
-use Rattle.std.specs.Prelude.{◌⊎◌, flat_map, Contains, slice_index}
+use Rattle.std.specs.Prelude.{flat_map, Contains, slice_index}
 use Rattle.std.specs.List.{list_any, enumerate_from}
 use Rattle.std.proofs.lemmas.List.Elements.{Contains-append_left, Contains-append_right}
 use Rattle.std.proofs.lemmas.Bool.{not-false}
@@ -25,13 +25,16 @@ use Rattle.spv_decor.specs.Decorations.{local_insts}
 use Rattle.profile_rules.specs.MemoryRules.{breaks_m4}
 use Rattle.profile_rules.specs.AtomicRules.{breaks_a3}
 use Rattle.profile_rules.specs.AccessRules.{breaks, broken_in}
+use Rattle.list_law.proofs.Lists.{none_left, none_right}
+use Rattle.list_law.proofs.Tests.{or_left, or_right, and_off}
 use Rattle.plan_law.specs.InOrder.{IsAmong}
 use Rattle.plan_law.proofs.Listed.{flat}
+use Rattle.plan_law.proofs.Conforming.{among_either}
 use Rattle.type_law.proofs.Vectors.{three_off}
 use Rattle.typed_law.specs.Conforms.{IsConforming}
-use Rattle.typed_law.proofs.Lists.{or_left, or_right, and_off, none_left, none_right, none_by, none_among, any_at, none_at_fault}
+use Rattle.typed_law.proofs.Lists.{none_by, none_among, any_at, none_at_fault}
 
-refused : (b : Bool) (rule : Rule) (at : ℕ) → broken_if b rule at ≡ [] → b ≡ false
+pub refused : (b : Bool) (rule : Rule) (at : ℕ) → broken_if b rule at ≡ [] → b ≡ false
 refused true rule at e = cc
 refused false rule at e = refl
 
@@ -45,17 +48,12 @@ module _ (there : Need → ℕ → Bool) (i : Inst) (right : lacks there i ≡ f
       let none = any_at (lacks_operand there i) i.args 0 k (or_right (has_type i.op && not (there (type_need i.op) i.ty)) (list_any (lacks_operand there i) (enumerate_from 0 i.args)) right) less in
       not-false (there (need i.op k) (slice_index i.args k)) (and_off (is_id i.op i.args k) (not (there (need i.op k) (slice_index i.args k))) (subst (λ n. lacks_operand there i (n, slice_index i.args k) ≡ false) (let same : 0 + k ≡ k = omega arith in same) none) has)
 
-contains_flat : {A : Type 0} (g : A → List ℕ) (fs : List A) (f : A) (at : ℕ) → Contains fs f → Contains (g f) at → Contains (flat_map g fs) at
+pub contains_flat : {A : Type 0} (g : A → List ℕ) (fs : List A) (f : A) (at : ℕ) → Contains fs f → Contains (g f) at → Contains (flat_map g fs) at
 contains_flat g [] f at there own = let less = there.1 in absurd (omega (arith, less))
 contains_flat g (h ∷ fs) f at (zero, less, same) own = Contains-append_left (g h) (flat_map g fs) at (subst (λ z. Contains (g z) at) (sym same) own)
 contains_flat g (h ∷ fs) f at (suc k, less, same) own = Contains-append_right (g h) (flat_map g fs) at (contains_flat g fs f at (k, (let low : k < length fs = omega (arith, less) in low), same) own)
 
 -- a block that has the instruction
-among_either : (i : Inst) (xs ys : List Inst) → IsAmong i (xs ++ ys) → IsAmong i xs ⊎ IsAmong i ys
-among_either i [] ys there = inr there
-among_either i (x ∷ xs) ys (inl same) = inl (inl same)
-among_either i (x ∷ xs) ys (inr there) = elim (among_either i xs ys there) [ inl left ↦ inl (inr left) | inr right ↦ inr right ]
-
 local_none : (m : ModuleState) (f : Function) (i : Inst) (bs : List Block) → flat_map (broken_by_block m f) bs ≡ [] → IsAmong i (flat bs) → (b : Block) × (broken_by_local m f b i ≡ [])
 local_none m f i [] e there = absurd there
 local_none m f i (b ∷ bs) e there = elim (among_either i b.insts (flat bs) there) [

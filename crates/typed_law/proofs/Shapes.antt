@@ -23,6 +23,8 @@ use Rattle.profile_rules.specs.TypeRows.{is_type, is_bool, is_int, is_vector, is
 use Rattle.profile_rules.specs.ValueRules.{are_other_parts, are_other_members, one_of, nth_member, literal_part, literal_step, walk, given_by, given_of, given, given_or_zero, gives_none, is_other_count, is_misbuilt, breaks_t10, match_before, match_at, do_match, do_parts_match, is_same_length}
 use Rattle.profile_rules.specs.NumberRules.{are_unlike_ints, is_no_condition, has_other_size}
 use Rattle.module_semantics.specs.Setting.{Setting}
+use Rattle.list_law.proofs.Numbers.{same_count}
+use Rattle.list_law.proofs.Tests.{or_left, or_right, clash}
 use Rattle.fits_law.specs.Takes.{numbers, truths}
 use Rattle.fits_law.specs.State.{value_shape}
 use Rattle.fits_law.specs.Typed.{HaveShapes}
@@ -31,9 +33,8 @@ use Rattle.type_law.proofs.Rows.{int_has, bool_has, by_kind, vector_parts, is_a_
 use Rattle.type_law.proofs.Scalars.{is_counted}
 use Rattle.type_law.proofs.Parts.{array_kind, struct_kind, fixed_word, all_nth, row, earlier_is, nothing_on}
 use Rattle.typed_law.specs.Conforms.{IsConforming}
-use Rattle.typed_law.proofs.Lists.{or_left, or_right, clash}
 use Rattle.typed_law.proofs.Types.{row_is}
-use Rattle.typed_law.proofs.Values.{same_count, IsRow, T, HasType, HasItsShape, type_row_of, one_type, shape_of, same_type, counted, none_counted, vector_shaped, shapeless_no_vector, shapeless_no_int, shapeless_no_bool}
+use Rattle.typed_law.proofs.Values.{IsRow, T, HasType, HasItsShape, type_row_of, one_type, shape_of, same_type, counted, none_counted, vector_shaped, shapeless_no_vector, shapeless_no_int, shapeless_no_bool}
 
 -- opcodes of types without a shape
 shapeless_no_array : (o : Op) → is_shapeless o ≡ true → (is o code.TypeArray ≡ false) × (is o code.TypeRuntimeArray ≡ false) × (is o code.TypeStruct ≡ false)

@@ -21,10 +21,11 @@ use Rattle.spv_types.proofs.Below.{tree_before_is}
 use Rattle.spv_index.specs.BlockStructs.{is_block}
 use Rattle.spv_index.specs.ValueTypes.{is_other_length, other_by, other_step, with_other, is_no_value_type}
 use Rattle.profile_rules.specs.Places.{is_among}
+use Rattle.list_law.proofs.Tests.{or_left, or_right, and_off}
 use Rattle.plan_law.specs.InOrder.{IsAmong, AreRising}
 use Rattle.fits_law.proofs.Steps.{named}
 use Rattle.typed_law.specs.Conforms.{IsConforming}
-use Rattle.typed_law.proofs.Lists.{or_left, or_right, and_off, found_in, earlier_some}
+use Rattle.typed_law.proofs.Lists.{found_in, earlier_some}
 
 -- what stands behind
 pub rising_low : (n : ℕ) (is : List Inst) (i : Inst) → AreRising n is → IsAmong i is → n ≤ i.at

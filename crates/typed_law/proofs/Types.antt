@@ -31,12 +31,15 @@ use Rattle.profile_rules.specs.Operands.{need, suits, is_there}
 use Rattle.profile_rules.specs.TypeRows.{is_type, is_pointer, if_type, type_row}
 use Rattle.profile_rules.specs.TypeForm.{parts_of, is_other_int, is_no_scalar, is_other_vector, is_length, is_other_array, is_empty_struct, is_no_data, is_other_pointer as is_other_pointer_type, is_other_function, is_above_zero, is_workgroup_length}
 use Rattle.profile_rules.specs.Places.{is_defined_elsewhere}
+use Rattle.list_law.proofs.Options.{some_by}
+use Rattle.list_law.proofs.Numbers.{from_zero}
+use Rattle.list_law.proofs.Tests.{or_left, or_right, and_off, and_left}
 use Rattle.fits_law.specs.Takes.{Has, numbers, truths}
 use Rattle.plan_law.specs.InOrder.{IsAmong}
 use Rattle.type_law.proofs.Rows.{int_has, bool_has}
 use Rattle.type_law.proofs.Vectors.{five_off}
 use Rattle.typed_law.specs.Conforms.{size_of, IsConforming}
-use Rattle.typed_law.proofs.Lists.{or_left, or_right, and_left, and_off, any_none, found_in, earlier_some, some_by, from_zero}
+use Rattle.typed_law.proofs.Lists.{any_none, found_in, earlier_some}
 use Rattle.typed_law.proofs.Rules.{operand_there, global_there, formed_type, pointed_type}
 
 -- the opcodes of types that have shapes, and what T1 asks of their operands
@@ -77,7 +80,7 @@ vector_least code.TypeVector n is_it le = omega (arith, le)
 vector_least o n e le = cc
 
 -- a pointer's second operand is a type
-pointer_id : (o : Op) (args : List ℕ) → is o code.TypePointer ≡ true → is_id o args 1 ≡ true
+pub pointer_id : (o : Op) (args : List ℕ) → is o code.TypePointer ≡ true → is_id o args 1 ≡ true
 unfolding number is_id
 pointer_id code.TypePointer args e = refl
 pointer_id o args e = cc

@@ -28,11 +28,13 @@ use Rattle.profile_rules.specs.declared.needs.Need.TheVariants.{AnyType, Constan
 use Rattle.profile_rules.specs.Operands.{need, first_or, is_there}
 use Rattle.profile_rules.specs.Places.{is_among, is_variable, is_defined_elsewhere, body_insts}
 use Rattle.profile_rules.specs.TypeForm.{parts_of, value_type, value_types, signature_types, pointee_by, pointees, block_misuses, fixed_parts, runtime_misuses, with_parts, held, is_held, other_types, is_workgroup, is_above_zero, is_no_int, is_workgroup_length, is_length}
+use Rattle.list_law.proofs.Numbers.{from_zero}
+use Rattle.list_law.proofs.Tests.{or_left, or_right, and_off, and_right, clash}
 use Rattle.plan_law.specs.InOrder.{IsAmong, AreRising}
 use Rattle.fits_law.proofs.Steps.{named}
 use Rattle.type_law.specs.Shaped.{EachFound}
 use Rattle.typed_law.specs.Conforms.{IsConforming}
-use Rattle.typed_law.proofs.Lists.{or_left, or_right, and_right, and_off, clash, found_in, earlier_some, from_zero}
+use Rattle.typed_law.proofs.Lists.{found_in, earlier_some}
 use Rattle.typed_law.proofs.Rules.{operand_there, global_there, used_type}
 use Rattle.typed_law.proofs.Types.{type_before, of_form}
 use Rattle.typed_law.proofs.Sized.{rising_low, sized_by}

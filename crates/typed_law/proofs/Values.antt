@@ -34,6 +34,9 @@ use Rattle.profile_rules.specs.Places.{is_variable, body_insts}
 use Rattle.profile_rules.specs.TypeRows.{is_type, type_row, fails, differ, value_fails, is_other, one_if, count_in, is_not}
 use Rattle.profile_rules.specs.TypeForm.{is_no_variable, is_other_parameter, is_other_result, is_other_function, is_other_pointer}
 use Rattle.profile_rules.specs.FlowRules.{function_type_if, function_type, is_misdeclared}
+use Rattle.list_law.proofs.Options.{some_by}
+pub use Rattle.list_law.proofs.Numbers.{same_count}
+use Rattle.list_law.proofs.Tests.{first_by, or_left, or_right, and_off, and_left, clash}
 use Rattle.plan_law.specs.InOrder.{IsAmong}
 use Rattle.plan_law.proofs.Order.{found, among_left, among_right}
 use Rattle.module_semantics.specs.Setting.{Setting}
@@ -41,7 +44,7 @@ use Rattle.fits_law.specs.State.{value_shape, IsLocal}
 use Rattle.type_law.proofs.Operands.{some_first}
 use Rattle.type_law.proofs.Vectors.{three_off}
 use Rattle.typed_law.specs.Conforms.{IsFormed, IsParameter, IsConforming, IsConformingIn}
-use Rattle.typed_law.proofs.Lists.{or_left, or_right, and_left, and_off, clash, any_none, found_in, earlier_some, some_by}
+use Rattle.typed_law.proofs.Lists.{any_none, found_in, earlier_some}
 use Rattle.typed_law.proofs.Rules.{type_there, operand_there, global_there, pointed_type, types_there, declared_right}
 use Rattle.typed_law.proofs.Types.{type_shaped, row_is}
 use Rattle.typed_law.proofs.Sized.{value_type_is}
@@ -76,7 +79,7 @@ unfolding shape
 typed_result code.Undef e = refl
 typed_result o e = cc
 
-pointer_kind : (o : Op) → is o code.TypePointer ≡ true → kind o ≡ Other
+pub pointer_kind : (o : Op) → is o code.TypePointer ≡ true → kind o ≡ Other
 unfolding kind number
 pointer_kind code.TypePointer e = refl
 pointer_kind o e = cc
@@ -191,9 +194,6 @@ among_functions [] f i in_it there = let less = in_it.1 in absurd (omega (arith,
 among_functions (g ∷ fs) f i (zero, less, same) there = among_left i (insts_of g) (flat_map (λ (h : Function). flat_map (λ (b : Block). b.insts) h.blocks) fs) (subst (λ h. IsAmong i (insts_of h)) (sym same) there)
 among_functions (g ∷ fs) f i (suc k, less, same) there = among_right i (insts_of g) (flat_map (λ (h : Function). flat_map (λ (b : Block). b.insts) h.blocks) fs) (among_functions fs f i (k, (let low : k < length fs = omega (arith, less) in low), same) there)
 
-pub same_count : (m n : ℕ) → not (m == n) ≡ false → m ≡ n
-same_count m n e = elim (eqb_tells m n) [ inl w ↦ w.1 | inr w ↦ clash (sym (ap not w.0) ∙ e) ]
-
 some_param : (o : Option (Id × Id)) (ps : List (Id × Id)) (id x : ℕ) → find (λ (q : Id × Id). q.0.0 == id) ps ≡ o → option_map (λ (p : Id × Id). p.1.0) o ≡ Some x → (p : Id × Id) × (p.1.0 ≡ x) × IsParameter p ps
 some_param None ps id x at e = cc
 some_param (Some p) ps id x at e = (p, same_Some p.1.0 x e, param_found ps id p at)
@@ -249,11 +249,7 @@ module _ (s : Setting) (entry : Option (List ℕ)) (right : IsConforming s.of en
     pub local_row : (i : Inst) → IsAmong i (insts_of f) → (i.ty ≡ 0 → ⊥) → (g : Inst) × (global Gs i.ty ≡ Some g) × (suits (type_need i.op) g ≡ true)
     local_row i there some =
         let on = type_there (is_there_in s.of f i.at) i (inside.order.there i there) (has_a_type i (inside.formed i there) some) in
-        row_of i.at i.ty i.op (alone (is_global Gs i.at (type_need i.op) i.ty) (is_in_function s.of f i.at (type_need i.op) i.ty) on (type_outside s.of f i.at i.ty i.op))
-      where
-        alone : (a b : Bool) → (a || b) ≡ true → b ≡ false → a ≡ true
-        alone true b e off = refl
-        alone false b e off = cc
+        row_of i.at i.ty i.op (first_by (is_global Gs i.at (type_need i.op) i.ty) (is_in_function s.of f i.at (type_need i.op) i.ty) on (type_outside s.of f i.at i.ty i.op))
 
     pub parameter_row : (p : Id × Id) → IsParameter p f.params → IsRow p.1.0
     parameter_row p there =

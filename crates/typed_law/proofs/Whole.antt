@@ -21,6 +21,8 @@ use Rattle.profile_rules.specs.Operands.{need, first_or, is_there_in}
 use Rattle.profile_rules.specs.NumberRules.{points_to_other, is_no_content, has_no_int, breaks_t25_load}
 use Rattle.profile_rules.specs.FlowRules.{breaks_t21, breaks_t24_value}
 use Rattle.profile_rules.specs.TypeRules.{is_flow_broken}
+use Rattle.list_law.proofs.Numbers.{from_zero}
+use Rattle.list_law.proofs.Tests.{or_left}
 use Rattle.plan_law.specs.InOrder.{IsAmong}
 use Rattle.module_semantics.specs.Setting.{Setting}
 use Rattle.module_semantics.specs.Steps.{step_kind, operation as operation_kind}
@@ -28,7 +30,7 @@ use Rattle.fits_law.specs.Typed.{IsTyped}
 use Rattle.type_law.specs.Shaped.{AreConstants, HasConstants}
 use Rattle.type_law.proofs.Constants.{constants_are}
 use Rattle.typed_law.specs.Conforms.{IsConforming}
-use Rattle.typed_law.proofs.Lists.{or_left, from_zero, at_least}
+use Rattle.typed_law.proofs.Lists.{at_least}
 use Rattle.typed_law.proofs.Rules.{operand_there, value_right, number_right, flow_right}
 use Rattle.typed_law.proofs.Values.{inside, own_local, own_shape}
 use Rattle.typed_law.proofs.Operations.{four_off, Facts, given_by}
@@ -38,7 +40,7 @@ use Rattle.typed_law.proofs.Calls.{as_call}
 at_least_alone : (n l : ℕ) → 1 + n ≤ 1 + l → n ≤ l
 at_least_alone n l least = omega (arith, least)
 
-behind_callee : (k : ℕ) → 1 ≤ k → first_or k Callee Value ≡ Value
+pub behind_callee : (k : ℕ) → 1 ≤ k → first_or k Callee Value ≡ Value
 behind_callee k low = let off : (k == 0) ≡ false = grind (arith, nat_tests, low) in ap (λ (b : Bool). if b then Callee else Value) off
 
 module _ (s : Setting) (entry : Option (List ℕ)) (right : IsConforming s.of entry) (chosen : ℕ → Option ℕ) (have : HasConstants s chosen) (f : Function) (in_it : Contains s.of.functions f) (i : Inst) (there : IsAmong i (insts_of f)) where

@@ -1,5 +1,5 @@
 -- A module of words that break no rule is conforming: its instructions are formed, and have results apart.
-use Rattle.std.proofs.Common.{◌≡◌, ◌<◌, ◌≤◌, ◌+◌, ◌==◌, ◌&&◌, ◌||◌, ℕ, suc, Bool, true, false, List, [], ◌∷◌, ◌++◌, length, map, take, drop, min, Option, Some, None, inl, inr, refl, sym, ap, subst, ◌∙◌, if◌then◌else◌, length-take, length-drop, arith}
+use Rattle.std.proofs.Common.{◌≡◌, ◌<◌, ◌≤◌, ◌+◌, ◌==◌, ◌&&◌, ℕ, suc, Bool, true, false, List, [], ◌∷◌, ◌++◌, length, map, take, drop, min, Option, Some, None, inl, inr, refl, sym, ap, subst, ◌∙◌, if◌then◌else◌, length-take, length-drop, arith}
 use Rattle.std.specs.Prelude.{◌⊎◌, ◌-◌, find, nat_le, nat_lt, unwrap_or, option_map, Contains, slice_index, slice_index_or}
 use Rattle.std.specs.Option.{option_map_or}
 use Rattle.std.proofs.lemmas.Bool.Decides.{eqb_tells, nat_tests}
@@ -29,6 +29,7 @@ use Rattle.spv_module.specs.Ids.{is_out, result_by, result_of, results, HasIdOut
 use Rattle.spv_module.specs.Lists.{id as id_of, is_global, globals_from, globals, with_inst, block_insts, block, with_block, blocks, with_param, params, function, with_function, functions_from, functions, module_of}
 use Rattle.spv_index.specs.Locals.{insts_of}
 use Rattle.profile_rules.specs.TypeRules.{broken, Broken as BrokenTypes}
+use Rattle.list_law.proofs.Tests.{or_right, and_right, and_left}
 use Rattle.plan_law.specs.InOrder.{IsAmong}
 use Rattle.plan_law.specs.Distinct.{IsNone, AreDistinct}
 use Rattle.plan_law.proofs.Listed.{flat, globals_rise, distinct}
@@ -109,21 +110,9 @@ result_by_other k i far = refl
 -- numbers of words
 within_words : (a b c n : ℕ) → (nat_le (a + 0) n && nat_le n (b + 0)) ≡ true → c ≡ n → (a ≤ c) × (c ≤ b)
 within_words a b c n e same =
-    let first = both_left (nat_le (a + 0) n) (nat_le n (b + 0)) e in
-    let second = both_right (nat_le (a + 0) n) (nat_le n (b + 0)) e in
+    let first = and_left (nat_le (a + 0) n) (nat_le n (b + 0)) e in
+    let second = and_right (nat_le (a + 0) n) (nat_le n (b + 0)) e in
     (grind (arith, nat_tests, first, same), grind (arith, nat_tests, second, same))
-  where
-    both_left : (a b : Bool) → (a && b) ≡ true → a ≡ true
-    both_left true b e = refl
-    both_left false b e = cc
-
-    both_right : (a b : Bool) → (a && b) ≡ true → b ≡ true
-    both_right true b e = e
-    both_right false b e = cc
-
-both_left : (a b : Bool) → (a && b) ≡ true → a ≡ true
-both_left true b e = refl
-both_left false b e = cc
 
 room_below : (t r : Bool) (least len : ℕ) → nat_le (1 + count_of t + count_of r) least ≡ true → least ≤ len → 1 + count_of t + count_of r ≤ len
 room_below t r least len e le = let n = 1 + count_of t + count_of r in grind (arith, nat_tests, e, le)
@@ -136,10 +125,6 @@ module _ (ws : List ℕ) where
       let ends : nat_lt (length ws) (x.start + x.len) ≡ false = or_right (x.len == 0) (nat_lt (length ws) (x.start + x.len)) e in
       let low : x.start + x.len ≤ length ws = grind (arith, nat_tests, ends) in
       few ∙ (let least : min x.len (length (drop x.start ws)) ≡ x.len = omega (arith, low, rest) in least)
-    where
-      or_right : (a b : Bool) → (a || b) ≡ false → b ≡ false
-      or_right true b e = cc
-      or_right false b e = e
 
   -- an instruction that breaks none of these rules is formed
   module _ (x : Inst1) (uncut : is_at_fault (length ws) x ≡ false) (told : is_unknown ws x ≡ false) (counted : is_misfit ws x ≡ false) (listed : HasIdOut ws x → ⊥) (is_there : kind_of ws x ≡ Debug → ⊥) where
@@ -151,7 +136,7 @@ module _ (ws : List ℕ) where
     within =
         let p = the_op (op_of x.opcode) refl in
         let right : is_misfit_of ws x p.0 ≡ false = ap (λ q. option_map_or (is_misfit_of ws x) q false) (sym p.1) ∙ counted in
-        subst (λ o. is_within 0 (shape o) x.len ≡ true) (sym (known_is x.opcode p.0 p.1)) (both_left (is_within 0 (shape p.0) x.len) (fits_opcode ws x p.0) (not-false (is_within 0 (shape p.0) x.len && fits_opcode ws x p.0) right))
+        subst (λ o. is_within 0 (shape o) x.len ≡ true) (sym (known_is x.opcode p.0 p.1)) (and_left (is_within 0 (shape p.0) x.len) (fits_opcode ws x p.0) (not-false (is_within 0 (shape p.0) x.len && fits_opcode ws x p.0) right))
 
     abbrev O : Op
     O = known x.opcode
