@@ -26,9 +26,10 @@ use Rattle.spv_index.specs.Locals.{insts_of}
 use Rattle.use_chains.specs.Slots.{is_slot_in, mention, slots_of_inst, slots_of_block, slots}
 use Rattle.use_chains.specs.Small.{IsSmall}
 use Rattle.module_check.specs.ReadFrom.{IsReadFrom}
+use Rattle.list_law.proofs.Tests.{or_left, or_right}
+use Rattle.list_law.proofs.Numbers.{zero_first, le_on}
 use Rattle.plan_law.specs.InOrder.{IsAmong}
 use Rattle.plan_law.proofs.Listed.{flat}
-use Rattle.typed_law.proofs.Lists.{or_left, or_right}
 use Rattle.typed_law.proofs.Conforming.{uncut_words}
 
 -- numbers
@@ -49,9 +50,6 @@ le_left a b = omega arith
 
 le_both : (a b c d : ℕ) → a ≤ b → c ≤ d → a + c ≤ b + d
 le_both a b c d first second = omega (arith, first, second)
-
-le_on : (a b c : ℕ) → a ≤ b → b ≤ c → a ≤ c
-le_on a b c first second = omega (arith, first, second)
 
 le_behind : (a b c : ℕ) → a + b ≤ c → b ≤ c
 le_behind a b c le = omega (arith, le)
@@ -153,11 +151,8 @@ abbrev pub args_in : List Inst → ℕ
 args_in [] = 0
 args_in (i ∷ is) = length i.args + args_in is
 
-args_append : (xs ys : List Inst) → args_in (xs ++ ys) ≡ args_in xs + args_in ys
-args_append [] ys = behind_none (args_in ys)
-  where
-    behind_none : (n : ℕ) → n ≡ 0 + n
-    behind_none n = omega arith
+pub args_append : (xs ys : List Inst) → args_in (xs ++ ys) ≡ args_in xs + args_in ys
+args_append [] ys = zero_first (args_in ys)
 args_append (x ∷ xs) ys = behind_one (length x.args) (args_in (xs ++ ys)) (args_in xs) (args_in ys) (args_append xs ys)
   where
     behind_one : (a b c d : ℕ) → b ≡ c + d → a + b ≡ a + c + d

@@ -1,5 +1,5 @@
 -- The text of a function's body does what its blocks do, from the first one on until a return.
-use Rattle.std.proofs.Common.{◌≡◌, ℕ, Bool, List, ◌∷◌, Option, Some, None, inl, inr, refl, sym, ◌∙◌}
+use Rattle.std.proofs.Common.{◌≡◌, ℕ, Bool, List, ◌∷◌, Option, Some, None, inl, inr, refl}
 use Rattle.spv_module.specs.declared.inst.Inst.{Inst}
 use Rattle.spv_module.specs.declared.inst.Function.{Function}
 use Rattle.structure_recover.specs.Tree.{Region, ends, item, Groups}
@@ -16,6 +16,7 @@ use Rattle.glsl_semantics.specs.Shapes.{Typed}
 use Rattle.glsl_semantics.specs.States.{State}
 use Rattle.glsl_semantics.specs.Expressions.{Program, Argument}
 use Rattle.glsl_semantics.specs.Statements.{Run, stmts_run}
+use Rattle.list_law.proofs.Options.{none_or_some}
 use Rattle.region_law.specs.Leads.{Term, Ways, IsItem, Leads}
 use Rattle.region_law.proofs.Regions.{names_of, F, region_follows}
 use Rattle.agree_law.specs.Agree.{Naming}
@@ -45,9 +46,6 @@ module _ (p : Program) (calls : Text → List Argument → State → Result (Opt
   abbrev pub Gives : C → Run → Type 0
   Gives c o = Follows C (machine s) State (Option Typed) (Never C (machine s) State (Option Typed)) (Never C (machine s) State (Option Typed)) (Never C (machine s) State (Option Typed)) (Return m s Holds f body) 0 k c o
 
-  none_some : {A : Type 0} (o : Option A) (x : A) → o ≡ None → o ≡ Some x → ⊥
-  none_some o x e i = let never : None ≡ Some x = sym e ∙ i in cc
-
   abbrev known : Text → Option (Option Bool)
   known x = None
 
@@ -55,9 +53,9 @@ module _ (p : Program) (calls : Text → List Argument → State → Result (Opt
   Follows' ns v u c o = F C (machine s) p calls w term falls Cases k IsFlag (Start m s Holds f body) (Stop m s Holds f body) (Arrive m s Holds f body) (Return m s Holds f body) known known ns v u c o
 
   ends_so : (ns : List (List Text)) (v : Ways) (u : ℕ) (c : C) (o : Run) → AreNone v → Follows' ns v u c o → Gives c o
-  ends_so ns v u c (normal e y) out (inl l) = elim l.holds [ inl a ↦ absurd (none_some v.normal a.to out.normal a.is) | inr a ↦ absurd (none_some v.fall a.to out.fall a.is) ]
-  ends_so ns v u c (breaks e y) out (inl l) = elim l.holds [ inl a ↦ absurd (none_some v.leave a.to out.leave a.is) | inr a ↦ absurd (none_some v.out (a.flag, a.to) out.out a.is) ]
-  ends_so ns v u c (continues e y) out (inl l) = absurd (none_some v.again l.holds.to out.again l.holds.is)
+  ends_so ns v u c (normal e y) out (inl l) = elim l.holds [ inl a ↦ absurd (none_or_some v.normal a.to out.normal a.is) | inr a ↦ absurd (none_or_some v.fall a.to out.fall a.is) ]
+  ends_so ns v u c (breaks e y) out (inl l) = elim l.holds [ inl a ↦ absurd (none_or_some v.leave a.to out.leave a.is) | inr a ↦ absurd (none_or_some v.out (a.flag, a.to) out.out a.is) ]
+  ends_so ns v u c (continues e y) out (inl l) = absurd (none_or_some v.again l.holds.to out.again l.holds.is)
   ends_so ns v u c (returns e r y) out (inl l) = inl (record { to = l.to; comes = l.comes; holds = l.holds.is })
   ends_so ns v u c (cut e) out (inl l) = inl l
   ends_so ns v u c (waits e) out (inl l) = inl l
@@ -76,16 +74,16 @@ module _ (p : Program) (calls : Text → List Argument → State → Result (Opt
   body_follows a (item i r) pl v out is leads c z start top ns shape =
       ends_so ns v _ c _ out
       (region_follows C (machine s) p calls w term falls Cases k IsFlag (Start m s Holds f body) (Stop m s Holds f body) (Arrive m s Holds f body) (Return m s Holds f body) (facts p calls k m s Holds keeps f body w term falls IsFlag text a) (item i r) pl known known ns v 0
-      (record { out = λ l t e. absurd (none_some v.out (l, t) out.out e); fall = λ t x e i. absurd (none_some v.fall t out.fall e) })
-      (λ x u e. absurd (none_some (known x) u refl e))
-      (λ x u e. absurd (none_some (known x) u refl e))
+      (record { out = λ l t e. absurd (none_or_some v.out (l, t) out.out e); fall = λ t x e i. absurd (none_or_some v.fall t out.fall e) })
+      (λ x u e. absurd (none_or_some (known x) u refl e))
+      (λ x u e. absurd (none_or_some (known x) u refl e))
       leads c z start
       (record {
-        by = λ x b e. absurd (none_some (known x) (Some b) refl e);
-        some = λ x e. absurd (none_some (known x) None refl e);
-        flag = λ x u e. absurd (none_some (known x) u refl e);
+        by = λ x b e. absurd (none_or_some (known x) (Some b) refl e);
+        some = λ x e. absurd (none_or_some (known x) None refl e);
+        flag = λ x u e. absurd (none_or_some (known x) u refl e);
         top = top;
         shape = shape;
-        shut = λ x u e. absurd (none_some (known x) u refl e);
-        outer = λ x u e. absurd (none_some (known x) u refl e);
+        shut = λ x u e. absurd (none_or_some (known x) u refl e);
+        outer = λ x u e. absurd (none_or_some (known x) u refl e);
       }))

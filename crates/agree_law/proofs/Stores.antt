@@ -19,6 +19,7 @@ use Rattle.glsl_semantics.specs.Shapes.{Shape, Typed, typed, same_shape}
 use Rattle.glsl_semantics.specs.States.{Variable, State, found, found_in, has, has_in, or_outer, put_first, put_in, with_value, Thing, variable, assigned, store}
 use Rattle.glsl_semantics.specs.Expressions.{Program, Argument, named, evaluate, steps}
 use Rattle.glsl_semantics.specs.Statements.{Run, stmt_run}
+use Rattle.list_law.proofs.Numbers.{same_number}
 use Rattle.region_law.proofs.Flags.{none_found, in_found, other_put}
 use Rattle.agree_law.specs.Agree.{Naming, AreApart, variable_with, as_value, IfPointer, IsFar, variable_in, root_value, target_value, AgreeIn}
 use Rattle.agree_law.specs.Blocks.{have_result, has_outcome, Stands, At}
@@ -56,9 +57,6 @@ none_found_in (f ∷ fs) x h = by_test (has f x) refl h (none_found_in fs x)
     by_test : (t : Bool) → has f x ≡ t → elim t as (λ t. Bool) [ true ↦ true | false ↦ has_in fs x ] ≡ false → (has_in fs x ≡ false → found_in fs x ≡ None) → or_outer (found f x) (found_in fs x) ≡ None
     by_test true is e rest = cc
     by_test false is e rest = ap (λ (o : Option Variable). or_outer o (found_in fs x)) (none_found f x is) ∙ rest e
-
-pub same_number : (a b : ℕ) → (a == b) ≡ true → a ≡ b
-same_number a b e = elim (eqb_tells a b) [ inl w ↦ w.1 | inr w ↦ (let never : true ≡ false = sym e ∙ w.0 in cc) ]
 
 -- a call under way with another frame in its place
 pub length_with : (depth : ℕ) (g : Frame) (bs : List (Frame × ℕ)) → length (with_call depth g bs) ≡ length bs
