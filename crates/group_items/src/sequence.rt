@@ -2,7 +2,7 @@
 ghost use Rattle.std.specs.Prelude.{ℕ, ◌≡◌, ◌<◌, ◌≤◌, ◌+◌, ◌*◌, ◌/◌, ◌++◌, ◌∷◌, [], length, slice_index, IfOk, OnOk, IsErrOf};
 ghost use Rattle.group_items.specs.Events.{events_of};
 ghost use Rattle.group_items.specs.Memory.{stored};
-ghost use Rattle.group_items.specs.Schedule.{Setup, turn as turn_of, Comes, IsTooMuch};
+ghost use Rattle.group_items.specs.Schedule.{Setup, Comes, IsTooMuch};
 ghost use Rattle.group_items.specs.Playing.{IsAt};
 ghost use Rattle.group_items.specs.Played.{end_by, waits_by, IsPlayed, TooMuchIn, RoundsEnd, RoundsTooMuch};
 
@@ -72,16 +72,9 @@ fn play_all<R: Runner>(
 }
 
 /// Plays whole rounds, to the end of the schedule.
-fn rounds<R: Runner>(
-    alloc: Global,
-    side: &mut R,
-    play: &mut Play,
-    turn: &[u32],
-) -> Result<End, Stop>
+fn rounds<R: Runner>(alloc: Global, side: &mut R, play: &mut Play) -> Result<End, Stop>
     ghost d: { Setup }
     requires at { IsAt d (R.at side.old) play.old }
-    requires turn { turn.now ≡ turn_of d.count }
-    requires items { (k : ℕ) → k < length turn.now → slice_index turn.now k < d.count }
     requires begun { R.count side.old ≡ d.count }
     requires small { d.count ≤ 1024 }
     ensures end { IfOk result (RoundsEnd d (R.runs side.old) (events_of play.old.events.items) (events_of play.new.events.items)) }
@@ -89,9 +82,10 @@ fn rounds<R: Runner>(
     ensures events { IsErrOf result Stop.Events → RoundsTooMuch d (R.runs side.old) (events_of play.old.events.items) }
     ensures invocations { IsErrOf result Stop.Invocations → ⊥ }
 {
+    let turn = whole_round(alloc, play.passed.as_slice().len())?;
     loop {
         let weight = play.weight;
-        match play_all(alloc, side, play, turn)? {
+        match play_all(alloc, side, play, &turn)? {
             Played::Stopped(end) => return Ok(end),
             Played::Through { waits } => {
                 if play.weight == weight {
@@ -122,9 +116,8 @@ pub fn play_schedule<R: Runner>(
     ensures invocations { IsErrOf result Stop.Invocations → ⊥ }
 {
     let items = naming(alloc, first, count)?;
-    let turn = whole_round(alloc, count)?;
     match play_all(alloc, side, play, &items)? {
         Played::Stopped(end) => Ok(end),
-        Played::Through { .. } => rounds(alloc, side, play, &turn),
+        Played::Through { .. } => rounds(alloc, side, play),
     }
 }

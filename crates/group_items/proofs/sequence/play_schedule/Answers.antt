@@ -3,12 +3,12 @@ use Rattle.std.proofs.lemmas.Result.{err_from_is_err_and}
 use Rattle.group_items.specs.declared.schedule.Stop.TheVariants.{Events}
 use Rattle.group_items.specs.Events.{events_of}
 use Rattle.group_items.specs.Memory.{stored}
-use Rattle.group_items.specs.Schedule.{among, turn, Comes}
+use Rattle.group_items.specs.Schedule.{among, Comes}
 use Rattle.group_items.specs.Playing.{IsAt}
 use Rattle.group_items.specs.Played.{IsPlayed, HasStopped, IsThrough, TooMuchIn, RoundsEnd, RoundsTooMuch}
 use Rattle.group_items.proofs.Plays.{other_error}
 use Rattle.group_items.proofs.Ending.{if_ok_both, first_stops, first_too_much, rounds_end, rounds_too_much}
-use Rattle.group_items.proofs.Naming.{among_inside, turn_inside}
+use Rattle.group_items.proofs.Naming.{among_inside}
 use Rattle.group_items.proofs.sequence.play_schedule.Goals as goal
 
 pub returns-in_err-end-clause-events : goal.returns-in_err-end-clause-events
@@ -40,8 +40,7 @@ play_all-requires g c κs within =
 
 pub rounds-requires : goal.rounds-requires
 rounds-requires g c κs within =
-    let is = c.deref-in-Through.ensures.value ∙ c.in_ok-turn.ensures ∙ ap turn c.requires.1.1.1.0 in
-    (within, (c.in_ok-end.ensures.at, (is, (subst (λ xs. (k : ℕ) → k < length xs → slice_index xs k < g.d.count) (sym is) (turn_inside g.d.count), (c.in_ok-end.ensures.counted ∙ c.requires.1.1.1.1.0, c.requires.1.1.1.1.1)))))
+    (within, (c.in_ok-end.ensures.at, (c.in_ok-end.ensures.counted ∙ c.requires.1.1.1.1.0, c.requires.1.1.1.1.1)))
 
 pub returns-clause-comes : goal.returns-clause-comes
 returns-clause-comes g c =
