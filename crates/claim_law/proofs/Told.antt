@@ -15,7 +15,7 @@ use Rattle.int_lowering.specs.declared.built_ins.BuiltIn.TheVariants as built_in
 use Rattle.int_lowering.specs.Term.{built_in_name}
 use Rattle.vec_lowering.specs.Component.{axis_name}
 use Rattle.expr_forward.specs.Statements.{atomic_name}
-use Rattle.spell_law.specs.Uses.{UsesExpr}
+use Rattle.spell_law.specs.Uses.{UsesExpr, AreSpelledWords}
 use Rattle.spell_law.specs.Statements.{UsesStmt}
 use Rattle.spell_law.proofs.Grammar.{expr-spelled}
 use Rattle.spell_law.proofs.Sentences.{stmt-spelled}
@@ -99,12 +99,15 @@ module _ (found : Key → Option Text) (names : AreNames found) where
   member_name w (inl is) = given_name w is
   member_name w (inr on) = one_of components w component_names on
 
+  told_spelled : AreSpelledWords (told found)
+  told_spelled = record { value = value_name; called = value_name; size = value_name; measured = value_name; member = member_name; struct = given_name }
+
   -- so expressions and statements of these names are spelled
   pub told_expr : (e : Expr) → UsesExpr (told found) e → IsSpelledExpr e
-  told_expr e has = expr-spelled (told found) value_name member_name given_name e has
+  told_expr e has = expr-spelled (told found) told_spelled e has
 
   pub told_stmt : (s : Stmt) → UsesStmt (told found) s → IsSpelledStmt s
-  told_stmt s has = stmt-spelled (told found) value_name member_name given_name s has
+  told_stmt s has = stmt-spelled (told found) told_spelled s has
 
 -- a key that has a name is told
 pub named_is : (found : Key → Option Text) (key : Key) → HasName found key → found key ≡ Some (text_of found key)

@@ -27,6 +27,9 @@ IsGiven found w = (key : Key) × (found key ≡ Some w)
 abbrev pub told : (Key → Option Text) → Asked
 told found = record {
   value = λ w. IsGiven found w ⊎ (is_among built_ins w ≡ true);
+  called = λ w. IsGiven found w ⊎ (is_among built_ins w ≡ true);
+  size = λ w. IsGiven found w ⊎ (is_among built_ins w ≡ true);
+  measured = λ w. IsGiven found w ⊎ (is_among built_ins w ≡ true);
   member = λ w. IsGiven found w ⊎ (is_among components w ≡ true);
   struct = IsGiven found;
 }

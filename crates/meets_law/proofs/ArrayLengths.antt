@@ -32,7 +32,7 @@ use Rattle.plan_law.specs.InOrder.{IsAmong}
 use Rattle.module_semantics.specs.Setting.{Setting}
 use Rattle.name_alloc.specs.declared.claims.Key.TheVariants.{Member}
 use Rattle.name_alloc.specs.Naming.{name_of}
-use Rattle.glsl_ast.specs.Tree.{Expr, LValue, lvalue, TranslationUnit}
+use Rattle.glsl_ast.specs.Tree.{Text, Expr, LValue, lvalue, TranslationUnit}
 use Rattle.expr_forward.specs.Kinds.{kind_of, operation_kind_of}
 use Rattle.expr_forward.specs.Scope.{Scope}
 use Rattle.expr_forward.specs.Paths.{place_text, lvalue_expr}
@@ -40,9 +40,9 @@ use Rattle.expr_forward.specs.declared.kinds.OperationKind.TheVariants as kind
 use Rattle.function_text.specs.Functions.{FunctionPlan}
 use Rattle.unit_rules.specs.Translation.{Naming, text_of}
 use Rattle.unit_rules.specs.Unit.{IsUnitOf}
-use Rattle.spell_law.specs.Uses.{Words, UsesExpr, UsesLValue}
+use Rattle.spell_law.specs.Uses.{Words, UsesMeasured, UsesLValue}
 use Rattle.spell_law.specs.Asked.{MeetsKind}
-use Rattle.spell_law.proofs.Values.{further-uses}
+use Rattle.spell_law.proofs.Values.{further-measured}
 use Rattle.typed_law.specs.Conforms.{IsConforming}
 use Rattle.typed_law.proofs.Lists.{or_left, or_right, and_off}
 use Rattle.typed_law.proofs.Rules.{value_right}
@@ -83,8 +83,8 @@ less_of : (a b : ℕ) → nat_lt a b ≡ true → a < b
 less_of a b e = grind (arith, nat_tests, e)
 
 module _ (W : Words) where
-  expr_of : (l : LValue) → UsesLValue W l → UsesExpr W (lvalue_expr l)
-  expr_of (lvalue x ss) has = further-uses W (Expr.name x) ss has.0 has.1
+  measured_of : ((w : Text) → W.value w → W.measured w) → (l : LValue) → UsesLValue W l → UsesMeasured W (lvalue_expr l)
+  measured_of may (lvalue x ss) has = further-measured W (Expr.name x) ss (may x has.0) has.1
 
 module _ (s : Setting) (entry : Option (List ℕ)) (right : IsConforming s.of entry) (kinds : HaveKinds s.of.globals) (o : Options) (unit : TranslationUnit) (u : IsUnitOf s.of o unit) (p : FunctionPlan) (among : IsIn p u.plans) (names : List (List ℕ)) (structs : AreOfStructs s.of.globals (name_of u.claimed) names) where
   abbrev Gs : List Inst
@@ -174,7 +174,7 @@ module _ (s : Setting) (entry : Option (List ℕ)) (right : IsConforming s.of en
           let member : W.member (text_of Found (Member (id way.to) (word i 1))) = inl (Member (id way.to) (word i 1), named_is Found (Member (id way.to) (word i 1)) member_named) in (
             (tt, tt),
             (
-              (expr_of W (place_text Where.setting b (word i 0)) (place_uses s entry right Fn o unit u names Where.setting.global b (word i 0) way), subst (λ (q : Option ℕ). W.member (text_of Found (Member (id (unwrap_or q 0)) (word i 1)))) (sym way.points) member),
+              (measured_of W (λ w is. is) (place_text Where.setting b (word i 0)) (place_uses s entry right Fn o unit u names Where.setting.global b (word i 0) way), subst (λ (q : Option ℕ). W.member (text_of Found (Member (id (unwrap_or q 0)) (word i 1)))) (sym way.points) member),
               tt,
             ),
           )

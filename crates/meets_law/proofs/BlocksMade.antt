@@ -258,7 +258,7 @@ module _ (s : Setting) (entry : Option (List ℕ)) (right : IsConforming s.of en
         set = set_asked s entry right kinds o unit u p among names structs b r.holder i r.there r.within (made has) r.here (typed_some s entry right Fn in_it i stands has) t.0 t.1 k.declared k.lengths (Where.form i.result) refl
 
       -- each instruction
-      inst_meets : (q : InstKind) → kind_of i.op ≡ q → MeetsInst W Found Where (Usable b) b i q
+      pub inst_meets : (q : InstKind) → kind_of i.op ≡ q → MeetsInst W Found Where (Usable b) b i q
       inst_meets inst_kind.Load on = load_asks s entry right kinds o unit u p among names structs b r.place r.holder i r.there r.within r.at r.here r.live k.pointer k.declared k.lengths (load_op i.op on)
       inst_meets inst_kind.Store on = store_asks s entry right kinds o unit u p among names structs b r.place r.holder i r.there r.within r.at r.here r.live k.pointer k.declared k.lengths (store_op i.op on)
       inst_meets inst_kind.Call on = k.call b i r (call_op i.op on)
@@ -278,7 +278,7 @@ module _ (s : Setting) (entry : Option (List ℕ)) (right : IsConforming s.of en
       inst_meets inst_kind.Silent on = tt
 
       -- where it stands in an expression itself
-      forwarded_meets : (v : Tree) → type_tree Gs i.ty ≡ Some v → Where.form i.result ≡ Forwarded → Meets W Found Where (Usable b) b i
+      pub forwarded_meets : (v : Tree) → type_tree Gs i.ty ≡ Some v → Where.form i.result ≡ Forwarded → Meets W Found Where (Usable b) b i
       forwarded_meets v shaped form = by_other (is_other (operation_kind_of i.op)) refl
         where
           some : i.ty ≡ 0 → ⊥
@@ -309,7 +309,7 @@ module _ (s : Setting) (entry : Option (List ℕ)) (right : IsConforming s.of en
     abbrev Below : List ℕ → Type 0
     Below = AreBelow (Ranks s entry right kinds o unit u p among) 17
 
-    below : (ids : List ℕ) → Below ids
+    pub below : (ids : List ℕ) → Below ids
     below [] = tt
     below (n ∷ ns) = ((let low = (ranked s entry right kinds o unit u p among b).low n in let less : Ranks s entry right kinds o unit u p among n < 17 = omega (arith, low) in less), below ns)
 
@@ -362,10 +362,10 @@ module _ (s : Setting) (entry : Option (List ℕ)) (right : IsConforming s.of en
     }
 
     abbrev One : Inst → Type 0
-    One = MeetsOne W (barrier_values Gs Found u.lawful names structs) (built_in_value Gs Found u.lawful names structs) (axes_told Found) Found Where (Usable b) b block_asked (Ranks s entry right kinds o unit u p among) (ranked s entry right kinds o unit u p among b)
+    One = MeetsOne W (built_in_value Gs Found u.lawful names structs) (axes_told Found) Found Where (Usable b) b block_asked (Ranks s entry right kinds o unit u p among) (ranked s entry right kinds o unit u p among b) (barrier_values Gs Found u.lawful names structs)
 
     abbrev Each : List Inst → Type 0
-    Each = MeetEach W (barrier_values Gs Found u.lawful names structs) (built_in_value Gs Found u.lawful names structs) (axes_told Found) Found Where (Usable b) b block_asked (Ranks s entry right kinds o unit u p among) (ranked s entry right kinds o unit u p among b)
+    Each = MeetEach W (built_in_value Gs Found u.lawful names structs) (axes_told Found) Found Where (Usable b) b block_asked (Ranks s entry right kinds o unit u p among) (ranked s entry right kinds o unit u p among b) (barrier_values Gs Found u.lawful names structs)
 
     one_meets : (here : slice_index_or Marks b false ≡ true) (holder : Block) (i : Inst) → slice_get Fn.blocks b ≡ Some holder → IsIn i holder.insts → One i
     one_meets here holder i there inside_it =
@@ -387,5 +387,5 @@ module _ (s : Setting) (entry : Option (List ℕ)) (right : IsConforming s.of en
         by_block None is_it = subst (λ (q : Option Block). EachStmt W (flat_map (λ (i : Inst). inst_text Where b i (kind_of i.op)) (option_map_or (λ (c : Block). c.insts) q []))) (sym is_it) tt
         by_block (Some holder) is_it =
             subst (λ (q : Option Block). EachStmt W (flat_map (λ (i : Inst). inst_text Where b i (kind_of i.op)) (option_map_or (λ (c : Block). c.insts) q []))) (sym is_it)
-            (insts-use W (barrier_values Gs Found u.lawful names structs) (built_in_value Gs Found u.lawful names structs) (axes_told Found) Found Where (Usable b) b block_asked (Ranks s entry right kinds o unit u p among) (ranked s entry right kinds o unit u p among b) holder.insts
+            (insts-use W (built_in_value Gs Found u.lawful names structs) (axes_told Found) Found Where (Usable b) b block_asked (Ranks s entry right kinds o unit u p among) (ranked s entry right kinds o unit u p among b) (barrier_values Gs Found u.lawful names structs) holder.insts
             (all_meet here holder is_it holder.insts (λ i i_in. i_in)))

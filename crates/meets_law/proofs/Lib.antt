@@ -9,6 +9,7 @@ pub mod GlobalReads
 pub mod OperandNames
 pub mod Roots
 pub mod OuterRoots
+pub mod PointerStarts
 pub mod PointerRoots
 pub mod BlocksMade
 pub mod Known

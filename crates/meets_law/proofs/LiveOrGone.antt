@@ -58,7 +58,7 @@ pure_result code.Undef on = refl
 pure_result o on = cc
 
 -- kinds of instructions without effect
-abbrev is_quiet : InstKind → Bool
+abbrev pub is_quiet : InstKind → Bool
 is_quiet kind.Chain = true
 is_quiet kind.CompositeInsert = true
 is_quiet kind.VectorInsertDynamic = true
@@ -66,7 +66,7 @@ is_quiet (kind.Value o) = true
 is_quiet kind.Silent = true
 is_quiet _ = false
 
-pure_quiet : (o : Op) → is_pure o ≡ true → is_quiet (kind_of o) ≡ true
+pub pure_quiet : (o : Op) → is_pure o ≡ true → is_quiet (kind_of o) ≡ true
 unfolding shape kind_of group_of
 pure_quiet code.Undef on = refl
 pure_quiet o on = cc

@@ -202,25 +202,39 @@ module _ (s : Setting) (entry : Option (List ℕ)) (right : IsConforming s.of en
       result_set t has makes shaped x is_it =
           set_asked s entry right kinds o unit u p among names structs block holder i there inside_it (((inside s entry right Fn in_it).formed i stands).result makes) here (typed_some s entry right Fn in_it i stands has) t shaped declared lengths x is_it
 
+      -- the places that a load, a store and an atomic instruction name
+      pub load_way : is i.op code.Load ≡ true → Way block (slice_index i.args 0)
+      load_way on =
+          let group = load_groups i.op on in
+          let off = ap (is_value_broken s.of T i) (sym group) ∙ value_right s.of entry right Fn in_it i stands in
+          first_way (first_read i.op i.args (ap reads_first group)) (or_left (value_fails is_pointer Gs T (word i 0)) (option_map_or (λ q. differ Gs q i.ty) (pointee_of Gs Fn (word i 0)) false) (or_right (is_no_value_type s.of.heads Gs i.ty) (points_to_other Gs T (word i 0) i.ty) off))
+
+      store_right : is i.op code.Store ≡ true → is_value_broken s.of T i groups.Store ≡ false
+      store_right on = ap (is_value_broken s.of T i) (sym (store_group i.op on)) ∙ value_right s.of entry right Fn in_it i stands
+
+      pub store_way : is i.op code.Store ≡ true → Way block (slice_index i.args 0)
+      store_way on =
+          let content = or_right (option_map_or (is_no_value_type s.of.heads Gs) (pointee_of Gs Fn (word i 0)) false) (is_no_content Gs T (word i 0) (word i 1)) (store_right on) in
+          first_way (first_read i.op i.args (ap reads_first (store_group i.op on))) (or_left (value_fails is_pointer Gs T (word i 0)) (option_map_or (λ q. is_other Gs T q (word i 1)) (pointee_of Gs Fn (word i 0)) false) content)
+
+      atomic_right : (a : AtomicOp) → group_of i.op ≡ groups.Atomic a → breaks_t25 Gs T i a ≡ false
+      atomic_right a group = ap (is_number_broken Gs T i) (sym group) ∙ number_right s.of entry right Fn in_it i stands
+
+      pub atomic_way : (a : AtomicOp) → group_of i.op ≡ groups.Atomic a → Way block (slice_index i.args 0)
+      atomic_way a group = first_way (first_read i.op i.args (ap reads_first group)) (pointer_of Gs T i a (atomic_right a group))
+
       pub load_asks : is i.op code.Load ≡ true → MeetsInst W Found Where Usable block i kind.Load
       load_asks on =
           let has = load_typed i.op on in
-          let group = load_groups i.op on in
-          let off = ap (is_value_broken s.of T i) (sym group) ∙ value_right s.of entry right Fn in_it i stands in
-          let t = made_shaped s entry right Fn in_it i stands has (ap makes group) in
-          let points = or_left (value_fails is_pointer Gs T (word i 0)) (option_map_or (λ q. differ Gs q i.ty) (pointee_of Gs Fn (word i 0)) false) (or_right (is_no_value_type s.of.heads Gs i.ty) (points_to_other Gs T (word i 0) i.ty) off) in
-          (result_set t.0 has (typed_result i.op has) t.1 (Where.form i.result) refl, place_uses s entry right Fn o unit u names Where.setting.global block (slice_index i.args 0) (first_way (first_read i.op i.args (ap reads_first group)) points))
+          let t = made_shaped s entry right Fn in_it i stands has (ap makes (load_groups i.op on)) in
+          (result_set t.0 has (typed_result i.op has) t.1 (Where.form i.result) refl, place_uses s entry right Fn o unit u names Where.setting.global block (slice_index i.args 0) (load_way on))
 
       pub store_asks : is i.op code.Store ≡ true → MeetsInst W Found Where Usable block i kind.Store
       store_asks on =
-          let group = store_group i.op on in
-          let off = ap (is_value_broken s.of T i) (sym group) ∙ value_right s.of entry right Fn in_it i stands in
-          let first = first_read i.op i.args (ap reads_first group) in
-          let second = second_read i.op i.args (ap reads_second group) in
-          let content = or_right (option_map_or (is_no_value_type s.of.heads Gs) (pointee_of Gs Fn (word i 0)) false) (is_no_content Gs T (word i 0) (word i 1)) off in
-          let points = or_left (value_fails is_pointer Gs T (word i 0)) (option_map_or (λ q. is_other Gs T q (word i 1)) (pointee_of Gs Fn (word i 0)) false) content in
+          let first = first_read i.op i.args (ap reads_first (store_group i.op on)) in
+          let second = second_read i.op i.args (ap reads_second (store_group i.op on)) in
           store_meets s entry right kinds o unit u p among names structs block holder i there inside_it place on at here live (read_arg 1 second)
-          (as_store s entry right Fn in_it i stands off (typed_read s entry right Fn in_it i stands 0 first) (typed_read s entry right Fn in_it i stands 1 second)) (first_way first points)
+          (as_store s entry right Fn in_it i stands (store_right on) (typed_read s entry right Fn in_it i stands 0 first) (typed_read s entry right Fn in_it i stands 1 second)) (store_way on)
 
       -- an operand of an atomic instruction is a value of what its pointer leads to
       content_value : (k : ℕ) → IsReadAt i.op i.args 0 → IsReadAt i.op i.args k → is_no_content Gs T (word i 0) (word i k) ≡ false → Usable (slice_index i.args k)
@@ -266,13 +280,12 @@ module _ (s : Setting) (entry : Option (List ℕ)) (right : IsConforming s.of en
       none_set lacks = subst (λ (x : Form). AsksSet W Found Where Usable block i x) (sym (ap Where.form lacks ∙ unmade_gone s.of.globals Fn (plan_is s entry right kinds o unit u p among).links)) tt
 
       pub atomic_asks : (a : AtomicOp) → group_of i.op ≡ groups.Atomic a → (has_result i.op ≡ false → i.result ≡ 0) → MeetsInst W Found Where Usable block i (kind.Atomic a)
-      atomic_asks a group made =
-          let off = ap (is_number_broken Gs T i) (sym group) ∙ number_right s.of entry right Fn in_it i stands in (
-            by_store (stores a) refl,
-            atomic_value Gs Found u.lawful names structs a,
-            place_uses s entry right Fn o unit u names Where.setting.global block (slice_index i.args 0) (first_way (first_read i.op i.args (ap reads_first group)) (pointer_of Gs T i a off)),
-            atomic_operand a group off,
-          )
+      atomic_asks a group made = (
+        by_store (stores a) refl,
+        atomic_value Gs Found u.lawful names structs a,
+        place_uses s entry right Fn o unit u names Where.setting.global block (slice_index i.args 0) (atomic_way a group),
+        atomic_operand a group (atomic_right a group),
+      )
         where
           by_store : (b : Bool) → stores a ≡ b → AsksSet W Found Where Usable block i (Where.form i.result)
           by_store true on = none_set (made (store_unmade i.op a group on))

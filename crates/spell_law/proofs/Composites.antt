@@ -35,7 +35,7 @@ basic-fits (shape.array t l) fits = tt
 basic-fits (shape.runtime t) fits = tt
 basic-fits (shape.struct id ts) fits = tt
 
-module _ (W : Words) (built : (f : BuiltIn) → W.value (built_in_name f)) (axes : (k : ℕ) → W.member (axis_name k)) where
+module _ (W : Words) (built : (f : BuiltIn) → W.called (built_in_name f)) (axes : (k : ℕ) → W.member (axis_name k)) where
   both-use : (xs ys : List Expr) → UseEach W xs → UseEach W ys → UseEach W (xs ++ ys)
   both-use [] ys p q = q
   both-use (x ∷ xs) ys p q = (p.0, both-use xs ys p.1 q)

@@ -5,14 +5,14 @@ use Rattle.glsl_ast.specs.Tree.{Text, TypeName, type_name, Extent, Base, Expr, E
 use Rattle.glsl_grammar.specs.Spelled.{IsName, IsSpelledExtent, AreSpelledExtents, IsSpelledBase, IsSpelledType, IsSpelledExpr, AreSpelledExprs}
 use Rattle.glsl_grammar.specs.Read.{is_declared}
 use Rattle.glsl_grammar.specs.Scopes.{IsDeclaredBase, IsDeclaredType, IsDeclaredExpr, AreDeclaredExprs}
-use Rattle.spell_law.specs.Uses.{Words, UsesExtent, UseExtents, UsesBase, UsesType, UsesExpr, UseExprs}
+use Rattle.spell_law.specs.Uses.{Words, UsesExtent, UseExtents, UsesBase, UsesType, UsesExpr, UsesMeasured, UseExprs, AreSpelledWords, AreDeclaredWords}
 
-module _ (W : Words) (values : (w : Text) → W.value w → IsName w) (members : (w : Text) → W.member w → IsName w) (structs : (w : Text) → W.struct w → IsName w) where
+module _ (W : Words) (spelled : AreSpelledWords W) where
   extent-spelled : (e : Extent) → UsesExtent W e → IsSpelledExtent e
   extent-spelled tree.open_end has = tt
   extent-spelled (tree.Extent.number n) has = has
-  extent-spelled (tree.Extent.named w) has = values w has
-  extent-spelled (tree.Extent.size w) has = members w has
+  extent-spelled (tree.Extent.named w) has = spelled.size w has
+  extent-spelled (tree.Extent.size w) has = spelled.member w has
 
   extents-spelled : (es : List Extent) → UseExtents W es → AreSpelledExtents es
   extents-spelled [] has = tt
@@ -25,7 +25,7 @@ module _ (W : Words) (values : (w : Text) → W.value w → IsName w) (members :
   base-spelled (tree.Base.bool_vec n) has = has
   base-spelled (tree.Base.int_vec n) has = has
   base-spelled (tree.Base.uint_vec n) has = has
-  base-spelled (tree.Base.struct w) has = structs w has
+  base-spelled (tree.Base.struct w) has = spelled.struct w has
 
   pub type-spelled : (t : TypeName) → UsesType W t → IsSpelledType t
   type-spelled (type_name b es) has = (base-spelled b has.0, extents-spelled es has.1)
@@ -33,23 +33,29 @@ module _ (W : Words) (values : (w : Text) → W.value w → IsName w) (members :
   mutual
     pub expr-spelled : (e : Expr) → UsesExpr W e → IsSpelledExpr e
     expr-spelled (tree.Expr.literal l) has = has
-    expr-spelled (tree.Expr.name w) has = values w has
+    expr-spelled (tree.Expr.name w) has = spelled.value w has
     expr-spelled (tree.Expr.build t args) has = (type-spelled t has.0, exprs-spelled args has.1)
-    expr-spelled (tree.Expr.call w args) has = (values w has.0, exprs-spelled args has.1)
+    expr-spelled (tree.Expr.call w args) has = (spelled.called w has.0, exprs-spelled args has.1)
     expr-spelled (tree.Expr.not e) has = expr-spelled e has
     expr-spelled (tree.Expr.flip e) has = expr-spelled e has
     expr-spelled (tree.Expr.binary o a b) has = (expr-spelled a has.0, expr-spelled b has.1)
     expr-spelled (tree.Expr.choose c a b) has = (expr-spelled c has.0, (expr-spelled a has.1, expr-spelled b has.2))
-    expr-spelled (tree.Expr.member e w) has = (expr-spelled e has.0, members w has.1)
+    expr-spelled (tree.Expr.member e w) has = (expr-spelled e has.0, spelled.member w has.1)
     expr-spelled (tree.Expr.index a b) has = (expr-spelled a has.0, expr-spelled b has.1)
-    expr-spelled (tree.Expr.length_of e) has = expr-spelled e has
+    expr-spelled (tree.Expr.length_of e) has = measured-spelled e has
+
+    measured-spelled : (e : Expr) → UsesMeasured W e → IsSpelledExpr e
+    measured-spelled (tree.Expr.name w) has = spelled.measured w has
+    measured-spelled (tree.Expr.member e w) has = (measured-spelled e has.0, spelled.member w has.1)
+    measured-spelled (tree.Expr.index a b) has = (measured-spelled a has.0, expr-spelled b has.1)
+    measured-spelled e has = absurd has
 
     pub exprs-spelled : (es : Exprs) → UseExprs W es → AreSpelledExprs es
     exprs-spelled no_exprs has = tt
     exprs-spelled (tree.Exprs.expr e es) has = (expr-spelled e has.0, exprs-spelled es has.1)
 
 -- these structs are declared before
-module _ (W : Words) (names : List Text) (free : (w : Text) → W.value w → is_declared names w ≡ false) (structs : (w : Text) → W.struct w → is_declared names w ≡ true) where
+module _ (W : Words) (names : List Text) (apart : AreDeclaredWords W names) where
   base-declared : (b : Base) → UsesBase W b → IsDeclaredBase names b
   base-declared tree.Base.boolean has = tt
   base-declared tree.Base.int has = tt
@@ -57,7 +63,7 @@ module _ (W : Words) (names : List Text) (free : (w : Text) → W.value w → is
   base-declared (tree.Base.bool_vec n) has = tt
   base-declared (tree.Base.int_vec n) has = tt
   base-declared (tree.Base.uint_vec n) has = tt
-  base-declared (tree.Base.struct w) has = structs w has
+  base-declared (tree.Base.struct w) has = apart.struct w has
 
   pub type-declared : (t : TypeName) → UsesType W t → IsDeclaredType names t
   type-declared (type_name b es) has = base-declared b has.0
@@ -65,16 +71,22 @@ module _ (W : Words) (names : List Text) (free : (w : Text) → W.value w → is
   mutual
     pub expr-declared : (e : Expr) → UsesExpr W e → IsDeclaredExpr names e
     expr-declared (tree.Expr.literal l) has = tt
-    expr-declared (tree.Expr.name w) has = free w has
+    expr-declared (tree.Expr.name w) has = apart.value w has
     expr-declared (tree.Expr.build t args) has = (type-declared t has.0, exprs-declared args has.1)
-    expr-declared (tree.Expr.call w args) has = (free w has.0, exprs-declared args has.1)
+    expr-declared (tree.Expr.call w args) has = (apart.called w has.0, exprs-declared args has.1)
     expr-declared (tree.Expr.not e) has = expr-declared e has
     expr-declared (tree.Expr.flip e) has = expr-declared e has
     expr-declared (tree.Expr.binary o a b) has = (expr-declared a has.0, expr-declared b has.1)
     expr-declared (tree.Expr.choose c a b) has = (expr-declared c has.0, expr-declared a has.1, expr-declared b has.2)
     expr-declared (tree.Expr.member e w) has = expr-declared e has.0
     expr-declared (tree.Expr.index a b) has = (expr-declared a has.0, expr-declared b has.1)
-    expr-declared (tree.Expr.length_of e) has = expr-declared e has
+    expr-declared (tree.Expr.length_of e) has = measured-declared e has
+
+    measured-declared : (e : Expr) → UsesMeasured W e → IsDeclaredExpr names e
+    measured-declared (tree.Expr.name w) has = apart.measured w has
+    measured-declared (tree.Expr.member e w) has = measured-declared e has.0
+    measured-declared (tree.Expr.index a b) has = (measured-declared a has.0, expr-declared b has.1)
+    measured-declared e has = absurd has
 
     pub exprs-declared : (es : Exprs) → UseExprs W es → AreDeclaredExprs names es
     exprs-declared no_exprs has = tt

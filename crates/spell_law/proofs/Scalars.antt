@@ -69,7 +69,7 @@ module _ (W : Words) where
   pub as_elem-uses : (e : Elem) (x : Operand) → IsUsed W x → UsesExpr W (as_elem e x)
   as_elem-uses e x used = part-uses e x.word x.ty x.expr used.expr used.size used.word
 
-  module _ (built : (f : BuiltIn) → W.value (built_in_name f)) where
+  module _ (built : (f : BuiltIn) → W.called (built_in_name f)) where
     word-uses : (n : ℕ) → n < 2 ^ 32 → UsesExpr W (unsigned_literal n)
     word-uses n fits = fits
 

@@ -44,61 +44,62 @@ module _ (W : Words) where
   both-exprs [] ys p q = q
   both-exprs (x ∷ xs) ys p q = (p.0, both-exprs xs ys p.1 q)
 
-  -- barriers
-  module _ (barriers : (W.value (codes "memoryBarrierBuffer") × W.value (codes "memoryBarrierShared")) × W.value (codes "barrier")) where
-    memory-uses : (n : ℕ) → EachStmt W (memory_barrier n)
-    memory-uses n =
-        both-stmts (when_bit n 0x40 (codes "memoryBarrierBuffer")) (when_bit n 0x100 (codes "memoryBarrierShared"))
-        (if-stmts (bit_and n 0x40 == 0) [] (bare_call (codes "memoryBarrierBuffer")) tt ((barriers.0.0, tt), tt))
-        (if-stmts (bit_and n 0x100 == 0) [] (bare_call (codes "memoryBarrierShared")) tt ((barriers.0.1, tt), tt))
+  -- what instructions make of usable values
+  module _ (built : (f : BuiltIn) → W.called (built_in_name f)) (axes : (k : ℕ) → W.member (axis_name k)) (names : Naming) (w : Scope) (IsUsable : ℕ → Type 0) (block : ℕ) (asked : IsAsked W names w IsUsable block) (rank : ℕ → ℕ) (ranked : AreRanked w IsUsable rank) where
+    says : (n : ℕ) → IsUsable n → UsesExpr W (value w block n)
+    says n usable = value-uses W built axes names w IsUsable block asked rank ranked n usable
 
-    module _ (built : (f : BuiltIn) → W.value (built_in_name f)) (axes : (k : ℕ) → W.member (axis_name k)) (names : Naming) (w : Scope) (IsUsable : ℕ → Type 0) (block : ℕ) (asked : IsAsked W names w IsUsable block) (rank : ℕ → ℕ) (ranked : AreRanked w IsUsable rank) where
-      says : (n : ℕ) → IsUsable n → UsesExpr W (value w block n)
-      says n usable = value-uses W built axes names w IsUsable block asked rank ranked n usable
+    pub set-uses : (i : Inst) (e : Expr) (f : Form) → AsksSet W names w IsUsable block i f → UsesExpr W e → EachStmt W (set_by w i e f)
+    set-uses i e Local asks has = ((asks.0, asks.1, has), tt)
+    set-uses i e Hoisted asks has = (((asks, tt), has), tt)
+    set-uses i e Gone asks has = tt
+    set-uses i e Forwarded asks has = tt
 
-      set-uses : (i : Inst) (e : Expr) (f : Form) → AsksSet W names w IsUsable block i f → UsesExpr W e → EachStmt W (set_by w i e f)
-      set-uses i e Local asks has = ((asks.0, asks.1, has), tt)
-      set-uses i e Hoisted asks has = (((asks, tt), has), tt)
-      set-uses i e Gone asks has = tt
-      set-uses i e Forwarded asks has = tt
+    argument-uses : (n : ℕ) (b : Bool) → AsksArgument W names w IsUsable block n b → UsesExpr W (if b then place_expr w.setting block n else value w block n)
+    argument-uses n true asks = place-uses (place_text w.setting block n) asks
+    argument-uses n false asks = says n asks
 
-      argument-uses : (n : ℕ) (b : Bool) → AsksArgument W names w IsUsable block n b → UsesExpr W (if b then place_expr w.setting block n else value w block n)
-      argument-uses n true asks = place-uses (place_text w.setting block n) asks
-      argument-uses n false asks = says n asks
+    arguments-use : (ns : List ℕ) → AskArguments W names w IsUsable block ns → UseEach W (map (call_argument w block) ns)
+    arguments-use [] asks = tt
+    arguments-use (n ∷ ns) asks = (argument-uses n (is_some (pointee_of (globals w) w.setting.function n)) asks.0, arguments-use ns asks.1)
 
-      arguments-use : (ns : List ℕ) → AskArguments W names w IsUsable block ns → UseEach W (map (call_argument w block) ns)
-      arguments-use [] asks = tt
-      arguments-use (n ∷ ns) asks = (argument-uses n (is_some (pointee_of (globals w) w.setting.function n)) asks.0, arguments-use ns asks.1)
+    pub kept-uses : (i : Inst) (ns : List (ℕ × ℕ)) → AskKept W names w IsUsable block i ns → EachStmt W (map (capture w i) ns)
+    kept-uses i [] asks = tt
+    kept-uses i (n ∷ ns) asks = (((asks.0.0, tt), asks.0.1), kept-uses i ns asks.1)
 
-      kept-uses : (i : Inst) (ns : List (ℕ × ℕ)) → AskKept W names w IsUsable block i ns → EachStmt W (map (capture w i) ns)
-      kept-uses i [] asks = tt
-      kept-uses i (n ∷ ns) asks = (((asks.0.0, tt), asks.0.1), kept-uses i ns asks.1)
+    operand-uses : (i : Inst) (a : AtomicOp) → AsksOperand W names w IsUsable block i a → UseEach W (comparator w block i a ++ (atomic_operand w block i a ∷ []))
+    operand-uses i atomic.Load asks = (asks, tt)
+    operand-uses i atomic.IIncrement asks = (asks, tt)
+    operand-uses i atomic.IDecrement asks = (asks, tt)
+    operand-uses i atomic.ISub asks = ((asks.0, says (slice_index i.args 3) asks.1), tt)
+    operand-uses i atomic.CompareExchange asks = (says (slice_index i.args 5) asks.1, (says (slice_index i.args 4) asks.0, tt))
+    operand-uses i atomic.Store asks = (says (slice_index i.args 3) asks, tt)
+    operand-uses i atomic.Exchange asks = (says (slice_index i.args 3) asks, tt)
+    operand-uses i atomic.IAdd asks = (says (slice_index i.args 3) asks, tt)
+    operand-uses i atomic.SMin asks = (says (slice_index i.args 3) asks, tt)
+    operand-uses i atomic.UMin asks = (says (slice_index i.args 3) asks, tt)
+    operand-uses i atomic.SMax asks = (says (slice_index i.args 3) asks, tt)
+    operand-uses i atomic.UMax asks = (says (slice_index i.args 3) asks, tt)
+    operand-uses i atomic.And asks = (says (slice_index i.args 3) asks, tt)
+    operand-uses i atomic.Or asks = (says (slice_index i.args 3) asks, tt)
+    operand-uses i atomic.Xor asks = (says (slice_index i.args 3) asks, tt)
 
-      operand-uses : (i : Inst) (a : AtomicOp) → AsksOperand W names w IsUsable block i a → UseEach W (comparator w block i a ++ (atomic_operand w block i a ∷ []))
-      operand-uses i atomic.Load asks = (asks, tt)
-      operand-uses i atomic.IIncrement asks = (asks, tt)
-      operand-uses i atomic.IDecrement asks = (asks, tt)
-      operand-uses i atomic.ISub asks = ((asks.0, says (slice_index i.args 3) asks.1), tt)
-      operand-uses i atomic.CompareExchange asks = (says (slice_index i.args 5) asks.1, (says (slice_index i.args 4) asks.0, tt))
-      operand-uses i atomic.Store asks = (says (slice_index i.args 3) asks, tt)
-      operand-uses i atomic.Exchange asks = (says (slice_index i.args 3) asks, tt)
-      operand-uses i atomic.IAdd asks = (says (slice_index i.args 3) asks, tt)
-      operand-uses i atomic.SMin asks = (says (slice_index i.args 3) asks, tt)
-      operand-uses i atomic.UMin asks = (says (slice_index i.args 3) asks, tt)
-      operand-uses i atomic.SMax asks = (says (slice_index i.args 3) asks, tt)
-      operand-uses i atomic.UMax asks = (says (slice_index i.args 3) asks, tt)
-      operand-uses i atomic.And asks = (says (slice_index i.args 3) asks, tt)
-      operand-uses i atomic.Or asks = (says (slice_index i.args 3) asks, tt)
-      operand-uses i atomic.Xor asks = (says (slice_index i.args 3) asks, tt)
+    atomics-use : (i : Inst) (a : AtomicOp) → UsesLValue W (place_text w.setting block (slice_index i.args 0)) → AsksOperand W names w IsUsable block i a → UseEach W (atomic_arguments w block i a)
+    atomics-use i a place asks = (place-uses (place_text w.setting block (slice_index i.args 0)) place, operand-uses i a asks)
 
-      atomics-use : (i : Inst) (a : AtomicOp) → UsesLValue W (place_text w.setting block (slice_index i.args 0)) → AsksOperand W names w IsUsable block i a → UseEach W (atomic_arguments w block i a)
-      atomics-use i a place asks = (place-uses (place_text w.setting block (slice_index i.args 0)) place, operand-uses i a asks)
+    pub inserted-use : (i : Inst) (composite : ℕ) (steps : List LStep) (object : ℕ) → AsksSet W names w IsUsable block i (w.form i.result) → W.value (w.setting.key (Id (id i.result))) → IsUsable composite → UseSteps W steps → IsUsable object → EachStmt W (insert_where_named w block i composite steps object)
+    inserted-use i composite steps object asks named whole has part =
+        if-stmts (is_variable_form (w.form i.result)) (insert_text w block i composite steps object) []
+        (both-stmts (set w i (value w block composite)) (assign (lvalue (w.setting.key (Id (id i.result))) steps) (value w block object) ∷ []) (set-uses i (value w block composite) (w.form i.result) asks (says composite whole)) (((named, has), says object part), tt))
+        tt
 
-      inserted-use : (i : Inst) (composite : ℕ) (steps : List LStep) (object : ℕ) → AsksSet W names w IsUsable block i (w.form i.result) → W.value (w.setting.key (Id (id i.result))) → IsUsable composite → UseSteps W steps → IsUsable object → EachStmt W (insert_where_named w block i composite steps object)
-      inserted-use i composite steps object asks named whole has part =
-          if-stmts (is_variable_form (w.form i.result)) (insert_text w block i composite steps object) []
-          (both-stmts (set w i (value w block composite)) (assign (lvalue (w.setting.key (Id (id i.result))) steps) (value w block object) ∷ []) (set-uses i (value w block composite) (w.form i.result) asks (says composite whole)) (((named, has), says object part), tt))
-          tt
+    -- barriers
+    module _ (barriers : (W.called (codes "memoryBarrierBuffer") × W.called (codes "memoryBarrierShared")) × W.called (codes "barrier")) where
+      memory-uses : (n : ℕ) → EachStmt W (memory_barrier n)
+      memory-uses n =
+          both-stmts (when_bit n 0x40 (codes "memoryBarrierBuffer")) (when_bit n 0x100 (codes "memoryBarrierShared"))
+          (if-stmts (bit_and n 0x40 == 0) [] (bare_call (codes "memoryBarrierBuffer")) tt ((barriers.0.0, tt), tt))
+          (if-stmts (bit_and n 0x100 == 0) [] (bare_call (codes "memoryBarrierShared")) tt ((barriers.0.1, tt), tt))
 
       -- the law: what is written of an instruction
       pub inst-uses : (i : Inst) (k : InstKind) → AreBelow rank 17 (operand_ids i) → MeetsInst W names w IsUsable block i k → EachStmt W (inst_text w block i k)

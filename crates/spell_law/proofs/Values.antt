@@ -32,7 +32,7 @@ use Rattle.expr_forward.specs.Kinds.{operation_kind_of}
 use Rattle.expr_forward.specs.Paths.{further, part_steps}
 use Rattle.expr_forward.specs.Values.{argument, value_words, literal_words, whole_argument, by_kind, expression, forwarded, by_form, value_in, value}
 use Rattle.block_law.specs.Ranked.{ids_by_kind, operand_ids, AreBelow, IsForwardedBy}
-use Rattle.spell_law.specs.Uses.{Words, UsesExpr, UseEach, UseSteps}
+use Rattle.spell_law.specs.Uses.{Words, UsesExpr, UsesMeasured, UseEach, UseSteps}
 use Rattle.spell_law.specs.Named.{FitsShape, AreArguments}
 use Rattle.spell_law.specs.Asked.{AreUsable, MeetsKind, Meets, IsAsked, AreRanked}
 use Rattle.spell_law.proofs.Scalars.{each-uses}
@@ -120,7 +120,12 @@ module _ (W : Words) where
   further-uses e (LStep.member m ∷ ss) has steps = further-uses (Expr.member e m) ss (has, steps.0) steps.1
   further-uses e (LStep.index i ∷ ss) has steps = further-uses (Expr.index e i) ss (has, steps.0) steps.1
 
-module _ (W : Words) (built : (f : BuiltIn) → W.value (built_in_name f)) (axes : (k : ℕ) → W.member (axis_name k)) where
+  pub further-measured : (e : Expr) (ss : List LStep) → UsesMeasured W e → UseSteps W ss → UsesMeasured W (further e ss)
+  further-measured e [] has steps = has
+  further-measured e (LStep.member m ∷ ss) has steps = further-measured (Expr.member e m) ss (has, steps.0) steps.1
+  further-measured e (LStep.index i ∷ ss) has steps = further-measured (Expr.index e i) ss (has, steps.0) steps.1
+
+module _ (W : Words) (built : (f : BuiltIn) → W.called (built_in_name f)) (axes : (k : ℕ) → W.member (axis_name k)) where
   module _ (names : Naming) (w : Scope) (IsUsable : ℕ → Type 0) (block : ℕ) (asked : IsAsked W names w IsUsable block) (rank : ℕ → ℕ) (ranked : AreRanked w IsUsable rank) where
     low-uses : (o : Op) (number : ℕ) (t : Tree) (xs : List Argument) (literals : List ℕ) → UsesExpr W (lowered_vector names o number t literals (map operand xs)) → UsesExpr W (w.lowered o number t xs literals)
     low-uses o number t xs literals has = subst (λ (f : Op → ℕ → Tree → List Argument → List ℕ → Expr). UsesExpr W (f o number t xs literals)) (sym asked.lowered_is) has

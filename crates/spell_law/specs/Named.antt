@@ -58,7 +58,7 @@ module _ (W : Words) where
   module _ (names : Naming) where
     abbrev pub IsNamedLength : Length → Type 0
     IsNamedLength (Fixed n) = FitsWord n
-    IsNamedLength (Spec id) = W.value (id_name names id.0)
+    IsNamedLength (Spec id) = W.size (id_name names id.0)
 
     -- the name of a type is made of these names
     abbrev pub IsNamedType : Tree → Type 0

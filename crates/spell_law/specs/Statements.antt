@@ -32,7 +32,7 @@ module _ (W : Words) where
     pub UsesStmt : Stmt → Type 0
     UsesStmt (tree.Stmt.declare t w o) = UsesType W t × W.value w × UsesIfSome o
     UsesStmt (tree.Stmt.assign l e) = UsesLValue W l × UsesExpr W e
-    UsesStmt (tree.Stmt.call w args) = W.value w × UseExprs W args
+    UsesStmt (tree.Stmt.call w args) = W.called w × UseExprs W args
     UsesStmt (tree.Stmt.when e a) = UsesExpr W e × UseStmts a
     UsesStmt (tree.Stmt.either e a b) = UsesExpr W e × UseStmts a × UseStmts b
     UsesStmt (tree.Stmt.loop a) = UseStmts a
@@ -87,8 +87,8 @@ module _ (W : Words) where
     abbrev pub MeetsInst : Inst → InstKind → Type 0
     MeetsInst i kind.Load = AsksSet i (w.form i.result) × UsesLValue W (place_text w.setting block (slice_index i.args 0))
     MeetsInst i kind.Store = UsesLValue W (place_text w.setting block (slice_index i.args 0)) × IsUsable (slice_index i.args 1)
-    MeetsInst i kind.Call = AsksSet i (w.form i.result) × W.value (callee_text w i) × AskArguments (drop 1 i.args)
-    MeetsInst i (kind.Atomic a) = AsksSet i (w.form i.result) × W.value (atomic_name a) × UsesLValue W (place_text w.setting block (slice_index i.args 0)) × AsksOperand i a
+    MeetsInst i kind.Call = AsksSet i (w.form i.result) × W.called (callee_text w i) × AskArguments (drop 1 i.args)
+    MeetsInst i (kind.Atomic a) = AsksSet i (w.form i.result) × W.called (atomic_name a) × UsesLValue W (place_text w.setting block (slice_index i.args 0)) × AsksOperand i a
     MeetsInst i kind.Chain = AskKept i (captured_of w i)
     MeetsInst i kind.CompositeInsert = AsksSet i (w.form i.result) × W.value (w.setting.key (Id (id i.result))) × IsUsable (slice_index i.args 1) × UseSteps W (part_steps w.setting i.ty (drop 2 i.args)) × IsUsable (slice_index i.args 0)
     MeetsInst i kind.VectorInsertDynamic = AsksSet i (w.form i.result) × W.value (w.setting.key (Id (id i.result))) × IsUsable (slice_index i.args 0) × IsUsable (slice_index i.args 2) × IsUsable (slice_index i.args 1)

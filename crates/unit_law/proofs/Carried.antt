@@ -16,6 +16,7 @@ use Rattle.structure_rules.specs.Graph.{graph, nth}
 use Rattle.conformance.specs.Rules.{Options}
 use Rattle.module_semantics.specs.Setting.{Setting}
 use Rattle.use_chains.specs.declared.slot.SlotPlace.{SlotPlace}
+use Rattle.hoist_plan.specs.declared.form.Form.{Form}
 use Rattle.hoist_plan.specs.declared.form.Form.TheVariants.{Gone, Forwarded, Local, Hoisted}
 use Rattle.hoist_plan.specs.Plan.{Placed, user, results, is_elsewhere_by, is_live, is_value, is_always_named, is_named_by_use, own_height, is_named, is_hoisted, form_with, carries_by, carries, is_carried_with, carried_from}
 use Rattle.name_alloc.specs.declared.claims.Key.TheVariants.{Id}
@@ -119,11 +120,10 @@ module _ (s : Setting) (entry : Option (List ℕ)) (right : IsConforming s.of en
         (linked_user Fn Marks b i j.result m)
         (ap (λ (c : ℕ). not (c == block)) (own_block Fn Marks b i j.result m no_phi) ∙ ap not (other_test b block apart))
 
-    -- the name of a load, a call, an atomic instruction or a composite that is put together, where it is not gone
-    pub always_text : (names : List (List ℕ)) (structs : AreOfStructs s.of.globals (name_of u.claimed) names) → is_value s.of.globals j.ty ≡ true → is_always_named j.op ≡ true → is_gone (Where.form j.result) ≡ false → slice_index_or Marks block false ≡ true
-        → (words_of s.of.globals (name_of u.claimed) names).value (text_of Found (Id (id j.result)))
-    always_text names structs value always kept here =
-        by_form (always_formed s.of.globals Fn told.0 P value always (ap is_gone (sym told.1) ∙ kept))
+    -- a load, a call, an atomic instruction or a composite that is put together has a variable, where it is not gone
+    pub always_form : is_value s.of.globals j.ty ≡ true → is_always_named j.op ≡ true → is_gone (Where.form j.result) ≡ false → (Where.form j.result ≡ Local) ⊎ (Where.form j.result ≡ Hoisted)
+    always_form value always kept =
+        subst (λ (x : Form). (x ≡ Local) ⊎ (x ≡ Hoisted)) (sym told.1) (always_formed s.of.globals Fn told.0 P value always (ap is_gone (sym told.1) ∙ kept))
       where
         order : AreOrdered Fn (results (plan_is s entry right kinds o unit u p among).links Fn)
         order = in_order s.of Fn (ordered s entry right kinds o unit u p among) Marks (plan_is s entry right kinds o unit u p among).links (plan_is s entry right kinds o unit u p among).live
@@ -131,9 +131,14 @@ module _ (s : Setting) (entry : Option (List ℕ)) (right : IsConforming s.of en
         told : (k : ℕ → Option ℕ) × (Where.form j.result ≡ form_with s.of.globals Fn k P)
         told = form_at s.of.globals Fn (plan_is s entry right kinds o unit u p among).links order P listed
 
+    -- and a name
+    pub always_text : (names : List (List ℕ)) (structs : AreOfStructs s.of.globals (name_of u.claimed) names) → is_value s.of.globals j.ty ≡ true → is_always_named j.op ≡ true → is_gone (Where.form j.result) ≡ false → slice_index_or Marks block false ≡ true
+        → (words_of s.of.globals (name_of u.claimed) names).value (text_of Found (Id (id j.result)))
+    always_text names structs value always kept here = by_form (always_form value always kept)
+      where
         reached : (nth p.graph block).reached ≡ true
         reached = ap (λ (g : List Node). (nth g block).reached) (plan_is s entry right kinds o unit u p among).graph_is ∙ (sym (reached_nth (graph Fn) block) ∙ here)
 
-        by_form : (form_with s.of.globals Fn told.0 P ≡ Local) ⊎ (form_with s.of.globals Fn told.0 P ≡ Hoisted) → (words_of s.of.globals (name_of u.claimed) names).value (text_of Found (Id (id j.result)))
-        by_form (inl local) = formed_text s entry right kinds o unit u p among names structs block holder j there inside some Local (told.1 ∙ local) (or_left (nth p.graph block).reached (is j.op code.Variable) reached)
-        by_form (inr top) = formed_text s entry right kinds o unit u p among names structs block holder j there inside some Hoisted (told.1 ∙ top) refl
+        by_form : (Where.form j.result ≡ Local) ⊎ (Where.form j.result ≡ Hoisted) → (words_of s.of.globals (name_of u.claimed) names).value (text_of Found (Id (id j.result)))
+        by_form (inl local) = formed_text s entry right kinds o unit u p among names structs block holder j there inside some Local local (or_left (nth p.graph block).reached (is j.op code.Variable) reached)
+        by_form (inr top) = formed_text s entry right kinds o unit u p among names structs block holder j there inside some Hoisted top refl

@@ -12,6 +12,7 @@ use Rattle.spv_module.specs.Inst.{has_type}
 use Rattle.spv_module.specs.Lists.{id}
 use Rattle.spv_module.specs.declared.inst.Inst.{Inst}
 use Rattle.spv_module.specs.declared.inst.Function.{Function}
+use Rattle.spv_types.specs.Tree.{Tree}
 use Rattle.spv_types.specs.Types.{type_tree}
 use Rattle.spv_decor.specs.Rows.{word}
 use Rattle.spv_index.specs.Locals.{typed, global_type, local_type, type_in}
@@ -24,7 +25,7 @@ use Rattle.name_alloc.specs.declared.claims.Key.TheVariants.{Id}
 use Rattle.name_alloc.specs.Naming.{name_of}
 use Rattle.glsl_ast.specs.Tree.{Expr, TranslationUnit}
 use Rattle.access_paths.specs.Ways.{indexes}
-use Rattle.expr_forward.specs.Scope.{Scope}
+use Rattle.expr_forward.specs.Scope.{Scope, type_of}
 use Rattle.function_text.specs.Functions.{FunctionPlan}
 use Rattle.unit_rules.specs.Unit.{IsUnitOf}
 use Rattle.type_law.proofs.Vectors.{three_off}
@@ -92,20 +93,24 @@ module _ (s : Setting) (entry : Option (List ℕ)) (right : IsConforming s.of en
       by_global (Some g) at = by_test g at (is g.op code.TypeStruct) refl
 
   -- T6: each index is an int
-  ints : (ids : List ℕ) → HaveTypes s Fn ids → list_any (value_fails is_int Gs T) ids ≡ false → (n : ℕ) → IsIn n ids → ((e : Expr) → Where.setting.global n ≡ Some e → UsesExpr W e) → IsReadable s entry right kinds o unit u p among names structs n
-  ints [] have off n there read = absurd there
-  ints (x ∷ ids) have off n (inr there) read = ints ids have.1 (or_right (value_fails is_int Gs T x) (list_any (value_fails is_int Gs T) ids) off) n there read
-  ints (x ∷ ids) have off n (inl same) read =
+  abbrev pub IsInt : ℕ → Type 0
+  IsInt n = (t : Tree) × (type_tree s.of.globals (type_of Where n) ≡ Some t) × (is_struct_key s.of.globals (Id (id n)) ≡ false)
+
+  ints : (ids : List ℕ) → HaveTypes s Fn ids → list_any (value_fails is_int Gs T) ids ≡ false → (n : ℕ) → IsIn n ids → IsInt n
+  ints [] have off n there = absurd there
+  ints (x ∷ ids) have off n (inr there) = ints ids have.1 (or_right (value_fails is_int Gs T x) (list_any (value_fails is_int Gs T) ids) off) n there
+  ints (x ∷ ids) have off n (inl same) =
       let typed_as = some_of (T x) have.0 in
-      let t = passing s entry right Fn in_it is_int (λ g on. int_shaped g.op on) x typed_as (or_left (value_fails is_int Gs T x) (list_any (value_fails is_int Gs T) ids) off) in
-      record {
-        shape = t.0;
-        shaped = subst (λ (k : ℕ). type_tree Gs (unwrap_or (T k) 0) ≡ Some t.0) same (shaped_type (type_tree Gs) (T x) t.0 t.1);
-        other = subst (λ (k : ℕ). is_struct_key Gs (Id (id k)) ≡ false) same (value_other x typed_as.0 typed_as.1);
-        read = read;
-      }
+      let t = passing s entry right Fn in_it is_int (λ g on. int_shaped g.op on) x typed_as (or_left (value_fails is_int Gs T x) (list_any (value_fails is_int Gs T) ids) off) in (
+        t.0,
+        subst (λ (k : ℕ). type_tree Gs (unwrap_or (T k) 0) ≡ Some t.0) same (shaped_type (type_tree Gs) (T x) t.0 t.1),
+        subst (λ (k : ℕ). is_struct_key Gs (Id (id k)) ≡ false) same (value_other x typed_as.0 typed_as.1),
+      )
+
+  pub index_int : (i : Inst) → IsRuled s entry right kinds o unit u p among names structs i → (n : ℕ) → IsIn n (indexes i) → IsInt n
+  index_int i ruled n there =
+      let off = three_off (value_fails is_pointer Gs T (word i 0)) (list_any (value_fails is_int Gs T) (drop 1 i.args)) (leads_elsewhere Gs i.ty (option_and_then (storage_class Gs) (T (word i 0))) (chain_end Gs T i)) ruled.sound in
+      ints (indexes i) ruled.typed off.1 n there
 
   pub index_readable : (i : Inst) → IsRuled s entry right kinds o unit u p among names structs i → (n : ℕ) → IsIn n (indexes i) → ((e : Expr) → Where.setting.global n ≡ Some e → UsesExpr W e) → IsReadable s entry right kinds o unit u p among names structs n
-  index_readable i ruled n there read =
-      let off = three_off (value_fails is_pointer Gs T (word i 0)) (list_any (value_fails is_int Gs T) (drop 1 i.args)) (leads_elsewhere Gs i.ty (option_and_then (storage_class Gs) (T (word i 0))) (chain_end Gs T i)) ruled.sound in
-      ints (indexes i) ruled.typed off.1 n there read
+  index_readable i ruled n there read = let w = index_int i ruled n there in record { shape = w.0; shaped = w.1; other = w.2; read = read }

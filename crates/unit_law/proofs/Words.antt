@@ -20,6 +20,7 @@ use Rattle.glsl_grammar.specs.InGrammar.{IsInGrammar}
 use Rattle.int_lowering.specs.declared.built_ins.BuiltIn.{BuiltIn}
 use Rattle.int_lowering.specs.Term.{built_in_name}
 use Rattle.expr_forward.specs.Statements.{atomic_name}
+use Rattle.spell_law.specs.Uses.{AreSpelledWords, AreDeclaredWords}
 use Rattle.spell_law.specs.Units.{UsesUnit}
 use Rattle.spell_law.proofs.Units.{unit-in-grammar}
 use Rattle.typed_law.proofs.Lists.{clash}
@@ -105,7 +106,19 @@ module _ (gs : List Inst) (found : Key → Option Text) (lawful : AreNames found
   struct_name : (names : List Text) (w : Text) → (words_of gs found names).struct w → IsName w
   struct_name names w has = given_is_name found lawful has.0.0 w has.0.1
 
+  words_spelled : (names : List Text) → AreSpelledWords (words_of gs found names)
+  words_spelled names = record {
+    value = own_name names;
+    called = own_name names;
+    size = own_name names;
+    measured = own_name names;
+    member = member_name found lawful;
+    struct = struct_name names;
+  }
+
+  words_declared : (names : List Text) → AreDeclaredWords (words_of gs found names) names
+  words_declared names = record { value = λ w v. v.1; called = λ w v. v.1; measured = λ w v. v.1; struct = λ w v. v.1 }
+
   -- so a unit that is made of such names is in the grammar
   pub words-in-grammar : (unit : TranslationUnit) → UsesUnit (words_of gs found) unit → IsInGrammar unit
-  words-in-grammar unit has =
-      unit-in-grammar (words_of gs found) (λ names w v. own_name names w v) (λ names w v. member_name found lawful w v) (λ names w v. struct_name names w v) (λ names w v. v.1) (λ names w v. v.1) unit has
+  words-in-grammar unit has = unit-in-grammar (words_of gs found) words_spelled words_declared unit has

@@ -27,6 +27,9 @@ pub record IsOwnName (gs : List Inst) (found : Key → Option Text) (w : Text) :
 abbrev pub words_of : List Inst → (Key → Option Text) → List Text → Words
 words_of gs found names = record {
   value = λ w. (IsOwnName gs found w ⊎ (is_among built_ins w ≡ true)) × (is_declared names w ≡ false);
+  called = λ w. (IsOwnName gs found w ⊎ (is_among built_ins w ≡ true)) × (is_declared names w ≡ false);
+  size = λ w. (IsOwnName gs found w ⊎ (is_among built_ins w ≡ true)) × (is_declared names w ≡ false);
+  measured = λ w. (IsOwnName gs found w ⊎ (is_among built_ins w ≡ true)) × (is_declared names w ≡ false);
   member = (told found).member;
   struct = λ w. IsGiven found w × (is_declared names w ≡ true);
 }
