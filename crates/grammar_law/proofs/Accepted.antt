@@ -45,19 +45,19 @@ use Rattle.grammar_law.proofs.Lives.{lives}
 use Rattle.grammar_law.proofs.FewPairs.{few_pairs}
 use Rattle.grammar_law.proofs.Edges.{copies_made}
 use Rattle.grammar_law.proofs.FunctionsMade.{IsFunctionMade}
-use Rattle.grammar_law.proofs.UnitMade.{made-in-grammar}
+use Rattle.grammar_law.proofs.UnitMade.{Last, structs as text_structs, declared as text_declared, made-in-grammar}
 
 module _ (m : ModuleState) (o : Options) (unit : TranslationUnit) (read : IsRead m) (fine : IsFine m o) (u : IsUnitOf m o unit) (octets : AreBytes read.bytes) (given : AreGivenWords o.overrides) where
-  abbrev Right : IsConforming m o.entry
+  abbrev pub Right : IsConforming m o.entry
   Right = right m o unit read fine u
 
-  abbrev Kinds : HaveKinds m.globals
+  abbrev pub Kinds : HaveKinds m.globals
   Kinds = kinds m o unit read fine u
 
   abbrev S : Source
   S = source_of m o u.entry
 
-  words : (g : Inst) → IsIn g m.globals → FitWords g.args
+  pub words : (g : Inst) → IsIn g m.globals → FitWords g.args
   words = global_words read.bytes m read.is octets
 
   sizes : AreSizes (source_of m o u.entry)
@@ -73,13 +73,13 @@ module _ (m : ModuleState) (o : Options) (unit : TranslationUnit) (read : IsRead
     fn_in : IsIn Fn m.functions
     fn_in = of_contained m.functions Fn there
 
-    sound : IsSound (graph Fn)
+    pub sound : IsSound (graph Fn)
     sound = sound-of Fn (All-contains IsStructured m.functions Fn fine.later.structure there).unbroken
 
-    few : (b t : ℕ) → length (pairs m.globals p.scope.form Fn b t) < 2 ^ 32
+    pub few : (b t : ℕ) → length (pairs m.globals p.scope.form Fn b t) < 2 ^ 32
     few b t = few_pairs m.globals p.scope.form Fn (All-contains (λ (f : Function). args_in (insts_of f) < 2 ^ 32) m.functions Fn (read_operands read.bytes m read.is) there) b t
 
-    all_known : AreKnown (Run m o.entry Right o unit u) o.entry Right Kinds o unit u p among names structs
+    pub all_known : AreKnown (Run m o.entry Right o unit u) o.entry Right Kinds o unit u p among names structs
     all_known =
         known (Run m o.entry Right o unit u) o.entry Right Kinds o unit u p among names structs
         (λ i i_in. args_words read.bytes m read.is octets Fn there i i_in)
@@ -93,7 +93,7 @@ module _ (m : ModuleState) (o : Options) (unit : TranslationUnit) (read : IsRead
         (λ g g_in on. (sizes.composite g (as_among m.globals g g_in) on).1)
         (λ n g on at. (sizes.part n g on at).0)
 
-    made_function : IsFunctionMade (Run m o.entry Right o unit u) o.entry Right Kinds o unit u p among names structs declared words given
+    pub made_function : IsFunctionMade (Run m o.entry Right o unit u) o.entry Right Kinds o unit u p among names structs declared words given
     made_function = record {
       asked = λ b. block_asked (Run m o.entry Right o unit u) o.entry Right Kinds o unit u p among names structs all_known b;
       statements = λ b here. block_uses (Run m o.entry Right o unit u) o.entry Right Kinds o unit u p among names structs all_known b here;
@@ -102,6 +102,16 @@ module _ (m : ModuleState) (o : Options) (unit : TranslationUnit) (read : IsRead
       low = λ i i_in. (args_words read.bytes m read.is octets Fn there i i_in).args;
       sound = sound;
     }
+
+  -- the names of the structs of the text, which are declared before its functions
+  abbrev pub Structs : List (List ℕ)
+  Structs = Last m o Right unit u Kinds words (head_words read.bytes m read.is octets) given (λ p among names structs declared. made_function p among names structs declared)
+
+  pub of_structs : AreOfStructs m.globals (name_of u.claimed) Structs
+  of_structs = text_structs m o Right unit u Kinds words (head_words read.bytes m read.is octets) given (λ p among names structs declared. made_function p among names structs declared)
+
+  pub declared_structs : (g : Inst) → IsIn g m.globals → is_written_struct (source_of m o u.entry) (Written m o.entry Right o unit u) g ≡ true → is_declared Structs (id_text (name_of u.claimed) g.result) ≡ true
+  declared_structs = text_declared m o Right unit u Kinds words (head_words read.bytes m read.is octets) given (λ p among names structs declared. made_function p among names structs declared)
 
   -- the law
   pub accepted-in-grammar : IsInGrammar unit

@@ -91,16 +91,16 @@ module _ (s : Setting) (entry : Option (List ℕ)) (right : IsConforming s.of en
     calls : Calls Fs Fn.id.0 (callee i)
     calls = (i, makes, refl)
 
-    other_entry : callee i ≡ u.entry → ⊥
+    pub other_entry : callee i ≡ u.entry → ⊥
     other_entry same = acyclic i.at (Fn.id.0, i, makes, refl, subst (λ (n : ℕ). Reaches (Calls Fs) n Fn.id.0) (sym same) fn_reached)
 
     reached : Reaches (Calls Fs) u.entry (callee i)
     reached = (suc fn_reached.0, (Fn.id.0, fn_reached.1, calls))
 
-    function : (f : Function) × IsIn f Fs × (f.id.0 ≡ callee i)
+    pub function : (f : Function) × IsIn f Fs × (f.id.0 ≡ callee i)
     function = of_ids Fs (callee i) (of_contained (ids_of Fs) (callee i) (callees Fn.id.0 (callee i) calls))
 
-    listed : is_called u.order function.0 ≡ true
+    pub listed : is_called u.order function.0 ≡ true
     listed = subst (λ (n : ℕ). list_any (λ (k : IdOf). k.0 == n) u.order ≡ true) (sym function.2) (of_numbers u.order (callee i) (of_contained (numbers u.order) (callee i) (u.calls.all (callee i) reached)))
 
     plan : (q : FunctionPlan) × IsIn q u.plans × IsPlanOf (source_of s.of o u.entry) Found function.0 q

@@ -138,33 +138,42 @@ module _ (s : Setting) (entry : Option (List ℕ)) (right : IsConforming s.of en
             (subst (λ (r : Bool). IsIn t (once itself (if r then (nth (graph Fn) b).targets else []))) (sym here)
             (in_once (λ n. false) (nth (graph Fn) b).targets t refl (in_targets (nth (graph Fn) b).targets t leads)))
 
-    target_pair : (v : Var) → IsTargetOf Pairs v → W.value (text_of Found (Id (id v.0))) × UsesType W (type_at Where.setting.source Where.names (type_of Where v.0))
-    target_pair v w =
-        let h = held_pair w.0 w.1 in (
-          subst (λ (x : Var). W.value (text_of Found (Id (id x.0)))) w.2 (target_named w.0 h.0 h.1 h.2),
-          subst (λ (x : Var). UsesType W (type_at Where.setting.source Where.names (type_of Where x.0))) w.2 (target_typed w.0 h.0 h.1 h.2),
-        )
+    -- by whatever words, where targets and spares have such names, and types and sources are made of such
+    module _ (X : Words) (named : (q : Pair) (holder : Block) → slice_get Fn.blocks t ≡ Some holder → IsPairOf Gs Where.form Fn b holder q → X.value (text_of Found (Id (id q.0.0))))
+        (typed : (q : Pair) (holder : Block) → slice_get Fn.blocks t ≡ Some holder → IsPairOf Gs Where.form Fn b holder q → UsesType X (type_at Where.setting.source Where.names (type_of Where q.0.0)))
+        (source : (q : Pair) (holder : Block) → slice_get Fn.blocks t ≡ Some holder → IsPairOf Gs Where.form Fn b holder q → UsesExpr X (source_expr Where q.1))
+        (spare : (k : ℕ) → k < spares_in (p.moves b t) → X.value (spare_name p b t k)) where
+      target_pair : (v : Var) → IsTargetOf Pairs v → X.value (text_of Found (Id (id v.0))) × UsesType X (type_at Where.setting.source Where.names (type_of Where v.0))
+      target_pair v w =
+          let h = held_pair w.0 w.1 in (
+            subst (λ (x : Var). X.value (text_of Found (Id (id x.0)))) w.2 (named w.0 h.0 h.1 h.2),
+            subst (λ (x : Var). UsesType X (type_at Where.setting.source Where.names (type_of Where x.0))) w.2 (typed w.0 h.0 h.1 h.2),
+          )
 
-    -- a move
-    move_made : (x : Move) → IsMoveOf Pairs (spares_in (p.moves b t)) x → UsesStmt W (move_text p b t x)
-    move_made (Set v source) w =
-        let h = held_pair w.0 w.1 in
-        subst (λ (y : Scope). UsesStmt W (set_variable y v (source_expr y source))) (sym scope_is)
-        (((target_pair v (w.0, w.1, w.2)).0, tt), subst (λ (x : Source_of). UsesExpr W (source_expr Where x)) w.3 (source_made w.0 h.0 h.1 h.2))
-    move_made (Save k v) w =
-        let named = target_pair v w.1 in (
-          subst (λ (y : Scope). UsesType W (type_at y.setting.source y.names (type_of y v.0))) (sym scope_is) named.1,
-          spare_value k w.0,
-          subst (λ (y : Scope). UsesExpr W (name_expr y v.0)) (sym scope_is) named.0,
-        )
-    move_made (Restore v k) w =
-        ((subst (λ (y : Scope). W.value (y.setting.key (Id (id v.0)))) (sym scope_is) (target_pair v w.1).0, tt), spare_value k w.0)
+      -- a move
+      move_made : (x : Move) → IsMoveOf Pairs (spares_in (p.moves b t)) x → UsesStmt X (move_text p b t x)
+      move_made (Set v src) w =
+          let h = held_pair w.0 w.1 in
+          subst (λ (y : Scope). UsesStmt X (set_variable y v (source_expr y src))) (sym scope_is)
+          (((target_pair v (w.0, w.1, w.2)).0, tt), subst (λ (x : Source_of). UsesExpr X (source_expr Where x)) w.3 (source w.0 h.0 h.1 h.2))
+      move_made (Save k v) w =
+          let own = target_pair v w.1 in (
+            subst (λ (y : Scope). UsesType X (type_at y.setting.source y.names (type_of y v.0))) (sym scope_is) own.1,
+            spare k w.0,
+            subst (λ (y : Scope). UsesExpr X (name_expr y v.0)) (sym scope_is) own.0,
+          )
+      move_made (Restore v k) w =
+          ((subst (λ (y : Scope). X.value (y.setting.key (Id (id v.0)))) (sym scope_is) (target_pair v w.1).0, tt), spare k w.0)
 
-    -- the law
+      -- the law
+      pub copies_of : EachStmt X (copies_text p b t)
+      copies_of = each_stmt X (copies_text p b t) (λ x x_in. let m = of_mapped (move_text p b t) (p.moves b t) x x_in in subst (UsesStmt X) m.2 (move_made m.0 (move_known m.0 m.1)))
+        where
+          move_known : (x : Move) → IsIn x (p.moves b t) → IsMoveOf Pairs (spares_in (p.moves b t)) x
+          move_known x x_in =
+              subst (λ (form : ℕ → Form). IsMoveOf (pairs Gs form Fn b t) (spares_in (p.moves b t)) x) (ap (λ (w : Scope). w.form) scope_is)
+              (edge_moves (pairs Gs p.scope.form Fn b t) (p.moves b t) ((plan_is s entry right kinds o unit u p among).moves_are b t) (few b t) x x_in)
+
+    -- of declared words
     pub copies_made : EachStmt W (copies_text p b t)
-    copies_made = each_stmt W (copies_text p b t) (λ x x_in. let m = of_mapped (move_text p b t) (p.moves b t) x x_in in subst (UsesStmt W) m.2 (move_made m.0 (move_known m.0 m.1)))
-      where
-        move_known : (x : Move) → IsIn x (p.moves b t) → IsMoveOf Pairs (spares_in (p.moves b t)) x
-        move_known x x_in =
-            subst (λ (form : ℕ → Form). IsMoveOf (pairs Gs form Fn b t) (spares_in (p.moves b t)) x) (ap (λ (w : Scope). w.form) scope_is)
-            (edge_moves (pairs Gs p.scope.form Fn b t) (p.moves b t) ((plan_is s entry right kinds o unit u p among).moves_are b t) (few b t) x x_in)
+    copies_made = copies_of W (λ q holder held w. target_named q holder held w) (λ q holder held w. target_typed q holder held w) (λ q holder held w. source_made q holder held w) (λ k less. spare_value k less)

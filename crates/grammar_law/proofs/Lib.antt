@@ -26,3 +26,4 @@ pub mod FewPairs
 pub mod Called
 pub mod Inner
 pub mod Lives
+pub mod Literals

@@ -185,7 +185,7 @@ module _ (s : Setting) (entry : Option (List ℕ)) (right : IsConforming s.of en
         let parts = three_off (is_no_value_type s.of.heads Gs i.ty) (list_any (is_other Gs (type_in Gs Fn) i.ty) (every_second 0 i.args)) (is_from_elsewhere Fn b.0.label.0 i) off in
         (parts.0, parts.1)
 
-    shaped : (v : Tree) × (type_tree Gs i.ty ≡ Some v) × IsSized v
+    pub shaped : (v : Tree) × (type_tree Gs i.ty ≡ Some v) × IsSized v
     shaped = let g = local_row s entry right Fn in_it i i_among some_type in value_type_has s entry right i.ty (g.0, g.1, type_suits i.op g.0 g.2) told.0
 
     -- its result
@@ -241,7 +241,7 @@ module _ (s : Setting) (entry : Option (List ℕ)) (right : IsConforming s.of en
           by_type None is_it e = cc
           by_type (Some ty) is_it e = (ty, is_it, e)
 
-      whole : type_tree Gs (type_of Where n) ≡ Some shaped.0
+      pub whole : type_tree Gs (type_of Where n) ≡ Some shaped.0
       whole = ap (λ (q : Option ℕ). type_tree Gs (unwrap_or q 0)) type_is.1 ∙ type_is.2
 
       -- it is no variable outside of functions

@@ -208,7 +208,7 @@ module _ (s : Setting) (entry : Option (List ℕ)) (right : IsConforming s.of en
       some_type : i.ty ≡ 0 → ⊥
       some_type = typed_some s entry right Fn in_it i i_among (variable_typed i.op on).0
 
-      points : (q : ℕ) × (t : Tree) × (pointee Gs i.ty ≡ Some q) × (type_tree Gs q ≡ Some t)
+      pub points : (q : ℕ) × (t : Tree) × (pointee Gs i.ty ≡ Some q) × (type_tree Gs q ≡ Some t)
       points = let g = local_row s entry right Fn in_it i i_among some_type in pointee_shaped s.of entry right i.ty g.0 g.1 (variable_type_is i.op g.0 on g.2)
 
       local : IsAmong i (local_insts s.of)
@@ -247,7 +247,7 @@ module _ (s : Setting) (entry : Option (List ℕ)) (right : IsConforming s.of en
       has_names : HasNames s.of o unit u points.1
       has_names = written_names s.of o unit u entry right i.ty points.0 points.1 listed (ap (λ (x : Option ℕ). option_map_or (λ p. p) x i.ty) points.2) points.3 (misused_free s.of entry right points.0 points.1 misused points.3)
 
-      shaped : type_tree Gs (pointee_at Src i.ty) ≡ Some points.1
+      pub shaped : type_tree Gs (pointee_at Src i.ty) ≡ Some points.1
       shaped = ap (λ (x : Option ℕ). type_tree Gs (unwrap_or x i.ty)) points.2 ∙ points.3
 
       type_made : UsesType W (type_at Src (names_of Found) (pointee_at Src i.ty))
@@ -269,7 +269,7 @@ module _ (s : Setting) (entry : Option (List ℕ)) (right : IsConforming s.of en
             second_at (a ∷ []) n e = cc
             second_at (a ∷ b ∷ args) n e = ((let low : 1 < suc (suc (length args)) = omega arith in low), let same : b ≡ n = cc in same)
 
-        first_constant : (h : Inst) → global Gs n ≡ Some h → is_constant_op h.op ≡ true
+        pub first_constant : (h : Inst) → global Gs n ≡ Some h → is_constant_op h.op ≡ true
         first_constant h at =
             let off = or_right (not ((word i 0 == class_number storage.Function) || (word i 0 == class_number storage.Private))) (is_other_value s.of i (word i 1))
             (and_off (is i.op code.Variable && nat_lt 1 (length i.args)) (not ((word i 0 == class_number storage.Function) || (word i 0 == class_number storage.Private)) || is_other_value s.of i (word i 1)) (initializer_right s.of entry right i body) (and_from (is i.op code.Variable) (nat_lt 1 (length i.args)) on (above (length i.args) place.0))) in

@@ -38,7 +38,7 @@ of_option x None among = absurd among
 of_option x (Some y) (inl same) = subst (λ z. Some y ≡ Some z) same refl
 of_option x (Some y) (inr none) = absurd none
 
-in_plans : (order : List Id) (plans : List FunctionPlan) (p : FunctionPlan) → IsIn p (in_order order plans) → IsIn p plans
+pub in_plans : (order : List Id) (plans : List FunctionPlan) (p : FunctionPlan) → IsIn p (in_order order plans) → IsIn p plans
 in_plans order plans p among =
     let n = of_flat (plan_at plans) order p among in
     (found_by (has_id n.0) plans p (of_option p (find (has_id n.0) plans) n.2)).0
@@ -49,22 +49,22 @@ functions_use W names (p ∷ ps) each = (each p (inl refl), functions_use W name
 
 module _ (m : ModuleState) (o : Options) (right : IsConforming m o.entry) (unit : TranslationUnit) (u : IsUnitOf m o unit) (kinds : HaveKinds m.globals) (words : (h : Inst) → IsIn h m.globals → FitWords h.args) (rows : (h : Inst) → IsIn h m.heads → FitWords h.args) (given : AreGivenWords o.overrides)
     (functions : (p : FunctionPlan) (among : IsIn p u.plans) (names : List (List ℕ)) (structs : AreOfStructs m.globals (name_of u.claimed) names) (declared : (g : Inst) → IsIn g m.globals → is_written_struct (source_of m o u.entry) (Written m o.entry right o unit u) g ≡ true → is_declared names (id_text (name_of u.claimed) g.result) ≡ true) → IsFunctionMade (Run m o.entry right o unit u) o.entry right kinds o unit u p among names structs declared words given) where
-  calculated : (g : Inst) → IsIn g m.globals → is_declared_constant (source_of m o u.entry) (Written m o.entry right o unit u) g ≡ true → constant_kind g.op ≡ kinds_of.Operation → (names : List (List ℕ)) → AreOfStructs m.globals (name_of u.claimed) names → AreDeclaredBefore m o.entry right o unit u names g.at → UsesExpr (words_of m.globals (name_of u.claimed) names) ((N m o.entry right o unit u).calculated g)
+  pub calculated : (g : Inst) → IsIn g m.globals → is_declared_constant (source_of m o u.entry) (Written m o.entry right o unit u) g ≡ true → constant_kind g.op ≡ kinds_of.Operation → (names : List (List ℕ)) → AreOfStructs m.globals (name_of u.claimed) names → AreDeclaredBefore m o.entry right o unit u names g.at → UsesExpr (words_of m.globals (name_of u.claimed) names) ((N m o.entry right o unit u).calculated g)
   calculated g there on kind names structs declared = calculated_made m o right unit u words given names structs g there on kind declared
 
   abbrev W : List Text → Words
   W = words_of m.globals (name_of u.claimed)
 
-  abbrev Last : List (List ℕ)
+  abbrev pub Last : List (List ℕ)
   Last = LastNames m o.entry right o unit u words given rows calculated
 
   abbrev Decls : List Decl
   Decls = Items m o.entry right o unit u words given rows calculated
 
-  structs : AreOfStructs m.globals (name_of u.claimed) Last
+  pub structs : AreOfStructs m.globals (name_of u.claimed) Last
   structs = last_structs m o.entry right o unit u words given rows calculated
 
-  declared : (g : Inst) → IsIn g m.globals → is_written_struct (source_of m o u.entry) (Written m o.entry right o unit u) g ≡ true → is_declared Last (id_text (name_of u.claimed) g.result) ≡ true
+  pub declared : (g : Inst) → IsIn g m.globals → is_written_struct (source_of m o u.entry) (Written m o.entry right o unit u) g ≡ true → is_declared Last (id_text (name_of u.claimed) g.result) ≡ true
   declared = last_declared m o.entry right o unit u words given rows calculated
 
   decls_made : UseDecls W [] (Decls ++ map function_decl (in_order u.order u.plans))
