@@ -1,23 +1,28 @@
 -- The body of a planned function is found in the text by the function's name.
-use Rattle.std.proofs.Common.{◌≡◌, ◌==◌, ◌++◌, ℕ, Bool, true, false, List, [], ◌∷◌, find, flat_map, map, Option, Some, None, inl, inr, refl, sym, ap, ◌∙◌, if◌then◌else◌}
+use Rattle.std.proofs.Common.{◌≡◌, ◌<◌, ◌==◌, ◌++◌, ℕ, suc, Bool, true, false, List, [], ◌∷◌, find, flat_map, length, map, Contains, Option, Some, None, inl, inr, refl, sym, ap, ◌∙◌, arith, if◌then◌else◌}
 use Rattle.std.specs.Prelude.{◌⊎◌, bytes_eq, option_map, option_to_list}
 use Rattle.std.proofs.lemmas.Bool.Decides.{eqb_tells}
 use Rattle.spv_module.specs.State.{ModuleState}
 use Rattle.spv_module.specs.declared.inst.Id.{Id as IdOf}
-use Rattle.spv_module.specs.declared.inst.Inst.{Inst}
+use Rattle.profile_rules.specs.Calls.{numbers}
 use Rattle.conformance.specs.Rules.{Options}
 use Rattle.traces.specs.Invocations.{Invocation}
 use Rattle.name_alloc.specs.Naming.{name_of as names_by}
-use Rattle.glsl_ast.specs.Tree.{Text, Stmts, Decl, stmts_in, TranslationUnit}
-use Rattle.text_rules.specs.Constants.{Source}
+use Rattle.glsl_ast.specs.Tree.{Text, Stmts, stmts_in, TranslationUnit}
 use Rattle.function_text.specs.Functions.{FunctionPlan, written, function_name, function_decl, body_text}
-use Rattle.unit_rules.specs.Unit.{has_id, in_order, source_of, reached_of, item_names_of, IsUnitOf}
+use Rattle.unit_rules.specs.Unit.{has_id, in_order, IsUnitOf}
 use Rattle.region_law.proofs.Flags.{same_text, own_text}
 use Rattle.claim_law.specs.Claimed.{IsIn}
 use Rattle.naming_law.proofs.Unit.{named_so, names_differ, found_plan}
 use Rattle.claim_law.specs.Bodies.{function_in}
 use Rattle.claim_law.proofs.Bodies.{bodies_are}
 use Rattle.shape_law.specs.Shape.{has_name, name_of, body_of}
+
+-- an id of an order
+pub in_numbers : (order : List IdOf) (n : IdOf) → IsIn n order → Contains (numbers order) n.0
+in_numbers [] n there = absurd there
+in_numbers (k ∷ order) n (inl same) = (0, (let some : 0 < suc (length (numbers order)) = omega arith in some), ap (λ (i : IdOf). i.0) same)
+in_numbers (k ∷ order) n (inr rest) = let w = in_numbers order n rest in let less = w.1 in (suc w.0, (let more : suc w.0 < suc (length (numbers order)) = omega (arith, less) in more), w.2)
 
 -- ids with one number have one plan
 one_plan : (ps : List FunctionPlan) (a b : IdOf) (p q : FunctionPlan) → a.0 ≡ b.0 → find (has_id a) ps ≡ Some p → find (has_id b) ps ≡ Some q → p ≡ q

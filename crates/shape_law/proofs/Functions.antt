@@ -1,4 +1,4 @@
--- What is written of a planned function has its shape, where its values, edges and tops are written of names of which nothing is seen, and its instructions as is asked of them.
+-- What is written of a planned function has its shape, where its values and edges are written of names of which nothing is seen, and its instructions as is asked of them.
 use Rattle.std.proofs.Common.{◌≡◌, ℕ, true, false, List, [], ◌∷◌, ◌++◌, map, filter, flat_map, Option, Some, None, refl}
 use Rattle.std.specs.Prelude.{slice_get}
 use Rattle.std.specs.Option.{option_map_or}
@@ -22,10 +22,10 @@ use Rattle.shape_law.specs.Deeds.{Deed}
 use Rattle.shape_law.specs.Walks.{Outer, is_in}
 use Rattle.shape_law.specs.Pairs.{Act, does, is_done, Naming}
 use Rattle.shape_law.specs.Quiet.{AreFlags}
-use Rattle.shape_law.specs.Unseen.{unseen, IsLeaf, AreLeaves, seen_in}
+use Rattle.shape_law.specs.Unseen.{unseen, IsLeaf, AreLeaves, seen_in, AreStill}
 use Rattle.shape_law.specs.Asked.{AllAskSeen}
 use Rattle.shape_law.specs.Shape.{block_acts, acts_at, IsShaped}
-use Rattle.shape_law.proofs.Unseen.{leaves-quiet, moves-leaves, are-seen}
+use Rattle.shape_law.proofs.Unseen.{still-quiet, moves-leaves, are-seen}
 use Rattle.shape_law.proofs.Leaves.{leaves-do, block-leaves, both-leaves}
 use Rattle.shape_law.proofs.Done.{insts-done}
 use Rattle.shape_law.proofs.Shaped.{is_shaped}
@@ -56,7 +56,7 @@ top-leaves w blocks =
 module _ (s : Source) (found : Naming) (o : Outer) (p : FunctionPlan) (IsHere : ℕ → Type 0) (Chooses : ℕ → Type 0) (Leads : ℕ → ℕ → Type 0)
     (sound : IsSound (graph (written p))) (tree : IsTree (written p) p.region) (whole : IsWhole (blocks_of p) IsHere Chooses Leads p.region)
     (asks : (h : ℕ) → IsHere h → AllAskSeen s o p.scope h (λ i. kind_of i.op) (insts_at p.scope h))
-    (top : EachStmt (unseen o) (top_text p.scope (written p).blocks))
+    (top : AreStill o (top_text p.scope (written p).blocks))
     (condition : (b : ℕ) → IsHere b → Chooses b → UsesExpr (unseen o) ((blocks_of p).condition b))
     (value : (b : ℕ) (e : Expr) → IsHere b → (blocks_of p).value b ≡ Some e → UsesExpr (unseen o) e)
     (copies : (b t : ℕ) → IsHere b → Leads b t → EachStmt (unseen o) ((blocks_of p).copies b t))
@@ -82,4 +82,4 @@ module _ (s : Source) (found : Naming) (o : Outer) (p : FunctionPlan) (IsHere : 
   function_shaped =
       is_shaped s found o (written p) (blocks_of p) p.region (top_text p.scope (written p).blocks) seen IsHere Chooses Leads tree (tree_once (written p) (graph (written p)) p.region sound refl tree) whole
       (are-seen o (blocks_of p) seen IsHere Chooses Leads (λ b here. leaves-do o (block_text p.scope b) (block-leaves p.scope b)) condition value (λ b t here leads. (moves-leaves p b t (p.moves b t), copies b t here leads)) first out fallen)
-      (leaves-quiet o (top_text p.scope (written p).blocks) (top-leaves p.scope (written p).blocks) top) done again flags orders
+      (still-quiet o (top_text p.scope (written p).blocks) (top-leaves p.scope (written p).blocks) top) done again flags orders

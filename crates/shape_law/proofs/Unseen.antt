@@ -6,12 +6,12 @@ use Rattle.phi_copies.specs.declared.moves.Move.TheVariants.{Set, Save, Restore}
 use Rattle.glsl_ast.specs.Tree.{Text, Expr, literal, name, build, not, flip, binary, choose, length_of, Exprs, no_exprs, expr, LStep, LValue, lvalue, Stmt, declare, assign, when, either, loop, switch, leave, again, give, stmts_in}
 use Rattle.control_text.specs.Statements.{Blocks}
 use Rattle.function_text.specs.Functions.{FunctionPlan, move_text}
-use Rattle.spell_law.specs.Uses.{UsesExpr, UseExprs, UseSteps, UsesLValue}
+use Rattle.spell_law.specs.Uses.{UsesExpr, UsesMeasured, UseExprs, UseSteps, UsesLValue}
 use Rattle.spell_law.specs.Statements.{UsesIfSome, UsesStmt, EachStmt}
 use Rattle.shape_law.specs.Deeds.{Deed, reads, assigns, calls, deeds, deeds_of, deeds_if, step_deeds, place_deeds, own_deeds}
 use Rattle.shape_law.specs.Walks.{Outer, is_in, is_seen, Token, if_any, walk_stmt, walk}
 use Rattle.shape_law.specs.Quiet.{AreQuiet, Does, AreSeen}
-use Rattle.shape_law.specs.Unseen.{unseen, IsLeaf, AreLeaves}
+use Rattle.shape_law.specs.Unseen.{unseen, IsLeaf, AreLeaves, AreStill}
 
 module _ (o : Outer) where
   abbrev seen_of : List Deed → List Deed
@@ -26,17 +26,23 @@ module _ (o : Outer) where
   mutual
     pub uses-quiet : (read : Bool) (e : Expr) → UsesExpr (unseen o) e → seen_of (deeds read e) ≡ []
     uses-quiet read (literal l) uses = refl
-    uses-quiet true (name x) uses = drop-first (reads x) [] uses.0
+    uses-quiet true (name x) uses = drop-first (reads x) [] uses
     uses-quiet false (name x) uses = refl
     uses-quiet read (build t args) uses = all-quiet args uses.1
-    uses-quiet read (Expr.call f args) uses = drop-first (calls f) (deeds_of args) uses.0.1 ∙ all-quiet args uses.1
+    uses-quiet read (Expr.call f args) uses = drop-first (calls f) (deeds_of args) uses.0 ∙ all-quiet args uses.1
     uses-quiet read (not e) uses = uses-quiet true e uses
     uses-quiet read (flip e) uses = uses-quiet true e uses
     uses-quiet read (binary s a b) uses = none-of (deeds true a) (deeds true b) (uses-quiet true a uses.0) (uses-quiet true b uses.1)
     uses-quiet read (choose c a b) uses = none-of (deeds true c) (deeds true a ++ deeds true b) (uses-quiet true c uses.0) (none-of (deeds true a) (deeds true b) (uses-quiet true a uses.1) (uses-quiet true b uses.2))
     uses-quiet read (Expr.member e x) uses = uses-quiet read e uses.0
     uses-quiet read (Expr.index a i) uses = none-of (deeds read a) (deeds true i) (uses-quiet read a uses.0) (uses-quiet true i uses.1)
-    uses-quiet read (length_of e) uses = uses-quiet false e uses
+    uses-quiet read (length_of e) uses = measured-quiet e uses
+
+    measured-quiet : (e : Expr) → UsesMeasured (unseen o) e → seen_of (deeds false e) ≡ []
+    measured-quiet (name x) uses = refl
+    measured-quiet (Expr.member e x) uses = measured-quiet e uses.0
+    measured-quiet (Expr.index a i) uses = none-of (deeds false a) (deeds true i) (measured-quiet a uses.0) (uses-quiet true i uses.1)
+    measured-quiet e uses = absurd uses
 
     all-quiet : (es : Exprs) → UseExprs (unseen o) es → seen_of (deeds_of es) ≡ []
     all-quiet no_exprs uses = refl
@@ -52,7 +58,7 @@ module _ (o : Outer) where
   steps-quiet (LStep.index i ∷ steps) uses = none-of (deeds true i) (step_deeds steps) (uses-quiet true i uses.0) (steps-quiet steps uses.1)
 
   place-quiet : (place : LValue) → UsesLValue (unseen o) place → seen_of (place_deeds place) ≡ []
-  place-quiet (lvalue x steps) uses = drop-first (assigns x) (step_deeds steps) uses.0.0 ∙ steps-quiet steps uses.1
+  place-quiet (lvalue x steps) uses = drop-first (assigns x) (step_deeds steps) uses.0 ∙ steps-quiet steps uses.1
 
   -- a statement without statements inside that does nothing
   quiet-leaf : (s : Stmt) → IsLeaf s → seen_of (own_deeds s) ≡ [] → (ts : List Token) → walk_stmt o s ts ≡ ts
@@ -70,7 +76,7 @@ module _ (o : Outer) where
   pub leaf-quiet : (s : Stmt) → IsLeaf s → UsesStmt (unseen o) s → seen_of (own_deeds s) ≡ []
   leaf-quiet (declare t x e) leaf uses = if-quiet e uses.2
   leaf-quiet (assign place e) leaf uses = none-of (place_deeds place) (deeds true e) (place-quiet place uses.0) (uses-quiet true e uses.1)
-  leaf-quiet (Stmt.call f args) leaf uses = drop-first (calls f) (deeds_of args) uses.0.1 ∙ all-quiet args uses.1
+  leaf-quiet (Stmt.call f args) leaf uses = drop-first (calls f) (deeds_of args) uses.0 ∙ all-quiet args uses.1
   leaf-quiet (when c a) leaf uses = absurd leaf
   leaf-quiet (either c a b) leaf uses = absurd leaf
   leaf-quiet (loop a) leaf uses = absurd leaf
@@ -79,9 +85,16 @@ module _ (o : Outer) where
   leaf-quiet again leaf uses = refl
   leaf-quiet (give e) leaf uses = if-quiet e uses
 
+  pub still-quiet : (xs : List Stmt) → AreLeaves xs → AreStill o xs → AreQuiet o xs
+  still-quiet [] leaves still ts = refl
+  still-quiet (x ∷ xs) leaves still ts = quiet-leaf x leaves.0 still.0 (walk o (stmts_in xs) ts) ∙ still-quiet xs leaves.1 still.1 ts
+
+  leaves-still : (xs : List Stmt) → AreLeaves xs → EachStmt (unseen o) xs → AreStill o xs
+  leaves-still [] leaves uses = tt
+  leaves-still (x ∷ xs) leaves uses = (leaf-quiet x leaves.0 uses.0, leaves-still xs leaves.1 uses.1)
+
   pub leaves-quiet : (xs : List Stmt) → AreLeaves xs → EachStmt (unseen o) xs → AreQuiet o xs
-  leaves-quiet [] leaves uses ts = refl
-  leaves-quiet (x ∷ xs) leaves uses ts = quiet-leaf x leaves.0 (leaf-quiet x leaves.0 uses.0) (walk o (stmts_in xs) ts) ∙ leaves-quiet xs leaves.1 uses.1 ts
+  leaves-quiet xs leaves uses ts = still-quiet xs leaves (leaves-still xs leaves uses) ts
 
   -- a statement that does something, and no statement inside it
   pub does-leaf : (s : Stmt) (d : Deed) (ds : List Deed) → IsLeaf s → seen_of (own_deeds s) ≡ d ∷ ds → Does o (s ∷ []) ((d ∷ ds) ∷ [])

@@ -5,7 +5,6 @@ use Rattle.std.specs.List.{AllZip}
 use Rattle.spv_ops.specs.OpGroups.{group_of}
 use Rattle.spv_ops.specs.declared.OpGroup.{OpGroup}
 use Rattle.spv_ops.specs.declared.OpGroup.TheVariants as groups
-use Rattle.spv_types.specs.Tree.{ValueTree, word}
 use Rattle.spv_module.specs.Held.{global}
 use Rattle.spv_module.specs.Lists.{id}
 use Rattle.spv_module.specs.State.{ModuleState}
@@ -22,22 +21,20 @@ use Rattle.structure_recover.specs.Once.{Around, round, around}
 use Rattle.profile_rules.specs.Calls.{IsCallOrder, numbers}
 use Rattle.conformance.specs.Rules.{Options}
 use Rattle.module_check.specs.Judged.{IsEntry}
-use Rattle.name_alloc.specs.declared.claims.Key.TheVariants.{Main, Id as IdOf}
+use Rattle.name_alloc.specs.declared.claims.Key.TheVariants.{Id as IdOf}
 use Rattle.glsl_ast.specs.Tree.{Text, Stmts, TranslationUnit}
 use Rattle.text_rules.specs.Constants.{Source, plain_value}
+use Rattle.text_rules.specs.Declarations.{word_of}
 use Rattle.text_rules.specs.Printed.{is_variable}
+use Rattle.function_text.specs.Functions.{function_key}
 use Rattle.unit_rules.specs.Unit.{called, source_of}
 use Rattle.claim_law.specs.Bodies.{functions_in}
 use Rattle.shape_law.specs.Walks.{Outer, walk}
 use Rattle.shape_law.specs.Pairs.{Act, repeats, exit_acts, with_round, loads, stores, enters, updates, bars, Pair, token_of, sites, is_of, Naming, is_flag, AreGuards, IsPlaced}
 
 -- the word of a constant
-abbrev pub word_in : ValueTree → ℕ
-word_in (word n) = n
-word_in _ = 0
-
 abbrev pub constant_word : Source → ℕ → ℕ
-constant_word s n = option_map_or (λ (g : Inst). word_in (plain_value s g)) (global s.of.globals n) 0
+constant_word s n = option_map_or (λ (g : Inst). word_of (plain_value s g)) (global s.of.globals n) 0
 
 -- the barriers of memory, by the bits UniformMemory and WorkgroupMemory of the semantics (SPIR-V 1.6, section 3.25)
 abbrev pub when_bit : ℕ → ℕ → Text → List Act
@@ -96,7 +93,7 @@ pub record IsShaped (s : Source) (found : Naming) (o : Outer) (f : Function) (bo
 
 -- the name of a function: the entry point's is main
 abbrev pub name_of : ℕ → Naming → Function → Option Text
-name_of entry found f = found (if f.id.0 == entry then Main else IdOf f.id)
+name_of entry found f = found (function_key entry f.id)
 
 abbrev pub has_name : Option Text → Text × Stmts → Bool
 has_name x d = option_map_or (bytes_eq d.0) x false

@@ -5,10 +5,13 @@ use Rattle.spell_law.specs.Uses.{Words, UseSteps}
 use Rattle.shape_law.specs.Deeds.{Deed, calls, own_deeds}
 use Rattle.shape_law.specs.Walks.{Outer, is_in, is_seen}
 
--- no path to memory begins with the name, and no call of such a function is seen; names of members and structs are no matter
+-- no path to memory begins with the name, and no call of such a function is seen; other names are no matter, nor is what only `length()` is asked of
 abbrev pub unseen : Outer → Words
 unseen o = record {
-  value = λ x. (is_in o.memory x ≡ false) × (is_seen o (calls x) ≡ false);
+  value = λ x. is_in o.memory x ≡ false;
+  called = λ x. is_seen o (calls x) ≡ false;
+  size = λ x. Unit {0};
+  measured = λ x. Unit {0};
   member = λ x. Unit {0};
   struct = λ x. Unit {0};
 }
@@ -39,3 +42,11 @@ seen_in o (s ∷ ss) = if_some (filter (is_seen o) (own_deeds s)) (seen_in o ss)
 -- a path to memory: it begins with such a name, and nothing else of it is seen
 abbrev pub IsPath : Outer → LValue → Type 0
 IsPath o (lvalue x steps) = (is_in o.memory x ≡ true) × UseSteps (unseen o) steps
+
+-- statements whose own expressions do nothing that is seen
+abbrev pub IsStill : Outer → Stmt → Type 0
+IsStill o s = filter (is_seen o) (own_deeds s) ≡ []
+
+abbrev pub AreStill : Outer → List Stmt → Type 0
+AreStill o [] = Unit {0}
+AreStill o (s ∷ ss) = IsStill o s × AreStill o ss
