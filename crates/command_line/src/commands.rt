@@ -85,16 +85,12 @@ impl Command {
 fn verb_of(word: &str) -> Option<Verb>
     ensures { result ≡ verb_named word.now }
 {
-    if word == "glsl" {
-        Some(Verb::Glsl)
-    } else if word == "check" {
-        Some(Verb::Check)
-    } else if word == "report" {
-        Some(Verb::Report)
-    } else if word == "run" {
-        Some(Verb::Run)
-    } else {
-        None
+    match word {
+        "glsl" => Some(Verb::Glsl),
+        "check" => Some(Verb::Check),
+        "report" => Some(Verb::Report),
+        "run" => Some(Verb::Run),
+        _ => None,
     }
 }
 
