@@ -12,7 +12,7 @@ use crate::headers::{Headers, add_links};
 use crate::kinds::merges_to;
 use crate::links::{Link, short_table_of};
 use crate::refusal::refused;
-use spv_words::{Fault, Rule};
+use spv_words::{Fault, Refusal, Rule};
 use std::alloc::{AllocError, Global};
 use std::marker::Model;
 use structure_rules::{Node, Role};
@@ -221,7 +221,10 @@ fn check_orphans(nodes: &[Node], roles: &[Role]) -> Result<(), Fault>
             && node.reached
             && block != 0
         {
-            return Err(refused(Rule::K4, node.at));
+            return Err(Fault::Refused(Refusal {
+                rule: Rule::K4,
+                at: node.at,
+            }));
         }
     }
     Ok(())
