@@ -2,6 +2,7 @@
 use Rattle.std.proofs.Common.{◌≡◌, ◌||◌, ◌&&◌, ◌==◌, ℕ, Bool, true, false, List, [], ◌∷◌, ◌++◌, map, filter, flat_map, drop, is_some, refl, sym, ◌∙◌, ap, ap₂, subst, if◌then◌else◌}
 use Rattle.std.specs.Prelude.{slice_index, codes, bit_and}
 use Rattle.std.specs.List.{AllZip, list_all}
+use Rattle.std.proofs.lemmas.Grind.{flat_map-append}
 use Rattle.std.proofs.lemmas.List.Elements.{filter-append}
 use Rattle.spv_ops.specs.OpGroups.{group_of}
 use Rattle.spv_ops.specs.declared.OpGroup.{OpGroup}
@@ -14,6 +15,10 @@ use Rattle.profile_rules.specs.MemoryRules.{pointee_of}
 use Rattle.hoist_plan.specs.declared.form.Form.{Form}
 use Rattle.hoist_plan.specs.declared.form.Form.TheVariants.{Local, Hoisted}
 use Rattle.name_alloc.specs.declared.claims.Key.TheVariants.{Id}
+use Rattle.traces.specs.Events as event
+use Rattle.traces.specs.Events.{Event}
+use Rattle.module_semantics.specs.Steps as steps
+use Rattle.module_semantics.specs.Steps.{memory_barriers}
 use Rattle.glsl_ast.specs.Tree.{Text, Expr, exprs_in, Stmt}
 use Rattle.text_rules.specs.Constants.{Source}
 use Rattle.expr_forward.specs.Kinds.{kind_in, kind_of}
@@ -28,8 +33,7 @@ use Rattle.spell_law.specs.Statements.{EachStmt}
 use Rattle.shape_law.specs.Deeds.{Deed, reads, assigns, calls, deeds, deeds_of, place_deeds}
 use Rattle.shape_law.specs.Walks.{Outer, is_in, atomics, barriers, is_seen}
 use Rattle.shape_law.specs.Pairs.{Act, loads, stores, enters, updates, bars, does, is_read, is_done}
-use Rattle.shape_law.specs.Shape as shape
-use Rattle.shape_law.specs.Shape.{memory_barriers, acts_in, acts_of}
+use Rattle.shape_law.specs.Shape.{bars_of, acts_in, acts_of}
 use Rattle.shape_law.specs.Unseen.{unseen, AreLeaves, if_some, seen_in}
 use Rattle.shape_law.specs.Asked.{HasVariable, IsArgument, AreArguments, AsksSeen, AllAskSeen}
 use Rattle.shape_law.proofs.Unseen.{uses-quiet, leaf-quiet}
@@ -109,18 +113,25 @@ module _ (o : Outer) (h : ℕ) where
   bar-done : (f : Text) → (is_in atomics f || is_in barriers f) ≡ true → is_done o (bars f) (does h (calls f ∷ [])) ≡ true → Done (bars f ∷ []) (seen_in o (bare_call f))
   bar-done f on same = subst (λ l. Done (bars f ∷ []) l) (sym (bare-seen f on)) (same, tt)
 
-  bit-done : (bits bit : ℕ) (f : Text) → (is_in atomics f || is_in barriers f) ≡ true → is_done o (bars f) (does h (calls f ∷ [])) ≡ true → Done (shape.when_bit bits bit f) (seen_in o (when_bit bits bit f))
-  bit-done bits bit f on same = by_test (bit_and bits bit == 0)
+  bit-done : (bits bit : ℕ) (e : Event) (f : Text) → flat_map bars_of (e ∷ []) ≡ bars f ∷ [] → (is_in atomics f || is_in barriers f) ≡ true → is_done o (bars f) (does h (calls f ∷ [])) ≡ true → Done (flat_map bars_of (steps.when_bit bits bit e)) (seen_in o (when_bit bits bit f))
+  bit-done bits bit e f named on same = by_test (bit_and bits bit == 0)
     where
-      by_test : (b : Bool) → Done (if b then [] else bars f ∷ []) (seen_in o (if b then [] else bare_call f))
+      by_test : (b : Bool) → Done (flat_map bars_of (if b then [] else e ∷ [])) (seen_in o (if b then [] else bare_call f))
       by_test true = tt
-      by_test false = bar-done f on same
+      by_test false = subst (λ l. Done l (seen_in o (bare_call f))) (sym named) (bar-done f on same)
 
-  barriers-done : (bits : ℕ) → Done (memory_barriers bits) (seen_in o (memory_barrier bits))
+  barriers-done : (bits : ℕ) → Done (flat_map bars_of (memory_barriers bits)) (seen_in o (memory_barrier bits))
   barriers-done bits =
-      subst (λ l. Done (memory_barriers bits) l) (sym (seen-both o (when_bit bits 0x40 (codes "memoryBarrierBuffer")) (when_bit bits 0x100 (codes "memoryBarrierShared"))))
-      (done-both (shape.when_bit bits 0x40 (codes "memoryBarrierBuffer")) (shape.when_bit bits 0x100 (codes "memoryBarrierShared")) (seen_in o (when_bit bits 0x40 (codes "memoryBarrierBuffer"))) (seen_in o (when_bit bits 0x100 (codes "memoryBarrierShared")))
-      (bit-done bits 0x40 (codes "memoryBarrierBuffer") refl refl) (bit-done bits 0x100 (codes "memoryBarrierShared") refl refl))
+      subst (λ l. Done l (seen_in o (memory_barrier bits))) (sym (flat_map-append bars_of (steps.when_bit bits 0x40 event.buffer_barrier) (steps.when_bit bits 0x100 event.shared_barrier)))
+      (subst (λ l. Done (flat_map bars_of (steps.when_bit bits 0x40 event.buffer_barrier) ++ flat_map bars_of (steps.when_bit bits 0x100 event.shared_barrier)) l) (sym (seen-both o (when_bit bits 0x40 (codes "memoryBarrierBuffer")) (when_bit bits 0x100 (codes "memoryBarrierShared"))))
+      (done-both (flat_map bars_of (steps.when_bit bits 0x40 event.buffer_barrier)) (flat_map bars_of (steps.when_bit bits 0x100 event.shared_barrier)) (seen_in o (when_bit bits 0x40 (codes "memoryBarrierBuffer"))) (seen_in o (when_bit bits 0x100 (codes "memoryBarrierShared")))
+      (bit-done bits 0x40 event.buffer_barrier (codes "memoryBarrierBuffer") refl refl refl) (bit-done bits 0x100 event.shared_barrier (codes "memoryBarrierShared") refl refl refl)))
+
+  control-done : (bits : ℕ) → Done (flat_map bars_of (memory_barriers bits ++ event.control_barrier ∷ [])) (seen_in o (memory_barrier bits ++ bare_call (codes "barrier")))
+  control-done bits =
+      subst (λ l. Done l (seen_in o (memory_barrier bits ++ bare_call (codes "barrier")))) (sym (flat_map-append bars_of (memory_barriers bits) (event.control_barrier ∷ [])))
+      (subst (λ l. Done (flat_map bars_of (memory_barriers bits) ++ (bars (codes "barrier") ∷ [])) l) (sym (seen-both o (memory_barrier bits) (bare_call (codes "barrier"))))
+      (done-both (flat_map bars_of (memory_barriers bits)) (bars (codes "barrier") ∷ []) (seen_in o (memory_barrier bits)) (seen_in o (bare_call (codes "barrier"))) (barriers-done bits) (bar-done (codes "barrier") refl refl)))
 
   module _ (s : Source) (w : Scope) (block : ℕ) where
     set-seen : (i : Inst) (e : Expr) (d : Deed) (ds : List Deed) (form : Form) → is_variable_form form ≡ true → is_in o.memory (w.setting.key (Id (id i.result))) ≡ false → filter (is_seen o) (deeds true e) ≡ d ∷ ds → seen_in o (set_by w i e form) ≡ (d ∷ ds) ∷ []
@@ -190,11 +201,9 @@ module _ (o : Outer) (h : ℕ) where
     group-done i groups.Store asks = store-done i asks
     group-done i groups.Call asks = call-done i asks
     group-done i (groups.Atomic a) asks = atomic-done i a asks
-    group-done i groups.MemoryBarrier asks = subst (λ n. Done (memory_barriers n) (seen_in o (memory_barrier (semantics w (slice_index i.args 1))))) asks (barriers-done (semantics w (slice_index i.args 1)))
+    group-done i groups.MemoryBarrier asks = subst (λ n. Done (flat_map bars_of (memory_barriers n)) (seen_in o (memory_barrier (semantics w (slice_index i.args 1))))) asks (barriers-done (semantics w (slice_index i.args 1)))
     group-done i groups.ControlBarrier asks =
-        subst (λ n. Done (memory_barriers n ++ (bars (codes "barrier") ∷ [])) (seen_in o (memory_barrier (semantics w (slice_index i.args 2)) ++ bare_call (codes "barrier")))) asks
-        (subst (λ l. Done (memory_barriers (semantics w (slice_index i.args 2)) ++ (bars (codes "barrier") ∷ [])) l) (sym (seen-both o (memory_barrier (semantics w (slice_index i.args 2))) (bare_call (codes "barrier"))))
-        (done-both (memory_barriers (semantics w (slice_index i.args 2))) (bars (codes "barrier") ∷ []) (seen_in o (memory_barrier (semantics w (slice_index i.args 2)))) (seen_in o (bare_call (codes "barrier"))) (barriers-done (semantics w (slice_index i.args 2))) (bar-done (codes "barrier") refl refl)))
+        subst (λ n. Done (flat_map bars_of (memory_barriers n ++ event.control_barrier ∷ [])) (seen_in o (memory_barrier (semantics w (slice_index i.args 2)) ++ bare_call (codes "barrier")))) asks (control-done (semantics w (slice_index i.args 2)))
     group-done i g asks = quiet-done i (kind_in g) asks
 
     inst-done : (i : Inst) → AsksSeen s o w block i (kind_of i.op) → Done (acts_of s i) (seen_in o (inst_text w block i (kind_of i.op)))

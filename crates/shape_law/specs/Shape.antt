@@ -1,5 +1,5 @@
 -- The shape of a text: its loops, switches and conditionals are those of the module (SPIR-V 1.6, section 2.11), and so are the statements that access memory, and what stands round them.
-use Rattle.std.specs.Prelude.{ℕ, ◌≡◌, ◌==◌, false, List, [], ◌∷◌, ◌++◌, bit_and, bytes_eq, codes, filter, find, flat_map, map, is_some, Bool, Option, Some, option_map, option_to_list, if◌then◌else◌, slice_get, slice_index}
+use Rattle.std.specs.Prelude.{ℕ, ◌≡◌, false, List, [], ◌∷◌, ◌++◌, bytes_eq, codes, filter, find, flat_map, map, is_some, Bool, Option, Some, option_map, option_to_list, if◌then◌else◌, slice_get, slice_index}
 use Rattle.std.specs.Option.{option_map_or}
 use Rattle.std.specs.List.{AllZip}
 use Rattle.spv_ops.specs.OpGroups.{group_of}
@@ -20,6 +20,9 @@ use Rattle.structure_recover.specs.Follows.{heads_loop}
 use Rattle.structure_recover.specs.Once.{Around, round, around}
 use Rattle.profile_rules.specs.Calls.{IsCallOrder, numbers}
 use Rattle.conformance.specs.Rules.{Options}
+use Rattle.traces.specs.Events as event
+use Rattle.traces.specs.Events.{Event}
+use Rattle.module_semantics.specs.Steps.{memory_barriers}
 use Rattle.module_check.specs.Judged.{IsEntry}
 use Rattle.name_alloc.specs.declared.claims.Key.TheVariants.{Id as IdOf}
 use Rattle.glsl_ast.specs.Tree.{Text, Stmts, TranslationUnit}
@@ -36,20 +39,20 @@ use Rattle.shape_law.specs.Pairs.{Act, repeats, exit_acts, with_round, loads, st
 abbrev pub constant_word : Source → ℕ → ℕ
 constant_word s n = option_map_or (λ (g : Inst). word_of (plain_value s g)) (global s.of.globals n) 0
 
--- the barriers of memory, by the bits UniformMemory and WorkgroupMemory of the semantics (SPIR-V 1.6, section 3.25)
-abbrev pub when_bit : ℕ → ℕ → Text → List Act
-when_bit semantics bit f = if bit_and semantics bit == 0 then [] else bars f ∷ []
-
-abbrev pub memory_barriers : ℕ → List Act
-memory_barriers semantics = when_bit semantics 0x40 (codes "memoryBarrierBuffer") ++ when_bit semantics 0x100 (codes "memoryBarrierShared")
+-- a barrier is written by the function that raises its event (GLSL 4.60, section 8.16)
+abbrev pub bars_of : Event → List Act
+bars_of event.buffer_barrier = bars (codes "memoryBarrierBuffer") ∷ []
+bars_of event.shared_barrier = bars (codes "memoryBarrierShared") ∷ []
+bars_of event.control_barrier = bars (codes "barrier") ∷ []
+bars_of _ = []
 
 abbrev pub acts_in : Source → List ℕ → OpGroup → List Act
 acts_in s args groups.Load = loads ∷ []
 acts_in s args groups.Store = stores ∷ []
 acts_in s args groups.Call = enters ∷ []
 acts_in s args (groups.Atomic a) = updates ∷ []
-acts_in s args groups.MemoryBarrier = memory_barriers (constant_word s (slice_index args 1))
-acts_in s args groups.ControlBarrier = memory_barriers (constant_word s (slice_index args 2)) ++ (bars (codes "barrier") ∷ [])
+acts_in s args groups.MemoryBarrier = flat_map bars_of (memory_barriers (constant_word s (slice_index args 1)))
+acts_in s args groups.ControlBarrier = flat_map bars_of (memory_barriers (constant_word s (slice_index args 2)) ++ event.control_barrier ∷ [])
 acts_in s args _ = []
 
 abbrev pub acts_of : Source → Inst → List Act
