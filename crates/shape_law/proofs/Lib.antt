@@ -25,3 +25,4 @@ pub mod Barriers
 pub mod Called
 pub mod Asks
 pub mod Units
+mod Examples
