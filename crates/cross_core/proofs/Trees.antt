@@ -12,6 +12,7 @@ use Rattle.emit_glsl.specs.Text.{IsTranslationOf}
 use Rattle.text_law.proofs.One.One.{one_tree}
 use Rattle.text_law.proofs.Interface.Interfaces.{has_interface}
 use Rattle.text_law.proofs.Variables.Law.{has_variables}
+use Rattle.text_law.proofs.Shape.Units.{has_shape}
 use Rattle.cross_core.specs.Trees.{IsOfModule}
 use Rattle.cross_core.proofs.Keeps.{keeps}
 
@@ -22,4 +23,5 @@ of_module m o given decorated fine unit is = record {
   keeps = keeps m o given decorated fine unit is;
   interface = has_interface m o unit is.translated;
   naming = has_variables given.read.bytes m o given.read.is fine unit is.translated;
+  shape = has_shape given.read.bytes m o given.read.is fine given.octets given.words decorated.0 unit is.translated;
 }

@@ -1,3 +1,4 @@
 pub mod One
 pub mod Interface
 pub mod Variables
+pub mod Shape

@@ -1,3 +1,11 @@
 pub mod Interface
 pub mod Declarations
 pub mod Variables
+pub mod Deeds
+pub mod Walks
+pub mod Pairs
+pub mod Quiet
+pub mod Unseen
+pub mod Paired
+pub mod Shape
+pub mod Asked

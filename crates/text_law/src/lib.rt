@@ -1,2 +1,2 @@
-// What the text of an accepted module has of it: it is the only one, and has the interface of the module and the variables of its functions. Each in its folder. Definitions and laws alone.
+// What the text of an accepted module has of it: it is the only one, and has the interface of the module, the variables of its functions and its shape. Each in its folder. Definitions and laws alone.
 #![tactic(auto)]

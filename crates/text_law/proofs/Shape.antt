@@ -1,0 +1,29 @@
+-- The shape of a text is the module's.
+pub mod Walked
+pub mod Sited
+pub mod Turned
+pub mod Placed
+pub mod Guarded
+pub mod Shaped
+pub mod Unseen
+pub mod Leaves
+pub mod Done
+pub mod Functions
+pub mod Planned
+pub mod Found
+pub mod Named
+pub mod Apart
+pub mod BuiltIns
+pub mod Parts
+pub mod UnseenValues
+pub mod UnseenInsts
+pub mod UnseenCopies
+pub mod UnseenTops
+pub mod UnseenFunctions
+pub mod Traced
+pub mod Places
+pub mod Barriers
+pub mod Called
+pub mod Asks
+pub mod Units
+mod Examples
