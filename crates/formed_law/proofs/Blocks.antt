@@ -12,6 +12,7 @@ use Rattle.spv_module.specs.declared.inst.Block.{Block}
 use Rattle.spv_module.specs.declared.inst.Function.{Function}
 use Rattle.structure_rules.specs.Graph.{terminator, nth, graph}
 use Rattle.module_semantics.specs.Steps.{is_phi, behind_phis}
+use Rattle.list_law.proofs.Tests.{no_flip}
 use Rattle.agree_law.specs.Blocks.{IsOf}
 use Rattle.agree_law.specs.Points.{Body}
 use Rattle.function_law.specs.Edges.{HaveNoPhi, ArePhisFirst}
@@ -97,10 +98,6 @@ of_either : (j : Inst) (xs ys : List Inst) → IsOf j (xs ++ ys) → IsOf j xs �
 of_either j [] ys is = inr is
 of_either j (x ∷ xs) ys (inl same) = inl (inl same)
 of_either j (x ∷ xs) ys (inr is) = elim (of_either j xs ys is) [ inl left ↦ inl (inr left) | inr right ↦ inr right ]
-
-no_flip : {A : Type 0} (t : Bool) → t ≡ true → t ≡ false → A
-no_flip true on off = cc
-no_flip false on off = cc
 
 no_head : (hs : List Inst) (i : Inst) → ArePhis hs → IsOf i hs → E i ≡ false
 no_head [] i are is = absurd is

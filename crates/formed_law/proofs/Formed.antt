@@ -21,8 +21,8 @@ use Rattle.spv_module.specs.Kinds.{kind_of, kind_of_op, kind_of_opcode, kinds, i
 use Rattle.spv_module.specs.Form.{nth_kind, is_function, is_block_end, is_terminated, is_body, is_block}
 use Rattle.spv_module.specs.Broken.{IsUnbroken}
 use Rattle.spv_module.specs.Lists.{with_inst, block_insts, block, with_block, blocks, function, with_function, functions_from, functions}
-use Rattle.plan_law.proofs.Listed.{map_length}
 use Rattle.module_semantics.specs.Steps.{is_phi}
+use Rattle.list_law.proofs.Lists.{map_length}
 use Rattle.call_law.specs.Known.{IsFunctionOf}
 use Rattle.formed_law.specs.Formed.{IsEnded, IsFormedBlock, IsFormedFunction}
 

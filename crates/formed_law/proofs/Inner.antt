@@ -30,9 +30,9 @@ use Rattle.spv_module.specs.State.{ModuleState}
 use Rattle.spv_module.proofs.Behind.{no_inst}
 use Rattle.spv_index.specs.Locals.{insts_of}
 use Rattle.module_check.specs.ReadFrom.{IsReadFrom}
+use Rattle.list_law.proofs.Tests.{no_flip, and_off}
 use Rattle.plan_law.specs.InOrder.{IsAmong}
 use Rattle.call_law.specs.Known.{IsFunctionOf}
-use Rattle.typed_law.proofs.Lists.{and_off}
 use Rattle.formed_law.proofs.Formed.{AreGood, good, inside}
 use Rattle.formed_law.proofs.Declares.{AreStanding, standing}
 
@@ -135,10 +135,6 @@ no_head p on = refl
 no_global : (p : Place) → is_in p ≡ true → is_stray p Global ≡ true
 no_global Outside on = cc
 no_global p on = refl
-
-no_flip : {A : Type 0} (b : Bool) → b ≡ true → b ≡ false → A
-no_flip true on off = cc
-no_flip false on off = cc
 
 module _ (ws : List ℕ) where
   abbrev K : List Inst1 → List Kind

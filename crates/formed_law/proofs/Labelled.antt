@@ -3,7 +3,6 @@ use Rattle.std.proofs.Common.{◌≡◌, ◌≢◌, ◌<◌, ◌+◌, ◌==◌, 
 use Rattle.std.specs.Prelude.{slice_get, slice_index_or, unwrap_or}
 use Rattle.std.specs.Option.{option_map_or}
 use Rattle.std.specs.List.{position_from}
-use Rattle.std.proofs.lemmas.Bool.Decides.{eqb_tells}
 use Rattle.std.proofs.lemmas.Bool.{false_from_ne_true}
 use Rattle.spv_words.specs.Words.{words, insts, nth_inst, is_at_fault}
 use Rattle.spv_words.specs.declared.words.Inst1.{Inst1}
@@ -26,6 +25,7 @@ use Rattle.spv_index.specs.Locals.{block_in}
 use Rattle.conformance.specs.Rules.{Options}
 use Rattle.module_check.specs.Judged.{IsFine}
 use Rattle.module_check.specs.ReadFrom.{IsReadFrom}
+use Rattle.list_law.proofs.Numbers.{number_same, number_other}
 use Rattle.plan_law.specs.Distinct.{IsNone, AreDistinct}
 use Rattle.plan_law.proofs.Listed.{distinct}
 use Rattle.call_law.specs.Known.{IsFunctionOf}
@@ -77,17 +77,11 @@ placed_from : (bs : List Block) (n k : ℕ) (b : Block) → AreOnceLabels bs →
 placed_from [] n k b once at = cc
 placed_from (x ∷ bs) n zero b once at =
     let same : x ≡ b = cc in
-    ap (λ (t : Bool). if t then Some n else position_from (λ (y : Block). y.label.0 == b.label.0) (n + 1) bs) (itself x.label.0 b.label.0 (ap (λ (y : Block). y.label.0) same))
+    ap (λ (t : Bool). if t then Some n else position_from (λ (y : Block). y.label.0 == b.label.0) (n + 1) bs) (number_same x.label.0 b.label.0 (ap (λ (y : Block). y.label.0) same))
     ∙ ap (λ (j : ℕ). Some j) (let none : n ≡ n + 0 = omega arith in none)
-  where
-    itself : (a c : ℕ) → a ≡ c → (a == c) ≡ true
-    itself a c same = elim (eqb_tells a c) [ inl w ↦ w.0 | inr w ↦ absurd (w.1 same) ]
 placed_from (x ∷ bs) n (suc k) b once at =
-    ap (λ (t : Bool). if t then Some n else position_from (λ (y : Block). y.label.0 == b.label.0) (n + 1) bs) (other x.label.0 b.label.0 (λ same. no_label x.label.0 bs k b once.0 at (sym same)))
+    ap (λ (t : Bool). if t then Some n else position_from (λ (y : Block). y.label.0 == b.label.0) (n + 1) bs) (number_other x.label.0 b.label.0 (λ same. no_label x.label.0 bs k b once.0 at (sym same)))
     ∙ (placed_from bs (n + 1) k b once.1 at ∙ ap (λ (j : ℕ). Some j) (let next : n + 1 + k ≡ n + suc k = omega arith in next))
-  where
-    other : (a c : ℕ) → (a ≡ c → ⊥) → (a == c) ≡ false
-    other a c differ = elim (eqb_tells a c) [ inl w ↦ absurd (differ w.1) | inr w ↦ w.0 ]
 
 pub label_found : (f : Function) → AreOnceLabels f.blocks → (k : ℕ) (b : Block) → slice_get f.blocks k ≡ Some b → block_in f b.label.0 ≡ Some k
 label_found f once k b at = placed_from f.blocks 0 k b once at ∙ ap (λ (j : ℕ). Some j) (let none : 0 + k ≡ k = omega arith in none)

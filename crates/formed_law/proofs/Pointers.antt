@@ -3,7 +3,7 @@ use Rattle.std.proofs.Common.{◌≡◌, ◌<◌, ◌≤◌, ◌+◌, ◌==◌, 
 use Rattle.std.specs.Prelude.{◌⊎◌, nat_le, is_some, option_map, option_and_then, Contains, slice_index}
 use Rattle.std.specs.Option.{option_map_or, option_or}
 use Rattle.std.specs.List.{list_any, list_all, zip, position_from}
-use Rattle.std.proofs.lemmas.Bool.Decides.{eqb_tells, nat_tests}
+use Rattle.std.proofs.lemmas.Bool.Decides.{eqb_tells}
 use Rattle.std.proofs.lemmas.Bool.{not-false}
 use Rattle.spv_words.specs.declared.rule.Rule.TheVariants.{M5}
 use Rattle.spv_ops.specs.Opcode.{is, number}
@@ -41,6 +41,10 @@ use Rattle.profile_rules.specs.Entry.{function_of}
 use Rattle.profile_rules.specs.TypeRules.{is_value_broken, is_number_broken, is_flow_broken}
 use Rattle.profile_rules.specs.MemoryRules.{is_pointer, may_be_pointer_of, is_stray_pointer, breaks_m5}
 use Rattle.profile_rules.specs.AccessRules.{breaks, broken_in, broken_at}
+use Rattle.list_law.proofs.Options.{some_by}
+use Rattle.list_law.proofs.Numbers.{from_zero}
+use Rattle.list_law.proofs.Lists.{behind_one, empty_of, none_within}
+use Rattle.list_law.proofs.Tests.{second_by, not_both, or_left, or_right, and_off, clash}
 use Rattle.plan_law.specs.InOrder.{IsAmong}
 use Rattle.plan_law.proofs.Order.{found}
 use Rattle.module_semantics.specs.Setting.{Setting}
@@ -53,9 +57,8 @@ use Rattle.type_law.proofs.Rows.{vector_parts}
 use Rattle.type_law.proofs.Parts.{earlier_is, walk_leads}
 use Rattle.type_law.proofs.Vectors.{three_off, five_off}
 use Rattle.call_law.specs.Frames.{makes_pointer}
-use Rattle.call_law.proofs.Lending.{no_true}
 use Rattle.typed_law.specs.Conforms.{IsConforming}
-use Rattle.typed_law.proofs.Lists.{or_left, or_right, and_off, clash, found_in, earlier_some, some_by, from_zero, at_least, none_by, any_at, none_at_fault}
+use Rattle.typed_law.proofs.Lists.{found_in, earlier_some, at_least, none_by, any_at, none_at_fault}
 use Rattle.typed_law.proofs.Rules.{global_there, pointed_type, operand_there, value_right, number_right, flow_right}
 use Rattle.typed_law.proofs.Types.{row_is}
 use Rattle.typed_law.proofs.Values.{IsRow, shape_of_row, value_type_has, inside, local_row, declared_by, type_row_of, one_type, same_type, value_sized, HasType, HasItsShape, typed_value, own_type, type_suits, typed_result, has_a_type, function_id, function_need, function_least, none_counted, vector_shaped}
@@ -173,10 +176,6 @@ operation_group (groups.Atomic atomics.Store) typed free step = cc
 operation_group (groups.Terminator ends.Branch) typed free step = cc
 operation_group q typed free step = cc
 
-behind_one : (args : List ℕ) → nat_le (length args) 1 ≡ false → 1 ≤ length (drop 1 args)
-behind_one [] few = cc
-behind_one (a ∷ args) few = grind (arith, nat_tests, few)
-
 -- a type without a shape is made of nothing
 shapeless_kind : (o : Op) → is_shapeless o ≡ true → kind o ≡ Other
 unfolding kind
@@ -231,13 +230,6 @@ test_on gs test o ty g of_it at off =
 component_told : (gs : List Inst) (o : Option ℕ) (ty : ℕ) (g : Inst) → o ≡ Some ty → type_row gs ty ≡ Some g → is_vector g ≡ true → option_and_then (component gs) o ≡ Some (word g 0)
 component_told gs o ty g of_it at on = ap (option_and_then (component gs)) of_it ∙ (ap (option_and_then component_if) at ∙ ap (λ (b : Bool). if b then Some (word g 0) else None) on)
 
-none_of : (xs : List ℕ) → ((at : ℕ) → Contains xs at → ⊥) → xs ≡ []
-none_of [] far = refl
-none_of (x ∷ xs) far = absurd (far x (0, (let less : 0 < length (x ∷ xs) = omega arith in less), refl))
-
-no_one : (at : ℕ) → Contains [] at → ⊥
-no_one at has = let less = has.1 in omega (arith, less)
-
 -- what composes nothing does not fit
 no_fit : (x y z w v a q : Bool) → v ≡ false → a ≡ false → q ≡ false → (if v then x else (if v then y else (if a then z else (if q then w else true)))) ≡ true
 no_fit x y z w false false false ev ea eq = refl
@@ -271,10 +263,10 @@ module _ (s : Setting) (entry : Option (List ℕ)) (right : IsConforming s.of en
 
   -- M5
   stray_right : (i : Inst) → IsAmong i (insts_of f) → breaks_m5 Gs f i ≡ false
-  stray_right i there = none_at_fault (breaks s.of.heads Gs f M5) (insts_of f) i (λ at has. no_one at (subst (λ (l : List ℕ). Contains l at) none has)) there
+  stray_right i there = none_at_fault (breaks s.of.heads Gs f M5) (insts_of f) i (λ at has. none_within at (subst (λ (l : List ℕ). Contains l at) none has)) there
     where
       none : broken_in s.of M5 f ≡ []
-      none = none_by (broken_in s.of M5) s.of.functions f (none_of (broken_at s.of M5) right.accessed.1.1.1.1.0) in_it
+      none = none_by (broken_in s.of M5) s.of.functions f (empty_of (broken_at s.of M5) right.accessed.1.1.1.1.0) in_it
 
   stands_no_pointer : (i : Inst) → IsAmong i (insts_of f) → (k : ℕ) → k < length i.args → is_id i.op i.args k ≡ true → may_be_pointer_of i.op k ≡ false → is_pointer Gs f (slice_index i.args k) ≡ false
   stands_no_pointer i there k less names off =
@@ -427,7 +419,7 @@ module _ (s : Setting) (entry : Option (List ℕ)) (right : IsConforming s.of en
           let many : 1 ≤ length i.args = at_least 1 (length i.args) (least_of code.FunctionCall same) in
           let few : 0 < length i.args = omega (arith, many) in
           let there_in : is_there_in s.of f i.at Callee (word i 0) ≡ true = operand_is code.FunctionCall same 0 few (from_zero 0) in
-          let h = found_callee s.of.functions (word i 0) (second (is_global Gs i.at Callee (word i 0)) (is_some (function_in s.of.functions (word i 0))) there_in (no_global (earlier Gs i.at (word i 0)))) in
+          let h = found_callee s.of.functions (word i 0) (second_by (is_global Gs i.at Callee (word i 0)) (is_some (function_in s.of.functions (word i 0))) there_in (no_global (earlier Gs i.at (word i 0)))) in
           let g = declared_by s entry right h.0 h.1 in
           let called : is_miscalled Gs V i g.0 ≡ false = ap (λ (o : Option Inst). option_map_or (is_miscalled Gs V i) o false) (sym (ap (option_and_then (function_type Gs)) h.2 ∙ g.1.is_it)) ∙ told in
           let result_off = or_left (differ Gs (word g.0 0) i.ty) (are_other_members Gs V (drop 1 g.0.args) (drop 1 i.args)) called in
@@ -441,10 +433,6 @@ module _ (s : Setting) (entry : Option (List ℕ)) (right : IsConforming s.of en
           let value_or_void : (not (is row.0.op code.TypeVoid) && is_no_value_type s.of.heads Gs i.ty) ≡ false = ap (λ (o : Option Inst). option_map_or (λ (x : Inst). not (is x.op code.TypeVoid) && is_no_value_type s.of.heads Gs i.ty) o false) (sym row.1) ∙ own in
           no_value (and_off (not (is row.0.op code.TypeVoid)) (is_no_value_type s.of.heads Gs i.ty) value_or_void (ap not no_void))
         where
-          second : (a b : Bool) → (a || b) ≡ true → a ≡ false → b ≡ true
-          second true b on off = clash off
-          second false b on off = on
-
           no_global : (o : Option Inst) → option_map_or (suits Callee) o false ≡ false
           no_global None = refl
           no_global (Some g) = refl
@@ -519,7 +507,7 @@ module _ (s : Setting) (entry : Option (List ℕ)) (right : IsConforming s.of en
     -- a pointer of its type would stand elsewhere than pointers may
     pointer_alone : is row.0.op code.TypePointer ≡ true → NoSame
     pointer_alone points k few names needed off typed =
-        no_true (is_pointer Gs f (slice_index i.args k)) (pointer_by Gs f (slice_index i.args k) i.ty typed (class_there Gs i.ty row.0 row.1 points)) (stands_no_pointer i there k few names off)
+        not_both (is_pointer Gs f (slice_index i.args k)) (pointer_by Gs f (slice_index i.args k) i.ty typed (class_there Gs i.ty row.0 row.1 points)) (stands_no_pointer i there k few names off)
 
     typed_no_pointer : is_frame (group_of i.op) ≡ false → makes_pointer (step_kind i.op) ≡ false → is_pointer Gs f i.result ≡ false
     typed_no_pointer free off = by_test (is row.0.op code.TypePointer) refl

@@ -3,6 +3,7 @@ use Rattle.std.proofs.Common.{◌≡◌, ◌≢◌, ◌==◌, ◌&&◌, ◌||◌
 use Rattle.std.specs.Prelude.{is_some, Contains}
 use Rattle.std.specs.Option.{option_map_or}
 use Rattle.std.proofs.lemmas.Bool.{and_from, or_right as either_on, not-false}
+use Rattle.std.proofs.lemmas.Option.{same_Some}
 use Rattle.spv_words.specs.Words.{words}
 use Rattle.spv_ops.specs.Opcode.{is}
 use Rattle.spv_ops.specs.Groups.{is_chain}
@@ -27,6 +28,7 @@ use Rattle.conformance.specs.Rules.{Options}
 use Rattle.module_check.specs.Judged.{IsFine}
 use Rattle.module_check.specs.ReadFrom.{IsReadFrom}
 use Rattle.traces.specs.Invocations.{Invocation}
+use Rattle.list_law.proofs.Tests.{or_right, and_off}
 use Rattle.plan_law.specs.InOrder.{IsAmong}
 use Rattle.plan_law.proofs.Order.{found}
 use Rattle.module_semantics.specs.Setting.{Setting, setting}
@@ -37,7 +39,6 @@ use Rattle.path_law.specs.Chains.{is_global, ChainsAreRight}
 use Rattle.path_law.proofs.Based.{chain_op}
 use Rattle.path_law.proofs.Order.{chains_rise}
 use Rattle.typed_law.specs.Conforms.{BreakNone, IsConformingIn, IsConforming}
-use Rattle.typed_law.proofs.Lists.{and_off, or_right}
 use Rattle.typed_law.proofs.Rules.{class_right}
 use Rattle.typed_law.proofs.Values.{inside, own_local, typed_result, among_functions}
 use Rattle.typed_law.proofs.Words.{conforms}
@@ -46,7 +47,7 @@ use Rattle.ruled_law.proofs.Ruled.{contains_of, among_of, parameter_of, variable
 use Rattle.formed_law.proofs.Inner.{is_frame, frameless}
 use Rattle.formed_law.proofs.Pointers.{no_pointer}
 
-chain_result : (o : Op) → is_chain o ≡ true → has_result o ≡ true
+pub chain_result : (o : Op) → is_chain o ≡ true → has_result o ≡ true
 unfolding shape
 chain_result code.AccessChain on = refl
 chain_result code.InBoundsAccessChain on = refl
@@ -54,10 +55,6 @@ chain_result o on = cc
 
 no_both : variable ≡ chain → ⊥
 no_both e = cc
-
--- what is found is one
-one_found : (a b : Inst) → Some a ≡ Some b → a ≡ b
-one_found a b e = cc
 
 module _ (s : Setting) (entry : Option (List ℕ)) (right : IsConforming s.of entry) (chosen : ℕ → Option ℕ) (have : HasConstants s chosen) (free : (f : Function) → IsFunctionOf f s.of.functions → (i : Inst) → IsAmong i (insts_of f) → is_frame (group_of i.op) ≡ false) where
   module _ (f : Function) (is_one : IsFunctionOf f s.of.functions) where
@@ -78,7 +75,7 @@ module _ (s : Setting) (entry : Option (List ℕ)) (right : IsConforming s.of en
     chain_apart i j of_i of_j first second same =
         let at_i = found i (insts_of f) own.order.apart of_i (variable_some i of_i first) in
         let at_j = found j (insts_of f) own.order.apart of_j (chain_some j of_j (chain_op j.op second)) in
-        let one = one_found i j (sym at_i ∙ (ap (inst_in f) (sym same) ∙ at_j)) in
+        let one = same_Some i j (sym at_i ∙ (ap (inst_in f) (sym same) ∙ at_j)) in
         no_both (sym first ∙ (ap (λ (x : Inst). step_kind x.op) one ∙ second))
 
     -- P13: a variable of a function is of class Function

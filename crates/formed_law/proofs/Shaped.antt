@@ -2,8 +2,8 @@
 use Rattle.std.proofs.Common.{◌≡◌, ◌<◌, ◌==◌, ◌||◌, ◌&&◌, not, ℕ, zero, suc, Bool, true, false, List, [], ◌∷◌, ◌++◌, Option, Some, None, inl, inr, refl, sym, ap, subst, ◌∙◌, if◌then◌else◌, arith}
 use Rattle.std.specs.Prelude.{◌⊎◌, nat_lt, is_some, option_and_then, flat_map, Contains, slice_index}
 use Rattle.std.specs.Option.{option_map_or, option_or}
-use Rattle.std.proofs.lemmas.Bool.Decides.{eqb_tells, nat_tests}
-use Rattle.spv_words.specs.declared.rule.Rule.{Rule}
+use Rattle.std.proofs.lemmas.Bool.Decides.{eqb_tells}
+use Rattle.std.proofs.lemmas.Option.{same_Some, none-some}
 use Rattle.spv_words.specs.declared.rule.Rule.TheVariants.{T1}
 use Rattle.spv_ops.specs.Opcode.{is}
 use Rattle.spv_ops.specs.Groups.{is_constant}
@@ -37,6 +37,10 @@ use Rattle.module_check.specs.Judged.{IsFine}
 use Rattle.module_check.specs.ReadFrom.{IsReadFrom}
 use Rattle.traces.specs.Invocations.{Invocation}
 use Rattle.hoist_plan.specs.Plan.{is_value}
+use Rattle.list_law.proofs.Lists.{none_left, none_right}
+use Rattle.list_law.proofs.Options.{some_part}
+use Rattle.list_law.proofs.Numbers.{less_of}
+use Rattle.list_law.proofs.Tests.{second_by, not_both, or_left, and_right, clash}
 use Rattle.plan_law.specs.InOrder.{IsAmong}
 use Rattle.module_semantics.specs.Setting.{Setting, setting}
 use Rattle.module_semantics.specs.Steps.{StepKind, chain, variable, step_kind}
@@ -44,10 +48,9 @@ use Rattle.type_law.specs.Shaped.{HasConstants}
 use Rattle.agree_law.specs.Blocks.{IsOf}
 use Rattle.call_law.specs.Frames.{makes_pointer}
 use Rattle.call_law.specs.Known.{IsFunctionOf}
-use Rattle.call_law.proofs.Lending.{no_true}
 use Rattle.typed_law.specs.Conforms.{IsConforming}
-use Rattle.typed_law.proofs.Lists.{clash, or_left, and_right, none_left, none_right, none_among, found_in, earlier_some, some_part}
-use Rattle.typed_law.proofs.Rules.{operand_there}
+use Rattle.typed_law.proofs.Lists.{none_among, found_in, earlier_some}
+use Rattle.typed_law.proofs.Rules.{operand_there, refused}
 use Rattle.typed_law.proofs.Values.{IsRow, global_row, shape_of_row, value_type_has, inside, parameter_right, value_sized, own_type, has_a_type, variable_type_is}
 use Rattle.typed_law.proofs.Others.{typed_some}
 use Rattle.accepted_law.proofs.Accepted.{accepted_conforming}
@@ -60,25 +63,9 @@ of_among [] i there = there
 of_among (j ∷ is) i (inl same) = inl same
 of_among (j ∷ is) i (inr there) = inr (of_among is i there)
 
-one_found : (a b : Inst) → Some a ≡ Some b → a ≡ b
-one_found a b e = cc
-
-one_number : (a b : ℕ) → Some a ≡ Some b → a ≡ b
-one_number a b e = cc
-
-no_some : (n : ℕ) → None ≡ Some n → ⊥
-no_some n e = cc
-
-below : (a b : ℕ) → nat_lt a b ≡ true → a < b
-below a b less = grind (arith, nat_tests, less)
-
 neither : (a b : Bool) → not (a || b) ≡ true → (a ≡ false) × (b ≡ false)
 neither false false e = (refl, refl)
 neither a b e = cc
-
-not_broken : (b : Bool) (rule : Rule) (at : ℕ) → broken_if b rule at ≡ [] → b ≡ false
-not_broken true rule at e = cc
-not_broken false rule at e = refl
 
 typed_type : (i : Inst) (ty : ℕ) → typed i ≡ Some ty → (i.ty ≡ ty) × (i.ty ≡ 0 → ⊥)
 typed_type i ty e = by_test (i.ty == 0) (eqb_tells i.ty 0) e
@@ -86,7 +73,7 @@ typed_type i ty e = by_test (i.ty == 0) (eqb_tells i.ty 0) e
     by_test : (b : Bool) → ((b ≡ true) × (i.ty ≡ 0)) ⊎ ((b ≡ false) × (i.ty ≡ 0 → ⊥)) → (if b then None else Some i.ty) ≡ Some ty → (i.ty ≡ ty) × (i.ty ≡ 0 → ⊥)
     by_test true w e = cc
     by_test false (inl w) e = cc
-    by_test false (inr w) e = (one_number i.ty ty e, w.1)
+    by_test false (inr w) e = (same_Some i.ty ty e, w.1)
 
 -- constants, by their groups
 abbrev is_constant_group : OpGroup → Bool
@@ -121,7 +108,7 @@ module _ (s : Setting) (entry : Option (List ℕ)) (right : IsConforming s.of en
       as_it_is = none_left (broken_as s.of h h.op) (broken_inside s.of h) (none_right (broken_if (breaks_t1 Gs h) T1 h.at) (broken_as s.of h h.op ++ broken_inside s.of h) (none_among (broken_by_global s.of) Gs h all there))
 
       outside : is_broken_outside s.of h (group_of h.op) ≡ false
-      outside = not_broken (is_broken_outside s.of h (group_of h.op)) (rule_of (group_of h.op)) h.at as_it_is
+      outside = refused (is_broken_outside s.of h (group_of h.op)) (rule_of (group_of h.op)) h.at as_it_is
 
       by_group : (q : OpGroup) → is_constant_group q ≡ true → is_value_broken s.of (global_type Gs) h q ≡ false → is_no_value_type s.of.heads Gs h.ty ≡ false
       by_group groups.Truth on off = or_left (is_no_value_type s.of.heads Gs h.ty) (fails is_bool Gs h.ty) off
@@ -137,12 +124,12 @@ module _ (s : Setting) (entry : Option (List ℕ)) (right : IsConforming s.of en
     no_value_type off = let v = value_type_has s entry right ty w off in no_tree Gs w.0 v.0 (function_shapeless w.0.op on).0 (sym (ap (λ (o : Option Inst). option_map_or (tree_at Gs) o None) w.1) ∙ v.1)
 
     no_pointer_type : (g : Inst) → g ≡ w.0 → is g.op code.TypePointer ≡ true → ⊥
-    no_pointer_type g same points = no_true (is g.op code.TypePointer) points (ap (λ (x : Inst). is x.op code.TypePointer) same ∙ (function_shapeless w.0.op on).2)
+    no_pointer_type g same points = not_both (is g.op code.TypePointer) points (ap (λ (x : Inst). is x.op code.TypePointer) same ∙ (function_shapeless w.0.op on).2)
 
     no_global : (h : Inst) → IsAmong h Gs → h.ty ≡ ty → (h.ty ≡ 0 → ⊥) → ⊥
     no_global h there same some = elim (kinds h there some) [
       | inl constant ↦ no_value_type (subst (λ (n : ℕ). is_no_value_type s.of.heads Gs n ≡ false) same (constant_right h there constant))
-      | inr var ↦ let g = global_row s entry right h there some in no_pointer_type g.0 (one_found g.0 w.0 (sym g.1 ∙ (ap (global Gs) same ∙ w.1))) (variable_type_is h.op g.0 var g.2)
+      | inr var ↦ let g = global_row s entry right h there some in no_pointer_type g.0 (same_Some g.0 w.0 (sym g.1 ∙ (ap (global Gs) same ∙ w.1))) (variable_type_is h.op g.0 var g.2)
     ]
 
     module _ (f : Function) (is_one : IsFunctionOf f s.of.functions) (free : (i : Inst) → IsAmong i (insts_of f) → is_frame (group_of i.op) ≡ false) where
@@ -153,7 +140,7 @@ module _ (s : Setting) (entry : Option (List ℕ)) (right : IsConforming s.of en
       no_parameter : (x y : ℕ) → parameter_in f x ≡ Some y → y ≡ ty → ⊥
       no_parameter x y at same =
           let p = parameter_of f.params x (ap is_some at) in
-          let type_is : p.0.1.0 ≡ ty = one_number p.0.1.0 y (sym ((inside s entry right f in_it).found p.0 p.1) ∙ (ap (parameter_in f) p.2 ∙ at)) ∙ same in
+          let type_is : p.0.1.0 ≡ ty = same_Some p.0.1.0 y (sym ((inside s entry right f in_it).found p.0 p.1) ∙ (ap (parameter_in f) p.2 ∙ at)) ∙ same in
           let told : is_other_parameter s.of.heads Gs ty ≡ false = subst (λ (n : ℕ). is_other_parameter s.of.heads Gs n ≡ false) type_is (parameter_right s entry right f in_it p.0 p.1) in
           no_value_type
           (sym (ap (λ (o : Option Inst). option_map_or (λ (t : Inst). if is t.op code.TypePointer then is_no_variable s.of.heads Gs t else is_no_value_type s.of.heads Gs ty) o false) w.1
@@ -167,41 +154,37 @@ module _ (s : Setting) (entry : Option (List ℕ)) (right : IsConforming s.of en
 
       no_made : (j : Inst) → IsAmong j (insts_of f) → j.ty ≡ ty → (j.ty ≡ 0 → ⊥) → makes_pointer (step_kind j.op) ≡ true → ⊥
       no_made j there same some made =
-          no_true (is_some (storage_class Gs ty))
+          not_both (is_some (storage_class Gs ty))
           (sym (ap (λ (o : Option ℕ). is_some (option_and_then (storage_class Gs) o)) (own_type s entry right f in_it j there some ∙ ap (λ (n : ℕ). Some n) same)) ∙ pointer_made j there (step_kind j.op) refl made)
           (no_class Gs ty w.0 w.1 (function_shapeless w.0.op on).2)
 
       -- an operand of it is the result of an instruction that stands before
       module _ (i : Inst) (earlier_none : (j : Inst) → IsAmong j (insts_of f) → j.at < i.at → j.ty ≡ ty → (j.ty ≡ 0 → ⊥) → ⊥) (x : ℕ) (stands : is_there_in s.of f i.at Value x ≡ true) where
         by_inst : (o : Option Inst) → inst_in f x ≡ o → parameter_in f x ≡ None → global_type Gs x ≡ None → option_and_then typed o ≡ Some ty → ⊥
-        by_inst None at none outside e = absurd (no_some ty e)
+        by_inst None at none outside e = absurd (none-some ty e)
         by_inst (Some j) at none outside e =
             let own = typed_type j ty e in
-            earlier_none j (found_in (insts_of f) x j at) (below j.at i.at (and_right (is_some (typed j)) (nat_lt j.at i.at) before)) own.0 own.1
+            earlier_none j (found_in (insts_of f) x j at) (less_of j.at i.at (and_right (is_some (typed j)) (nat_lt j.at i.at) before)) own.0 own.1
           where
             no_outer : (o : Option Inst) → earlier Gs i.at x ≡ o → option_map_or (suits Value) o false ≡ false
             no_outer None there = refl
             no_outer (Some h) there = ap is_some (sym (ap (option_and_then typed) (earlier_some Gs i.at x h there).0) ∙ outside)
 
-            second : (a b : Bool) → (a || b) ≡ true → a ≡ false → b ≡ true
-            second true b on off = clash off
-            second false b on off = on
-
             before : (is_some (typed j) && nat_lt j.at i.at) ≡ true
             before =
                 sym (ap (λ (o : Option ℕ). is_some o || option_map_or (λ (y : Inst). is_some (typed y) && nat_lt y.at i.at) (inst_in f x) false) none ∙ ap (λ (o : Option Inst). option_map_or (λ (y : Inst). is_some (typed y) && nat_lt y.at i.at) o false) at)
-                ∙ second (is_global Gs i.at Value x) (is_local_before f i.at x) stands (no_outer (earlier Gs i.at x) refl)
+                ∙ second_by (is_global Gs i.at Value x) (is_local_before f i.at x) stands (no_outer (earlier Gs i.at x) refl)
 
         by_parameter : (o : Option ℕ) → parameter_in f x ≡ o → global_type Gs x ≡ None → option_or o (option_and_then typed (inst_in f x)) ≡ Some ty → ⊥
         by_parameter None at outside e = by_inst (inst_in f x) refl at outside e
-        by_parameter (Some y) at outside e = no_parameter x y at (one_number y ty e)
+        by_parameter (Some y) at outside e = no_parameter x y at (same_Some y ty e)
 
         by_outer : (o : Option ℕ) → global_type Gs x ≡ o → option_or o (local_type f x) ≡ Some ty → ⊥
         by_outer None at e = by_parameter (parameter_in f x) refl at e
         by_outer (Some y) at e =
             let h = some_part typed (global Gs x) y at in
             let own = typed_type h.0 y h.2 in
-            no_global h.0 (found_in Gs x h.0 h.1) (own.0 ∙ one_number y ty e) own.1
+            no_global h.0 (found_in Gs x h.0 h.1) (own.0 ∙ same_Some y ty e) own.1
 
         none_before : type_in Gs f x ≡ Some ty → ⊥
         none_before e = by_outer (global_type Gs x) refl e
@@ -215,7 +198,7 @@ module _ (s : Setting) (entry : Option (List ℕ)) (right : IsConforming s.of en
           has = has_a_type i ((inside s entry right f in_it).formed i there) some
 
           itself : (row s entry right chosen have f in_it i there has).0 ≡ w.0
-          itself = let r = row s entry right chosen have f in_it i there has in one_found r.0 w.0 (sym r.1 ∙ (ap (global Gs) same ∙ w.1))
+          itself = let r = row s entry right chosen have f in_it i there has in same_Some r.0 w.0 (sym r.1 ∙ (ap (global Gs) same ∙ w.1))
 
           alone : ((j : Inst) → IsAmong j (insts_of f) → j.at < i.at → j.ty ≡ ty → (j.ty ≡ 0 → ⊥) → ⊥) → NoSame s entry right chosen have f in_it i there has
           alone earlier_none k few names needed off e =

@@ -15,7 +15,7 @@ use Rattle.module_semantics.specs.Operands.{arg}
 use Rattle.module_semantics.specs.Steps.{case_label}
 use Rattle.region_law.specs.Leads.{In}
 use Rattle.agree_law.specs.Tables.{has_word, CasesAre, DefaultIs, IsPicked}
-use Rattle.tree_law.proofs.SwitchOrder.{list_in, in_range}
+use Rattle.tree_law.proofs.SwitchOrder.{list_in, in_range, in_filter}
 use Rattle.function_law.proofs.PhiSources.{label_found}
 
 -- each word stands once
@@ -102,15 +102,6 @@ in_mapped index x [] is = absurd is
 in_mapped index x (y ∷ ys) (inl same) = inl (ap index same)
 in_mapped index x (y ∷ ys) (inr is) = inr (in_mapped index x ys is)
 
-filtered_in : (p : ℕ → Bool) (xs : List ℕ) (x : ℕ) → In x xs → p x ≡ true → In x (filter p xs)
-filtered_in p [] x is on = absurd is
-filtered_in p (y ∷ ys) x (inl same) on = subst (λ l. In x l) (sym (ap (λ t. if t then y ∷ filter p ys else filter p ys) (ap p (sym same) ∙ on))) (inl same)
-filtered_in p (y ∷ ys) x (inr is) on = by_test (p y) (filtered_in p ys x is on)
-  where
-    by_test : (t : Bool) → In x (filter p ys) → In x (if t then y ∷ filter p ys else filter p ys)
-    by_test true later = inr later
-    by_test false later = later
-
 label_in : (x label : ℕ) (ws : List ℕ) → first_label x ws ≡ Some label → In label (seconds ws)
 unfolding first_label
 label_in x label [] e = cc
@@ -149,7 +140,7 @@ module _ (f : Function) (g : List Node) (h : ℕ) (last : Inst) (is : IsSwitchOf
       let at = label_found f.blocks 0 (index_of f label) label (is.labels label there) in
       let below : at.0 < length f.blocks = placed_below f.blocks at.0 at.1 at.3 in
       let within : index_of f label < length g = (let same = at.2 in let size = is.size in omega (arith, below, same, size)) in
-      filtered_in (λ t. leads_to t (nth g h)) _ (index_of f label) (in_range 0 (length g) (index_of f label) (omega arith) (omega (arith, within)))
+      in_filter (λ t. leads_to t (nth g h)) _ (index_of f label) (in_range 0 (length g) (index_of f label) (omega arith) (omega (arith, within)))
       (list_in (index_of f label) (nth g h).targets (subst (In (index_of f label)) (sym is.leads) (in_mapped (index_of f) label (seconds last.args) there)))
 
   -- the groups that have the word

@@ -17,11 +17,11 @@ use Rattle.glsl_semantics.specs.Shapes.{Shape, Typed, typed, shape_of, tree_of_v
 use Rattle.glsl_semantics.specs.States.{Frame, State, found, has}
 use Rattle.glsl_semantics.specs.Expressions.{Program, Argument}
 use Rattle.glsl_semantics.specs.Run.{parameter_if, parameters}
+use Rattle.list_law.proofs.Tests.{not_both}
 use Rattle.agree_law.specs.Agree.{Naming, is_named, AreApart, IfPointer, IsFar, variable_in, variable_with, target_value, Agree}
 use Rattle.agree_law.proofs.Braces.{outer_named, lent_named, private_named}
 use Rattle.call_law.specs.Known.{from_call, IsWhole}
 use Rattle.call_law.proofs.Valued.{under, first_call}
-use Rattle.call_law.proofs.Lending.{no_true}
 use Rattle.function_law.specs.Passed.{NamesMemory, ShareNames, IsArgument, IsPassed, ArePassed, AreTypedParameters, parameter_frame}
 use Rattle.function_law.specs.Tops.{IsEntered}
 use Rattle.function_law.proofs.TopText.{found_head, found_past, has_past}
@@ -39,7 +39,7 @@ far_from_call ds (global n) = tt
 far_from_call ds (own n) = tt
 far_from_call ds (lent depth n) = tt
 
-passed_pointer : (ds : List (module_state.Frame × ℕ)) (r : Root) (path : List ℕ) → passed (length ds) (pointer r path) ≡ pointer (from_call ds r) path
+pub passed_pointer : (ds : List (module_state.Frame × ℕ)) (r : Root) (path : List ℕ) → passed (length ds) (pointer r path) ≡ pointer (from_call ds r) path
 passed_pointer ds (global n) path = refl
 passed_pointer ds (own n) path = refl
 passed_pointer ds (lent depth n) path = refl
@@ -175,16 +175,16 @@ module _ (m other : Naming) (apart : AreApart other) (s : Setting) (c : Conf) (r
   }
     where
       no_private : (k n : ℕ) (h : Held) (w : ValueTree) → HasAs k h w → k ≡ n → other.is_private n ≡ true → ⊥
-      no_private k n (value v) w has one is = no_true (other.is_outer k) has.0 ((apart.privates k (ap other.is_private one ∙ is)).0)
-      no_private k n (pointer r path) w has one is = no_true (other.is_private k) (ap other.is_private one ∙ is) (apart.lents k has.0).2
+      no_private k n (value v) w has one is = not_both (other.is_outer k) has.0 ((apart.privates k (ap other.is_private one ∙ is)).0)
+      no_private k n (pointer r path) w has one is = not_both (other.is_private k) (ap other.is_private one ∙ is) (apart.lents k has.0).2
 
       by_value : (n : ℕ) → other.is_outer n ≡ true → (b : IsBegun g.params all (parameter_frame qs as') n) → (h : Held) → b.held ≡ h → (v : ValueTree) × (argument_of g.params (map (passed (length c.below)) all) n ≡ Some (value v)) × (found (parameter_frame qs as') (other.name n) ≡ Some (variable_with (other.shape n) (Some v)))
       by_value n is b (value v) e = let has = subst (λ h. HasAs n h b.value) e b.has in (v, b.given ∙ ap (λ h. Some h) e, b.there ∙ ap (λ w. Some (variable_with (other.shape n) (Some w))) (sym has.1))
-      by_value n is b (pointer r path) e = let has = subst (λ h. HasAs n h b.value) e b.has in absurd (no_true (other.is_outer n) is (apart.lents n has.0).0)
+      by_value n is b (pointer r path) e = let has = subst (λ h. HasAs n h b.value) e b.has in absurd (not_both (other.is_outer n) is (apart.lents n has.0).0)
 
       by_lent : (n : ℕ) → other.is_lent n ≡ true → (b : IsBegun g.params all (parameter_frame qs as') n) → (h : Held) → b.held ≡ h
           → (v : ValueTree) × (found (parameter_frame qs as') (other.name n) ≡ Some (variable_with (other.shape n) (Some v))) × IfPointer (argument_of g.params (map (passed (length c.below)) all) n) (λ r path. IsFar r × (Some v ≡ target_value Called r path))
-      by_lent n is b (value v) e = let has = subst (λ h. HasAs n h b.value) e b.has in absurd (no_true (other.is_outer n) has.0 (apart.lents n is).0)
+      by_lent n is b (value v) e = let has = subst (λ h. HasAs n h b.value) e b.has in absurd (not_both (other.is_outer n) has.0 (apart.lents n is).0)
       by_lent n is b (pointer r path) e =
           let has = subst (λ h. HasAs n h b.value) e b.has in
           (b.value, b.there, subst (λ o. IfPointer o (λ r path. IsFar r × (Some b.value ≡ target_value Called r path))) (sym (b.given ∙ ap (λ h. Some h) e)) (has.1, sym has.2))

@@ -20,6 +20,7 @@ use Rattle.glsl_semantics.specs.Expressions.{Program, Argument}
 use Rattle.glsl_semantics.specs.Statements as statements
 use Rattle.glsl_semantics.specs.Statements.{stmts_run}
 use Rattle.glsl_semantics.specs.Run.{come_back, returned, function_run, ended_by}
+use Rattle.list_law.proofs.Tests.{not_both}
 use Rattle.agree_law.specs.Answers.{move}
 use Rattle.agree_law.specs.Agree.{IfPointer}
 use Rattle.agree_law.specs.Evaluates.{as_outcome}
@@ -27,7 +28,7 @@ use Rattle.agree_law.specs.Points.{GivesBy, Returns}
 use Rattle.agree_law.proofs.Calling.{fails_then, come_events}
 use Rattle.agree_law.proofs.Machine.{machine, kind_is}
 use Rattle.call_law.specs.Known.{is_parameter, IsLending}
-use Rattle.call_law.proofs.Lending.{no_true, first_lending}
+use Rattle.call_law.proofs.Lending.{first_lending}
 use Rattle.function_law.specs.UnderWay.{IsKnown, IsUnderWay, IsRuled}
 use Rattle.function_law.specs.Tops.{IsEntered}
 use Rattle.function_law.specs.Texts.{FunctionText}
@@ -100,7 +101,7 @@ module _ (p : Program) (k : ℕ) (s : Setting) (More : Conf → Type 0) (ruled :
   }
 
   no_parameter : (n : ℕ) → is_parameter g n ≡ true → ⊥
-  no_parameter n on = no_true (is_parameter g n) on (ap (λ (ps : List (Id × Id)). is_some (option_map (λ (p : Id × Id). p.1.0) (find (λ (p : Id × Id). p.0.0 == n) ps))) first.no_parameters)
+  no_parameter n on = not_both (is_parameter g n) on (ap (λ (ps : List (Id × Id)). is_some (option_map (λ (p : Id × Id). p.1.0) (find (λ (p : Id × Id). p.0.0 == n) ps))) first.no_parameters)
 
   module _ (later : Text → List Argument → State → Result (Option Typed × State)) (IsFlag : Text → Type 0) (w : IsWritten p later k s More ruled t.naming g IsFlag t.statements) where
     enters : IsEntered s t.naming g [] [] start begun

@@ -1,6 +1,6 @@
 -- The node of a block tells what its terminator does; so the node of an OpSwitch leads to the blocks of its labels.
-use Rattle.std.proofs.Common.{◌≡◌, ◌<◌, ℕ, zero, suc, true, List, [], ◌∷◌, length, map, Option, Some, None, refl, ap, ◌∙◌, arith}
-use Rattle.std.specs.Prelude.{slice_get, slice_index_or, is_some, unwrap_or, option_and_then}
+use Rattle.std.proofs.Common.{◌≡◌, ◌<◌, ℕ, zero, suc, true, List, [], ◌∷◌, length, map, Some, ap, ◌∙◌, arith}
+use Rattle.std.specs.Prelude.{slice_get, slice_index_or, is_some, option_and_then}
 use Rattle.spv_module.specs.declared.inst.Inst.{Inst}
 use Rattle.spv_module.specs.declared.inst.Block.{Block}
 use Rattle.spv_module.specs.declared.inst.Function.{Function}
@@ -11,6 +11,7 @@ use Rattle.structure_rules.specs.declared.graph.Exit.TheVariants.{Switch}
 use Rattle.structure_rules.specs.Graph.{index_of, seconds, terminator, exit_by, labels_by, target_labels, node_by, nodes, is_marked, reached, graph, no_node, nth}
 use Rattle.block_graph.proofs.Within.{nth_told, length_reached, length_nodes, graph_sized}
 use Rattle.structure_recover.specs.Follows.{firsts}
+use Rattle.list_law.proofs.Options.{some_number}
 use Rattle.region_law.specs.Leads.{In}
 use Rattle.function_law.proofs.CaseGroups.{AreOnceWords, IsSwitchOf, placed_below}
 
@@ -37,11 +38,7 @@ switch_of f h b last selector default words there ends kind args labels once = r
   words = words;
   args = args;
   leads = ap (λ (n : Node). n.targets) (node_is f h b there) ∙ (ap (λ o. map (index_of f) (target_labels o)) ends ∙ ap (λ (x : Exit). map (index_of f) (labels_by x last.args)) kind);
-  labels = λ label in_it. by_block (block_in f label) (labels label in_it);
+  labels = λ label in_it. some_number (block_in f label) (labels label in_it);
   size = graph_sized f;
   once = once;
 }
-  where
-    by_block : (o : Option ℕ) → is_some o ≡ true → o ≡ Some (unwrap_or o 0)
-    by_block None e = cc
-    by_block (Some n) e = refl

@@ -19,6 +19,7 @@ use Rattle.glsl_semantics.specs.Shapes.{typed}
 use Rattle.glsl_semantics.specs.States.{State, found_in}
 use Rattle.glsl_semantics.specs.Expressions.{Argument}
 use Rattle.glsl_semantics.specs.Run.{last_value}
+use Rattle.list_law.proofs.Tests.{not_both, or_left, or_right, and_off}
 use Rattle.fits_law.proofs.Operations.{before_some}
 use Rattle.agree_law.specs.Agree.{Naming, AreApart, IfPointer, variable_in, target_value}
 use Rattle.agree_law.specs.Outs.{Outs, IsOut, NotOut, AreOnce, AreLent, AreOuts}
@@ -28,7 +29,7 @@ use Rattle.call_law.specs.Known.{is_parameter, IsOfBelow, from_call, IsWhole, Is
 use Rattle.call_law.proofs.Inside.{wait_length}
 use Rattle.call_law.proofs.LeftBehind.{waiting, left_behind}
 use Rattle.call_law.proofs.Valued.{under, first_call}
-use Rattle.call_law.proofs.Lending.{if_pointer, of_pointer, no_true, left_false, right_false, and_false, argument_whole}
+use Rattle.call_law.proofs.Lending.{if_pointer, of_pointer, argument_whole}
 use Rattle.function_law.specs.Passed.{NamesMemory, IsArgument, IsLentAs, ArePassed}
 
 -- an argument that is a pointer is whole
@@ -39,11 +40,11 @@ whole_in s whole ds f at (k ∷ ns) [] e fine n r path is = absurd is
 whole_in s whole ds f at (k ∷ ns) (h ∷ hs) e fine n r path (inl is) =
     let b = before_some (held s f k) (each_one (held s f) ns) (h ∷ hs) e in
     let same : h ≡ b.0 = (let all : h ∷ hs ≡ b.0 ∷ b.1 = b.4 in cc) in
-    subst (λ j. IsWhole s ds f j r path) is.0 (of_pointer (IsWhole s ds f k) (Some b.0) r path (ap (λ g. Some g) (sym same ∙ is.1)) (argument_whole s whole ds f at k b.0 b.2 (left_false (is_other_pointer s.of.globals f.function k) _ fine)))
+    subst (λ j. IsWhole s ds f j r path) is.0 (of_pointer (IsWhole s ds f k) (Some b.0) r path (ap (λ g. Some g) (sym same ∙ is.1)) (argument_whole s whole ds f at k b.0 b.2 (or_left (is_other_pointer s.of.globals f.function k) _ fine)))
 whole_in s whole ds f at (k ∷ ns) (h ∷ hs) e fine n r path (inr is) =
     let b = before_some (held s f k) (each_one (held s f) ns) (h ∷ hs) e in
     let same : b.1 ≡ hs = (let all : h ∷ hs ≡ b.0 ∷ b.1 = b.4 in cc) in
-    whole_in s whole ds f at ns hs (b.3 ∙ ap (λ l. Some l) same) (right_false (is_other_pointer s.of.globals f.function k) _ fine) n r path is
+    whole_in s whole ds f at ns hs (b.3 ∙ ap (λ l. Some l) same) (or_right (is_other_pointer s.of.globals f.function k) _ fine) n r path is
 
 -- what was lent was an argument
 lent_argument : (ds : List (Frame × ℕ)) (ns : List ℕ) (hs : List Held) (depth n : ℕ) → length ns ≡ length hs → LentBy (map (passed (length ds)) hs) depth n → (k : ℕ) × (r : Root) × (path : List ℕ) × IsArgument k (pointer r path) ns hs × (from_call ds r ≡ lent depth n)
@@ -100,7 +101,7 @@ module _ (m other : Naming) (c d : Conf) (y : State) where
         lent = l.lent;
         from = λ k u is. let g = l.from k u is in (g.0, inr g.1, g.2);
         all = λ k u path out is. elim is [ inl here ↦ (let never : value v ≡ pointer u path = here.1 in cc) | inr later ↦ l.all k u path out later ];
-        among = λ k off. l.among k (right_false (n == k) _ off);
+        among = λ k off. l.among k (or_right (n == k) _ off);
       }
   are_left (p ∷ ps) (n ∷ ns) (pointer r path ∷ hs) (param true t w ∷ qs) (a ∷ as') are end =
       let l = are_left ps ns hs qs as' are.1 end.1 in
@@ -116,8 +117,8 @@ module _ (m other : Naming) (c d : Conf) (y : State) where
         ];
         all = λ k u way out is. elim is [ inl here ↦ out.0 (sym here.0) | inr later ↦ l.all k u way out.1 later ];
         among = λ k off. (
-          (λ same. let on : (n == k) ≡ true = elim (eqb_tells n k) [ inl w ↦ w.0 | inr w ↦ absurd (w.1 (sym same)) ] in no_true (n == k) on (left_false (n == k) _ off)),
-          l.among k (right_false (n == k) _ off),
+          (λ same. let on : (n == k) ≡ true = elim (eqb_tells n k) [ inl w ↦ w.0 | inr w ↦ absurd (w.1 (sym same)) ] in not_both (n == k) on (or_left (n == k) _ off)),
+          l.among k (or_right (n == k) _ off),
         );
       }
 
@@ -136,10 +137,10 @@ module _ (m other : Naming) (c d : Conf) (y : State) where
   are_once s f (p ∷ ps) (n ∷ ns) (h ∷ hs) (q ∷ qs) [] are end pointers once = absurd are
   are_once s f (p ∷ ps) (n ∷ ns) (value v ∷ hs) (param true t w ∷ qs) (a ∷ as') are end pointers once = absurd are.0
   are_once s f (p ∷ ps) (n ∷ ns) (pointer r path ∷ hs) (param false t w ∷ qs) (a ∷ as') are end pointers once = absurd are.0
-  are_once s f (p ∷ ps) (n ∷ ns) (value v ∷ hs) (param false t w ∷ qs) (a ∷ as') are end pointers once = are_once s f ps ns hs qs as' are.1 end.1 (λ k r path is. pointers k r path (inr is)) (right_false _ (repeats (is_pointer s.of.globals f) ns) once)
+  are_once s f (p ∷ ps) (n ∷ ns) (value v ∷ hs) (param false t w ∷ qs) (a ∷ as') are end pointers once = are_once s f ps ns hs qs as' are.1 end.1 (λ k r path is. pointers k r path (inr is)) (or_right _ (repeats (is_pointer s.of.globals f) ns) once)
   are_once s f (p ∷ ps) (n ∷ ns) (pointer r path ∷ hs) (param true t w ∷ qs) (a ∷ as') are end pointers once = (
-    (are_left ps ns hs qs as' are.1 end.1).among n (and_false (is_pointer s.of.globals f n) _ (left_false _ (repeats (is_pointer s.of.globals f) ns) once) (pointers n r path (inl (refl, refl)))),
-    are_once s f ps ns hs qs as' are.1 end.1 (λ k r path is. pointers k r path (inr is)) (right_false _ (repeats (is_pointer s.of.globals f) ns) once),
+    (are_left ps ns hs qs as' are.1 end.1).among n (and_off (is_pointer s.of.globals f n) _ (or_left _ (repeats (is_pointer s.of.globals f) ns) once) (pointers n r path (inl (refl, refl)))),
+    are_once s f ps ns hs qs as' are.1 end.1 (λ k r path is. pointers k r path (inr is)) (or_right _ (repeats (is_pointer s.of.globals f) ns) once),
   )
 
 -- so the caller has that left which its state has to agree with
@@ -176,7 +177,7 @@ module _ (s : Setting) (whole : LendsWhole s) (m : Naming) (apart : AreApart m) 
       variables n v mine out = let g = from n v out in by_kind g.0 (argument n g.0 [] g.1).2 g.2
         where
           by_kind : (r : Root) → ((is_parameter c.top.function n ≡ true) × IsOfBelow c.below r × (c.top.ids n ≡ Some (pointer r []))) ⊎ ((is_parameter c.top.function n ≡ false) × (r ≡ own n)) → target_value d (from_call c.below r) [] ≡ Some v → frame.variables n ≡ Some v
-          by_kind r (inl p) has = absurd (no_true _ p.0 (names.variables n mine).1)
+          by_kind r (inl p) has = absurd (not_both _ p.0 (names.variables n mine).1)
           by_kind r (inr o) has = sym (extracted_none (frame.variables n)) ∙ (sym (from_own n) ∙ (ap (λ q. target_value d (from_call c.below q) []) (sym o.1) ∙ has))
 
       lents : (n : ℕ) (v : ValueTree) → m.is_lent n ≡ true → IsOut n v outs → IfPointer (c.top.ids n) (λ r path. Some v ≡ target_value (record d { top = frame; below = below }) r path)
@@ -190,7 +191,7 @@ module _ (s : Setting) (whole : LendsWhole s) (m : Naming) (apart : AreApart m) 
           by_kind : (r : Root) → ((is_parameter c.top.function n ≡ true) × IsOfBelow c.below r × (c.top.ids n ≡ Some (pointer r []))) ⊎ ((is_parameter c.top.function n ≡ false) × (r ≡ own n)) → target_value d (from_call c.below r) [] ≡ Some v
               → IfPointer (c.top.ids n) (λ r path. Some v ≡ target_value (record d { top = frame; below = below }) r path)
           by_kind r (inl p) has = subst (λ o. IfPointer o (λ r path. Some v ≡ target_value (record d { top = frame; below = below }) r path)) (sym p.2) (there r p.1 has)
-          by_kind r (inr o) has = absurd (no_true _ (names.lents n mine) o.0)
+          by_kind r (inr o) has = absurd (not_both _ (names.lents n mine) o.0)
 
       unlent : (n : ℕ) → m.is_variable n ≡ true → NotOut n outs → Lent (length c.below) n → ⊥
       unlent n mine out lent_it = let g = lent_argument c.below ns hs (length c.below) n (lengths s c.top ns hs have) lent_it in by_kind g.0 g.1 g.2 (argument g.0 g.1 g.2 g.3).2 g.3 g.4

@@ -12,20 +12,13 @@ use Rattle.expr_forward.specs.Statements.{captured_of}
 use Rattle.control_text.specs.Statements.{region_text}
 use Rattle.function_text.specs.Functions.{FunctionPlan, written, blocks_of, is_variable, variable_text, is_hoisted_in, hoisted_text, captured_text, in_blocks, body_text}
 use Rattle.function_text.specs.Functions as real
+use Rattle.list_law.proofs.Lists.{map_joined, map_twice}
 use Rattle.agree_law.specs.Agree.{Naming}
 use Rattle.function_law.specs.Tops.{Top, top_text}
-
-map_joined : {A B : Type 0} (f : A → B) (xs ys : List A) → map f (xs ++ ys) ≡ map f xs ++ map f ys
-map_joined f [] ys = refl
-map_joined f (x ∷ xs) ys = ap (λ l. f x ∷ l) (map_joined f xs ys)
 
 map_flat : {A B C : Type 0} (f : B → C) (g : A → List B) (xs : List A) → map f (flat_map g xs) ≡ flat_map (λ x. map f (g x)) xs
 map_flat f g [] = refl
 map_flat f g (x ∷ xs) = map_joined f (g x) (flat_map g xs) ∙ ap (λ l. map f (g x) ++ l) (map_flat f g xs)
-
-map_twice : {A B C : Type 0} (f : B → C) (g : A → B) (xs : List A) → map f (map g xs) ≡ map (λ x. f (g x)) xs
-map_twice f g [] = refl
-map_twice f g (x ∷ xs) = ap (λ l. f (g x) ∷ l) (map_twice f g xs)
 
 flat_same : {A B : Type 0} (f g : A → List B) (xs : List A) → ((x : A) → f x ≡ g x) → flat_map f xs ≡ flat_map g xs
 flat_same f g [] same = refl

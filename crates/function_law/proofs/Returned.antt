@@ -41,6 +41,7 @@ use Rattle.function_law.specs.Passed.{NamesMemory, ShareNames, IsArgument, IsLen
 use Rattle.function_law.proofs.UnderWay.{way_kept}
 use Rattle.function_law.proofs.Passing.{whole_in, AreLeft, AllEnd, are_left, are_once, is_left}
 use Rattle.function_law.proofs.Beginning.{Got, InCall, way_again, way_given}
+use Rattle.function_law.proofs.Entering.{passed_pointer}
 
 -- what each parameter gets
 abbrev AllGet : ℕ → (ℕ → Option Held) → List (Id × Id) → List Held → Type 0
@@ -96,11 +97,6 @@ still_get : (height : ℕ) (ids given : ℕ → Option Held) (test : ℕ → Boo
 still_get height ids given test same [] hs pass all = tt
 still_get height ids given test same (p ∷ ps) [] pass all = tt
 still_get height ids given test same (p ∷ ps) (h ∷ hs) pass all = (same p.0.0 pass.0 ∙ all.0, still_get height ids given test same ps hs pass.1 all.1)
-
-passed_root : (ds : List (module_state.Frame × ℕ)) (r : Root) (path : List ℕ) → passed (length ds) (pointer r path) ≡ pointer (from_call ds r) path
-passed_root ds (global n) path = refl
-passed_root ds (own n) path = refl
-passed_root ds (lent depth n) path = refl
 
 -- what was lent has a value
 root_has : (s : Setting) (c : Conf) (n : ℕ) (r : Root) (path : List ℕ) → IsWhole s c.below c.top n r path → (d : Conf) → LeadsToSome d.below d.top (from_call c.below r) → (v : ValueTree) × (target_value d (from_call c.below r) [] ≡ Some v)
@@ -162,7 +158,7 @@ module _ (p : Program) (calls : Text → List Argument → State → Result (Opt
       ends (p ∷ ps) (n ∷ ns) (pointer r path ∷ hs') (param true t w ∷ qs') (a ∷ as'') whole are get =
           let is : IsWhole s c.at.below c.at.top n r path = whole n r path (inl (refl, refl)) in
           let g : IsLentAs m other c.at p.0.0 n r path w a = are.0 in
-          let has : d.at.top.ids p.0.0 ≡ Some (pointer (from_call c.at.below r) path) = get.0 ∙ ap (λ h. Some h) (passed_root c.at.below r path) in
+          let has : d.at.top.ids p.0.0 ≡ Some (pointer (from_call c.at.below r) path) = get.0 ∙ ap (λ h. Some h) (passed_pointer c.at.below r path) in
           let l = agree.lents p.0.0 g.lent in
           let stands_for : l.0 ≡ target_value d.at (from_call c.at.below r) path = (of_pointer (λ r path. IsFar r × (l.0 ≡ target_value d.at r path)) (d.at.top.ids p.0.0) (from_call c.at.below r) path has l.2).1 in
           let valued : LeadsToSome d.at.below d.at.top (from_call c.at.below r) = of_pointer (λ r path. LeadsToSome d.at.below d.at.top r) (d.at.top.ids p.0.0) (from_call c.at.below r) path has (inside.known.valued.top (omega arith) p.0.0) in

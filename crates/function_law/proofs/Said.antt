@@ -14,12 +14,13 @@ use Rattle.glsl_semantics.specs.Shapes.{Typed, typed}
 use Rattle.glsl_semantics.specs.States as state
 use Rattle.glsl_semantics.specs.States.{State, Thing, fetch}
 use Rattle.glsl_semantics.specs.Expressions.{Program, Argument, denote, arguments}
+use Rattle.list_law.proofs.Tests.{not_both}
 use Rattle.agree_law.specs.Agree.{Naming, IsFar, variable_with, target_value, Agree}
 use Rattle.agree_law.proofs.Owned.{own_found}
 use Rattle.agree_law.proofs.Evaluating.{named_is}
 use Rattle.call_law.specs.Known.{is_parameter, IsOfBelow, LeadsToSome, IsValued, IsWhole}
 use Rattle.call_law.proofs.Valued.{held_so}
-use Rattle.call_law.proofs.Lending.{of_pointer, no_true}
+use Rattle.call_law.proofs.Lending.{of_pointer}
 use Rattle.function_law.specs.Passed.{NamesMemory, IsArgument, IsPassed, ArePassed, ArgumentSays, ArgumentsSay}
 
 none_before : (d e : List Event) → d ++ e ≡ [] → (d ≡ []) × (e ≡ [])
@@ -77,14 +78,14 @@ module _ (p : Program) (calls : Text → List Argument → State → Result (Opt
       whole_value (Some v) = refl
 
       by_kind : ((is_parameter c.top.function n ≡ true) × IsOfBelow c.below r × (c.top.ids n ≡ Some (pointer r path))) ⊎ ((is_parameter c.top.function n ≡ false) × (r ≡ own n)) → state.found_in z.frames (m.name n) ≡ Some (variable_with (m.shape n) (Some v))
-      by_kind (inl q) = absurd (no_true _ q.0 (names.variables n mine).1)
+      by_kind (inl q) = absurd (not_both _ q.0 (names.variables n mine).1)
       by_kind (inr q) =
           own_found z.frames (m.name n) _ (agree.variables n mine)
           ∙ ap (λ o. Some (variable_with (m.shape n) o)) (sym (whole_value (c.top.variables n)) ∙ (sym (ap (target_value c r) is.1 ∙ ap (λ t. target_value c t []) q.1) ∙ has))
   found_so n r path v is has (inr mine) = by_kind is.2
     where
       by_kind : ((is_parameter c.top.function n ≡ true) × IsOfBelow c.below r × (c.top.ids n ≡ Some (pointer r path))) ⊎ ((is_parameter c.top.function n ≡ false) × (r ≡ own n)) → state.found_in z.frames (m.name n) ≡ Some (variable_with (m.shape n) (Some v))
-      by_kind (inr q) = absurd (no_true _ (names.lents n mine) q.0)
+      by_kind (inr q) = absurd (not_both _ (names.lents n mine) q.0)
       by_kind (inl q) =
           let l = agree.lents n mine in
           own_found z.frames (m.name n) _ l.1 ∙ ap (λ o. Some (variable_with (m.shape n) o)) ((of_pointer (λ r path. IsFar r × (l.0 ≡ target_value c r path)) (c.top.ids n) r path q.2 l.2).1 ∙ has)

@@ -1,9 +1,8 @@
 -- What the items of a text declare stays: so the block of a variable stands for its members, by the layout that it takes.
 use Rattle.std.proofs.Common.{◌≡◌, ◌⊎◌, ◌+◌, ◌++◌, ℕ, true, false, List, [], ◌∷◌, map, Option, Some, None, refl, sym, ap, ap₂, ◌∙◌, subst}
-use Rattle.std.specs.Prelude.{bytes_eq, flat_map, unwrap_or}
+use Rattle.std.specs.Prelude.{flat_map, unwrap_or}
 use Rattle.std.specs.List.{enumerate_from}
 use Rattle.std.proofs.lemmas.List.Concat.{flat_map-cons}
-use Rattle.std.proofs.lemmas.Slice.Eq.{bytes_eq-Decides}
 use Rattle.std.proofs.lemmas.Option.{same_Some}
 use Rattle.spv_ops.specs.Opcode.{is}
 use Rattle.spv_module.specs.Lists.{id}
@@ -29,6 +28,7 @@ use Rattle.glsl_semantics.specs.Items.{Declared, layout_of, with_member, members
 use Rattle.text_rules.specs.Constants.{Source}
 use Rattle.text_rules.specs.Printed.{Reached}
 use Rattle.text_rules.specs.Declarations.{Names, spelling, type_at, member_decl, place_of, rules_by, block_decl, declaration, declarations}
+use Rattle.region_law.proofs.Flags.{own_text}
 use Rattle.type_law.proofs.Parts.{earlier_is}
 use Rattle.path_law.specs.Parts.{shape_in, IsShape}
 use Rattle.path_law.specs.Walks.{struct_names}
@@ -48,9 +48,6 @@ use Rattle.global_law.specs.Sources.{source_of}
 use Rattle.global_law.specs.Names.{names_of, IsDeclared}
 use Rattle.global_law.proofs.BuiltIns.{AreOtherNames, items_keep}
 use Rattle.global_law.proofs.Declared.{named_shape, named_type, outline_same}
-
-bytes_same : (w : Text) → bytes_eq w w ≡ true
-bytes_same w = (bytes_eq-Decides w w).1 refl
 
 -- items one behind the other
 pub items_more : (xs ys : List Decl) (d : Declared) → with_items d (xs ++ ys) ≡ with_items (with_items d xs) ys
@@ -124,7 +121,7 @@ module _ (s : Setting) (f : Function) (overrides : List (ℕ × Given)) (key : K
   -- the item of a block
   pub block_item : (d : Declared) (v g : Inst) (k : Kind) (ts : Trees) → kind_at s.of.heads Gs v g ≡ Some k → all_trees (tree_before Gs g.at) g.args ≡ Some ts → HaveLengths ts → AreDeclared d.program ts → (with_item d (block_decl source N v g)).program.things (key (Id (id v.result))) ≡ Some (instance (place_of source v) k (members_in s (struct_names key) g.result 0 ts))
   block_item d v g k ts takes all lengths are =
-      ap (λ b. elim b as (λ b. Option Thing) [ true ↦ Some (instance (place_of source v) (layout_of (rules_by (kind_at s.of.heads Gs v g))) (members_of d.program (map (member_decl source N v g) (enumerate_from 0 g.args)))) | false ↦ d.program.things (key (Id (id v.result))) ]) (bytes_same (key (Id (id v.result))))
+      ap (λ b. elim b as (λ b. Option Thing) [ true ↦ Some (instance (place_of source v) (layout_of (rules_by (kind_at s.of.heads Gs v g))) (members_of d.program (map (member_decl source N v g) (enumerate_from 0 g.args)))) | false ↦ d.program.things (key (Id (id v.result))) ]) (own_text (key (Id (id v.result))))
       ∙ ap₂ (λ q ms. Some (instance (place_of source v) q ms)) (ap (λ o. layout_of (rules_by o)) takes ∙ kind_there k) (members_declared d.program v g 0 g.args ts all lengths are)
 
   -- So the name of a block variable stands for its block, behind all items.

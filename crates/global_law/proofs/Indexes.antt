@@ -2,6 +2,7 @@
 use Rattle.std.proofs.Common.{◌≡◌, ◌&&◌, ℕ, Bool, true, false, List, [], Option, Some, None, refl, sym, ap, ◌∙◌, if◌then◌else◌}
 use Rattle.std.specs.Prelude.{option_and_then, unwrap_or}
 use Rattle.std.proofs.lemmas.Bool.{and_parts}
+use Rattle.std.proofs.lemmas.Option.{same_Some}
 use Rattle.spv_module.specs.Held.{global as global_inst}
 use Rattle.spv_module.specs.declared.inst.Inst.{Inst}
 use Rattle.spv_module.specs.declared.inst.Function.{Function}
@@ -34,7 +35,7 @@ use Rattle.path_law.proofs.Starts.{outside_is}
 use Rattle.global_law.specs.Sources.{source_of, chosen}
 use Rattle.global_law.proofs.Plain.{plain_has, plain_says}
 
-plain_reading : (r : Reading) → is_plain r ≡ true → r ≡ Plain
+pub plain_reading : (r : Reading) → is_plain r ≡ true → r ≡ Plain
 plain_reading Plain e = refl
 plain_reading Named e = cc
 plain_reading GroupSize e = cc
@@ -75,14 +76,11 @@ module _ (s : Setting) (overrides : List (ℕ × Given)) (have : HasConstants s 
     plain_index names n i g there reads written has =
         let c = plain_has s overrides have results n g (word i) there reads has in
         let says = plain_says s overrides have results p calls z (struct_names key) names n g (word i) there reads has in
-        let same : says.0 ≡ c.shape = some_same says.0 c.shape (sym says.1 ∙ c.typed_as) in (
+        let same : says.0 ≡ c.shape = same_Some says.0 c.shape (sym says.1 ∙ c.typed_as) in (
           typed (shape_in s (struct_names key) says.0) (word i),
           ap (λ o. evaluate p calls (unwrap_or o (name (key (Id (id n))))) z) written ∙ says.2,
           word_number s (struct_names key) says.0 i (ap is_scalar same ∙ c.scalar) (ap (λ t. fits t (word i)) same ∙ c.fit),
         )
-      where
-        some_same : (a b : Tree) → Some a ≡ Some b → a ≡ b
-        some_same a b e = cc
 
     -- a name that stands outside of functions for a value says it
     pub outside_says : (m : Naming) (c : Conf) → Agree m c z → (x : Text) (v : Typed) → m.is_outside x ≡ true → p.things x ≡ Some (value v) → evaluate p calls (name x) z ≡ got [] (v, z)

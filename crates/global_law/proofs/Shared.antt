@@ -1,9 +1,8 @@
 -- A variable of a workgroup has in a text the number that it has in the module.
-use Rattle.std.proofs.Common.{◌≡◌, ◌≢◌, ◌⊎◌, inl, inr, ◌+◌, ◌++◌, ◌==◌, ◌&&◌, ℕ, Bool, true, false, List, [], ◌∷◌, filter, Option, Some, None, refl, sym, ap, ap₂, ◌∙◌, arith, if◌then◌else◌}
+use Rattle.std.proofs.Common.{◌≡◌, ◌+◌, ◌++◌, ◌==◌, ◌&&◌, ℕ, Bool, true, false, List, [], ◌∷◌, filter, Option, Some, None, refl, sym, ap, ap₂, ◌∙◌, arith, if◌then◌else◌}
 use Rattle.std.specs.Prelude.{unwrap_or, ◌||◌, not, is_some, option_and_then, slice_index, bytes_eq, flat_map, option_map}
 use Rattle.std.specs.Option.{option_map_or}
 use Rattle.std.specs.List.{list_any, enumerate_from, position_from}
-use Rattle.std.proofs.lemmas.Bool.Decides.{eqb_tells}
 use Rattle.std.proofs.lemmas.List.Concat.{flat_map-cons}
 use Rattle.std.proofs.lemmas.Slice.Eq.{bytes_eq-Decides}
 use Rattle.std.proofs.lemmas.Bool.{and_parts, and_left}
@@ -40,6 +39,8 @@ use Rattle.text_rules.specs.Constants.{Source, reading, free_spec_id}
 use Rattle.text_rules.specs.Printed as printed
 use Rattle.text_rules.specs.Printed.{Reached, is_named, is_needed, type_has_struct, written_types, has_operand, is_operand_in, is_private, is_workgroup, is_block_variable, is_written_variable, is_declared_constant, is_written_struct}
 use Rattle.text_rules.specs.Declarations.{Names, struct_decl, constant_decl, variable_decl, type_at, pointee_at, initial, declaration, declarations}
+use Rattle.list_law.proofs.Numbers.{zero_first, same_number, number_itself}
+use Rattle.list_law.proofs.Tests.{and_none}
 use Rattle.path_law.specs.Parts.{IsShape}
 use Rattle.path_law.specs.Walks.{struct_names}
 use Rattle.path_law.specs.Starts.{IsShared}
@@ -50,25 +51,8 @@ use Rattle.global_law.specs.Names.{names_of, IsDeclared}
 use Rattle.global_law.proofs.BuiltIns.{AreOtherNames}
 use Rattle.global_law.proofs.Blocks.{declared_between, item_there, shape_declared}
 
-zero_first : (n : ℕ) → n ≡ 0 + n
-zero_first n = omega (arith)
-
 no_more : (k n : ℕ) → k + n ≡ k + (0 + n)
 no_more k n = omega (arith)
-
-same_number : (a b : ℕ) → (a == b) ≡ true → a ≡ b
-same_number a b e = by_test (eqb_tells a b)
-  where
-    by_test : ((a == b) ≡ true × (a ≡ b)) ⊎ ((a == b) ≡ false × (a ≢ b)) → a ≡ b
-    by_test (inl h) = h.1
-    by_test (inr h) = cc
-
-itself_same : (a : ℕ) → (a == a) ≡ true
-itself_same a = by_test (eqb_tells a a)
-  where
-    by_test : ((a == a) ≡ true × (a ≡ a)) ⊎ ((a == a) ≡ false × (a ≢ a)) → (a == a) ≡ true
-    by_test (inl h) = h.0
-    by_test (inr h) = absurd (h.1 refl)
 
 from_first : (k : ℕ) → k ≡ k + 0
 from_first k = omega (arith)
@@ -143,10 +127,6 @@ both_ways true false = refl
 both_ways false true = refl
 both_ways false false = refl
 
-either_true : (a : Bool) → (a || true) ≡ true
-either_true true = refl
-either_true false = refl
-
 -- an operand, as the text and as the module ask for it
 operand_same : (n : ℕ) (i : Inst) → has_operand i n ≡ settings.has_operand n i
 operand_same n i = any_same (λ (p : ℕ × ℕ). is_id i.op i.args p.0 && (p.1 == n)) (λ (p : ℕ × ℕ). (p.1 == n) && is_id i.op i.args p.0) (enumerate_from 0 i.args) (λ p. both_ways (is_id i.op i.args p.0) (p.1 == n))
@@ -155,7 +135,7 @@ operand_same n i = any_same (λ (p : ℕ × ℕ). is_id i.op i.args p.0 && (p.1 
 pub mentioned_same : (fs : List Function) (n : ℕ) → is_operand_in fs n ≡ list_any (λ (f : Function). list_any (settings.has_operand n) (insts_of f)) fs
 mentioned_same fs n = any_same (λ (f : Function). list_any (λ (i : Inst). has_operand i n) (insts_of f)) (λ (f : Function). list_any (settings.has_operand n) (insts_of f)) fs (λ f. any_same (λ (i : Inst). has_operand i n) (settings.has_operand n) (insts_of f) (operand_same n))
 
-no_other : (b : Bool) (o : Option Inst) → b ≡ false → (if b then o else None) ≡ None
+pub no_other : (b : Bool) (o : Option Inst) → b ≡ false → (if b then o else None) ≡ None
 no_other true o e = cc
 no_other false o e = refl
 
@@ -192,19 +172,15 @@ module _ (s : Setting) (overrides : List (ℕ × Given)) (key : Key → Text) (c
       let ops = variable_op g.op parts.0 in
       let no_struct : is_written_struct source r g ≡ false = and_left (is g.op code.TypeStruct) (not (is_block s.of.heads g.result) && list_any (type_has_struct s.of.globals g.result) (written_types source r)) ops.0 in
       let no_constant : is_declared_constant source r g ≡ false = and_left (is_constant_op g.op) (is_named (reading source g) && (is_some (free_spec_id source g.result) || is_needed source r g.result)) ops.1 in
-      let no_private : is_private g ≡ false = ap (λ n. is g.op code.Variable && (n == class_number storage.Private)) number ∙ never (is g.op code.Variable) in
+      let no_private : is_private g ≡ false = ap (λ n. is g.op code.Variable && (n == class_number storage.Private)) number ∙ and_none (is g.op code.Variable) in
       let written : is_written_variable r g ≡ is_mentioned s g.result
       = ap (λ a. (a || (is_workgroup g || is_block_variable g)) && is_operand_in r.functions g.result) no_private ∙ ap (λ a. (a || is_block_variable g) && is_operand_in r.functions g.result) on ∙ mentions g.result in
       let no_block : block_of s.of.globals g ≡ None
-      = no_other (is g.op code.Variable && is_block_class (slice_index g.args 0)) (option_and_then as_struct (option_and_then (global s.of.globals) (pointee s.of.globals g.ty))) (ap (λ n. is g.op code.Variable && is_block_class n) number ∙ never (is g.op code.Variable)) in
+      = no_other (is g.op code.Variable && is_block_class (slice_index g.args 0)) (option_and_then as_struct (option_and_then (global s.of.globals) (pointee s.of.globals g.ty))) (ap (λ n. is g.op code.Variable && is_block_class n) number ∙ and_none (is g.op code.Variable)) in
       ap (λ b. if b then struct_decl source N g ∷ [] else (if is_declared_constant source r g then constant_decl source N g ∷ [] else (if is_written_variable r g then variable_decl source N g (block_of s.of.globals g) else []))) no_struct
       ∙ ap (λ b. if b then constant_decl source N g ∷ [] else (if is_written_variable r g then variable_decl source N g (block_of s.of.globals g) else [])) no_constant
       ∙ ap₂ (λ b o. if b then variable_decl source N g o else []) written no_block
       ∙ ap (λ b. if is_mentioned s g.result then (if b then tree.global (type_at source N (pointee_at source g.ty)) (N.id g.result) (initial source N g) else tree.shared (type_at source N (pointee_at source g.ty)) (N.id g.result)) ∷ [] else []) no_private
-    where
-      never : (a : Bool) → (a && false) ≡ false
-      never true = refl
-      never false = refl
 
   -- no other instruction is written as a variable of a workgroup
   other_counts : (g : Inst) → is_in_class storage.Workgroup g ≡ false → HasBlock s g → shared_in (declaration source r N g) ≡ 0
@@ -258,7 +234,7 @@ module _ (s : Setting) (overrides : List (ℕ × Given)) (key : Key → Text) (c
       let written : declaration source r N v ≡ item ∷ [] = workgroup_written v class ∙ ap (λ b. if b then item ∷ [] else []) mentioned in
       let front = flat_map (declaration source r N) before in
       let shared : is_shared v ≡ true = ap (λ b. elim b as (λ b. Bool) [ true ↦ is_mentioned s v.result | false ↦ false ]) class ∙ mentioned in
-      let itself : (v.result == v.result) ≡ true = itself_same v.result in
+      let itself : (v.result == v.result) ≡ true = number_itself v.result in
       let number : shared_number s v.result ≡ 0 + count is_shared before
       = ap (λ gs. option_map_or (λ (k : ℕ). k) (position_from (λ (g : Inst). g.result == v.result) 0 (filter is_shared gs)) 0) whole ∙ ap (λ o. option_map_or (λ (k : ℕ). k) o 0) (number_of is_shared (λ (g : Inst). g.result == v.result) before after v 0 shared itself off) in
       let count_there : (with_items first front).shared_variables ≡ shared_number s v.result = items_count front first ∙ ap₂ (λ a b. a + b) start (all_count before have) ∙ sym number in

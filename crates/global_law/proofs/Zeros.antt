@@ -1,8 +1,7 @@
 -- The zero of a type, as it is written, says the zero of its shape.
-use Rattle.std.proofs.Common.{◌≡◌, ◌≢◌, ◌⊎◌, ◌+◌, ◌==◌, ◌&&◌, ℕ, zero, suc, Bool, true, false, List, [], ◌∷◌, length, map, Option, Some, None, inl, inr, refl, sym, ap, ap₂, ◌∙◌, subst, if◌then◌else◌}
+use Rattle.std.proofs.Common.{◌≡◌, ◌⊎◌, ◌+◌, ◌==◌, ◌&&◌, ℕ, zero, suc, Bool, true, List, [], ◌∷◌, length, map, Option, Some, None, inl, inr, refl, sym, ap, ap₂, ◌∙◌, subst, if◌then◌else◌}
 use Rattle.std.specs.Prelude.{replicate}
 use Rattle.std.specs.List.{list_all}
-use Rattle.std.proofs.lemmas.Bool.Decides.{eqb_tells}
 use Rattle.std.proofs.lemmas.Slice.Eq.{bytes_eq-Decides}
 use Rattle.spv_module.specs.Lists.{id}
 use Rattle.spv_module.specs.declared.tree.Elem.{Elem}
@@ -25,19 +24,13 @@ use Rattle.glsl_semantics.specs.Expressions.{Program, Argument, done, then_fetch
 use Rattle.text_rules.specs.Types.{Spelling, type_text, zero_elem, zero_text, zero_texts}
 use Rattle.text_rules.specs.Constants.{Source}
 use Rattle.text_rules.specs.Declarations.{spelling}
+use Rattle.list_law.proofs.Numbers.{number_itself}
 use Rattle.path_law.specs.Parts.{StructNames, shape_in, fields_in}
 use Rattle.path_law.specs.Laid.{HasLengths, HaveLengths}
 use Rattle.path_law.specs.Walks.{struct_names}
 use Rattle.path_law.proofs.Parts.{own_fields}
 use Rattle.global_law.specs.Names.{IsDeclared}
 use Rattle.global_law.proofs.Declared.{named_type}
-
-same_number : (a : ℕ) → (a == a) ≡ true
-same_number a = by_test (eqb_tells a a)
-  where
-    by_test : ((a == a) ≡ true × (a ≡ a)) ⊎ ((a == a) ≡ false × (a ≢ a)) → (a == a) ≡ true
-    by_test (inl h) = h.0
-    by_test (inr h) = absurd (h.1 refl)
 
 long : {A : Type 0} (n : ℕ) (a : A) → length (replicate n a) ≡ n
 long zero a = refl
@@ -102,13 +95,13 @@ module _ (p : Program) (s : Setting) (source : Source) (key : Key → Text) wher
   same_itself plain.boolean z = refl
   same_itself plain.int z = refl
   same_itself plain.uint z = refl
-  same_itself (plain.vector e n) z = ap₂ (λ a b. a && b) (by_elem e) (same_number n)
+  same_itself (plain.vector e n) z = ap₂ (λ a b. a && b) (by_elem e) (number_itself n)
     where
       by_elem : (e : Elem) → same_elem e e ≡ true
       by_elem elem.Bool = refl
       by_elem elem.Int = refl
       by_elem elem.Uint = refl
-  same_itself (plain.array t (Fixed n)) z = ap₂ (λ a b. a && b) (same_itself t z) (same_number n)
+  same_itself (plain.array t (Fixed n)) z = ap₂ (λ a b. a && b) (same_itself t z) (number_itself n)
   same_itself (plain.array t (Spec n)) z = absurd z
   same_itself (plain.runtime t) z = absurd z
   same_itself (plain.struct n ts) z = (bytes_eq-Decides (key (Id (id n))) (key (Id (id n)))).1 refl
@@ -170,7 +163,7 @@ module _ (p : Program) (s : Setting) (source : Source) (key : Key → Text) wher
     array_zero t n has =
         let vs = replicate n (typed (shape_in s Y t) (zero_of t)) in
         let all : ((length vs == n) && list_all (is_of (shape_in s Y t)) vs) ≡ true
-        = ap₂ (λ a b. (a == n) && b) (long n (typed (shape_in s Y t) (zero_of t))) (all_are (is_of (shape_in s Y t)) n (typed (shape_in s Y t) (zero_of t)) (same_itself t has)) ∙ ap (λ a. a && true) (same_number n) in
+        = ap₂ (λ a b. (a == n) && b) (long n (typed (shape_in s Y t) (zero_of t))) (all_are (is_of (shape_in s Y t)) n (typed (shape_in s Y t) (zero_of t)) (same_itself t has)) ∙ ap (λ a. a && true) (number_itself n) in
         ap (λ b. if b then Some (whole_of (shapes.array (shape_in s Y t) (Some n)) vs) else None) all ∙ ap (λ l. Some (typed (shapes.array (shape_in s Y t) (Some n)) (many (values_in l)))) (mapped tree_of_value n (typed (shape_in s Y t) (zero_of t)))
 
     struct_zero : (n : ℕ) (ts : Trees) → HaveZeros ts → built (shape_in s Y (plain.struct n ts)) (zero_list ts) ≡ Some (typed (shape_in s Y (plain.struct n ts)) (zero_of (plain.struct n ts)))

@@ -1,9 +1,8 @@
 -- In a conforming module chains lead from types with more parts to those with fewer, so paths are short.
-use Rattle.std.proofs.Common.{◌≡◌, ◌<◌, ◌≤◌, ◌+◌, ◌||◌, ℕ, zero, suc, Bool, true, false, List, [], ◌∷◌, drop, length, nat_le, nat_lt, Option, Some, None, refl, sym, ap, ◌∙◌, subst, arith, if◌then◌else◌, unwrap_or}
+use Rattle.std.proofs.Common.{◌≡◌, ◌<◌, ◌≤◌, ◌+◌, ◌||◌, ℕ, zero, suc, Bool, true, false, List, [], ◌∷◌, drop, length, nat_lt, Option, Some, None, refl, sym, ap, ◌∙◌, subst, arith, if◌then◌else◌, unwrap_or}
 use Rattle.std.specs.Prelude.{Contains, is_some, not, option_and_then, option_map, slice_index}
 use Rattle.std.specs.List.{list_any}
 use Rattle.std.specs.Option.{option_map_or}
-use Rattle.std.proofs.lemmas.Bool.Decides.{nat_tests}
 use Rattle.std.proofs.lemmas.Bool.{not-false}
 use Rattle.std.proofs.lemmas.Option.{same_Some}
 use Rattle.spv_ops.specs.Opcode.{is as is_op}
@@ -36,6 +35,7 @@ use Rattle.profile_rules.specs.ValueRules.{walk, nth_member, member_by, chain_pa
 use Rattle.profile_rules.specs.TypeRules.{is_value_broken}
 use Rattle.access_paths.specs.Ways.{base, indexes, path}
 use Rattle.module_semantics.specs.Setting.{Setting}
+use Rattle.list_law.proofs.Numbers.{from_zero}
 use Rattle.plan_law.specs.InOrder.{IsAmong}
 use Rattle.fits_law.specs.Takes.{nth_of}
 use Rattle.type_law.proofs.Rows.{by_kind, vector_parts}
@@ -94,14 +94,11 @@ chain_group code.AccessChain on = refl
 chain_group code.InBoundsAccessChain on = refl
 chain_group o on = cc
 
-chain_need : (o : Op) (k : ℕ) → is_chain o ≡ true → need o k ≡ Value
+pub chain_need : (o : Op) (k : ℕ) → is_chain o ≡ true → need o k ≡ Value
 unfolding need takes_of group_of
 chain_need code.AccessChain k on = refl
 chain_need code.InBoundsAccessChain k on = refl
 chain_need o k on = cc
-
-from_zero : (k : ℕ) → nat_le 0 k ≡ true
-from_zero k = grind (arith, nat_tests)
 
 chain_id : (o : Op) (args : List ℕ) (k : ℕ) → is_chain o ≡ true → is_id o args k ≡ true
 unfolding is_id shape

@@ -2,6 +2,7 @@
 use Rattle.std.proofs.Common.{◌≡◌, ◌<◌, ◌≤◌, ◌+◌, ℕ, suc, Bool, true, false, List, [], ◌∷◌, drop, length, nat_le, nat_lt, Option, Some, None, inl, inr, refl, sym, ap, ◌∙◌, subst, arith, if◌then◌else◌, unwrap_or}
 use Rattle.std.specs.Prelude.{◌⊎◌, Contains, option_and_then}
 use Rattle.std.proofs.lemmas.Bool.Decides.{nat_tests}
+use Rattle.std.proofs.lemmas.Option.{same_Some}
 use Rattle.spv_ops.specs.Operands.{is_id}
 use Rattle.spv_ops.specs.OpGroups.{group_of, takes_of}
 use Rattle.spv_ops.specs.Shape.{shape}
@@ -25,6 +26,7 @@ use Rattle.profile_rules.specs.ValueRules.{walk, literal_step, part_of, is_elsew
 use Rattle.profile_rules.specs.TypeRules.{is_value_broken}
 use Rattle.module_semantics.specs.Setting.{Setting}
 use Rattle.op_semantics.specs.Fits.{elem_tree}
+use Rattle.list_law.proofs.Tests.{or_left, or_right}
 use Rattle.plan_law.specs.InOrder.{IsAmong}
 use Rattle.fits_law.specs.Takes.{part_shape, shape_at}
 use Rattle.type_law.proofs.Parts.{walk_leads}
@@ -33,15 +35,11 @@ use Rattle.typed_law.specs.Conforms.{IsConforming}
 use Rattle.typed_law.proofs.Rules.{operand_there, value_right}
 use Rattle.typed_law.proofs.Values.{HasType, inside, typed_value, value_sized}
 use Rattle.typed_law.proofs.Shapes.{whole_shape}
-use Rattle.typed_law.proofs.Lists.{or_left, or_right}
 use Rattle.vec_lowering.specs.Depth.{depth}
 use Rattle.expr_forward.specs.Kinds.{kind_of, operation_kind_of}
 use Rattle.expr_forward.specs.declared.kinds.OperationKind.TheVariants.{CompositeExtract}
 use Rattle.height_law.proofs.Shapes.{shapes-le}
 use Rattle.height_law.proofs.Chains.{room, room-depth, nth-depth}
-
-some_same : (a b : Tree) → Some a ≡ Some b → a ≡ b
-some_same a b e = cc
 
 elem-room : (e : Elem) → room (elem_tree e) ≤ 0
 elem-room elem.Bool = omega arith
@@ -58,17 +56,17 @@ part-down (array t (Spec id)) i u e = cc
 part-down (vector x n) i u e = by_test (nat_lt i n) e
   where
     by_test : (b : Bool) → (if b then Some (elem_tree x) else None) ≡ Some u → suc (room u) ≤ 1
-    by_test true e = let none = elem-room x in subst (λ y. suc (room y) ≤ 1) (some_same (elem_tree x) u e) (omega (arith, none))
+    by_test true e = let none = elem-room x in subst (λ y. suc (room y) ≤ 1) (same_Some (elem_tree x) u e) (omega (arith, none))
     by_test false e = cc
 part-down (array t (Fixed n)) i u e = by_test (nat_lt i n) e
   where
     by_test : (b : Bool) → (if b then Some t else None) ≡ Some u → suc (room u) ≤ 1 + depth t
-    by_test true e = let own = room-depth t in subst (λ y. suc (room y) ≤ 1 + depth t) (some_same t u e) (omega (arith, own))
+    by_test true e = let own = room-depth t in subst (λ y. suc (room y) ≤ 1 + depth t) (same_Some t u e) (omega (arith, own))
     by_test false e = cc
 part-down (struct id ts) i u e = let low = nth-depth ts i u e in let own = room-depth u in omega (arith, low, own)
 
 parts-few : (ks : List ℕ) (t u : Tree) → shape_at t ks ≡ Some u → room u + length ks ≤ room t
-parts-few [] t u e = subst (λ y. room y + 0 ≤ room t) (some_same t u e) (omega arith)
+parts-few [] t u e = subst (λ y. room y + 0 ≤ room t) (same_Some t u e) (omega arith)
 parts-few (k ∷ ks) t u e =
     let part = some_first (λ x. shape_at x ks) (part_shape t k) u e in
     let one = part-down t k part.0 part.1 in

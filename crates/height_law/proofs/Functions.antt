@@ -25,10 +25,11 @@ use Rattle.expr_forward.specs.Values.{value}
 use Rattle.expr_forward.specs.Statements.{is_void, captured_of}
 use Rattle.control_text.specs.Statements.{function_text}
 use Rattle.function_text.specs.Functions.{FunctionPlan, written, source_expr, move_text, first_operand, returned, result_text, blocks_of, is_variable, variable_text, hoisted_text, is_hoisted_in, captured_text, variables_text, hoisted_texts, captured_texts_of, captured_texts, in_blocks, top_text, param_text, body_text, function_decl}
+use Rattle.list_law.proofs.Numbers.{le_on}
 use Rattle.height_law.specs.Shallow.{IsShallow}
 use Rattle.height_law.specs.Nest.{nest}
 use Rattle.height_law.specs.Written.{AreLow}
-use Rattle.height_law.proofs.Lists.{within, append-le, map-le, flat-le, stmts-le, type-le, zero-le}
+use Rattle.height_law.proofs.Lists.{append-le, map-le, flat-le, stmts-le, type-le, zero-le}
 use Rattle.height_law.proofs.Values.{value-le}
 use Rattle.height_law.proofs.Statements.{block-le}
 use Rattle.height_law.proofs.Regions.{region-le}
@@ -56,7 +57,7 @@ initial-le s names g shapes = by_operand (slice_get g.args 1)
   where
     by_operand : (o : Option ℕ) → height (option_map_or (expr_at s names) o (zero_at s names (pointee_at s g.ty))) ≤ 17
     by_operand None = let zero = zero-le (spelling s names.id) (shape_at s (pointee_at s g.ty)) in let deep = shapes (pointee_at s g.ty) in omega (arith, zero, deep)
-    by_operand (Some n) = within _ _ _ (constant-at-le s names n) (omega arith)
+    by_operand (Some n) = le_on _ _ _ (constant-at-le s names n) (omega arith)
 
 filter-le : (f : Inst → Stmt) (test : Inst → Bool) (is : List Inst) (n : ℕ) → ((i : Inst) → stmt_height (f i) ≤ n) → highest stmt_height (map f (filter test is)) ≤ n
 filter-le f test is n each = map-le stmt_height f (filter test is) n each
@@ -81,13 +82,13 @@ module _ (p : FunctionPlan) (low : IsShallow p.scope) where
     where
       by_value : (o : Option ℕ) → option_map (value p.scope b) o ≡ Some e → height e ≤ 743
       by_value None is = cc
-      by_value (Some n) is = let same : value p.scope b n ≡ e = cc in within _ _ _ (subst (λ x. height x ≤ 702) same (value-le p.scope low b n)) (omega arith)
+      by_value (Some n) is = let same : value p.scope b n ≡ e = cc in le_on _ _ _ (subst (λ x. height x ≤ 702) same (value-le p.scope low b n)) (omega arith)
 
   blocks-low : AreLow (blocks_of p) 743
   blocks-low = record {
     some = omega arith;
     statements = block-le p.scope low;
-    condition = λ b. within _ _ _ (value-le p.scope low b (first_operand (written p) b)) (omega arith);
+    condition = λ b. le_on _ _ _ (value-le p.scope low b (first_operand (written p) b)) (omega arith);
     value = result-le;
     copies = λ b t. map-le stmt_height (move_text p b t) (p.moves b t) 743 (move-le b t);
   }
@@ -131,8 +132,8 @@ module _ (p : FunctionPlan) (low : IsShallow p.scope) where
 
   body-le : nest p.region ≤ 129 → highest stmt_height (body_text p) ≤ 1002
   body-le few =
-      append-le stmt_height (top_text p.scope (written p).blocks) (function_text (blocks_of p) p.region) 1002 (within _ _ _ (top-le (written p).blocks) (omega arith))
-      (within _ _ _ (region-le (blocks_of p) 743 blocks-low (record { in_loop = None; continues = false; in_switch = false }) p.region) (omega (arith, few)))
+      append-le stmt_height (top_text p.scope (written p).blocks) (function_text (blocks_of p) p.region) 1002 (le_on _ _ _ (top-le (written p).blocks) (omega arith))
+      (le_on _ _ _ (region-le (blocks_of p) 743 blocks-low (record { in_loop = None; continues = false; in_switch = false }) p.region) (omega (arith, few)))
 
   pub function-le : nest p.region ≤ 129 → decl_height (function_decl p) ≤ 1003
   function-le few =

@@ -19,7 +19,8 @@ use Rattle.text_rules.specs.Constants.{Source}
 use Rattle.text_rules.specs.Printed.{Reached, is_private, is_written_struct, is_declared_constant, is_written_variable}
 use Rattle.text_rules.specs.Declarations.{Names, spelling, shape_at, type_at, pointee_at, expr_at, value_by, constant_decl, members, struct_decl, initial, member_decl, block_decl, variable_decl, declaration, declarations}
 use Rattle.text_items.specs.Names.{operand_by, operand, inner_opcode, calculated_by, calculated_with}
-use Rattle.height_law.proofs.Lists.{within, map-le, flat-le, exprs-le, build-le, type-le, zero-le}
+use Rattle.list_law.proofs.Numbers.{le_on}
+use Rattle.height_law.proofs.Lists.{map-le, flat-le, exprs-le, build-le, type-le, zero-le}
 use Rattle.height_law.proofs.Functions.{constant-le, constant-at-le, initial-le}
 
 if-le : (b : Bool) (xs ys : List Decl) (n : ℕ) → highest decl_height xs ≤ n → highest decl_height ys ≤ n → highest decl_height (if b then xs else ys) ≤ n
@@ -56,11 +57,11 @@ module _ (s : Source) (shapes : (ty : ℕ) → depth (shape_at s ty) ≤ 15) whe
         by_opcode None = omega arith
         by_opcode (Some o) =
             let high = operands-le (inner_operands o (drop 1 g.args)) in
-            within _ _ _ (height-lowered_vector keys o 0 (shape_at s g.ty) (inner_literals o (drop 1 g.args)) (map (operand s ids) (inner_operands o (drop 1 g.args))) (shapes g.ty) (operands-flat (inner_operands o (drop 1 g.args)))) (omega (arith, high))
+            le_on _ _ _ (height-lowered_vector keys o 0 (shape_at s g.ty) (inner_literals o (drop 1 g.args)) (map (operand s ids) (inner_operands o (drop 1 g.args))) (shapes g.ty) (operands-flat (inner_operands o (drop 1 g.args)))) (omega (arith, high))
 
   module _ (names : Names) (calculated : (g : Inst) → height (names.calculated g) ≤ 43) where
     value-le : (g : Inst) (k : ConstantKind) → height (value_by s names g k) ≤ 43
-    value-le g constant.Composite = within _ _ _ (build-le (type_at s names g.ty) (exprs_in (map (expr_at s names) g.args)) 3 (omega arith) (exprs-le (map (expr_at s names) g.args) 3 (map-le height (expr_at s names) g.args 3 (constant-at-le s names)))) (omega arith)
+    value-le g constant.Composite = le_on _ _ _ (build-le (type_at s names g.ty) (exprs_in (map (expr_at s names) g.args)) 3 (omega arith) (exprs-le (map (expr_at s names) g.args) 3 (map-le height (expr_at s names) g.args 3 (constant-at-le s names)))) (omega arith)
     value-le g constant.Zero = let zero = zero-le (spelling s names.id) (shape_at s g.ty) in let deep = shapes g.ty in omega (arith, zero, deep)
     value-le g constant.Operation = calculated g
     value-le g constant.True = omega arith

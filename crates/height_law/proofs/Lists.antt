@@ -11,9 +11,7 @@ use Rattle.glsl_ast.specs.Tree as ast
 use Rattle.glsl_ast.specs.Height.{highest, height, heights, base_height, extent_height, type_height, stmt_height, stmts_height}
 use Rattle.text_rules.specs.Types.{Spelling, type_text, zero_elem, times, zero_text, zero_texts}
 use Rattle.vec_lowering.specs.Depth.{depth, deepest}
-
-pub within : (m k n : ℕ) → m ≤ k → k ≤ n → m ≤ n
-within m k n p q = omega (arith, p, q)
+use Rattle.list_law.proofs.Numbers.{le_on}
 
 pub both-le : (a b n : ℕ) → a ≤ n → b ≤ n → max a b ≤ n
 both-le a b n p q = omega (arith, p, q)
@@ -95,10 +93,10 @@ mutual
   zero-le s shape.uint = omega arith
   zero-le s (shape.vector e n) = build-le (type_text s (shape.vector e n)) (times n (zero_elem e)) 2 (omega arith) (times-le n 2 (zero_elem e) (elem-le e))
   zero-le s (shape.array t (Fixed n)) =
-      within _ _ _ (build-le (type_text s (shape.array t (Fixed n))) (times n (zero_text s t)) (2 + depth t) (omega arith) (times-le n (2 + depth t) (zero_text s t) (zero-le s t))) (omega arith)
-  zero-le s (shape.array t (Spec id)) = within _ _ _ (build-le (type_text s (shape.array t (Spec id))) no_exprs 2 (omega arith) (omega arith)) (omega arith)
-  zero-le s (shape.runtime t) = within _ _ _ (build-le (type_text s (shape.runtime t)) no_exprs 2 (omega arith) (omega arith)) (omega arith)
-  zero-le s (shape.struct id ts) = within _ _ _ (build-le (type_text s (shape.struct id ts)) (zero_texts s ts) (2 + deepest ts) (omega arith) (zeros-le s ts)) (omega arith)
+      le_on _ _ _ (build-le (type_text s (shape.array t (Fixed n))) (times n (zero_text s t)) (2 + depth t) (omega arith) (times-le n (2 + depth t) (zero_text s t) (zero-le s t))) (omega arith)
+  zero-le s (shape.array t (Spec id)) = le_on _ _ _ (build-le (type_text s (shape.array t (Spec id))) no_exprs 2 (omega arith) (omega arith)) (omega arith)
+  zero-le s (shape.runtime t) = le_on _ _ _ (build-le (type_text s (shape.runtime t)) no_exprs 2 (omega arith) (omega arith)) (omega arith)
+  zero-le s (shape.struct id ts) = le_on _ _ _ (build-le (type_text s (shape.struct id ts)) (zero_texts s ts) (2 + deepest ts) (omega arith) (zeros-le s ts)) (omega arith)
 
   pub zeros-le : (s : Spelling) (ts : Trees) → heights (zero_texts s ts) ≤ 2 + deepest ts
   zeros-le s no_trees = omega arith

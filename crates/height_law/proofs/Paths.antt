@@ -11,17 +11,10 @@ use Rattle.spv_module.specs.declared.inst.Function.{Function}
 use Rattle.spv_index.specs.Locals.{insts_of}
 use Rattle.profile_rules.specs.MemoryRules.{step_type, pointee_of}
 use Rattle.access_paths.specs.Ways.{Way, Spot, base, indexes, steps_from, spot_of, chain_steps, start, further, with_inst, with_block, path}
+use Rattle.list_law.proofs.Tests.{not_both}
 use Rattle.plan_law.specs.InOrder.{IsAmong}
+use Rattle.plan_law.proofs.Order.{among_left, among_right}
 use Rattle.height_law.specs.Shallow.{AreDescending}
-
-among-left : (i : Inst) (xs ys : List Inst) → IsAmong i xs → IsAmong i (xs ++ ys)
-among-left i [] ys among = absurd among
-among-left i (x ∷ xs) ys (inl same) = inl same
-among-left i (x ∷ xs) ys (inr among) = inr (among-left i xs ys among)
-
-among-right : (i : Inst) (xs ys : List Inst) → IsAmong i ys → IsAmong i (xs ++ ys)
-among-right i [] ys among = among
-among-right i (x ∷ xs) ys among = inr (among-right i xs ys among)
 
 -- a chain makes a step for each index
 steps-many : (gs : List Inst) (s : Spot) (number : ℕ) (ty : Option ℕ) (ids : List ℕ) → length (steps_from gs s number ty ids) ≡ length ids
@@ -55,12 +48,8 @@ module _ (gs : List Inst) (f : Function) (room : ℕ → ℕ) (descending : AreD
       tells : (i.result ≡ pointer → (i.result == pointer) ≡ true) × ((i.result == pointer) ≡ true → i.result ≡ pointer)
       tells = elim (eqb_tells i.result pointer) [
         | inl w ↦ (λ same. w.0, λ on. w.1)
-        | inr w ↦ (λ same. absurd (w.1 same), λ on. absurd (clash (i.result == pointer) on w.0))
+        | inr w ↦ (λ same. absurd (w.1 same), λ on. absurd (not_both (i.result == pointer) on w.0))
       ]
-        where
-          clash : (b : Bool) → b ≡ true → b ≡ false → ⊥
-          clash true on off = cc
-          clash false on off = cc
 
       by_chain : (b : Bool) → is_chain i.op ≡ b → length (elim (b && (i.result == pointer)) as (λ b. Way) [ true ↦ further (ways (base i)) (chain_steps gs f (spot_of printed (stands, i)) i) | false ↦ ways pointer ]).steps + room pointer ≤ 16
       by_chain true on = by_result on (i.result == pointer) tells.0 tells.1
@@ -73,8 +62,8 @@ module _ (gs : List Inst) (f : Function) (room : ℕ → ℕ) (descending : AreD
   blocks-room : (n : ℕ) (bs : List Block) (ways : ℕ → Way) → ((i : Inst) → IsAmong i (flat_map (λ (b : Block). b.insts) bs) → IsAmong i (insts_of f)) → HaveRoom ways → HaveRoom (fold (with_block gs f printed) ways (enumerate_from n bs))
   blocks-room n [] ways among room_so = room_so
   blocks-room n (b ∷ bs) ways among room_so =
-      blocks-room (n + 1) bs (with_block gs f printed ways (n, b)) (λ i there. among i (among-right i b.insts (flat_map (λ (c : Block). c.insts) bs) there))
-      (insts-room n b.insts ways (λ i there. among i (among-left i b.insts (flat_map (λ (c : Block). c.insts) bs) there)) room_so)
+      blocks-room (n + 1) bs (with_block gs f printed ways (n, b)) (λ i there. among i (among_right i b.insts (flat_map (λ (c : Block). c.insts) bs) there))
+      (insts-room n b.insts ways (λ i there. among i (among_left i b.insts (flat_map (λ (c : Block). c.insts) bs) there)) room_so)
 
   -- so a path is short
   pub path-le : (pointer : ℕ) → length (path gs f printed pointer).steps ≤ 16

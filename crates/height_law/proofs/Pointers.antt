@@ -16,17 +16,18 @@ use Rattle.glsl_ast.specs.Height.{highest, height, step_height, lvalue_height}
 use Rattle.vec_lowering.specs.Component.{axis_name}
 use Rattle.expr_forward.specs.Scope.{Setting, Scope, globals, globals_in}
 use Rattle.expr_forward.specs.Paths.{index_expr, word_at, vector_size, index_by, step_text, step_type, steps_text, base_text, place_text, further, part_step_by, composite_op_in, part_type, part_steps, place_expr}
+use Rattle.list_law.proofs.Numbers.{le_on}
 use Rattle.height_law.specs.Shallow.{IsShallow}
-use Rattle.height_law.proofs.Lists.{within, some-high}
+use Rattle.height_law.proofs.Lists.{some-high}
 
 -- what steps lead to is one higher for each of them
 pub further-le : (e : Expr) (ss : List LStep) (n : ℕ) → height e ≤ n → highest step_height ss ≤ n → height (further e ss) ≤ n + length ss
 further-le e [] n p q = omega (arith, p)
 further-le e (text.LStep.member m ∷ ss) n p q =
     let one = some-high e in
-    within _ _ _ (further-le (Expr.member e m) ss (n + 1) (omega (arith, p, one)) (omega (arith, q))) (omega arith)
+    le_on _ _ _ (further-le (Expr.member e m) ss (n + 1) (omega (arith, p, one)) (omega (arith, q))) (omega arith)
 further-le e (text.LStep.index i ∷ ss) n p q =
-    within _ _ _ (further-le (Expr.index e i) ss (n + 1) (omega (arith, p, q)) (omega (arith, q))) (omega arith)
+    le_on _ _ _ (further-le (Expr.index e i) ss (n + 1) (omega (arith, p, q)) (omega (arith, q))) (omega arith)
 
 choice-le : (b : Bool) (x y : LStep) (n : ℕ) → step_height x ≤ n → step_height y ≤ n → step_height (if b then x else y) ≤ n
 choice-le true x y n p q = p
@@ -76,7 +77,7 @@ module _ (w : Scope) (low : IsShallow w) where
       let ty : ℕ = unwrap_or (pointee_of (globals w) w.setting.function way.base) 0 in
       let many = low.paths block pointer in
       let same = steps-length ty way.steps in
-      within _ _ _ (further-le (name (base_text w.setting way.base)) (steps_text w.setting ty way.steps) 3 (omega arith) (steps-le ty way.steps)) (omega (arith, many, same))
+      le_on _ _ _ (further-le (name (base_text w.setting way.base)) (steps_text w.setting ty way.steps) 3 (omega arith) (steps-le ty way.steps)) (omega (arith, many, same))
 
   pub target-le : (block pointer : ℕ) → lvalue_height (place_text w.setting block pointer) ≤ 3
   target-le block pointer =

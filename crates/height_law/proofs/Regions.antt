@@ -13,16 +13,17 @@ use Rattle.glsl_ast.specs.Height.{highest, highest_in, height, label_height, stm
 use Rattle.glsl_ast.specs.declared.statements.Label.{Label}
 use Rattle.control_text.specs.declared.place.Place.{Place}
 use Rattle.control_text.specs.Statements.{Blocks, set_flag, declare_flag, flags, conditional, unless_fallen, groups_have_break, plain_block, leave_again, by_target, in_order, turn, inside_loop, inside_switch, leave_loop, edge_text, exit_text, entering, onward, entering_case, behind_switch, labels_text, fell_flags, loop_flags, loop_text, region_text, item_text, groups_text}
+use Rattle.list_law.proofs.Numbers.{le_on}
 use Rattle.height_law.specs.Nest.{nest, item_nest, groups_nest}
 use Rattle.height_law.specs.Written.{AreLow}
-use Rattle.height_law.proofs.Lists.{within, append-le, stmts-le}
+use Rattle.height_law.proofs.Lists.{append-le, stmts-le}
 
 -- flags
 flags-le : (f : Text → List Stmt) (o : Option Text) (n : ℕ) → ((t : Text) → highest stmt_height (f t) ≤ n) → highest stmt_height (flags f o) ≤ n
 flags-le f None n each = omega arith
 flags-le f (Some t) n each = each t
 
-if-le : (b : Bool) (xs ys : List Stmt) (n : ℕ) → highest stmt_height xs ≤ n → highest stmt_height ys ≤ n → highest stmt_height (if b then xs else ys) ≤ n
+pub if-le : (b : Bool) (xs ys : List Stmt) (n : ℕ) → highest stmt_height xs ≤ n → highest stmt_height ys ≤ n → highest stmt_height (if b then xs else ys) ≤ n
 if-le true xs ys n p q = p
 if-le false xs ys n p q = q
 
@@ -92,7 +93,7 @@ module _ (w : Blocks) (n : ℕ) (low : AreLow w n) where
   edge-le p t Fall = flags-le (λ flag. set_flag flag true ∷ []) (w.fell t) n (λ t. let some = low.some in omega (arith, some))
 
   exit-le : (p : Place) (e : Exit) → highest stmt_height (exit_text w p e) ≤ n + 1
-  exit-le p (Edge b t k) = append-le stmt_height (w.copies b t) (edge_text w p t k) (n + 1) (within _ _ _ (low.copies b t) (omega arith)) (within _ _ _ (edge-le p t k) (omega arith))
+  exit-le p (Edge b t k) = append-le stmt_height (w.copies b t) (edge_text w p t k) (n + 1) (le_on _ _ _ (low.copies b t) (omega arith)) (le_on _ _ _ (edge-le p t k) (omega arith))
   exit-le p (Return b) = let one = given-le (w.value b) (low.value b) in omega (arith, one)
   exit-le p (Lost b) = omega arith
   exit-le p Closed = omega arith
@@ -131,10 +132,10 @@ module _ (w : Blocks) (n : ℕ) (low : AreLow w n) where
   turn-le (Some flag) cont k more p = let some = low.some in let one = when-le (name flag) cont k (omega (arith, some, more)) p in omega (arith, one, some, more)
 
   whole-loop-le : (h : ℕ) (inside : List Stmt) (k : ℕ) → n ≤ k → highest stmt_height inside ≤ k → highest stmt_height (loop_text w h inside) ≤ k + 1
-  whole-loop-le h inside k more p = let one = loop-le inside k p in append-le stmt_height (loop_flags w h) (text.loop (stmts_in inside) ∷ []) (k + 1) (within _ _ _ (loop-flags-le h) (omega (arith, more))) (omega (arith, one))
+  whole-loop-le h inside k more p = let one = loop-le inside k p in append-le stmt_height (loop_flags w h) (text.loop (stmts_in inside) ∷ []) (k + 1) (le_on _ _ _ (loop-flags-le h) (omega (arith, more))) (omega (arith, one))
 
   branch-le : (h t : ℕ) (p : Place) (x : Region) (k : ℕ) → highest stmt_height (region_text w p x) ≤ n + 1 + 2 * nest x → nest x ≤ k → highest stmt_height (entering w h t x ++ region_text w p x) ≤ n + 1 + 2 * k
-  branch-le h t p x k low_x less = append-le stmt_height (entering w h t x) (region_text w p x) (n + 1 + 2 * k) (within _ _ _ (entering-le h t x) (omega arith)) (within _ _ _ low_x (omega (arith, less)))
+  branch-le h t p x k low_x less = append-le stmt_height (entering w h t x) (region_text w p x) (n + 1 + 2 * k) (le_on _ _ _ (entering-le h t x) (omega arith)) (le_on _ _ _ low_x (omega (arith, less)))
 
   choice-le : (h : ℕ) (p : Place) (x y : Region) → highest stmt_height (region_text w p x) ≤ n + 1 + 2 * nest x → highest stmt_height (region_text w p y) ≤ n + 1 + 2 * nest y
       → highest stmt_height (w.statements h ++ (conditional (w.condition h) (entering w h (w.target h 0) x ++ region_text w p x) (entering w h (w.target h 1) y ++ region_text w p y) ∷ [])) ≤ n + 1 + 2 * (1 + max (nest x) (nest y))
@@ -142,7 +143,7 @@ module _ (w : Blocks) (n : ℕ) (low : AreLow w n) where
       let k : ℕ = max (nest x) (nest y) in
       let c = low.condition h in
       let one = conditional-le (w.condition h) (entering w h (w.target h 0) x ++ region_text w p x) (entering w h (w.target h 1) y ++ region_text w p y) (n + 1 + 2 * k) (omega (arith, c)) (branch-le h (w.target h 0) p x k low_x (omega arith)) (branch-le h (w.target h 1) p y k low_y (omega arith)) in
-      append-le stmt_height (w.statements h) (conditional (w.condition h) (entering w h (w.target h 0) x ++ region_text w p x) (entering w h (w.target h 1) y ++ region_text w p y) ∷ []) (n + 1 + 2 * (1 + k)) (within _ _ _ (low.statements h) (omega arith)) (omega (arith, one))
+      append-le stmt_height (w.statements h) (conditional (w.condition h) (entering w h (w.target h 0) x ++ region_text w p x) (entering w h (w.target h 1) y ++ region_text w p y) ∷ []) (n + 1 + 2 * (1 + k)) (le_on _ _ _ (low.statements h) (omega arith)) (omega (arith, one))
 
   switch-le : (h : ℕ) (p : Place) (gs : Groups) → highest pair_height (groups_text w (inside_switch p) h gs) ≤ n + 1 + 2 * groups_nest gs → highest stmt_height (item_text w p (switch h gs)) ≤ n + 1 + 2 * (1 + groups_nest gs)
   switch-le h p gs low_gs =
@@ -150,28 +151,28 @@ module _ (w : Blocks) (n : ℕ) (low : AreLow w n) where
       let c = low.condition h in
       let arms = arms-le (in_order (w.order h) (by_target (groups_text w (inside_switch p) h gs))) (n + 1 + 2 * k) (in-order-le (n + 1 + 2 * k) (w.order h) (by_target (groups_text w (inside_switch p) h gs)) (all-updated-le (n + 1 + 2 * k) (groups_text w (inside_switch p) h gs) (λ t. None) (λ t. omega arith) low_gs)) in
       let back = behind-le p (groups_have_break gs) in
-      append-le stmt_height (w.statements h) _ (n + 1 + 2 * (1 + k)) (within _ _ _ (low.statements h) (omega arith))
-      (append-le stmt_height (fell_flags w gs) _ (n + 1 + 2 * (1 + k)) (within _ _ _ (fell-flags-le gs) (omega arith)) (omega (arith, c, arms, back)))
+      append-le stmt_height (w.statements h) _ (n + 1 + 2 * (1 + k)) (le_on _ _ _ (low.statements h) (omega arith))
+      (append-le stmt_height (fell_flags w gs) _ (n + 1 + 2 * (1 + k)) (le_on _ _ _ (fell-flags-le gs) (omega arith)) (omega (arith, c, arms, back)))
 
   mutual
     pub region-le : (p : Place) (r : Region) → highest stmt_height (region_text w p r) ≤ n + 1 + 2 * nest r
-    region-le p (ends e) = within _ _ _ (exit-le p e) (omega arith)
+    region-le p (ends e) = le_on _ _ _ (exit-le p e) (omega arith)
     region-le p (item i r) =
-        append-le stmt_height (item_text w p i) (onward w (plain_block i) r ++ region_text w p r) (n + 1 + 2 * max (item_nest i) (nest r)) (within _ _ _ (item-le p i) (omega arith))
-        (append-le stmt_height (onward w (plain_block i) r) (region_text w p r) (n + 1 + 2 * max (item_nest i) (nest r)) (within _ _ _ (onward-le (plain_block i) r) (omega arith)) (within _ _ _ (region-le p r) (omega arith)))
+        append-le stmt_height (item_text w p i) (onward w (plain_block i) r ++ region_text w p r) (n + 1 + 2 * max (item_nest i) (nest r)) (le_on _ _ _ (item-le p i) (omega arith))
+        (append-le stmt_height (onward w (plain_block i) r) (region_text w p r) (n + 1 + 2 * max (item_nest i) (nest r)) (le_on _ _ _ (onward-le (plain_block i) r) (omega arith)) (le_on _ _ _ (region-le p r) (omega arith)))
 
     item-le : (p : Place) (i : Item) → highest stmt_height (item_text w p i) ≤ n + 1 + 2 * item_nest i
-    item-le p (plain b) = within _ _ _ (low.statements b) (omega arith)
+    item-le p (plain b) = le_on _ _ _ (low.statements b) (omega arith)
     item-le p (choose h x y) = choice-le h p x y (region-le p x) (region-le p y)
     item-le p (loose h x y) = choice-le h p x y (region-le p x) (region-le p y)
-    item-le p (loop h x) = within _ _ _ (whole-loop-le h (region_text w (inside_loop h false) x) (n + 1 + 2 * nest x) (omega arith) (region-le (inside_loop h false) x)) (omega arith)
+    item-le p (loop h x) = le_on _ _ _ (whole-loop-le h (region_text w (inside_loop h false) x) (n + 1 + 2 * nest x) (omega arith) (region-le (inside_loop h false) x)) (omega arith)
     item-le p (loop_on h z x) =
         let k : ℕ = max (nest z) (nest x) in
-        within _ _ _
+        le_on _ _ _
         (whole-loop-le h (turn (w.again h) (region_text w (inside_loop h true) z) ++ region_text w (inside_loop h false) x) (n + 1 + 2 * k + 1) (omega arith)
         (append-le stmt_height (turn (w.again h) (region_text w (inside_loop h true) z)) (region_text w (inside_loop h false) x) (n + 1 + 2 * k + 1)
-        (turn-le (w.again h) (region_text w (inside_loop h true) z) (n + 1 + 2 * k) (omega arith) (within _ _ _ (region-le (inside_loop h true) z) (omega arith)))
-        (within _ _ _ (region-le (inside_loop h false) x) (omega arith))))
+        (turn-le (w.again h) (region_text w (inside_loop h true) z) (n + 1 + 2 * k) (omega arith) (le_on _ _ _ (region-le (inside_loop h true) z) (omega arith)))
+        (le_on _ _ _ (region-le (inside_loop h false) x) (omega arith))))
         (omega arith)
     item-le p (switch h gs) = switch-le h p gs (groups-le (inside_switch p) h gs)
 
@@ -179,7 +180,7 @@ module _ (w : Blocks) (n : ℕ) (low : AreLow w n) where
     groups-le p h none = omega arith
     groups-le p h (group t labels default x gs) =
         let body = stmts-le (entering_case w h t x ++ region_text w p x) (n + 1 + 2 * nest x)
-        (append-le stmt_height (entering_case w h t x) (region_text w p x) (n + 1 + 2 * nest x) (within _ _ _ (unless-le (entering w h t x) (w.fell t) (entering-le h t x)) (omega arith)) (region-le p x)) in
+        (append-le stmt_height (entering_case w h t x) (region_text w p x) (n + 1 + 2 * nest x) (le_on _ _ _ (unless-le (entering w h t x) (w.fell t) (entering-le h t x)) (omega arith)) (region-le p x)) in
         let labels_low = labels-low (labels_text w h labels default) in
         let rest = groups-le p h gs in
         omega (arith, body, labels_low, rest)

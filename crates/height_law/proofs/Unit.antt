@@ -28,9 +28,10 @@ use Rattle.function_text.specs.Functions.{FunctionPlan, function_decl}
 use Rattle.unit_rules.specs.Translation.{Naming, id_text, global_expr, scope_of, IsPlanOf}
 use Rattle.unit_rules.specs.Unit.{has_id, plan_at, in_order, is_called, called, source_of, reached_of, item_names_of, IsUnitOf}
 use Rattle.unit_rules.specs.Text.{most_height}
+use Rattle.list_law.proofs.Numbers.{le_on}
 use Rattle.height_law.specs.Shallow.{IsShallow, IsShallowFunction, most_nested}
 use Rattle.height_law.specs.Nest.{nest}
-use Rattle.height_law.proofs.Lists.{within, append-le}
+use Rattle.height_law.proofs.Lists.{append-le}
 use Rattle.height_law.proofs.Functions.{constant-le, function-le}
 use Rattle.height_law.proofs.Items.{calculated-le, items-le}
 use Rattle.height_law.proofs.Shapes.{shapes-le}
@@ -102,7 +103,7 @@ unit-of-low m o unit u shapes plans =
     let found : Naming = name_of u.claimed in
     subst (λ x. unit_height x ≤ 1003) (sym u.unit_is)
     (append-le decl_height (declarations s (reached_of s u.plans) (item_names_of s found)) (map function_decl (in_order u.order u.plans)) 1003
-    (within _ _ _ (items-le s shapes (item_names_of s found) (calculated-le s shapes found (id_text found)) (reached_of s u.plans)) (omega arith))
+    (le_on _ _ _ (items-le s shapes (item_names_of s found) (calculated-le s shapes found (id_text found)) (reached_of s u.plans)) (omega arith))
     (decls-le (in_order u.order u.plans) (order-low u.order u.plans plans)))
 
 -- what holds of all functions of a module holds of those that are planned
@@ -145,7 +146,7 @@ text-low m o unit fine none fit u =
     let shapes = shapes-le m.globals none fine.typed.within in
     let each : EachIs (λ f. IsFit m f × (IsTooDeep (graph f) → ⊥)) m.functions = each-of (λ f. IsFit m f × (IsTooDeep (graph f) → ⊥)) m.functions (λ f there. (fit f there, (All-contains IsStructured m.functions f fine.later.structure there).shallow)) in
     let plans = fits-low m s found shapes refl (called u.order m.functions) u.plans u.planned (each-filter (λ f. IsFit m f × (IsTooDeep (graph f) → ⊥)) (is_called u.order) m.functions each) in
-    within _ _ _ (unit-of-low m o unit u shapes plans) (omega arith)
+    le_on _ _ _ (unit-of-low m o unit u shapes plans) (omega arith)
 
 -- The text of a conforming module that is not refused is low enough.
 pub conforming-low : (s : Setting) (o : Options) (entry : Option (List ℕ)) (unit : TranslationUnit) → IsFine s.of o → IsConforming s.of entry → IsUnitOf s.of o unit → unit_height unit ≤ most_height

@@ -7,6 +7,7 @@ use Rattle.spv_module.specs.declared.inst.Inst.{Inst}
 use Rattle.spv_types.specs.Tree.{Tree, boolean, int, uint, vector, array, runtime, struct}
 use Rattle.spv_types.specs.Types.{tree_at}
 use Rattle.spv_index.specs.Locals.{insts_of}
+use Rattle.list_law.proofs.Numbers.{le_on}
 use Rattle.plan_law.specs.InOrder.{IsAmong}
 use Rattle.hoist_plan.specs.declared.form.Form.{Form}
 use Rattle.hoist_plan.specs.declared.form.Form.TheVariants.{Gone, Forwarded, Local, Hoisted}
@@ -23,7 +24,7 @@ use Rattle.expr_forward.specs.Paths.{part_steps}
 use Rattle.expr_forward.specs.Kinds.{operation_kind_of}
 use Rattle.expr_forward.specs.Values.{argument, value_words, literal_words, operation_text, length_text, extraction_text, construction_text, whole_argument, logical_copy_text, by_kind, expression, forwarded, by_form, value_in, deepest, value}
 use Rattle.height_law.specs.Shallow.{IsShallow}
-use Rattle.height_law.proofs.Lists.{within, map-le, exprs-le, build-le, zero-le}
+use Rattle.height_law.proofs.Lists.{map-le, exprs-le, build-le, zero-le}
 use Rattle.height_law.proofs.Pointers.{further-le, parts-le, parts-length, place-le}
 
 -- the shape of a scalar or a vector is 1 deep
@@ -68,20 +69,20 @@ module _ (w : Scope) (low : IsShallow w) where
     operation-le number i args =
         let flat = flat-basic (globals w) i.ty in
         let high = arguments-le (value_words i.op args) in
-        within _ _ _ (low.lowered i.op number (basic (globals w) i.ty) (map (argument w value) (value_words i.op args)) (literal_words i.op args) (omega (arith, flat)) (arguments-flat (value_words i.op args))) (omega (arith, high))
+        le_on _ _ _ (low.lowered i.op number (basic (globals w) i.ty) (map (argument w value) (value_words i.op args)) (literal_words i.op args) (omega (arith, flat)) (arguments-flat (value_words i.op args))) (omega (arith, high))
 
     copy-le : (i : Inst) → height (logical_copy_text w value i) ≤ n + 40
     copy-le i =
         let one = each (slice_index i.args 0) in
         let deep = low.shapes (type_of w (slice_index i.args 0)) in
-        within _ _ _ (low.lowered i.op 0 (shape_at w.setting.source i.ty) (whole_argument w value (slice_index i.args 0) ∷ []) [] (low.shapes i.ty) (omega (arith, deep))) (omega (arith, one))
+        le_on _ _ _ (low.lowered i.op 0 (shape_at w.setting.source i.ty) (whole_argument w value (slice_index i.args 0) ∷ []) [] (low.shapes i.ty) (omega (arith, deep))) (omega (arith, one))
 
     extraction-le : (i : Inst) → 3 ≤ n → length (drop 1 i.args) ≤ 16 → height (extraction_text w value i) ≤ n + 40
     extraction-le i some few =
         let ty : ℕ = type_of w (slice_index i.args 0) in
         let steps = parts-le w.setting ty (drop 1 i.args) in
         let same = parts-length w.setting ty (drop 1 i.args) in
-        within _ _ _ (further-le (value (slice_index i.args 0)) (part_steps w.setting ty (drop 1 i.args)) n (each (slice_index i.args 0)) (omega (arith, steps, some))) (omega (arith, few, same))
+        le_on _ _ _ (further-le (value (slice_index i.args 0)) (part_steps w.setting ty (drop 1 i.args)) n (each (slice_index i.args 0)) (omega (arith, steps, some))) (omega (arith, few, same))
 
     construction-le : (i : Inst) → 2 ≤ n → height (construction_text w value i) ≤ n + 1
     construction-le i some = build-le (type_at w.setting.source w.names i.ty) (exprs_in (map value i.args)) n some (exprs-le (map value i.args) n (map-le height value i.args n each))
@@ -94,7 +95,7 @@ module _ (w : Scope) (low : IsShallow w) where
     by_kind-le block i kind.CopyObject some among is = let one = each (slice_index i.args 0) in omega (arith, one)
     by_kind-le block i kind.ArrayLength some among is = let one = length-le block i in omega (arith, one, some)
     by_kind-le block i kind.CompositeExtract some among is = extraction-le i (omega (arith, some)) (low.extracted i among is)
-    by_kind-le block i kind.CompositeConstruct some among is = within _ _ _ (construction-le i (omega (arith, some))) (omega arith)
+    by_kind-le block i kind.CompositeConstruct some among is = le_on _ _ _ (construction-le i (omega (arith, some))) (omega arith)
     by_kind-le block i kind.CopyLogical some among is = copy-le i
     by_kind-le block i kind.Extended some among is = operation-le (slice_index i.args 1) i (drop 2 i.args)
     by_kind-le block i kind.Plain some among is = operation-le 0 i i.args
@@ -122,7 +123,7 @@ module _ (w : Scope) (low : IsShallow w) where
   value_in-le block zero n = omega arith
   value_in-le block (suc deep) n =
       read-le (22 + suc deep * 40) (w.setting.global n) (by_form w (value_in w block deep) block n (w.form n)) (low.constants n) (omega arith)
-      (within _ _ _ (form-le (value_in w block deep) (22 + deep * 40) (value_in-le block deep) block n (w.form n) (omega arith)) (omega arith))
+      (le_on _ _ _ (form-le (value_in w block deep) (22 + deep * 40) (value_in-le block deep) block n (w.form n) (omega arith)) (omega arith))
 
   -- a value is at most 702 high, and an operation on values 742
   pub value-le : (block n : ℕ) → height (value w block n) ≤ 702

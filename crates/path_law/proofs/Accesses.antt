@@ -1,7 +1,6 @@
 -- Loads, stores and atomic instructions: the text of their pointer is what they ask of it.
-use Rattle.std.proofs.Common.{◌≡◌, ◌++◌, ◌==◌, ℕ, true, List, [], ◌∷◌, Option, Some, None, inl, inr, refl, sym, ap, ◌∙◌, subst}
+use Rattle.std.proofs.Common.{◌≡◌, ◌==◌, ℕ, true, List, [], Option, Some, None, refl, sym, ap, ◌∙◌, subst}
 use Rattle.std.specs.Prelude.{option_and_then}
-use Rattle.std.proofs.lemmas.Bool.Decides.{eqb_tells}
 use Rattle.std.proofs.lemmas.Slice.Eq.{bytes_eq-Decides}
 use Rattle.std.proofs.lemmas.Bool.{and_from}
 use Rattle.std.proofs.lemmas.Option.{same_Some}
@@ -39,6 +38,9 @@ use Rattle.glsl_semantics.specs.Expressions as expressions
 use Rattle.glsl_semantics.specs.Expressions.{Program, Argument, AtomicFunction, operand_words, call_kind, then_fetch, values, evaluate}
 use Rattle.expr_forward.specs.Scope as scope
 use Rattle.expr_forward.specs.Paths.{base_text, steps_text, place_expr}
+use Rattle.list_law.proofs.Numbers.{number_itself}
+use Rattle.list_law.proofs.Options.{none_or_some}
+use Rattle.list_law.proofs.Lists.{none_behind}
 use Rattle.type_law.specs.Shaped.{AreConstants}
 use Rattle.agree_law.specs.Agree.{Naming, AreApart}
 use Rattle.agree_law.specs.Blocks.{Stands}
@@ -51,15 +53,6 @@ use Rattle.path_law.proofs.Parts.{sized_lengths, only_shape}
 use Rattle.path_law.proofs.Leaves.{same_value, sized_in, places_are}
 use Rattle.path_law.proofs.Walks.{IsPlace, IsNoBlock, part_of}
 use Rattle.path_law.proofs.Pointers.{first_type, Leads, place_stands, expr_stands}
-
-no_some : {A : Type 0} (o : Option A) (a : A) → o ≡ None → o ≡ Some a → ⊥
-no_some o a none some = never (sym none ∙ some)
-  where
-    never : None ≡ Some a → ⊥
-    never e = cc
-
-number_itself : (n : ℕ) → (n == n) ≡ true
-number_itself n = elim (eqb_tells n n) [ inl w ↦ w.0 | inr w ↦ absurd (w.1 refl) ]
 
 -- the type of a value is itself
 pub shape_itself : (s : Setting) (key : Key → Text) (t : Tree) → IsSized t → same_shape (shape_in s (struct_names key) t) (shape_in s (struct_names key) t) ≡ true
@@ -138,8 +131,8 @@ module _ (p : Program) (calls : Text → List Argument → State → Result (Opt
   value_shape t q sized is = only_shape s (struct_names key) t q (sized_lengths t sized) is
 
   in_memory : (t : Tree) → IsSized t → (r : Root) (at : List ℕ) (x : Text) (from : List ℕ) (v : Inst) (a : Thing) → IsPart s (struct_names key) c.at x from r at t a → seen s r ≡ Some v → InMemory t v at a
-  in_memory t sized r at x from v (value (typed q u)) is sees = absurd (no_some (seen s r) v is.0 sees)
-  in_memory t sized r at x from v (variable w way q o) is sees = absurd (no_some (seen s r) v is.0 sees)
+  in_memory t sized r at x from v (value (typed q u)) is sees = absurd (none_or_some (seen s r) v is.0 sees)
+  in_memory t sized r at x from v (variable w way q o) is sees = absurd (none_or_some (seen s r) v is.0 sees)
   in_memory t sized r at x from v (instance place kind members) is sees = absurd is
   in_memory t sized r at x from v (memory site q) is sees =
       let same : is.0 ≡ v = same_Some is.0 v (sym is.1 ∙ sees) in
@@ -151,7 +144,7 @@ module _ (p : Program) (calls : Text → List Argument → State → Result (Opt
   held_value t sized r at x from v (value (typed q u)) is unseen has = ap (λ a. got [] (typed a u, z)) (value_shape t q sized is.1) ∙ ap (λ a. got [] (typed (S t) a, z)) (same_Some u v (sym is.2 ∙ has))
   held_value t sized r at x from v (variable w way q o) is unseen has = ap (λ o. variable_value q o z) (is.2 ∙ has) ∙ ap (λ a. got [] (typed a v, z)) (value_shape t q sized is.1)
   held_value t sized r at x from v (instance place kind members) is unseen has = absurd is
-  held_value t sized r at x from v (memory site q) is unseen has = absurd (no_some (seen s r) is.0 unseen is.1)
+  held_value t sized r at x from v (memory site q) is unseen has = absurd (none_or_some (seen s r) is.0 unseen is.1)
 
   got_back : (g : Result (Typed × State)) (y : Typed × State) → g ≡ got [] y → with_before [] (then_get g (λ (y : Typed × State). got [] (y.0, y.1))) ≡ got [] y
   got_back g y is = ap (λ g. with_before [] (then_get g (λ (y : Typed × State). got [] (y.0, y.1)))) is
@@ -201,10 +194,6 @@ module _ (p : Program) (calls : Text → List Argument → State → Result (Opt
     pub say : values p calls es z ≡ got [] (operands, z)
     pub fit : operand_words function shape operands ≡ Some words
     pub same : (at : Location) → updating (expressions.atomic_operation function shape) at words ≡ access at
-
-  none_behind : (xs : List ℕ) → xs ++ [] ≡ xs
-  none_behind [] = refl
-  none_behind (x ∷ xs) = ap (λ l. x ∷ l) (none_behind xs)
 
   pub updates_met : (o : AtomicOp) (t : Tree) → PointsTo t → PointerLeads → (w : Text) (es : Exprs) (access : Location → Access) → SaysOperands o w es (S t) access → (g : Target) (v : Inst) → pointer_at s c.at.top n ≡ Some g → seen s g.0 ≡ Some v
       → Updates p calls k m names s Holds f b keeps done i rest o z w (expr (place_expr W b n) es) (S t) (access (location s v g.1))

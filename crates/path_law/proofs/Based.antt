@@ -10,6 +10,7 @@ use Rattle.spv_module.specs.declared.inst.Inst.{Inst}
 use Rattle.spv_module.specs.declared.inst.Function.{Function}
 use Rattle.spv_index.specs.Locals.{insts_of}
 use Rattle.module_semantics.specs.Steps.{chain, step_kind, base, with_based, based_among, is_based_on}
+use Rattle.list_law.proofs.Numbers.{number_itself}
 use Rattle.agree_law.specs.Blocks.{IsOf}
 use Rattle.path_law.specs.Chains.{NoneMakes, ChainsRise}
 
@@ -44,16 +45,6 @@ one_chain (x ∷ xs) i j rise (inr a) (inr b) on too same = one_chain xs i j ris
 abbrev choice : ℕ → (ℕ → Bool) → Inst → ℕ → Bool → Bool
 choice n based i k made = elim made [ true ↦ elim (base i == n) [ true ↦ true | false ↦ based (base i) ] | false ↦ based k ]
 
-same_count : (a b : ℕ) → (a == b) ≡ true → a ≡ b
-same_count a b e = elim (eqb_tells a b) [ inl w ↦ w.1 | inr w ↦ absurd (never (a == b) e w.0) ]
-  where
-    never : (t : Bool) → t ≡ true → t ≡ false → ⊥
-    never true on off = cc
-    never false on off = cc
-
-itself : (a : ℕ) → (a == a) ≡ true
-itself a = elim (eqb_tells a a) [ inl w ↦ w.0 | inr w ↦ absurd (w.1 refl) ]
-
 other : (a b : ℕ) → a ≢ b → (a == b) ≡ false
 other a b no_one = elim (eqb_tells a b) [ inl w ↦ absurd (no_one w.1) | inr w ↦ w.0 ]
 
@@ -79,7 +70,7 @@ based_by n (i ∷ is) based q rise (inl same) on =
     let result : i.result ≡ q.result = ap (λ (x : Inst). x.result) same in
     let from : base i ≡ base q = ap base same in
     let on_i : is_chain i.op ≡ true = ap (λ (x : Inst). is_chain x.op) same ∙ on in
-    let test : (is_chain i.op && (i.result == q.result)) ≡ true = ap (λ t. t && (i.result == q.result)) on_i ∙ ap (λ k. i.result == k) (sym result) ∙ itself i.result in
+    let test : (is_chain i.op && (i.result == q.result)) ≡ true = ap (λ t. t && (i.result == q.result)) on_i ∙ ap (λ k. i.result == k) (sym result) ∙ number_itself i.result in
     let base_same : based_among n (with_based n based i) is (base q) ≡ based (base q)
     = ap (based_among n (with_based n based i) is) (sym from) ∙ based_same n is (with_based n based i) (base i) made.0.1 ∙ ap (choice n based i (base i)) (makes_not i (base i) made.0.0) ∙ ap based from in
     based_same n is (with_based n based i) q.result (subst (λ k. NoneMakes k is) result made.1) ∙ ap (choice n based i q.result) test
@@ -93,7 +84,7 @@ free_base f n q rise is on off = by_test (base q == n) (eqb_tells (base q) n) (s
     by_test false (inl w) e = cc
     by_test false (inr w) e = (w.1, e)
 
--- no chain is based on itself, through whatever chains
+-- no chain is based on number_itself, through whatever chains
 none_ahead : (xs : List Inst) (q : Inst) (based : ℕ → Bool) → ChainsRise xs → IsOf q xs → is_chain q.op ≡ true → ((k : ℕ) → based k ≡ false) → based_among q.result based xs (base q) ≡ false
 none_ahead [] q based rise is on none = absurd is
 none_ahead (i ∷ is) q based rise (inr there) on none = none_ahead is q (with_based q.result based i) rise.1 there on (λ k. still k (is_chain i.op && (i.result == k)) refl)
@@ -143,7 +134,7 @@ rank_rises k known (i ∷ is) q low rise (inl same) on =
     let made = rise.0 on_i in
     let result : i.result ≡ q.result = ap (λ (x : Inst). x.result) same in
     let from : base i ≡ base q = ap base same in
-    let test : (is_chain i.op && (i.result == q.result)) ≡ true = ap (λ t. t && (i.result == q.result)) on_i ∙ ap (λ k. i.result == k) (sym result) ∙ itself i.result in
+    let test : (is_chain i.op && (i.result == q.result)) ≡ true = ap (λ t. t && (i.result == q.result)) on_i ∙ ap (λ k. i.result == k) (sym result) ∙ number_itself i.result in
     let high : rank_from k known (i ∷ is) q.result ≡ k + 1 = rank_same (k + 1) _ is q.result (subst (λ k. NoneMakes k is) result made.1) ∙ ap (λ t. elim t as (λ t. ℕ) [ true ↦ k + 1 | false ↦ known q.result ]) test in
     let under : rank_from k known (i ∷ is) (base q) ≡ known (base q)
     = ap (rank_from k known (i ∷ is)) (sym from) ∙ rank_same (k + 1) _ is (base i) made.0.1 ∙ ap (λ t. elim t as (λ t. ℕ) [ true ↦ k + 1 | false ↦ known (base i) ]) (makes_not i (base i) made.0.0) ∙ ap known from in

@@ -1,9 +1,8 @@
 -- A block that breaks no rule on layout lies in the text where its decorations put it.
-use Rattle.std.proofs.Common.{◌≡◌, ◌+◌, ◌==◌, ◌||◌, ℕ, zero, suc, Bool, true, false, List, [], ◌∷◌, Option, Some, None, inl, inr, refl, sym, ap, ◌∙◌, subst, arith, if◌then◌else◌}
+use Rattle.std.proofs.Common.{◌≡◌, ◌+◌, ◌==◌, ◌||◌, ℕ, zero, suc, Bool, true, false, List, [], ◌∷◌, Option, Some, None, refl, sym, ap, ◌∙◌, subst, arith, if◌then◌else◌}
 use Rattle.std.specs.Prelude.{is_none, find, nat_lt, option_map, slice_index, unwrap_or}
 use Rattle.std.specs.Option.{option_map_or}
 use Rattle.std.specs.List.{list_any}
-use Rattle.std.proofs.lemmas.Bool.Decides.{eqb_tells}
 use Rattle.std.proofs.lemmas.Bool.{or_parts, not-false}
 use Rattle.std.proofs.lemmas.Option.{same_Some}
 use Rattle.spv_words.specs.declared.rule.Rule.{Rule}
@@ -28,26 +27,20 @@ use Rattle.layout_rules.specs.Rules.{is_not, is_other, offset_of, lacks_from, la
 use Rattle.layout_rules.specs.Blocks.{Member, members_from, members_of, breaks_inside, member_breaks, members_break, block_rules, first_broken, kind_of_members, first_at, kind_at}
 use Rattle.module_semantics.specs.Setting.{Setting}
 use Rattle.module_semantics.specs.Memory.{array_stride, member_offset, part_by, part_type}
+use Rattle.list_law.proofs.Numbers.{same_number}
 use Rattle.fits_law.specs.Takes.{nth_of}
 use Rattle.type_law.proofs.Places.{part_leads}
 use Rattle.path_law.specs.Laid.{IsLaidOut, AreLaidOut}
 use Rattle.path_law.proofs.Bytes.{kind_of, declared_by}
 
-same_count : (a b : ℕ) → (a == b) ≡ true → a ≡ b
-same_count a b e = elim (eqb_tells a b) [ inl w ↦ w.1 | inr w ↦ absurd (never (a == b) e w.0) ]
-  where
-    never : (t : Bool) → t ≡ true → t ≡ false → ⊥
-    never true on off = cc
-    never false on off = cc
-
 -- a literal that is there and is no other
 told_is : (o : Option ℕ) (n : ℕ) → is_not o n ≡ false → unwrap_or o 0 ≡ n
 told_is None n e = cc
-told_is (Some m) n e = same_count m n (not-false (m == n) e)
+told_is (Some m) n e = same_number m n (not-false (m == n) e)
 
 placed_is : (o : Option ℕ) (n : ℕ) → is_none o ≡ false → is_other o n ≡ false → o ≡ Some n
 placed_is None n there e = cc
-placed_is (Some m) n there e = ap (λ a. Some a) (same_count m n (not-false (m == n) e))
+placed_is (Some m) n there e = ap (λ a. Some a) (same_number m n (not-false (m == n) e))
 
 module _ (s : Setting) (k : Kind) where
   abbrev Gs : List Inst

@@ -1,5 +1,5 @@
 -- What is asked of where paths begin, met by computing: of a module that reads an element of a buffer by a built-in variable, and of what is declared for it.
-use Rattle.std.proofs.Common.{Bool, true, false, sym, ap, ◌∙◌, subst, inr, ◌≡◌, ◌<◌, ◌++◌, ℕ, zero, suc, arith, List, [], ◌∷◌, Option, Some, None, inl, refl}
+use Rattle.std.proofs.Common.{Bool, true, false, sym, ap, ◌∙◌, subst, inr, ◌≡◌, ◌++◌, ℕ, zero, suc, List, [], ◌∷◌, Option, Some, None, inl, refl}
 use Rattle.std.specs.Prelude.{not, ◌&&◌, codes, bytes_eq, slice_index_or, if◌then◌else◌, ◌==◌, ◌||◌}
 use Rattle.spv_ops.specs.declared.Op.TheVariants as code
 use Rattle.spv_ops.specs.Opcode.{op_of, number}
@@ -32,11 +32,12 @@ use Rattle.glsl_ast.specs.declared.expressions.Literal.TheVariants.{Uint}
 use Rattle.glsl_semantics.specs.Shapes.{uint, Typed, typed}
 use Rattle.glsl_semantics.specs.States.{State}
 use Rattle.traces.specs.Outcomes.{Result}
+use Rattle.list_law.proofs.Tests.{or_left, or_right}
+use Rattle.list_law.proofs.Numbers.{none_below, number_same}
 use Rattle.type_law.specs.Shaped.{AreConstants}
 use Rattle.spv_index.specs.Locals.{insts_of}
 use Rattle.module_semantics.specs.Steps.{step_kind, base}
 use Rattle.spv_module.specs.declared.inst.Block.{Block as BlockOf}
-use Rattle.std.proofs.lemmas.Bool.Decides.{eqb_tells}
 use Rattle.glsl_semantics.specs.Items.{declared_by}
 use Rattle.glsl_semantics.specs.Expressions.{Program, Argument}
 use Rattle.text_rules.specs.Constants.{Source}
@@ -48,6 +49,7 @@ use Rattle.path_law.specs.Parts.{AreMembersApart}
 use Rattle.path_law.specs.Walks.{writing, struct_names, SaysIndex}
 use Rattle.std.specs.List.{list_any}
 use Rattle.std.proofs.lemmas.Bool.{and_from, and_parts, or_parts}
+use Rattle.std.proofs.lemmas.Option.{same_Some, none-some}
 use Rattle.spv_ops.specs.Groups.{is_chain}
 use Rattle.path_law.specs.Chains.{NoneMakes, ChainsRise}
 use Rattle.path_law.specs.Writings.{IsWrittenStart, IsWrittenChain}
@@ -192,21 +194,10 @@ first_block = slice_index_or f.blocks 0 (record { label = id 0; at = 0; insts = 
 -- order, by a test
 none_by : (n : ℕ) (is : List Inst) → list_any (λ (i : Inst). is_chain i.op && (i.result == n)) is ≡ false → NoneMakes n is
 none_by n [] e = tt
-none_by n (i ∷ is) e = ((λ on same. flipped (sym (and_from (is_chain i.op) (i.result == n) on (itself i.result n same)) ∙ first (is_chain i.op && (i.result == n)) _ e)), none_by n is (second (is_chain i.op && (i.result == n)) _ e))
+none_by n (i ∷ is) e = ((λ on same. flipped (sym (and_from (is_chain i.op) (i.result == n) on (number_same i.result n same)) ∙ or_left (is_chain i.op && (i.result == n)) _ e)), none_by n is (or_right (is_chain i.op && (i.result == n)) _ e))
   where
     flipped : true ≡ false → ⊥
     flipped e = cc
-
-    itself : (a b : ℕ) → a ≡ b → (a == b) ≡ true
-    itself a b same = elim (eqb_tells a b) [ inl w ↦ w.0 | inr w ↦ absurd (w.1 same) ]
-
-    first : (a b : Bool) → (a || b) ≡ false → a ≡ false
-    first true b e = cc
-    first false b e = refl
-
-    second : (a b : Bool) → (a || b) ≡ false → b ≡ false
-    second true b e = cc
-    second false b e = e
 
 abbrev makes : ℕ → List Inst → Bool
 makes n is = list_any (λ (i : Inst). is_chain i.op && (i.result == n)) is
@@ -228,12 +219,9 @@ rise_by (i ∷ is) e =
 
 one_member : AreMembersApart (struct_names key) 3 (tree (plain.runtime plain.uint) no_trees)
 one_member j zero u less at = absurd (none_below j less)
-  where
-    none_below : (j : ℕ) → j < 0 → ⊥
-    none_below j less = omega (arith, less)
 one_member j (suc k) u less at = cc
 
-same_word : (i j : ℕ) → Some (word i) ≡ Some (word j) → i ≡ j
+pub same_word : (i j : ℕ) → Some (word i) ≡ Some (word j) → i ≡ j
 same_word i j e = cc
 
 module _ (calls : Text → List Argument → State → Result (Option Typed × State)) (z : State) where
@@ -264,22 +252,16 @@ module _ (calls : Text → List Argument → State → Result (Option Typed × S
     inst = inr (inr (inl refl));
     made = λ on. inl refl;
     own = refl;
-    base_shape = λ ty is. (plain.struct 3 (tree (plain.runtime plain.uint) no_trees), ap (type_tree s.of.globals) (sym (same_type 3 ty is)));
+    base_shape = λ ty is. (plain.struct 3 (tree (plain.runtime plain.uint) no_trees), ap (type_tree s.of.globals) (sym (same_Some 3 ty is)));
     indexes =
-        (record { constant = λ j on e. constant_says j e; literal = λ l j told e. same_count 0 l told ∙ same_word 0 j e; here = λ off on. absurd (flipped off); elsewhere = λ off on. absurd (flipped off) }, (record { constant = λ j on e. absurd (flipped (sym on)); literal = λ l j told e. absurd (no_some l told); here = λ off on. record { itself = refl; own = refl; there = inr (refl, refl); number = tt }; elsewhere = λ off on. absurd (flipped on) }, tt));
+        (record { constant = λ j on e. constant_says j e; literal = λ l j told e. same_count 0 l told ∙ same_word 0 j e; here = λ off on. absurd (flipped off); elsewhere = λ off on. absurd (flipped off) }, (record { constant = λ j on e. absurd (flipped (sym on)); literal = λ l j told e. absurd (none-some l told); here = λ off on. record { itself = refl; own = refl; there = inr (refl, refl); number = tt }; elsewhere = λ off on. absurd (flipped on) }, tt));
   }
     where
       flipped : true ≡ false → ⊥
       flipped e = cc
 
-      same_type : (a b : ℕ) → Some a ≡ Some b → a ≡ b
-      same_type a b e = cc
-
       same_count : (a b : ℕ) → Some a ≡ Some b → b ≡ a
       same_count a b e = cc
-
-      no_some : (l : ℕ) → None ≡ Some l → ⊥
-      no_some l e = cc
 
   right_there : (right : AreConstants s) → IsRightChain s f right element_chain
   unfolding opened

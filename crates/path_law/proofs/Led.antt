@@ -22,13 +22,14 @@ use Rattle.module_semantics.specs.State.{Root, global, own, Held, value, pointer
 use Rattle.module_semantics.specs.Operands.{of_module, as_pointer, pointer_at, as_value, as_word, word_at, words_at, Target, arg}
 use Rattle.module_semantics.specs.Steps.{chain, variable, step_kind, base, is_based_on, without_based, phis, is_phi, with_phis, argument_of, passed, entered}
 use Rattle.access_paths.specs.Ways.{is_constant_index}
+use Rattle.list_law.proofs.Tests.{not_both}
 use Rattle.fits_law.proofs.Operations.{before_some}
 use Rattle.agree_law.specs.Agree.{IfPointer}
 use Rattle.agree_law.specs.Blocks.{IsOf}
 use Rattle.call_law.specs.Frames.{makes_pointer, IsClosed}
 use Rattle.call_law.specs.Known.{IsFunctionOf, is_parameter, IsLending, LendsWhole}
 use Rattle.call_law.proofs.CodeKept.{next_of, phi_of, function_found}
-use Rattle.call_law.proofs.Lending.{if_pointer, of_pointer, no_true, none_given, lending_closed}
+use Rattle.call_law.proofs.Lending.{if_pointer, of_pointer, none_given, lending_closed}
 use Rattle.path_law.specs.Chains.{ChainsRise, ConstantsAre, IsLed, is_global, AreLed, ChainsAreRight}
 use Rattle.path_law.proofs.Based.{chain_op, one_chain, free_base, own_base}
 
@@ -169,11 +170,11 @@ module _ (s : Setting) where
 
     -- what makes no pointer makes no base
     no_base : (f : Function) → IsFunctionOf f s.of.functions → (i q : Inst) → IsOf i (insts_of f) → makes_pointer (step_kind i.op) ≡ false → IsOf q (insts_of f) → step_kind q.op ≡ chain → base q ≢ i.result
-    no_base f in_module i q is off there kind same = no_true (is_pointer s.of.globals f i.result) (ap (is_pointer s.of.globals f) (sym same) ∙ right.bases f in_module q there kind) (right.values f in_module i is off)
+    no_base f in_module i q is off there kind same = not_both (is_pointer s.of.globals f i.result) (ap (is_pointer s.of.globals f) (sym same) ∙ right.bases f in_module q there kind) (right.values f in_module i is off)
 
     own_put : (f : Frame) (ids : ℕ → Option Held) (i : Inst) (h : Held) → IsFunctionOf f.function s.of.functions → IsOf i (insts_of f.function) → ((n : ℕ) → is_global s.of.globals n ≡ true → ids n ≡ None) → (n : ℕ) → is_global s.of.globals n ≡ true → put ids i.result h n ≡ None
     own_put f ids i h in_module is mine n on =
-        put_off ids i.result h n (λ same. no_true (is_global s.of.globals i.result) (ap (is_global s.of.globals) (sym same) ∙ on) (right.results f.function in_module i is)) ∙ mine n on
+        put_off ids i.result h n (λ same. not_both (is_global s.of.globals i.result) (ap (is_global s.of.globals) (sym same) ∙ on) (right.results f.function in_module i is)) ∙ mine n on
 
     own_without : (f : Frame) (k : ℕ) → ((n : ℕ) → is_global s.of.globals n ≡ true → f.ids n ≡ None) → (n : ℕ) → is_global s.of.globals n ≡ true → without_based f.function k f.ids n ≡ None
     own_without f k mine n on = by_test (is_based_on f.function k n)
@@ -288,7 +289,7 @@ module _ (s : Setting) where
     called_own g hs in_module n on = by_test (is_parameter g n) refl
       where
         by_test : (t : Bool) → is_parameter g n ≡ t → argument_of g.params hs n ≡ None
-        by_test true is = absurd (no_true (is_global s.of.globals n) on (right.parameters g in_module n is))
+        by_test true is = absurd (not_both (is_global s.of.globals n) on (right.parameters g in_module n is))
         by_test false off = none_given g.params hs n off
 
     pub called_led : (ds : List (Frame × ℕ)) (g : Function) (hs : List Held) → IsFunctionOf g s.of.functions → IsLending s ds (entered s g hs) → AreLed s ds (entered s g hs)

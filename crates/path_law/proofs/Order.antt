@@ -3,7 +3,7 @@ use Rattle.std.proofs.Common.{◌≡◌, ◌≢◌, ◌⊎◌, ◌<◌, ◌≤�
 use Rattle.std.specs.Prelude.{find, is_some, nat_lt, slice_index}
 use Rattle.std.specs.Option.{option_map_or}
 use Rattle.std.specs.List.{enumerate_from, list_any}
-use Rattle.std.proofs.lemmas.Bool.Decides.{eqb_tells, nat_tests}
+use Rattle.std.proofs.lemmas.Bool.Decides.{eqb_tells}
 use Rattle.std.proofs.lemmas.Bool.{and_parts, or_parts}
 use Rattle.spv_ops.specs.Groups.{is_chain}
 use Rattle.spv_ops.specs.OpGroups.{takes_of, group_of}
@@ -18,6 +18,8 @@ use Rattle.spv_index.specs.Locals.{insts_of, parameter_in, typed}
 use Rattle.profile_rules.specs.declared.needs.Need.TheVariants.{Value}
 use Rattle.profile_rules.specs.Operands.{need, suits, is_local_before, is_there_in, lacks_operand, breaks_t1_in}
 use Rattle.module_semantics.specs.Steps.{base}
+use Rattle.list_law.proofs.Tests.{but_not}
+use Rattle.list_law.proofs.Numbers.{no_less, less_of}
 use Rattle.plan_law.specs.InOrder.{IsAmong, AreRising, AreApart, IsOwn, AreInOrder}
 use Rattle.plan_law.proofs.Order.{not_among}
 use Rattle.path_law.specs.Chains.{NoneMakes, ChainsRise}
@@ -34,14 +36,6 @@ unfolding is_id
 chain_names code.AccessChain x xs e = refl
 chain_names code.InBoundsAccessChain x xs e = refl
 chain_names o x xs e = cc
-
-there_on : (a b : Bool) → a ≡ true → (a && not b) ≡ false → b ≡ true
-there_on true true on e = refl
-there_on true false on e = cc
-there_on false b on e = cc
-
-below_of : (a b : ℕ) → nat_lt a b ≡ true → a < b
-below_of a b e = grind (arith, nat_tests, e)
 
 -- the instruction with a result that is its alone
 found : (j : Inst) (is : List Inst) → AreApart is → IsAmong j is → (j.result ≡ 0 → ⊥) → find (λ (i : Inst). i.result == j.result) is ≡ Some j
@@ -80,7 +74,7 @@ module _ (m : ModuleState) (f : Function) (order : AreInOrder m f) (some : (i : 
           let inst : (is_some (typed j) && nat_lt j.at i.at) ≡ true
           = ap (λ o. is_some o || (is_some (typed j) && nat_lt j.at i.at)) (sym mine.made)
           ∙ ap (λ o. is_some (parameter_in f j.result) || option_map_or (λ (x : Inst). is_some (typed x) && nat_lt x.at i.at) o false) (sym (found j (insts_of f) order.apart of_j none_zero)) ∙ local in
-          below_of j.at i.at (and_parts (is_some (typed j)) (nat_lt j.at i.at) inst).1
+          less_of j.at i.at (and_parts (is_some (typed j)) (nat_lt j.at i.at) inst).1
 
       by_args : (args : List ℕ) → i.args ≡ args → breaks_t1_in m f i ≡ false → j.at < i.at
       by_args [] is e = absurd (none_zero (same ∙ ap (λ l. slice_index l 0) is))
@@ -88,7 +82,7 @@ module _ (m : ModuleState) (f : Function) (order : AreInOrder m f) (some : (i : 
           let any = (or_parts _ (list_any (lacks_operand (is_there_in m f i.at) i) (enumerate_from 0 i.args)) e).1 in
           let first = (or_parts (lacks_operand (is_there_in m f i.at) i (0, x)) (list_any (lacks_operand (is_there_in m f i.at) i) (enumerate_from 1 xs)) (ap (λ l. list_any (lacks_operand (is_there_in m f i.at) i) (enumerate_from 0 l)) (sym is) ∙ any)).0 in
           let names : is_id i.op i.args 0 ≡ true = ap (λ l. is_id i.op l 0) is ∙ chain_names i.op x xs on in
-          by_there x (sym (same ∙ ap (λ l. slice_index l 0) is)) (there_on (is_id i.op i.args 0) (is_there_in m f i.at (need i.op 0) x) names first)
+          by_there x (sym (same ∙ ap (λ l. slice_index l 0) is)) (but_not (is_id i.op i.args 0) (is_there_in m f i.at (need i.op 0) x) names first)
 
   none_behind : (n : ℕ) (is : List Inst) → ((j : Inst) → IsAmong j is → is_chain j.op ≡ true → j.result ≢ n) → NoneMakes n is
   none_behind n [] all = tt
@@ -101,9 +95,6 @@ module _ (m : ModuleState) (f : Function) (order : AreInOrder m f) (some : (i : 
     rise_on (i.at + 1) is rising.1 apart.1 (λ j at. all j (inr at)),
   )
     where
-      no_less : (a b : ℕ) → a < b → b ≤ a → ⊥
-      no_less a b less le = omega (arith, less, le)
-
       behind : (j : Inst) → IsAmong j (i ∷ is) → is_chain j.op ≡ true → j.result ≡ base i → is_chain i.op ≡ true → ⊥
       behind j at too same on =
           let before = base_before i j (all i (inl refl)) (all j at) on too same in

@@ -1,8 +1,6 @@
 -- The part of a part: a member by its name, a component by a letter, an element by an index.
 use Rattle.std.proofs.Common.{◌≡◌, ◌<◌, ◌+◌, ◌^◌, ◌++◌, ℕ, zero, suc, Bool, true, false, List, [], ◌∷◌, length, Option, Some, None, refl, sym, ap, ap₂, ◌∙◌, subst, arith}
-use Rattle.std.specs.Prelude.{bytes_eq, is_some, nat_lt, option_map, option_and_then, slice_get, if◌then◌else◌}
-use Rattle.std.proofs.lemmas.Bool.Decides.{nat_tests}
-use Rattle.std.proofs.lemmas.Slice.Eq.{bytes_eq-Decides}
+use Rattle.std.specs.Prelude.{is_some, nat_lt, option_map, option_and_then, slice_get, if◌then◌else◌}
 use Rattle.std.proofs.lemmas.Option.{same_Some}
 use Rattle.spv_module.specs.declared.inst.Inst.{Inst}
 use Rattle.spv_module.specs.declared.tree.Elem.{Elem}
@@ -25,6 +23,8 @@ use Rattle.glsl_semantics.specs.Shapes.{Shape, Fields, Typed, typed, tree_of, tr
 use Rattle.glsl_semantics.specs.Places.{Site, part_tree, nth_tree, part_site, site_along, location_of}
 use Rattle.glsl_semantics.specs.States as states
 use Rattle.glsl_semantics.specs.States.{Thing, value, variable, instance, memory, part_at_index, part_of_option, shape_of_thing, named_part, member_of, index_word, element_at, element_of}
+use Rattle.list_law.proofs.Numbers.{none_below, less_is}
+use Rattle.region_law.proofs.Flags.{own_text}
 use Rattle.fits_law.specs.Takes.{nth_of}
 use Rattle.fits_law.specs.State.{element_shape, place_shape}
 use Rattle.type_law.proofs.Places.{part_leads}
@@ -32,15 +32,9 @@ use Rattle.fits_law.proofs.Parts.{many_of, each_at, MembersFit, members_of}
 use Rattle.path_law.specs.Parts.{StructNames, AreMembersApart, length_in, shape_in, fields_in, HasLength, IsShape, AreFields, IsBelow, IsInside, HasScalars, part_value, IsPart}
 use Rattle.path_law.specs.Laid.{HasLengths, HaveLengths}
 
-bytes_same : (w : Text) → bytes_eq w w ≡ true
-bytes_same w = (bytes_eq-Decides w w).1 refl
-
 -- there is a part below the number of parts
 pub there_below : {A : Type 0} (xs : List A) (i : ℕ) → i < length xs → (x : A) × (slice_get xs i ≡ Some x)
-there_below [] i less = absurd (none i less)
-  where
-    none : (i : ℕ) → i < 0 → ⊥
-    none i less = omega (arith, less)
+there_below [] i less = absurd (none_below i less)
 there_below (x ∷ xs) zero less = (x, refl)
 there_below (x ∷ xs) (suc i) less = there_below xs i (omega (arith, less))
 
@@ -307,9 +301,6 @@ module _ (s : Setting) (y : StructNames) where
     IsIndexed (plain.runtime t) = Unit {0}
     IsIndexed _ = ⊥
 
-    less_is : (i n : ℕ) → i < n → nat_lt i n ≡ true
-    less_is i n e = grind (arith, nat_tests, e)
-
     -- each index that the module allows: so the array has a length
     indexed_in : (t : Tree) (i : ℕ) → IsIndexed t → IsInside s t i → (q : Shape) → IsShape s y t q → states.element_shape (Some q) i ≡ Some (part_shape q i)
     indexed_in (plain.vector e n) i on inside q is = subst (λ x. states.element_shape (Some x) i ≡ Some (part_shape x i)) (sym is) (ap (λ (b : Bool). if b then Some (scalar e) else None) (less_is i n inside))
@@ -334,7 +325,7 @@ module _ (s : Setting) (y : StructNames) where
       let here : n ≡ k = omega (arith, same) in
       subst (λ l. member_from k l (y.member_name id n) ≡ Some (n, field_shape l 0)) (sym are.2)
       (subst (λ m. member_from k (shapes.field (y.member_name id k) are.0 are.1) (y.member_name id m) ≡ Some (m, are.0)) (sym here)
-      (ap (λ b. elim b [ true ↦ Some (k, are.0) | false ↦ member_from (k + 1) are.1 (y.member_name id k) ]) (bytes_same (y.member_name id k))))
+      (ap (λ b. elim b [ true ↦ Some (k, are.0) | false ↦ member_from (k + 1) are.1 (y.member_name id k) ]) (own_text (y.member_name id k))))
   field_named id whole apart (tree t ts) fs k (suc i) n u are same there at =
       let less : k < n = omega (arith, same) in
       let next : n ≡ k + 1 + i = omega (arith, same) in

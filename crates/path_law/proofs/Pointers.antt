@@ -23,6 +23,8 @@ use Rattle.glsl_semantics.specs.Expressions.{Program, Argument, named, denote, s
 use Rattle.expr_forward.specs.Scope as scope
 use Rattle.expr_forward.specs.Paths as paths
 use Rattle.expr_forward.specs.Paths.{base_text, steps_text, place_expr}
+use Rattle.list_law.proofs.Lists.{none_more}
+use Rattle.list_law.proofs.Numbers.{none_below}
 use Rattle.type_law.specs.Shaped.{AreConstants}
 use Rattle.agree_law.specs.Agree.{Naming, Agree}
 use Rattle.path_law.specs.Walks.{writing, struct_names, Walks}
@@ -32,10 +34,7 @@ use Rattle.path_law.proofs.Walks.{steps_walk, further_walk, walks_on, way_type, 
 use Rattle.path_law.proofs.Starts.{start_is}
 
 none_less : {A : Type 0} (n : ℕ) → n < 0 → A
-none_less n e = absurd (never n e)
-  where
-    never : (n : ℕ) → n < 0 → ⊥
-    never n e = omega (arith, e)
+none_less n e = absurd (none_below n e)
 
 joined : (xs ys zs : List ℕ) → (xs ++ ys) ++ zs ≡ xs ++ (ys ++ zs)
 joined [] ys zs = refl
@@ -73,10 +72,6 @@ module _ (p : Program) (calls : Text → List Argument → State → Result (Opt
     pub type_is : type ≡ type_along s (first_type begin) along
     pub way : way_type p calls z s overrides f key globals right (first_type begin) (path Gs f b n).steps ≡ type
 
-  none_behind : (xs : List ℕ) → xs ≡ xs ++ []
-  none_behind [] = refl
-  none_behind (x ∷ xs) = ap (λ l. x ∷ l) (none_behind xs)
-
   begins_leads : (n : ℕ) (r : Root) (at : List ℕ) → BeginsAs p calls z m s overrides f key globals c b n → pointer_at s c.top n ≡ Some (r, at) → Leads n r at
   begins_leads n r at is leads =
       let first = start_is p calls z m s overrides f key globals right c agree n is.shape r at is.members (is.is r at leads) in
@@ -88,7 +83,7 @@ module _ (p : Program) (calls : Text → List Argument → State → Result (Opt
         begins = is;
         begin_is = leads;
         base_is = ap (λ (w : Way). w.base) is.way;
-        whole = none_behind at;
+        whole = none_more at;
         first = first.to;
         named_as = first.there;
         to = first.to;

@@ -1,9 +1,8 @@
 -- Where T6 is not broken, a chain steps into structs by constants, and its type points to what its indexes lead to.
-use Rattle.std.proofs.Common.{◌≡◌, ◌||◌, ℕ, Bool, true, false, List, [], ◌∷◌, length, drop, Option, Some, None, inl, inr, refl, sym, ap, ◌∙◌, if◌then◌else◌}
+use Rattle.std.proofs.Common.{◌≡◌, ◌||◌, ℕ, Bool, true, false, List, [], ◌∷◌, length, drop, Option, Some, None, refl, sym, ap, ◌∙◌, if◌then◌else◌}
 use Rattle.std.specs.Prelude.{◌&&◌, not, ◌==◌, nat_lt, is_some, option_and_then}
 use Rattle.std.specs.Option.{option_map_or}
 use Rattle.std.specs.List.{list_any}
-use Rattle.std.proofs.lemmas.Bool.Decides.{eqb_tells}
 use Rattle.std.proofs.lemmas.Bool.{and_from, and_parts}
 use Rattle.spv_ops.specs.Opcode.{is, number}
 use Rattle.spv_ops.specs.Groups.{is_constant}
@@ -27,6 +26,8 @@ use Rattle.module_semantics.specs.Setting.{Setting}
 use Rattle.module_semantics.specs.Memory.{part_by, part_type, type_along, is_allowed, are_allowed}
 use Rattle.module_semantics.specs.Steps.{base}
 use Rattle.access_paths.specs.Ways.{is_constant_index}
+use Rattle.list_law.proofs.Numbers.{same_count}
+use Rattle.list_law.proofs.Tests.{and_off}
 use Rattle.type_law.specs.Shaped.{AreConstants}
 use Rattle.type_law.proofs.Places.{part_leads}
 use Rattle.type_law.proofs.Parts.{row}
@@ -171,18 +172,11 @@ module _ (s : Setting) (f : Function) (right : AreConstants s) where
     pub by_constants : ByConstants s ty (drop 1 i.args) ns
     pub reaches : pointee_of Gs f i.result ≡ Some (type_along s ty ns)
 
-  same_count : (a b : ℕ) → not (a == b) ≡ false → a ≡ b
-  same_count a b e = elim (eqb_tells a b) [ inl w ↦ w.1 | inr w ↦ (let never : not false ≡ false = ap not (sym w.0) ∙ e in cc) ]
-
-  both_off : (a b : Bool) → (a && b) ≡ false → a ≡ true → b ≡ false
-  both_off true b e on = e
-  both_off false b e on = cc
-
   types_same : (a b : ℕ) (t u : Tree) → type_tree Gs a ≡ Some t → type_tree Gs b ≡ Some u → differ Gs a b ≡ false → a ≡ b
   types_same a b t u ta tb e =
       let first = row s f a t ta in
       let second = row s f b u tb in
-      same_count a b (both_off (is_some (type_row Gs a) && is_some (type_row Gs b)) (not (a == b)) e (and_from (is_some (type_row Gs a)) (is_some (type_row Gs b)) (ap is_some first.1) (ap is_some second.1)))
+      same_count a b (and_off (is_some (type_row Gs a) && is_some (type_row Gs b)) (not (a == b)) e (and_from (is_some (type_row Gs a)) (is_some (type_row Gs b)) (ap is_some first.1) (ap is_some second.1)))
 
   pub chain_reaches : (i : Inst) (ty : ℕ) (t : Tree) (ns : List ℕ) → IsRightChain i → pointee_of Gs f (base i) ≡ Some ty → type_tree Gs ty ≡ Some t → are_allowed s ty ns ≡ true → ConstantsAre s (drop 1 i.args) ns → Reaches i ty ns
   chain_reaches i ty t ns is points shape allowed are =

@@ -1,8 +1,7 @@
 -- Where paths begin: the name of a variable stands for it, and that of a block for its members.
 use Rattle.std.proofs.Common.{◌≡◌, ◌<◌, ◌+◌, ◌==◌, ◌++◌, ℕ, zero, suc, Bool, true, false, List, [], ◌∷◌, Option, Some, None, inl, inr, refl, sym, ap, ◌∙◌, subst, arith, if◌then◌else◌}
-use Rattle.std.specs.Prelude.{◌⊎◌, bytes_eq, is_some, option_and_then, unwrap_or}
+use Rattle.std.specs.Prelude.{◌⊎◌, is_some, option_and_then, unwrap_or}
 use Rattle.std.specs.Option.{option_map_or}
-use Rattle.std.proofs.lemmas.Slice.Eq.{bytes_eq-Decides}
 use Rattle.std.proofs.lemmas.Option.{same_Some}
 use Rattle.spv_ops.specs.Enumerants.{class_number, class_of_number, decoration_number}
 use Rattle.spv_ops.specs.declared.StorageClass.{StorageClass}
@@ -38,12 +37,13 @@ use Rattle.glsl_semantics.specs.Expressions.{Program, Argument, variable_of, nam
 use Rattle.text_rules.specs.Declarations.{place_of}
 use Rattle.expr_forward.specs.Scope as scope
 use Rattle.expr_forward.specs.Paths.{name_in, base_text}
+use Rattle.list_law.proofs.Lists.{none_more, joined}
 use Rattle.fits_law.specs.Takes.{nth_of}
 use Rattle.fits_law.specs.State.{place_shape}
 use Rattle.fits_law.proofs.Steps as fits_steps
 use Rattle.type_law.specs.Shaped.{AreConstants}
 use Rattle.type_law.proofs.Places.{part_leads}
-use Rattle.region_law.proofs.Flags.{in_found}
+use Rattle.region_law.proofs.Flags.{in_found, own_text}
 use Rattle.agree_law.specs.Agree.{Naming, variable_with, IfPointer, variable_in, target_value, IsFar, Agree}
 use Rattle.agree_law.proofs.Owned.{own_found}
 use Rattle.agree_law.proofs.Evaluating.{named_is}
@@ -113,16 +113,13 @@ global_is p z x u off there =
     ∙ ap (λ (o : Option Variable). elim o as (λ q. Option Thing) [ Some y ↦ Some (variable_of x y) | None ↦ p.things x ]) there
 
 -- a member of a block by its name
-bytes_same_text : (w : Text) → bytes_eq w w ≡ true
-bytes_same_text w = (bytes_eq-Decides w w).1 refl
-
 pub member_in_block : (s : Setting) (y : StructNames) (at : BlockPlace) (kind : Kind) (n : ℕ) (whole : Trees) → AreMembersApart y n whole → (ts : Trees) (k i j : ℕ) (u : Tree) → j ≡ k + i → nth_of whole j ≡ Some u → nth_of ts i ≡ Some u
     → block_member at kind (members_in s y n k ts) (y.member_name n j) ≡ Some (memory (site_at at kind (member_offset s n j)) (shape_in s y u))
 member_in_block s y at kind n whole apart no_trees k i j u same there part = cc
 member_in_block s y at kind n whole apart (tree t ts) k zero j u same there part =
     let here : j ≡ k = omega (arith, same) in
     subst (λ q. block_member at kind (members_in s y n k (tree t ts)) (y.member_name n q) ≡ Some (memory (site_at at kind (member_offset s n q)) (shape_in s y u))) (sym here)
-    (ap (λ b. elim b as (λ b. Option Thing) [ true ↦ Some (memory (site_at at kind (member_offset s n k)) (shape_in s y t)) | false ↦ block_member at kind (members_in s y n (k + 1) ts) (y.member_name n k) ]) (bytes_same_text (y.member_name n k))
+    (ap (λ b. elim b as (λ b. Option Thing) [ true ↦ Some (memory (site_at at kind (member_offset s n k)) (shape_in s y t)) | false ↦ block_member at kind (members_in s y n (k + 1) ts) (y.member_name n k) ]) (own_text (y.member_name n k))
     ∙ ap (λ a. Some (memory (site_at at kind (member_offset s n k)) (shape_in s y a))) (same_Some t u part))
 member_in_block s y at kind n whole apart (tree t ts) k (suc i) j u same there part =
     let less : k < j = omega (arith, same) in
@@ -131,14 +128,6 @@ member_in_block s y at kind n whole apart (tree t ts) k (suc i) j u same there p
     ∙ member_in_block s y at kind n whole apart ts (k + 1) i j u next there part
 
 -- a shared variable's parts, by indexes alone
-joined : (xs ys : List ℕ) (i : ℕ) → (xs ++ i ∷ []) ++ ys ≡ xs ++ i ∷ ys
-joined [] ys i = refl
-joined (x ∷ xs) ys i = ap (λ l. x ∷ l) (joined xs ys i)
-
-none_more : (xs : List ℕ) → xs ≡ xs ++ []
-none_more [] = refl
-none_more (x ∷ xs) = ap (λ l. x ∷ l) (none_more xs)
-
 shared_along : (rest : List ℕ) (t : Tree) (way : List ℕ) (k : ℕ) → site_along t rest (in_shared k way) ≡ in_shared k (way ++ rest)
 shared_along [] t way k = ap (in_shared k) (none_more way)
 shared_along (i ∷ rest) t way k = shared_along rest (part_tree t i) (way ++ i ∷ []) k ∙ ap (in_shared k) (joined way rest i)
@@ -215,12 +204,8 @@ module _ (p : Program) (calls : Text → List Argument → State → Result (Opt
         record {
           to = variable (m.name n) [] (m.shape n) o;
           there = ap (named p z) (sym named_so) ∙ there;
-          place = inl (unseen, subst (IsShape s Y t) (sym is.typed_as) (own_shape s Y t), has, named_so, none_behind path);
+          place = inl (unseen, subst (IsShape s Y t) (sym is.typed_as) (own_shape s Y t), has, named_so, none_more path);
         }
-      where
-        none_behind : (xs : List ℕ) → xs ≡ xs ++ []
-        none_behind [] = refl
-        none_behind (x ∷ xs) = ap (λ l. x ∷ l) (none_behind xs)
 
     own_start : (n : ℕ) (t : Tree) (r : Root) (path : List ℕ) → IsOwn p m s W.source key globals n t r path → Started n t r path
     own_start n t r path is =

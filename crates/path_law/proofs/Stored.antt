@@ -30,6 +30,7 @@ use Rattle.glsl_semantics.specs.Expressions.{Program, Argument, named, evaluate,
 use Rattle.glsl_semantics.specs.Statements.{stmt_run}
 use Rattle.expr_forward.specs.Scope as scope
 use Rattle.expr_forward.specs.Paths.{name_in, base_text, steps_text}
+use Rattle.list_law.proofs.Options.{none_or_some}
 use Rattle.type_law.specs.Shaped.{AreConstants}
 use Rattle.agree_law.specs.Agree.{Naming, AreApart, IfPointer, variable_in, IsFar}
 use Rattle.agree_law.specs.Blocks.{has_outcome, Stands, At}
@@ -44,12 +45,6 @@ use Rattle.path_law.proofs.Starts.{variable_named}
 use Rattle.path_law.proofs.Pointers.{first_type, Leads, place_stands}
 use Rattle.path_law.proofs.Parts.{sized_lengths, only_shape}
 use Rattle.path_law.proofs.Accesses.{shape_itself, PointerLeads, PointsTo, Part, part_there, writes_seen}
-
-no_some : {A : Type 0} (o : Option A) (a : A) → o ≡ None → o ≡ Some a → ⊥
-no_some o a none some = never (sym none ∙ some)
-  where
-    never : None ≡ Some a → ⊥
-    never e = cc
 
 -- a call below that has a variable is there
 call_there : (o : Option Frame) (n : ℕ) (v : ValueTree) → option_and_then (λ (g : Frame). g.variables n) o ≡ Some v → (g : Frame) × (o ≡ Some g)
@@ -144,10 +139,10 @@ module _ (p : Program) (calls : Text → List Argument → State → Result (Opt
 
     -- what others see is no variable of the text
     seen_shared : (begin : ℕ) (r : Root) (from : List ℕ) (u : Tree) → IsShared p m s W.source key globals begin u r from → seen s r ≡ None → ⊥
-    seen_shared begin r from u is unseen = no_some (seen s r) is.inst unseen (ap (seen s) is.root ∙ ap (option_and_then seen_if) is.there ∙ ap (if_seen is.inst) (ap class_of_number is.class))
+    seen_shared begin r from u is unseen = none_or_some (seen s r) is.inst unseen (ap (seen s) is.root ∙ ap (option_and_then seen_if) is.there ∙ ap (if_seen is.inst) (ap class_of_number is.class))
 
     seen_block : (begin : ℕ) (r : Root) (from : List ℕ) (u : Tree) → IsBlock p m s W.source key globals begin u r from → seen s r ≡ None → ⊥
-    seen_block begin r from u is unseen = no_some (seen s r) is.inst unseen (ap (seen s) is.root ∙ ap (option_and_then seen_if) is.there ∙ by_class is.class)
+    seen_block begin r from u is unseen = none_or_some (seen s r) is.inst unseen (ap (seen s) is.root ∙ ap (option_and_then seen_if) is.there ∙ by_class is.class)
       where
         by_class : (word is.inst 0 ≡ class_number storage.StorageBuffer) ⊎ ((word is.inst 0 ≡ class_number storage.Uniform) ⊎ (word is.inst 0 ≡ class_number storage.PushConstant)) → seen_if is.inst ≡ Some is.inst
         by_class (inl e) = ap (if_seen is.inst) (ap class_of_number e)
@@ -177,7 +172,7 @@ module _ (p : Program) (calls : Text → List Argument → State → Result (Opt
                   ∙ ap (λ d. got [] (variable d way u o, z)) (part.3 ∙ ap (λ o. option_map_or name_in o (key (Id (id l.begin)))) x.itself ∙ sym x.named) ∙ ap (λ d. got [] (variable (m.name l.begin) way d o, z)) (only_shape s (struct_names key) t u (sized_lengths t q.sized) part.1);
             }) unseen (g.writable a.0 a.1 is) has had into goes
         by_thing l (instance at kind members) there part = absurd part
-        by_thing l (memory at u) there part = absurd (no_some (seen s a.0) part.0 unseen part.1)
+        by_thing l (memory at u) there part = absurd (none_or_some (seen s a.0) part.0 unseen part.1)
 
     -- OpStore
     pub writes_met : Writes p calls k m names s Holds f b keeps done i rest c z left_name left_steps e

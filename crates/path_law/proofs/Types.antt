@@ -22,6 +22,7 @@ use Rattle.op_semantics.specs.Fits.{elem_tree}
 use Rattle.module_semantics.specs.Setting.{Setting}
 use Rattle.module_semantics.specs.Memory.{part_by, part_type, array_length, length_from, parts_by, is_among, is_allowed}
 use Rattle.module_semantics.specs.Memory as module_memory
+use Rattle.list_law.proofs.Numbers.{none_below as never, less_of}
 use Rattle.fits_law.specs.Takes.{nth_of}
 use Rattle.fits_law.specs.State.{element_shape}
 use Rattle.type_law.specs.Shaped.{AreConstants}
@@ -29,14 +30,8 @@ use Rattle.type_law.proofs.Parts.{fixed_word, all_nth}
 use Rattle.path_law.specs.Parts.{length_in, IsBelow, IsInside}
 use Rattle.path_law.proofs.Bytes.{kind_of, declared_by}
 
-less_of : (i n : ℕ) → nat_lt i n ≡ true → i < n
-less_of i n e = grind (arith, nat_tests, e)
-
 none_below : {A : Type 0} (i : ℕ) → nat_lt i 0 ≡ true → A
 none_below i e = absurd (never i (less_of i 0 e))
-  where
-    never : (i : ℕ) → i < 0 → ⊥
-    never i less = omega (arith, less)
 
 -- opcodes by kinds
 struct_is : (o : Op) → kind o ≡ kinds.Struct → o ≡ code.TypeStruct
@@ -122,7 +117,7 @@ op_is (plain.struct id ts) o e = struct_is o e
 spec_one : (n m : Id) → Some (Spec n) ≡ Some (Spec m) → m.0 ≡ n.0
 spec_one n m e = let same : m ≡ n = cc in ap (λ (q : Id). q.0) same
 
-spec_is : (o : Op) (n w : ℕ) (m : Id) → length_of o n w ≡ Some (Spec m) → m.0 ≡ n
+pub spec_is : (o : Op) (n w : ℕ) (m : Id) → length_of o n w ≡ Some (Spec m) → m.0 ≡ n
 spec_is code.Constant n w m e = cc
 spec_is code.SpecConstantTrue n w m e = spec_one (record { 0 = n }) m e
 spec_is code.SpecConstantFalse n w m e = spec_one (record { 0 = n }) m e

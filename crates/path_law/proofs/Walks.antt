@@ -2,7 +2,6 @@
 use Rattle.std.proofs.Common.{◌≡◌, ◌<◌, ◌≤◌, ◌==◌, ◌||◌, ◌+◌, ◌++◌, ◌^◌, ℕ, zero, suc, Bool, true, false, List, [], ◌∷◌, Option, Some, None, inl, inr, refl, sym, ap, ◌∙◌, subst, arith, if◌then◌else◌}
 use Rattle.std.specs.Prelude.{◌⊎◌, is_some, nat_lt, option_and_then, slice_index}
 use Rattle.std.specs.Option.{option_map_or}
-use Rattle.std.proofs.lemmas.Bool.Decides.{nat_tests}
 use Rattle.std.proofs.lemmas.Bool.{and_parts}
 use Rattle.std.proofs.lemmas.Option.{same_Some}
 use Rattle.spv_ops.specs.Opcode.{is, number}
@@ -36,6 +35,9 @@ use Rattle.vec_lowering.specs.Component.{axis_name}
 use Rattle.expr_forward.specs.Scope as scope
 use Rattle.expr_forward.specs.Paths as paths
 use Rattle.expr_forward.specs.Paths.{word_at, index_expr, components, vector_size, index_by, step_text, part, steps_text, further}
+use Rattle.list_law.proofs.Options.{some_of}
+use Rattle.list_law.proofs.Numbers.{less_of}
+use Rattle.list_law.proofs.Lists.{none_behind, joined}
 use Rattle.fits_law.specs.Takes.{nth_of}
 use Rattle.fits_law.specs.State.{element_shape}
 use Rattle.type_law.specs.Shaped.{AreConstants}
@@ -46,10 +48,6 @@ use Rattle.path_law.specs.Parts.{StructNames, HasMembersApart, HaveMembersApart,
 use Rattle.path_law.specs.Walks.{writing, struct_names, SaysIndex, Walks, IsIndex, AreIndexes, ByConstants}
 use Rattle.path_law.proofs.Parts.{part_shape, named_is, IsIndexed, indexed_is, field_named}
 use Rattle.path_law.proofs.Types.{allowed_is, op_of, declared_as, is_struct_shape, struct_by, vector_size_is, struct_number, step_type_is}
-
-some_of : {A : Type 0} (o : Option A) → is_some o ≡ true → (a : A) × (o ≡ Some a)
-some_of None e = cc
-some_of (Some a) e = (a, refl)
 
 no_array : is code.TypeArray code.TypeVector ≡ false
 unfolding number
@@ -217,9 +215,6 @@ module _ (p : Program) (calls : Text → List Argument → State → Result (Opt
       abbrev Index : List ℕ → ℕ → Tree → LStep → Thing → Type 0
       Index path i u l a = (b : Thing) × Walks p calls z (l ∷ []) a b × P (path ++ i ∷ []) u b
 
-      less_of : (i n : ℕ) → nat_lt i n ≡ true → i < n
-      less_of i n e = grind (arith, nat_tests, e)
-
       no_vector : (ty i : ℕ) (t : Tree) → type_tree Gs ty ≡ Some t → is (op_of t) code.TypeVector ≡ false → nat_lt i (vector_size W ty) ≡ true → ⊥
       no_vector ty i t shape off less =
           let d = declared_as s ty t shape in
@@ -317,14 +312,6 @@ module _ (p : Program) (calls : Text → List Argument → State → Result (Opt
         pub place : IsPlace (path ++ is) shape to
         pub type : way_type ty qs ≡ type_along s ty is
         pub typed : type_tree Gs (type_along s ty is) ≡ Some shape
-
-      joined : (xs ys : List ℕ) (i : ℕ) → (xs ++ i ∷ []) ++ ys ≡ xs ++ i ∷ ys
-      joined [] ys i = refl
-      joined (q ∷ xs) ys i = ap (λ l. q ∷ l) (joined xs ys i)
-
-      none_behind : (xs : List ℕ) → xs ++ [] ≡ xs
-      none_behind [] = refl
-      none_behind (q ∷ xs) = ap (λ l. q ∷ l) (none_behind xs)
 
       pub chain_walks : (ns is : List ℕ) (path : List ℕ) (ty k : ℕ) (spot : Spot) (t : Tree) (a : Thing) → type_tree Gs ty ≡ Some t → IsPlace path t a → are_allowed s ty is ≡ true → AreIndexes p calls z W spot k ns is → ByConstants s ty ns is
           → Walked path ty (steps_from Gs spot k (Some ty) ns) is a

@@ -68,10 +68,6 @@ same_behind : (xs ys zs : List ℕ) → xs ++ ys ≡ xs ++ zs → ys ≡ zs
 same_behind [] ys zs e = e
 same_behind (x ∷ xs) ys zs e = same_behind xs ys zs (let same : xs ++ ys ≡ xs ++ zs = cc in same)
 
-no_flip : (t : Bool) → t ≡ true → t ≡ false → ⊥
-no_flip true on off = cc
-no_flip false on off = cc
-
 module _ (p : Program) (calls : Text → List Argument → State → Result (Option Typed × State)) (m : Naming) (s : Setting) (Holds : Conf → Type 0) (f : Function) (b : ℕ) (done : List Inst) (overrides : List (ℕ × Given)) (key : Key → Text) (globals : ℕ → Option Expr) (right : AreConstants s) (c : Supplied Conf) (z : State) (stands : Stands m s Holds f b done c z) (known : AreLed s c.at.below c.at.top) where
   abbrev W : scope.Setting
   W = writing s overrides f key globals

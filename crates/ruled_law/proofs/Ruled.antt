@@ -1,9 +1,9 @@
 -- A conforming module is as the law of functions asks: typed, and of pointers it lends whole variables to calls.
 use Rattle.std.proofs.Common.{◌≡◌, ◌<◌, ◌≤◌, ◌+◌, ◌==◌, ◌||◌, ◌&&◌, not, ℕ, suc, Bool, true, false, List, [], ◌∷◌, length, drop, Option, Some, None, inl, inr, refl, sym, ap, subst, ◌∙◌, if◌then◌else◌, arith}
-use Rattle.std.specs.Prelude.{◌⊎◌, find, nat_le, is_some, option_map, option_and_then, Contains, slice_index}
+use Rattle.std.specs.Prelude.{◌⊎◌, find, is_some, option_map, option_and_then, Contains, slice_index}
 use Rattle.std.specs.Option.{option_map_or, option_or}
 use Rattle.std.specs.List.{list_any}
-use Rattle.std.proofs.lemmas.Bool.Decides.{eqb_tells, nat_tests}
+use Rattle.std.proofs.lemmas.Bool.Decides.{eqb_tells}
 use Rattle.std.proofs.lemmas.Bool.{not-false}
 use Rattle.spv_ops.specs.Opcode.{is, number}
 use Rattle.spv_ops.specs.Operands.{is_id}
@@ -42,6 +42,8 @@ use Rattle.module_check.specs.ReadFrom.{IsReadFrom}
 use Rattle.traces.specs.Events.{Event}
 use Rattle.traces.specs.Invocations.{Invocation}
 use Rattle.traces.specs.Runs.{go, Supplied}
+use Rattle.list_law.proofs.Tests.{or_left, or_right, and_off}
+use Rattle.list_law.proofs.Numbers.{from_zero}
 use Rattle.plan_law.specs.InOrder.{IsAmong}
 use Rattle.plan_law.proofs.Order.{found}
 use Rattle.module_semantics.specs.Setting.{Setting, setting, global_variable, as_variable}
@@ -58,13 +60,14 @@ use Rattle.agree_law.specs.Blocks.{IsOf}
 use Rattle.call_law.specs.Known.{IsFunctionOf, ArePointersSo, is_parameter, LendsWhole}
 use Rattle.function_law.specs.UnderWay.{IsRuled}
 use Rattle.typed_law.specs.Conforms.{BreakNone, IsParameter, IsConforming}
-use Rattle.typed_law.proofs.Lists.{or_left, or_right, and_off, found_in}
+use Rattle.typed_law.proofs.Lists.{found_in}
 use Rattle.typed_law.proofs.Rules.{operand_there, value_right, flow_right, call_right}
 use Rattle.typed_law.proofs.Types.{row_is}
 use Rattle.typed_law.proofs.Values.{inside, local_row, variable_type_is, type_suits, own_type, own_local, typed_value, HasType, typed_is, global_typed_some, typed_result}
 use Rattle.typed_law.proofs.Others.{typed_some, target_of, chain_types}
-use Rattle.typed_law.proofs.Calls.{AreOfTypes, arguments_typed, global_variable_is, global_points}
-use Rattle.typed_law.proofs.Whole.{is_typed}
+use Rattle.typed_law.proofs.Calls.{AreOfTypes, arguments_typed, global_variable_is, global_points, variable_typed}
+pub use Rattle.typed_law.proofs.Calls.{variable_typed as variable_has}
+use Rattle.typed_law.proofs.Whole.{is_typed, behind_callee}
 use Rattle.typed_law.proofs.Inputs.{conforming_fits}
 use Rattle.accepted_law.proofs.Accepted.{accepted_conforming}
 use Rattle.typed_law.proofs.Words.{conforms}
@@ -80,18 +83,10 @@ among_of [] i there = there
 among_of (j ∷ js) i (inl same) = inl same
 among_of (j ∷ js) i (inr there) = inr (among_of js i there)
 
--- opcodes by what they do
-pub variable_has : (o : Op) → is o code.Variable ≡ true → has_type o ≡ true
-unfolding number shape
-variable_has code.Variable e = refl
-variable_has o e = cc
-
-from_zero : (k : ℕ) → nat_le 0 k ≡ true
-from_zero k = grind (arith, nat_tests)
-
 abbrev IsChainOp : Op → Type 0
 IsChainOp o = (group_of o ≡ groups.Chain) × (has_type o ≡ true) × (is o code.Variable ≡ false) × ((args : List ℕ) (k : ℕ) → is_id o args k ≡ true) × ((k : ℕ) → need o k ≡ Value) × ((n : ℕ) → (shape o).least ≤ 1 + count_of (has_type o) + count_of (has_result o) + n → 0 < n)
 
+-- opcodes by what they do
 chain_op : (o : Op) → step_kind o ≡ chain → IsChainOp o
 unfolding step_kind group_of takes_of need is_id shape number
 chain_op code.AccessChain e = (refl, refl, refl, λ args k. from_zero k, λ k. refl, λ n le. omega (arith, le))
@@ -111,9 +106,6 @@ unfolding step_kind group_of takes_of need is_id shape number
 call_op code.FunctionCall e = (refl, refl, refl, λ args k. from_zero k, λ k. refl)
 call_op o e = cc
 
-behind_callee : (k : ℕ) → 1 ≤ k → first_or k Callee Value ≡ Value
-behind_callee k low = let off : (k == 0) ≡ false = grind (arith, nat_tests, low) in ap (λ (b : Bool). if b then Callee else Value) off
-
 -- what is found is one of them
 pub parameter_of : (ps : List (Id × Id)) (n : ℕ) → is_some (option_map (λ (p : Id × Id). p.1.0) (find (λ (p : Id × Id). p.0.0 == n) ps)) ≡ true → (p : Id × Id) × IsParameter p ps × (p.0.0 ≡ n)
 parameter_of [] n e = cc
@@ -128,7 +120,7 @@ parameter_of (q ∷ ps) n e = by_test (q.0.0 == n) (eqb_tells q.0.0 n) e (λ res
 pub class_there : (gs : List Inst) (ty : ℕ) (g : Inst) → global gs ty ≡ Some g → is g.op code.TypePointer ≡ true → is_some (storage_class gs ty) ≡ true
 class_there gs ty g at on = ap (λ o. is_some (option_map (λ (p : Inst). slice_index p.args 0) (option_and_then as_pointer o))) at ∙ ap (λ (b : Bool). is_some (option_map (λ (p : Inst). slice_index p.args 0) (if b then Some g else None))) on
 
-class_pointed : (gs : List Inst) (ty q : ℕ) → pointee gs ty ≡ Some q → is_some (storage_class gs ty) ≡ true
+pub class_pointed : (gs : List Inst) (ty q : ℕ) → pointee gs ty ≡ Some q → is_some (storage_class gs ty) ≡ true
 class_pointed gs ty q e = by_pointer (pointer gs ty) e
   where
     by_pointer : (o : Option Inst) → option_map (λ (p : Inst). slice_index p.args 1) o ≡ Some q → is_some (option_map (λ (p : Inst). slice_index p.args 0) o) ≡ true
@@ -190,7 +182,7 @@ module _ (s : Setting) (entry : Option (List ℕ)) (right : IsConforming s.of en
     global_pointer n v e =
         let q = global_points s entry right chosen have n v e in
         let w = global_variable_is s entry right chosen have n v e in
-        let type_is : type_in Gs f n ≡ Some v.ty = ap (λ o. option_or o (local_type f n)) (ap (option_and_then typed) w.0 ∙ typed_is v (global_typed_some s entry right v (found_in Gs n v w.0) (variable_has v.op w.1))) in
+        let type_is : type_in Gs f n ≡ Some v.ty = ap (λ o. option_or o (local_type f n)) (ap (option_and_then typed) w.0 ∙ typed_is v (global_typed_some s entry right v (found_in Gs n v w.0) (variable_typed v.op w.1))) in
         pointer_by Gs f n v.ty type_is (class_pointed Gs v.ty q.0 q.2)
 
     module _ (i : Inst) (there : IsAmong i (insts_of f)) where

@@ -4,6 +4,7 @@ use Rattle.std.specs.List.{range_with_len}
 use Rattle.std.specs.Option.{option_and_then}
 use Rattle.std.proofs.lemmas.Bool.{or_left, or_right, and_right}
 use Rattle.std.proofs.lemmas.Bool.Decides.{eqb_tells}
+use Rattle.std.proofs.lemmas.Option.{same_Some}
 use Rattle.spv_ops.specs.Opcode.{is}
 use Rattle.spv_ops.specs.declared.Op.TheVariants as code
 use Rattle.spv_module.specs.declared.inst.Inst.{Inst}
@@ -83,9 +84,6 @@ merged_rest f g h r n X is fo rest = by_merge (merge_block g h) (subst (Follows 
     by_merge : (o : Option ℕ) → Follows f g r (if_reached g o) → ((q : ℕ) → Starts (if_reached g o) q → X q) → if_some (if_there g o) (λ q. IsItem r × X q)
     by_merge None fo rest = tt
     by_merge (Some m) fo rest = by_reached m (nth g m).reached fo rest
-
-same_some_of : (a b : ℕ) → Some a ≡ Some b → a ≡ b
-same_some_of a b e = cc
 
 pub conditional_is : (x : Terminator) → is_conditional x ≡ true → x ≡ terminator.Conditional
 conditional_is terminator.Branch e = cc
@@ -280,8 +278,8 @@ module _ (f : Function) (g : List Node) (sound : IsSound g) (w : Blocks) (term :
               behind g h,
               c,
               item_of f g z (Block c) fi.0.2,
-              region_leads z (At (Block c)) (Cont h ∷ ps) (in_continue w.leave g h) true c fi.0.2 cont refl (continue_serves w.leave g ps h true (λ own. facts.apart (same_some_of c h (sym facts.target ∙ own)))) (λ e. refl),
-              region_leads x (At (Body h)) (Loop h ∷ ps) (in_body w.leave g h c) true h fi.1 body refl (body_serves w.leave g ps h c true (λ t is there. same_some_of t c (sym is ∙ facts.target))) (λ e. refl),
+              region_leads z (At (Block c)) (Cont h ∷ ps) (in_continue w.leave g h) true c fi.0.2 cont refl (continue_serves w.leave g ps h true (λ own. facts.apart (same_Some c h (sym facts.target ∙ own)))) (λ e. refl),
+              region_leads x (At (Body h)) (Loop h ∷ ps) (in_body w.leave g h c) true h fi.1 body refl (body_serves w.leave g ps h c true (λ t is there. same_Some t c (sym is ∙ facts.target))) (λ e. refl),
               merged_rest f g h r n (L r ps v) (merged_item f g sound (loop_on h z x) s n refl sa be) fo rest,
             ),
           ),

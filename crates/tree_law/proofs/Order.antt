@@ -6,11 +6,9 @@ use Rattle.std.specs.List.{list_any, IsDistinct, AllByRecursion}
 use Rattle.std.proofs.lemmas.Bool.{false≢true}
 use Rattle.std.proofs.lemmas.Bool.Decides.{eqb_tells}
 use Rattle.std.proofs.lemmas.Map.Steps.{length-le_from_distinct_below}
+use Rattle.std.proofs.lemmas.Option.{same_Some}
 use Rattle.region_law.specs.Leads.{AreInOrder, In, AreApart}
 use Rattle.tree_law.specs.Chain.{chain, after, chains}
-
-some_is : (a b : ℕ) → Some a ≡ Some b → a ≡ b
-some_is a b e = cc
 
 pub in_left : (x : ℕ) (xs ys : List ℕ) → In x xs → In x (xs ++ ys)
 in_left x [] ys h = absurd h
@@ -63,7 +61,7 @@ module _ (next : ℕ → Option ℕ) (size : ℕ) (below : (t u : ℕ) → next 
 
   stands : (m n t x : ℕ) → m < n → A m t ≡ Some x → In x (C n t)
   stands m zero t x lt e = absurd (omega (arith, lt))
-  stands zero (suc n) t x lt e = inl (sym (some_is t x e))
+  stands zero (suc n) t x lt e = inl (sym (same_Some t x e))
   stands (suc m) (suc n) t x lt e = by_next (next t) refl e (λ u i. stands m n u x (omega (arith, lt)) i)
     where
       by_next : (o : Option ℕ) → next t ≡ o → option_and_then (A m) o ≡ Some x → ((u : ℕ) → A m u ≡ Some x → In x (C n u)) → In x (C (suc n) t)
@@ -133,7 +131,7 @@ module _ (next : ℕ → Option ℕ) (size : ℕ) (below : (t u : ℕ) → next 
 
   -- some steps lead on by one more
   one_more : (m s t : ℕ) → A m s ≡ Some t → A (suc m) s ≡ next t
-  one_more zero s t e = by_next (next s) refl ∙ ap next (some_is s t e)
+  one_more zero s t e = by_next (next s) refl ∙ ap next (same_Some s t e)
     where
       by_next : (o : Option ℕ) → next s ≡ o → A 1 s ≡ next s
       by_next None is = ap (λ q. option_and_then (A 0) q) is ∙ sym is
@@ -174,9 +172,9 @@ module _ (next : ℕ → Option ℕ) (size : ℕ) (below : (t u : ℕ) → next 
 
   -- a way ends in one place
   one_end : (i j x a b : ℕ) → A i x ≡ Some a → next a ≡ None → A j x ≡ Some b → next b ≡ None → a ≡ b
-  one_end zero zero x a b ea na eb nb = sym (some_is x a ea) ∙ some_is x b eb
-  one_end zero (suc j) x a b ea na eb nb = let none : next x ≡ None = ap next (some_is x a ea) ∙ na in let never : None ≡ Some b = ap (λ q. option_and_then (A j) q) (sym none) ∙ eb in cc
-  one_end (suc i) zero x a b ea na eb nb = let none : next x ≡ None = ap next (some_is x b eb) ∙ nb in let never : None ≡ Some a = ap (λ q. option_and_then (A i) q) (sym none) ∙ ea in cc
+  one_end zero zero x a b ea na eb nb = sym (same_Some x a ea) ∙ same_Some x b eb
+  one_end zero (suc j) x a b ea na eb nb = let none : next x ≡ None = ap next (same_Some x a ea) ∙ na in let never : None ≡ Some b = ap (λ q. option_and_then (A j) q) (sym none) ∙ eb in cc
+  one_end (suc i) zero x a b ea na eb nb = let none : next x ≡ None = ap next (same_Some x b eb) ∙ nb in let never : None ≡ Some a = ap (λ q. option_and_then (A i) q) (sym none) ∙ ea in cc
   one_end (suc i) (suc j) x a b ea na eb nb = by_next (next x) ea eb (λ u p q. one_end i j u a b p na q nb)
     where
       by_next : (o : Option ℕ) → option_and_then (A i) o ≡ Some a → option_and_then (A j) o ≡ Some b → ((u : ℕ) → A i u ≡ Some a → A j u ≡ Some b → a ≡ b) → a ≡ b
@@ -185,7 +183,7 @@ module _ (next : ℕ → Option ℕ) (size : ℕ) (below : (t u : ℕ) → next 
 
   -- the other way round
   turned : (other : ℕ → Option ℕ) → ((t u : ℕ) → other u ≡ Some t → next t ≡ Some u) → (n t s : ℕ) → after other n t ≡ Some s → A n s ≡ Some t
-  turned other back zero t s e = ap (λ q. Some q) (sym (some_is t s e))
+  turned other back zero t s e = ap (λ q. Some q) (sym (same_Some t s e))
   turned other back (suc n) t s e = by_other (other t) refl e (λ r i. turned other back n r s i)
     where
       by_other : (o : Option ℕ) → other t ≡ o → option_and_then (after other n) o ≡ Some s → ((r : ℕ) → after other n r ≡ Some s → A n s ≡ Some r) → A (suc n) s ≡ Some t

@@ -3,6 +3,7 @@ use Rattle.std.proofs.Common.{◌≡◌, ◌||◌, ℕ, Bool, true, false, List,
 use Rattle.std.specs.Prelude.{option_and_then}
 use Rattle.std.proofs.lemmas.Bool.{false≢true, and_parts}
 use Rattle.std.proofs.lemmas.Bool.Decides.{eqb_tells}
+use Rattle.std.proofs.lemmas.Option.{same_Some}
 use Rattle.structure_rules.specs.declared.graph.Node.{Node}
 use Rattle.structure_rules.specs.declared.graph.Part.{Part}
 use Rattle.structure_rules.specs.declared.graph.Part.TheVariants.{If, Loop, Cont, Case}
@@ -108,13 +109,10 @@ module _ (w : Blocks) (term : ℕ → Term) (falls : ℕ → Option ℕ) (Cases 
 behind_is : (g : List Node) (h t : ℕ) → merge_block g h ≡ Some t → (nth g t).reached ≡ true → behind g h ≡ Some t
 behind_is g h t is there = ap (λ o. if_there g o) is ∙ ap (λ q. elim q as (λ x. Option ℕ) [ true ↦ Some t | false ↦ None ]) there
 
-same_some : (a b : ℕ) → Some a ≡ Some b → a ≡ b
-same_some a b e = cc
-
 module _ (leave : ℕ → Option Text) (g : List Node) (ps : List Part) where
   pub choice_serves : (h : ℕ) (v : Ways) (outer inner : Bool) → (inner ≡ true → outer ≡ true) → Serves leave g ps v outer → Serves leave g (If h ∷ ps) (in_choice g h v) inner
   choice_serves h v outer inner more s = record {
-    merge = λ k t e m there. behind_is g h t (ap (λ q. merge_block g q) (same_some h k e) ∙ m) there;
+    merge = λ k t e m there. behind_is g h t (ap (λ q. merge_block g q) (same_Some h k e) ∙ m) there;
     switched = s.switched;
     left = s.left;
     out = λ b. s.out (more b);
@@ -128,9 +126,9 @@ module _ (leave : ℕ → Option Text) (g : List Node) (ps : List Part) where
   body_serves h c breaks own = record {
     merge = λ k t e m there. let never = e in cc;
     switched = λ k t e m there. let never = e in cc;
-    left = λ k t none e m there. behind_is g h t (ap (λ q. merge_block g q) (same_some h k e) ∙ m) there;
-    out = λ b k t l e f m there. ap (λ q. out_of (leave q) (behind g h)) (same_some h k e) ∙ ap (λ q. out_of q (behind g h)) f ∙ ap (λ q. out_of (Some l) q) (behind_is g h t (ap (λ q. merge_block g q) (same_some h k e) ∙ m) there);
-    again = λ k t e m there. ap (λ q. Some q) (sym (own t (ap (λ q. continue_target g q) (same_some h k e) ∙ m) there));
+    left = λ k t none e m there. behind_is g h t (ap (λ q. merge_block g q) (same_Some h k e) ∙ m) there;
+    out = λ b k t l e f m there. ap (λ q. out_of (leave q) (behind g h)) (same_Some h k e) ∙ ap (λ q. out_of q (behind g h)) f ∙ ap (λ q. out_of (Some l) q) (behind_is g h t (ap (λ q. merge_block g q) (same_Some h k e) ∙ m) there);
+    again = λ k t e m there. ap (λ q. Some q) (sym (own t (ap (λ q. continue_target g q) (same_Some h k e) ∙ m) there));
     other = λ k e m. let never = e in cc;
     back = λ k e. let never = e in cc;
     fall = λ b t u here leads f e. let never = e in cc;
@@ -140,10 +138,10 @@ module _ (leave : ℕ → Option Text) (g : List Node) (ps : List Part) where
   continue_serves h breaks own = record {
     merge = λ k t e m there. let never = e in cc;
     switched = λ k t e m there. let never = e in cc;
-    left = λ k t none e m there. behind_is g h t (ap (λ q. merge_block g q) (same_some h k e) ∙ m) there;
-    out = λ b k t l e f m there. ap (λ q. out_of (leave q) (behind g h)) (same_some h k e) ∙ ap (λ q. out_of q (behind g h)) f ∙ ap (λ q. out_of (Some l) q) (behind_is g h t (ap (λ q. merge_block g q) (same_some h k e) ∙ m) there);
+    left = λ k t none e m there. behind_is g h t (ap (λ q. merge_block g q) (same_Some h k e) ∙ m) there;
+    out = λ b k t l e f m there. ap (λ q. out_of (leave q) (behind g h)) (same_Some h k e) ∙ ap (λ q. out_of q (behind g h)) f ∙ ap (λ q. out_of (Some l) q) (behind_is g h t (ap (λ q. merge_block g q) (same_Some h k e) ∙ m) there);
     again = λ k t e m there. let never = e in cc;
-    other = λ k e m. let same = same_some h k e in own (subst (λ q. continue_target g q ≡ Some q) (sym same) m);
+    other = λ k e m. let same = same_Some h k e in own (subst (λ q. continue_target g q ≡ Some q) (sym same) m);
     back = λ k e. e;
     fall = λ b t u here leads f e. let never = e in cc;
   }
@@ -154,11 +152,11 @@ module _ (w : Blocks) (term : ℕ → Term) (falls : ℕ → Option ℕ) (Cases 
       → Serves w.leave g (Case s u ∷ ps) (in_case w term falls Cases v inner (behind g s) u) inner
   case_serves s u v outer inner more one z = record {
     merge = λ k t e m there. let never = e in cc;
-    switched = λ k t e m there. behind_is g s t (ap (λ q. merge_block g q) (same_some s k e) ∙ m) there;
+    switched = λ k t e m there. behind_is g s t (ap (λ q. merge_block g q) (same_Some s k e) ∙ m) there;
     left = λ k t none e m there. let never = none in cc;
     out = λ b k t l e f m there. ap (λ q. out_if w term falls Cases v q) b ∙ z.out (more b) k t l e f m there;
     again = z.again;
     other = z.other;
     back = λ k e. let never = e in cc;
-    fall = λ b t x here leads f e. let same = same_some u x e in one b t here leads (f ∙ ap (λ q. Some q) (sym same));
+    fall = λ b t x here leads f e. let same = same_Some u x e in one b t here leads (f ∙ ap (λ q. Some q) (sym same));
   }

@@ -39,7 +39,7 @@ list_in t [] h = absurd h
 list_in t (x ∷ xs) (inl e) = or_left (x == t) (list_any (λ u. u == t) xs) (ap (λ q. x == q) e ∙ same_nat x)
 list_in t (x ∷ xs) (inr h) = or_right (x == t) (list_any (λ u. u == t) xs) (list_in t xs h)
 
-in_filter : (p : ℕ → Bool) (xs : List ℕ) (t : ℕ) → In t xs → p t ≡ true → In t (filter p xs)
+pub in_filter : (p : ℕ → Bool) (xs : List ℕ) (t : ℕ) → In t xs → p t ≡ true → In t (filter p xs)
 in_filter p xs t h e = in_list t (filter p xs) (has_filter p xs t (list_in t xs h) e)
 
 filter_in : (p : ℕ → Bool) (xs : List ℕ) (t : ℕ) → In t (filter p xs) → In t xs × (p t ≡ true)
