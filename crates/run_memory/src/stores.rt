@@ -1,5 +1,5 @@
 // What OpStore comes to.
-ghost use Rattle.std.specs.Prelude.{◌≡◌, List, Some, IfOk, option_map, option_and_then};
+ghost use Rattle.std.specs.Prelude.{◌≡◌, List, Some, IfOk, option_and_then};
 ghost use Rattle.spv_module.specs.declared.inst.Function.{Function};
 ghost use Rattle.spv_module.specs.declared.inst.Inst.{Inst as Instruction};
 ghost use Rattle.op_semantics.specs.Composite.{inserted as inserted_value};
@@ -20,7 +20,7 @@ use spv_module::{Inst, Value};
 use spv_ops::StorageClass;
 use spv_words::Memory;
 use std::alloc::Global;
-use value_ops::{add_words, copied, put_part};
+use value_ops::{add_words, copied, inserted};
 
 /// What a store comes to: no meaning; another value of the part of a variable to which a path leads; another value of a variable of
 /// the module; words that are written to memory.
@@ -50,23 +50,6 @@ fn words_in(alloc: Global, value: &Value) -> Result<Vec<u32>, Memory>
     Ok(words)
 }
 
-/// A copy of a value with another part where these indexes lead, if there is one.
-fn with_part(
-    alloc: Global,
-    whole: &Value,
-    path: &[u32],
-    part: &Value,
-) -> Result<Option<Value>, Memory>
-    ensures { IfOk result (λ v. option_map value_of v ≡ inserted_value (value_of part.now) path.now (value_of whole.now)) }
-{
-    let mut copy = copied(alloc, whole)?;
-    if put_part(&mut copy, path, copied(alloc, part)?) {
-        Ok(Some(copy))
-    } else {
-        Ok(None)
-    }
-}
-
 /// A store along a path in a variable that others see.
 fn store_seen(storing: &Storing, variable: &Inst) -> Result<Stored, Memory>
     ensures { ForEach storing.now.map.now (λ s. IfOk result (λ w. (c : state.Conf) (rest : List Instruction) (r : state.Root) → narrowed (steps.store_to s c rest (r, storing.now.path.now) (value_of storing.now.value.now) (Some variable.now)) ≡ stored_by c rest w)) }
@@ -90,7 +73,7 @@ fn store_part(storing: &Storing, root: Root) -> Result<Stored, Memory>
 fn store_over(storing: &Storing, id: u32, whole: &Value) -> Result<Stored, Memory>
     ensures { IfOk result (λ w. (c : state.Conf) (rest : List Instruction) → stored_by c rest w ≡ kept_with c rest (state.global id) (inserted_value (value_of storing.now.value.now) storing.now.path.now (value_of whole.now))) }
 {
-    match with_part(storing.alloc, whole, storing.path, storing.value)? {
+    match inserted(storing.alloc, whole, storing.path, storing.value)? {
         None => Ok(Stored::Missing),
         Some(whole) => Ok(Stored::Whole(id, whole)),
     }

@@ -6,7 +6,7 @@ use Rattle.run_memory.specs.Outcomes.{kept_with}
 use Rattle.run_memory.proofs.stores.store_over.Goals as goal
 
 pub returns-in-None : goal.returns-in-None
-returns-in-None c = λ d rest. ap (kept_with d rest (global c.args.id)) (sym (ap (option_map value_of) c.in-None.is) ∙ c.in_ok-with_part.ensures)
+returns-in-None c = λ d rest. ap (kept_with d rest (global c.args.id)) (sym (ap (option_map value_of) c.in-None.is) ∙ c.in_ok-inserted.ensures)
 
 pub returns-in-Some : goal.returns-in-Some
-returns-in-Some c = λ d rest. ap (kept_with d rest (global c.args.id)) (sym (ap (option_map value_of) c.in-Some.is) ∙ c.in_ok-with_part.ensures)
+returns-in-Some c = λ d rest. ap (kept_with d rest (global c.args.id)) (sym (ap (option_map value_of) c.in-Some.is) ∙ c.in_ok-inserted.ensures)
