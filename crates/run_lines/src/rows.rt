@@ -2,7 +2,7 @@
 ghost use Rattle.std.specs.Prelude.{◌≡◌, ◌≤◌, length, map, IfOk, IsTrue};
 ghost use Rattle.std.specs.List.{list_all};
 ghost use Rattle.dispatch_case.specs.Cases.{buffer_view, is_short, most_numbers};
-ghost use Rattle.run_lines.specs.Lines.{row_of, AreInOrder};
+ghost use Rattle.run_lines.specs.Lines.{AreInOrder};
 
 use spv_words::Memory;
 use std::alloc::Global;
@@ -17,23 +17,15 @@ fn count(words: &[u32]) -> u32
     words.len() as u32
 }
 
-fn rows_of(alloc: Global, buffers: &[(u32, u32, Vec<u32>)]) -> Result<Vec<Row>, Memory>
-    requires { IsTrue (list_all (λ b. is_short b.2) (map buffer_view buffers.now)) }
-    ensures { IfOk result (λ rows. rows.items ≡ map row_of (map buffer_view buffers.now)) }
-{
-    let mut rows = Vec::with_capacity(alloc, buffers.len())?;
-    for buffer in buffers {
-        rows.push((buffer.0, buffer.1, count(&buffer.2)))?;
-    }
-    Ok(rows)
-}
-
 /// The buffers in the order of their sets, and in a set of their bindings.
 pub fn rows_in_order(alloc: Global, buffers: &[(u32, u32, Vec<u32>)]) -> Result<Vec<Row>, Memory>
     requires { IsTrue (list_all (λ b. is_short b.2) (map buffer_view buffers.now)) }
     ensures { IfOk result (λ rows. AreInOrder (map buffer_view buffers.now) rows.items) }
 {
-    let mut rows = rows_of(alloc, buffers)?;
+    let mut rows = Vec::with_capacity(alloc, buffers.len())?;
+    for buffer in buffers {
+        rows.push((buffer.0, buffer.1, count(&buffer.2)))?;
+    }
     rows.sort_unstable();
     Ok(rows)
 }
