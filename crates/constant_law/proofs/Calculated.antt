@@ -165,7 +165,7 @@ plain_reading Named e = cc
 plain_reading GroupSize e = cc
 plain_reading (GroupSizePart axis) e = cc
 
-number_value : (t : Tree) (v : ValueTree) → is_number (elem_of t) ≡ true → fits t v ≡ true → v ≡ word (word_of v)
+pub number_value : (t : Tree) (v : ValueTree) → is_number (elem_of t) ≡ true → fits t v ≡ true → v ≡ word (word_of v)
 number_value plain.int (word a) on fit = refl
 number_value plain.uint (word a) on fit = refl
 number_value plain.int (truth b) on fit = cc

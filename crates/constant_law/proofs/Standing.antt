@@ -102,7 +102,7 @@ unfolding number
 constant_no_struct code.TypeStruct on = cc
 constant_no_struct o on = refl
 
-kind_constant : (o : Op) → (constant_kind o ≡ kinds.Other → ⊥) → is_constant_op o ≡ true
+pub kind_constant : (o : Op) → (constant_kind o ≡ kinds.Other → ⊥) → is_constant_op o ≡ true
 unfolding constant_kind
 kind_constant code.ConstantTrue far = refl
 kind_constant code.ConstantFalse far = refl

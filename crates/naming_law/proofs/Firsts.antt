@@ -31,7 +31,7 @@ use Rattle.naming_law.proofs.Alone.{no_flip}
 use Rattle.naming_law.proofs.Keys.{S, names}
 use Rattle.naming_law.proofs.Tops.{of_filtered, of_mapped, of_either, of_flat, tops as tops_in}
 
-no_phi : (o : Op) → is o code.Variable ≡ true → is o code.Phi ≡ false
+pub no_phi : (o : Op) → is o code.Variable ≡ true → is o code.Phi ≡ false
 unfolding number
 no_phi code.Variable on = refl
 no_phi o on = cc
@@ -62,7 +62,7 @@ none_there [] b i none block there on = block
 none_there (x ∷ bs) b i none (inl same) there on = none_in x.insts i none.0 (subst (λ (y : Block). IsIn i y.insts) (sym same) there) on
 none_there (x ∷ bs) b i none (inr block) there on = none_there bs b i none.1 block there on
 
-of_in : (is : List Inst) (i : Inst) → IsIn i is → IsOf i is
+pub of_in : (is : List Inst) (i : Inst) → IsIn i is → IsOf i is
 of_in [] i there = absurd there
 of_in (x ∷ is) i (inl same) = inl same
 of_in (x ∷ is) i (inr there) = inr (of_in is i there)

@@ -85,7 +85,7 @@ struct_shape gs before g code.TypeStruct t on e = by_trees (all_trees before g.a
     by_trees (Some ts) is e = (ts, is, sym (same_Some (plain.struct g.result ts) t e))
 struct_shape gs before g o t on e = cc
 
-struct_part_by : (o : Op) (args : List ℕ) (i : ℕ) → is o code.TypeStruct ≡ true → part_by o args i ≡ slice_index args i
+pub struct_part_by : (o : Op) (args : List ℕ) (i : ℕ) → is o code.TypeStruct ≡ true → part_by o args i ≡ slice_index args i
 unfolding number
 struct_part_by code.TypeStruct args i on = refl
 struct_part_by o args i on = cc
@@ -104,7 +104,7 @@ fine_member : (u : Tree) → IsMemberSized u → IsFineMember u
 fine_member u (inl h) = sized_member u h
 fine_member u (inr (t, same, h)) = subst IsFineMember (sym same) h
 
-type_found : (gs : List Inst) (p : ℕ) (u : Tree) → type_tree gs p ≡ Some u → (h : Inst) × (global_inst gs p ≡ Some h) × (tree_at gs h ≡ Some u)
+pub type_found : (gs : List Inst) (p : ℕ) (u : Tree) → type_tree gs p ≡ Some u → (h : Inst) × (global_inst gs p ≡ Some h) × (tree_at gs h ≡ Some u)
 type_found gs p u e = by_global (global_inst gs p) refl e
   where
     by_global : (o : Option Inst) → global_inst gs p ≡ o → option_map_or (tree_at gs) o None ≡ Some u → (h : Inst) × (global_inst gs p ≡ Some h) × (tree_at gs h ≡ Some u)

@@ -52,6 +52,7 @@ use Rattle.grammar_law.proofs.Inner.{stands_within}
 use Rattle.grammar_law.proofs.Lives.{lives}
 use Rattle.meaning_law.proofs.Moves.Planned.{planned_edge}
 use Rattle.formed_law.proofs.Labelled.{label_place}
+use Rattle.naming_law.proofs.Firsts.{of_in}
 use Rattle.meaning_law.proofs.Values.EdgesLeft.{edge_left}
 use Rattle.meaning_law.proofs.Steps.Joined.{AreCallsMet, calls_met, insts_met}
 use Rattle.use_chains.specs.Slots.{inst_at, IsLive}
@@ -64,7 +65,6 @@ use Rattle.meaning_law.proofs.Outside.Typed.{types_of_text}
 use Rattle.meaning_law.proofs.Outside.Tops.{tops_say}
 use Rattle.safe_law.specs.Flags.{IsFlag as IsFlagOf, IsNoFlag}
 use Rattle.meaning_law.proofs.Written.Asked.{AreInstsAsked, AreEdgesAsked, IsLeftOfPlan, one_so, left_of_plan, asked as asked_of}
-use Rattle.meaning_law.proofs.Written.Placed.{as_of}
 use Rattle.meaning_law.proofs.Values.Ends.{left_at_ends}
 use Rattle.preservation.specs.Preserves.{PreservesIn}
 use Rattle.meaning_law.proofs.Whole.Accepted.{right, ruled, N, is_one, formed_so, few_so, labels_so, alone_so, apart_so, kept_so}
@@ -171,7 +171,7 @@ module _ (bytes : List ℕ) (m : ModuleState) (o : Options) (read : IsReadFrom b
       plan_left before =
           left_of_plan m o unit u inv p among r one (keys_so p among) apart kept rules form few labels program k (items_before ts) flags_outside IsLent first given kinds_in rules.lends (insts_so before) edges_so
           (left_at_ends bytes m o read fine unit u inv told outer r kinds_in p among rules.lends here (calls_of program k (items_before ts)) Way (λ g c way. way.known.fits) (λ g c way. way.known.more.words) rules.fits of_words
-          (λ j there. rules.typed Fn here j (as_of (insts_of Fn) j there)))
+          (λ j there. rules.typed Fn here j (of_in (insts_of Fn) j there)))
 
     -- what is declared for its value has a shape
     shaped : (p : FunctionPlan) (among : IsIn p u.plans) (i : Inst) → IsIn i (insts_of (written p)) → is_hoisted (p.scope.form i.result) ≡ true → (t : Tree) × (type_tree m.globals i.ty ≡ Some t)

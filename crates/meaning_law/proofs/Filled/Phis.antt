@@ -1,7 +1,6 @@
 -- In an accepted module the type of a phi has a shape: it is no variable, no chain and no call.
 use Rattle.std.proofs.Common.{◌≡◌, ℕ, true, List, Option, Some, Contains, inl, inr, sym, ◌∙◌}
 use Rattle.spv_ops.specs.OpGroups.{group_of}
-use Rattle.spv_ops.specs.declared.OpGroup.{OpGroup}
 use Rattle.spv_ops.specs.declared.OpGroup.TheVariants as groups
 use Rattle.spv_module.specs.declared.inst.Inst.{Inst}
 use Rattle.spv_module.specs.declared.inst.Function.{Function}
@@ -12,10 +11,11 @@ use Rattle.module_semantics.specs.Setting.{Setting}
 use Rattle.module_semantics.specs.Steps.{is_phi}
 use Rattle.plan_law.specs.InOrder.{IsAmong}
 use Rattle.typed_law.specs.Conforms.{IsConforming}
+use Rattle.typed_law.proofs.Others.{phi_group}
 use Rattle.unit_law.proofs.Ways.{HaveKinds}
 use Rattle.unit_law.proofs.ResultShapes.{stands_inside, IsShaped}
 use Rattle.unit_law.proofs.ResultTypes.{Gives, of_shape, of_pointer, of_call, gives}
-use Rattle.meaning_law.proofs.Moves.PhiOperands.{phi_group, phi_typed}
+use Rattle.meaning_law.proofs.Moves.PhiOperands.{phi_typed}
 
 no_chain : groups.Phi ≡ groups.Chain → ⊥
 no_chain e = cc

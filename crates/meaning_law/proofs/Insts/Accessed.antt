@@ -1,5 +1,5 @@
 -- What loads read, stores write and atomic instructions access, where pointers that may be written at them are written as they lead: the pointer of a load points to the shape of its result, that of a store to the shape of what is stored.
-use Rattle.std.proofs.Common.{◌≡◌, ◌++◌, ◌&&◌, ℕ, Bool, true, false, List, [], ◌∷◌, Option, Some, unwrap_or, refl, sym, ap, ◌∙◌, subst}
+use Rattle.std.proofs.Common.{◌≡◌, ◌++◌, ℕ, true, false, List, [], ◌∷◌, Option, Some, unwrap_or, refl, sym, ap, ◌∙◌, subst}
 use Rattle.spv_ops.specs.declared.AtomicOp.{AtomicOp}
 use Rattle.spv_module.specs.State.{ModuleState}
 use Rattle.spv_module.specs.declared.inst.Inst.{Inst}
@@ -31,6 +31,7 @@ use Rattle.expr_forward.specs.Values.{value}
 use Rattle.expr_forward.specs.Statements.{has_result}
 use Rattle.function_text.specs.Functions.{FunctionPlan, written}
 use Rattle.unit_rules.specs.Unit.{IsUnitOf}
+use Rattle.list_law.proofs.Tests.{and_left}
 use Rattle.type_law.specs.Shaped.{AreConstants}
 use Rattle.agree_law.specs.Agree.{Naming, AreApart}
 use Rattle.agree_law.specs.Blocks.{IsOf, Stands}
@@ -58,10 +59,6 @@ use Rattle.naming_law.proofs.Keys.{S, key, names}
 use Rattle.meaning_law.proofs.Written.Shapes.{shape_of_value}
 use Rattle.meaning_law.proofs.Insts.Asks.{LeftBy}
 use Rattle.meaning_law.proofs.Insts.KindSteps.{load_step, store_step}
-
-left_on : (a b : Bool) → (a && b) ≡ true → a ≡ true
-left_on true b on = refl
-left_on false b on = cc
 
 module _ (m : ModuleState) (opts : Options) (right : IsConforming m opts.entry) (kinds : HaveKinds m.globals) (unit : TranslationUnit) (u : IsUnitOf m opts unit) (inv : Invocation) (p : FunctionPlan) (among : IsIn p u.plans) (lends : LendsWhole (S m opts unit u inv)) (is_one : IsFunctionOf (written p) m.functions)
     (program : Program) (calls : Text → List Argument → State → Result (Option Typed × State)) (k : ℕ) (apart : AreApart (names m opts unit u inv p)) (Holds : Conf → Type 0) (keeps : IsKept (machine (S m opts unit u inv)) Holds) (form : IsFormedFunction (written p))
@@ -121,7 +118,7 @@ module _ (m : ModuleState) (opts : Options) (right : IsConforming m opts.entry) 
         record { type = w.0; points_to = w.1; typed_as = w.2; sized = g.sized; no_block = g.no_block c z }
 
     lents : (n : ℕ) → N.is_lent n ≡ true → is_parameter f n ≡ true
-    lents n on = left_on (is_parameter f n) (is_pointer m.globals f n) on
+    lents n on = and_left (is_parameter f n) (is_pointer m.globals f n) on
 
     pub store_left : Ways → IsUsable (arg i 0) → LeftBy m opts right kinds unit u inv p among lends is_one program calls k apart Holds keeps form b o done i rest kind.Store
     store_left ways usable = record {

@@ -80,8 +80,8 @@ use Rattle.naming_law.specs.Types.{IsTypeOfText}
 use Rattle.naming_law.proofs.Insts.{IsSet, IsUnset, Plain, Comes, AsksAccess, Inserts, kept_exprs, Asks, AllAsk}
 use Rattle.naming_law.proofs.Keys.{S, key, names}
 use Rattle.naming_law.proofs.Once.{chain_result}
+use Rattle.naming_law.proofs.Firsts.{of_in}
 use Rattle.meaning_law.proofs.Written.Shapes.{has_shape}
-use Rattle.meaning_law.proofs.Written.Placed.{as_of}
 use Rattle.meaning_law.proofs.Insts.KindSteps.{load_step, store_step, atomic_step, control_step, memory_step, chain_step, composite_step, vector_step, value_step, silent_step, gives, gives_result, effects, no_type, variable_gives, merge_no_type, accesses, always_named, variable_no_chain}
 use Rattle.meaning_law.proofs.Insts.New.{stands_in, stands_among, no_phi, no_terminator, is_new, based_later, is_free}
 use Rattle.meaning_law.proofs.Insts.Sets.{zero_local, no_lent, pointer_unset, form_unset, named_so, value_so, always_so, other_so, same_so, hoisted_so, local_so}
@@ -271,7 +271,7 @@ module _ (m : ModuleState) (opts : Options) (right : IsConforming m opts.entry) 
           always_so m opts right kinds unit u inv p among lends is_one i there_in result named.0 named.1 value
 
       of_it : IsOf i (insts_of f)
-      of_it = as_of (insts_of f) i there_in
+      of_it = of_in (insts_of f) i there_in
 
       load_value : step_kind i.op ≡ steps.load → (i.result ≡ 0 → ⊥) → is_value gs i.ty ≡ true
       load_value step result =

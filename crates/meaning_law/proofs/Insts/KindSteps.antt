@@ -39,7 +39,7 @@ pub store_step : (o : Op) → kind_of o ≡ kind.Store → step_kind o ≡ steps
 unfolding kind_of step_kind
 store_step o e = store_in (group_of o) e
 
-same_atomic : (a b : AtomicOp) → kind.Atomic a ≡ kind.Atomic b → a ≡ b
+pub same_atomic : (a b : AtomicOp) → kind.Atomic a ≡ kind.Atomic b → a ≡ b
 same_atomic a b e = cc
 
 atomic_in : (g : OpGroup) (a : AtomicOp) → kind_in g ≡ kind.Atomic a → step_in g ≡ steps.atomic a
@@ -178,11 +178,6 @@ pub no_type : (o : Op) → effects (kind_of o) ≡ true → has_type o ≡ false
 no_type o on = not-true (has_type o) (implies (effects (kind_of o)) (not (has_type o)) (effects_by o) on)
 
 -- so of variables and of merge instructions
-variable_op : (o : Op) → step_kind o ≡ steps.variable → (is o code.Variable ≡ true) × (has_result o ≡ true)
-unfolding step_kind group_of number shape
-variable_op code.Variable step = (refl, refl)
-variable_op o step = cc
-
 abbrev is_merge : steps.StepKind → Bool
 is_merge steps.merge = true
 is_merge _ = false
@@ -193,7 +188,9 @@ merge_by code.LoopMerge = refl
 merge_by o = refl
 
 pub variable_gives : (o : Op) → step_kind o ≡ steps.variable → (is o code.Variable ≡ true) × (has_result o ≡ true)
-variable_gives o step = variable_op o step
+unfolding step_kind group_of number shape
+variable_gives code.Variable step = (refl, refl)
+variable_gives o step = cc
 
 pub merge_no_type : (o : Op) → step_kind o ≡ steps.merge → has_type o ≡ false
 merge_no_type o step = not-true (has_type o) (implies (is_merge (step_kind o)) (not (has_type o)) (merge_by o) (ap is_merge step))

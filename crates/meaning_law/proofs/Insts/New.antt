@@ -26,6 +26,7 @@ use Rattle.unit_law.proofs.Lists.{as_among}
 use Rattle.formed_law.specs.Formed.{ArePlain, IsFormedBlock}
 use Rattle.formed_law.proofs.Blocks.{behind_is}
 use Rattle.formed_law.proofs.Inner.{is_inner}
+use Rattle.naming_law.proofs.Firsts.{of_in as in_of}
 use Rattle.meaning_law.proofs.Written.Done.{rising_in, rising_low}
 use Rattle.meaning_law.proofs.Written.EndsSay.{in_middle}
 use Rattle.meaning_law.proofs.Insts.Slots.{reads_before}
@@ -159,11 +160,6 @@ module _ (m : ModuleState) (f : Function) (order : AreInOrder m f) (formed : (j 
     earlier j one =
         let rising = rising_in 0 f.blocks b o.block order.rising o.there in
         before_low rising.0 (block.heads ++ befores) i (rest ++ o.last ∷ []) j (subst (AreRising rising.0) whole rising.1) (in_of (block.heads ++ befores) j (before_in j one))
-      where
-        in_of : (xs : List Inst) (j : Inst) → IsIn j xs → IsOf j xs
-        in_of [] j one = absurd one
-        in_of (x ∷ xs) j (inl same) = inl same
-        in_of (x ∷ xs) j (inr later) = inr (in_of xs j later)
 
     of_split : (xs : List Inst) → xs ≡ befores ++ i ∷ rest → ArePlain xs → (j : Inst) → (IsOf j befores ⊎ (i ≡ j)) → (is_phi j ≡ false) × (is_terminator j.op ≡ false)
     of_split xs same plain j one = plain_so xs j plain (subst (IsOf j) (sym same) (of_either befores one))

@@ -57,8 +57,9 @@ use Rattle.naming_law.specs.Names.{is_other, is_result, is_value_parameter, is_l
 use Rattle.naming_law.specs.Types.{IsTypeOfText}
 use Rattle.naming_law.proofs.Keys.{S, key, names}
 use Rattle.naming_law.proofs.Fine.{type_stands}
+use Rattle.naming_law.proofs.Firsts.{of_in}
 use Rattle.meaning_law.proofs.Written.Shapes.{shape_of_type}
-use Rattle.meaning_law.proofs.Written.Placed.{chain_step, variable_step, value_no_pointer, as_of}
+use Rattle.meaning_law.proofs.Written.Placed.{chain_step, variable_step, value_no_pointer}
 use Rattle.meaning_law.proofs.Written.Expressed.{no_zero, variable_value, always_variable}
 
 -- forms
@@ -175,8 +176,8 @@ module _ (m : ModuleState) (opts : Options) (right : IsConforming m opts.entry) 
       pub other_so : is_other i ≡ true
       other_so =
           neither (is i.op code.Variable) (is_chain i.op)
-          (false_from_ne_true (is i.op code.Variable) (λ on. clash (sym (lends.variables f is_one i (as_of (insts_of f) i there) (variable_step i.op on)) ∙ no_pointer)))
-          (false_from_ne_true (is_chain i.op) (λ on. clash (sym (lends.chains f is_one i (as_of (insts_of f) i there) (chain_step i.op on)).1 ∙ no_pointer)))
+          (false_from_ne_true (is i.op code.Variable) (λ on. clash (sym (lends.variables f is_one i (of_in (insts_of f) i there) (variable_step i.op on)) ∙ no_pointer)))
+          (false_from_ne_true (is_chain i.op) (λ on. clash (sym (lends.chains f is_one i (of_in (insts_of f) i there) (chain_step i.op on)).1 ∙ no_pointer)))
 
       pub shape_so : N.shape i.result ≡ shape_in s (struct_names (key m opts unit u inv)) t
       shape_so = shape_of_type m opts unit u inv p i.result i.ty t own_is shaped

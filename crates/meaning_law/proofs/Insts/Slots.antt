@@ -17,6 +17,7 @@ use Rattle.use_chains.specs.Slots.{is_value}
 use Rattle.module_semantics.specs.Operands.{value_operands}
 use Rattle.module_semantics.specs.Steps as steps
 use Rattle.module_semantics.specs.Steps.{step_kind, is_phi}
+use Rattle.list_law.proofs.Lists.{place_of}
 use Rattle.region_law.specs.Leads.{In}
 use Rattle.agree_law.specs.Blocks.{read_ids, reads}
 use Rattle.plan_law.specs.InOrder.{IsAmong, IsOwn, AreInOrder}
@@ -27,7 +28,6 @@ use Rattle.typed_law.proofs.Rules.{operand_there}
 use Rattle.unit_law.proofs.Operands.{has_id, has_of, dropped_at, among_slot, not_one, not_zero}
 use Rattle.unit_law.proofs.Sets.{chain_id, chain_value}
 use Rattle.formed_law.proofs.Inner.{is_inner}
-use Rattle.meaning_law.proofs.Written.Done.{word_there}
 use Rattle.meaning_law.proofs.Written.Mentions.{first_word, length_op, length_value, length_id, length_least}
 use Rattle.meaning_law.proofs.Written.Expressed.{as_in, is_operation}
 
@@ -80,7 +80,7 @@ pub reads_before : (m : ModuleState) (f : Function) → AreInOrder m f → (j : 
     → (i : Inst) → IsAmong i (insts_of f) → (i.result ≡ 0 → ⊥) → n ≡ i.result → i.at < j.at
 reads_before m f order j j_in formed inner phi n read i i_in some same =
     let w = read_slot j formed inner phi n read in
-    let word = word_there j.args w.0 n w.1 in
+    let word = place_of j.args w.0 n w.1 in
     let there = operand_there (is_there_in m f j.at) j (order.there j j_in) w.0 word.0 w.2 in
     before_of m f j.at n j.op w.0 i w.3 phi (subst (IsOwn m f) (sym same) (order.own i i_in some)) (ap (inst_in f) same ∙ found i (insts_of f) order.apart i_in some)
     (subst (λ (k : ℕ). is_there_in m f j.at (need j.op w.0) k ≡ true) word.1 there)

@@ -52,14 +52,9 @@ use Rattle.formed_law.proofs.Inner.{is_inner}
 use Rattle.naming_law.proofs.Keys.{S, names}
 use Rattle.meaning_law.proofs.Written.Expressed.{is_operation, operands_by, variable_live}
 use Rattle.meaning_law.proofs.Written.NamesOf.{names_are}
-use Rattle.meaning_law.proofs.Written.Says.{IsReady, SaysSo, IsLeftOfValues, measured_pointer, ready_says}
+use Rattle.meaning_law.proofs.Written.Says.{IsReady, SaysSo, IsLeftOfValues, measured_pointer, ready_says, only}
 use Rattle.meaning_law.proofs.Insts.KindSteps.{gives, gives_result, value_step, value_unnamed}
 use Rattle.meaning_law.proofs.Insts.New.{split_behind, stands_in, stands_among}
-
--- one in a list of one
-only : (a k : ℕ) → In k (a ∷ []) → a ≡ k
-only a k (inl same) = sym same
-only a k (inr none) = absurd none
 
 module _ (m : ModuleState) (opts : Options) (right : IsConforming m opts.entry) (kinds : HaveKinds m.globals) (unit : TranslationUnit) (u : IsUnitOf m opts unit) (inv : Invocation) (p : FunctionPlan) (among : IsIn p u.plans) (lends : LendsWhole (S m opts unit u inv)) where
   abbrev s : Setting

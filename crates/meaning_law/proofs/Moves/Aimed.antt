@@ -4,9 +4,9 @@ use Rattle.std.specs.Prelude.{slice_get}
 use Rattle.std.specs.List.{enumerate_from, list_any}
 use Rattle.std.proofs.lemmas.Bool.{and_parts, or_cases, not-false}
 use Rattle.std.proofs.lemmas.Bool.Decides.{nat_tests}
-use Rattle.spv_words.specs.declared.rule.Rule.{Rule}
+use Rattle.std.proofs.lemmas.Option.{same_Some}
 use Rattle.spv_words.specs.declared.rule.Rule.TheVariants.{T1, T21}
-use Rattle.spv_ops.specs.Opcode.{is, number}
+use Rattle.spv_ops.specs.Opcode.{is}
 use Rattle.spv_ops.specs.OpGroups.{group_of}
 use Rattle.spv_ops.specs.Groups.{is_terminator}
 use Rattle.spv_ops.specs.declared.Op.{Op}
@@ -24,11 +24,14 @@ use Rattle.profile_rules.specs.FlowRules.{every_second, has_repeat, is_target, t
 use Rattle.profile_rules.specs.Operands.{breaks_t1_in, breaks_t1_of}
 use Rattle.profile_rules.specs.TypeRows.{is_other}
 use Rattle.profile_rules.specs.TypeRules.{broken_if, is_value_broken, is_number_broken, is_flow_broken, is_broken_in, broken_by_global, broken_by_local, broken_by_block, broken_by_function, rule_of}
+use Rattle.list_law.proofs.Tests.{off_on, and_off}
 use Rattle.agree_law.specs.Points.{Body}
 use Rattle.type_law.proofs.Vectors.{three_off}
 use Rattle.plan_law.specs.InOrder.{IsAmong, AreInOrder}
 use Rattle.typed_law.specs.Conforms.{IsConforming}
 use Rattle.typed_law.proofs.Lists.{none_left, none_right, none_by, none_among}
+use Rattle.typed_law.proofs.Rules.{refused}
+use Rattle.typed_law.proofs.Others.{phi_group}
 use Rattle.claim_law.specs.Claimed.{IsIn}
 use Rattle.claim_law.proofs.Listed.{in_flat, in_mapped, at_place}
 use Rattle.unit_law.proofs.Lists.{test_same, at_some, in_filter, none_passes, numbered_first, as_among}
@@ -37,23 +40,11 @@ use Rattle.formed_law.specs.Formed.{IsFormedFunction}
 use Rattle.formed_law.proofs.Blocks.{reached_body, only_end, end_is}
 use Rattle.naming_law.proofs.Ends.{ends_by}
 use Rattle.naming_law.proofs.Keys.{some_in}
+use Rattle.naming_law.proofs.Firsts.{of_in}
 use Rattle.meaning_law.proofs.Written.PhiLabels.{phi_labels}
-use Rattle.meaning_law.proofs.Written.Placed.{as_of}
-
-no_flip : {A : Type 0} → false ≡ true → A
-no_flip e = cc
-
-second_off : (a b : Bool) → (a && b) ≡ false → a ≡ true → b ≡ false
-second_off true b off on = off
-second_off false b off on = cc
 
 last_off : (a b c : Bool) → (a || b || c) ≡ false → c ≡ false
 last_off a b c off = (three_off a b c off).2
-
-phi_group : (o : Op) → is o code.Phi ≡ true → group_of o ≡ groups.Phi
-unfolding number group_of
-phi_group code.Phi on = refl
-phi_group o on = cc
 
 -- what goes to a label ends its block
 target_ends : (o : Op) (k : ℕ) → is_target o k ≡ true → is_terminator o ≡ true
@@ -80,21 +71,18 @@ at_kept P n (v ∷ ws) w there = by_test (P n) refl there (at_kept P (n + 1) ws 
     by_test false off among later = further (later among)
 
 -- the labels of a terminator
-same_word : (a b : ℕ) → Some a ≡ Some b → a ≡ b
-same_word a b e = cc
-
 in_first : (args : List ℕ) (k l : ℕ) → (k == 0) ≡ true → slice_get args k ≡ Some l → IsIn l (take 1 args)
 in_first [] k l on at = cc
-in_first (a ∷ args) zero l on at = inl (same_word a l at)
+in_first (a ∷ args) zero l on at = inl (same_Some a l at)
 in_first (a ∷ args) (suc k) l on at = absurd (let same = test_same (suc k) 0 on in omega (arith, same))
 
 in_two : (args : List ℕ) (k l : ℕ) → ((k == 1) || (k == 2)) ≡ true → slice_get args k ≡ Some l → IsIn l (take 2 (drop 1 args))
 in_two [] k l on at = cc
-in_two (a ∷ args) zero l on at = no_flip on
+in_two (a ∷ args) zero l on at = off_on on
 in_two (a ∷ []) (suc k) l on at = cc
-in_two (a ∷ b ∷ args) (suc zero) l on at = inl (same_word b l at)
+in_two (a ∷ b ∷ args) (suc zero) l on at = inl (same_Some b l at)
 in_two (a ∷ b ∷ []) (suc (suc k)) l on at = cc
-in_two (a ∷ b ∷ c ∷ args) (suc (suc zero)) l on at = inr (inl (same_word c l at))
+in_two (a ∷ b ∷ c ∷ args) (suc (suc zero)) l on at = inr (inl (same_Some c l at))
 in_two (a ∷ b ∷ c ∷ args) (suc (suc (suc k))) l on at = elim (or_cases (suc (suc (suc k)) == 1) (suc (suc (suc k)) == 2) on) [
   | inl one ↦ absurd (let same = test_same (suc (suc (suc k))) 1 one in omega (arith, same))
   | inr two ↦ absurd (let same = test_same (suc (suc (suc k))) 2 two in omega (arith, same))
@@ -105,9 +93,9 @@ odd_less k e = grind (arith, nat_tests, e)
 
 in_seconds : (args : List ℕ) (k l : ℕ) → (k % 2 == 1) ≡ true → slice_get args k ≡ Some l → IsIn l (seconds args)
 in_seconds [] k l on at = cc
-in_seconds (a ∷ args) zero l on at = no_flip on
+in_seconds (a ∷ args) zero l on at = off_on on
 in_seconds (a ∷ []) (suc k) l on at = cc
-in_seconds (a ∷ b ∷ args) (suc zero) l on at = inl (same_word b l at)
+in_seconds (a ∷ b ∷ args) (suc zero) l on at = inl (same_Some b l at)
 in_seconds (a ∷ b ∷ args) (suc (suc k)) l on at = inr (in_seconds args k l (odd_less k on) at)
 
 label_at : (o : Op) (args : List ℕ) (k l : ℕ) → is_target o k ≡ true → slice_get args k ≡ Some l → IsIn l (labels_by (exit_of o) args)
@@ -119,22 +107,13 @@ label_at o args k l on at = cc
 
 -- a predecessor by its terminator
 module _ (f : Function) (form : IsFormedFunction f) (places : (k : ℕ) (x : Block) → slice_get f.blocks k ≡ Some x → block_in f x.label.0 ≡ Some k) where
-  same_place : (a b : ℕ) → Some a ≡ Some b → a ≡ b
-  same_place a b e = cc
-
-  same_block : (x y : Block) → Some x ≡ Some y → x ≡ y
-  same_block x y e = cc
-
-  same_inst : (x y : Inst) → Some x ≡ Some y → x ≡ y
-  same_inst x y e = cc
-
   pub leads_there : (b t l : ℕ) (o : Body f b) → reached_body f form b ≡ Some o → block_in f l ≡ Some b → (holder : Block) → slice_get f.blocks t ≡ Some holder → is_predecessor f holder.label.0 l ≡ true → IsIn t (nth (graph f) b).targets
   leads_there b t l o at from holder held on =
       let w = some_in (λ (x : Block). (x.label.0 == l) && goes_to holder.label.0 x) f.blocks on in
       let parts = and_parts (w.0.label.0 == l) (goes_to holder.label.0 w.0) w.2 in
       let c = at_some f.blocks w.0 w.1 in
-      let place : c.0 ≡ b = same_place c.0 b (sym (places c.0 w.0 c.1) ∙ (ap (block_in f) (test_same w.0.label.0 l parts.0) ∙ from)) in
-      let block_is : w.0 ≡ o.block = same_block w.0 o.block (sym c.1 ∙ (ap (λ (k : ℕ). slice_get f.blocks k) place ∙ o.there)) in
+      let place : c.0 ≡ b = same_Some c.0 b (sym (places c.0 w.0 c.1) ∙ (ap (block_in f) (test_same w.0.label.0 l parts.0) ∙ from)) in
+      let block_is : w.0 ≡ o.block = same_Some w.0 o.block (sym c.1 ∙ (ap (λ (k : ℕ). slice_get f.blocks k) place ∙ o.there)) in
       by_inst (some_in (goes holder.label.0) o.block.insts (subst (λ (x : Block). goes_to holder.label.0 x ≡ true) block_is parts.1))
     where
       targets_are : (nth (graph f) b).targets ≡ map (index_of f) (labels_by (exit_of o.last.op) o.last.args)
@@ -148,7 +127,7 @@ module _ (f : Function) (form : IsFormedFunction f) (places : (k : ℕ) (x : Blo
           let k = at_kept (is_target i.op) 0 i.args x.0 x.1 in
           let formed = form.blocks b o.block o.there in
           let ends : is_terminator i.op ≡ true = target_ends i.op (0 + k.0) k.2 in
-          let last_is : i ≡ o.last = sym (only_end o.block.insts formed i (as_of o.block.insts i there) ends) ∙ same_inst formed.ended.last o.last (sym (end_is o.block formed) ∙ (ends_by f form b o at).0) in
+          let last_is : i ≡ o.last = sym (only_end o.block.insts formed i (of_in o.block.insts i there) ends) ∙ same_Some formed.ended.last o.last (sym (end_is o.block formed) ∙ (ends_by f form b o at).0) in
           let label : IsIn holder.label.0 (labels_by (exit_of i.op) i.args) = label_at i.op i.args k.0 holder.label.0 (subst (λ (n : ℕ). is_target i.op n ≡ true) (let first : 0 + k.0 ≡ k.0 = omega arith in first) k.2) (k.1 ∙ ap (λ (n : ℕ). Some n) (test_same x.0 holder.label.0 x.2)) in
           subst (IsIn t) (sym targets_are)
           (subst (λ (n : ℕ). IsIn n (map (index_of f) (labels_by (exit_of o.last.op) o.last.args))) index_is
@@ -177,10 +156,6 @@ module _ (m : ModuleState) (entry : Option (List ℕ)) (right : IsConforming m e
       (none_right (broken_if (breaks_t1_of m.globals f) T1 f.at) (broken_if (breaks_t21_of m.globals f) T21 f.at ++ flat_map (broken_by_block m f) f.blocks)
       (none_by (broken_by_function m) m.functions f by_functions in_it))
 
-  refused : (b : Bool) (rule : Rule) (at : ℕ) → broken_if b rule at ≡ [] → b ≡ false
-  refused true rule at e = cc
-  refused false rule at e = refl
-
   -- each label of a phi is that of a block from which an edge leads to the phi's
   pub from_predecessor : (t : ℕ) (holder : Block) → slice_get f.blocks t ≡ Some holder → (i : Inst) → IsIn i holder.insts → is i.op code.Phi ≡ true → (k l : ℕ) → (k % 2 == 1) ≡ true → slice_get i.args k ≡ Some l → is_predecessor f holder.label.0 l ≡ true
   from_predecessor t holder held i there phi k l odd at =
@@ -190,7 +165,7 @@ module _ (m : ModuleState) (entry : Option (List ℕ)) (right : IsConforming m e
       let off : breaks_t22 m.heads m.globals (type_in m.globals f) f holder i ≡ false = ap (is_flow_broken m f holder i) (sym (phi_group i.op phi)) ∙ flow in
       let elsewhere = last_off (is_no_value_type m.heads m.globals i.ty) (list_any (is_other m.globals (type_in m.globals f) i.ty) (every_second 0 i.args)) (is_from_elsewhere f holder.label.0 i) off in
       let among : IsIn i (insts_of f) = in_flat (λ (x : Block). x.insts) f.blocks holder i (at_place f.blocks t holder held) there in
-      let labels = second_off (are_labels f (every_second 1 i.args)) (are_no_predecessors f holder.label.0 (every_second 1 i.args)) elsewhere (phi_labels m f order i (as_among (insts_of f) i among) phi) in
+      let labels = and_off (are_labels f (every_second 1 i.args)) (are_no_predecessors f holder.label.0 (every_second 1 i.args)) elsewhere (phi_labels m f order i (as_among (insts_of f) i among) phi) in
       not-false (is_predecessor f holder.label.0 l)
       (none_passes (λ (x : ℕ). not (is_predecessor f holder.label.0 x)) (every_second 1 i.args) l
       (in_mapped (λ (q : ℕ × ℕ). q.1) (filter (λ (q : ℕ × ℕ). q.0 % 2 == 1) (enumerate_from 0 i.args)) (k, l) (in_filter (λ (q : ℕ × ℕ). q.0 % 2 == 1) (enumerate_from 0 i.args) (k, l) (numbered_first i.args k l at) odd))

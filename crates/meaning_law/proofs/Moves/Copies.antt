@@ -4,6 +4,7 @@ use Rattle.std.specs.Prelude.{◌⊎◌, slice_get, if◌then◌else◌}
 use Rattle.std.specs.List.{list_any}
 use Rattle.std.proofs.lemmas.Bool.Decides.{eqb_tells}
 use Rattle.std.proofs.lemmas.List.{reverse-append}
+use Rattle.std.proofs.lemmas.Option.{same_Some}
 use Rattle.spv_module.specs.State.{ModuleState}
 use Rattle.spv_module.specs.Lists.{id}
 use Rattle.spv_module.specs.declared.inst.Block.{Block}
@@ -61,11 +62,8 @@ was_saved (Set v s ∷ h) k x is = let w = was_saved h k x is in (w.0, inr w.1, 
 was_saved (Restore v j ∷ h) k x is = let w = was_saved h k x is in (w.0, inr w.1, w.2)
 was_saved (Save j v ∷ h) k x is = by_test (eqb_tells j k) (was_saved h k x)
   where
-    some_same : (a b : ℕ) → Some a ≡ Some b → a ≡ b
-    some_same a b e = cc
-
     by_test : (((j == k) ≡ true) × (j ≡ k)) ⊎ (((j == k) ≡ false) × (j ≡ k → ⊥)) → (saved_in h k ≡ Some x → (w : Var) × IsIn (Save k w) h × (w.0 ≡ x)) → (w : Var) × IsIn (Save k w) (Save j v ∷ h) × (w.0 ≡ x)
-    by_test (inl w) later = (v, inl (ap (λ (n : ℕ). Save n v) w.1), some_same v.0 x (sym (ap (λ (b : Bool). if b then Some v.0 else saved_in h k) w.0) ∙ is))
+    by_test (inl w) later = (v, inl (ap (λ (n : ℕ). Save n v) w.1), same_Some v.0 x (sym (ap (λ (b : Bool). if b then Some v.0 else saved_in h k) w.0) ∙ is))
     by_test (inr w) later = let r = later (sym (ap (λ (b : Bool). if b then Some v.0 else saved_in h k) w.0) ∙ is) in (r.0, inr r.1, r.2)
 
 -- what stands in a list that is turned stands in it

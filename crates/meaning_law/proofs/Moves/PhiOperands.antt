@@ -1,5 +1,5 @@
 -- What a phi takes from a reached block: a value of the phi's own type. Where it is no constant of the module, it has a variable, at the top of the function or in that block, and then it is done where the block ends.
-use Rattle.std.proofs.Common.{◌≡◌, ◌<◌, ◌+◌, ◌%◌, ◌==◌, ◌&&◌, ◌||◌, not, ℕ, zero, suc, Bool, true, false, List, [], ◌∷◌, length, filter, Contains, Option, Some, None, unwrap_or, refl, sym, ap, ◌∙◌, subst, arith, if◌then◌else◌, ◌⊎◌, ◌++◌, inl, inr}
+use Rattle.std.proofs.Common.{◌≡◌, ◌<◌, ◌+◌, ◌%◌, ◌==◌, ◌&&◌, ◌||◌, not, ℕ, Bool, true, false, List, [], ◌∷◌, length, filter, Contains, Option, Some, None, unwrap_or, refl, sym, ap, ◌∙◌, subst, if◌then◌else◌, ◌⊎◌, ◌++◌, inl, inr}
 use Rattle.std.specs.Prelude.{slice_get, slice_index, slice_index_or, option_and_then}
 use Rattle.std.specs.Option.{option_map_or, option_or}
 use Rattle.std.specs.List.{enumerate_from, list_any}
@@ -35,6 +35,8 @@ use Rattle.profile_rules.specs.TypeRows.{is_other}
 use Rattle.profile_rules.specs.TypeRules.{is_flow_broken}
 use Rattle.spv_index.specs.ValueTypes.{is_no_value_type}
 use Rattle.conformance.specs.Rules.{Options}
+use Rattle.list_law.proofs.Lists.{place_of}
+use Rattle.list_law.proofs.Tests.{and_left as left_on, off_on}
 use Rattle.fits_law.specs.State.{value_shape}
 use Rattle.module_semantics.specs.Setting.{Setting}
 use Rattle.use_chains.specs.Slots.{is_value, is_taken, is_label_reached, is_slot, inst_at, IsLive, operands, mentions}
@@ -57,7 +59,7 @@ use Rattle.typed_law.proofs.Lists.{and_left, from_zero}
 use Rattle.typed_law.proofs.Rules.{operand_there, flow_right}
 use Rattle.typed_law.proofs.Values.{HasType, global_row, global_typed_some, variable_type_is, value_type_has, inside, local_row, typed_source, own_type, type_suits, typed_result, has_a_type}
 use Rattle.typed_law.proofs.Shapes.{shaped_type}
-use Rattle.typed_law.proofs.Others.{typed_some}
+use Rattle.typed_law.proofs.Others.{typed_some, phi_group}
 use Rattle.claim_law.specs.Claimed.{IsIn, IsOf as IsPlacedIn}
 use Rattle.claim_law.proofs.Listed.{in_flat, in_mapped, at_place, any_in}
 use Rattle.claim_law.proofs.Constants.{found_in, mention_in}
@@ -68,8 +70,7 @@ use Rattle.unit_law.proofs.Shaped.{pointer_none, shaped_value}
 use Rattle.unit_law.proofs.TypesWritten.{kept_live}
 use Rattle.unit_law.proofs.Ways.{HaveKinds, F, R, V, in_module, plan_is, written_is, reached_nth, ordered, home}
 use Rattle.module_semantics.specs.Steps.{is_phi}
-use Rattle.hoist_plan.specs.declared.form.Form.{Form}
-use Rattle.hoist_plan.specs.declared.form.Form.TheVariants.{Gone, Forwarded, Local, Hoisted}
+use Rattle.hoist_plan.specs.declared.form.Form.TheVariants.{Forwarded, Local}
 use Rattle.agree_law.specs.Agree.{Naming as Names}
 use Rattle.agree_law.specs.Blocks.{IsOf, have_result}
 use Rattle.agree_law.specs.Points.{Body, behind}
@@ -79,21 +80,15 @@ use Rattle.naming_law.specs.Names.{is_value_parameter, is_local_form}
 use Rattle.meaning_law.proofs.Written.Done.{all_behind}
 use Rattle.meaning_law.proofs.Written.Expressed.{local_no_phi}
 use Rattle.meaning_law.proofs.Written.Outside.{no_global}
-use Rattle.meaning_law.proofs.Written.Placed.{IsMadeBy, maker, IsPlaced, placed, as_of}
+use Rattle.meaning_law.proofs.Written.Placed.{IsMadeBy, maker, IsPlaced, placed}
 use Rattle.formed_law.proofs.Blocks.{behind_is}
-use Rattle.meaning_law.proofs.Written.Says.{have_done, AreNamesOf}
+use Rattle.meaning_law.proofs.Written.Says.{have_done, AreNamesOf, local_form_is}
 use Rattle.plan_law.proofs.Order.{in_order}
+use Rattle.typed_law.proofs.Calls.{variable_typed}
+use Rattle.naming_law.proofs.Firsts.{of_in}
 use Rattle.unit_law.proofs.Forms.{is_placed, form_at, wanted_form, placed as placed_result}
 
-no_flip : {A : Type 0} → false ≡ true → A
-no_flip e = cc
-
 -- opcodes
-pub phi_group : (o : Op) → is o code.Phi ≡ true → group_of o ≡ groups.Phi
-unfolding number group_of
-phi_group code.Phi on = refl
-phi_group o on = cc
-
 pub phi_typed : (o : Op) → is o code.Phi ≡ true → (has_type o ≡ true) × (has_result o ≡ true)
 unfolding number shape
 phi_typed code.Phi on = (refl, refl)
@@ -103,16 +98,6 @@ phi_slot : (o : Op) (args : List ℕ) (k : ℕ) → is o code.Phi ≡ true → (
 unfolding number is_id need takes_of group_of
 phi_slot code.Phi args k on even = (from_zero k, even, ap (λ (b : Bool). if b then PhiValue else Label) even)
 phi_slot o args k on even = cc
-
-variable_typed : (o : Op) → is o code.Variable ≡ true → has_type o ≡ true
-unfolding number shape
-variable_typed code.Variable on = refl
-variable_typed o on = cc
-
-below_some : (xs : List ℕ) (k n : ℕ) → slice_get xs k ≡ Some n → (k < length xs) × (slice_index xs k ≡ n)
-below_some [] k n at = cc
-below_some (x ∷ xs) zero n at = ((let less : 0 < suc (length xs) = omega arith in less), let same : x ≡ n = cc in same)
-below_some (x ∷ xs) (suc k) n at = let w = below_some xs k n at in ((let low = w.0 in let less : suc k < suc (length xs) = omega (arith, low) in less), w.1)
 
 -- what ends a block has no type
 by_end : (P : Op → Type 0) → P code.Branch → P code.BranchConditional → P code.Switch → P code.Return → P code.ReturnValue → P code.Unreachable → (o : Op) → is_terminator o ≡ true → P o
@@ -148,24 +133,14 @@ is_empty [] = true
 is_empty (x ∷ xs) = false
 
 some_behind : (xs : List Inst) (b : Inst) → xs ++ b ∷ [] ≡ [] → ⊥
-some_behind [] b e = no_flip (ap is_empty e)
-some_behind (x ∷ xs) b e = no_flip (ap is_empty e)
+some_behind [] b e = off_on (ap is_empty e)
+some_behind (x ∷ xs) b e = off_on (ap is_empty e)
 
 last_same : (xs ys : List Inst) (a b : Inst) → xs ++ a ∷ [] ≡ ys ++ b ∷ [] → a ≡ b
 last_same [] [] a b e = cc
 last_same [] (y ∷ ys) a b e = absurd (some_behind ys b (sym (ap rest_of e)))
 last_same (x ∷ xs) [] a b e = absurd (some_behind xs a (ap rest_of e))
 last_same (x ∷ xs) (y ∷ ys) a b e = last_same xs ys a b (ap rest_of e)
-
-local_is : (x : Form) → is_local_form x ≡ true → x ≡ Local
-local_is Local on = refl
-local_is Gone on = cc
-local_is Forwarded on = cc
-local_is Hoisted on = cc
-
-left_on : (a b : Bool) → (a && b) ≡ true → a ≡ true
-left_on true b on = refl
-left_on false b on = cc
 
 module _ (s : Setting) (entry : Option (List ℕ)) (right : IsConforming s.of entry) (kinds : HaveKinds s.of.globals) (o : Options) (unit : TranslationUnit) (u : IsUnitOf s.of o unit) (p : FunctionPlan) (among : IsIn p u.plans)
     (lives : (c place : ℕ) (i : Inst) → inst_at (F s entry right kinds o unit u p among) c place ≡ Some i → is_gone ((V s entry right kinds o unit u p among).form i.result) ≡ false → IsLive (F s entry right kinds o unit u p among) (R s entry right kinds o unit u p among) c place) where
@@ -234,7 +209,7 @@ module _ (s : Setting) (entry : Option (List ℕ)) (right : IsConforming s.of en
     -- what it takes from a reached block
     module _ (k n b : ℕ) (at : slice_get i.args k ≡ Some n) (even : (k % 2 == 0) ≡ true) (from : block_in Fn (slice_index i.args (k + 1)) ≡ Some b) (here : (nth (graph Fn) b).reached ≡ true) where
       below : (k < length i.args) × (slice_index i.args k ≡ n)
-      below = below_some i.args k n at
+      below = place_of i.args k n at
 
       slot_in : (f : Function) (marks : List Bool) → block_in f (slice_index i.args (k + 1)) ≡ Some b → slice_index_or marks b false ≡ true → is_slot f marks i k ≡ true
       slot_in f marks found on =
@@ -377,12 +352,12 @@ module _ (s : Setting) (entry : Option (List ℕ)) (right : IsConforming s.of en
                 typed_so = has_a_type j ((inside s entry right Fn in_it).formed j (as_among (insts_of Fn) j own.0)) by.some_type
 
                 by_end_part : IsIn j body.insts ⊎ IsIn j (body.last ∷ []) → IsOf j body.insts
-                by_end_part (inl w) = as_of body.insts j w
-                by_end_part (inr (inl same)) = no_flip (sym (end_untyped j.op (subst (λ (x : Inst). is_terminator x.op ≡ true) same ends)) ∙ typed_so)
+                by_end_part (inl w) = of_in body.insts j w
+                by_end_part (inr (inl same)) = off_on (sym (end_untyped j.op (subst (λ (x : Inst). is_terminator x.op ≡ true) same ends)) ∙ typed_so)
                 by_end_part (inr (inr none)) = absurd none
 
                 by_part : IsIn j formed.heads ⊎ IsIn j formed.behind → IsOf j body.insts
-                by_part (inl w) = no_flip (sym off ∙ all_phi j formed.heads formed.are_phis w)
+                by_part (inl w) = off_on (sym off ∙ all_phi j formed.heads formed.are_phis w)
                 by_part (inr w) = by_end_part (left_or_right j body.insts (body.last ∷ []) (subst (IsIn j) split w))
 
             module _ (N : Names) (names : AreNamesOf s entry right kinds o unit u p among lends b N) where
@@ -393,7 +368,7 @@ module _ (s : Setting) (entry : Option (List ℕ)) (right : IsConforming s.of en
               by_placed (inl top) = inl (names.hoisted n top)
               by_placed (inr (same, inl form)) =
                   let block_is : home_of.1 ≡ body.block = same_Some home_of.1 body.block (sym home_of.2 ∙ (ap (λ (k : ℕ). slice_get Fn.blocks k) same ∙ body.there)) in
-                  let local_so : Where.form j.result ≡ Local = ap Where.form own.1 ∙ local_is (Where.form n) (left_on (is_local_form (Where.form n)) _ form) in
+                  let local_so : Where.form j.result ≡ Local = ap Where.form own.1 ∙ local_form_is (Where.form n) (left_on (is_local_form (Where.form n)) _ form) in
                   inr (names.local n form, have_done (behind [] body.insts) j n (all_behind [] body.insts j (of_body (subst (λ (x : Block). IsIn j x.insts) block_is home_of.3) (local_no_phi s entry right kinds o unit u p among j own.0 local_so))) own.1)
               by_placed (inr (same, inr form)) = absurd (never_forwarded form)
 

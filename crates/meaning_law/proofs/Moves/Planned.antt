@@ -1,9 +1,8 @@
 -- An edge of a planned function that is taken is as the law of functions asks, where the types of its phis are declared in the text, the constants that its moves read say their values, and its pairs can be counted.
-use Rattle.std.proofs.Common.{◌≡◌, ◌<◌, ◌+◌, ◌%◌, ◌==◌, ◌^◌, ℕ, Bool, true, false, List, [], length, Option, Some, Contains, refl, sym, ap, ◌∙◌, subst, arith, if◌then◌else◌}
+use Rattle.std.proofs.Common.{◌≡◌, ◌<◌, ◌+◌, ◌==◌, ◌^◌, ℕ, Bool, true, false, List, [], length, Option, Some, Contains, refl, sym, ap, ◌∙◌, subst, if◌then◌else◌}
 use Rattle.std.specs.Prelude.{slice_get}
 use Rattle.std.specs.Option.{option_map_or}
 use Rattle.std.specs.List.{list_any}
-use Rattle.std.proofs.lemmas.Bool.Decides.{nat_tests}
 use Rattle.spv_module.specs.State.{ModuleState}
 use Rattle.spv_module.specs.Lists.{id}
 use Rattle.spv_module.specs.declared.inst.Inst.{Inst}
@@ -34,6 +33,7 @@ use Rattle.function_plan.specs.Phis.{is_gone, pairs_into, firsts}
 use Rattle.function_plan.specs.Targets.{targets_in}
 use Rattle.function_text.specs.Functions.{FunctionPlan, written, label_of, constant_text, copies_text}
 use Rattle.unit_rules.specs.Unit.{reached_of, source_of, IsUnitOf}
+use Rattle.list_law.proofs.Numbers.{odd_on}
 use Rattle.agree_law.specs.Agree.{Naming, AreApart, Agree}
 use Rattle.agree_law.specs.Blocks.{have_result}
 use Rattle.agree_law.specs.Points.{Body, behind}
@@ -63,9 +63,6 @@ use Rattle.meaning_law.proofs.Moves.Taken.{constants_known, phi_sources}
 use Rattle.meaning_law.proofs.Moves.Aimed.{leads_there, from_predecessor}
 use Rattle.meaning_law.proofs.Moves.Standing.{AreDeclaredAt, types_stand}
 use Rattle.meaning_law.proofs.Moves.RightPairs.{right_pairs, constants_mentioned, phis_right}
-
-odd_on : (n : ℕ) → (n % 2 == 0) ≡ true → ((n + 1) % 2 == 1) ≡ true
-odd_on n e = grind (arith, nat_tests, e)
 
 -- a source that is read as a constant is it
 constant_is : (n : ℕ) (x : Src) → reads_source n x ≡ true → x ≡ Constant (id n)

@@ -44,11 +44,11 @@ use Rattle.unit_law.proofs.Ways.{HaveKinds, F, R, V, plan_is, written_is}
 use Rattle.formed_law.specs.Formed.{IsFormedBlock, IsFormedFunction}
 use Rattle.naming_law.specs.Names.{is_result, is_value_parameter}
 use Rattle.naming_law.proofs.Keys.{S, key, names}
+use Rattle.naming_law.proofs.Firsts.{of_in}
 use Rattle.grammar_law.proofs.PairsOf.{IsPairOf, pair_of}
 use Rattle.meaning_law.proofs.Written.EdgeMoves.{IsRightPair}
 use Rattle.meaning_law.proofs.Written.EdgePhis.{phis_are_of}
 use Rattle.meaning_law.proofs.Written.NamesOf.{names_are}
-use Rattle.meaning_law.proofs.Written.Placed.{as_of}
 use Rattle.meaning_law.proofs.Written.Shapes.{shape_of_value}
 use Rattle.meaning_law.proofs.Moves.PhiOperands.{result_type, shaped, value_is, source_there, source_mentioned}
 
@@ -110,7 +110,7 @@ module _ (m : ModuleState) (opts : Options) (right : IsConforming m opts.entry) 
 
       target_outer : N.is_outer i.result ≡ true
       target_outer =
-          phis_of.outer i (subst (IsOf i) (sym (all_phis N gs Where.form Fn b holder phis_of)) (as_of (filter is_phi holder.insts) i (in_filter is_phi holder.insts i w.among w.is_phi)))
+          phis_of.outer i (subst (IsOf i) (sym (all_phis N gs Where.form Fn b holder phis_of)) (of_in (filter is_phi holder.insts) i (in_filter is_phi holder.insts i w.among w.is_phi)))
           ∙ ap not w.kept
 
       shape_same : same_shape (N.shape i.result) (N.shape i.result) ≡ true

@@ -8,6 +8,7 @@ use Rattle.name_alloc.specs.Law.{IsWord, AreNames}
 use Rattle.name_alloc.specs.Reserved.{has_prefix}
 use Rattle.glsl_ast.specs.Tree.{Text}
 use Rattle.unit_rules.specs.Translation.{text_of}
+use Rattle.list_law.proofs.Tests.{clash}
 use Rattle.agree_law.specs.Agree.{Naming, IsOther}
 use Rattle.claim_law.specs.Claimed.{HasName}
 use Rattle.claim_law.specs.Apart.{IsOutside, AreOfKeys}
@@ -34,9 +35,6 @@ rest_of (x ∷ xs) = xs
 abbrev is_empty : List ℕ → Bool
 is_empty [] = true
 is_empty (x ∷ xs) = false
-
-clash : {A : Type 0} → true ≡ false → A
-clash e = cc
 
 zeros_apart : (j k : ℕ) → zeros j ≡ zeros k → j ≡ k
 zeros_apart zero zero e = refl

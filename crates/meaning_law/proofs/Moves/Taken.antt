@@ -3,7 +3,6 @@ use Rattle.std.proofs.Common.{◌≡◌, ℕ, true, false, List, [], ◌∷◌, 
 use Rattle.std.specs.Prelude.{slice_get, option_and_then}
 use Rattle.std.specs.Option.{option_map_or}
 use Rattle.spv_ops.specs.Groups.{is_constant as is_constant_op}
-use Rattle.spv_ops.specs.declared.Op.{Op}
 use Rattle.spv_ops.specs.declared.Op.TheVariants as code
 use Rattle.spv_module.specs.declared.inst.Inst.{Inst}
 use Rattle.spv_module.specs.declared.inst.Block.{Block}
@@ -19,34 +18,16 @@ use Rattle.module_semantics.specs.Setting.{Setting}
 use Rattle.module_semantics.specs.State.{Held, Frame}
 use Rattle.module_semantics.specs.Operands.{value_at}
 use Rattle.module_semantics.specs.Steps.{phis, phi_value, source_from, label_of, present_label}
+use Rattle.list_law.proofs.Options.{no_some}
+use Rattle.list_law.proofs.Tests.{clash}
 use Rattle.fits_law.specs.State.{FrameFits}
 use Rattle.agree_law.specs.Blocks.{IsOf}
 use Rattle.type_law.specs.Shaped.{HaveResults, HasConstants}
 use Rattle.type_law.proofs.Constants.{constant_of}
+use Rattle.constant_law.proofs.Standing.{kind_constant}
 use Rattle.function_law.specs.Edges.{AreConstants}
 
-clash : {A : Type 0} → true ≡ false → A
-clash e = cc
-
-no_some : {A : Type 0} {B : Type 0} (a : A) → None ≡ Some a → B
-no_some a e = cc
-
 -- an opcode whose results have values as constants is one of a constant
-kind_constant : (o : Op) → (constant_kind o ≡ kinds.Other → ⊥) → is_constant_op o ≡ true
-unfolding constant_kind
-kind_constant code.ConstantTrue far = refl
-kind_constant code.ConstantFalse far = refl
-kind_constant code.Constant far = refl
-kind_constant code.ConstantComposite far = refl
-kind_constant code.SpecConstantComposite far = refl
-kind_constant code.ConstantNull far = refl
-kind_constant code.Undef far = refl
-kind_constant code.SpecConstantTrue far = refl
-kind_constant code.SpecConstantFalse far = refl
-kind_constant code.SpecConstant far = refl
-kind_constant code.SpecConstantOp far = refl
-kind_constant o far = absurd (far refl)
-
 no_other : (h : ℕ → Option ValueTree) (chosen : Option ℕ) (t : Tree) (args : List ℕ) (k : ConstantKind) (v : ValueTree) → value_by_kind h chosen t args k ≡ Some v → k ≡ kinds.Other → ⊥
 no_other h chosen t args k v is same = no_some v (sym (ap (value_by_kind h chosen t args) same) ∙ is)
 

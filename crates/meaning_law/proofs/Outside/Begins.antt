@@ -35,6 +35,7 @@ use Rattle.text_rules.specs.Printed.{Reached, is_private, is_workgroup, is_block
 use Rattle.text_rules.specs.Declarations.{Names, type_at, pointee_at, initial as initial_text, struct_decl, constant_decl, variable_decl, declaration, declarations}
 use Rattle.function_text.specs.Functions.{FunctionPlan, written}
 use Rattle.unit_rules.specs.Unit.{source_of, IsUnitOf}
+use Rattle.list_law.proofs.Options.{some_of}
 use Rattle.plan_law.specs.InOrder.{IsAmong}
 use Rattle.agree_law.specs.Agree.{Naming, is_named, variable_with, AreApart}
 use Rattle.typed_law.specs.Conforms.{IsConforming}
@@ -74,10 +75,6 @@ all_at : (test : Inst → Bool) (gs : List Inst) (g : Inst) → list_all test gs
 all_at test [] g on there = absurd there
 all_at test (x ∷ gs) g on (inl same) = subst (λ (y : Inst). test y ≡ true) same (and_parts (test x) (list_all test gs) on).0
 all_at test (x ∷ gs) g on (inr there) = all_at test gs g (and_parts (test x) (list_all test gs) on).1 there
-
-some_of : {A : Type 0} (o : Option A) → is_some o ≡ true → (a : A) × (o ≡ Some a)
-some_of None e = cc
-some_of (Some a) e = (a, refl)
 
 -- a run that begins has the values that it needs
 begun_by : (s : Setting) (b : Bool) (o : Option Function) (c : Conf) → start_by s b o ≡ Some c → b ≡ true

@@ -69,6 +69,7 @@ use Rattle.claim_law.proofs.Constants.{mention_in}
 use Rattle.claim_law.proofs.Listed.{in_mapped, any_in}
 use Rattle.unit_law.proofs.Lists.{same_test, numbered_first, in_filter}
 use Rattle.naming_law.proofs.Keys.{S, found as names_found, key as key_of, R, names as names_in}
+use Rattle.naming_law.proofs.Firsts.{no_phi}
 use Rattle.meaning_law.specs.Left.{IsLeftOfGlobals}
 use Rattle.meaning_law.proofs.Outside.Text.{fs as function_items, are_functions, asked as asked_of, P as program_in}
 use Rattle.meaning_law.proofs.Outside.Locals.{of_it, variable_reached, variable_live, local, IsLocalVariable, local_variable}
@@ -80,11 +81,6 @@ takes_value : (o : Op) → is o code.Variable ≡ true → is_value o 1 ≡ true
 unfolding number group_of takes_of
 takes_value code.Variable on = refl
 takes_value o on = cc
-
-no_phi : (o : Op) → is o code.Variable ≡ true → is o code.Phi ≡ false
-unfolding number
-no_phi code.Variable on = refl
-no_phi o on = cc
 
 -- the value of what an expression stands for
 abbrev fetched : Result (Thing × State) → Result (Typed × State)

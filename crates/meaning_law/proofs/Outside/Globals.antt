@@ -21,11 +21,9 @@ use Rattle.spv_module.specs.Held.{global as global_inst}
 use Rattle.spv_module.specs.Lists.{id}
 use Rattle.spv_module.specs.State.{ModuleState}
 use Rattle.spv_module.specs.declared.inst.Inst.{Inst}
-use Rattle.spv_module.specs.declared.tree.Length.TheVariants.{Fixed, Spec}
 use Rattle.spv_types.specs.Tree as plain
 use Rattle.spv_types.specs.Tree.{Tree, Trees, no_trees, tree}
 use Rattle.spv_types.specs.Types.{tree_at, type_tree}
-use Rattle.spv_types.specs.Leaves.{IsSized}
 use Rattle.spv_decor.specs.Rows.{word, value_of}
 use Rattle.spv_decor.specs.Decorations.{local_insts}
 use Rattle.spv_index.specs.BlockStructs.{has, is_block, is_block_struct, is_some_block}
@@ -56,6 +54,7 @@ use Rattle.text_items.specs.Globals.{built_in_text, is_input, global_by}
 use Rattle.function_text.specs.Functions.{FunctionPlan, written}
 use Rattle.unit_rules.specs.Translation.{id_text, global_expr}
 use Rattle.unit_rules.specs.Unit.{source_of, IsUnitOf}
+use Rattle.list_law.proofs.Options.{none_some}
 use Rattle.plan_law.specs.InOrder.{IsAmong, AreRising}
 use Rattle.plan_law.proofs.Order.{among_left as inst_left}
 use Rattle.fits_law.specs.Takes.{nth_of}
@@ -125,9 +124,6 @@ before_all : (before after : List Inst) (h : Inst) → IsAmong h before → IsAm
 before_all [] after h there = absurd there
 before_all (b ∷ before) after h (inl same) = inl same
 before_all (b ∷ before) after h (inr there) = inr (before_all before after h there)
-
-none_some : {A B : Type 0} {a : A} → None ≡ Some a → B
-none_some e = cc
 
 -- what has values has no length that a specialization constant gives, and neither has a runtime array of it
 member_lengths : (t : Tree) → IsFineMember t → HasLengths t

@@ -1,14 +1,12 @@
 -- The indexes of chains are scalar integers.
 use Rattle.std.proofs.Common.{◌≡◌, ◌⊎◌, ◌<◌, ◌==◌, ℕ, Bool, true, false, List, [], ◌∷◌, length, not, Option, Some, None, inl, inr, refl, sym, ap, ◌∙◌, subst, if◌then◌else◌, arith, zero, suc}
-use Rattle.std.specs.Prelude.{Contains, drop, nat_le, option_and_then, slice_get, slice_index}
+use Rattle.std.specs.Prelude.{Contains, drop, option_and_then, slice_get, slice_index}
 use Rattle.std.specs.Option.{option_map_or}
 use Rattle.std.specs.List.{list_any}
-use Rattle.std.proofs.lemmas.Bool.Decides.{nat_tests}
 use Rattle.std.proofs.lemmas.Bool.{not-false}
 use Rattle.std.proofs.lemmas.Option.{same_Some}
 use Rattle.spv_ops.specs.Opcode.{is, number}
-use Rattle.spv_ops.specs.Operands.{is_id}
-use Rattle.spv_ops.specs.OpGroups.{group_of, takes_of}
+use Rattle.spv_ops.specs.OpGroups.{group_of}
 use Rattle.spv_ops.specs.Groups.{is_chain}
 use Rattle.spv_ops.specs.declared.Op.{Op}
 use Rattle.spv_ops.specs.declared.Op.TheVariants as code
@@ -28,6 +26,7 @@ use Rattle.profile_rules.specs.TypeRows.{fails, value_fails, is_int, is_pointer}
 use Rattle.profile_rules.specs.TypeRules.{is_value_broken}
 use Rattle.profile_rules.specs.ValueRules.{chain_end, leads_elsewhere, breaks_t6}
 use Rattle.module_semantics.specs.Setting.{Setting}
+use Rattle.list_law.proofs.Lists.{place_of}
 use Rattle.plan_law.specs.InOrder.{IsAmong}
 use Rattle.type_law.proofs.Vectors.{three_off}
 use Rattle.typed_law.specs.Conforms.{IsConforming}
@@ -35,22 +34,8 @@ use Rattle.typed_law.proofs.Lists.{or_left, or_right}
 use Rattle.typed_law.proofs.Rules.{operand_there, value_right}
 use Rattle.typed_law.proofs.Types.{row_is}
 use Rattle.typed_law.proofs.Values.{IsRow, shape_of_row, inside, type_row_of, typed_value, int_shaped}
-
--- chains, by their opcodes
-chain_need : (o : Op) (k : ℕ) → is_chain o ≡ true → need o k ≡ Value
-unfolding need takes_of group_of
-chain_need code.AccessChain k on = refl
-chain_need code.InBoundsAccessChain k on = refl
-chain_need o k on = cc
-
-from_zero : (k : ℕ) → nat_le 0 k ≡ true
-from_zero k = grind (arith, nat_tests)
-
-chain_id : (o : Op) (args : List ℕ) (k : ℕ) → is_chain o ≡ true → is_id o args k ≡ true
-unfolding is_id
-chain_id code.AccessChain args k on = from_zero k
-chain_id code.InBoundsAccessChain args k on = from_zero k
-chain_id o args k on = cc
+use Rattle.unit_law.proofs.Sets.{chain_id}
+use Rattle.height_law.proofs.Chains.{chain_need}
 
 -- T6
 chain_rule : (m : ModuleState) (t : ℕ → Option ℕ) (i : Inst) (o : Op) → is_chain o ≡ true → is_value_broken m t i (group_of o) ≡ false → breaks_t6 m.globals t i ≡ false
@@ -63,12 +48,6 @@ none_fails : (test : ℕ → Bool) (xs : List ℕ) (k x : ℕ) → list_any test
 none_fails test [] k x off at = cc
 none_fails test (y ∷ xs) zero x off at = subst (λ z. test z ≡ false) (same_Some y x at) (or_left (test y) (list_any test xs) off)
 none_fails test (y ∷ xs) (suc k) x off at = none_fails test xs k x (or_right (test y) (list_any test xs) off) at
-
--- the number at a place
-pub place_of : (xs : List ℕ) (k x : ℕ) → slice_get xs k ≡ Some x → (k < length xs) × (slice_index xs k ≡ x)
-place_of [] k x at = cc
-place_of (y ∷ xs) zero x at = ((let low : zero < suc (length xs) = omega arith in low), same_Some y x at)
-place_of (y ∷ xs) (suc k) x at = let w = place_of xs k x at in let less = w.0 in ((let low : suc k < suc (length xs) = omega (arith, less) in low), w.1)
 
 -- an index is an operand
 index_operand : (args : List ℕ) (k x : ℕ) → slice_get (drop 1 args) k ≡ Some x → (suc k < length args) × (slice_index args (suc k) ≡ x)

@@ -11,14 +11,13 @@ use Rattle.spv_ops.specs.Enumerants.{class_number}
 use Rattle.spv_ops.specs.declared.Op.{Op}
 use Rattle.spv_ops.specs.declared.Op.TheVariants as code
 use Rattle.spv_ops.specs.declared.StorageClass.TheVariants as storage
-use Rattle.spv_module.specs.Held.{global as global_inst}
 use Rattle.spv_module.specs.State.{ModuleState}
 use Rattle.spv_module.specs.declared.inst.Id.{Id as IdOf}
 use Rattle.spv_module.specs.declared.inst.Inst.{Inst}
 use Rattle.spv_module.specs.declared.inst.Block.{Block}
 use Rattle.spv_module.specs.declared.inst.Function.{Function}
 use Rattle.spv_types.specs.Tree.{Tree}
-use Rattle.spv_types.specs.Types.{tree_at, type_tree}
+use Rattle.spv_types.specs.Types.{type_tree}
 use Rattle.spv_types.specs.Leaves.{IsSized}
 use Rattle.spv_decor.specs.Decorations.{local_insts}
 use Rattle.spv_decor.specs.Rows.{word}
@@ -46,6 +45,7 @@ use Rattle.function_text.specs.Live.{is_wanted, types_of, has_type_written, in_b
 use Rattle.expr_forward.specs.Scope.{Scope}
 use Rattle.unit_rules.specs.Translation.{IsPlanOf}
 use Rattle.unit_rules.specs.Unit.{called, claims_by, liveness_of, live_of, source_of, IsUnitOf}
+use Rattle.list_law.proofs.Tests.{no_flip}
 use Rattle.plan_law.specs.InOrder.{IsAmong}
 use Rattle.plan_law.proofs.Order.{found as found_at, among_right as body_right}
 use Rattle.call_law.specs.Known.{IsFunctionOf}
@@ -57,6 +57,7 @@ use Rattle.typed_law.proofs.Sized.{value_type_is}
 use Rattle.typed_law.proofs.Used.{pointee_sized}
 use Rattle.typed_law.proofs.Values.{same_count, IsRow, parameter_row, among_functions, variable_type_is, inside, local_row, own_type, typed_result, parameter_right, value_type_has}
 use Rattle.typed_law.proofs.Others.{typed_some}
+use Rattle.places_law.proofs.Blocks.{type_found}
 use Rattle.accepted_law.proofs.Accepted.{accepted_conforming}
 use Rattle.ruled_law.proofs.Ruled.{contains_of, variable_has}
 use Rattle.constant_law.specs.Within.{IsWithin, IsNoBlock}
@@ -79,17 +80,6 @@ variable_effect : (o : Op) → is o code.Variable ≡ true → is_pure o ≡ fal
 unfolding shape number
 variable_effect code.Variable on = refl
 variable_effect o on = cc
-
-type_found : (gs : List Inst) (ty : ℕ) (t : Tree) → type_tree gs ty ≡ Some t → (h : Inst) × (global_inst gs ty ≡ Some h) × (tree_at gs h ≡ Some t)
-type_found gs ty t e = by_global (global_inst gs ty) refl e
-  where
-    by_global : (a : Option Inst) → global_inst gs ty ≡ a → option_map_or (tree_at gs) a None ≡ Some t → (h : Inst) × (global_inst gs ty ≡ Some h) × (tree_at gs h ≡ Some t)
-    by_global None at e = cc
-    by_global (Some h) at e = (h, at, e)
-
-no_flip : {A : Type 0} (t : Bool) → t ≡ true → t ≡ false → A
-no_flip true on off = cc
-no_flip false on off = cc
 
 -- variables stand in the first block alone
 none_in : (is : List Inst) (i : Inst) → HaveNoVariable is → IsIn i is → is_variable i ≡ false

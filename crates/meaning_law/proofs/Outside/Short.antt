@@ -34,6 +34,7 @@ use Rattle.profile_rules.specs.Leaves.{said_with, constant_length, leaves_by_kin
 use Rattle.profile_rules.specs.Places.{is_defined_elsewhere}
 use Rattle.profile_rules.specs.TypeForm.{is_no_data, parts_of, is_signed, is_above_zero, is_workgroup_length, is_length, is_other_int, is_other_vector, is_other_array, is_empty_struct}
 use Rattle.module_semantics.specs.Setting.{Setting}
+use Rattle.list_law.proofs.Options.{none_some}
 use Rattle.plan_law.specs.InOrder.{IsAmong, AreRising}
 use Rattle.fits_law.proofs.Steps.{named}
 use Rattle.type_law.proofs.Vectors.{five_off}
@@ -44,9 +45,6 @@ use Rattle.typed_law.proofs.Sized.{rising_low}
 use Rattle.typed_law.proofs.Used.{global_found}
 use Rattle.typed_law.proofs.Values.{value_sized, own_type, shaped_some}
 use Rattle.lowering_law.specs.Written.{IsShort, AreShort}
-
-none_some : {A B : Type 0} {a : A} → None ≡ Some a → B
-none_some e = cc
 
 -- numbers
 le_first : (n a : ℕ) → 1 ≤ n → a ≤ n * a

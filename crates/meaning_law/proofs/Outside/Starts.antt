@@ -40,6 +40,7 @@ use Rattle.text_items.specs.Globals.{global_by}
 use Rattle.function_text.specs.Functions.{FunctionPlan, written}
 use Rattle.unit_rules.specs.Translation.{id_text, global_expr}
 use Rattle.unit_rules.specs.Unit.{source_of, IsUnitOf}
+use Rattle.list_law.proofs.Options.{none_some}
 use Rattle.plan_law.specs.InOrder.{IsAmong}
 use Rattle.plan_law.proofs.Order.{found as found_at}
 use Rattle.fits_law.proofs.Steps.{named}
@@ -185,9 +186,6 @@ module _ (bytes : List ℕ) (m : ModuleState) (o : Options) (read : IsReadFrom b
           members = w.members;
           kind = inr (inr (ap is_some at, w.kind));
         })
-      where
-        none_some : {A B : Type 0} {a : A} → None ≡ Some a → B
-        none_some e = cc
 
     -- A Function variable.
     pub own_start : (n : ℕ) → N.is_variable n ≡ true → Begins n

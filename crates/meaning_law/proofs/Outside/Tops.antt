@@ -12,7 +12,6 @@ use Rattle.spv_ops.specs.declared.Op.{Op}
 use Rattle.spv_ops.specs.declared.Op.TheVariants as code
 use Rattle.spv_module.specs.Held.{global as global_inst}
 use Rattle.spv_module.specs.Lists.{id}
-use Rattle.spv_module.specs.Inst.{has_result}
 use Rattle.spv_module.specs.declared.inst.Block.{Block}
 use Rattle.spv_module.specs.State.{ModuleState}
 use Rattle.spv_module.specs.declared.inst.Inst.{Inst}
@@ -22,7 +21,7 @@ use Rattle.spv_types.specs.Tree as plain
 use Rattle.spv_types.specs.Tree.{Tree}
 use Rattle.spv_types.specs.declared.kind.TypeKind.{TypeKind}
 use Rattle.spv_types.specs.declared.kind.TypeKind.TheVariants as kinds
-use Rattle.spv_types.specs.Types.{kind, elem_of, sized_vector, vector_tree, tree_by_kind, tree_before, tree_at, type_tree}
+use Rattle.spv_types.specs.Types.{kind, elem_of, sized_vector, vector_tree, tree_by_kind, type_tree}
 use Rattle.spv_module.specs.declared.tree.Elem.{Elem}
 use Rattle.spv_decor.specs.Decorations.{local_insts}
 use Rattle.spv_index.specs.Locals.{insts_of, inst_in, type_in}
@@ -52,9 +51,11 @@ use Rattle.text_rules.specs.Declarations.{Names, shape_at, type_at, pointee_at, 
 use Rattle.expr_forward.specs.Scope.{Scope, globals, type_of as type_of_value}
 use Rattle.expr_forward.specs.Statements.{captured_of}
 use Rattle.function_text.specs.Functions.{FunctionPlan, written, is_variable, is_hoisted, is_hoisted_in}
-use Rattle.function_text.specs.Live.{is_composite_type, is_composite}
+use Rattle.function_text.specs.Live.{is_composite_type}
 use Rattle.unit_rules.specs.Translation.{names_of, IsPlanOf}
 use Rattle.unit_rules.specs.Unit.{called, source_of, IsUnitOf}
+use Rattle.list_law.proofs.Lists.{place_of}
+use Rattle.list_law.proofs.Options.{none_some}
 use Rattle.plan_law.specs.InOrder.{IsAmong}
 use Rattle.plan_law.proofs.Order.{found as found_at, among_right as body_right}
 use Rattle.region_law.proofs.Flags.{same_text}
@@ -82,6 +83,8 @@ use Rattle.unit_law.proofs.TypesWritten.{top_type_written}
 use Rattle.unit_law.proofs.Ways.{planned_as}
 use Rattle.function_law.specs.Tops.{Top, SaysFirst, SaysTop, AllSay}
 use Rattle.function_law.proofs.PlannedText.{variable_top, hoisted_top, index_top, variable_tops, hoisted_tops, index_tops, tops_of}
+use Rattle.meets_law.proofs.OperandNames.{composite_of}
+use Rattle.formed_law.proofs.Pointing.{chain_result}
 use Rattle.naming_law.specs.Alone.{AreAlone}
 use Rattle.naming_law.specs.Names.{is_outer_global, has_text}
 use Rattle.naming_law.proofs.Alone.{are_alone, no_flip}
@@ -92,7 +95,7 @@ use Rattle.meaning_law.proofs.Outside.Asked.{claimed}
 use Rattle.meaning_law.proofs.Outside.Text.{P as program_in, function_of_plan}
 use Rattle.meaning_law.proofs.Outside.Locals.{in_module, placed, IsLocalVariable, local_variable}
 use Rattle.meaning_law.proofs.Outside.Typed.{value_declared}
-use Rattle.meaning_law.proofs.Outside.Indexed.{place_of, IsIntId, index_int}
+use Rattle.meaning_law.proofs.Outside.Indexed.{IsIntId, index_int}
 use Rattle.meaning_law.proofs.Outside.Firsts.{variable_declared, firsts}
 
 -- a type with a struct in it is a composite
@@ -108,9 +111,6 @@ composite_op code.TypeArray on = refl
 composite_op code.TypeRuntimeArray on = refl
 composite_op code.TypeStruct on = refl
 composite_op o on = cc
-
-none_some : {A B : Type 0} {a : A} → None ≡ Some a → B
-none_some e = cc
 
 plain_type : (gs : List Inst) (before : ℕ → Option Tree) (g : Inst) (k : TypeKind) (t : Tree) (j : ℕ) → tree_by_kind gs before g k ≡ Some t → (is_of_parts k ≡ true) ⊎ (has_struct j t ≡ false)
 plain_type gs before g kinds.Bool t j e = inr (subst (λ x. has_struct j x ≡ false) (same_Some plain.boolean t e) refl)
@@ -138,22 +138,6 @@ plain_type gs before g kinds.Array t j e = inl refl
 plain_type gs before g kinds.Runtime t j e = inl refl
 plain_type gs before g kinds.Struct t j e = inl refl
 plain_type gs before g kinds.Other t j e = none_some e
-
-composite_of : (gs : List Inst) (ty : ℕ) (t : Tree) (j : ℕ) → type_tree gs ty ≡ Some t → has_struct j t ≡ true → is_composite gs ty ≡ true
-composite_of gs ty t j shape has = by_global (global_inst gs ty) refl shape
-  where
-    by_global : (a : Option Inst) → global_inst gs ty ≡ a → option_map_or (tree_at gs) a None ≡ Some t → is_composite gs ty ≡ true
-    by_global None at e = none_some e
-    by_global (Some g) at e = elim (plain_type gs (tree_before gs g.at) g (kind g.op) t j e) [
-      | inl on ↦ ap (λ a. option_map_or (λ (x : Inst). is_composite_type x.op) a false) at ∙ composite_op g.op on
-      | inr off ↦ no_flip (has_struct j t) has off
-    ]
-
-chain_result : (o : Op) → is_chain o ≡ true → has_result o ≡ true
-unfolding shape
-chain_result code.AccessChain on = refl
-chain_result code.InBoundsAccessChain on = refl
-chain_result o on = cc
 
 no_main : (n : ℕ) → Id (id n) ≡ Main → ⊥
 no_main n e = cc

@@ -1,5 +1,5 @@
 -- What is written of the arguments of a call is what its function takes: an argument that is a value says it, and one that is a pointer is the name of a variable or of a pointer parameter (M4).
-use Rattle.std.proofs.Common.{◌≡◌, ◌⊎◌, ◌&&◌, ◌||◌, not, ℕ, Bool, true, false, List, [], ◌∷◌, map, length, Contains, Option, Some, None, unwrap_or, inl, inr, refl, sym, ap, ◌∙◌, subst, arith, if◌then◌else◌}
+use Rattle.std.proofs.Common.{◌≡◌, ◌⊎◌, ◌&&◌, not, ℕ, Bool, true, false, List, [], ◌∷◌, map, length, Contains, Option, Some, None, unwrap_or, inl, inr, refl, sym, ap, ◌∙◌, subst, arith, if◌then◌else◌}
 use Rattle.std.specs.Prelude.{option_map, option_and_then, is_some, slice_index}
 use Rattle.std.specs.Option.{option_map_or}
 use Rattle.std.specs.List.{list_any}
@@ -18,7 +18,7 @@ use Rattle.conformance.specs.Rules.{Options}
 use Rattle.module_check.specs.Judged.{IsFine}
 use Rattle.module_check.specs.ReadFrom.{IsReadFrom}
 use Rattle.profile_rules.specs.MemoryRules.{is_pointer, is_own_memory, is_other_pointer}
-use Rattle.access_paths.specs.Ways.{Way, path, start}
+use Rattle.access_paths.specs.Ways.{Way, path}
 use Rattle.traces.specs.Invocations.{Invocation, IsInvocation}
 use Rattle.traces.specs.Outcomes.{Result, got}
 use Rattle.module_semantics.specs.Setting.{Setting}
@@ -27,7 +27,7 @@ use Rattle.module_semantics.specs.Operands.{as_value, held, value_at}
 use Rattle.op_semantics.specs.Component.{each_one}
 use Rattle.name_alloc.specs.declared.claims.Key.{Key}
 use Rattle.name_alloc.specs.declared.claims.Key.TheVariants.{Id}
-use Rattle.glsl_ast.specs.Tree.{Text, Expr, Param, param, TypeName, name, TranslationUnit}
+use Rattle.glsl_ast.specs.Tree.{Text, Expr, param, TypeName, name, TranslationUnit}
 use Rattle.glsl_semantics.specs.Shapes.{Shape, Typed, typed}
 use Rattle.glsl_semantics.specs.States.{State}
 use Rattle.glsl_semantics.specs.Expressions.{Program, Argument, evaluate}

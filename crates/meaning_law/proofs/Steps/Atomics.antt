@@ -1,5 +1,5 @@
 -- So of atomic instructions nothing is left: what they are on is an int or a uint (A3), their operands are of its type (T25) and say their words, and the function that is called is theirs.
-use Rattle.std.proofs.Common.{◌≡◌, ◌⊎◌, ◌==◌, ◌<◌, ◌&&◌, ◌||◌, not, ℕ, Bool, true, false, List, [], ◌∷◌, ◌++◌, map, length, drop, take, Contains, Option, Some, None, inl, inr, refl, sym, ap, ◌∙◌, subst, unwrap_or, if◌then◌else◌}
+use Rattle.std.proofs.Common.{◌≡◌, ◌==◌, ◌||◌, not, ℕ, Bool, true, false, List, [], ◌∷◌, ◌++◌, map, length, drop, take, Contains, Option, Some, None, refl, sym, ap, ◌∙◌, subst, unwrap_or, if◌then◌else◌}
 use Rattle.std.specs.Prelude.{option_map, option_and_then}
 use Rattle.std.specs.Option.{option_map_or}
 use Rattle.std.proofs.lemmas.Bool.{not-false}
@@ -22,7 +22,7 @@ use Rattle.spv_module.specs.declared.tree.Elem.{Elem}
 use Rattle.spv_module.specs.declared.tree.Elem.TheVariants as elem
 use Rattle.spv_types.specs.declared.kind.TypeKind.TheVariants.{Int}
 use Rattle.spv_types.specs.Tree as plain
-use Rattle.spv_types.specs.Tree.{Tree, ValueTree, word as holds_word}
+use Rattle.spv_types.specs.Tree.{Tree, word as holds_word}
 use Rattle.spv_types.specs.Types.{elem_of, int_tree, tree_at, tree_before, type_tree}
 use Rattle.spv_types.specs.Leaves.{IsSized}
 use Rattle.spv_decor.specs.Rows.{word}
@@ -38,26 +38,26 @@ use Rattle.profile_rules.specs.MemoryRules.{is_through}
 use Rattle.profile_rules.specs.NumberRules.{points_to_other, is_no_content, has_no_int}
 use Rattle.profile_rules.specs.TypeRows.{is_pointer, differ, value_fails, is_other}
 use Rattle.profile_rules.specs.TypeRules.{breaks_t25, is_number_broken}
-use Rattle.traces.specs.Events.{Location, updating}
+use Rattle.traces.specs.Events.{updating}
 use Rattle.traces.specs.Invocations.{Invocation}
 use Rattle.traces.specs.Runs.{Supplied}
 use Rattle.traces.specs.Outcomes.{Result, got, then_get}
 use Rattle.module_semantics.specs.Setting.{Setting}
 use Rattle.module_semantics.specs.State.{own, Conf}
 use Rattle.module_semantics.specs.Operands.{value_at, word_at, words_at, arg}
-use Rattle.module_semantics.specs.Steps.{step_kind, atomic_operation, atomic_operands}
-use Rattle.glsl_ast.specs.Tree.{Text, Expr, Exprs, expr, exprs_in, no_exprs, literal, binary, TranslationUnit}
+use Rattle.module_semantics.specs.Steps.{step_kind, atomic_operation}
+use Rattle.glsl_ast.specs.Tree.{Text, Expr, Exprs, expr, exprs_in, no_exprs, binary, TranslationUnit}
 use Rattle.glsl_ast.specs.declared.expressions.BinOp.TheVariants.{Sub}
 use Rattle.glsl_semantics.specs.Shapes.{Shape, Typed, typed, scalar}
 use Rattle.glsl_semantics.specs.States.{State}
 use Rattle.glsl_semantics.specs.Operators.{operated}
 use Rattle.glsl_semantics.specs.Expressions as expressions
-use Rattle.glsl_semantics.specs.Expressions.{Program, Argument, CallKind, user, AtomicFunction, atomic_function, atomic_or, call_kind, if_count, operand_count, operand_words, literal_value, values, evaluate}
+use Rattle.glsl_semantics.specs.Expressions.{Program, Argument, CallKind, user, AtomicFunction, atomic_function, atomic_or, call_kind, if_count, operand_count, operand_words, literal_value, values}
 use Rattle.int_lowering.specs.Operand.{literal_of}
 use Rattle.expr_forward.specs.declared.kinds.InstKind.TheVariants as kind
 use Rattle.expr_forward.specs.Kinds.{kind_in, kind_of}
 use Rattle.expr_forward.specs.Scope.{Scope, globals as globals_in}
-use Rattle.expr_forward.specs.Statements.{has_result, atomic_name, comparator, atomic_operand, word_by, word_at_place, scalar_at}
+use Rattle.expr_forward.specs.Statements.{has_result, atomic_name, word_by, word_at_place, scalar_at}
 use Rattle.expr_forward.specs.Values.{value}
 use Rattle.function_text.specs.Functions.{FunctionPlan, written}
 use Rattle.unit_rules.specs.Unit.{IsUnitOf}
@@ -66,7 +66,7 @@ use Rattle.fits_law.specs.Typed.{IsTyped}
 use Rattle.type_law.specs.Shaped.{AreConstants}
 use Rattle.type_law.proofs.Rows.{by_kind, int_kind}
 use Rattle.agree_law.specs.Agree.{Naming, AreApart}
-use Rattle.agree_law.specs.Blocks.{IsOf, At, Stands}
+use Rattle.agree_law.specs.Blocks.{IsOf, At}
 use Rattle.agree_law.specs.Evaluates.{IsKept}
 use Rattle.agree_law.specs.Points.{Body}
 use Rattle.agree_law.proofs.Machine.{machine, IsUpdate}
@@ -86,7 +86,7 @@ use Rattle.function_law.proofs.Selectors.{word_value}
 use Rattle.typed_law.specs.Conforms.{IsConforming, IsConformingIn}
 use Rattle.typed_law.proofs.Lists.{or_left, or_right, and_off}
 use Rattle.typed_law.proofs.Operations.{four_off}
-use Rattle.typed_law.proofs.Others.{target_of, typed_some}
+use Rattle.typed_law.proofs.Others.{target_of}
 use Rattle.typed_law.proofs.Rules.{number_right, access_right}
 use Rattle.typed_law.proofs.Shapes.{row_of_shape, shaped_type}
 use Rattle.typed_law.proofs.Values.{IsRow, HasType, inside, one_type, own_shape}
@@ -103,9 +103,7 @@ use Rattle.meaning_law.proofs.Written.Shapes.{shape_of_value}
 use Rattle.meaning_law.proofs.Insts.Asks.{LeftBy}
 use Rattle.meaning_law.proofs.Insts.Accessed.{Points, Operands, atomic_left}
 use Rattle.meaning_law.proofs.Steps.Stores.{WaysHere, SayOperandsHere}
-
-same_atomic : (a b : AtomicOp) → kind.Atomic a ≡ kind.Atomic b → a ≡ b
-same_atomic a b e = cc
+use Rattle.meaning_law.proofs.Insts.KindSteps.{same_atomic}
 
 atomic_in : (g : OpGroup) (a : AtomicOp) → kind_in g ≡ kind.Atomic a → g ≡ groups.Atomic a
 atomic_in (groups.Atomic b) a e = ap groups.Atomic (same_atomic b a e)

@@ -1,5 +1,5 @@
 -- So of calls nothing is left, where the function that is called stands before in the text and does what its function does: its arguments are what it takes, and its result is no pointer.
-use Rattle.std.proofs.Common.{◌≡◌, ◌⊎◌, ◌==◌, ◌≤◌, ◌<◌, ◌++◌, ◌&&◌, ◌||◌, not, ℕ, zero, suc, Bool, true, false, List, [], ◌∷◌, length, drop, Contains, Option, Some, None, unwrap_or, inl, inr, refl, sym, ap, ◌∙◌, subst, arith, if◌then◌else◌}
+use Rattle.std.proofs.Common.{◌≡◌, ◌⊎◌, ◌==◌, ◌≤◌, ◌<◌, ◌++◌, ◌||◌, not, ℕ, zero, suc, Bool, true, false, List, [], ◌∷◌, length, drop, Contains, Option, Some, None, unwrap_or, inl, inr, refl, sym, ap, ◌∙◌, subst, arith, if◌then◌else◌}
 use Rattle.std.specs.Prelude.{option_and_then, slice_get, slice_index}
 use Rattle.std.specs.Option.{option_map_or}
 use Rattle.std.specs.List.{list_any, zip}
@@ -25,11 +25,10 @@ use Rattle.spv_index.specs.Locals.{insts_of, type_in}
 use Rattle.conformance.specs.Rules.{Options}
 use Rattle.module_check.specs.Judged.{IsFine as IsAccepted}
 use Rattle.module_check.specs.ReadFrom.{IsReadFrom}
-use Rattle.profile_rules.specs.declared.needs.Need.TheVariants.{Value}
 use Rattle.profile_rules.specs.FlowRules.{breaks_t21}
 use Rattle.profile_rules.specs.ValueRules.{are_other_members}
 use Rattle.profile_rules.specs.MemoryRules.{is_pointer, is_other_pointer}
-use Rattle.profile_rules.specs.Operands.{need, is_there_in}
+use Rattle.profile_rules.specs.Operands.{is_there_in}
 use Rattle.profile_rules.specs.Entry.{function_of}
 use Rattle.profile_rules.specs.TypeRows.{differ, is_other}
 use Rattle.profile_rules.specs.TypeRules.{is_flow_broken}
@@ -62,7 +61,7 @@ use Rattle.fits_law.specs.State.{value_shape, functions_of, HasShape}
 use Rattle.fits_law.specs.Typed.{IsCall, IsTyped}
 use Rattle.fits_law.proofs.Steps.{named}
 use Rattle.agree_law.specs.Agree.{Naming, AreApart}
-use Rattle.agree_law.specs.Blocks.{IsOf, IsNew, At, Stands}
+use Rattle.agree_law.specs.Blocks.{IsOf, IsNew, Stands}
 use Rattle.agree_law.specs.Evaluates.{IsKept}
 use Rattle.agree_law.specs.Points.{Body}
 use Rattle.agree_law.proofs.Machine.{machine}
@@ -73,7 +72,7 @@ use Rattle.path_law.specs.Walks.{struct_names}
 use Rattle.path_law.proofs.Accesses.{shape_itself}
 use Rattle.function_law.specs.Texts.{FunctionText, IsFine}
 use Rattle.function_law.specs.UnderWay.{IsUnderWay, IsRuled}
-use Rattle.function_law.proofs.AllFunctions.{IsRun, IsCallOf, call_statement, call_expression}
+use Rattle.function_law.proofs.AllFunctions.{IsRun, call_statement, call_expression}
 use Rattle.function_law.proofs.CallsSaid.{IsCallText, call_text}
 use Rattle.function_law.proofs.Passing.{whole_in}
 use Rattle.function_law.proofs.UnderWay.{way_kept}
@@ -91,7 +90,7 @@ use Rattle.unit_law.proofs.CallTypes as types
 use Rattle.unit_law.proofs.Lists.{as_in, at_some}
 use Rattle.unit_law.proofs.Shaped.{shaped_value}
 use Rattle.unit_law.proofs.Ways.{HaveKinds, plan_is}
-use Rattle.meets_law.proofs.CallMeets.{call_need, call_value, value_no_void, behind_first, inside_list}
+use Rattle.meets_law.proofs.CallMeets.{call_need, call_value, behind_first}
 use Rattle.formed_law.specs.Formed.{IsFormedFunction}
 use Rattle.formed_law.specs.Traced.{IsTraced}
 use Rattle.formed_law.proofs.Inner.{is_inner, accepted_inner}
@@ -102,12 +101,12 @@ use Rattle.naming_law.proofs.Fine.{share_names, same_type}
 use Rattle.naming_law.proofs.Insts.{Plain, Comes}
 use Rattle.naming_law.proofs.Keys.{S, R, key as key_of, names as names_in}
 use Rattle.naming_law.proofs.Unit.{text}
+use Rattle.naming_law.proofs.Firsts.{of_in}
 use Rattle.meaning_law.specs.Left.{IsLeftOfGlobals}
 use Rattle.meaning_law.proofs.Outside.Locals.{local_variable, param_type}
 use Rattle.meaning_law.proofs.Outside.Starts as starts
 use Rattle.meaning_law.proofs.Outside.Text.{P as program_in}
 use Rattle.meaning_law.proofs.Outside.Typed.{types_of_text}
-use Rattle.meaning_law.proofs.Written.Placed.{as_of}
 use Rattle.meaning_law.proofs.Written.Shapes.{has_shape, shape_of_value, value_has}
 use Rattle.meaning_law.proofs.Insts.Asks.{LeftBy}
 use Rattle.meaning_law.proofs.Insts.New.{is_new}
@@ -237,7 +236,7 @@ module _ (bytes : List ℕ) (m : ModuleState) (o : Options) (read : IsReadFrom b
       there_in = as_in (insts_of f) i there
 
       of_it : IsOf i (insts_of f)
-      of_it = as_of (insts_of f) i there_in
+      of_it = of_in (insts_of f) i there_in
 
       g_in : Contains m.functions g
       g_in = contains_found m.functions (arg i 0) g before.function

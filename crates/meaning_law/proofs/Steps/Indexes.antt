@@ -40,6 +40,8 @@ use Rattle.expr_forward.specs.Scope.{Scope, type_of}
 use Rattle.function_text.specs.Functions.{FunctionPlan, written}
 use Rattle.unit_rules.specs.Translation.{id_text}
 use Rattle.unit_rules.specs.Unit.{source_of, IsUnitOf}
+use Rattle.list_law.proofs.Lists.{place_of}
+use Rattle.list_law.proofs.Options.{no_some}
 use Rattle.agree_law.specs.Agree.{Naming}
 use Rattle.agree_law.specs.Blocks.{IsOf, have_result}
 use Rattle.agree_law.specs.Points.{Body}
@@ -67,15 +69,12 @@ use Rattle.global_law.specs.Sources.{source_of as run_source}
 use Rattle.naming_law.proofs.Keys.{S, key, names, some_in}
 use Rattle.naming_law.proofs.Once.{chain_result}
 use Rattle.meaning_law.specs.Left.{IsLeftOfGlobals}
-use Rattle.meaning_law.proofs.Outside.Indexed.{IsIntId, index_int, place_of}
+use Rattle.meaning_law.proofs.Outside.Indexed.{IsIntId, index_int}
 use Rattle.meaning_law.proofs.Outside.Starts.{no_module}
 use Rattle.meaning_law.proofs.Written.NamesOf.{names_are}
 use Rattle.meaning_law.proofs.Written.Says.{IsReady, variable_there}
 use Rattle.meaning_law.proofs.Written.Shapes.{shape_of_type}
 use Rattle.meaning_law.proofs.Insts.Indexes.{at_end}
-
-no_some : {A B : Type 0} (a : A) → None ≡ Some a → B
-no_some a e = cc
 
 -- the shape of an int
 number_in : (s : Setting) (y : StructNames) (t : Tree) → (t ≡ plain.int) ⊎ (t ≡ plain.uint) → IsNumber (shape_in s y t) × (same_shape (shape_in s y t) (shape_in s y t) ≡ true)

@@ -1,5 +1,5 @@
 -- What an insert has from its operands: the composite with an object in place of the part to which literals lead, or the vector with a component at an index.
-use Rattle.std.proofs.Common.{◌≡◌, ◌<◌, ℕ, Bool, true, false, List, [], ◌∷◌, drop, length, take, Option, Some, None, inl, inr, refl, sym, ap, ◌∙◌, subst, if◌then◌else◌}
+use Rattle.std.proofs.Common.{◌≡◌, ◌<◌, ℕ, Bool, true, false, List, [], ◌∷◌, drop, length, take, Some, None, inl, inr, refl, sym, ap, ◌∙◌, subst, if◌then◌else◌}
 use Rattle.std.specs.Prelude.{nat_lt, option_and_then, slice_get, slice_set}
 use Rattle.std.proofs.lemmas.Option.{same_Some}
 use Rattle.spv_ops.specs.Operands.{is_id}
@@ -26,6 +26,7 @@ use Rattle.text_rules.specs.Constants.{is_scalar}
 use Rattle.use_chains.specs.Slots.{is_value}
 use Rattle.expr_forward.specs.declared.kinds.InstKind.TheVariants as kind
 use Rattle.expr_forward.specs.Kinds.{kind_of}
+use Rattle.list_law.proofs.Numbers.{less_of}
 use Rattle.region_law.specs.Leads.{In}
 use Rattle.agree_law.specs.Blocks.{reads}
 use Rattle.fits_law.specs.State.{value_shape, IsLocal}
@@ -36,7 +37,6 @@ use Rattle.fits_law.proofs.Operations.{before_some}
 use Rattle.fits_law.proofs.Parts.{many_of}
 use Rattle.path_law.proofs.Parts.{there_below}
 use Rattle.typed_law.proofs.Lists.{some_part}
-use Rattle.meaning_law.proofs.Steps.PartSteps.{less_of}
 
 insert_op : (o : Op) → kind_of o ≡ kind.CompositeInsert → o ≡ code.CompositeInsert
 unfolding kind_of group_of

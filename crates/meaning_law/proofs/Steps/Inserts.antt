@@ -1,7 +1,6 @@
 -- What is asked of inserts: what is copied says the whole; behind the copy the place that is assigned to is the part, and the object says itself.
-use Rattle.std.proofs.Common.{◌≡◌, ◌<◌, ◌≤◌, ◌^◌, ◌⊎◌, ◌++◌, ℕ, zero, suc, Bool, true, false, List, [], ◌∷◌, drop, Option, Some, None, inl, inr, refl, sym, ap, ◌∙◌, subst, arith, if◌then◌else◌}
+use Rattle.std.proofs.Common.{◌≡◌, ◌<◌, ◌≤◌, ◌^◌, ◌++◌, ℕ, zero, suc, Bool, true, List, [], ◌∷◌, drop, Option, Some, None, inr, refl, sym, ap, ◌∙◌, subst, arith, if◌then◌else◌}
 use Rattle.std.specs.Prelude.{nat_lt, option_and_then}
-use Rattle.std.proofs.lemmas.Bool.Decides.{nat_tests}
 use Rattle.std.proofs.lemmas.Option.{same_Some}
 use Rattle.spv_ops.specs.OpGroups.{group_of}
 use Rattle.spv_module.specs.State.{ModuleState}
@@ -13,8 +12,7 @@ use Rattle.spv_types.specs.Tree.{Tree, ValueTree, word}
 use Rattle.spv_types.specs.Types.{type_tree}
 use Rattle.spv_types.specs.Leaves.{IsSized}
 use Rattle.spv_index.specs.Locals.{insts_of, type_in}
-use Rattle.structure_rules.specs.Graph.{nth, graph}
-use Rattle.op_semantics.specs.Fits.{elem_tree, fits}
+use Rattle.op_semantics.specs.Fits.{fits}
 use Rattle.conformance.specs.Rules.{Options}
 use Rattle.module_check.specs.Judged.{IsFine}
 use Rattle.module_check.specs.ReadFrom.{IsReadFrom}
@@ -32,7 +30,7 @@ use Rattle.glsl_ast.specs.Tree.{Text, TranslationUnit, LStep}
 use Rattle.glsl_semantics.specs.Shapes as shapes
 use Rattle.glsl_semantics.specs.Shapes.{Shape, Typed, typed, scalar}
 use Rattle.glsl_semantics.specs.States.{State, Thing, variable, found_in, put_in, declared, part_of_option, part_at_index, index_word, element_at}
-use Rattle.glsl_semantics.specs.Expressions.{Program, Argument, evaluate, named}
+use Rattle.glsl_semantics.specs.Expressions.{Program, Argument, evaluate}
 use Rattle.glsl_semantics.specs.Expressions as expressions
 use Rattle.expr_forward.specs.declared.kinds.InstKind.TheVariants as kind
 use Rattle.expr_forward.specs.Kinds.{kind_of}
@@ -42,6 +40,7 @@ use Rattle.expr_forward.specs.Statements.{is_variable_form}
 use Rattle.expr_forward.specs.Values.{value}
 use Rattle.function_text.specs.Functions.{FunctionPlan, written}
 use Rattle.unit_rules.specs.Unit.{IsUnitOf}
+use Rattle.list_law.proofs.Numbers.{less_is}
 use Rattle.region_law.proofs.Flags.{found_put, found_declared}
 use Rattle.fits_law.specs.State.{value_shape, functions_of, HasShape, ConfFits, ModuleFits}
 use Rattle.fits_law.specs.Typed.{IsTyped}
@@ -78,16 +77,16 @@ use Rattle.formed_law.proofs.Inner.{is_inner, accepted_inner}
 use Rattle.naming_law.proofs.Keys.{S, key as key_of, names}
 use Rattle.meaning_law.specs.Left.{IsLeftOfGlobals}
 use Rattle.meaning_law.proofs.Outside.Text.{P as program_in}
-use Rattle.meaning_law.proofs.Written.Shapes.{shape_of_value, value_has, has_shape}
+use Rattle.meaning_law.proofs.Written.Shapes.{shape_of_value, value_has}
 use Rattle.meaning_law.proofs.Written.KnownValues.{low_values}
-use Rattle.meaning_law.proofs.Insts.Asks.{Here, LeftBy}
+use Rattle.meaning_law.proofs.Insts.Asks.{LeftBy}
 use Rattle.meaning_law.proofs.Insts.KindSteps.{composite_step, vector_step, gives, gives_result}
 use Rattle.meaning_law.proofs.Insts.New.{stands_in, stands_among, is_new}
 use Rattle.meaning_law.proofs.Insts.Sets.{hoisted_so, local_so}
 use Rattle.meaning_law.proofs.Steps.Operands.{IsKeptBy, operands_say}
 use Rattle.meaning_law.proofs.Steps.LocalTypes.{shape as shape_so, declared_text, types_left}
 use Rattle.meaning_law.proofs.Steps.PartSteps.{parts_lead}
-use Rattle.meaning_law.proofs.Steps.InsertParts.{IsOperand, IsInsert, IsCompositeInsert, composite_insert, IsComponentInsert, component_insert}
+use Rattle.meaning_law.proofs.Steps.InsertParts.{IsOperand, IsInsert, composite_insert, IsComponentInsert, component_insert}
 use Rattle.meaning_law.proofs.Steps.Copied.{still_says}
 
 -- an index of a vector's component
@@ -97,9 +96,6 @@ low_index (suc zero) less = refl
 low_index (suc (suc zero)) less = refl
 low_index (suc (suc (suc zero))) less = refl
 low_index (suc (suc (suc (suc k)))) less = absurd (omega (arith, less))
-
-less_is : (k n : ℕ) → k < n → nat_lt k n ≡ true
-less_is k n less = grind (arith, nat_tests, less)
 
 -- the component there
 component_is : (x : Text) (e : Elem) (n k : ℕ) (o : Option ValueTree) → k < n → n ≤ 4 → element_at (variable x [] (shapes.vector e n) o) k ≡ Some (variable x (k ∷ []) (scalar e) (part_of_option o k))

@@ -63,9 +63,9 @@ use Rattle.formed_law.proofs.Pointing.{accepted_chains}
 use Rattle.formed_law.proofs.Shaped.{AreGlobals, accepted_shaped}
 use Rattle.naming_law.proofs.Insts.{AllAsk}
 use Rattle.naming_law.proofs.Keys.{S, key, found as names_found, names}
+use Rattle.naming_law.proofs.Firsts.{of_in}
 use Rattle.meaning_law.specs.Left.{IsLeftOfGlobals}
 use Rattle.meaning_law.proofs.Outside.Text.{P as program_in}
-use Rattle.meaning_law.proofs.Written.Placed.{as_of}
 use Rattle.meaning_law.proofs.Insts.Asks.{LeftBy, all_asked}
 use Rattle.meaning_law.proofs.Insts.KindSteps.{is_effect, effect_of}
 use Rattle.meaning_law.proofs.Insts.New.{stands_among}
@@ -142,7 +142,7 @@ module _ (bytes : List ℕ) (m : ModuleState) (o : Options) (read : IsReadFrom b
     low g c way = way.known.more.words
 
     typed_there : (j : Inst) → IsIn j (insts_of Fn) → IsTyped s Fn j (step_kind j.op)
-    typed_there j there = rules.typed Fn one j (as_of (insts_of Fn) j there)
+    typed_there j there = rules.typed Fn one j (of_in (insts_of Fn) j there)
 
     typed_so : (j : Inst) → IsOf j (insts_of f) → IsTyped s f j (step_kind j.op)
     typed_so j there = rules.typed f is_one j there
@@ -225,7 +225,7 @@ module _ (bytes : List ℕ) (m : ModuleState) (o : Options) (read : IsReadFrom b
     calls_met before b body has done befores i rest split only all e =
         call_is_left bytes m o read fine unit u inv told left right kinds p among rules is_one form k calls apart IsLent start given b body done befores i rest split only (there b body has done befores i rest split only all)
         (says b body has done befores i rest split only all (effect_on b body has done befores i rest split only all kind.Call e refl)) e
-        (before i (as_of (insts_of f) i (as_in (insts_of f) i (there b body has done befores i rest split only all))) (call_step i.op e))
+        (before i (of_in (insts_of f) i (as_in (insts_of f) i (there b body has done befores i rest split only all))) (call_step i.op e))
 
     places_met : AreCallsMet → IsLeftOfPlaces m o right kinds unit u inv p among rules.lends one (inner bytes m o read fine unit u inv told left right kinds p among rules.lends one) (shapes bytes m o read fine unit u inv told left right kinds p among rules.lends one) P calls Way k apart keeps form is_one (no_barriers bytes m o read fine unit u inv told left)
     places_met met = record {

@@ -1,6 +1,5 @@
 -- The text declares the types of what it declares in blocks: results of live instructions of reached blocks.
-use Rattle.std.proofs.Common.{◌≡◌, ◌||◌, not, ℕ, Bool, true, false, List, Some, refl, sym, ap, ◌∙◌, subst}
-use Rattle.std.specs.Prelude.{slice_index_or}
+use Rattle.std.proofs.Common.{◌≡◌, ◌||◌, ℕ, true, false, List, Some, refl, sym, ap, ◌∙◌}
 use Rattle.std.proofs.lemmas.Bool.{true_from_ne_false, not-true}
 use Rattle.spv_ops.specs.Opcode.{is}
 use Rattle.spv_ops.specs.Groups.{is_chain}
@@ -33,7 +32,6 @@ use Rattle.function_text.specs.Functions.{FunctionPlan, written}
 use Rattle.unit_rules.specs.Unit.{claims_by, source_of, IsUnitOf}
 use Rattle.agree_law.specs.Points.{Body}
 use Rattle.call_law.specs.Known.{IsFunctionOf, LendsWhole}
-use Rattle.plan_law.specs.InOrder.{IsAmong}
 use Rattle.typed_law.specs.Conforms.{IsConforming}
 use Rattle.typed_law.proofs.Lists.{or_left}
 use Rattle.global_law.proofs.Zeros.{is_declared}
@@ -56,7 +54,7 @@ use Rattle.meaning_law.proofs.Insts.Sets.{value_so, other_so}
 not_local : Gone ≡ Local → ⊥
 not_local e = cc
 
-variable_gone : (x : Form) → is_variable_form x ≡ true → is_gone x ≡ false
+pub variable_gone : (x : Form) → is_variable_form x ≡ true → is_gone x ≡ false
 variable_gone Gone on = cc
 variable_gone x on = refl
 

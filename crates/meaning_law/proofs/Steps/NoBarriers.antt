@@ -1,6 +1,6 @@
 -- No function of an accepted module's text has the name of a barrier: those are reserved.
 use Rattle.std.proofs.Common.{ℕ, List, refl}
-use Rattle.std.specs.Prelude.{bytes_eq, codes}
+use Rattle.std.specs.Prelude.{codes}
 use Rattle.spv_module.specs.State.{ModuleState}
 use Rattle.conformance.specs.Rules.{Options}
 use Rattle.module_check.specs.Judged.{IsFine}

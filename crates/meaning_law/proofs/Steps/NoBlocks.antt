@@ -1,6 +1,5 @@
 -- What a type is that values have: no block. So it is of what a load or a store is of, and of what an atomic instruction is.
 use Rattle.std.proofs.Common.{◌≡◌, ℕ, false, List, [], Option, Some, subst}
-use Rattle.spv_module.specs.State.{ModuleState}
 use Rattle.spv_module.specs.declared.inst.Function.{Function}
 use Rattle.spv_types.specs.Tree as plain
 use Rattle.spv_types.specs.Tree.{Tree}

@@ -1,5 +1,5 @@
 -- So an operation that is written to a variable says what it gives: nothing is left of those that insts_law asks of (`IsLeftOfOperation`) but that no array is too long.
-use Rattle.std.proofs.Common.{◌≡◌, ◌++◌, ℕ, true, false, List, [], ◌∷◌, Option, Some, refl}
+use Rattle.std.proofs.Common.{◌≡◌, ◌++◌, ℕ, true, false, List, [], ◌∷◌, Option, Some}
 use Rattle.spv_ops.specs.OpGroups.{group_of}
 use Rattle.spv_module.specs.Inst.{has_type}
 use Rattle.spv_module.specs.State.{ModuleState}
@@ -18,16 +18,12 @@ use Rattle.module_semantics.specs.Setting.{Setting}
 use Rattle.module_semantics.specs.State.{Conf}
 use Rattle.module_semantics.specs.Steps.{step_kind}
 use Rattle.hoist_plan.specs.Plan.{is_value}
-use Rattle.hoist_plan.specs.declared.form.Form.{Form}
-use Rattle.hoist_plan.specs.declared.form.Form.TheVariants.{Local, Hoisted}
 use Rattle.glsl_ast.specs.Tree.{Text, TranslationUnit}
 use Rattle.glsl_semantics.specs.Shapes.{Typed}
 use Rattle.glsl_semantics.specs.States.{State}
 use Rattle.glsl_semantics.specs.Expressions.{Program, Argument}
 use Rattle.expr_forward.specs.Scope.{Scope}
-use Rattle.expr_forward.specs.Statements.{is_variable_form}
 use Rattle.expr_forward.specs.Values.{value}
-use Rattle.function_plan.specs.Phis.{is_gone}
 use Rattle.function_text.specs.Functions.{FunctionPlan}
 use Rattle.unit_rules.specs.Unit.{IsUnitOf}
 use Rattle.fits_law.specs.State.{ConfFits, ModuleFits}
@@ -53,11 +49,7 @@ use Rattle.meaning_law.proofs.Insts.Values.{block, split_so, there, here, place,
 use Rattle.meaning_law.proofs.Values.Known.{known}
 use Rattle.meaning_law.proofs.Values.Lengths.{lengths_said}
 use Rattle.meaning_law.proofs.Values.Values.{left_of_values}
-
-variable_kept : (x : Form) → is_variable_form x ≡ true → is_gone x ≡ false
-variable_kept Local on = refl
-variable_kept Hoisted on = refl
-variable_kept x on = cc
+use Rattle.meaning_law.proofs.Steps.LocalTypes.{variable_gone}
 
 module _ (bytes : List ℕ) (m : ModuleState) (o : Options) (read : IsReadFrom bytes m) (fine : IsFine m o) (unit : TranslationUnit) (u : IsUnitOf m o unit) (inv : Invocation) (told : IsInvocation inv) (left : IsLeftOfGlobals bytes m o)
     (right : IsConforming m o.entry) (kinds : HaveKinds m.globals) (p : FunctionPlan) (among : IsIn p u.plans) (lends : LendsWhole (S m o unit u inv)) where
@@ -106,5 +98,5 @@ module _ (bytes : List ℕ) (m : ModuleState) (o : Options) (read : IsReadFrom b
             (here m o right kinds unit u inv p among lends one inner_of P calls (Holds Fn) form b body has done befores i rest split all)
             (λ step n n_in. (ready m o right kinds unit u inv p among lends one inner_of P calls (Holds Fn) form b body has done befores i rest split all q e on t shaped n
             (operand m o right kinds unit u inv p among lends one inner_of P calls (Holds Fn) form b body has done befores i rest split all q e on t shaped step n n_in)).value)
-            t shaped x (variable_kept (Where.form i.result) on) (value_unnamed i.op q e) (value_step i.op q e) gives each;
+            t shaped x (variable_gone (Where.form i.result) on) (value_unnamed i.op q e) (value_step i.op q e) gives each;
       }

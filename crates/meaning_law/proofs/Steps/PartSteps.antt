@@ -1,7 +1,6 @@
 -- The steps by which the text names a part of a composite's variable, along literals, lead to that part.
-use Rattle.std.proofs.Common.{◌≡◌, ◌<◌, ◌++◌, ◌^◌, ◌+◌, append_assoc, append-nil, ℕ, Bool, true, false, List, [], ◌∷◌, Option, Some, None, refl, sym, ap, ◌∙◌, subst, arith, if◌then◌else◌}
+use Rattle.std.proofs.Common.{◌≡◌, ◌++◌, ◌^◌, ◌+◌, append_assoc, append-nil, ℕ, Bool, true, false, List, [], ◌∷◌, Option, Some, None, refl, sym, ap, ◌∙◌, subst, arith, if◌then◌else◌}
 use Rattle.std.specs.Prelude.{nat_lt, option_and_then}
-use Rattle.std.proofs.lemmas.Bool.Decides.{nat_tests}
 use Rattle.std.proofs.lemmas.Option.{same_Some}
 use Rattle.spv_ops.specs.Opcode.{number}
 use Rattle.spv_ops.specs.declared.Op.TheVariants as code
@@ -20,14 +19,15 @@ use Rattle.hoist_plan.specs.declared.form.Form.{Form}
 use Rattle.name_alloc.specs.declared.claims.Key.{Key}
 use Rattle.glsl_ast.specs.Tree.{Text, Expr, LStep}
 use Rattle.glsl_semantics.specs.Shapes as shapes
-use Rattle.glsl_semantics.specs.Shapes.{Shape, Typed, typed, scalar}
+use Rattle.glsl_semantics.specs.Shapes.{Shape, Typed, typed}
 use Rattle.glsl_semantics.specs.States.{State, Thing, variable, part_of_option, part_at_index, named_part}
 use Rattle.glsl_semantics.specs.Expressions.{Program, Argument}
 use Rattle.vec_lowering.specs.Component.{axis_name}
 use Rattle.expr_forward.specs.Scope as scope
 use Rattle.expr_forward.specs.Paths.{part_step_by, part_step, part_type, part_steps}
 use Rattle.unit_rules.specs.Translation.{text_of}
-use Rattle.fits_law.specs.Takes.{nth_of, part_shape, shape_at}
+use Rattle.list_law.proofs.Numbers.{less_of}
+use Rattle.fits_law.specs.Takes.{part_shape, shape_at}
 use Rattle.fits_law.specs.State.{element_shape}
 use Rattle.type_law.proofs.Places.{part_leads}
 use Rattle.lowering_law.proofs.Components.{axis_part}
@@ -42,9 +42,6 @@ use Rattle.lowers_law.proofs.Types.{W, op_at, part_at}
 if_some : {A : Type 0} (b : Bool) (x y : A) → (if b then Some x else None) ≡ Some y → (b ≡ true) × (x ≡ y)
 if_some true x y e = (refl, same_Some x y e)
 if_some false x y e = cc
-
-pub less_of : (i n : ℕ) → nat_lt i n ≡ true → i < n
-less_of i n e = grind (arith, nat_tests, e)
 
 -- a part of a value's shape is one of what lies in memory
 part_element : (a u : Tree) (k : ℕ) → part_shape a k ≡ Some u → element_shape a k ≡ Some u

@@ -1,5 +1,5 @@
 -- To what the pointer of a load, a store or an atomic instruction points.
-use Rattle.std.proofs.Common.{◌≡◌, ℕ, Bool, true, false, List, length, Contains, Option, Some, refl, sym, ap, ◌∙◌}
+use Rattle.std.proofs.Common.{◌≡◌, ℕ, true, false, List, length, Contains, Option, Some, sym, ap, ◌∙◌}
 use Rattle.std.specs.Prelude.{slice_get}
 use Rattle.std.specs.Option.{option_map_or}
 use Rattle.spv_ops.specs.OpGroups.{group_of}

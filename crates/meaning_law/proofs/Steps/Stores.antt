@@ -1,5 +1,5 @@
 -- So of loads and stores nothing is left, where their pointers are written as they lead and what is stored says its value.
-use Rattle.std.proofs.Common.{◌≡◌, ◌&&◌, ◌||◌, ℕ, Bool, true, false, List, [], ◌∷◌, ◌++◌, length, drop, Contains, Option, Some, None, refl, sym, ap, ◌∙◌, subst, if◌then◌else◌}
+use Rattle.std.proofs.Common.{◌≡◌, ℕ, true, false, List, [], ◌∷◌, ◌++◌, length, Contains, Option, Some, refl, sym, ap, ◌∙◌, subst}
 use Rattle.std.specs.Prelude.{option_and_then, slice_get}
 use Rattle.std.specs.Option.{option_map_or}
 use Rattle.std.proofs.lemmas.Option.{same_Some}
@@ -32,8 +32,8 @@ use Rattle.traces.specs.Runs.{Supplied}
 use Rattle.traces.specs.Outcomes.{Result, got}
 use Rattle.use_chains.specs.Slots.{is_value}
 use Rattle.module_semantics.specs.Setting.{Setting}
-use Rattle.module_semantics.specs.State.{Root, own, Conf}
-use Rattle.module_semantics.specs.Operands.{value_at, pointer_at, arg}
+use Rattle.module_semantics.specs.State.{own, Conf}
+use Rattle.module_semantics.specs.Operands.{value_at, arg}
 use Rattle.module_semantics.specs.Steps.{step_kind}
 use Rattle.glsl_ast.specs.Tree.{Text, Expr, TranslationUnit}
 use Rattle.glsl_semantics.specs.Shapes.{Shape, Typed, typed}
@@ -45,8 +45,8 @@ use Rattle.expr_forward.specs.Kinds.{kind_in, kind_of}
 use Rattle.expr_forward.specs.Values.{value}
 use Rattle.function_text.specs.Functions.{FunctionPlan, written}
 use Rattle.unit_rules.specs.Unit.{IsUnitOf}
-use Rattle.fits_law.specs.State.{value_shape, target_shape}
-use Rattle.fits_law.specs.Typed.{IsLoad, IsTyped}
+use Rattle.fits_law.specs.State.{value_shape}
+use Rattle.fits_law.specs.Typed.{IsTyped}
 use Rattle.type_law.specs.Shaped.{AreConstants}
 use Rattle.agree_law.specs.Agree.{Naming, AreApart}
 use Rattle.agree_law.specs.Blocks.{IsOf, Stands}
@@ -56,8 +56,7 @@ use Rattle.agree_law.proofs.Machine.{machine}
 use Rattle.call_law.specs.Known.{IsFunctionOf, LendsWhole}
 use Rattle.plan_law.specs.InOrder.{IsAmong}
 use Rattle.path_law.specs.Chains.{AreLed, ChainsAreRight}
-use Rattle.path_law.specs.Parts.{shape_in, IsInput}
-use Rattle.path_law.specs.Walks.{writing, struct_names}
+use Rattle.path_law.specs.Walks.{writing}
 use Rattle.path_law.proofs.Walks.{IsNoBlock}
 use Rattle.typed_law.specs.Conforms.{IsConforming, IsConformingIn}
 use Rattle.typed_law.proofs.Lists.{or_left, or_right}
@@ -74,7 +73,7 @@ use Rattle.unit_law.proofs.Steps.{at_index}
 use Rattle.unit_law.proofs.Ways.{HaveKinds}
 use Rattle.formed_law.specs.Formed.{IsFormedFunction}
 use Rattle.naming_law.proofs.Keys.{S, key, names}
-use Rattle.meaning_law.proofs.Written.Placed.{as_of}
+use Rattle.naming_law.proofs.Firsts.{of_in}
 use Rattle.meaning_law.proofs.Written.Shapes.{shape_of_value}
 use Rattle.meaning_law.proofs.Insts.Asks.{LeftBy}
 use Rattle.meaning_law.proofs.Insts.Accessed.{Ways, IsStore, load_left, store_left}
@@ -149,7 +148,7 @@ module _ (m : ModuleState) (opts : Options) (right : IsConforming m opts.entry) 
   in_it = inside s opts.entry right f in_module
 
   of_it : IsOf i (insts_of f)
-  of_it = as_of (insts_of f) i (as_in (insts_of f) i there)
+  of_it = of_in (insts_of f) i (as_in (insts_of f) i there)
 
   -- T4: what is loaded is of a value type
   module _ (e : kind_of i.op ≡ kind.Load) where

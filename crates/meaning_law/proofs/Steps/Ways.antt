@@ -19,7 +19,7 @@ use Rattle.spv_module.specs.declared.inst.Function.{Function}
 use Rattle.spv_types.specs.Tree.{Tree, word}
 use Rattle.spv_types.specs.Types.{type_tree}
 use Rattle.spv_index.specs.Locals.{insts_of, inst_in, parameter_in, typed, local_type, type_in}
-use Rattle.spv_index.specs.Pointers.{as_pointer, pointer, storage_class, pointee, pointee_of}
+use Rattle.spv_index.specs.Pointers.{as_pointer, storage_class, pointee, pointee_of}
 use Rattle.conformance.specs.Rules.{Options}
 use Rattle.module_check.specs.Judged.{IsFine}
 use Rattle.module_check.specs.ReadFrom.{IsReadFrom}
@@ -46,6 +46,7 @@ use Rattle.expr_forward.specs.Scope.{Scope}
 use Rattle.function_text.specs.Functions.{FunctionPlan, written}
 use Rattle.unit_rules.specs.Translation.{id_text, global_expr}
 use Rattle.unit_rules.specs.Unit.{source_of, IsUnitOf}
+use Rattle.list_law.proofs.Options.{no_some}
 use Rattle.type_law.specs.Shaped.{AreConstants}
 use Rattle.agree_law.specs.Agree.{Naming, Agree}
 use Rattle.agree_law.specs.Blocks.{IsOf, have_result}
@@ -62,6 +63,7 @@ use Rattle.plan_law.proofs.Order.{found}
 use Rattle.typed_law.specs.Conforms.{IsConforming, IsConformingIn}
 use Rattle.typed_law.proofs.Lists.{clash}
 use Rattle.typed_law.proofs.Values.{inside, own_local}
+use Rattle.ruled_law.proofs.Ruled.{class_pointed}
 use Rattle.claim_law.specs.Claimed.{IsIn}
 use Rattle.claim_law.proofs.Constants.{found_in}
 use Rattle.claim_law.proofs.Listed.{any_in, at_place}
@@ -85,18 +87,16 @@ use Rattle.meaning_law.proofs.Outside.Constants.{IsMentioned as IsListed, index_
 use Rattle.meaning_law.proofs.Outside.Starts.{no_module, variable_start, own_start, parameter_start}
 use Rattle.meaning_law.proofs.Outside.Text.{P as program_in}
 use Rattle.meaning_law.proofs.Written.Done.{linked_before, done_before}
-use Rattle.meaning_law.proofs.Written.Placed.{chain_step, as_of}
+use Rattle.meaning_law.proofs.Written.Placed.{chain_step}
 use Rattle.meaning_law.proofs.Steps.Indexes.{no_names, no_structs, number as is_number, own_shape, kept_shape, counted, is_kept, written_so, own_none, stands_there}
 use Rattle.unit_law.proofs.ResultShapes.{constant_shaped}
 use Rattle.constant_law.proofs.Written.{no_pointee}
 use Rattle.formed_law.proofs.Blocks.{reached_body, reached_only}
 use Rattle.formed_law.proofs.Inner.{is_inner, accepted_inner}
+use Rattle.naming_law.proofs.Firsts.{of_in}
 use Rattle.structure_rules.specs.Graph.{graph}
 use Rattle.meaning_law.proofs.Insts.New.{split_behind}
 use Rattle.meaning_law.proofs.Steps.Operands.{IsKeptBy, mentioned, no_phi_here}
-
-no_some : {A B : Type 0} (a : A) → None ≡ Some a → B
-no_some a e = cc
 
 -- what makes a pointer and no chain is a variable
 variable_made : (q : steps.StepKind) → makes_pointer q ≡ true → (q ≡ steps.chain) ⊎ (q ≡ steps.variable)
@@ -110,13 +110,6 @@ none_chain n (x ∷ xs) j none (inl here) on same = none.0 (ap (λ (i : Inst). i
 none_chain n (x ∷ xs) j none (inr later) on same = none_chain n xs j none.1 later on same
 
 -- a type that points to something is a pointer
-pointer_some : (gs : List Inst) (ty q : ℕ) → pointee gs ty ≡ Some q → is_some (storage_class gs ty) ≡ true
-pointer_some gs ty q is = by_pointer (pointer gs ty) is
-  where
-    by_pointer : (x : Option Inst) → option_map (λ (g : Inst). slice_index g.args 1) x ≡ Some q → is_some (option_map (λ (g : Inst). slice_index g.args 0) x) ≡ true
-    by_pointer None e = cc
-    by_pointer (Some g) e = refl
-
 pointer_holds : (gs : List Inst) (ty : ℕ) → is_some (storage_class gs ty) ≡ true → fails rows.is_pointer gs ty ≡ false
 pointer_holds gs ty on = by_global (global gs ty) on
   where
@@ -208,7 +201,7 @@ module _ (bytes : List ℕ) (m : ModuleState) (o : Options) (read : IsReadFrom b
         ruled = Chains q q_in chain
 
         of_it : IsOf q (insts_of Fn)
-        of_it = as_of (insts_of Fn) q q_in
+        of_it = of_in (insts_of Fn) q q_in
 
         abbrev stands : (k : ℕ) × (holder : Block) × (slice_get Fn.blocks k ≡ Some holder) × IsIn q holder.insts
         stands = home s o.entry right kinds o unit u p among no_names its_structs Chains b r.block r.user q r.linked r.no_phi r.seen chain q_in
@@ -299,7 +292,7 @@ module _ (bytes : List ℕ) (m : ModuleState) (o : Options) (read : IsReadFrom b
             stands = stands.0;
             block = stands.1;
             in_block = stands.2;
-            inst = as_of stands.1.insts q stands.3;
+            inst = of_in stands.1.insts q stands.3;
             made = λ same. done_here (test_same stands.0 b same);
             own = no_module bytes m o read fine unit u inv told left p among q.result (own_local s o.entry right Fn in_mod q (as_among (insts_of Fn) q q_in));
             base_shape = λ ty points. (ruled.leads.1, ap (type_tree gs) (same_Some ty ruled.leads.0 (sym points ∙ ruled.leads.2)) ∙ ruled.leads.3);
@@ -333,7 +326,7 @@ module _ (bytes : List ℕ) (m : ModuleState) (o : Options) (read : IsReadFrom b
           where
             by_type : (x : Option ℕ) → option_and_then (pointee gs) x ≡ Some r.points.0 → is_some (option_and_then (storage_class gs) x) ≡ true
             by_type None is = cc
-            by_type (Some ty) is = pointer_some gs ty r.points.0 is
+            by_type (Some ty) is = class_pointed gs ty r.points.0 is
 
         by_parameter : is_parameter Fn n ≡ true → Begins Fn
         by_parameter on =
@@ -346,7 +339,7 @@ module _ (bytes : List ℕ) (m : ModuleState) (o : Options) (read : IsReadFrom b
             subst Begins same_function
             (own_start bytes m o read fine unit u inv told left p among calls z b done n
             (subst (λ (g : Function). (not (is_parameter g n) && is_own_memory g n) ≡ true) (sym same_function)
-            (and_from (not (is_parameter Fn n)) (is_own_memory Fn n) (ap not off) (ap (is_own_memory Fn) (sym same) ∙ rules.memory Fn one j (as_of (insts_of Fn) j j_in) step))))
+            (and_from (not (is_parameter Fn n)) (is_own_memory Fn n) (ap not off) (ap (is_own_memory Fn) (sym same) ∙ rules.memory Fn one j (of_in (insts_of Fn) j j_in) step))))
 
         by_inst : (x : Option Inst) → inst_in Fn n ≡ x → is_parameter Fn n ≡ false → type_in gs Fn n ≡ option_and_then typed x → Begins Fn
         by_inst None made off type_is = absurd (clash (sym pointing ∙ ap (λ (y : Option ℕ). is_some (option_and_then (storage_class gs) y)) type_is))
@@ -360,7 +353,7 @@ module _ (bytes : List ℕ) (m : ModuleState) (o : Options) (read : IsReadFrom b
 
             by_step : IsIn j (insts_of Fn) → j.result ≡ n → (t : Bool) → makes_pointer (step_kind j.op) ≡ t → Begins Fn
             by_step j_in same true on = by_kind j_in same (variable_made (step_kind j.op) on)
-            by_step j_in same false makes_none = absurd (clash (sym pointing ∙ (ap (is_pointer gs Fn) (sym same) ∙ rules.values Fn one j (as_of (insts_of Fn) j j_in) makes_none)))
+            by_step j_in same false makes_none = absurd (clash (sym pointing ∙ (ap (is_pointer gs Fn) (sym same) ∙ rules.values Fn one j (of_in (insts_of Fn) j j_in) makes_none)))
 
         by_local : global gs n ≡ None → (x : Option ℕ) → parameter_in Fn n ≡ x → Begins Fn
         by_local local (Some y) is = by_parameter (ap is_some is)

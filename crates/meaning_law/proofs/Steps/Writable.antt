@@ -1,6 +1,6 @@
 -- Nothing is stored to what is built in: a pointer that leads there is of the class of the variable, since chains go on in the class of their base, and through that class nothing is written.
-use Rattle.std.proofs.Common.{◌≡◌, ◌⊎◌, ◌==◌, ◌<◌, ◌&&◌, ◌||◌, not, ℕ, zero, suc, Bool, true, false, List, [], ◌∷◌, length, drop, Contains, Option, Some, None, inl, inr, refl, sym, ap, ◌∙◌, subst, arith, if◌then◌else◌}
-use Rattle.std.specs.Prelude.{option_map, option_and_then, is_some}
+use Rattle.std.proofs.Common.{◌≡◌, ◌==◌, ◌<◌, ◌||◌, not, ℕ, zero, suc, Bool, true, false, List, [], ◌∷◌, drop, Contains, Option, Some, None, inl, inr, refl, sym, ap, ◌∙◌, subst, arith}
+use Rattle.std.specs.Prelude.{option_map, option_and_then}
 use Rattle.std.specs.Option.{option_map_or, option_or}
 use Rattle.std.specs.List.{list_any}
 use Rattle.std.proofs.lemmas.List.Elements.{Contains-append_left}
@@ -10,11 +10,10 @@ use Rattle.spv_ops.specs.Opcode.{is}
 use Rattle.spv_ops.specs.Enumerants.{class_number}
 use Rattle.spv_ops.specs.declared.Op.TheVariants as code
 use Rattle.spv_ops.specs.declared.StorageClass.TheVariants as storage
-use Rattle.spv_module.specs.Held.{global}
 use Rattle.spv_module.specs.declared.inst.Inst.{Inst}
 use Rattle.spv_module.specs.declared.inst.Function.{Function}
 use Rattle.spv_types.specs.Tree.{Tree}
-use Rattle.spv_types.specs.Types.{type_tree, tree_at}
+use Rattle.spv_types.specs.Types.{type_tree}
 use Rattle.spv_decor.specs.Decorations.{local_insts}
 use Rattle.spv_decor.specs.Rows.{word}
 use Rattle.spv_index.specs.Locals.{insts_of, type_in, typed, local_type}
@@ -33,7 +32,7 @@ use Rattle.profile_rules.specs.Variables.{classes, is_other_class, is_misclassed
 use Rattle.traces.specs.Runs.{Supplied}
 use Rattle.traces.specs.Outcomes.{Result}
 use Rattle.module_semantics.specs.Setting.{Setting, global_variable}
-use Rattle.module_semantics.specs.State.{Root, global as of_global, own, lent, Held, value, pointer, Conf}
+use Rattle.module_semantics.specs.State.{Root, global as of_global, own, Held, value, pointer, Conf}
 use Rattle.module_semantics.specs.Operands.{of_module, as_pointer, pointer_at, Target, arg}
 use Rattle.module_semantics.specs.Steps.{base}
 use Rattle.name_alloc.specs.declared.claims.Key.{Key}
@@ -41,7 +40,7 @@ use Rattle.glsl_ast.specs.Tree.{Text, Expr}
 use Rattle.glsl_semantics.specs.Shapes.{Typed}
 use Rattle.glsl_semantics.specs.States.{State}
 use Rattle.glsl_semantics.specs.Expressions.{Program, Argument}
-use Rattle.fits_law.specs.State.{target_shape}
+use Rattle.list_law.proofs.Lists.{none_within, empty_of}
 use Rattle.type_law.specs.Shaped.{AreConstants, HasConstants}
 use Rattle.type_law.proofs.Chains.{chain_pointer, HaveTypes}
 use Rattle.type_law.proofs.Parts.{row}
@@ -56,7 +55,7 @@ use Rattle.path_law.specs.Chains.{ChainsRise, IsLed, AreLed, ChainsAreRight}
 use Rattle.path_law.specs.Parts.{IsInput}
 use Rattle.path_law.specs.Starts.{IsStart}
 use Rattle.path_law.specs.Walks.{writing}
-use Rattle.path_law.specs.Writings.{IsWrittenStart, IsWrittenChain}
+use Rattle.path_law.specs.Writings.{IsWrittenChain}
 use Rattle.path_law.proofs.Asked.{IsWrittenSo}
 use Rattle.path_law.proofs.Based.{chain_op, rank, base_lower}
 use Rattle.path_law.proofs.Reached.{IsRightChain}
@@ -68,13 +67,6 @@ use Rattle.typed_law.proofs.Lists.{or_left, or_right, and_off, clash, none_by, n
 use Rattle.typed_law.proofs.Values.{same_count, typed_is, global_typed_some}
 use Rattle.unit_law.proofs.Shaped.{pointer_none}
 use Rattle.meets_law.proofs.ArrayLengths.{variable_typed}
-
-empty_of : (xs : List ℕ) → ((at : ℕ) → Contains xs at → ⊥) → xs ≡ []
-empty_of [] none = refl
-empty_of (x ∷ xs) none = absurd (none x (0, (let some : 0 < suc (length xs) = omega arith in some), refl))
-
-none_within : (at : ℕ) → Contains [] at → ⊥
-none_within at has = let less = has.1 in omega (arith, less)
 
 no_some : {A : Type 0} {a : A} → None ≡ Some a → ⊥
 no_some e = cc

@@ -24,6 +24,7 @@ use Rattle.expr_forward.specs.Scope.{Scope}
 use Rattle.function_text.specs.Functions.{FunctionPlan, function_key, function_name, function_decl}
 use Rattle.unit_rules.specs.Translation.{text_of, IsPlanOf}
 use Rattle.unit_rules.specs.Unit.{item_names_of, source_of, called, has_id, plan_at, in_order, IsUnitOf}
+use Rattle.list_law.proofs.Tests.{neither as both_off}
 use Rattle.lowering_law.specs.BuiltIns.{NoneDeclared}
 use Rattle.global_law.proofs.Blocks.{items_more}
 use Rattle.constant_law.specs.Items.{AreAsked}
@@ -87,9 +88,6 @@ pub record IsReserved (v : Text) : Type 0 where
 free_other : (v : Text) → IsReserved v → (w : Text) → IsFree w → bytes_eq v w ≡ false
 free_other v is w free = by_test (bytes_eq v w) refl
   where
-    both_off : (a b : Bool) → a ≡ false → b ≡ false → (a || b) ≡ true → ⊥
-    both_off a b no_a no_b on = cc
-
     by_test : (t : Bool) → bytes_eq v w ≡ t → t ≡ false
     by_test false same = refl
     by_test true same = absurd (both_off (is_word w) (has_prefix w) free.word free.prefix (subst (λ (x : Text). (is_word x || has_prefix x) ≡ true) ((bytes_eq-Decides v w).0 same) is.reserved))

@@ -29,6 +29,7 @@ use Rattle.function_plan.specs.Phis.{is_gone}
 use Rattle.function_text.specs.Functions.{FunctionPlan, written}
 use Rattle.function_text.specs.Live.{is_composite_type, is_composite}
 use Rattle.unit_rules.specs.Unit.{claims_by, liveness_of, source_of, IsUnitOf}
+use Rattle.list_law.proofs.Options.{no_some}
 use Rattle.call_law.specs.Known.{LendsWhole}
 use Rattle.fits_law.specs.State.{value_shape}
 use Rattle.lowering_law.specs.Arguments.{IsBasic}
@@ -63,9 +64,6 @@ composite_op plain.boolean far = absurd (far tt)
 composite_op plain.int far = absurd (far tt)
 composite_op plain.uint far = absurd (far tt)
 composite_op (plain.vector e n) far = absurd (far tt)
-
-no_some : {A B : Type 0} (a : A) → None ≡ Some a → B
-no_some a e = cc
 
 as_parameter : (ps : List (IdOf × IdOf)) (q : IdOf × IdOf) → IsIn q ps → IsParameter q ps
 as_parameter [] q among = absurd among

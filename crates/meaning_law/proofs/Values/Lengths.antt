@@ -1,10 +1,9 @@
 -- OpArrayLength is of a block with a runtime array (T7), which stands in the text; so its expression says the length that the array has.
-use Rattle.std.proofs.Common.{◌≡◌, ◌++◌, ◌⊎◌, ◌<◌, ◌==◌, ◌&&◌, ◌||◌, not, ℕ, Bool, true, false, List, [], length, Contains, Option, Some, None, inl, inr, refl, sym, ap, ◌∙◌, subst, arith}
+use Rattle.std.proofs.Common.{◌≡◌, ◌++◌, ◌⊎◌, ◌<◌, ◌==◌, ◌&&◌, ◌||◌, not, ℕ, Bool, true, false, List, [], length, Contains, Option, Some, None, inl, inr, refl, sym, ap, ◌∙◌, subst}
 use Rattle.std.specs.Prelude.{is_some, nat_lt, option_map, option_and_then, slice_index}
 use Rattle.std.specs.Option.{option_map_or}
 use Rattle.std.specs.List.{enumerate_from, list_any}
 use Rattle.std.proofs.lemmas.Bool.{and_parts, and_from, not-false}
-use Rattle.std.proofs.lemmas.Bool.Decides.{nat_tests}
 use Rattle.std.proofs.lemmas.Option.{same_Some}
 use Rattle.spv_ops.specs.Opcode.{is}
 use Rattle.spv_ops.specs.Enumerants.{class_number}
@@ -55,6 +54,9 @@ use Rattle.expr_forward.specs.Values.{expression}
 use Rattle.function_text.specs.Functions.{FunctionPlan, written}
 use Rattle.unit_rules.specs.Translation.{id_text, global_expr}
 use Rattle.unit_rules.specs.Unit.{source_of, item_names_of, IsUnitOf}
+use Rattle.list_law.proofs.Numbers.{less_of}
+use Rattle.list_law.proofs.Tests.{clash}
+use Rattle.list_law.proofs.Options.{none_some}
 use Rattle.plan_law.specs.InOrder.{IsAmong}
 use Rattle.fits_law.specs.State.{ConfFits}
 use Rattle.fits_law.proofs.Steps.{named}
@@ -93,15 +95,6 @@ use Rattle.meaning_law.proofs.Written.KnownValues.{shapes_are}
 use Rattle.meaning_law.proofs.Written.Mentions.{length_op}
 use Rattle.meaning_law.proofs.Values.Known.{AreLengthsSaid}
 use Rattle.meaning_law.proofs.Values.RuntimeMembers.{no_runtime, IsRuntimeMember, runtime_member}
-
-clash : {A : Type 0} → true ≡ false → A
-clash e = cc
-
-none_some : {A B : Type 0} {a : A} → None ≡ Some a → B
-none_some e = cc
-
-less_of : (a b : ℕ) → nat_lt a b ≡ true → a < b
-less_of a b e = grind (arith, nat_tests, e)
 
 length_typed : (q : Op) → q ≡ code.ArrayLength → has_type q ≡ true
 unfolding shape

@@ -23,6 +23,7 @@ use Rattle.profile_rules.specs.TypeForm.{parts_of, pointees, value_types, signat
 use Rattle.profile_rules.specs.TypeRows.{is_runtime_array, fails}
 use Rattle.module_semantics.specs.Setting.{Setting}
 use Rattle.module_semantics.specs.Memory.{part_by, part_type}
+use Rattle.list_law.proofs.Tests.{clash}
 use Rattle.plan_law.specs.InOrder.{IsAmong}
 use Rattle.plan_law.proofs.Order.{among_left as inst_left}
 use Rattle.fits_law.specs.Takes.{nth_of}
@@ -36,16 +37,12 @@ use Rattle.typed_law.proofs.Shapes.{row_of_shape}
 use Rattle.typed_law.proofs.Types.{row_is}
 use Rattle.typed_law.proofs.Used.{among_left, among_flat, struct_part, pointee_among}
 use Rattle.path_law.proofs.Types.{struct_args}
+use Rattle.places_law.proofs.Blocks.{struct_part_by}
 
 runtime_kind : (o : Op) → is o code.TypeRuntimeArray ≡ true → kind o ≡ kinds.Runtime
 unfolding kind number
 runtime_kind code.TypeRuntimeArray on = refl
 runtime_kind o on = cc
-
-struct_by : (o : Op) (args : List ℕ) (k : ℕ) → is o code.TypeStruct ≡ true → part_by o args k ≡ slice_index args k
-unfolding number
-struct_by code.TypeStruct args k on = refl
-struct_by o args k on = cc
 
 runtime_of : (o : Option Tree) (u : Tree) → option_map plain.runtime o ≡ Some u → (e : Tree) × (u ≡ plain.runtime e)
 runtime_of None u is = cc
@@ -76,9 +73,6 @@ module _ (m : ModuleState) (entry : Option (List ℕ)) (right : IsConforming m e
       (among_left (flat_map (fixed_parts m) Gs ++ pointees m (λ x. true)) (value_types m) h.result
       (among_left (flat_map (fixed_parts m) Gs) (pointees m (λ x. true)) h.result (among_flat (fixed_parts m) Gs g h.result (found_in Gs q g at) fixed))) in
       false_from_ne_true (is h.op code.TypeRuntimeArray) (λ is_one. clash (sym (and_from (is h.op code.TypeRuntimeArray) (is_among (runtime_misuses m) h.result) is_one runtimes) ∙ or_right (((is h.op code.TypeStruct) && is_block m.heads h.result) && is_among (block_misuses m) h.result) ((is h.op code.TypeRuntimeArray) && is_among (runtime_misuses m) h.result) (used_type m entry right h h_there)))
-    where
-      clash : {A : Type 0} → true ≡ false → A
-      clash e = cc
 
 module _ (s : Setting) (entry : Option (List ℕ)) (right : IsConforming s.of entry) (f : Function) (in_it : Contains s.of.functions f) where
   abbrev Gs' : List Inst
@@ -97,7 +91,7 @@ module _ (s : Setting) (entry : Option (List ℕ)) (right : IsConforming s.of en
       let here : tree_at Gs' g ≡ Some (plain.struct id parts) = ap (λ (o : Option Inst). option_map_or (tree_at Gs') o None) (sym at) ∙ shape in
       let args = struct_args s (tree_before Gs' g.at) g id parts (ap (tree_by_kind Gs' (tree_before Gs' g.at) g) (sym (struct_kind g.op struct)) ∙ here) in
       let u = all_nth (tree_before Gs' g.at) g.args parts k args less in
-      let part_is : part_type s ty k ≡ word g k = ap (λ (o : Option Inst). option_map_or (λ (x : Inst). part_by x.op x.args k) o 0) at ∙ struct_by g.op g.args k struct in
+      let part_is : part_type s ty k ≡ word g k = ap (λ (o : Option Inst). option_map_or (λ (x : Inst). part_by x.op x.args k) o 0) at ∙ struct_part_by g.op g.args k struct in
       let tree : type_tree Gs' (word g k) ≡ Some u.0 = sym (ap (type_tree Gs') part_is) ∙ part_leads s ty k (plain.struct id parts) u.0 shape u.2 in
       let h = row_of_shape s entry right f in_it (word g k) u.0 tree in
       let on : is h.0.op code.TypeRuntimeArray ≡ true = not-false (is_runtime_array h.0) (ap (λ (o : Option Inst). option_map_or (λ (x : Inst). not (is_runtime_array x)) o false) (sym (row_is s.of entry right (word g k) h.0 h.1 h.2)) ∙ off) in

@@ -4,6 +4,7 @@ use Rattle.std.specs.Prelude.{◌⊎◌, IsSomeAnd}
 use Rattle.std.specs.Option.{option_map_or}
 use Rattle.std.proofs.lemmas.Bool.Decides.{eqb_tells}
 use Rattle.std.proofs.lemmas.Bool.{not-false}
+use Rattle.std.proofs.lemmas.Option.{same_Some}
 use Rattle.spv_ops.specs.Opcode.{is}
 use Rattle.spv_ops.specs.Groups.{is_type}
 use Rattle.spv_ops.specs.Enumerants.{model_number}
@@ -23,12 +24,13 @@ use Rattle.module_check.specs.ReadFrom.{IsReadFrom}
 use Rattle.traces.specs.Invocations.{Invocation}
 use Rattle.name_alloc.specs.declared.claims.Key.TheVariants.{Main, Id}
 use Rattle.name_alloc.specs.Naming.{name_of}
-use Rattle.glsl_ast.specs.Tree.{Text, TranslationUnit}
+use Rattle.glsl_ast.specs.Tree.{TranslationUnit}
 use Rattle.text_rules.specs.Declarations.{type_at}
 use Rattle.expr_forward.specs.Scope.{Scope, globals}
 use Rattle.expr_forward.specs.Statements.{is_void_in, is_void}
 use Rattle.function_text.specs.Functions.{FunctionPlan, written, function_name, param_text, result_type}
 use Rattle.unit_rules.specs.Unit.{IsUnitOf}
+use Rattle.list_law.proofs.Numbers.{number_same}
 use Rattle.call_law.specs.Known.{IsFunctionOf}
 use Rattle.function_law.specs.Texts.{IsText}
 use Rattle.typed_law.proofs.Lists.{or_left, or_right, and_off}
@@ -50,9 +52,6 @@ no_elements n (p ∷ ps) size off = by_test (n == 0) (eqb_tells n 0) off
     by_test b (inl w) off = let none : suc (length ps) ≡ 0 = size ∙ w.1 in absurd (omega (arith, none))
     by_test true (inr w) off = cc
     by_test false (inr w) off = cc
-
-one_text : (x y : Text) → Some x ≡ Some y → x ≡ y
-one_text x y e = cc
 
 module _ (bytes : List ℕ) (m : ModuleState) (o : Options) (read : IsReadFrom bytes m) (fine : IsFine m o) (unit : TranslationUnit) (u : IsUnitOf m o unit) (inv : Invocation) where
   -- P8
@@ -115,7 +114,4 @@ module _ (bytes : List ℕ) (m : ModuleState) (o : Options) (read : IsReadFrom b
       by_void w false at on = cc
 
   pub is_main : function_name p.scope ≡ codes "main"
-  is_main = one_text (function_name p.scope) (codes "main") (sym (named_so m o unit u inv p entry_plan.among) ∙ (ap (λ (b : Bool). name_of u.claimed (if b then Main else Id (written p).id)) (itself (written p).id.0 u.entry entry_id) ∙ main_is m o unit u))
-    where
-      itself : (a b : ℕ) → a ≡ b → (a == b) ≡ true
-      itself a b same = elim (eqb_tells a b) [ inl w ↦ w.0 | inr w ↦ absurd (w.1 same) ]
+  is_main = same_Some (function_name p.scope) (codes "main") (sym (named_so m o unit u inv p entry_plan.among) ∙ (ap (λ (b : Bool). name_of u.claimed (if b then Main else Id (written p).id)) (number_same (written p).id.0 u.entry entry_id) ∙ main_is m o unit u))

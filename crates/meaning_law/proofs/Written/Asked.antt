@@ -28,6 +28,7 @@ use Rattle.glsl_semantics.specs.States.{State, Thing}
 use Rattle.glsl_semantics.specs.Expressions.{Program, Argument, literal_value, evaluate}
 use Rattle.glsl_semantics.specs.Statements.{is_case, is_selector}
 use Rattle.glsl_semantics.specs.Run.{calls_of}
+use Rattle.list_law.proofs.Tests.{no_flip}
 use Rattle.write_law.specs.Writes.{IsWithin}
 use Rattle.region_law.specs.Leads.{table, return}
 use Rattle.region_law.specs.Leads as ending
@@ -82,10 +83,6 @@ use Rattle.meaning_law.proofs.Written.Ends.{gives_nothing, gives_some, number_sh
 elem_by : (f : ℕ → Option Tree) (x : Option ℕ) (t : Tree) → option_and_then f x ≡ Some t → option_and_then elem_of (f (unwrap_or x 0)) ≡ elem_of t
 elem_by f None t is = cc
 elem_by f (Some ty) t is = ap (option_and_then elem_of) is
-
-no_flip : {A : Type 0} (t : Bool) → t ≡ true → t ≡ false → A
-no_flip true on off = cc
-no_flip false on off = cc
 
 module _ (m : ModuleState) (opts : Options) (unit : TranslationUnit) (u : IsUnitOf m opts unit) (inv : Invocation) (p : FunctionPlan) (among : IsIn p u.plans) where
   abbrev s : Setting

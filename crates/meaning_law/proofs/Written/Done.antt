@@ -1,5 +1,5 @@
 -- What makes a value stands before what mentions it; so in the block of both it is done before that.
-use Rattle.std.proofs.Common.{◌≡◌, ◌≤◌, ◌<◌, ◌+◌, ◌&&◌, ◌||◌, ℕ, zero, suc, Bool, true, false, List, [], ◌∷◌, ◌++◌, append_assoc, length, Some, inl, inr, refl, sym, ap, ◌∙◌, subst, arith}
+use Rattle.std.proofs.Common.{◌≡◌, ◌≤◌, ◌<◌, ◌+◌, ◌&&◌, ◌||◌, ℕ, zero, suc, Bool, true, false, List, [], ◌∷◌, ◌++◌, append_assoc, Some, inl, inr, sym, ap, ◌∙◌, subst, arith}
 use Rattle.std.specs.Prelude.{flat_map, slice_get, slice_index, slice_index_or}
 use Rattle.spv_ops.specs.Opcode.{is}
 use Rattle.spv_ops.specs.Operands.{is_id}
@@ -12,6 +12,9 @@ use Rattle.spv_index.specs.Locals.{insts_of, inst_in}
 use Rattle.profile_rules.specs.Operands.{need, is_there_in}
 use Rattle.use_chains.specs.Slots.{is_value, is_taken, is_slot, is_base}
 use Rattle.module_semantics.specs.Steps.{is_phi}
+use Rattle.list_law.proofs.Numbers.{no_less}
+use Rattle.list_law.proofs.Lists.{place_of}
+use Rattle.list_law.proofs.Tests.{not_both, and_left, and_right}
 use Rattle.agree_law.specs.Blocks.{IsOf}
 use Rattle.agree_law.specs.Points.{Body, behind}
 use Rattle.plan_law.specs.InOrder.{AreRising, IsOwn, AreInOrder}
@@ -23,23 +26,6 @@ use Rattle.unit_law.specs.Mentioned.{IsMentioned, IsLinked}
 use Rattle.unit_law.proofs.Links.{as_linked, linked_in}
 use Rattle.unit_law.proofs.Lists.{as_among}
 use Rattle.formed_law.specs.Formed.{ArePhis, IsFormedBlock}
-
-both_left : (a b : Bool) → (a && b) ≡ true → a ≡ true
-both_left true b on = refl
-both_left false b on = cc
-
-both_right : (a b : Bool) → (a && b) ≡ true → b ≡ true
-both_right true b on = on
-both_right false b on = cc
-
--- the word at a place of a list, and that there is one
-pub word_there : (xs : List ℕ) (k n : ℕ) → slice_get xs k ≡ Some n → (k < length xs) × (slice_index xs k ≡ n)
-word_there [] k n at = cc
-word_there (x ∷ xs) zero n at = let first : x ≡ n = cc in ((let low : zero < suc (length xs) = omega arith in low), first)
-word_there (x ∷ xs) (suc k) n at =
-    let later = word_there xs k n at in
-    let low = later.0 in
-    ((let less : suc k < suc (length xs) = omega (arith, low) in less), later.1)
 
 -- parts of a rising list rise
 rising_right : (n : ℕ) (xs ys : List Inst) → AreRising n (xs ++ ys) → (k : ℕ) × AreRising k ys
@@ -64,9 +50,6 @@ rising_low n [] j rising at = absurd at
 rising_low n (i ∷ is) j rising (inl same) = subst (λ (x : Inst). n ≤ x.at) same rising.0
 rising_low n (i ∷ is) j rising (inr at) = let more = rising_low (i.at + 1) is j rising.1 at in let first = rising.0 in omega (arith, more, first)
 
-no_less : (a b : ℕ) → a < b → b ≤ a → ⊥
-no_less a b less le = omega (arith, less, le)
-
 -- what stands at a lower word than an instruction of a rising list stands before it there
 before_it : (n : ℕ) (befores : List Inst) (i : Inst) (rest : List Inst) (j : Inst) → AreRising n (befores ++ i ∷ rest) → IsIn j (befores ++ i ∷ rest) → j.at < i.at → IsOf j befores
 before_it n [] i rest j rising (inl here) less = absurd (no_less j.at i.at less (subst (λ (x : Inst). i.at ≤ x.at) here (let itself : i.at ≤ i.at = omega arith in itself)))
@@ -77,11 +60,7 @@ before_it n (x ∷ befores) i rest j rising (inr there) less = inr (before_it (x
 -- of phis and others, one that is no phi is one of the others
 no_head : (hs xs : List Inst) (j : Inst) → ArePhis hs → is_phi j ≡ false → IsOf j (hs ++ xs) → IsOf j xs
 no_head [] xs j phis off one = one
-no_head (h ∷ hs) xs j phis off (inl here) = absurd (on_off (is_phi j) (subst (λ (x : Inst). is_phi x ≡ true) here phis.0) off)
-  where
-    on_off : (b : Bool) → b ≡ true → b ≡ false → ⊥
-    on_off true on off = cc
-    on_off false on off = cc
+no_head (h ∷ hs) xs j phis off (inl here) = absurd (not_both (is_phi j) (subst (λ (x : Inst). is_phi x ≡ true) here phis.0) off)
 no_head (h ∷ hs) xs j phis off (inr later) = no_head hs xs j phis.1 off later
 
 -- what is done is behind
@@ -99,10 +78,10 @@ module _ (m : ModuleState) (f : Function) (order : AreInOrder m f) where
   pub linked_before : (reached : List Bool) (block : ℕ) (i : Inst) (n : ℕ) → IsLinked f reached block i n → is i.op code.Phi ≡ false → (j : Inst) → inst_in f n ≡ Some j → (j.result ≡ 0 → ⊥) → j.at < i.at
   linked_before reached block i n w no_phi j made some =
       let own = found_in (insts_of f) n j made in
-      let slot = both_right (slice_index_or reached block false || is_base i w.arg) (is_slot f reached i w.arg) w.slot in
-      let names = both_left (is_id i.op i.args w.arg) (is_value i.op w.arg && is_taken f reached i w.arg) slot in
-      let value = both_left (is_value i.op w.arg) (is_taken f reached i w.arg) (both_right (is_id i.op i.args w.arg) (is_value i.op w.arg && is_taken f reached i w.arg) slot) in
-      let word = word_there i.args w.arg n w.word in
+      let slot = and_right (slice_index_or reached block false || is_base i w.arg) (is_slot f reached i w.arg) w.slot in
+      let names = and_left (is_id i.op i.args w.arg) (is_value i.op w.arg && is_taken f reached i w.arg) slot in
+      let value = and_left (is_value i.op w.arg) (is_taken f reached i w.arg) (and_right (is_id i.op i.args w.arg) (is_value i.op w.arg && is_taken f reached i w.arg) slot) in
+      let word = place_of i.args w.arg n w.word in
       let there : is_there_in m f i.at (need i.op w.arg) (slice_index i.args w.arg) ≡ true
       = operand_there (is_there_in m f i.at) i (order.there i (as_among (insts_of f) i (linked_in f reached block i n w))) w.arg word.0 names in
       before_of m f i.at n i.op w.arg j value no_phi

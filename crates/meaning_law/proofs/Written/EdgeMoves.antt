@@ -4,6 +4,7 @@ use Rattle.std.specs.Option.{option_map_or}
 use Rattle.std.proofs.lemmas.Bool.Decides.{eqb_tells}
 use Rattle.std.proofs.lemmas.List.{reverse-append}
 use Rattle.std.proofs.lemmas.List.Elements.{Contains-get_or}
+use Rattle.std.proofs.lemmas.Option.{same_Some}
 use Rattle.phi_copies.specs.declared.moves.Var.{Var}
 use Rattle.phi_copies.specs.declared.moves.Src.{Src}
 use Rattle.phi_copies.specs.declared.moves.Src.TheVariants.{Var as Variable, Constant}
@@ -12,6 +13,7 @@ use Rattle.phi_copies.specs.declared.moves.Move.TheVariants.{Set, Save, Restore}
 use Rattle.phi_copies.specs.Sequence.{Pair, target, no_pair, pair_at, spare_of, saves, IsCopyNext, IsSaveNext, restored, copied, AreNext}
 use Rattle.phi_copies.proofs.Reading.{saves_cons}
 use Rattle.glsl_semantics.specs.Shapes.{Shape, uint, same_shape}
+use Rattle.list_law.proofs.Numbers.{number_itself}
 use Rattle.agree_law.specs.Agree.{Naming}
 use Rattle.edge_law.specs.Copies.{EdgeNames, IsSource, IsTyped, AreTyped, IsRead, Reads, AllReads}
 use Rattle.claim_law.specs.Claimed.{IsIn}
@@ -22,9 +24,6 @@ saved_in [] k = None
 saved_in (Set v s ∷ h) k = saved_in h k
 saved_in (Save j v ∷ h) k = if j == k then Some v.0 else saved_in h k
 saved_in (Restore v j ∷ h) k = saved_in h k
-
-same_some : (a b : ℕ) → Some a ≡ Some b → a ≡ b
-same_some a b e = cc
 
 no_some : {A : Type 0} (a : ℕ) → None ≡ Some a → A
 no_some a e = cc
@@ -65,11 +64,8 @@ told_save v h t = record {
 
     spare_by : (n k : ℕ) → (((v.0 == n) ≡ true) × (v.0 ≡ n)) ⊎ (((v.0 == n) ≡ false) × (v.0 ≡ n → ⊥)) → cond (v.0 == n) (Some (saves h)) (spare_of h n) ≡ Some k → saved_in (Save (saves h) v ∷ h) k ≡ Some n
     spare_by n k (inl w) is =
-        let here : saves h ≡ k = same_some (saves h) k (sym (ap (λ (b : Bool). cond b (Some (saves h)) (spare_of h n)) w.0) ∙ is) in
-        subst (λ (j : ℕ). saved_in (Save (saves h) v ∷ h) j ≡ Some n) here (ap (λ (b : Bool). if b then Some v.0 else saved_in h (saves h)) (itself (saves h)) ∙ ap (λ (j : ℕ). Some j) w.1)
-      where
-        itself : (j : ℕ) → (j == j) ≡ true
-        itself j = elim (eqb_tells j j) [ inl q ↦ q.0 | inr q ↦ absurd (q.1 refl) ]
+        let here : saves h ≡ k = same_Some (saves h) k (sym (ap (λ (b : Bool). cond b (Some (saves h)) (spare_of h n)) w.0) ∙ is) in
+        subst (λ (j : ℕ). saved_in (Save (saves h) v ∷ h) j ≡ Some n) here (ap (λ (b : Bool). if b then Some v.0 else saved_in h (saves h)) (number_itself (saves h)) ∙ ap (λ (j : ℕ). Some j) w.1)
     spare_by n k (inr w) is = later_is h t v k n (t.spare n k (sym (ap (λ (b : Bool). cond b (Some (saves h)) (spare_of h n)) w.0) ∙ is))
 
 module _ (ps : List Pair) where
@@ -141,11 +137,8 @@ module _ (ps : List Pair) where
           whole : Extends saved (Save (saves h) v ∷ h)
           whole = subst (λ (r : Move). Extends saved (r ∷ h)) c.move more
 
-          itself : (j : ℕ) → (j == j) ≡ true
-          itself j = elim (eqb_tells j j) [ inl w ↦ w.0 | inr w ↦ absurd (w.1 refl) ]
-
           by_place : IsIn q (m ∷ h) → IsMoveOf saved q
-          by_place (inl same) = subst (IsMoveOf saved) (sym c.move ∙ same) (pair_at ps c.at, pairs_there c.at c.first.holds.below, refl, whole (saves h) v.0 (ap (λ (b : Bool). if b then Some v.0 else saved_in h (saves h)) (itself (saves h))))
+          by_place (inl same) = subst (IsMoveOf saved) (sym c.move ∙ same) (pair_at ps c.at, pairs_there c.at c.first.holds.below, refl, whole (saves h) v.0 (ap (λ (b : Bool). if b then Some v.0 else saved_in h (saves h)) (number_itself (saves h))))
           by_place (inr later) = rest (λ k x is. whole k x (later_is h (told h next.1) v k x is)) q later
 
   in_reverse : (q : Move) (ms : List Move) → IsIn q ms → IsIn q (reverse ms)

@@ -4,7 +4,6 @@ use Rattle.std.specs.Prelude.{flat_map, slice_get, take_while}
 use Rattle.std.specs.Option.{option_map_or}
 use Rattle.std.specs.List.{list_any, prefix_len}
 use Rattle.spv_ops.specs.Opcode.{is, number}
-use Rattle.spv_ops.specs.OpGroups.{group_of}
 use Rattle.spv_ops.specs.Groups.{is_chain}
 use Rattle.spv_ops.specs.declared.Op.{Op}
 use Rattle.spv_ops.specs.declared.Op.TheVariants as code
@@ -31,6 +30,7 @@ use Rattle.expr_forward.specs.Scope.{Scope}
 use Rattle.function_plan.specs.Phis.{is_gone}
 use Rattle.function_text.specs.Functions.{FunctionPlan, is_hoisted}
 use Rattle.unit_rules.specs.Unit.{IsUnitOf}
+use Rattle.list_law.proofs.Tests.{and_off}
 use Rattle.agree_law.specs.Agree.{Naming}
 use Rattle.agree_law.specs.Blocks.{IsOf}
 use Rattle.function_law.specs.Edges.{HaveOwnResults, ArePhisOf}
@@ -41,6 +41,7 @@ use Rattle.typed_law.specs.Conforms.{IsConforming}
 use Rattle.typed_law.proofs.Lists.{clash}
 use Rattle.typed_law.proofs.Rules.{flow_right}
 use Rattle.typed_law.proofs.Values.{inside}
+use Rattle.typed_law.proofs.Others.{phi_group}
 use Rattle.claim_law.specs.Claimed.{IsIn}
 use Rattle.claim_law.proofs.Listed.{in_flat, at_place}
 use Rattle.unit_law.proofs.Lists.{as_among}
@@ -51,11 +52,6 @@ use Rattle.naming_law.specs.Names.{is_result, is_value_parameter}
 use Rattle.meaning_law.proofs.Written.EdgeSource.{one_source}
 use Rattle.meaning_law.proofs.Written.PhiLabels.{phi_labels}
 use Rattle.meaning_law.proofs.Written.Expressed.{phi_result, local_no_phi, unnamed_so}
-
-phi_group : (o : Op) → is o code.Phi ≡ true → group_of o ≡ groups.Phi
-unfolding group_of number
-phi_group code.Phi on = refl
-phi_group o on = cc
 
 phi_always : (o : Op) → is o code.Phi ≡ true → is_always_named o ≡ true
 unfolding number
@@ -72,10 +68,6 @@ hoisted_or_gone Hoisted local forwarded = refl
 hoisted_or_gone Gone local forwarded = refl
 hoisted_or_gone Local local forwarded = absurd (local refl)
 hoisted_or_gone Forwarded local forwarded = absurd (forwarded refl)
-
-second_off : (a b : Bool) → (a && b) ≡ false → a ≡ true → b ≡ false
-second_off true b off on = off
-second_off false b off on = cc
 
 -- the first instructions of a list that are phis
 abbrev led_by : Bool → Inst → List Inst → List Inst
@@ -175,7 +167,7 @@ module _ (s : Setting) (entry : Option (List ℕ)) (right : IsConforming s.of en
         let b = flow_right s.of entry right Fn (in_module s entry right kinds o unit u p among) i (as_among (insts_of Fn) i there) in
         let off : breaks_t22 s.of.heads gs (type_in gs Fn) Fn b.0 i ≡ false = ap (is_flow_broken s.of Fn b.0 i) (sym (phi_group i.op phi)) ∙ b.1 in
         let parts = three_off (is_no_value_type s.of.heads gs i.ty) (list_any (is_other gs (type_in gs Fn) i.ty) (every_second 0 i.args)) (is_from_elsewhere Fn b.0.label.0 i) off in
-        repeat_off Fn b.0.label.0 (every_second 1 i.args) (second_off (are_labels Fn (every_second 1 i.args)) (are_no_predecessors Fn b.0.label.0 (every_second 1 i.args)) parts.2 (phi_labels s.of Fn (ordered s entry right kinds o unit u p among) i (as_among (insts_of Fn) i there) phi))
+        repeat_off Fn b.0.label.0 (every_second 1 i.args) (and_off (are_labels Fn (every_second 1 i.args)) (are_no_predecessors Fn b.0.label.0 (every_second 1 i.args)) parts.2 (phi_labels s.of Fn (ordered s entry right kinds o unit u p among) i (as_among (insts_of Fn) i there) phi))
       where
         repeat_by : (a b c : Bool) → (a || b || c) ≡ false → b ≡ false
         repeat_by a b c off = (three_off a b c off).1

@@ -11,6 +11,7 @@ use Rattle.profile_rules.specs.FlowRules.{every_second, has_repeat}
 use Rattle.phi_copies.proofs.Reading.{as_number}
 use Rattle.function_plan.specs.Phis.{values_in, comes_from}
 use Rattle.module_semantics.specs.Steps.{source_from}
+use Rattle.list_law.proofs.Numbers.{odd_on}
 use Rattle.claim_law.specs.Claimed.{IsIn}
 use Rattle.unit_law.proofs.Lists.{none_passes}
 use Rattle.function_law.proofs.PhiSources.{comes_is}
@@ -24,9 +25,6 @@ seconds n ws = map (λ (o : ℕ × ℕ). o.1) (filter (λ (o : ℕ × ℕ). o.0 
 
 even_no : (n : ℕ) → (n % 2 == 0) ≡ true → (n % 2 == 1) ≡ false
 even_no n e = grind (arith, nat_tests, e)
-
-odd_on : (n : ℕ) → (n % 2 == 0) ≡ true → ((n + 1) % 2 == 1) ≡ true
-odd_on n e = grind (arith, nat_tests, e)
 
 even_after : (n : ℕ) → (n % 2 == 0) ≡ true → ((n + 1 + 1) % 2 == 0) ≡ true
 even_after n e = grind (arith, nat_tests, e)

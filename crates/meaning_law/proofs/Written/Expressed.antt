@@ -34,6 +34,7 @@ use Rattle.expr_forward.specs.Scope.{Scope}
 use Rattle.expr_forward.specs.Statements.{is_variable_form}
 use Rattle.function_text.specs.Functions.{FunctionPlan}
 use Rattle.unit_rules.specs.Unit.{IsUnitOf}
+use Rattle.list_law.proofs.Tests.{and_left}
 use Rattle.region_law.specs.Leads.{In}
 use Rattle.agree_law.specs.Blocks.{IsOf}
 use Rattle.block_law.specs.Ranked.{operand_ids}
@@ -50,7 +51,8 @@ use Rattle.unit_law.proofs.Shaped.{shaped_value}
 use Rattle.unit_law.proofs.Operands.{ids_at, same_ids}
 use Rattle.unit_law.proofs.Ways.{HaveKinds, F, R, V, in_module, plan_is, ordered}
 use Rattle.formed_law.proofs.Inner.{is_inner}
-use Rattle.meaning_law.proofs.Written.Placed.{chain_step, variable_step, value_no_pointer, as_of}
+use Rattle.naming_law.proofs.Firsts.{of_in}
+use Rattle.meaning_law.proofs.Written.Placed.{chain_step, variable_step, value_no_pointer}
 
 -- opcodes whose results stand in expressions
 kind_by : (o : Op) → has_type o ≡ true → is_chain o ≡ false → is o code.Variable ≡ false → is_always_named o ≡ false → ((step_kind o ≡ steps.operation) ⊎ (step_kind o ≡ steps.array_length)) × (is o code.Phi ≡ false)
@@ -239,10 +241,6 @@ formed_variable true true false on is = refl
 formed_variable true false hoisted on is = cc
 formed_variable false named hoisted on is = cc
 
-left_on : (a b : Bool) → (a && b) ≡ true → a ≡ true
-left_on true b on = refl
-left_on false b on = cc
-
 module _ (s : Setting) (entry : Option (List ℕ)) (right : IsConforming s.of entry) where
   -- what has a shape has a type
   pub no_zero : (ty : ℕ) (t : Tree) → type_tree s.of.globals ty ≡ Some t → ty ≡ 0 → ⊥
@@ -282,7 +280,7 @@ module _ (s : Setting) (entry : Option (List ℕ)) (right : IsConforming s.of en
       -- what has a variable is a value
       pub variable_value : is_variable_form (Where.form j.result) ≡ true → is_value gs j.ty ≡ true
       variable_value on =
-          left_on (is_value gs j.ty) (is_live P && (is_named_by_use gs Fn P || (own_height told.0 P == 17)))
+          and_left (is_value gs j.ty) (is_live P && (is_named_by_use gs Fn P || (own_height told.0 P == 17)))
           (variable_named (is_live P) (is_named gs Fn told.0 P) (is_hoisted Fn P) (sym (ap is_variable_form told.1) ∙ on))
 
       -- and it is live
@@ -327,7 +325,7 @@ module _ (s : Setting) (entry : Option (List ℕ)) (right : IsConforming s.of en
 
       module _ (lends : LendsWhole s) (is_one : IsFunctionOf Fn s.of.functions) where
         of_it : IsOf j (insts_of Fn)
-        of_it = as_of (insts_of Fn) j there
+        of_it = of_in (insts_of Fn) j there
 
         no_pointer : is_pointer gs Fn j.result ≡ false
         no_pointer = value_no_pointer gs Fn j.result j.ty t (own_type s entry right Fn (in_module s entry right kinds o unit u p among) j (as_among (insts_of Fn) j there) (no_zero s entry right j.ty t shaped)) shaped

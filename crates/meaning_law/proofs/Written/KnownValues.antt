@@ -7,7 +7,7 @@ use Rattle.spv_module.specs.State.{ModuleState}
 use Rattle.spv_module.specs.declared.inst.Inst.{Inst}
 use Rattle.spv_module.specs.declared.inst.Function.{Function}
 use Rattle.spv_types.specs.Tree as plain
-use Rattle.spv_types.specs.Tree.{Tree, ValueTree, word, truth, many}
+use Rattle.spv_types.specs.Tree.{Tree, ValueTree, word}
 use Rattle.spv_types.specs.Types.{elem_of, type_tree}
 use Rattle.op_semantics.specs.Fits.{fits, IsOfWords}
 use Rattle.conformance.specs.Rules.{Options}
@@ -17,8 +17,6 @@ use Rattle.module_semantics.specs.State.{global, value, pointer, Held, Conf}
 use Rattle.module_semantics.specs.Operands as operands
 use Rattle.module_semantics.specs.Operands.{of_module, value_at}
 use Rattle.glsl_ast.specs.Tree.{TranslationUnit}
-use Rattle.text_rules.specs.declared.readings.Reading.{Reading}
-use Rattle.text_rules.specs.declared.readings.Reading.TheVariants.{Plain}
 use Rattle.text_rules.specs.Constants.{is_constant, reading, plain_value}
 use Rattle.text_rules.specs.Declarations.{word_of}
 use Rattle.expr_forward.specs.Scope.{Scope}
@@ -32,31 +30,15 @@ use Rattle.path_law.specs.Parts.{shape_in}
 use Rattle.path_law.specs.Walks.{struct_names}
 use Rattle.global_law.specs.Sources.{source_of}
 use Rattle.global_law.proofs.Plain.{plain_has}
+use Rattle.global_law.proofs.Indexes.{plain_reading}
 use Rattle.typed_law.specs.Conforms.{IsConforming}
 use Rattle.typed_law.specs.Words.{IsSettingOfWords, IsStateOfWords}
 use Rattle.typed_law.proofs.Lists.{and_left, and_right}
+use Rattle.constant_law.proofs.Calculated.{number_value}
 use Rattle.claim_law.specs.Claimed.{IsIn}
 use Rattle.unit_law.proofs.Ways.{HaveKinds, F, V, Found, written_is}
 use Rattle.naming_law.proofs.Keys.{S, names}
 use Rattle.meaning_law.proofs.Written.Shapes.{shape_of_value, value_has}
-
-plain_reading : (r : Reading) → is_plain r ≡ true → r ≡ Plain
-plain_reading Plain e = refl
-plain_reading r e = cc
-
--- a number is a word
-number_value : (t : Tree) (v : ValueTree) → is_number (elem_of t) ≡ true → fits t v ≡ true → v ≡ word (word_of v)
-number_value plain.int (word a) on fit = refl
-number_value plain.uint (word a) on fit = refl
-number_value plain.int (truth b) on fit = cc
-number_value plain.int (many vs) on fit = cc
-number_value plain.uint (truth b) on fit = cc
-number_value plain.uint (many vs) on fit = cc
-number_value plain.boolean v on fit = cc
-number_value (plain.vector e n) v on fit = cc
-number_value (plain.array t l) v on fit = cc
-number_value (plain.runtime t) v on fit = cc
-number_value (plain.struct k ts) v on fit = cc
 
 no_global : {A : Type 0} (g : Inst) → None ≡ Some g → A
 no_global g e = cc

@@ -1,5 +1,5 @@
 -- What an instruction with an effect reads it mentions: it is live; so does a terminator its first operand, and a live OpArrayLength.
-use Rattle.std.proofs.Common.{◌≡◌, ◌≤◌, ◌+◌, ◌&&◌, ◌||◌, not, ℕ, Bool, true, false, List, [], ◌∷◌, length, Some, refl, ap, subst, arith}
+use Rattle.std.proofs.Common.{◌≡◌, ◌≤◌, ◌+◌, ◌&&◌, ℕ, Bool, true, false, List, [], ◌∷◌, length, Some, refl, ap, subst, arith}
 use Rattle.std.specs.Prelude.{slice_get, slice_index, slice_index_or}
 use Rattle.std.proofs.lemmas.Bool.{and_from}
 use Rattle.spv_ops.specs.Opcode.{is, number}
@@ -13,11 +13,8 @@ use Rattle.spv_module.specs.declared.inst.Inst.{Inst}
 use Rattle.spv_module.specs.declared.inst.Function.{Function}
 use Rattle.module_semantics.specs.Steps.{array_length, step_kind}
 use Rattle.use_chains.specs.Slots.{is_value, is_label_reached, is_taken, inst_at, IsLive}
+use Rattle.list_law.proofs.Tests.{unless}
 use Rattle.unit_law.specs.Mentioned.{IsMentioned}
-
-first_off : (a b : Bool) → a ≡ false → (not a || b) ≡ true
-first_off false b off = refl
-first_off true b off = cc
 
 -- an operand that is an id of a value, of a live instruction of a reached block that is no phi
 pub live_mentions : (f : Function) (reached : List Bool) (block place : ℕ) (i : Inst) → inst_at f block place ≡ Some i → slice_index_or reached block false ≡ true → IsLive f reached block place → is i.op code.Phi ≡ false
@@ -29,7 +26,7 @@ live_mentions f reached block place i there here live no_phi k n word names valu
   here = here;
   live = live;
   slot = and_from (is_id i.op i.args k) (is_value i.op k && is_taken f reached i k) names
-      (and_from (is_value i.op k) (is_taken f reached i k) value (first_off (is i.op code.Phi) (is_label_reached f reached (slice_index i.args (k + 1))) no_phi));
+      (and_from (is_value i.op k) (is_taken f reached i k) value (unless (is i.op code.Phi) (is_label_reached f reached (slice_index i.args (k + 1))) no_phi));
   word = word;
 }
 

@@ -19,10 +19,10 @@ use Rattle.profile_rules.specs.declared.needs.Need.{Need}
 use Rattle.profile_rules.specs.declared.needs.Need.TheVariants.{PhiValue, Label}
 use Rattle.profile_rules.specs.Operands.{need, suits, is_there_in}
 use Rattle.profile_rules.specs.FlowRules.{every_second, are_labels}
+use Rattle.list_law.proofs.Lists.{place_of}
 use Rattle.plan_law.specs.InOrder.{AreInOrder, IsAmong}
 use Rattle.typed_law.proofs.Lists.{from_zero}
 use Rattle.typed_law.proofs.Rules.{operand_there}
-use Rattle.meaning_law.proofs.Written.Done.{word_there}
 
 odd_no : (k : ℕ) → (k % 2 == 1) ≡ true → (k % 2 == 0) ≡ false
 odd_no k e = grind (arith, nat_tests, e)
@@ -61,7 +61,7 @@ phi_labels m f order i there phi = all_seconds (λ (w : ℕ). is_some (block_in 
   where
     each : (k w : ℕ) → slice_get i.args k ≡ Some w → ((0 + k) % 2 == 1) ≡ true → is_some (block_in f w) ≡ true
     each k w at odd =
-        let word = word_there i.args k w at in
+        let word = place_of i.args k w at in
         let same : 0 + k ≡ k = omega arith in
         let asks : need i.op k ≡ Label = phi_needs i.op k phi ∙ ap (λ (b : Bool). if b then PhiValue else Label) (odd_no k (ap (λ (x : ℕ). x % 2 == 1) (sym same) ∙ odd)) in
         label_there m f i.at w

@@ -1,5 +1,5 @@
 -- Where a value stands that an instruction of a block mentions: it has a variable at the top of the function, or it is made in the block, and has a variable there or stands in expressions.
-use Rattle.std.proofs.Common.{◌≡◌, ◌⊎◌, ◌==◌, ◌&&◌, ◌||◌, not, ℕ, Bool, true, false, List, [], ◌∷◌, Option, Some, None, is_some, inl, inr, refl, sym, ap, ◌∙◌, if◌then◌else◌}
+use Rattle.std.proofs.Common.{◌≡◌, ◌⊎◌, ◌==◌, ◌&&◌, ◌||◌, not, ℕ, Bool, true, false, List, Option, Some, None, is_some, inl, inr, refl, sym, ap, ◌∙◌, if◌then◌else◌}
 use Rattle.std.specs.Prelude.{slice_get, slice_index, option_map, option_and_then}
 use Rattle.std.specs.Option.{option_map_or, option_or}
 use Rattle.std.specs.List.{enumerate_from}
@@ -43,6 +43,7 @@ use Rattle.unit_law.proofs.Lists.{same_test, numbered_first}
 use Rattle.unit_law.proofs.Shaped.{pointer_none, shaped_value}
 use Rattle.unit_law.proofs.Ways.{HaveKinds, F, R, V, own_type_of, CountsIn, home, stands, reached_here}
 use Rattle.naming_law.specs.Names.{is_other, is_result, is_value_parameter, is_local_form}
+use Rattle.naming_law.proofs.Firsts.{of_in}
 
 -- opcodes that make pointers, and what their steps are
 pub chain_step : (o : Op) → is_chain o ≡ true → step_kind o ≡ steps.chain
@@ -55,12 +56,6 @@ pub variable_step : (o : Op) → is o code.Variable ≡ true → step_kind o ≡
 unfolding step_kind group_of number
 variable_step code.Variable on = refl
 variable_step o on = cc
-
--- the laws below speak of the same instructions by another word
-pub as_of : (is : List Inst) (j : Inst) → IsIn j is → IsOf j is
-as_of [] j in_it = absurd in_it
-as_of (k ∷ is) j (inl same) = inl same
-as_of (k ∷ is) j (inr in_it) = inr (as_of is j in_it)
 
 -- a value is no pointer
 pub value_no_pointer : (gs : List Inst) (f : Function) (n ty : ℕ) (t : Tree) → type_in gs f n ≡ Some ty → type_tree gs ty ≡ Some t → is_pointer gs f n ≡ false
@@ -123,7 +118,7 @@ module _ (s : Setting) (entry : Option (List ℕ)) (right : IsConforming s.of en
     own = found_in (insts_of Fn) n j by.made
 
     of_it : IsOf j (insts_of Fn)
-    of_it = as_of (insts_of Fn) j own.0
+    of_it = of_in (insts_of Fn) j own.0
 
     no_pointer : is_pointer gs Fn j.result ≡ false
     no_pointer = ap (is_pointer gs Fn) own.1 ∙ value_no_pointer gs Fn n j.ty t by.type_is by.shaped

@@ -1,7 +1,7 @@
 -- What the values of a block are written as says what they have: those that an instruction mentions which stands no later than the one that is next.
 use Rattle.std.proofs.Common.{◌≡◌, ◌⊎◌, ◌≤◌, ◌<◌, ◌==◌, ◌&&◌, ℕ, Bool, true, false, List, [], ◌∷◌, ◌++◌, Option, Some, None, unwrap_or, inl, inr, refl, sym, ap, ◌∙◌, subst, arith}
 use Rattle.std.specs.Prelude.{slice_get, slice_index_or, option_map, option_and_then}
-use Rattle.std.proofs.lemmas.Option.{same_Some}
+use Rattle.std.proofs.lemmas.Option.{same_Some, none-some}
 use Rattle.spv_ops.specs.OpGroups.{group_of}
 use Rattle.spv_module.specs.Held.{global}
 use Rattle.spv_module.specs.Lists.{id}
@@ -34,6 +34,7 @@ use Rattle.expr_forward.specs.Values.{value, expression}
 use Rattle.function_plan.specs.Planned.{is_named_in}
 use Rattle.function_text.specs.Functions.{FunctionPlan, is_hoisted}
 use Rattle.unit_rules.specs.Unit.{IsUnitOf}
+use Rattle.list_law.proofs.Tests.{and_left}
 use Rattle.region_law.specs.Leads.{In}
 use Rattle.agree_law.specs.Agree.{Naming}
 use Rattle.agree_law.specs.Blocks.{IsOf, have_result, measured, outcome, has_outcome, read_ids, reads, Stands}
@@ -63,23 +64,16 @@ use Rattle.meaning_law.proofs.Written.Expressed.{no_zero, local_no_phi, forwarde
 use Rattle.meaning_law.proofs.Written.Outside.{no_global}
 use Rattle.meaning_law.proofs.Written.Placed.{IsMadeBy, maker, home_is, IsPlaced, placed}
 
-left_on : (a b : Bool) → (a && b) ≡ true → a ≡ true
-left_on true b on = refl
-left_on false b on = cc
-
-local_form_is : (x : Form) → is_local_form x ≡ true → x ≡ Local
+pub local_form_is : (x : Form) → is_local_form x ≡ true → x ≡ Local
 local_form_is Local on = refl
 local_form_is Gone on = cc
 local_form_is Forwarded on = cc
 local_form_is Hoisted on = cc
 
 -- a list of one
-only : (a k : ℕ) → In k (a ∷ []) → a ≡ k
+pub only : (a k : ℕ) → In k (a ∷ []) → a ≡ k
 only a k (inl same) = sym same
 only a k (inr none) = absurd none
-
-no_value : (v : ValueTree) → None ≡ Some v → ⊥
-no_value v e = cc
 
 -- what has the length of an array has a pointer to it
 pub measured_pointer : (s : Setting) (f : Frame) (i : Inst) (h : Held) → measured s f i ≡ Some h → (w : ValueTree) → value_at s f (arg i 0) ≡ Some w → ⊥
@@ -220,7 +214,7 @@ module _ (s : Setting) (entry : Option (List ℕ)) (right : IsConforming s.of en
           let home = home_is s entry right kinds o unit u p among lends is_one n r.value.shape j by b r.value.user r.value.mentioned b (counts_here s entry right kinds o unit u p among b r.value.user n r.value.mentioned r.value.no_phi) in
           let of_it = found_in (insts_of Fn) n j by.made in
           let block_is : home.1 ≡ body.block = same_Some home.1 body.block (sym home.2 ∙ (ap (λ (k : ℕ). slice_get Fn.blocks k) same ∙ body.there)) in
-          let local_is : Where.form j.result ≡ Local = ap Where.form of_it.1 ∙ local_form_is (Where.form n) (left_on (is_local_form (Where.form n)) _ form) in
+          let local_is : Where.form j.result ≡ Local = ap Where.form of_it.1 ∙ local_form_is (Where.form n) (and_left (is_local_form (Where.form n)) _ form) in
           inr (names.local n form, have_done done j n (made_done n r j by.made by.shaped (subst (λ (x : Block). IsIn j x.insts) block_is home.3) (local_no_phi s entry right kinds o unit u p among j of_it.0 local_is)) of_it.1)
       by_placed j by (inr (same, inr form)) = absurd (named form)
 
@@ -321,7 +315,7 @@ module _ (s : Setting) (entry : Option (List ℕ)) (right : IsConforming s.of en
         forwarded_way = by_value (value_at s c.at.top n) refl
           where
             by_value : (x : Option ValueTree) → value_at s c.at.top n ≡ x → WayOf n
-            by_value None none = inr (inl (λ v has. absurd (no_value v (sym none ∙ has))))
+            by_value None none = inr (inl (λ v has. absurd (none-some v (sym none ∙ has))))
             by_value (Some v) has = inr (inr (record {
               by = j;
               result = here.1;
