@@ -5,6 +5,7 @@ pub mod Positions
 mod Numbers
 mod Mentioned
 pub mod Reached
+mod Few
 mod Fine
 pub mod Narrow
 mod Wanting

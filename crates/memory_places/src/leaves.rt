@@ -1,8 +1,9 @@
 // Where the scalars of a part of a variable lie.
-ghost use Rattle.std.specs.Prelude.{◌≡◌, ℕ, List, [], ◌∷◌, flat_map, map, IfOk, OnOk};
+ghost use Rattle.std.specs.Prelude.{◌≡◌, ◌<◌, ◌^◌, ℕ, List, [], ◌∷◌, flat_map, length, map, IfOk, OnOk};
 ghost use Rattle.std.specs.List.{range_with_len};
 ghost use Rattle.spv_types.specs.Tree.{array};
 ghost use Rattle.spv_types.specs.View.{tree_of, trees_of};
+ghost use Rattle.few_law.specs.Few.{HasFewMembers, HaveFewMembers};
 ghost use Rattle.value_words.specs.Words.{behind, scalar_paths, member_paths};
 ghost use Rattle.module_semantics.specs.Setting.{Setting};
 ghost use Rattle.memory_places.specs.Bases.{place_in};
@@ -120,7 +121,8 @@ pub fn add_leaves(
     part: Part,
     shape: &Shape,
 ) -> Result<(), Memory>
-    requires { decor.now ≡ «module».now.heads }
+    requires heads { decor.now ≡ «module».now.heads }
+    requires few { HasFewMembers (tree_of shape.now) }
     ensures { OnOk result ((HasLeaves (bare «module».now) part all.old all.new (scalar_paths (tree_of shape.now)))) }
 {
     match shape {
@@ -148,7 +150,8 @@ fn add_part(
     index: u32,
     shape: &Shape,
 ) -> Result<(), Memory>
-    requires { decor.now ≡ «module».now.heads }
+    requires heads { decor.now ≡ «module».now.heads }
+    requires few { HasFewMembers (tree_of shape.now) }
     ensures { OnOk result ((HasLeaves (bare «module».now) whole all.old all.new (behind index (scalar_paths (tree_of shape.now))))) }
 {
     let part = part_at(module, decor, whole, index);
@@ -170,23 +173,14 @@ fn add_elements(
     element: &Shape,
     length: u32,
 ) -> Result<(), Memory>
-    requires { decor.now ≡ «module».now.heads }
+    requires heads { decor.now ≡ «module».now.heads }
+    requires few { HasFewMembers (tree_of element.now) }
     ensures { OnOk result ((HasLeaves (bare «module».now) whole all.old all.new (flat_map (λ i. behind i (scalar_paths (tree_of element.now))) (range_with_len 0 length)))) }
 {
     for index in 0..length {
         add_part(alloc, module, decor, all, whole, index, element)?;
     }
     Ok(())
-}
-
-/// The number of a member as an index. No struct has 2 ^ 32 members, for which there is no memory.
-fn index_of(member: usize) -> Result<u32, Memory>
-    ensures { IfOk result (λ index. index ≡ member) }
-{
-    match u32::try_from(member) {
-        Ok(index) => Ok(index),
-        Err(_) => Err(Memory),
-    }
 }
 
 /// Adds those of the members of a struct.
@@ -200,11 +194,13 @@ fn add_members(
     whole: Part,
     members: &[Shape],
 ) -> Result<(), Memory>
-    requires { decor.now ≡ «module».now.heads }
+    requires heads { decor.now ≡ «module».now.heads }
+    requires few { length members.now < 2 ^ 32 }
+    requires each { HaveFewMembers (trees_of members.now) }
     ensures { OnOk result ((HasLeaves (bare «module».now) whole all.old all.new (member_paths 0 (trees_of members.now)))) }
 {
     for (k, member) in members.iter().enumerate() {
-        add_part(alloc, module, decor, all, whole, index_of(k)?, member)?;
+        add_part(alloc, module, decor, all, whole, k as u32, member)?;
     }
     Ok(())
 }
@@ -219,7 +215,8 @@ pub fn places_of(
     part: Part,
     shape: &Shape,
 ) -> Result<Vec<LeafPlace>, Memory>
-    requires { decor.now ≡ «module».now.heads }
+    requires heads { decor.now ≡ «module».now.heads }
+    requires few { HasFewMembers (tree_of shape.now) }
     ensures { IfOk result (λ places. locations_of places.items ≡ leaves (bare «module».now) base part path.now (scalar_paths (tree_of shape.now))) }
 {
     let mut all = Gathered {

@@ -1,8 +1,9 @@
 // The memory of a module as a run sees it.
-ghost use Rattle.std.specs.Prelude.{◌≡◌, map, IfOk, option_map};
+ghost use Rattle.std.specs.Prelude.{◌≡◌, map, IfOk, IfSome, option_map};
 ghost use Rattle.std.specs.Option.{option_copied};
 ghost use Rattle.spv_types.specs.Types.{type_tree};
 ghost use Rattle.spv_types.specs.View.{tree_of, value_of};
+ghost use Rattle.few_law.specs.Few.{HasFewMembers};
 ghost use Rattle.group_items.specs.Events.{location_of, locations_of};
 ghost use Rattle.group_items.specs.Sides.{bytes_in, told_of, IsWhole};
 ghost use Rattle.traces.specs.Invocations.{Invocation};
@@ -143,7 +144,8 @@ impl<'a> MemoryMap<'a> {
         variable: &Inst,
         path: &[u32],
     ) -> Result<Option<Shape>, Memory>
-        ensures { IfOk result (λ shape. ForEach self.now (λ s. option_map tree_of shape ≡ memory.shape_along s variable.now path.now)) }
+        ensures shape { IfOk result (λ shape. ForEach self.now (λ s. option_map tree_of shape ≡ memory.shape_along s variable.now path.now)) }
+        ensures few { IfOk result (λ shape. IfSome shape (λ t. HasFewMembers (tree_of t))) }
     {
         Ok(shape_along(alloc, self.source, variable, path)?)
     }
@@ -175,8 +177,8 @@ impl<'a> MemoryMap<'a> {
         Ok(place_at(alloc, base, part.bytes, path)?)
     }
 
-    /// The places of the scalars of the part of a variable to which indexes lead, in order, where it has this shape. There is an error only for
-    /// want of memory.
+    /// The places of the scalars of the part of a variable to which indexes lead, in order, where it has this shape, whose structs have few
+    /// members. There is an error only for want of memory.
     pub fn locations_in(
         &self,
         alloc: Global,
@@ -184,6 +186,7 @@ impl<'a> MemoryMap<'a> {
         path: &[u32],
         shape: &Shape,
     ) -> Result<Vec<LeafPlace>, Memory>
+        requires { HasFewMembers (tree_of shape.now) }
         ensures { IfOk result (λ places. ForEach self.now (λ s. locations_of places.items ≡ map capped (places_with s variable.now path.now (tree_of shape.now)))) }
     {
         let base = self.base(variable);

@@ -4,6 +4,7 @@ use Rattle.spv_ops.specs.declared.AtomicOp.{AtomicOp}
 use Rattle.spv_module.specs.declared.inst.Inst.{Inst}
 use Rattle.spv_types.specs.Tree.{ValueTree}
 use Rattle.spv_types.specs.View.{tree_of, value_of}
+use Rattle.few_law.specs.Few.{HasFewMembers}
 use Rattle.op_semantics.specs.Composite.{inserted}
 use Rattle.value_words.specs.Words.{value_from}
 use Rattle.traces.specs.Events as trace
@@ -26,6 +27,11 @@ use Rattle.run_memory.specs.declared.loads.Loaded.TheVariants as loaded
 use Rattle.run_memory.specs.declared.stores.Stored.{Stored}
 use Rattle.run_memory.specs.declared.stores.Stored.TheVariants as stored
 use Rattle.run_memory.specs.declared.atomics.Update.{Update}
+
+-- the structs of the part that is read there have few members
+abbrev pub ReadsFew : Source → Type 0
+ReadsFew (source.Seen v path t) = HasFewMembers (tree_of t)
+ReadsFew _ = Unit {0}
 
 module _ (s : Setting) (c : Conf) (rest : List Inst) (i : Inst) where
   -- what a load does that reads there

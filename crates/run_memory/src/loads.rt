@@ -2,6 +2,7 @@
 ghost use Rattle.std.specs.Prelude.{◌≡◌, ◌+◌, ◌<◌, ◌^◌, List, Some, None, IfOk, OnErr};
 ghost use Rattle.spv_module.specs.declared.inst.Function.{Function};
 ghost use Rattle.spv_module.specs.declared.inst.Inst.{Inst as Instruction};
+ghost use Rattle.few_law.specs.Few.{HasFewMembers};
 ghost use Rattle.traces.specs.Events.{reading};
 ghost use Rattle.group_items.specs.Events.{event_of, access_of};
 ghost use Rattle.module_semantics.specs.Accesses as accesses;
@@ -10,7 +11,7 @@ ghost use Rattle.module_semantics.specs.Steps as steps;
 ghost use Rattle.memory_places.specs.Leaves.{places_with};
 ghost use Rattle.run_acts.specs.About.{tree_of, told_of, IsWhole, setting_for, ForEach, root_of, conf_of, narrowed, IsStepOf, IsStill};
 ghost use Rattle.run_acts.specs.Narrowed.{narrow_access};
-ghost use Rattle.run_memory.specs.Outcomes.{loaded_from, IsLoaded};
+ghost use Rattle.run_memory.specs.Outcomes.{loaded_from, IsLoaded, ReadsFew};
 
 use crate::kept::part_kept;
 use crate::operands::pointer_at;
@@ -48,7 +49,8 @@ fn source_in<'s>(
     variable: &'s Inst,
     path: &'s [u32],
 ) -> Result<Source<'s>, Memory>
-    ensures { ForEach map.now (λ s. IfOk result (λ source. (c : state.Conf) (rest : List Instruction) (i : Instruction) (r : state.Root) → steps.load_from s c rest i (r, path.now) (Some variable.now) ≡ loaded_from s c rest i source)) }
+    ensures load { ForEach map.now (λ s. IfOk result (λ source. (c : state.Conf) (rest : List Instruction) (i : Instruction) (r : state.Root) → steps.load_from s c rest i (r, path.now) (Some variable.now) ≡ loaded_from s c rest i source)) }
+    ensures few { IfOk result (λ source. ReadsFew source) }
 {
     match map.shape_along(alloc, variable, path)? {
         None => Ok(Source::Missing),
@@ -63,7 +65,8 @@ fn source_at<'s>(
     root: Root,
     path: &'s [u32],
 ) -> Result<Source<'s>, Memory>
-    ensures { ForEach map.now (λ s. IfOk result (λ source. (c : state.Conf) (rest : List Instruction) (i : Instruction) → steps.load_from s c rest i (root_of root, path.now) (accesses.seen s (root_of root)) ≡ loaded_from s c rest i source)) }
+    ensures load { ForEach map.now (λ s. IfOk result (λ source. (c : state.Conf) (rest : List Instruction) (i : Instruction) → steps.load_from s c rest i (root_of root, path.now) (accesses.seen s (root_of root)) ≡ loaded_from s c rest i source)) }
+    ensures few { IfOk result (λ source. ReadsFew source) }
 {
     match seen(map, root) {
         None => Ok(Source::Kept(root, path)),
@@ -73,7 +76,8 @@ fn source_at<'s>(
 
 /// Where a load reads.
 pub fn source_of<'s>(site: &Site<'s, '_>, conf: &'s Conf) -> Result<Source<'s>, Memory>
-    ensures { ForEach site.now.map.now (λ s. IfOk result (λ source. (fs : List Function) (rest : List Instruction) → steps.load_step s (conf_of fs conf.now) rest site.now.inst.now ≡ loaded_from s (conf_of fs conf.now) rest site.now.inst.now source)) }
+    ensures load { ForEach site.now.map.now (λ s. IfOk result (λ source. (fs : List Function) (rest : List Instruction) → steps.load_step s (conf_of fs conf.now) rest site.now.inst.now ≡ loaded_from s (conf_of fs conf.now) rest site.now.inst.now source)) }
+    ensures few { IfOk result (λ source. ReadsFew source) }
 {
     match pointer_at(site.map, &conf.top.ids, site.inst, 0) {
         None => Ok(Source::Missing),
@@ -89,6 +93,7 @@ fn read_event(
     path: &[u32],
     shape: &Shape,
 ) -> Result<Event, Memory>
+    requires { HasFewMembers (tree_of shape.now) }
     ensures { ForEach map.now (λ s. IfOk result (λ e. access_of (event_of e) ≡ Some (narrow_access (reading (places_with s variable.now path.now (tree_of shape.now)))))) }
 {
     let places = map.locations_in(alloc, variable, path, shape)?;

@@ -15,6 +15,7 @@ use Rattle.conformance.specs.Rules.{Options}
 use Rattle.module_check.specs.Judged.{IsRead, IsFine, IsEntry, IsFault, by_types, by_later, by_rest}
 use Rattle.module_check.proofs.Causes.{entry_is_function}
 use Rattle.module_check.proofs.OfBytes.{own_functions, called_functions}
+use Rattle.accepted_law.proofs.Small.{read_few}
 use Rattle.memory_places.specs.Conditions.{CanRun}
 
 pub same_entry : (o : Option Inst) (a b : ℕ) → IsSomeAnd o (λ (i : Inst). a ≡ word i 1) → IsSomeAnd o (λ (i : Inst). b ≡ word i 1) → a ≡ b
@@ -30,6 +31,7 @@ can_run m o entry read fine is = record {
   acyclic = fine.later.acyclic;
   within = subst (IsWithinCalls m.functions) (same_entry (chosen o.entry m.heads) fine.entry entry fine.is is) fine.later.calls;
   types = fine.typed.within;
+  few = read_few read.bytes m read.is;
 }
 
 -- what refuses the values of constants refuses the module

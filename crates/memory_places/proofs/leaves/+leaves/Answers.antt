@@ -1,7 +1,11 @@
-use Rattle.std.proofs.Common.{◌∙◌, ap, sym, subst, rules}
-use Rattle.spv_types.specs.View.{tree_of}
-use Rattle.spv_types.proofs.Views.{shape-Bool, shape-Int, shape-Uint}
+use Rattle.std.proofs.Common.{◌≡◌, ◌<◌, ◌∙◌, ◌+◌, List, ap, sym, subst, rules, arith}
+use Rattle.spv_types.specs.Tree.{struct}
+use Rattle.spv_types.specs.View.{tree_of, trees_of}
+use Rattle.spv_types.proofs.Heads.{tree_size, trees_size, member_smaller}
+use Rattle.spv_types.proofs.Views.{shape-Bool, shape-Int, shape-Uint, shape-Struct}
 use Rattle.spv_module.specs.declared.tree.Shape.{Shape}
+use Rattle.few_law.specs.Few.{HasFewMembers}
+use Rattle.few_law.proofs.Shapes.{members_few, member_few}
 use Rattle.memory_places.specs.Leaves.{HasLeaves}
 use Rattle.value_words.specs.Words.{scalar_paths}
 use Rattle.memory_places.specs.Kernel.{bare}
@@ -34,3 +38,22 @@ add_leaves-returns-in-Uint t c =
     on_ok c.add_scalar-in-Uint.result _ _
     (λ h. subst (HasLeaves (bare c.args.module.now) c.args.part c.args.all.now c.add_scalar-in-Uint.new.all) (sym (ap (λ (s : Shape). scalar_paths (tree_of s)) c.in-Uint.is ∙ ap scalar_paths shape-Uint)) (h (bare c.args.module.now)))
     c.add_scalar-in-Uint.ensures
+
+pub add_leaves-add_members-requires : goal.add_leaves-add_members-requires
+add_leaves-add_members-requires t c =
+    let ms = c.deref-in-Struct.result.now in
+    let n = c.in-Struct.field-0.0 in
+    let is : tree_of c.args.shape.now ≡ struct n (trees_of ms) =
+    ap tree_of c.in-Struct.is ∙ (shape-Struct c.in-Struct.field-0 c.in-Struct.members ∙ ap (λ (l : List Shape). struct n (trees_of l)) (sym c.deref-in-Struct.ensures.value)) in
+    let few : HasFewMembers (struct n (trees_of ms)) = subst HasFewMembers is c.requires.few in
+    let size : tree_size (tree_of c.args.shape.now) ≡ 1 + trees_size (trees_of ms) = ap tree_size is in
+    (omega (arith, size), (c.requires.heads, (members_few ms n few, few.1)))
+
+pub add_members-add_part-requires : goal.add_members-add_part-requires
+add_members-add_part-requires t c =
+    let ms = c.args.members.now in
+    let m = c.index-members-k.result in
+    let size : tree_size (tree_of m) < trees_size (trees_of ms) =
+    subst (λ (s : Shape). tree_size (tree_of s) < trees_size (trees_of ms)) (sym c.index-members-k.is) (member_smaller ms c.loop-k.k m c.loop-k-test.true) in
+    let few : HasFewMembers (tree_of m) = subst (λ (s : Shape). HasFewMembers (tree_of s)) (sym c.index-members-k.is) (member_few ms c.loop-k.k m c.requires.each c.loop-k-test.true) in
+    (omega (arith, size), (c.requires.heads, few))

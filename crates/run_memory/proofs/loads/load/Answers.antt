@@ -18,14 +18,14 @@ pub returns-in-Missing : goal.returns-in-Missing
 returns-in-Missing c = λ fs rest.
     let s = setting_for c.args.site.now.map.now (told_of c.args.inv.now) in
     let d = conf_of fs c.args.conf.now in
-    ap narrowed (c.in_ok-source_of.ensures (told_of c.args.inv.now) fs rest ∙ ap (loaded_from s d rest c.args.site.now.inst.now) c.in-Missing.is)
+    ap narrowed (c.in_ok-source_of.ensures.load (told_of c.args.inv.now) fs rest ∙ ap (loaded_from s d rest c.args.site.now.inst.now) c.in-Missing.is)
 
 pub returns-in-Kept : goal.returns-in-Kept
 returns-in-Kept c =
     if_ok c.load_kept.result c.load_kept.ensures (λ l h fs rest.
     let s = setting_for c.args.site.now.map.now (told_of c.args.inv.now) in
     let d = conf_of fs c.args.conf.now in
-    subst (λ (a : Act Conf). IsLoaded a d rest c.args.site.now.inst.now l) (sym (ap narrowed (c.in_ok-source_of.ensures (told_of c.args.inv.now) fs rest ∙ ap (loaded_from s d rest c.args.site.now.inst.now) c.in-Kept.is))) (h fs rest c.args.site.now.inst.now))
+    subst (λ (a : Act Conf). IsLoaded a d rest c.args.site.now.inst.now l) (sym (ap narrowed (c.in_ok-source_of.ensures.load (told_of c.args.inv.now) fs rest ∙ ap (loaded_from s d rest c.args.site.now.inst.now) c.in-Kept.is))) (h fs rest c.args.site.now.inst.now))
 
 pub returns-in_ok-read_event-in-Seen : goal.returns-in_ok-read_event-in-Seen
 returns-in_ok-read_event-in-Seen c = λ fs rest.
@@ -34,6 +34,6 @@ returns-in_ok-read_event-in-Seen c = λ fs rest.
       narrow_access (reading (places_with s c.in-Seen.variable.now c.in-Seen.path.now (tree_of c.in-Seen.shape))),
       (
         (λ words. set_value d rest c.args.site.now.inst.now (value_from (tree_of c.in-Seen.shape) words)),
-        (ap narrowed (c.in_ok-source_of.ensures (told_of c.args.inv.now) fs rest ∙ ap (loaded_from s d rest c.args.site.now.inst.now) c.in-Seen.is), c.in_ok-read_event-in-Seen.ensures (told_of c.args.inv.now)),
+        (ap narrowed (c.in_ok-source_of.ensures.load (told_of c.args.inv.now) fs rest ∙ ap (loaded_from s d rest c.args.site.now.inst.now) c.in-Seen.is), c.in_ok-read_event-in-Seen.ensures (told_of c.args.inv.now)),
       ),
     )

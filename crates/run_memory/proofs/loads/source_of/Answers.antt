@@ -6,11 +6,11 @@ use Rattle.run_memory.specs.Outcomes.{loaded_from}
 use Rattle.run_memory.proofs.Reading.{load_there, load_nowhere}
 use Rattle.run_memory.proofs.loads.source_of.Goals as goal
 
-pub returns-in-None : goal.returns-in-None
-returns-in-None c = λ told fs rest. load_nowhere (setting_for c.args.site.now.map.now told) (conf_of fs c.args.conf.now) rest c.args.site.now.inst.now c.in-None.ensures
+pub returns-in-None-clause-load : goal.returns-in-None-clause-load
+returns-in-None-clause-load c = λ told fs rest. load_nowhere (setting_for c.args.site.now.map.now told) (conf_of fs c.args.conf.now) rest c.args.site.now.inst.now c.in-None.ensures
 
-pub returns-in-Some : goal.returns-in-Some
-returns-in-Some c = λ told.
-    if_ok c.source_at.result (c.source_at.ensures told) (λ source h fs rest.
+pub returns-in-Some-clause-load : goal.returns-in-Some-clause-load
+returns-in-Some-clause-load c = λ told.
+    if_ok c.source_at.result (c.source_at.ensures.load told) (λ source h fs rest.
     let d = conf_of fs c.args.conf.now in
     load_there (setting_for c.args.site.now.map.now told) d rest c.args.site.now.inst.now (root_of c.in-Some.root, c.in-Some.path.now) (loaded_from (setting_for c.args.site.now.map.now told) d rest c.args.site.now.inst.now source) c.in-Some.ensures (h d rest c.args.site.now.inst.now))
