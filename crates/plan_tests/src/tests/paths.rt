@@ -1,6 +1,5 @@
 // The paths of a small module's pointers.
-ghost use Rattle.std.specs.Prelude.{◌≡◌, true};
-ghost use Rattle.std.specs.List.{All};
+ghost use Rattle.std.specs.Bool.{OnTrue};
 ghost use Rattle.few_law.specs.Short.{HasFewArgs, IsShortBlock, IsShort};
 
 use access_paths::{Path, Paths, Step, captured_indexes, is_constant_index, path};
@@ -32,44 +31,25 @@ static MODULE: [u32; 196] = [
 ];
 
 fn has_few_args(inst: &Inst) -> bool
-    ensures { result ≡ true → HasFewArgs inst.now }
+    ensures { OnTrue result (HasFewArgs inst.now) }
 {
     inst.args.len() <= u32::MAX as usize
 }
 
-fn have_few_args(insts: &[Inst]) -> bool
-    ensures { result ≡ true → All HasFewArgs insts.now }
-{
-    for inst in insts {
-        if !has_few_args(inst) {
-            return false;
-        }
-    }
-    true
-}
-
 fn is_short_block(block: &Block) -> bool
-    ensures { result ≡ true → IsShortBlock block.now }
+    ensures { OnTrue result (IsShortBlock block.now) }
 {
-    have_few_args(block.insts.as_slice())
-}
-
-fn are_short(blocks: &[Block]) -> bool
-    ensures { result ≡ true → All IsShortBlock blocks.now }
-{
-    for block in blocks {
-        if !is_short_block(block) {
-            return false;
-        }
-    }
-    true
+    block.insts.as_slice().iter().all(|inst| has_few_args(inst))
 }
 
 /// Whether each instruction of a function has as few operands as the calls below ask.
 fn is_short(f: &Function) -> bool
-    ensures { result ≡ true → IsShort f.now }
+    ensures { OnTrue result (IsShort f.now) }
 {
-    are_short(f.blocks.as_slice())
+    f.blocks
+        .as_slice()
+        .iter()
+        .all(|block| is_short_block(block))
 }
 
 fn path_in<'a>(
