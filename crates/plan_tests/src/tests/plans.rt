@@ -1,13 +1,12 @@
 // Plans of a small function.
 ghost use Rattle.std.specs.Prelude.{◌≡◌};
 ghost use Rattle.module_check.specs.Judged.{IsRead};
-ghost use Rattle.use_chains.specs.Small.{IsSmall};
 
 use super::first::first_function;
 use hoist_plan::{Form, Naming, plan};
 use sample_modules::module_of;
 use spv_index::Locals;
-use spv_module::{Function, Id, Module};
+use spv_module::{Id, Module};
 use spv_words::Memory;
 use std::alloc::Global;
 use std::marker::Brand;
@@ -25,26 +24,7 @@ static MODULE: [u32; 62] = [
     0x000100FD, 0x00010038,
 ];
 
-/// The plan of the values of a function, of whose blocks these are reached.
-fn planned<L: Ledger>(
-    alloc: Global,
-    module: &Module,
-    f: &Function,
-    reached: &[bool],
-    blank: Blank,
-) -> Result<Naming, Memory>
-    requires name { blank.name ≡ L.name }
-    requires parts { blank.parts ≡ L.parts }
-    requires one { blank.parts ≡ 1 }
-    requires small { IsSmall f.now }
-{
-    let mut steps = Steps::<L>::new(blank);
-    let locals = Locals::of(alloc, f)?;
-    let uses = Uses::build(alloc, &locals, reached, &mut steps)?;
-    plan(alloc, module, &locals, &uses, &mut steps)
-}
-
-/// The plan of the first function of a module, where there is one.
+/// The plan of the values of the first function of a module, of whose blocks these are reached, where there is one.
 fn first_planned<L: Ledger>(
     alloc: Global,
     module: &Module,
@@ -56,9 +36,14 @@ fn first_planned<L: Ledger>(
     requires one { blank.parts ≡ 1 }
     requires read { IsRead «module».now }
 {
+    let mut steps = Steps::<L>::new(blank);
     match first_function(module) {
         None => Ok(None),
-        Some(function) => Ok(Some(planned::<L>(alloc, module, function, reached, blank)?)),
+        Some(function) => {
+            let locals = Locals::of(alloc, function)?;
+            let uses = Uses::build(alloc, &locals, reached, &mut steps)?;
+            Ok(Some(plan(alloc, module, &locals, &uses, &mut steps)?))
+        }
     }
 }
 
