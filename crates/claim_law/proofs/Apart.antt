@@ -16,7 +16,7 @@ number_in (Id n) = n.0
 number_in (Captured q k) = q.0
 number_in _ = 0
 
-same_number : (a b : ℕ) → Id (id a) ≡ Id (id b) → a ≡ b
+pub same_number : (a b : ℕ) → Id (id a) ≡ Id (id b) → a ≡ b
 same_number a b e = ap number_in e
 
 same_chain : (q k r l : ℕ) → Captured (id q) k ≡ Captured (id r) l → q ≡ r

@@ -68,7 +68,7 @@ no_struct code.TypeStruct on = cc
 no_struct o on = refl
 
 -- what the text needs of itself it needs
-needed_first : (s : Source) (first : ℕ → Bool) (gs : List Inst) (n : ℕ) → first n ≡ true → needed_from s first gs n ≡ true
+pub needed_first : (s : Source) (first : ℕ → Bool) (gs : List Inst) (n : ℕ) → first n ≡ true → needed_from s first gs n ≡ true
 needed_first s first [] n on = on
 needed_first s first (g ∷ gs) n on = by_test (needed_from s first gs n) (needed_first s first gs n on)
   where

@@ -3,7 +3,6 @@ use Rattle.std.proofs.Common.{◌≡◌, ◌<◌, ◌+◌, ◌==◌, ◌||◌, �
 use Rattle.std.specs.Prelude.{slice_get}
 use Rattle.std.specs.Option.{option_map_or}
 use Rattle.std.specs.List.{AllZip, list_any, range_with_len}
-use Rattle.std.proofs.lemmas.Bool.Decides.{eqb_tells}
 use Rattle.spv_module.specs.State.{ModuleState}
 use Rattle.spv_module.specs.Lists.{id}
 use Rattle.spv_module.specs.declared.inst.Id.{Id as IdOf}
@@ -22,6 +21,7 @@ use Rattle.function_plan.specs.Orders.{is_among}
 use Rattle.function_text.specs.Functions.{FunctionPlan, written, label_of, when, blocks_of}
 use Rattle.unit_rules.specs.Translation.{Naming, text_of, IsPlanOf}
 use Rattle.unit_rules.specs.Unit.{source_of, called, IsUnitOf}
+use Rattle.list_law.proofs.Numbers.{same_number}
 use Rattle.claim_law.specs.Claimed.{IsIn, HasName}
 use Rattle.agree_law.specs.Agree.{Naming as Names, IsOther}
 use Rattle.name_alloc.specs.Law.{AreNames}
@@ -37,10 +37,7 @@ in_range test from zero b on = cc
 in_range test from (suc n) b on = by_test (test from) on (in_range test (from + 1) n b)
   where
     by_either : (e : Bool) → (from == b) ≡ e → (e || list_any (λ u. u == b) (filter test (range_with_len (from + 1) n))) ≡ true → (list_any (λ u. u == b) (filter test (range_with_len (from + 1) n)) ≡ true → b < from + 1 + n) → b < from + suc n
-    by_either true same on later = let own : from ≡ b = equal from b same in omega (arith, own)
-      where
-        equal : (m k : ℕ) → (m == k) ≡ true → m ≡ k
-        equal m k e = elim (eqb_tells m k) [ inl w ↦ w.1 | inr w ↦ (let never : true ≡ false = sym e ∙ w.0 in absurd cc) ]
+    by_either true same on later = let own : from ≡ b = same_number from b same in omega (arith, own)
     by_either false other on later = let less = later on in omega (arith, less)
 
     by_test : (t : Bool) → list_any (λ u. u == b) (if t then from ∷ filter test (range_with_len (from + 1) n) else filter test (range_with_len (from + 1) n)) ≡ true → (list_any (λ u. u == b) (filter test (range_with_len (from + 1) n)) ≡ true → b < from + 1 + n) → b < from + suc n

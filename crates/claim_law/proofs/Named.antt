@@ -1,8 +1,7 @@
 -- In the text of a module each of these keys has a name.
-use Rattle.std.proofs.Common.{◌≡◌, ◌<◌, ◌+◌, ◌==◌, ℕ, true, false, List, [], ◌∷◌, map, Some, inl, inr, refl, sym, ap, ◌∙◌, subst, arith}
+use Rattle.std.proofs.Common.{◌≡◌, ◌<◌, ◌+◌, ◌==◌, ℕ, true, false, List, [], ◌∷◌, map, Some, inl, inr, sym, ap, ◌∙◌, subst, arith}
 use Rattle.std.specs.Prelude.{slice_get}
 use Rattle.std.specs.List.{enumerate_from}
-use Rattle.std.proofs.lemmas.Bool.Decides.{eqb_tells}
 use Rattle.std.proofs.lemmas.Bool.{and_from, or_left, or_right}
 use Rattle.spv_module.specs.State.{ModuleState}
 use Rattle.spv_module.specs.Lists.{id}
@@ -26,6 +25,7 @@ use Rattle.function_plan.specs.Once.{once, itself}
 use Rattle.function_plan.specs.Targets.{targets_in}
 use Rattle.function_text.specs.Functions.{FunctionPlan, written}
 use Rattle.unit_rules.specs.Unit.{claims_by, reached_of, source_of, IsUnitOf}
+use Rattle.list_law.proofs.Numbers.{number_itself}
 use Rattle.claim_law.specs.Claimed.{IsIn, HasKey, HasName, IsOf}
 use Rattle.claim_law.proofs.Listed.{in_mapped, numbered, any_in}
 use Rattle.claim_law.proofs.Keys.{function_claimed, parameter_claimed, result_claimed, again_claimed, leave_claimed, fell_claimed, captured_claimed, spare_claimed}
@@ -41,11 +41,8 @@ named_by : (p : FunctionPlan) (i : Inst) (number : ℕ) (block : Block) → slic
 named_by p i number block at among named =
     any_in (block_names p.scope.form p.graph i.result) (enumerate_from 0 (written p).blocks) (number, block)
     (subst (λ (n : ℕ). IsIn (n, block) (enumerate_from 0 (written p).blocks)) (zero_first number) (numbered (written p).blocks 0 number block at))
-    (any_in (names_id p.scope.form (nth p.graph number).reached i.result) block.insts i among (and_from (has_name p.scope.form (nth p.graph number).reached i) (i.result == i.result) named (own i.result)))
+    (any_in (names_id p.scope.form (nth p.graph number).reached i.result) block.insts i among (and_from (has_name p.scope.form (nth p.graph number).reached i) (i.result == i.result) named (number_itself i.result)))
   where
-    own : (n : ℕ) → (n == n) ≡ true
-    own n = elim (eqb_tells n n) [ inl w ↦ w.0 | inr w ↦ absurd (w.1 refl) ]
-
     zero_first : (n : ℕ) → 0 + n ≡ n
     zero_first n = omega arith
 

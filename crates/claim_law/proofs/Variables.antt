@@ -1,5 +1,5 @@
 -- In the text of a module each variable of the module that a function mentions has a name, and so has a block.
-use Rattle.std.proofs.Common.{◌≡◌, ◌&&◌, ◌||◌, ℕ, Bool, true, false, Some, refl, sym, subst}
+use Rattle.std.proofs.Common.{◌≡◌, ◌||◌, ℕ, Bool, true, false, Some, refl, sym, subst}
 use Rattle.std.specs.List.{list_any}
 use Rattle.std.proofs.lemmas.Bool.{and_from, and_left}
 use Rattle.spv_ops.specs.Opcode.{is, number}
@@ -21,6 +21,7 @@ use Rattle.text_rules.specs.Constants.{is_constant}
 use Rattle.text_rules.specs.Printed.{Reached, has_operand, is_variable, is_private, is_workgroup, is_block_variable, is_operand_in, is_written_variable, is_declared_constant}
 use Rattle.function_text.specs.Functions.{FunctionPlan, written}
 use Rattle.unit_rules.specs.Unit.{reached_of, source_of, IsUnitOf}
+use Rattle.list_law.proofs.Tests.{common}
 use Rattle.claim_law.specs.Claimed.{IsIn, HasName}
 use Rattle.claim_law.proofs.Listed.{any_in, in_mapped}
 use Rattle.claim_law.proofs.Keys.{variable_claimed, block_claimed}
@@ -37,15 +38,6 @@ unfolding number
 variable_no_constant code.Variable on = refl
 variable_no_constant o on = cc
 
-left_on : (a b : Bool) → (a && b) ≡ true → a ≡ true
-left_on true b on = refl
-left_on false b on = cc
-
--- one of the classes of variables that are written
-class_on : (v a b c : Bool) → ((v && a) || ((v && b) || (v && c))) ≡ true → v ≡ true
-class_on true a b c on = refl
-class_on false a b c on = cc
-
 module _ (m : ModuleState) (o : Options) (unit : TranslationUnit) (u : IsUnitOf m o unit) where
   abbrev r : Reached
   r = reached_of (source_of m o u.entry) u.plans
@@ -60,7 +52,7 @@ module _ (m : ModuleState) (o : Options) (unit : TranslationUnit) (u : IsUnitOf 
       (any_in (λ (f : Function). list_any (λ (j : Inst). has_operand j g.result) (insts_of f)) r.functions (written p) (in_mapped written u.plans p among) (any_in (λ (j : Inst). has_operand j g.result) (insts_of (written p)) i there operand))
 
   is_one : (g : Inst) → is_of_class g ≡ true → is_variable g ≡ true
-  is_one g class = class_on (is_variable g) _ _ _ class
+  is_one g class = common (is_variable g) _ _ _ class
 
   pub undeclared : (g : Inst) → is_variable g ≡ true → is_declared_constant (source_of m o u.entry) r g ≡ false
   undeclared g on = and_left (is_constant g) _ (variable_no_constant g.op on)

@@ -13,6 +13,7 @@ use Rattle.glsl_grammar.specs.Token.{Token}
 use Rattle.glsl_grammar.specs.Lex.{is_digit, is_word, keywords, token_in}
 use Rattle.glsl_grammar.specs.Spelled.{AreWordBytes, IsName}
 use Rattle.glsl_grammar.proofs.Names.{name_by_table, main_is_name}
+use Rattle.list_law.proofs.Tests.{neither}
 
 -- each word that has a token of its own is reserved, or begins with a reserved prefix
 abbrev is_barred : Text × Token → Bool
@@ -26,17 +27,12 @@ none_of : (rows : List (Text × Token)) (w : Text) → list_all is_barred rows �
 none_of [] w barred free = refl
 none_of (row ∷ rows) w barred free = by_test (bytes_eq w row.0) refl (is_barred row) refl barred (none_of rows w)
   where
-    either_off : (a b : Bool) → a ≡ false → b ≡ false → (a || b) ≡ true → ⊥
-    either_off false false on off e = cc
-    either_off true b on off e = cc
-    either_off false true on off e = cc
-
     by_test : (b : Bool) → bytes_eq w row.0 ≡ b → (r : Bool) → is_barred row ≡ r → (r && list_all is_barred rows) ≡ true → (list_all is_barred rows ≡ true → IsFree w → token_in rows w ≡ None) → elim b as (λ b. Option Token) [ true ↦ Some row.1 | false ↦ token_in rows w ] ≡ None
     by_test b same false is e later = cc
     by_test false same true is e later = later e free
     by_test true same true is e later =
         let own : w ≡ row.0 = (bytes_eq-Decides w row.0).0 same in
-        absurd (either_off (is_reserved row.0) (has_prefix row.0) (subst (λ (t : Text). is_reserved t ≡ false) own free.word) (subst (λ (t : Text). has_prefix t ≡ false) own free.prefix) is)
+        absurd (neither (is_reserved row.0) (has_prefix row.0) (subst (λ (t : Text). is_reserved t ≡ false) own free.word) (subst (λ (t : Text). has_prefix t ≡ false) own free.prefix) is)
 
 same_byte : (c : ℕ) → is_word_byte c ≡ is_word c
 unfolding is_word

@@ -4,7 +4,7 @@ use Rattle.std.specs.Prelude.{◌+◌, is_some, option_and_then, slice_get, slic
 use Rattle.std.specs.Option.{option_map_or, option_or}
 use Rattle.std.specs.List.{list_any, position_from}
 use Rattle.std.proofs.lemmas.Bool.{not-false, or_left as or_on_left, or_right as or_on_right}
-use Rattle.std.proofs.lemmas.Option.{same_Some}
+use Rattle.std.proofs.lemmas.Option.{same_Some, none-some}
 use Rattle.spv_ops.specs.Opcode.{is, number, op_of}
 use Rattle.spv_ops.specs.OpGroups.{group_of}
 use Rattle.spv_ops.specs.Groups.{is_inner, is_constant as is_constant_op}
@@ -51,6 +51,7 @@ use Rattle.text_rules.specs.Declarations.{Names, word_of, shape_at}
 use Rattle.text_rules.specs.Printed.{has_operand, has_struct, have_struct, is_needed, is_written_variable, is_declared_constant}
 use Rattle.text_items.specs.Names.{is_plain, is_number, literal_word, operand_by, operand, inner_opcode, calculated_by}
 use Rattle.spv_types.specs.Types.{elem_of}
+use Rattle.list_law.proofs.Numbers.{number_same}
 use Rattle.fits_law.specs.Takes as takes
 use Rattle.unit_rules.specs.Translation.{id_text}
 use Rattle.unit_rules.specs.Unit.{source_of, IsUnitOf}
@@ -82,7 +83,7 @@ use Rattle.claim_law.specs.Claimed.{IsIn, HasName}
 use Rattle.claim_law.proofs.Constants.{found_in}
 use Rattle.claim_law.proofs.Told.{axes_told}
 use Rattle.unit_law.specs.Words.{words_of, AreOfStructs}
-use Rattle.unit_law.proofs.Lists.{same_test, as_among}
+use Rattle.unit_law.proofs.Lists.{as_among}
 use Rattle.unit_law.proofs.Structs.{part_named}
 use Rattle.unit_law.proofs.Words.{built_in_value}
 use Rattle.grammar_law.proofs.Readings.{none_fits, plain_word_fits}
@@ -225,9 +226,6 @@ module _ (m : ModuleState) (o : Options) (right : IsConforming m o.entry) (unit 
     abbrev IsAlong : Tree → List ℕ → Type 0
     IsAlong t ks = AreNamedAlong W (name_of u.claimed) t ks × LeadIn t ks
 
-    no_part : (t : Tree) → None ≡ Some t → ⊥
-    no_part t e = cc
-
     along : (a : Tree) (ks : List ℕ) (t : Tree) → IsWithin (IsNoBlock m) m n a → ((j : ℕ) → has_struct j a ≡ true → Held m o.entry right o unit u j) → FitWords ks → takes.shape_at a ks ≡ Some t → IsAlong a ks
     along plain.boolean [] t within held fit at = (tt, tt)
     along plain.int [] t within held fit at = (tt, tt)
@@ -240,13 +238,13 @@ module _ (m : ModuleState) (o : Options) (right : IsConforming m o.entry) (unit 
     along plain.int (k ∷ ks) t within held fit at = (tt, tt)
     along plain.uint (k ∷ ks) t within held fit at = (tt, tt)
     along (plain.vector e i) (k ∷ ks) t within held fit at = (tt, tt)
-    along (plain.runtime v) (k ∷ ks) t within held fit at = absurd (no_part t at)
-    along (plain.array v (Spec l)) (k ∷ ks) t within held fit at = absurd (no_part t at)
+    along (plain.runtime v) (k ∷ ks) t within held fit at = absurd (none-some t at)
+    along (plain.array v (Spec l)) (k ∷ ks) t within held fit at = absurd (none-some t at)
     along (plain.array v (Fixed i)) (k ∷ ks) t within held fit at = by_test (nat_lt k i) at (along v ks t within.0 held fit.1)
       where
         by_test : (b : Bool) → option_and_then (λ (x : Tree). takes.shape_at x ks) (if b then Some v else None) ≡ Some t → (takes.shape_at v ks ≡ Some t → IsAlong v ks) → AreNamedAlong W (name_of u.claimed) v ks × (FitsWord k × LeadIn v ks)
         by_test true e later = let w = later e in (w.0, (fit.0, w.1))
-        by_test false e later = absurd (no_part t e)
+        by_test false e later = absurd (none-some t e)
     along (plain.struct j ts) (k ∷ ks) t within held fit at = by_part (takes.nth_of ts k) refl at (λ v there e. along v ks t (part_within (IsNoBlock m) m n ts k v within.1 there) (λ i has. held i (or_on_right (j == i) (have_struct i ts) (part_has ts k v i there has))) fit.1 e)
       where
         named : (v : Tree) → takes.nth_of ts k ≡ Some v → W.member (member_name (name_of u.claimed) j k)
@@ -254,7 +252,7 @@ module _ (m : ModuleState) (o : Options) (right : IsConforming m o.entry) (unit 
             let w = within.0 in
             let own = found_in Gs j w.inst w.there in
             let ty = part_arg (tree_before Gs w.inst.at) w.inst.args ts k v w.members there in
-            let written = struct_written (Run m o.entry right o unit u) o.entry right o.overrides (Written m o.entry right o unit u) n j ts w (held j (or_on_left (j == j) (have_struct j ts) (same_test j j refl))) in
+            let written = struct_written (Run m o.entry right o unit u) o.entry right o.overrides (Written m o.entry right o unit u) n j ts w (held j (or_on_left (j == j) (have_struct j ts) (number_same j j refl))) in
             subst (λ (x : ℕ). W.member (member_name (name_of u.claimed) x k)) own.1 (inl (Member (id w.inst.result) k, name_is (Member (id w.inst.result) k) (part_named m o unit u w.inst k ty.0 own.0 w.opcode written ty.1)))
           where
             name_is : (key : Key) → HasName (name_of u.claimed) key → name_of u.claimed key ≡ Some (text_or_none (name_of u.claimed key))
@@ -265,7 +263,7 @@ module _ (m : ModuleState) (o : Options) (right : IsConforming m o.entry) (unit 
                 by_name (Some w) has = refl
 
         by_part : (q : Option Tree) → takes.nth_of ts k ≡ q → option_and_then (λ (x : Tree). takes.shape_at x ks) q ≡ Some t → ((v : Tree) → takes.nth_of ts k ≡ Some v → takes.shape_at v ks ≡ Some t → IsAlong v ks) → (W.member (member_name (name_of u.claimed) j k) × AreNamedAlong W (name_of u.claimed) (nth_or ts k plain.boolean) ks) × LeadIn (nth_or ts k plain.boolean) ks
-        by_part None there e later = absurd (no_part t e)
+        by_part None there e later = absurd (none-some t e)
         by_part (Some v) there e later =
             let w = later v there e in
             let same = nth_same ts k v plain.boolean there in

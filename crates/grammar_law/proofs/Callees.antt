@@ -24,12 +24,13 @@ use Rattle.expr_forward.specs.Statements.{callee_text}
 use Rattle.function_text.specs.Functions.{FunctionPlan, written}
 use Rattle.unit_rules.specs.Translation.{Naming, id_text, IsPlanOf}
 use Rattle.unit_rules.specs.Unit.{is_called, called, source_of, IsUnitOf}
+use Rattle.list_law.proofs.Numbers.{same_number, number_same}
 use Rattle.typed_law.specs.Conforms.{IsConforming}
 use Rattle.claim_law.specs.Claimed.{IsIn, HasName}
 use Rattle.claim_law.proofs.Named.{function_named}
 use Rattle.claim_law.proofs.Told.{named_is}
 use Rattle.unit_law.specs.Words.{words_of, AreOfStructs}
-use Rattle.unit_law.proofs.Lists.{same_test, test_same, contained, of_contained, in_filter, of_filter}
+use Rattle.unit_law.proofs.Lists.{contained, of_contained, in_filter, of_filter}
 use Rattle.unit_law.proofs.Ways.{HaveKinds, F, V, planned, in_module}
 use Rattle.unit_law.proofs.Words.{own_value}
 
@@ -39,12 +40,12 @@ in_numbers [] n on = cc
 in_numbers (i ∷ order) n on = by_test (i.0 == n) refl on (in_numbers order n)
   where
     by_test : (b : Bool) → (i.0 == n) ≡ b → (b || list_any (λ (j : IdOf). j.0 == n) order) ≡ true → (list_any (λ (j : IdOf). j.0 == n) order ≡ true → IsIn n (numbers order)) → (i.0 ≡ n) ⊎ IsIn n (numbers order)
-    by_test true same on later = inl (test_same i.0 n same)
+    by_test true same on later = inl (same_number i.0 n same)
     by_test false other on later = inr (later on)
 
 of_numbers : (order : List IdOf) (n : ℕ) → IsIn n (numbers order) → list_any (λ (i : IdOf). i.0 == n) order ≡ true
 of_numbers [] n among = absurd among
-of_numbers (i ∷ order) n (inl same) = or_left (i.0 == n) (list_any (λ (j : IdOf). j.0 == n) order) (same_test i.0 n same)
+of_numbers (i ∷ order) n (inl same) = or_left (i.0 == n) (list_any (λ (j : IdOf). j.0 == n) order) (number_same i.0 n same)
 of_numbers (i ∷ order) n (inr among) = or_right (i.0 == n) (list_any (λ (j : IdOf). j.0 == n) order) (of_numbers order n among)
 
 pub placed_at : (ns : List ℕ) (n : ℕ) → IsIn n ns → (k : ℕ) × (k < length ns) × (slice_index ns k ≡ n)

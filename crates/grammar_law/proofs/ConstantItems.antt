@@ -1,6 +1,6 @@
 -- A constant that is declared has a name, a type of declared words, and a value that is made of those of its operands.
-use Rattle.std.proofs.Common.{◌≡◌, ◌<◌, ◌==◌, ◌&&◌, ◌||◌, ℕ, Bool, true, false, List, [], ◌∷◌, ◌++◌, length, map, Option, Some, None, inl, inr, refl, sym, ap, ◌∙◌, subst, if◌then◌else◌, arith}
-use Rattle.std.specs.Prelude.{◌+◌, ◌⊎◌, zero, suc, flat_map, is_some, option_map, option_and_then, slice_get, slice_index}
+use Rattle.std.proofs.Common.{◌≡◌, ◌<◌, ◌==◌, ◌&&◌, ◌||◌, ℕ, Bool, true, false, List, [], ◌∷◌, ◌++◌, length, map, Option, Some, None, inl, inr, refl, sym, ap, ◌∙◌, subst, if◌then◌else◌}
+use Rattle.std.specs.Prelude.{◌+◌, ◌⊎◌, flat_map, is_some, option_map, option_and_then, slice_index}
 use Rattle.std.specs.Option.{option_map_or}
 use Rattle.std.specs.List.{enumerate_from, list_any}
 use Rattle.std.proofs.lemmas.Bool.Decides.{eqb_tells}
@@ -33,7 +33,6 @@ use Rattle.profile_rules.specs.Operands.{need, suits, is_there, breaks_t1}
 use Rattle.profile_rules.specs.TypeRows.{fails, is_bool, is_int, type_row}
 use Rattle.profile_rules.specs.ValueRules.{misfit}
 use Rattle.profile_rules.specs.TypeRules.{broken_if, rule_of, is_value_broken, is_number_broken, is_broken_outside, broken_as, broken_inside, broken_by_global, broken_by_function}
-use Rattle.spv_words.specs.declared.rule.Rule.{Rule}
 use Rattle.spv_words.specs.declared.rule.Rule.TheVariants.{T1}
 use Rattle.conformance.specs.Rules.{Options}
 use Rattle.name_alloc.specs.declared.claims.Key.TheVariants.{Id}
@@ -45,19 +44,21 @@ use Rattle.text_rules.specs.Constants.{if_free, free_spec_id, is_constant, readi
 use Rattle.text_rules.specs.Declarations.{Names, type_at, zero_at, expr_at, value_by, constant_decl}
 use Rattle.text_rules.specs.Printed.{is_named, has_operand, needs_constant, is_needed, is_written_variable, is_declared_constant, has_struct}
 use Rattle.unit_rules.specs.Unit.{source_of, IsUnitOf}
+use Rattle.list_law.proofs.Lists.{place_of}
 use Rattle.spell_law.specs.Uses.{Words, UsesType, UsesExpr, UseEach}
 use Rattle.spell_law.specs.Units.{UsesDecl}
 use Rattle.spell_law.specs.Blocks.{FitWords}
 use Rattle.spell_law.proofs.Scalars.{each-uses}
 use Rattle.typed_law.specs.Conforms.{IsConforming}
 use Rattle.typed_law.specs.Words.{AreGivenWords}
-use Rattle.typed_law.proofs.Lists.{and_left, or_left, none_left, none_right, none_among, some_by, earlier_some, from_zero}
-use Rattle.typed_law.proofs.Rules.{operand_there, global_there}
+use Rattle.typed_law.proofs.Lists.{and_left, or_left, none_left, none_right, none_among, some_by, earlier_some}
+use Rattle.typed_law.proofs.Rules.{operand_there, global_there, refused}
 use Rattle.typed_law.proofs.Values.{type_suits, global_row, global_typed_some, value_type_has}
 use Rattle.constant_law.specs.Within.{IsWithin, IsNoBlock}
 use Rattle.constant_law.proofs.Within.{typed_constant, constant_within}
 use Rattle.constant_law.proofs.Written.{own_type, held_by}
 use Rattle.constant_law.proofs.Needed.{operand_at, operand_needed}
+use Rattle.constant_law.proofs.Standing.{composite_ids}
 use Rattle.claim_law.specs.Claimed.{IsIn}
 use Rattle.claim_law.proofs.Constants.{found_in}
 use Rattle.unit_law.specs.Words.{words_of, AreOfStructs}
@@ -69,10 +70,6 @@ use Rattle.grammar_law.proofs.Held.{Written, Run, Held, AreDeclaredBefore, type_
 use Rattle.grammar_law.proofs.StructItems.{N, nth_fits, key_is_name}
 
 -- what a constant's rules say of its type (T2, T3)
-refused : (b : Bool) (rule : Rule) (at : ℕ) → broken_if b rule at ≡ [] → b ≡ false
-refused true rule at e = cc
-refused false rule at e = refl
-
 constant_type : (m : ModuleState) (t : ℕ → Option ℕ) (i : Inst) (o : Op) → is_constant_op o ≡ true → is_value_broken m t i (group_of o) ≡ false → is_no_value_type m.heads m.globals i.ty ≡ false
 unfolding group_of
 constant_type m t i code.Undef on off = off
@@ -101,23 +98,11 @@ constant_need code.SpecConstantComposite k on = refl
 constant_need code.SpecConstantOp k on = refl
 constant_need o k on = cc
 
-composite_ids : (o : Op) (args : List ℕ) (k : ℕ) → constant_kind o ≡ kinds.Composite → is_id o args k ≡ true
-unfolding constant_kind is_id
-composite_ids code.ConstantComposite args k e = from_zero k
-composite_ids code.SpecConstantComposite args k e = from_zero k
-composite_ids o args k e = cc
-
 -- the place of an operand
 pub record IsOperandAt (g : Inst) (n k : ℕ) : Type 0 where
   pub less : k < length g.args
   pub is_operand : is_id g.op g.args k ≡ true
   pub word_is : slice_index g.args k ≡ n
-
-got_at : (args : List ℕ) (k x : ℕ) → slice_get args k ≡ Some x → (k < length args) × (slice_index args k ≡ x)
-got_at [] zero x at = cc
-got_at [] (suc k) x at = cc
-got_at (a ∷ args) zero x at = ((let less : 0 < suc (length args) = omega arith in less), let same : a ≡ x = cc in same)
-got_at (a ∷ args) (suc k) x at = let w = got_at args k x at in ((let low = w.0 in let less : suc k < suc (length args) = omega (arith, low) in less), w.1)
 
 operand_place : (g : Inst) (n : ℕ) → has_operand g n ≡ true → (k : ℕ) × IsOperandAt g n k
 operand_place g n on = from (enumerate_from 0 g.args) on (λ p p_in. p_in)
@@ -128,7 +113,7 @@ operand_place g n on = from (enumerate_from 0 g.args) on (λ p p_in. p_in)
       where
         by_test : (a : Bool) → is_id g.op g.args p.0 ≡ a → (b : Bool) → ((b ≡ true) × (p.1 ≡ n)) ⊎ ((b ≡ false) × (p.1 ≡ n → ⊥)) → (a && b || list_any (λ (q : ℕ × ℕ). is_id g.op g.args q.0 && (q.1 == n)) ps) ≡ true → (list_any (λ (q : ℕ × ℕ). is_id g.op g.args q.0 && (q.1 == n)) ps ≡ true → (k : ℕ) × IsOperandAt g n k) → (k : ℕ) × IsOperandAt g n k
         by_test true ids b (inl w) on later =
-            let at = got_at g.args p.0 p.1 (of_numbered_first g.args p.0 p.1 (sub p (inl refl))) in
+            let at = place_of g.args p.0 p.1 (of_numbered_first g.args p.0 p.1 (sub p (inl refl))) in
             (p.0, record { less = at.0; is_operand = ids; word_is = at.1 ∙ w.1 })
         by_test false ids b w on later = later on
         by_test true ids true (inr w) on later = cc

@@ -1,5 +1,5 @@
 -- The copies of an edge between reached blocks are made of declared words.
-use Rattle.std.proofs.Common.{◌≡◌, ◌<◌, ◌^◌, ◌==◌, ◌||◌, ℕ, zero, suc, Bool, true, false, List, [], ◌∷◌, length, Option, Some, None, inl, inr, refl, sym, ap, subst, arith, if◌then◌else◌}
+use Rattle.std.proofs.Common.{◌≡◌, ◌<◌, ◌^◌, ◌==◌, ◌||◌, ℕ, Bool, true, false, List, [], ◌∷◌, length, Option, Some, None, inl, inr, refl, sym, ap, subst, if◌then◌else◌}
 use Rattle.std.specs.Prelude.{◌⊎◌, slice_get}
 use Rattle.std.specs.Option.{option_map_or}
 use Rattle.std.specs.List.{list_any}
@@ -35,6 +35,7 @@ use Rattle.function_plan.specs.Planned.{spares_in}
 use Rattle.function_text.specs.Functions.{FunctionPlan, label_of, source_expr, spare_name, set_variable, name_expr, move_text, copies_text}
 use Rattle.unit_rules.specs.Translation.{Naming, text_of, id_text}
 use Rattle.unit_rules.specs.Unit.{source_of, IsUnitOf}
+use Rattle.list_law.proofs.Numbers.{same_number}
 use Rattle.spell_law.specs.Uses.{Words, UsesType, UsesExpr}
 use Rattle.spell_law.specs.Statements.{UsesStmt, EachStmt}
 use Rattle.spell_law.specs.Blocks.{FitWords}
@@ -42,13 +43,14 @@ use Rattle.typed_law.specs.Conforms.{IsConforming}
 use Rattle.typed_law.specs.Words.{AreGivenWords}
 use Rattle.claim_law.specs.Claimed.{IsIn}
 use Rattle.claim_law.proofs.Named.{spare_named}
+use Rattle.claim_law.proofs.Flags.{at_inside}
 use Rattle.unit_law.specs.Switches.{Leads}
 use Rattle.unit_law.specs.Words.{words_of, AreOfStructs}
-use Rattle.unit_law.proofs.Lists.{test_same}
 use Rattle.unit_law.proofs.Structs.{Written}
 use Rattle.unit_law.proofs.Ways.{HaveKinds, F, R, V, plan_is, written_is}
 use Rattle.unit_law.proofs.Sets.{own_text}
-use Rattle.grammar_law.proofs.Listed.{of_mapped, each_stmt}
+use Rattle.meets_law.proofs.LiveOrGone.{of_mapped}
+use Rattle.grammar_law.proofs.Listed.{each_stmt}
 use Rattle.grammar_law.proofs.Moving.{IsTargetOf, IsMoveOf, edge_moves}
 use Rattle.grammar_law.proofs.PairsOf.{IsPairOf, pair_of, in_once}
 use Rattle.grammar_law.proofs.PhiNames.{target_value, target_type, source_uses}
@@ -59,13 +61,8 @@ in_targets [] t on = cc
 in_targets (x ∷ ts) t on = by_test (x == t) refl on (in_targets ts t)
   where
     by_test : (b : Bool) → (x == t) ≡ b → (b || list_any (λ (y : ℕ). y == t) ts) ≡ true → (list_any (λ (y : ℕ). y == t) ts ≡ true → IsIn t ts) → (x ≡ t) ⊎ IsIn t ts
-    by_test true same on later = inl (test_same x t same)
+    by_test true same on later = inl (same_number x t same)
     by_test false other on later = inr (later on)
-
-block_at : (bs : List Block) (b : ℕ) → b < length bs → (block : Block) × (slice_get bs b ≡ Some block)
-block_at [] b less = absurd (omega (arith, less))
-block_at (x ∷ bs) zero less = (x, refl)
-block_at (x ∷ bs) (suc b) less = block_at bs b (let low : b < length bs = omega (arith, less) in low)
 
 module _ (s : Setting) (entry : Option (List ℕ)) (right : IsConforming s.of entry) (kinds : HaveKinds s.of.globals) (o : Options) (unit : TranslationUnit) (u : IsUnitOf s.of o unit) (p : FunctionPlan) (among : IsIn p u.plans) (names : List (List ℕ)) (structs : AreOfStructs s.of.globals (name_of u.claimed) names)
     (declared : (g : Inst) → IsIn g s.of.globals → is_written_struct (source_of s.of o u.entry) (Written s.of o unit u) g ≡ true → is_declared names (id_text (name_of u.claimed) g.result) ≡ true)
@@ -130,7 +127,7 @@ module _ (s : Setting) (entry : Option (List ℕ)) (right : IsConforming s.of en
         (spare_named s.of o unit u p b t k from.0 among (subst (λ (f : Function). slice_get f.blocks b ≡ Some from.0) (sym (written_is s entry right kinds o unit u p among)) from.1) aimed less) refl refl)
       where
         from : (block : Block) × (slice_get Fn.blocks b ≡ Some block)
-        from = block_at Fn.blocks b (subst (λ (n : ℕ). b < n) (graph_sized Fn) (reached_inside (graph Fn) b here))
+        from = at_inside Fn.blocks b (subst (λ (n : ℕ). b < n) (graph_sized Fn) (reached_inside (graph Fn) b here))
 
         aimed : IsIn t (once itself (targets_in p.graph b))
         aimed =

@@ -44,6 +44,7 @@ use Rattle.function_text.specs.Functions.{FunctionPlan, operand_in, first_operan
 use Rattle.unit_rules.specs.Unit.{IsUnitOf}
 use Rattle.block_graph.proofs.Within.{graph_sized}
 use Rattle.nest_place.proofs.Outward.{reached_inside}
+use Rattle.list_law.proofs.Lists.{index_get}
 use Rattle.function_law.proofs.Nodes.{node_is}
 use Rattle.fits_law.specs.State.{value_shape}
 use Rattle.plan_law.specs.InOrder.{IsAmong}
@@ -61,7 +62,6 @@ use Rattle.unit_law.specs.Mentioned.{IsMentioned, IsValueIn}
 use Rattle.unit_law.specs.Switches.{Chooses, by_condition, by_selector}
 use Rattle.unit_law.proofs.Lists.{found_by, as_among}
 use Rattle.unit_law.proofs.Links.{placed_in}
-use Rattle.unit_law.proofs.Steps.{at_index}
 use Rattle.unit_law.proofs.Kept.{shaped_type}
 use Rattle.unit_law.proofs.Ways.{HaveKinds, F, R, V, in_module, reached_nth}
 
@@ -187,7 +187,7 @@ module _ (s : Setting) (entry : Option (List ℕ)) (right : IsConforming s.of en
               live = λ set closed. closed.effects b k.0 i k.1 end.impure;
               slot = and_from (is_id i.op i.args 0) (is_value i.op 0 && is_taken Fn Marks i 0) end.is_operand
                   (and_from (is_value i.op 0) (is_taken Fn Marks i 0) end.mentions (ap (λ (x : Bool). not x || is_label_reached Fn Marks (slice_index i.args (0 + 1))) end.no_phi));
-              word = at_index i.args 0 end.some;
+              word = index_get i.args 0 end.some;
             }
 
         usable_of : (t : Tree) → value_shape s Fn (slice_index i.args 0) ≡ Some t → Usable b (slice_index i.args 0)

@@ -9,24 +9,12 @@ use Rattle.spv_index.specs.Locals.{insts_of}
 use Rattle.hoist_plan.specs.declared.form.Form.{Form}
 use Rattle.phi_copies.specs.Sequence.{Pair}
 use Rattle.function_plan.specs.Phis.{is_live_phi, values_in, comes_from, pair_with, given_by, pairs_into, pairs}
-use Rattle.accepted_law.proofs.Small.{args_in}
+use Rattle.list_law.proofs.Numbers.{zero_first}
+use Rattle.accepted_law.proofs.Small.{args_in, args_append}
 
 length_joined : (xs ys : List Pair) → length (xs ++ ys) ≡ length xs + length ys
-length_joined [] ys = behind_none (length ys)
-  where
-    behind_none : (n : ℕ) → n ≡ 0 + n
-    behind_none n = omega arith
+length_joined [] ys = zero_first (length ys)
 length_joined (x ∷ xs) ys = let rest = length_joined xs ys in omega (arith, rest)
-
-args_joined : (xs ys : List Inst) → args_in (xs ++ ys) ≡ args_in xs + args_in ys
-args_joined [] ys = behind_none (args_in ys)
-  where
-    behind_none : (n : ℕ) → n ≡ 0 + n
-    behind_none n = omega arith
-args_joined (x ∷ xs) ys = behind_one (length x.args) (args_in (xs ++ ys)) (args_in xs) (args_in ys) (args_joined xs ys)
-  where
-    behind_one : (a b c d : ℕ) → b ≡ c + d → a + b ≡ a + c + d
-    behind_one a b c d e = omega (arith, e)
 
 mapped_few : (f : ℕ × ℕ → Pair) (xs : List (ℕ × ℕ)) → length (map f xs) ≤ length xs
 mapped_few f [] = omega arith
@@ -69,9 +57,9 @@ block_few [] t holder at = cc
 block_few (x ∷ bs) zero holder at =
     let same : x ≡ holder = cc in
     subst (λ (y : Block). args_in y.insts ≤ args_in (x.insts ++ flat_map (λ (c : Block). c.insts) bs)) same
-    (let whole = args_joined x.insts (flat_map (λ (c : Block). c.insts) bs) in let le : args_in x.insts ≤ args_in (x.insts ++ flat_map (λ (c : Block). c.insts) bs) = omega (arith, whole) in le)
+    (let whole = args_append x.insts (flat_map (λ (c : Block). c.insts) bs) in let le : args_in x.insts ≤ args_in (x.insts ++ flat_map (λ (c : Block). c.insts) bs) = omega (arith, whole) in le)
 block_few (x ∷ bs) (suc t) holder at =
-    let whole = args_joined x.insts (flat_map (λ (c : Block). c.insts) bs) in
+    let whole = args_append x.insts (flat_map (λ (c : Block). c.insts) bs) in
     let rest = block_few bs t holder at in
     omega (arith, whole, rest)
 

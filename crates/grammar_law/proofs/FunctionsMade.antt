@@ -1,5 +1,5 @@
 -- The declaration of a function is made of declared words, where its blocks and edges are.
-use Rattle.std.proofs.Common.{◌≡◌, ◌==◌, ℕ, zero, suc, Bool, true, false, List, [], ◌∷◌, map, Option, Some, None, refl, sym, ◌∙◌, subst, if◌then◌else◌, ap}
+use Rattle.std.proofs.Common.{◌≡◌, ◌==◌, ℕ, Bool, true, false, List, [], map, Option, Some, None, refl, sym, ◌∙◌, subst, if◌then◌else◌, ap}
 use Rattle.std.specs.Prelude.{option_map, slice_get, slice_index, slice_index_or}
 use Rattle.spv_ops.specs.Opcode.{is}
 use Rattle.spv_ops.specs.declared.Op.TheVariants as code
@@ -29,6 +29,7 @@ use Rattle.control_text.specs.Statements.{function_text}
 use Rattle.function_text.specs.Functions.{FunctionPlan, written, copies_text, first_operand, returned, elem_at, blocks_of, top_text, param_text, result_type, function_key, function_name, body_text, function_decl}
 use Rattle.unit_rules.specs.Translation.{Naming, text_of, id_text}
 use Rattle.unit_rules.specs.Unit.{source_of, reached_of, IsUnitOf}
+use Rattle.list_law.proofs.Lists.{get_index}
 use Rattle.spell_law.specs.Uses.{Words, UsesExpr}
 use Rattle.spell_law.specs.Asked.{IsAsked}
 use Rattle.spell_law.specs.Statements.{EachStmt}
@@ -72,11 +73,6 @@ flow_own gs (Id n) flow = cc
 flow_own gs (BlockKey v s) flow = cc
 flow_own gs (Member s k) flow = cc
 flow_own gs (Captured q k) flow = cc
-
-index_at : (xs : List ℕ) (k t : ℕ) → slice_get xs k ≡ Some t → slice_index xs k ≡ t
-index_at [] k t at = cc
-index_at (x ∷ xs) zero t at = cc
-index_at (x ∷ xs) (suc k) t at = index_at xs k t at
 
 module _ (s : Setting) (entry : Option (List ℕ)) (right : IsConforming s.of entry) (kinds : HaveKinds s.of.globals) (o : Options) (unit : TranslationUnit) (u : IsUnitOf s.of o unit) (p : FunctionPlan) (among : IsIn p u.plans) (names : List (List ℕ)) (structs : AreOfStructs s.of.globals (name_of u.claimed) names)
     (declared : (g : Inst) → IsIn g s.of.globals → is_written_struct (source_of s.of o u.entry) (Written s.of o unit u) g ≡ true → is_declared names (id_text (name_of u.claimed) g.result) ≡ true)
@@ -152,7 +148,7 @@ module _ (s : Setting) (entry : Option (List ℕ)) (right : IsConforming s.of en
     aimed : (b k t : ℕ) → (nth (graph Fn) b).reached ≡ true → target (graph Fn) b k ≡ Some t → target_of p.graph b k ≡ t
     aimed b k t here at =
         ap (λ (g : List Node). target_of g b k) (plan_is s entry right kinds o unit u p among).graph_is
-        ∙ (ap (λ (r : Bool). slice_index (if r then (nth (graph Fn) b).targets else []) k) here ∙ index_at (nth (graph Fn) b).targets k t at)
+        ∙ (ap (λ (r : Bool). slice_index (if r then (nth (graph Fn) b).targets else []) k) here ∙ get_index (nth (graph Fn) b).targets k t at)
 
     tree_made : EachStmt W (function_text (blocks_of p) p.region)
     tree_made =

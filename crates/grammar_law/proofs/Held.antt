@@ -19,6 +19,8 @@ use Rattle.text_rules.specs.Declarations.{Names, length_extent, type_at, zero_at
 use Rattle.text_rules.specs.Printed.{Reached, has_struct, have_struct, is_written_struct}
 use Rattle.unit_rules.specs.Translation.{Naming, id_text}
 use Rattle.unit_rules.specs.Unit.{reached_of, source_of, IsUnitOf}
+use Rattle.list_law.proofs.Numbers.{same_number}
+use Rattle.list_law.proofs.Tests.{off_on}
 use Rattle.spell_law.specs.Uses.{Words, UsesExtent, UsesType, UsesExpr}
 use Rattle.typed_law.specs.Conforms.{IsConforming}
 use Rattle.constant_law.specs.Within.{IsStructBefore, IsWithin, AreWithin, IsNoBlock}
@@ -28,12 +30,8 @@ use Rattle.claim_law.proofs.Constants.{found_in}
 use Rattle.claim_law.proofs.Told.{named_is}
 use Rattle.unit_law.specs.Types.{IsLengthOf}
 use Rattle.unit_law.specs.Words.{words_of}
-use Rattle.unit_law.proofs.Lists.{test_same}
 use Rattle.unit_law.proofs.Types.{AreNamedIn, type_uses, zero_at_uses}
 use Rattle.unit_law.proofs.Structs.{struct_named}
-
-never : {A : Type 0} → false ≡ true → A
-never e = cc
 
 -- what is written hangs on no invocation
 abbrev pub any_invocation : Invocation
@@ -56,7 +54,7 @@ module _ (Q : Inst → Type 0) (m : ModuleState) (n j : ℕ) where
   own_or k ts own later has = by_test (k == j) refl has
     where
       by_test : (b : Bool) → (k == j) ≡ b → (b || have_struct j ts) ≡ true → StandsBefore
-      by_test true same has = subst (λ (x : ℕ). (us : Trees) × IsStructBefore Q m n x us) (test_same k j same) (ts, own)
+      by_test true same has = subst (λ (x : ℕ). (us : Trees) × IsStructBefore Q m n x us) (same_number k j same) (ts, own)
       by_test false other has = later has
 
   either : (t : Tree) (ts : Trees) → (has_struct j t ≡ true → StandsBefore) → (have_struct j ts ≡ true → StandsBefore) → (has_struct j t || have_struct j ts) ≡ true → StandsBefore
@@ -68,16 +66,16 @@ module _ (Q : Inst → Type 0) (m : ModuleState) (n j : ℕ) where
 
   mutual
     pub struct_in : (t : Tree) → IsWithin Q m n t → has_struct j t ≡ true → StandsBefore
-    struct_in plain.boolean w has = never has
-    struct_in plain.int w has = never has
-    struct_in plain.uint w has = never has
-    struct_in (plain.vector e k) w has = never has
+    struct_in plain.boolean w has = off_on has
+    struct_in plain.int w has = off_on has
+    struct_in plain.uint w has = off_on has
+    struct_in (plain.vector e k) w has = off_on has
     struct_in (plain.array t l) w has = struct_in t w.0 has
     struct_in (plain.runtime t) w has = struct_in t w has
     struct_in (plain.struct k ts) w has = own_or k ts w.0 (λ more. struct_among ts w.1 more) has
 
     pub struct_among : (ts : Trees) → AreWithin Q m n ts → have_struct j ts ≡ true → StandsBefore
-    struct_among no_trees w has = never has
+    struct_among no_trees w has = off_on has
     struct_among (tree t ts) w has = either t ts (λ own. struct_in t w.0 own) (λ more. struct_among ts w.1 more) has
 
 module _ (m : ModuleState) (entry : Option (List ℕ)) (right : IsConforming m entry) (o : Options) (unit : TranslationUnit) (u : IsUnitOf m o unit) where

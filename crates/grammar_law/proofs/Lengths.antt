@@ -28,6 +28,7 @@ use Rattle.text_rules.specs.Declarations.{extent_by, length_extent}
 use Rattle.text_rules.specs.Printed.{Reached, is_named, is_length_of, needs_constant, is_needed, is_declared_constant}
 use Rattle.unit_rules.specs.Translation.{Naming, id_text}
 use Rattle.unit_rules.specs.Unit.{reached_of, source_of, IsUnitOf}
+use Rattle.list_law.proofs.Numbers.{number_same}
 use Rattle.spell_law.specs.Uses.{Words, UsesExtent}
 use Rattle.spell_law.specs.Blocks.{FitWords}
 use Rattle.typed_law.specs.Conforms.{IsConforming}
@@ -40,7 +41,6 @@ use Rattle.claim_law.proofs.Constants.{found_in, no_struct}
 use Rattle.claim_law.proofs.Named.{Plans, has_name_of}
 use Rattle.unit_law.specs.Types.{IsLengthOf}
 use Rattle.unit_law.specs.Words.{words_of, AreOfStructs}
-use Rattle.unit_law.proofs.Lists.{same_test}
 use Rattle.grammar_law.proofs.Readings.{none_fits, first_fits, plain_word_fits, id_value, axis_member, no_struct_there}
 
 -- what gives a length
@@ -82,7 +82,7 @@ module _ (m : ModuleState) (entry : Option (List ℕ)) (right : IsConforming m e
   length_needed : (g : Inst) (n : ℕ) → IsIn g m.globals → is g.op code.TypeArray ≡ true → slice_index g.args 1 ≡ n → needs_constant S Written n ≡ true
   length_needed g n among array length =
       or_right (list_any (λ (k : ℕ). k == n) Written.mentions) _
-      (or_left (list_any (is_length_of n) m.globals) _ (any_in (is_length_of n) m.globals g among (and_from (is g.op code.TypeArray) (slice_index g.args 1 == n) array (same_test (slice_index g.args 1) n length))))
+      (or_left (list_any (is_length_of n) m.globals) _ (any_in (is_length_of n) m.globals g among (and_from (is g.op code.TypeArray) (slice_index g.args 1 == n) array (number_same (slice_index g.args 1) n length))))
 
   module _ (words : (g : Inst) → IsIn g m.globals → FitWords g.args) (given : AreGivenWords o.overrides) (names : List (List ℕ)) (structs : AreOfStructs m.globals (name_of u.claimed) names) where
     abbrev W : Words

@@ -11,6 +11,7 @@ use Rattle.glsl_ast.specs.Tree.{TranslationUnit}
 use Rattle.function_plan.specs.Phis.{is_gone}
 use Rattle.function_text.specs.Functions.{FunctionPlan}
 use Rattle.unit_rules.specs.Unit.{IsUnitOf}
+use Rattle.list_law.proofs.Tests.{clash}
 use Rattle.typed_law.specs.Conforms.{IsConforming}
 use Rattle.typed_law.proofs.Lists.{some_part}
 use Rattle.claim_law.specs.Claimed.{IsIn}
@@ -18,9 +19,6 @@ use Rattle.claim_law.proofs.Listed.{at_place}
 use Rattle.unit_law.proofs.Forms.{placed, unmade_gone}
 use Rattle.meets_law.proofs.LiveOrGone.{placed_live, live_form}
 use Rattle.unit_law.proofs.Ways.{HaveKinds, F, R, V, plan_is}
-
-clash : {A : Type 0} → true ≡ false → A
-clash e = cc
 
 module _ (s : Setting) (entry : Option (List ℕ)) (right : IsConforming s.of entry) (kinds : HaveKinds s.of.globals) (o : Options) (unit : TranslationUnit) (u : IsUnitOf s.of o unit) (p : FunctionPlan) (among : IsIn p u.plans) where
   made : (n : ℕ) → is_gone ((V s entry right kinds o unit u p among).form n) ≡ false → n ≡ 0 → ⊥

@@ -3,6 +3,7 @@ use Rattle.std.proofs.Common.{◌≡◌, ◌<◌, ◌≤◌, ◌+◌, ◌^◌, �
 use Rattle.std.specs.Prelude.{◌⊎◌}
 use Rattle.std.proofs.lemmas.List.{reverse-append}
 use Rattle.std.proofs.lemmas.List.Kept.{AllPairs-filter}
+use Rattle.std.proofs.lemmas.Option.{same_Some}
 use Rattle.phi_copies.specs.declared.moves.Var.{Var}
 use Rattle.phi_copies.specs.declared.moves.Src.{Src}
 use Rattle.phi_copies.specs.declared.moves.Src.TheVariants.{Var as Variable, Constant}
@@ -15,6 +16,7 @@ use Rattle.function_plan.specs.Phis.{firsts}
 use Rattle.function_plan.specs.Once.{once_by, with_id}
 use Rattle.function_plan.specs.Planned.{spares_in}
 use Rattle.function_plan.proofs.Firsts.{own_targets}
+use Rattle.list_law.proofs.Tests.{no_flip}
 use Rattle.claim_law.specs.Claimed.{IsIn}
 use Rattle.unit_law.proofs.Lists.{of_filter}
 
@@ -43,22 +45,15 @@ pair_in [] i less = absurd (omega (arith, less))
 pair_in (p ∷ ps) zero less = inl refl
 pair_in (p ∷ ps) (suc i) less = inr (pair_in ps i (let low : i < length ps = omega (arith, less) in low))
 
-not_both : {A : Type 0} (b : Bool) → b ≡ true → b ≡ false → A
-not_both true on off = cc
-not_both false on off = cc
-
 one_more : (j k n : ℕ) → j ≡ k → j ≡ n → k < 1 + n
 one_more j k n same is = omega (arith, same, is)
 
 later_less : (k n b : ℕ) → k < n → k < b + n
 later_less k n b less = omega (arith, less)
 
-number_is : (j k : ℕ) → Some j ≡ Some k → j ≡ k
-number_is j k e = cc
-
 -- a spare is numbered by the spares before
 pub save_number : (ps : List Pair) (h : List Move) (j : ℕ) (t : Var) → IsCopyNext ps h (Save j t) ⊎ IsSaveNext ps h (Save j t) → (j ≡ saves h) × IsTargetOf ps t
-save_number ps h j t (inl copy) = not_both (is_save (Save j t)) refl (ap is_save copy.move ∙ save_move (pair_at ps copy.at) (spare_of h))
+save_number ps h j t (inl copy) = no_flip (is_save (Save j t)) refl (ap is_save copy.move ∙ save_move (pair_at ps copy.at) (spare_of h))
 save_number ps h j t (inr save) = (number save.move, (pair_at ps save.at, pair_in ps save.at save.first.holds.below, given save.move))
   where
     number : Save j t ≡ Save (saves h) (pair_at ps save.at).0 → j ≡ saves h
@@ -78,7 +73,7 @@ spare_low ps (m ∷ h) next v k e = by_move m next.0 e (spare_low ps h next.1 v 
     by_move (Save j t) way is low = subst (λ (n : ℕ). k < n) (sym (saves_cons (Save j t) h)) (by_same (t.0 == v) is)
       where
         by_same : (b : Bool) → cond b (Some j) (spare_of h v) ≡ Some k → k < 1 + saves h
-        by_same true same = one_more j k (saves h) (number_is j k same) (save_number ps h j t way).0
+        by_same true same = one_more j k (saves h) (same_Some j k same) (save_number ps h j t way).0
         by_same false same = later_less k (saves h) 1 (low same)
 
 -- a copy of a pair

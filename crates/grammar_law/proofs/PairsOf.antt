@@ -1,7 +1,6 @@
 -- What a pair of an edge is: what a live phi of its block takes from the block where the edge begins.
-use Rattle.std.proofs.Common.{◌≡◌, ◌+◌, ◌%◌, ◌==◌, ◌&&◌, not, ℕ, zero, suc, Bool, true, false, List, [], ◌∷◌, filter, Option, Some, None, inl, inr, refl, sym, ap, ◌∙◌, subst, arith}
+use Rattle.std.proofs.Common.{◌≡◌, ◌+◌, ◌%◌, ◌==◌, not, ℕ, zero, suc, Bool, true, false, List, [], ◌∷◌, filter, Option, Some, None, inl, inr, refl, sym, ap, ◌∙◌, subst, arith}
 use Rattle.std.specs.Prelude.{◌⊎◌, slice_get, slice_index}
-use Rattle.std.proofs.lemmas.Bool.Decides.{nat_tests}
 use Rattle.std.proofs.lemmas.Bool.{not-true}
 use Rattle.spv_ops.specs.Opcode.{is}
 use Rattle.spv_ops.specs.declared.Op.TheVariants as code
@@ -13,10 +12,12 @@ use Rattle.hoist_plan.specs.declared.form.Form.{Form}
 use Rattle.phi_copies.specs.Sequence.{Pair}
 use Rattle.function_plan.specs.Phis.{is_gone, is_live_phi, live_phis, values_in, is_block, comes_from, pair_with, given_by, pairs_into}
 use Rattle.function_plan.specs.Once.{with_id, once_by, itself}
+use Rattle.list_law.proofs.Tests.{and_right}
+use Rattle.list_law.proofs.Numbers.{even_after, same_number}
 use Rattle.typed_law.proofs.Lists.{and_left}
 use Rattle.claim_law.specs.Claimed.{IsIn}
-use Rattle.unit_law.proofs.Lists.{test_same, of_filter, of_flat}
-use Rattle.grammar_law.proofs.Listed.{of_mapped}
+use Rattle.unit_law.proofs.Lists.{of_filter, of_flat}
+use Rattle.meets_law.proofs.LiveOrGone.{of_mapped}
 
 -- a value of a phi stands at an even place, and behind it the label of its block
 value_place : (args : List ℕ) (v : ℕ × ℕ) → IsIn v (values_in args) → (k : ℕ) × ((k % 2 == 0) ≡ true) × (slice_get args k ≡ Some v.0) × (slice_index args (k + 1) ≡ v.1) × (slice_get args (k + 1) ≡ Some v.1)
@@ -31,13 +32,10 @@ value_place (a ∷ b ∷ args) v (inr there) =
       subst (λ (n : ℕ). slice_index (a ∷ b ∷ args) n ≡ v.1) (let one : suc (suc (w.0 + 1)) ≡ suc (suc w.0) + 1 = omega arith in one) w.3,
       subst (λ (n : ℕ). slice_get (a ∷ b ∷ args) n ≡ Some v.1) (let one : suc (suc (w.0 + 1)) ≡ suc (suc w.0) + 1 = omega arith in one) w.4,
     )
-  where
-    even_after : (n : ℕ) → (n % 2 == 0) ≡ true → ((n + 2) % 2 == 0) ≡ true
-    even_after n e = grind (arith, nat_tests, e)
 
 found_block : (b : ℕ) (q : Option ℕ) → is_block b q ≡ true → q ≡ Some b
 found_block b None on = cc
-found_block b (Some c) on = ap (λ (x : ℕ). Some x) (test_same c b on)
+found_block b (Some c) on = ap (λ (x : ℕ). Some x) (same_number c b on)
 
 -- a pair of an edge
 pub record IsPairOf (gs : List Inst) (form : ℕ → Form) (f : Function) (b : ℕ) (holder : Block) (q : Pair) : Type 0 where
@@ -75,10 +73,6 @@ pair_of gs form f b holder q there =
       comes = found_block b (block_in f v.0.1) there_in.1;
       same = v.2;
     }
-  where
-    and_right : (a c : Bool) → (a && c) ≡ true → c ≡ true
-    and_right true c on = on
-    and_right false c on = cc
 
 -- an edge is among those of the block, each once
 pub in_once : (seen : ℕ → Bool) (ts : List ℕ) (t : ℕ) → seen t ≡ false → IsIn t ts → IsIn t (once_by itself seen ts)
@@ -92,7 +86,7 @@ in_once seen (x ∷ ts) t new there = by_seen (seen x) refl there (in_once seen 
         clash e = cc
 
     by_new : (b : Bool) → (t == x) ≡ b → IsIn t ts → (with_id x seen t ≡ false → IsIn t ts → IsIn t (once_by itself (with_id x seen) ts)) → IsIn t (x ∷ once_by itself (with_id x seen) ts)
-    by_new true same among later = inl (sym (test_same t x same))
+    by_new true same among later = inl (sym (same_number t x same))
     by_new false other among later = inr (later (ap (λ (b : Bool). elim b [ true ↦ true | false ↦ seen t ]) other ∙ new) among)
 
     by_seen : (b : Bool) → seen x ≡ b → (x ≡ t) ⊎ IsIn t ts → (IsIn t ts → IsIn t (once_by itself seen ts)) → (with_id x seen t ≡ false → IsIn t ts → IsIn t (once_by itself (with_id x seen) ts)) → IsIn t (elim b [ true ↦ once_by itself seen ts | false ↦ x ∷ once_by itself (with_id x seen) ts ])

@@ -1,5 +1,5 @@
 -- The result of a live phi has a name and a type of declared words, and what it takes from a reached block is read by its name or is a constant of such words.
-use Rattle.std.proofs.Common.{◌≡◌, ◌<◌, ◌+◌, ◌%◌, ◌==◌, ◌&&◌, ◌||◌, not, ℕ, zero, suc, Bool, true, false, List, [], ◌∷◌, length, filter, Contains, Option, Some, None, unwrap_or, refl, sym, ap, ◌∙◌, subst, arith, if◌then◌else◌}
+use Rattle.std.proofs.Common.{◌≡◌, ◌<◌, ◌+◌, ◌%◌, ◌==◌, ◌&&◌, ◌||◌, not, ℕ, Bool, true, false, List, length, filter, Contains, Option, Some, None, unwrap_or, refl, sym, ap, ◌∙◌, subst, if◌then◌else◌}
 use Rattle.std.specs.Prelude.{slice_get, slice_index, slice_index_or, option_and_then}
 use Rattle.std.specs.Option.{option_map_or, option_or}
 use Rattle.std.specs.List.{enumerate_from, list_any}
@@ -37,6 +37,8 @@ use Rattle.profile_rules.specs.TypeRows.{is_other}
 use Rattle.profile_rules.specs.TypeRules.{is_flow_broken}
 use Rattle.spv_index.specs.ValueTypes.{is_no_value_type}
 use Rattle.conformance.specs.Rules.{Options}
+use Rattle.list_law.proofs.Numbers.{number_same, number_other}
+use Rattle.list_law.proofs.Lists.{place_of}
 use Rattle.fits_law.specs.State.{value_shape}
 use Rattle.module_semantics.specs.Setting.{Setting}
 use Rattle.use_chains.specs.Slots.{is_value, is_taken, is_label_reached, is_slot, inst_at, IsLive, operands, mentions}
@@ -65,14 +67,15 @@ use Rattle.typed_law.proofs.Lists.{and_left, from_zero}
 use Rattle.typed_law.proofs.Rules.{operand_there, flow_right}
 use Rattle.typed_law.proofs.Values.{HasType, global_row, global_typed_some, variable_type_is, value_type_has, inside, local_row, typed_source, own_type, type_suits}
 use Rattle.typed_law.proofs.Shapes.{shaped_type}
-use Rattle.typed_law.proofs.Others.{typed_some}
+use Rattle.typed_law.proofs.Others.{typed_some, phi_group}
+use Rattle.typed_law.proofs.Calls.{variable_typed}
 use Rattle.claim_law.specs.Claimed.{IsIn, IsOf, HasName}
 use Rattle.claim_law.proofs.Listed.{in_flat, in_mapped, at_place, any_in}
 use Rattle.claim_law.proofs.Constants.{found_in, mention_in, constant_named}
 use Rattle.unit_law.specs.Mentioned.{IsMentioned}
 use Rattle.unit_law.specs.Types.{IsLengthOf}
 use Rattle.unit_law.specs.Words.{words_of, AreOfStructs}
-use Rattle.unit_law.proofs.Lists.{same_test, other_test, in_filter, none_passes, numbered_first, as_among}
+use Rattle.unit_law.proofs.Lists.{in_filter, none_passes, numbered_first, as_among}
 use Rattle.unit_law.proofs.Links.{placed_in, mention_at}
 use Rattle.unit_law.proofs.Shaped.{pointer_none, shaped_value}
 use Rattle.unit_law.proofs.Structs.{Written, named_type_uses}
@@ -86,11 +89,6 @@ use Rattle.grammar_law.proofs.Readings.{constant_uses}
 use Rattle.grammar_law.proofs.Lengths.{lengths_use}
 
 -- opcodes
-phi_group : (o : Op) → is o code.Phi ≡ true → group_of o ≡ groups.Phi
-unfolding number group_of
-phi_group code.Phi on = refl
-phi_group o on = cc
-
 phi_typed : (o : Op) → is o code.Phi ≡ true → (has_type o ≡ true) × (has_result o ≡ true)
 unfolding number shape
 phi_typed code.Phi on = (refl, refl)
@@ -105,16 +103,6 @@ phi_slot : (o : Op) (args : List ℕ) (k : ℕ) → is o code.Phi ≡ true → (
 unfolding number is_id need takes_of group_of
 phi_slot code.Phi args k on even = (from_zero k, even, ap (λ (b : Bool). if b then PhiValue else Label) even)
 phi_slot o args k on even = cc
-
-variable_typed : (o : Op) → is o code.Variable ≡ true → has_type o ≡ true
-unfolding number shape
-variable_typed code.Variable on = refl
-variable_typed o on = cc
-
-below_some : (xs : List ℕ) (k n : ℕ) → slice_get xs k ≡ Some n → (k < length xs) × (slice_index xs k ≡ n)
-below_some [] k n at = cc
-below_some (x ∷ xs) zero n at = ((let less : 0 < suc (length xs) = omega arith in less), let same : x ≡ n = cc in same)
-below_some (x ∷ xs) (suc k) n at = let w = below_some xs k n at in ((let low = w.0 in let less : suc k < suc (length xs) = omega (arith, low) in less), w.1)
 
 constant_at : (q : Option Inst) → option_map_or is_constant q false ≡ true → (g : Inst) × (q ≡ Some g) × (is_constant g ≡ true)
 constant_at None on = cc
@@ -204,7 +192,7 @@ module _ (s : Setting) (entry : Option (List ℕ)) (right : IsConforming s.of en
     -- what it takes from a reached block
     module _ (k n b : ℕ) (at : slice_get i.args k ≡ Some n) (even : (k % 2 == 0) ≡ true) (from : block_in Fn (slice_index i.args (k + 1)) ≡ Some b) (here : (nth (graph Fn) b).reached ≡ true) where
       below : (k < length i.args) × (slice_index i.args k ≡ n)
-      below = below_some i.args k n at
+      below = place_of i.args k n at
 
       slot_in : (f : Function) (marks : List Bool) → block_in f (slice_index i.args (k + 1)) ≡ Some b → slice_index_or marks b false ≡ true → is_slot f marks i k ≡ true
       slot_in f marks found on =
@@ -250,7 +238,7 @@ module _ (s : Setting) (entry : Option (List ℕ)) (right : IsConforming s.of en
           let g_in = (found_in Gs n g found).0 in
           let typed_is : g.ty ≡ 0 → ⊥ = (λ lacks. global_typed_some s entry right g (as_among Gs g g_in) (variable_typed g.op on) lacks) in
           let row = global_row s entry right g (as_among Gs g g_in) typed_is in
-          let own : typed g ≡ Some g.ty = ap (λ (b : Bool). if b then None else Some g.ty) (other_test g.ty 0 typed_is) in
+          let own : typed g ≡ Some g.ty = ap (λ (b : Bool). if b then None else Some g.ty) (number_other g.ty 0 typed_is) in
           let same : type_in Gs Fn n ≡ Some g.ty = ap (λ (q : Option Inst). option_or (option_and_then typed q) (local_type Fn n)) found ∙ ap (λ (q : Option ℕ). option_or q (local_type Fn n)) own in
           let of_type : type_tree Gs g.ty ≡ Some shaped.0 = ap (type_tree Gs) (same_Some g.ty type_is.0 (sym same ∙ type_is.1)) ∙ type_is.2 in
           pointer_none Gs row.0 shaped.0 (variable_type_is g.op row.0 on row.2) (ap (λ (q : Option Inst). option_map_or (tree_at Gs) q None) (sym row.1) ∙ of_type)
@@ -298,7 +286,7 @@ module _ (s : Setting) (entry : Option (List ℕ)) (right : IsConforming s.of en
           (in_filter (λ (operand : ℕ × ℕ). is_slot (written p) (liveness_of Src p).reached i operand.0) (enumerate_from 0 i.args) (k, n) (numbered_first i.args k n at)
           (slot_in (written p) (liveness_of Src p).reached (subst (λ (f : Function). block_in f (slice_index i.args (k + 1)) ≡ Some b) (sym (written_is s entry right kinds o unit u p among)) from)
           (reached_nth p.graph b ∙ (ap (λ (g : List Node). (nth g b).reached) (plan_is s entry right kinds o unit u p among).graph_is ∙ here)))))
-          (same_test n n refl)
+          (number_same n n refl)
 
       constant_value : is_constant_id Gs n ≡ true → UsesExpr W (constant_text Where n)
       constant_value on =

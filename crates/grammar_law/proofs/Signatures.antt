@@ -2,11 +2,9 @@
 use Rattle.std.proofs.Common.{◌≡◌, ◌==◌, ◌&&◌, ◌||◌, not, ℕ, Bool, true, false, List, [], ◌∷◌, ◌++◌, map, Option, Some, None, Contains, inl, inr, refl, sym, ap, ◌∙◌, subst, if◌then◌else◌}
 use Rattle.std.specs.Prelude.{flat_map, fold, unwrap_or, option_map, option_and_then, slice_index}
 use Rattle.std.specs.Option.{option_map_or}
-use Rattle.std.specs.List.{list_any}
 use Rattle.std.proofs.lemmas.Option.{same_Some}
-use Rattle.spv_ops.specs.Opcode.{is, number}
+use Rattle.spv_ops.specs.Opcode.{is}
 use Rattle.spv_ops.specs.Enumerants.{class_number}
-use Rattle.spv_ops.specs.declared.Op.{Op}
 use Rattle.spv_ops.specs.declared.Op.TheVariants as code
 use Rattle.spv_ops.specs.declared.StorageClass.TheVariants as storage
 use Rattle.spv_module.specs.Held.{global}
@@ -19,7 +17,7 @@ use Rattle.spv_types.specs.Types.{tree_at, type_tree}
 use Rattle.spv_decor.specs.Rows.{word}
 use Rattle.spv_index.specs.BlockStructs.{is_block, is_some_block}
 use Rattle.spv_index.specs.Pointers.{as_pointer, pointee}
-use Rattle.spv_index.specs.ValueTypes.{other_by, other_step, with_other, is_no_value_type}
+use Rattle.spv_index.specs.ValueTypes.{other_step, with_other, is_no_value_type}
 use Rattle.profile_rules.specs.Places.{is_among}
 use Rattle.profile_rules.specs.TypeForm.{parts_of, pointees, value_types, signature, signature_types, block_misuses, is_no_variable}
 use Rattle.conformance.specs.Rules.{Options}
@@ -36,20 +34,23 @@ use Rattle.expr_forward.specs.Statements.{is_void}
 use Rattle.function_text.specs.Functions.{FunctionPlan, param_text, result_type}
 use Rattle.unit_rules.specs.Translation.{Naming, text_of, id_text, names_of}
 use Rattle.unit_rules.specs.Unit.{source_of, IsUnitOf}
+use Rattle.list_law.proofs.Numbers.{number_same}
+use Rattle.list_law.proofs.Tests.{clash}
 use Rattle.spell_law.specs.Uses.{Words, UsesType}
 use Rattle.spell_law.specs.Units.{UseParams, UsesResult}
 use Rattle.spell_law.specs.Blocks.{FitWords}
-use Rattle.typed_law.specs.Conforms.{IsParameter, IsConforming}
+use Rattle.typed_law.specs.Conforms.{IsConforming}
 use Rattle.typed_law.specs.Words.{AreGivenWords}
-use Rattle.typed_law.proofs.Lists.{or_left, or_right, and_off}
+use Rattle.typed_law.proofs.Lists.{or_right, and_off}
 use Rattle.typed_law.proofs.Used.{among_right as ids_right}
 use Rattle.typed_law.proofs.Values.{inside, parameter_right}
+use Rattle.constant_law.proofs.Within.{other_struct}
 use Rattle.claim_law.specs.Claimed.{IsIn}
 use Rattle.claim_law.proofs.Listed.{in_flat, in_mapped, any_in}
 use Rattle.claim_law.proofs.Constants.{found_in}
 use Rattle.claim_law.proofs.Named.{parameter_named}
 use Rattle.unit_law.specs.Words.{words_of, AreOfStructs}
-use Rattle.unit_law.proofs.Lists.{same_test, of_contained}
+use Rattle.unit_law.proofs.Lists.{of_contained, as_parameter}
 use Rattle.unit_law.proofs.Free.{misused_free, open_free}
 use Rattle.unit_law.proofs.Structs.{Written, HasNames, written_names}
 use Rattle.unit_law.proofs.TypesWritten.{parameter_type_written, return_type_written}
@@ -69,24 +70,16 @@ module _ (heads gs : List Inst) (n : ℕ) where
   fold_off [] f g there same off = absurd there
   fold_off (h ∷ list) f g (inl here) same off = (f, by_test (with_other heads gs f h n) refl)
     where
-      never : {A : Type 0} → true ≡ false → A
-      never e = cc
-
       own : (h.result == n) ≡ true
-      own = same_test h.result n (ap (λ (x : Inst). x.result) here ∙ same)
+      own = number_same h.result n (ap (λ (x : Inst). x.result) here ∙ same)
 
       by_test : (b : Bool) → with_other heads gs f h n ≡ b → other_step heads gs f g ≡ false
-      by_test true on = never (sym (kept_on list (with_other heads gs f h) on) ∙ off)
+      by_test true on = clash (sym (kept_on list (with_other heads gs f h) on) ∙ off)
       by_test false told = subst (λ (x : Inst). other_step heads gs f x ≡ false) here (and_off (h.result == n) (other_step heads gs f h) (or_right (f n) ((h.result == n) && other_step heads gs f h) told) own)
   fold_off (h ∷ list) f g (inr later) same off = fold_off list (with_other heads gs f h) g later same off
 
-struct_off : (heads gs : List Inst) (f : ℕ → Bool) (g : Inst) (o : Op) → is o code.TypeStruct ≡ true → other_by heads gs f g o ≡ false → is_block heads g.result ≡ false
-unfolding number
-struct_off heads gs f g code.TypeStruct on off = or_left (is_block heads g.result) (list_any f g.args) off
-struct_off heads gs f g o on off = cc
-
 value_no_block : (heads gs : List Inst) (g : Inst) → IsIn g gs → is_no_value_type heads gs g.result ≡ false → is g.op code.TypeStruct ≡ true → is_block heads g.result ≡ false
-value_no_block heads gs g there off on = let w = fold_off heads gs g.result gs (λ (k : ℕ). false) g there refl off in struct_off heads gs w.0 g g.op on w.1
+value_no_block heads gs g there off on = let w = fold_off heads gs g.result gs (λ (k : ℕ). false) g there refl off in other_struct heads gs w.0 g g.op on w.1
 
 -- a pointer type by its row
 pointer_row : (gs : List Inst) (ty q : ℕ) → pointee gs ty ≡ Some q → (c : Inst) × (global gs ty ≡ Some c) × (is c.op code.TypePointer ≡ true) × (word c 1 ≡ q)
@@ -99,11 +92,6 @@ pointer_row gs ty q points = by_global (global gs ty) refl points
     by_global : (x : Option Inst) → global gs ty ≡ x → option_map (λ (p : Inst). slice_index p.args 1) (option_and_then as_pointer x) ≡ Some q → (d : Inst) × (global gs ty ≡ Some d) × (is d.op code.TypePointer ≡ true) × (word d 1 ≡ q)
     by_global None at e = cc
     by_global (Some c) at e = by_test c at (is c.op code.TypePointer) refl e
-
-as_parameter : (q : IdOf × IdOf) (ps : List (IdOf × IdOf)) → IsIn q ps → IsParameter q ps
-as_parameter q [] there = absurd there
-as_parameter q (p ∷ ps) (inl same) = inl same
-as_parameter q (p ∷ ps) (inr there) = inr (as_parameter q ps there)
 
 module _ (s : Setting) (entry : Option (List ℕ)) (right : IsConforming s.of entry) (kinds : HaveKinds s.of.globals) (o : Options) (unit : TranslationUnit) (u : IsUnitOf s.of o unit) (p : FunctionPlan) (among : IsIn p u.plans) (names : List (List ℕ)) (structs : AreOfStructs s.of.globals (name_of u.claimed) names)
     (declared : (g : Inst) → IsIn g s.of.globals → is_written_struct (source_of s.of o u.entry) (Written s.of o unit u) g ≡ true → is_declared names (id_text (name_of u.claimed) g.result) ≡ true)
@@ -133,7 +121,7 @@ module _ (s : Setting) (entry : Option (List ℕ)) (right : IsConforming s.of en
   signed : (ty : ℕ) → IsIn ty (signature Fn) → is_among (block_misuses s.of) ty ≡ true
   signed ty there =
       ids_right (flat_map parts_of Gs ++ pointees s.of (λ v. not (is_some_block s.of.heads Gs v)) ++ value_types s.of) (signature_types s.of) ty
-      (any_in (λ (n : ℕ). n == ty) (signature_types s.of) ty (in_flat signature s.of.functions Fn ty (of_contained s.of.functions Fn in_it) there) (same_test ty ty refl))
+      (any_in (λ (n : ℕ). n == ty) (signature_types s.of) ty (in_flat signature s.of.functions Fn ty (of_contained s.of.functions Fn in_it) there) (number_same ty ty refl))
 
   module _ (q : IdOf × IdOf) (there : IsIn q Fn.params) where
     listed : IsIn q.1.0 (written_types Src (Written s.of o unit u))

@@ -1,6 +1,6 @@
 -- The line of the size of workgroups has parts, for the axes, and their numbers are words (P9, P10).
 use Rattle.std.proofs.Common.{◌≡◌, ◌≤◌, ◌<◌, ◌==◌, ◌&&◌, ◌||◌, not, ℕ, Bool, true, false, List, [], ◌∷◌, ◌++◌, length, map, drop, Option, Some, None, Contains, refl, sym, ap, subst, if◌then◌else◌, arith}
-use Rattle.std.specs.Prelude.{zero, suc, find, flat_map, nat_le, nat_lt, option_map, IsSomeAnd}
+use Rattle.std.specs.Prelude.{find, flat_map, nat_le, nat_lt, option_map, IsSomeAnd}
 use Rattle.std.specs.Option.{option_map_or}
 use Rattle.std.specs.List.{count_by, list_any, list_all, zip}
 use Rattle.std.proofs.lemmas.List.Elements.{Contains-append_left, Contains-append_right}
@@ -35,6 +35,7 @@ use Rattle.typed_law.proofs.Lists.{and_left, and_off, or_left, or_right, none_at
 use Rattle.claim_law.specs.Claimed.{IsIn}
 use Rattle.claim_law.proofs.Constants.{found_in}
 use Rattle.unit_law.proofs.Lists.{found_by, as_among}
+use Rattle.meets_law.proofs.CompositeMeets.{dropped}
 use Rattle.grammar_law.proofs.Readings.{none_fits, FitsIfGiven, given_fits}
 use Rattle.grammar_law.proofs.StructItems.{nth_fits}
 
@@ -55,11 +56,6 @@ none_either p q (x ∷ xs) p_off q_off = by_tests (p x) (q x) p_off q_off (none_
     by_tests false false p_off q_off later = later p_off q_off
     by_tests true b p_off q_off later = cc
     by_tests false true p_off q_off later = cc
-
-drop_fits : (n : ℕ) (ws : List ℕ) → FitWords ws → FitWords (drop n ws)
-drop_fits zero ws fit = fit
-drop_fits (suc n) [] fit = tt
-drop_fits (suc n) (w ∷ ws) fit = drop_fits n ws fit.1
 
 some_dropped : (ws : List ℕ) → (length ws == 5) ≡ true → 1 ≤ length (drop 2 ws)
 some_dropped [] five = absurd (never five)
@@ -162,7 +158,7 @@ module _ (m : ModuleState) (rows : (h : Inst) → IsIn h m.heads → FitWords h.
     where
       by_literals : (q : Option Inst) → find (is_local_size f) m.heads ≡ q → FitParts (option_map_or (λ (i : Inst). map Fixed (drop 2 i.args)) q [])
       by_literals None at = tt
-      by_literals (Some i) at = numbers_fit (drop 2 i.args) (drop_fits 2 i.args (rows i (found_by (is_local_size f) m.heads i at).0))
+      by_literals (Some i) at = numbers_fit (drop 2 i.args) (dropped 2 i.args (rows i (found_by (is_local_size f) m.heads i at).0))
 
       by_ids : (q : Option Inst) → FitParts (option_map_or (λ (i : Inst). map (size_part m) (drop 2 i.args)) q (size_by_literals m.heads f))
       by_ids None = by_literals (find (is_local_size f) m.heads) refl

@@ -64,9 +64,6 @@ whole_type gs at p v shaped = by_earlier (earlier gs at p) refl (sym (tree_befor
     by_earlier None there e = cc
     by_earlier (Some h) there e = ap (λ (q : Option Inst). option_map_or (tree_at gs) q None) (earlier_some gs at p h there).0 ∙ e
 
-same_trees : (a b : Trees) → Some a ≡ Some b → a ≡ b
-same_trees a b e = cc
-
 module _ (Q : Inst → Type 0) (m : ModuleState) (n : ℕ) (f : ℕ → Option Tree) where
   -- the member at a place has a type with a shape, which is within, and of which each struct is one of the struct's
   abbrev pub IsMember : ℕ → Trees → Type 0
@@ -88,7 +85,7 @@ module _ (Q : Inst → Type 0) (m : ModuleState) (n : ℕ) (f : ℕ → Option T
       by_both None one r rest e later = cc
       by_both (Some v) one None rest e later = cc
       by_both (Some v) one (Some vs) rest e later =
-          let same = same_trees (tree v vs) ts e in
+          let same = same_Some (tree v vs) ts e in
           subst (IsMember ty) same (by_place v vs one rest (subst (AreWithin Q m n) (sym same) within) later k at)
 
 -- numbers in decorations

@@ -1,5 +1,5 @@
 -- What is declared at the top of a function's text, its parameters and its result have names, and types of declared words.
-use Rattle.std.proofs.Common.{◌≡◌, ◌<◌, ◌==◌, ◌&&◌, ◌||◌, not, ℕ, suc, Bool, true, false, List, [], ◌∷◌, ◌++◌, drop, length, map, filter, Option, Some, None, Contains, inl, inr, refl, sym, ap, ◌∙◌, subst, if◌then◌else◌, arith}
+use Rattle.std.proofs.Common.{◌≡◌, ◌<◌, ◌==◌, ◌&&◌, ◌||◌, not, ℕ, Bool, true, false, List, [], ◌∷◌, ◌++◌, drop, length, map, filter, Option, Some, None, Contains, inl, inr, refl, sym, ap, ◌∙◌, subst, if◌then◌else◌, arith}
 use Rattle.std.specs.Prelude.{◌⊎◌, ◌+◌, flat_map, nat_lt, option_and_then, unwrap_or, slice_get, slice_index, slice_index_or}
 use Rattle.std.specs.Option.{option_map_or}
 use Rattle.std.specs.List.{enumerate_from, list_any, filter_map, cons_option}
@@ -59,6 +59,8 @@ use Rattle.function_text.specs.Functions.{FunctionPlan, written, is_variable, va
 use Rattle.function_text.specs.Live.{is_composite_type, is_composite, is_wanted}
 use Rattle.unit_rules.specs.Translation.{Naming, text_of, id_text, names_of}
 use Rattle.unit_rules.specs.Unit.{claims_by, liveness_of, source_of, IsUnitOf}
+use Rattle.list_law.proofs.Numbers.{number_same}
+use Rattle.list_law.proofs.Lists.{second_at}
 use Rattle.spell_law.specs.Uses.{Words, UsesExtent, UsesType, UsesExpr}
 use Rattle.spell_law.specs.Statements.{UsesStmt, EachStmt}
 use Rattle.spell_law.specs.Blocks.{FitWords}
@@ -79,7 +81,7 @@ use Rattle.claim_law.proofs.Constants.{found_in, mention_in, constant_named}
 use Rattle.claim_law.proofs.Named.{captured_named}
 use Rattle.unit_law.specs.Types.{IsLengthOf}
 use Rattle.unit_law.specs.Words.{words_of, AreOfStructs}
-use Rattle.unit_law.proofs.Lists.{at_some, same_test, in_filter, of_filter, none_passes, in_either, of_flat, of_numbered_first, numbered_first, as_among}
+use Rattle.unit_law.proofs.Lists.{at_some, in_filter, of_filter, none_passes, in_either, of_flat, of_numbered_first, numbered_first, as_among}
 use Rattle.unit_law.proofs.Forms.{unmade_gone}
 use Rattle.unit_law.proofs.Free.{misused_free}
 use Rattle.unit_law.proofs.Structs.{Written, HasNames, written_names, named_type_uses, named_zero_uses}
@@ -87,17 +89,14 @@ use Rattle.unit_law.proofs.TypesWritten.{type_written, top_type_written}
 use Rattle.unit_law.proofs.ValueNames.{result_names}
 use Rattle.unit_law.proofs.Ways.{HaveKinds, F, V, in_module, plan_is, written_is, reached_nth}
 use Rattle.unit_law.proofs.Sets.{own_text, formed_text}
+use Rattle.meets_law.proofs.Roots.{variable_impure}
+use Rattle.meets_law.proofs.LiveOrGone.{of_mapped}
 use Rattle.grammar_law.proofs.Readings.{none_fits, constant_uses}
 use Rattle.grammar_law.proofs.Lengths.{lengths_use}
-use Rattle.grammar_law.proofs.Listed.{of_mapped, each_stmt}
+use Rattle.grammar_law.proofs.Listed.{each_stmt}
 use Rattle.grammar_law.proofs.TypeNames.{any_type_uses, flat_has}
 
 -- opcodes
-variable_impure : (o : Op) → is o code.Variable ≡ true → is_pure o ≡ false
-unfolding shape number group_of
-variable_impure code.Variable on = refl
-variable_impure o on = cc
-
 variable_typed : (o : Op) → is o code.Variable ≡ true → (has_type o ≡ true) × (has_result o ≡ true)
 unfolding shape number
 variable_typed code.Variable on = (refl, refl)
@@ -145,7 +144,7 @@ pointee_among gs test [] v q there on passed at = absurd there
 pointee_among gs test (j ∷ is) v q (inl same) on passed at =
     subst (λ (x : Inst). is_among (filter_map (pointee_by gs test) (x ∷ is)) q ≡ true) (sym same)
     (subst (λ (x : Option ℕ). is_among (cons_option x (filter_map (pointee_by gs test) is)) q ≡ true) (sym (ap (λ (b : Bool). if b && test v then pointee gs v.ty else None) on ∙ (ap (λ (b : Bool). if b then pointee gs v.ty else None) passed ∙ at)))
-    (ap (λ (b : Bool). b || is_among (filter_map (pointee_by gs test) is) q) (same_test q q refl)))
+    (ap (λ (b : Bool). b || is_among (filter_map (pointee_by gs test) is) q) (number_same q q refl)))
 pointee_among gs test (j ∷ is) v q (inr there) on passed at = by_option (pointee_by gs test j) (pointee_among gs test is v q there on passed at)
   where
     by_option : (x : Option ℕ) → is_among (filter_map (pointee_by gs test) is) q ≡ true → is_among (cons_option x (filter_map (pointee_by gs test) is)) q ≡ true
@@ -263,11 +262,6 @@ module _ (s : Setting) (entry : Option (List ℕ)) (right : IsConforming s.of en
       module _ (n : ℕ) (second : slice_get i.args 1 ≡ Some n) where
         place : (1 < length i.args) × (slice_index i.args 1 ≡ n)
         place = second_at i.args n second
-          where
-            second_at : (args : List ℕ) (n : ℕ) → slice_get args 1 ≡ Some n → (1 < length args) × (slice_index args 1 ≡ n)
-            second_at [] n e = cc
-            second_at (a ∷ []) n e = cc
-            second_at (a ∷ b ∷ args) n e = ((let low : 1 < suc (suc (length args)) = omega arith in low), let same : b ≡ n = cc in same)
 
         pub first_constant : (h : Inst) → global Gs n ≡ Some h → is_constant_op h.op ≡ true
         first_constant h at =
@@ -284,7 +278,7 @@ module _ (s : Setting) (entry : Option (List ℕ)) (right : IsConforming s.of en
             any_in (λ (k : ℕ). k == n) (mentions (written p) (liveness_of Src p).reached i) n
             (in_mapped (λ (operand : ℕ × ℕ). operand.1) (operands (written p) (liveness_of Src p).reached i) (1, n)
             (in_filter (λ (operand : ℕ × ℕ). is_slot (written p) (liveness_of Src p).reached i operand.0) (enumerate_from 0 i.args) (1, n) (numbered_first i.args 1 n second) slot))
-            (same_test n n refl)
+            (number_same n n refl)
           where
             parts : (is_id i.op i.args 1 ≡ true) × (is_value i.op 1 ≡ true) × (is i.op code.Phi ≡ false)
             parts = variable_slot i.op i.args on

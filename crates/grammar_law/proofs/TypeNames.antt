@@ -28,6 +28,7 @@ use Rattle.text_rules.specs.Types.{type_text}
 use Rattle.function_text.specs.Live.{is_composite_type, is_composite}
 use Rattle.unit_rules.specs.Translation.{id_text, names_of}
 use Rattle.unit_rules.specs.Unit.{source_of, IsUnitOf}
+use Rattle.list_law.proofs.Tests.{clash}
 use Rattle.spell_law.specs.Uses.{Words, UsesExtent, UsesType}
 use Rattle.typed_law.specs.Conforms.{IsConforming}
 use Rattle.typed_law.proofs.Types.{type_shaped}
@@ -35,6 +36,7 @@ use Rattle.claim_law.specs.Claimed.{IsIn}
 use Rattle.unit_law.specs.Types.{IsLengthOf}
 use Rattle.unit_law.specs.Words.{words_of}
 use Rattle.unit_law.proofs.Structs.{HasNames, named_type_uses}
+use Rattle.meets_law.proofs.OperandNames.{array_composite, runtime_composite, struct_composite}
 use Rattle.grammar_law.proofs.Held.{Written}
 
 -- opcodes
@@ -48,28 +50,10 @@ unfolding kind
 shapeless_kind code.TypeVoid on = refl
 shapeless_kind o on = cc
 
-array_composite : (o : Op) → kind o ≡ kinds.Array → is_composite_type o ≡ true
-unfolding kind
-array_composite code.TypeArray on = refl
-array_composite o on = cc
-
-runtime_composite : (o : Op) → kind o ≡ kinds.Runtime → is_composite_type o ≡ true
-unfolding kind
-runtime_composite code.TypeRuntimeArray on = refl
-runtime_composite o on = cc
-
-struct_composite : (o : Op) → kind o ≡ kinds.Struct → is_composite_type o ≡ true
-unfolding kind
-struct_composite code.TypeStruct on = refl
-struct_composite o on = cc
-
 -- scalars and vectors have no struct in them
 module _ (gs : List Inst) (g : Inst) (off : is_composite_type g.op ≡ false) (n : ℕ) where
   clash_of : {A : Type 0} → is_composite_type g.op ≡ true → A
-  clash_of on = never (sym on ∙ off)
-    where
-      never : {A : Type 0} → true ≡ false → A
-      never e = cc
+  clash_of on = clash (sym on ∙ off)
 
   vector_flat : (q : Option Tree) (k : ℕ) (t : Tree) → vector_tree q k ≡ Some t → has_struct n t ≡ false
   vector_flat None k t e = cc

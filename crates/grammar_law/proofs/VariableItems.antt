@@ -1,11 +1,11 @@
 -- A variable that is written has a name, and a type of declared words; one that is a block has a block's name, and members; one of class Private a first value.
-use Rattle.std.proofs.Common.{◌≡◌, ◌≤◌, ◌<◌, ◌==◌, ◌&&◌, ◌||◌, not, ℕ, Bool, true, false, List, [], ◌∷◌, length, Option, Some, None, refl, sym, ap, ◌∙◌, subst, if◌then◌else◌, arith, suc}
+use Rattle.std.proofs.Common.{◌≡◌, ◌≤◌, ◌<◌, ◌==◌, ◌&&◌, ◌||◌, not, ℕ, Bool, true, false, List, [], ◌∷◌, length, Option, Some, None, refl, sym, ap, ◌∙◌, subst, if◌then◌else◌, arith}
 use Rattle.std.specs.Prelude.{nat_le, nat_lt, option_map, option_and_then, unwrap_or, slice_get, slice_index}
 use Rattle.std.specs.Option.{option_map_or}
 use Rattle.std.specs.List.{count_by, list_any}
 use Rattle.std.proofs.lemmas.Bool.Decides.{nat_tests}
 use Rattle.std.proofs.lemmas.Bool.{and_from, not-false, or_left as or_on_left, or_right as or_on_right}
-use Rattle.std.proofs.lemmas.Option.{same_Some}
+use Rattle.std.proofs.lemmas.Option.{same_Some, none-some}
 use Rattle.spv_ops.specs.Opcode.{is, number}
 use Rattle.spv_ops.specs.Operands.{is_id}
 use Rattle.spv_ops.specs.Groups.{is_constant as is_constant_op}
@@ -15,7 +15,6 @@ use Rattle.spv_ops.specs.declared.Op.{Op}
 use Rattle.spv_ops.specs.declared.Op.TheVariants as code
 use Rattle.spv_ops.specs.declared.StorageClass.TheVariants as storage
 use Rattle.spv_ops.specs.declared.Decoration.TheVariants as decoration
-use Rattle.spv_module.specs.Inst.{has_type}
 use Rattle.spv_module.specs.State.{ModuleState}
 use Rattle.spv_module.specs.Held.{global}
 use Rattle.spv_module.specs.Lists.{id}
@@ -42,6 +41,9 @@ use Rattle.text_rules.specs.Constants.{constant_expr}
 use Rattle.text_rules.specs.Declarations.{Names, members, pointee_at, zero_at, type_at, expr_at, initial, place_of, block_decl, variable_decl}
 use Rattle.text_rules.specs.Printed.{class, is_variable, is_private, is_workgroup, is_block_variable, is_operand_in, is_written_variable, is_declared_constant, is_length_of, needs_constant, has_operand, has_struct, have_struct}
 use Rattle.unit_rules.specs.Unit.{source_of, IsUnitOf}
+use Rattle.list_law.proofs.Numbers.{same_number}
+use Rattle.list_law.proofs.Lists.{second_at}
+use Rattle.list_law.proofs.Tests.{common}
 use Rattle.spell_law.specs.Uses.{Words, UsesType, UsesExpr}
 use Rattle.spell_law.specs.Units.{UsesDecl, UseDecls}
 use Rattle.spell_law.specs.Blocks.{FitWords}
@@ -53,6 +55,7 @@ use Rattle.typed_law.proofs.Lists.{and_left, and_right, and_off, or_left, or_rig
 use Rattle.typed_law.proofs.Rules.{initializer_right}
 use Rattle.typed_law.proofs.Types.{row_is, pointee_shaped}
 use Rattle.typed_law.proofs.Values.{variable_type_is, global_row, global_typed_some}
+use Rattle.typed_law.proofs.Calls.{variable_typed}
 use Rattle.constant_law.specs.Within.{IsWithin, IsNoBlock}
 use Rattle.constant_law.proofs.Needed.{operand_at}
 use Rattle.constant_law.proofs.Within.{pointee_before, pointee_within}
@@ -64,7 +67,7 @@ use Rattle.claim_law.proofs.Constants.{found_in}
 use Rattle.claim_law.proofs.Named.{Plans, has_name_of}
 use Rattle.claim_law.proofs.Variables.{variable_no_struct, undeclared}
 use Rattle.unit_law.specs.Words.{words_of, AreOfStructs}
-use Rattle.unit_law.proofs.Lists.{test_same, as_among}
+use Rattle.unit_law.proofs.Lists.{as_among}
 use Rattle.unit_law.proofs.Structs.{block_member_named}
 use Rattle.grammar_law.proofs.Readings.{none_fits, constant_uses}
 use Rattle.grammar_law.proofs.Lengths.{lengths_use, declared_named, needed_declared, first_needed}
@@ -72,34 +75,20 @@ use Rattle.grammar_law.proofs.Held.{Written, Run, Held, AreDeclaredBefore, type_
 use Rattle.grammar_law.proofs.TypeNames.{kind_type}
 use Rattle.grammar_law.proofs.StructItems.{N, key_is_name, value_fits, some_members, members_use, block_members_use, some_members_written}
 
-class_on : (v a b c : Bool) → ((v && a) || ((v && b) || (v && c))) ≡ true → v ≡ true
-class_on true a b c on = refl
-class_on false a b c on = cc
-
-variable_typed : (o : Op) → is o code.Variable ≡ true → has_type o ≡ true
-unfolding shape number
-variable_typed code.Variable on = refl
-variable_typed o on = cc
-
 variable_id : (o : Op) (args : List ℕ) → is o code.Variable ≡ true → is_id o args 1 ≡ true
 unfolding is_id number
 variable_id code.Variable args on = refl
 variable_id o args on = cc
 
-second_at : (args : List ℕ) (n : ℕ) → slice_get args 1 ≡ Some n → (1 < length args) × (slice_index args 1 ≡ n)
-second_at [] n e = cc
-second_at (a ∷ []) n e = cc
-second_at (a ∷ b ∷ args) n e = ((let low : 1 < suc (suc (length args)) = omega arith in low), let same : b ≡ n = cc in same)
-
 -- a class that is none of blocks
 private_no_block : (heads gs : List Inst) (v : Inst) (q : ℕ) → pointee gs v.ty ≡ Some q → (class v == class_number storage.Private) ≡ true → is_some_block heads gs v ≡ false
 private_no_block heads gs v q points on =
-    ap (λ (c : ℕ). option_map_or (is_block_struct heads c) (pointee gs v.ty) false) (test_same (class v) (class_number storage.Private) on)
+    ap (λ (c : ℕ). option_map_or (is_block_struct heads c) (pointee gs v.ty) false) (same_number (class v) (class_number storage.Private) on)
     ∙ ap (λ (x : Option ℕ). option_map_or (is_block_struct heads (class_number storage.Private)) x false) points
 
 workgroup_no_block : (heads gs : List Inst) (v : Inst) (q : ℕ) → pointee gs v.ty ≡ Some q → (class v == class_number storage.Workgroup) ≡ true → is_some_block heads gs v ≡ false
 workgroup_no_block heads gs v q points on =
-    ap (λ (c : ℕ). option_map_or (is_block_struct heads c) (pointee gs v.ty) false) (test_same (class v) (class_number storage.Workgroup) on)
+    ap (λ (c : ℕ). option_map_or (is_block_struct heads c) (pointee gs v.ty) false) (same_number (class v) (class_number storage.Workgroup) on)
     ∙ ap (λ (x : Option ℕ). option_map_or (is_block_struct heads (class_number storage.Workgroup)) x false) points
 
 -- P15
@@ -146,7 +135,7 @@ module _ (m : ModuleState) (entry : Option (List ℕ)) (right : IsConforming m e
   Gs = m.globals
 
   pub one : is_variable v ≡ true
-  one = class_on (is_variable v) _ _ _ (and_left (is_private v || (is_workgroup v || is_block_variable v)) (is_operand_in (Written m entry right o unit u).functions v.result) written)
+  one = common (is_variable v) _ _ _ (and_left (is_private v || (is_workgroup v || is_block_variable v)) (is_operand_in (Written m entry right o unit u).functions v.result) written)
 
   classed : (is_private v || (is_workgroup v || is_block_variable v)) ≡ true
   classed = and_left (is_private v || (is_workgroup v || is_block_variable v)) (is_operand_in (Written m entry right o unit u).functions v.result) written
@@ -199,13 +188,10 @@ module _ (m : ModuleState) (entry : Option (List ℕ)) (right : IsConforming m e
   no_block_class : block_of Gs v ≡ None → is_some_block m.heads Gs v ≡ false
   no_block_class none = by_class (is_private v) refl (is_workgroup v) refl (is_block_variable v) refl classed
     where
-      no_some : (h : Inst) → None ≡ Some h → ⊥
-      no_some h e = cc
-
       by_class : (a : Bool) → is_private v ≡ a → (b : Bool) → is_workgroup v ≡ b → (c : Bool) → is_block_variable v ≡ c → (a || (b || c)) ≡ true → is_some_block m.heads Gs v ≡ false
       by_class true private b workgroup c block on = private_no_block m.heads Gs v points.0 points.2 (and_right (is_variable v) (class v == class_number storage.Private) private)
       by_class false private true workgroup c block on = workgroup_no_block m.heads Gs v points.0 points.2 (and_right (is_variable v) (class v == class_number storage.Workgroup) workgroup)
-      by_class false private false workgroup true block on = absurd (no_some pointed.0 (sym none ∙ block_is block))
+      by_class false private false workgroup true block on = absurd (none-some pointed.0 (sym none ∙ block_is block))
       by_class false private false workgroup false block on = cc
 
   module _ (words : (h : Inst) → IsIn h m.globals → FitWords h.args) (given : AreGivenWords o.overrides) (names : List (List ℕ)) (structs : AreOfStructs m.globals (name_of u.claimed) names) (declared : AreDeclaredBefore m entry right o unit u names v.at) where
@@ -307,11 +293,8 @@ module _ (m : ModuleState) (entry : Option (List ℕ)) (right : IsConforming m e
 
       inner : (j : ℕ) (ts : Trees) → all_trees (tree_before Gs g.at) g.args ≡ Some ts → have_struct j ts ≡ true → Held m entry right o unit u j
       inner j ts all has =
-          let same : parts.0 ≡ ts = same_trees parts.0 ts (sym parts.1 ∙ all) in
+          let same : parts.0 ≡ ts = same_Some parts.0 ts (sym parts.1 ∙ all) in
           held j (ap (has_struct j) parts.2 ∙ or_on_right (g.result == j) (have_struct j parts.0) (ap (have_struct j) same ∙ has))
-        where
-          same_trees : (a b : Trees) → Some a ≡ Some b → a ≡ b
-          same_trees a b e = cc
 
       low : g.at ≤ v.at
       low = let less = before in omega (arith, less)

@@ -1,15 +1,12 @@
 -- What OpArrayLength asks for: the member of a block whose place is written of declared words (T7).
-use Rattle.std.proofs.Common.{◌≡◌, ◌<◌, ◌==◌, ◌&&◌, ◌||◌, not, ℕ, Bool, true, false, List, length, Contains, Option, Some, None, unwrap_or, inl, refl, sym, ap, ◌∙◌, subst, arith}
+use Rattle.std.proofs.Common.{◌≡◌, ◌==◌, ◌&&◌, ◌||◌, not, ℕ, Bool, true, false, List, length, Contains, Option, Some, None, unwrap_or, inl, refl, sym, ap, ◌∙◌, subst}
 use Rattle.std.specs.Prelude.{is_some, nat_lt, slice_index, option_and_then}
 use Rattle.std.specs.Option.{option_map_or, option_or}
-use Rattle.std.proofs.lemmas.Bool.Decides.{nat_tests}
 use Rattle.std.proofs.lemmas.Bool.{not-false}
 use Rattle.std.proofs.lemmas.Option.{same_Some}
-use Rattle.spv_ops.specs.Opcode.{is, number}
+use Rattle.spv_ops.specs.Opcode.{is}
 use Rattle.spv_ops.specs.Enumerants.{class_number}
-use Rattle.spv_ops.specs.Shape.{shape}
 use Rattle.spv_ops.specs.declared.StorageClass.TheVariants as storage
-use Rattle.spv_module.specs.Inst.{has_type}
 use Rattle.spv_ops.specs.OpGroups.{group_of}
 use Rattle.spv_ops.specs.declared.Op.{Op}
 use Rattle.spv_ops.specs.declared.Op.TheVariants as code
@@ -28,6 +25,9 @@ use Rattle.profile_rules.specs.TypeRows.{is_uint, is_runtime_array, type_row, fa
 use Rattle.profile_rules.specs.ValueRules.{is_block_variable, lacks_array, is_no_array_block, is_no_array_id}
 use Rattle.profile_rules.specs.TypeRules.{is_value_broken}
 use Rattle.conformance.specs.Rules.{Options}
+use Rattle.list_law.proofs.Lists.{index_get}
+use Rattle.list_law.proofs.Numbers.{less_of}
+pub use Rattle.typed_law.proofs.Calls.{variable_typed}
 use Rattle.plan_law.specs.InOrder.{IsAmong}
 use Rattle.module_semantics.specs.Setting.{Setting}
 use Rattle.name_alloc.specs.declared.claims.Key.TheVariants.{Member}
@@ -58,7 +58,6 @@ use Rattle.unit_law.specs.Mentioned.{IsMentioned, IsValueIn}
 use Rattle.unit_law.specs.Words.{words_of, AreOfStructs}
 use Rattle.unit_law.proofs.Lists.{as_among}
 use Rattle.unit_law.proofs.Ways.{HaveKinds, F, R, V, in_module}
-use Rattle.unit_law.proofs.Steps.{at_index}
 use Rattle.unit_law.proofs.Chains.{place_uses}
 use Rattle.meets_law.proofs.LiveOrGone.{IsRun}
 use Rattle.unit_law.proofs.ResultShapes.{reads_first, IsReadAt, first_read, typed_read}
@@ -69,18 +68,10 @@ unfolding operation_kind_of kind_of group_of
 length_group code.ArrayLength on = refl
 length_group o on = cc
 
-pub variable_typed : (o : Op) → is o code.Variable ≡ true → has_type o ≡ true
-unfolding number shape
-variable_typed code.Variable on = refl
-variable_typed o on = cc
-
 -- one of these classes
 is_one : (v a b c : Bool) → (v && (a || b || c)) ≡ true → v ≡ true
 is_one true a b c on = refl
 is_one false a b c on = cc
-
-less_of : (a b : ℕ) → nat_lt a b ≡ true → a < b
-less_of a b e = grind (arith, nat_tests, e)
 
 module _ (W : Words) where
   measured_of : ((w : Text) → W.value w → W.measured w) → (l : LValue) → UsesLValue W l → UsesMeasured W (lvalue_expr l)
@@ -167,7 +158,7 @@ module _ (s : Setting) (entry : Option (List ℕ)) (right : IsConforming s.of en
       member_named : HasName Found (Member (id way.to) (word i 1))
       member_named =
           let parts = three_off (not (is row.0.op code.TypeStruct)) (not (nat_lt (word i 1) (length row.0.args))) (fails is_runtime_array Gs (word row.0 (word i 1))) lacks_none in
-          way.members.own row.0 row.1 (not-false (is row.0.op code.TypeStruct) parts.0) (word i 1) (slice_index row.0.args (word i 1)) (at_index row.0.args (word i 1) (less_of (word i 1) (length row.0.args) (not-false (nat_lt (word i 1) (length row.0.args)) parts.1)))
+          way.members.own row.0 row.1 (not-false (is row.0.op code.TypeStruct) parts.0) (word i 1) (slice_index row.0.args (word i 1)) (index_get row.0.args (word i 1) (less_of (word i 1) (length row.0.args) (not-false (nat_lt (word i 1) (length row.0.args)) parts.1)))
 
       block_length : MeetsKind W Found Where (IsValueIn Where Marks b) b i kind.ArrayLength
       block_length =

@@ -5,7 +5,7 @@ use Rattle.std.specs.Option.{option_map_or}
 use Rattle.std.specs.List.{list_any, zip}
 use Rattle.std.proofs.lemmas.Bool.Decides.{nat_tests}
 use Rattle.std.proofs.lemmas.Bool.{and_from}
-use Rattle.std.proofs.lemmas.Option.{same_Some}
+use Rattle.std.proofs.lemmas.Option.{same_Some, none-some}
 use Rattle.spv_ops.specs.Opcode.{is, number}
 use Rattle.spv_ops.specs.OpGroups.{takes_of, group_of}
 use Rattle.spv_ops.specs.Operands.{is_id}
@@ -29,6 +29,7 @@ use Rattle.profile_rules.specs.TypeRows.{differ, is_other}
 use Rattle.profile_rules.specs.TypeForm.{is_no_variable, is_other_parameter, is_other_result}
 use Rattle.profile_rules.specs.ValueRules.{are_other_members}
 use Rattle.conformance.specs.Rules.{Options}
+use Rattle.list_law.proofs.Lists.{behind_first, index_get}
 use Rattle.plan_law.specs.InOrder.{IsAmong}
 use Rattle.module_semantics.specs.Setting.{Setting}
 use Rattle.use_chains.specs.Slots.{is_value, is_taken, is_label_reached}
@@ -63,9 +64,8 @@ use Rattle.unit_law.proofs.Lists.{as_among}
 use Rattle.unit_law.proofs.Forms.{placed}
 use Rattle.unit_law.proofs.Ways.{HaveKinds, F, R, V, plan_is, in_module}
 use Rattle.unit_law.proofs.Structs.{Written}
-use Rattle.unit_law.proofs.Steps.{at_index}
 use Rattle.unit_law.proofs.Chains.{place_uses}
-use Rattle.unit_law.proofs.Sets.{set_asked}
+use Rattle.unit_law.proofs.Sets.{set_asked, no_zero}
 use Rattle.unit_law.proofs.Kept.{shaped_type}
 use Rattle.meets_law.proofs.LiveOrGone.{IsRun, told}
 use Rattle.unit_law.proofs.CallTypes.{call_typed, call_id, d, there_by, right_call, right_type, type_named, given_value, call_row}
@@ -81,10 +81,7 @@ call_need o k on = cc
 
 pub call_value : (o : Op) (k : ℕ) → is o code.FunctionCall ≡ true → is_value o (suc k) ≡ true
 unfolding number takes_of group_of
-call_value code.FunctionCall k on = behind k
-  where
-    behind : (k : ℕ) → not (suc k == 0) ≡ true
-    behind k = grind (arith, nat_tests)
+call_value code.FunctionCall k on = no_zero k
 call_value o k on = cc
 
 call_no_phi : (o : Op) → is o code.FunctionCall ≡ true → is o code.Phi ≡ false
@@ -103,10 +100,6 @@ value_no_void gs ty g at value = by_void (is g.op code.TypeVoid) (is g.op code.T
     by_void : (a b : Bool) → not (a || b) ≡ true → a ≡ false
     by_void false b on = refl
     by_void true b on = cc
-
-pub behind_first : (args : List ℕ) (k n : ℕ) → slice_get (drop 1 args) k ≡ Some n → slice_get args (suc k) ≡ Some n
-behind_first [] k n at = cc
-behind_first (a ∷ args) k n at = at
 
 dropped_row : (P : ℕ → Type 0) (args : List ℕ) → ((k : ℕ) → k < length args → P (slice_index args k)) → (k : ℕ) → k < length (drop 1 args) → P (slice_index (drop 1 args) k)
 dropped_row P [] each k less = absurd (omega (arith, less))
@@ -173,10 +166,7 @@ module _ (s : Setting) (entry : Option (List ℕ)) (right : IsConforming s.of en
       by_value : pointee_of Gs Fn n ≡ None → (a : Bool) → is row.0.op code.TypePointer ≡ a → Asks false
       by_value none true on_pointer =
           let w = pointee_shaped s.of entry right ty row.0 row.1 on_pointer in
-          absurd (never w.0 (sym none ∙ (ap (option_and_then (pointee Gs)) typed ∙ w.2)))
-        where
-          never : (q : ℕ) → None ≡ Some q → ⊥
-          never q e = cc
+          absurd (none-some w.0 (sym none ∙ (ap (option_and_then (pointee Gs)) typed ∙ w.2)))
       by_value none false off =
           let told_type : is_no_value_type s.of.heads Gs ty ≡ false =
           ap (λ (x : Bool). if x then is_no_variable s.of.heads Gs row.0 else is_no_value_type s.of.heads Gs ty) (sym off)
@@ -224,7 +214,7 @@ module _ (s : Setting) (entry : Option (List ℕ)) (right : IsConforming s.of en
                 (and_from (is_value i.op (suc k)) (is_taken Fn Marks i (suc k)) (call_value i.op k on) (ap (λ (x : Bool). not x || is_label_reached Fn Marks (slice_index i.args (suc k + 1))) (call_no_phi i.op on)));
             word = arg;
           };
-          typed = typed_value s entry right Fn in_it i.at n (subst (λ x. is_there_in s.of Fn i.at Value x ≡ true) (same_Some (slice_index i.args (suc k)) n (sym (at_index i.args (suc k) less) ∙ arg))
+          typed = typed_value s entry right Fn in_it i.at n (subst (λ x. is_there_in s.of Fn i.at Value x ≡ true) (same_Some (slice_index i.args (suc k)) n (sym (index_get i.args (suc k) less) ∙ arg))
               (subst (λ q. is_there_in s.of Fn i.at q (slice_index i.args (suc k)) ≡ true) (call_need i.op k on) (there_by s entry right Fn in_it i stands on (suc k) less)));
         }
 

@@ -127,7 +127,7 @@ three_shapes s f (x ∷ []) (a ∷ b ∷ c ∷ us) Q have of_it = absurd have.1
 three_shapes s f (x ∷ y ∷ []) (a ∷ b ∷ c ∷ us) Q have of_it = absurd have.1.1
 three_shapes s f (x ∷ y ∷ z ∷ args) (a ∷ b ∷ c ∷ us) Q have of_it = record { a = a; b = b; c = c; first = have.0; second = have.1.0; third = have.1.1.0; there = refl; next = refl; last = refl }
 
-dropped : (n : ℕ) (ws : List ℕ) → FitWords ws → FitWords (drop n ws)
+pub dropped : (n : ℕ) (ws : List ℕ) → FitWords ws → FitWords (drop n ws)
 dropped n [] fit = by_none n
   where
     by_none : (n : ℕ) → FitWords (drop n [])

@@ -38,6 +38,8 @@ use Rattle.function_text.specs.Functions.{FunctionPlan, written}
 use Rattle.function_text.specs.Live.{mentions_of, in_block}
 use Rattle.unit_rules.specs.Translation.{Naming, id_text}
 use Rattle.unit_rules.specs.Unit.{liveness_of, live_of, source_of, IsUnitOf}
+use Rattle.list_law.proofs.Lists.{behind_first}
+use Rattle.list_law.proofs.Numbers.{number_same}
 use Rattle.spell_law.specs.Uses.{Words, UsesExpr}
 use Rattle.typed_law.specs.Conforms.{IsConforming}
 use Rattle.typed_law.proofs.Lists.{some_part}
@@ -47,13 +49,12 @@ use Rattle.claim_law.proofs.Listed.{in_flat, in_mapped, any_in, at_place}
 use Rattle.claim_law.proofs.Constants.{found_in, constant_named}
 use Rattle.unit_law.specs.Mentioned.{IsMentioned, IsCaptured}
 use Rattle.unit_law.specs.Words.{words_of, AreOfStructs}
-use Rattle.unit_law.proofs.Lists.{same_test, at_some, as_among, numbered_first, in_filter}
+use Rattle.unit_law.proofs.Lists.{at_some, as_among, numbered_first, in_filter}
 use Rattle.unit_law.proofs.Ways.{HaveKinds, F, R, V, plan_is, written_is}
 use Rattle.unit_law.proofs.Words.{built_value}
 use Rattle.unit_law.proofs.Structs.{Written}
 use Rattle.unit_law.proofs.TypesWritten.{kept_live}
 use Rattle.unit_law.proofs.Sets.{chain_id, chain_value, chain_no_phi, index_uses}
-use Rattle.unit_law.proofs.Kept.{dropped}
 use Rattle.unit_law.proofs.Indexes.{index_readable}
 use Rattle.unit_law.proofs.Ruled.{chain_ruled}
 use Rattle.meets_law.proofs.LiveOrGone.{IsRun, some, run}
@@ -150,7 +151,7 @@ module _ (s : Setting) (entry : Option (List ℕ)) (right : IsConforming s.of en
         by_constant g at true on is_it =
             let there = found_in Gs n g at in
             subst (UsesExpr W) (same_Some (constant_expr S (id_text Found) g) e is_it)
-            (constant_uses g there.0 on (λ named. subst (λ (k : ℕ). HasName Found (Id (id k))) (sym there.1) (constant_named s.of o unit u n g (any_in (λ (k : ℕ). k == n) All n n_in (same_test n n refl)) at on (ap is_named named))))
+            (constant_uses g there.0 on (λ named. subst (λ (k : ℕ). HasName Found (Id (id k))) (sym there.1) (constant_named s.of o unit u n g (any_in (λ (k : ℕ). k == n) All n n_in (number_same n n refl)) at on (ap is_named named))))
         by_constant g at false off is_it = by_input g (is_input g) is_it
 
         by_global : (q : Option Inst) → global Gs n ≡ q → option_and_then (global_by S (id_text Found)) q ≡ Some e → UsesExpr W e
@@ -163,7 +164,7 @@ module _ (s : Setting) (entry : Option (List ℕ)) (right : IsConforming s.of en
         let stands = as_among (insts_of Fn) i (in_flat (λ (c : Block). c.insts) Fn.blocks r.holder i (at_place Fn.blocks b r.holder r.there) r.within) in
         let ruled = chain_ruled s entry right kinds o unit u p among names structs i stands chain in
         let at = at_some (indexes i) n n_in in
-        let arg = dropped i.args at.0 n at.1 in
+        let arg = behind_first i.args at.0 n at.1 in
         let q = index_readable s entry right kinds o unit u p among names structs i ruled n n_in (read_uses n (mention_listed b n i (mention at.0 arg))) in
         index_uses s entry right kinds o unit u p among names structs b r.holder i r.there r.within ruled.some r.place at.0 n chain r.at r.here r.live arg q.shape q.shaped q.other q.read
       where

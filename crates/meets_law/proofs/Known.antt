@@ -43,6 +43,7 @@ use Rattle.unit_rules.specs.Translation.{id_text}
 use Rattle.unit_rules.specs.Unit.{source_of, IsUnitOf}
 use Rattle.spell_law.specs.Uses.{Words, UsesExpr, UsesExtent}
 use Rattle.typed_law.specs.Conforms.{IsConforming}
+use Rattle.typed_law.proofs.Calls.{variable_typed}
 use Rattle.claim_law.specs.Claimed.{IsIn, HasName}
 use Rattle.claim_law.proofs.Listed.{in_flat, at_place}
 use Rattle.unit_law.specs.Mentioned.{IsMentioned, IsCaptured}
@@ -60,7 +61,7 @@ use Rattle.meets_law.proofs.GlobalReads.{mention_listed, captured_listed, read_u
 use Rattle.meets_law.proofs.OperandNames.{operand_names}
 use Rattle.unit_law.proofs.DeclaredConstants.{declared_or_plain}
 use Rattle.meets_law.proofs.CallMeets.{call_asks}
-use Rattle.meets_law.proofs.ArrayLengths.{variable_typed, length_asks}
+use Rattle.meets_law.proofs.ArrayLengths.{length_asks}
 use Rattle.meets_law.proofs.PointerRoots.{pointer_root}
 use Rattle.meets_law.proofs.PlaceMeets.{Way}
 use Rattle.meets_law.proofs.BlocksMade.{is_shaped_kind, kind_typed, AreKnown}

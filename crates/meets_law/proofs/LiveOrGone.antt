@@ -36,6 +36,7 @@ use Rattle.access_paths.specs.Ways.{captured_indexes}
 use Rattle.function_plan.specs.Phis.{is_gone}
 use Rattle.function_text.specs.Functions.{FunctionPlan}
 use Rattle.unit_rules.specs.Unit.{IsUnitOf}
+use Rattle.list_law.proofs.Numbers.{same_number, number_same}
 use Rattle.plan_law.specs.Ordered.{AreOrdered}
 use Rattle.plan_law.proofs.Order.{in_order}
 use Rattle.typed_law.specs.Conforms.{IsConforming}
@@ -43,7 +44,7 @@ use Rattle.typed_law.proofs.Lists.{clash}
 use Rattle.typed_law.proofs.Values.{inside}
 use Rattle.claim_law.specs.Claimed.{IsIn}
 use Rattle.claim_law.proofs.Listed.{in_flat, in_mapped, at_place}
-use Rattle.unit_law.proofs.Lists.{same_test, some_length, test_same, at_some, contained, of_contained, numbered_first, in_filter, of_filter, of_numbered_first, as_among}
+use Rattle.unit_law.proofs.Lists.{some_length, at_some, contained, of_contained, numbered_first, in_filter, of_filter, of_numbered_first, as_among}
 use Rattle.unit_law.proofs.Forms.{placed, is_placed, made_by, form_at}
 use Rattle.unit_law.proofs.Ways.{HaveKinds, F, R, V, plan_is, ordered, in_module}
 
@@ -99,7 +100,7 @@ module _ (f : Function) (links : List Link) where
 
       by_test : (b : Bool) → is_carried_with f (carried_from f ps) p ≡ b → ((k : ℕ) → mentions_of links k ≡ [] → carried_from f ps k ≡ false) → elim b as (λ b. Bool) [ true ↦ carried_from f ps n || (n == p.result) | false ↦ carried_from f ps n ] ≡ false
       by_test false is_it later = later n none
-      by_test true is_it later = or_from (carried_from f ps n) (n == p.result) (later n none) (false_from_ne_true (n == p.result) (λ same. clash (sym is_it ∙ lone (test_same n p.result same) later)))
+      by_test true is_it later = or_from (carried_from f ps n) (n == p.result) (later n none) (false_from_ne_true (n == p.result) (λ same. clash (sym is_it ∙ lone (same_number n p.result same) later)))
 
 module _ (s : Setting) (entry : Option (List ℕ)) (right : IsConforming s.of entry) (kinds : HaveKinds s.of.globals) (o : Options) (unit : TranslationUnit) (u : IsUnitOf s.of o unit) (p : FunctionPlan) (among : IsIn p u.plans) where
   abbrev Fn : Function
@@ -131,7 +132,7 @@ module _ (s : Setting) (entry : Option (List ℕ)) (right : IsConforming s.of en
         let m = of_mapped link_of (enumerate_from 0 (slots Fn Marks)) l.0 k.0 in
         let numbered : slice_get (slots Fn Marks) m.0.0 ≡ Some m.0.1 = of_numbered_first (slots Fn Marks) m.0.0 m.0.1 m.1 in
         let user = live.1.live m.0.0 m.0.1 numbered (ap (λ (x : Link). slice_index_or live.0 x.slot false) m.2 ∙ k.1) in
-        closed.mentioned m.0.1 block place i (contained (slots Fn Marks) m.0.1 (at_place (slots Fn Marks) m.0.0 m.0.1 numbered)) (user set closed) stands (sym (ap (λ (x : Link). x.id) m.2 ∙ test_same l.0.id i.result w.1))
+        closed.mentioned m.0.1 block place i (contained (slots Fn Marks) m.0.1 (at_place (slots Fn Marks) m.0.0 m.0.1 numbered)) (user set closed) stands (sym (ap (λ (x : Link). x.id) m.2 ∙ same_number l.0.id i.result w.1))
 
     by_mentions : (ats : List SlotPlace) → mentions_of links i.result ≡ ats → nat_lt 0 (length ats) ≡ true → IsLive Fn Marks block place
     by_mentions [] is_it some = absurd (grind (arith, nat_tests, some))
@@ -161,7 +162,7 @@ module _ (s : Setting) (entry : Option (List ℕ)) (right : IsConforming s.of en
           let l : Link = link_of (k.0, m) in
           let there : IsIn l links = subst (IsIn l) (sym w.1.links_are)
           (in_filter (λ (x : Link). slice_index_or w.0 x.slot false) (map link_of (enumerate_from 0 (slots Fn Marks))) l (in_mapped link_of (enumerate_from 0 (slots Fn Marks)) (k.0, m) (numbered_first (slots Fn Marks) k.0 m k.1)) (w.1.whole k.0 m k.1 live)) in
-          in_mapped (λ (x : Link). x.place) (chain links m.id) l (in_filter (λ (x : Link). x.id == m.id) links l there (same_test m.id m.id refl))
+          in_mapped (λ (x : Link). x.place) (chain links m.id) l (in_filter (λ (x : Link). x.id == m.id) links l there (number_same m.id m.id refl))
 
       mention_in : (m : Mention) (b n : ℕ) (i : Inst) → Contains (slots Fn Marks) m → (q : Option Inst) → inst_at Fn m.place.block m.place.inst ≡ q → option_map_or (λ (j : Inst). is_live (placed links m.place.block j)) (inst_at Fn m.place.block m.place.inst) false ≡ true → inst_at Fn b n ≡ Some i → i.result ≡ m.id → in_set b n ≡ true
       mention_in m b n i m_in q is_it user at same =

@@ -23,6 +23,7 @@ use Rattle.vec_lowering.specs.Named.{text_or_none, id_name, member_name}
 use Rattle.vec_lowering.specs.Composite.{nth_or}
 use Rattle.unit_rules.specs.Translation.{Naming, id_text}
 use Rattle.unit_rules.specs.Unit.{source_of, IsUnitOf}
+use Rattle.list_law.proofs.Numbers.{number_same}
 use Rattle.fits_law.specs.Takes.{nth_of, Alike, AllAlike}
 use Rattle.spell_law.specs.Uses.{Words, UsesExtent}
 use Rattle.spell_law.specs.Named.{IsNamedType, CanCopy, CanCopyParts}
@@ -32,7 +33,7 @@ use Rattle.claim_law.specs.Claimed.{IsIn, HasName}
 use Rattle.claim_law.proofs.Told.{named_is}
 use Rattle.unit_law.specs.Words.{words_of}
 use Rattle.unit_law.specs.Types.{IsLengthOf, IsStructOf, IsOfTypes, AreOfTypes}
-use Rattle.unit_law.proofs.Lists.{same_test, as_among}
+use Rattle.unit_law.proofs.Lists.{as_among}
 use Rattle.unit_law.proofs.Structs.{Written, IsWrittenStruct, HasNames, structs_named, part_named}
 use Rattle.unit_law.proofs.Parts.{nth_arg}
 
@@ -65,7 +66,7 @@ module _ (s : Setting) (entry : Option (List ℕ)) (right : IsConforming s.of en
   AllHere ts = (n : ℕ) → have_struct n ts ≡ true → IsWrittenStruct s.of o unit u n
 
   own_struct : (n : ℕ) (ts : Trees) → ((n == n) || have_struct n ts) ≡ true
-  own_struct n ts = ap (λ (b : Bool). b || have_struct n ts) (same_test n n refl)
+  own_struct n ts = ap (λ (b : Bool). b || have_struct n ts) (number_same n n refl)
 
   struct_name : (n : ℕ) (ts : Trees) → Here (struct n ts) → W.struct (id_name Found n)
   struct_name n ts has = subst W.struct (sym (same_text (Found (Id (id n))))) (structs_named s.of o unit u names declared lengths (struct n ts) has n (own_struct n ts))

@@ -25,6 +25,8 @@ use Rattle.spv_index.specs.BlockStructs.{is_some_block}
 use Rattle.profile_rules.specs.Places.{is_among, body_insts}
 use Rattle.profile_rules.specs.TypeForm.{parts_of, pointees, signature, value_types, signature_types, block_misuses}
 use Rattle.conformance.specs.Rules.{Options}
+use Rattle.list_law.proofs.Numbers.{number_same}
+use Rattle.list_law.proofs.Tests.{off_on}
 use Rattle.plan_law.proofs.Order.{among_left as insts_left}
 use Rattle.module_semantics.specs.Setting.{Setting}
 use Rattle.hoist_plan.specs.declared.form.Form.TheVariants.{Forwarded, Local}
@@ -49,7 +51,7 @@ use Rattle.claim_law.proofs.Constants.{found_in}
 use Rattle.unit_law.specs.Mentioned.{IsMentioned, Stands, IsValueIn}
 use Rattle.unit_law.specs.Words.{words_of, AreOfStructs}
 use Rattle.unit_law.specs.Types.{IsLengthOf}
-use Rattle.unit_law.proofs.Lists.{as_in, same_test, found_by, of_contained, as_among}
+use Rattle.unit_law.proofs.Lists.{as_in, found_by, of_contained, as_among}
 use Rattle.unit_law.proofs.Shaped.{pointer_none, shaped_value}
 use Rattle.unit_law.proofs.Ways.{HaveKinds, S, F, R, V, plan_is, written_is, in_module, own_type_of, mapped_some, stands, home, counts_here}
 use Rattle.unit_law.proofs.Free.{misused_free}
@@ -59,25 +61,22 @@ use Rattle.unit_law.proofs.ValueNames.{no_pointer, value_type_in, result_names}
 use Rattle.unit_law.proofs.Sets.{names_there}
 
 -- a type that has a struct in it is a composite
-array_composite : (o : Op) → kind o ≡ kinds.Array → is_composite_type o ≡ true
+pub array_composite : (o : Op) → kind o ≡ kinds.Array → is_composite_type o ≡ true
 unfolding kind
 array_composite code.TypeArray on = refl
 array_composite o on = cc
 
-runtime_composite : (o : Op) → kind o ≡ kinds.Runtime → is_composite_type o ≡ true
+pub runtime_composite : (o : Op) → kind o ≡ kinds.Runtime → is_composite_type o ≡ true
 unfolding kind
 runtime_composite code.TypeRuntimeArray on = refl
 runtime_composite o on = cc
 
-struct_composite : (o : Op) → kind o ≡ kinds.Struct → is_composite_type o ≡ true
+pub struct_composite : (o : Op) → kind o ≡ kinds.Struct → is_composite_type o ≡ true
 unfolding kind
 struct_composite code.TypeStruct on = refl
 struct_composite o on = cc
 
 module _ (gs : List Inst) (g : Inst) (t : Tree) (n : ℕ) (has : has_struct n t ≡ true) where
-  never : {A : Type 0} → false ≡ true → A
-  never e = cc
-
   no_int : (a b c : Bool) → (if a then (if b then Some uint else (if c then Some int else None)) else None) ≡ Some t → false ≡ true
   no_int true true c is_it = ap (has_struct n) (same_Some uint t is_it) ∙ has
   no_int true false true is_it = ap (has_struct n) (same_Some int t is_it) ∙ has
@@ -98,9 +97,9 @@ module _ (gs : List Inst) (g : Inst) (t : Tree) (n : ℕ) (has : has_struct n t 
       by_elem (Some e) is_it = by_size e (nat_le 2 k) (nat_le k 4) is_it
 
   kind_composite : (k : TypeKind) → kind g.op ≡ k → tree_by_kind gs (tree_before gs g.at) g k ≡ Some t → is_composite_type g.op ≡ true
-  kind_composite kinds.Bool on is_it = never (ap (has_struct n) (same_Some boolean t is_it) ∙ has)
-  kind_composite kinds.Int on is_it = never (no_int (slice_index g.args 0 == 32) (slice_index g.args 1 == 0) (slice_index g.args 1 == 1) is_it)
-  kind_composite kinds.Vector on is_it = never (no_vector (tree_before gs g.at (slice_index g.args 0)) (slice_index g.args 1) is_it)
+  kind_composite kinds.Bool on is_it = off_on (ap (has_struct n) (same_Some boolean t is_it) ∙ has)
+  kind_composite kinds.Int on is_it = off_on (no_int (slice_index g.args 0 == 32) (slice_index g.args 1 == 0) (slice_index g.args 1 == 1) is_it)
+  kind_composite kinds.Vector on is_it = off_on (no_vector (tree_before gs g.at (slice_index g.args 0)) (slice_index g.args 1) is_it)
   kind_composite kinds.Array on is_it = array_composite g.op on
   kind_composite kinds.Runtime on is_it = runtime_composite g.op on
   kind_composite kinds.Struct on is_it = struct_composite g.op on
@@ -121,7 +120,7 @@ in_signature (g ∷ fs) f ty (inr there) own = ids_right (signature g) (flat_map
 
 parameter_type : (ps : List (IdOf × IdOf)) (q : IdOf × IdOf) → IsIn q ps → is_among (map (λ (r : IdOf × IdOf). r.1.0) ps) q.1.0 ≡ true
 parameter_type [] q there = absurd there
-parameter_type (r ∷ ps) q (inl same) = or_left (r.1.0 == q.1.0) (is_among (map (λ (x : IdOf × IdOf). x.1.0) ps) q.1.0) (same_test r.1.0 q.1.0 (ap (λ (x : IdOf × IdOf). x.1.0) same))
+parameter_type (r ∷ ps) q (inl same) = or_left (r.1.0 == q.1.0) (is_among (map (λ (x : IdOf × IdOf). x.1.0) ps) q.1.0) (number_same r.1.0 q.1.0 (ap (λ (x : IdOf × IdOf). x.1.0) same))
 parameter_type (r ∷ ps) q (inr there) = or_right (r.1.0 == q.1.0) (is_among (map (λ (x : IdOf × IdOf). x.1.0) ps) q.1.0) (parameter_type ps q there)
 
 no_variable : (o : Op) → is_constant_op o ≡ true → is o code.Variable ≡ false

@@ -33,6 +33,8 @@ use Rattle.profile_rules.specs.TypeForm.{is_no_variable}
 use Rattle.profile_rules.specs.Entry.{is_no_uvec3, is_no_uint}
 use Rattle.profile_rules.specs.Variables.{pointed_type, is_pointee, inputs, is_other_input_type, is_buffer, is_push, is_no_block, is_unbound, is_other_block}
 use Rattle.conformance.specs.Rules.{Options}
+use Rattle.list_law.proofs.Numbers.{same_number, number_same}
+use Rattle.list_law.proofs.Tests.{clash}
 use Rattle.plan_law.specs.InOrder.{IsAmong}
 use Rattle.plan_law.proofs.Order.{among_left as insts_left}
 use Rattle.module_semantics.specs.Setting.{Setting}
@@ -65,7 +67,7 @@ use Rattle.claim_law.proofs.Constants.{found_in}
 use Rattle.claim_law.proofs.Variables.{variable_no_constant, written_in, variable_named}
 use Rattle.claim_law.proofs.Named.{parameter_named}
 use Rattle.unit_law.specs.Words.{words_of, AreOfStructs}
-use Rattle.unit_law.proofs.Lists.{same_test, test_same, as_among}
+use Rattle.unit_law.proofs.Lists.{as_among}
 use Rattle.unit_law.proofs.Ways.{HaveKinds, F, V, written_is, in_module}
 use Rattle.unit_law.proofs.Words.{built_value}
 use Rattle.unit_law.proofs.Free.{AreFree, open_free, inner_free}
@@ -97,7 +99,7 @@ no_block_by heads gs (h ∷ list) others g (inl same) on off =
     (own (or_right (others h.result) ((h.result == h.result) && other_step heads gs others h) (fold_off heads gs list (with_other heads gs others h) h.result (subst (λ (x : Inst). fold (with_other heads gs) (with_other heads gs others h) list x.result ≡ false) (sym same) off))))
   where
     own : ((h.result == h.result) && other_step heads gs others h) ≡ false → is_block heads h.result ≡ false
-    own e = block_off heads gs others h h.op (subst (λ (x : Inst). is x.op code.TypeStruct ≡ true) (sym same) on) (and_off (h.result == h.result) (other_step heads gs others h) e (same_test h.result h.result refl))
+    own e = block_off heads gs others h h.op (subst (λ (x : Inst). is x.op code.TypeStruct ≡ true) (sym same) on) (and_off (h.result == h.result) (other_step heads gs others h) e (number_same h.result h.result refl))
 no_block_by heads gs (h ∷ list) others g (inr there) on off = no_block_by heads gs list (with_other heads gs others h) g there on off
 
 -- P15: what a block variable points to is a struct
@@ -131,7 +133,7 @@ classed false a b c e = cc
 -- it is of no class Input
 no_input : (v : Bool) (c : ℕ) → (v && ((c == class_number storage.Uniform) || (c == class_number storage.PushConstant) || (c == class_number storage.StorageBuffer))) ≡ true → (v && (c == class_number storage.Input)) ≡ false
 no_input false c e = refl
-no_input true c e = false_from_ne_true (c == class_number storage.Input) (λ input. apart (test_same c (class_number storage.Input) input))
+no_input true c e = false_from_ne_true (c == class_number storage.Input) (λ input. apart (same_number c (class_number storage.Input) input))
   where
     apart : c ≡ class_number storage.Input → ⊥
     apart same = never (sym (subst (λ (n : ℕ). ((n == class_number storage.Uniform) || (n == class_number storage.PushConstant) || (n == class_number storage.StorageBuffer)) ≡ true) same e))
@@ -301,15 +303,12 @@ module _ (s : Setting) (entry : Option (List ℕ)) (right : IsConforming s.of en
               let of_type : is_other_input_type Gs b at_type.0 ≡ false = ap (λ q. option_map_or (is_other_input_type Gs b) q false) (sym pointed) ∙ or_right (not (is_among inputs b)) (is_pointee Gs (is_other_input_type Gs b) g) off in
               by_built (b == built_in_number built.LocalInvocationIndex) of_type
 
-      never : {A : Type 0} → true ≡ false → A
-      never e = cc
-
       pub input_root : Root g.result ty t
       input_root = record {
         members = record {
           shaped = shaped;
-          own = λ h at on k x arg. never (sym on ∙ (ap (λ (y : Inst). is y.op code.TypeStruct) (same_Some h at_type.0 (sym at ∙ at_type.1)) ∙ (no_composite at_type.0.op plain_type).1));
-          parts = λ k v at n has. never (sym (composite_of Gs ty t n shaped (elem_free t k v n at has)) ∙ (ap (λ (q : Option Inst). option_map_or (λ (y : Inst). is_composite_type y.op) q false) at_type.1 ∙ (no_composite at_type.0.op plain_type).0));
+          own = λ h at on k x arg. clash (sym on ∙ (ap (λ (y : Inst). is y.op code.TypeStruct) (same_Some h at_type.0 (sym at ∙ at_type.1)) ∙ (no_composite at_type.0.op plain_type).1));
+          parts = λ k v at n has. clash (sym (composite_of Gs ty t n shaped (elem_free t k v n at has)) ∙ (ap (λ (q : Option Inst). option_map_or (λ (y : Inst). is_composite_type y.op) q false) at_type.1 ∙ (no_composite at_type.0.op plain_type).0));
         };
         named = subst (λ (q : Option Expr). W.value (option_map_or name_in q (text_of Found (Id (id g.result))))) (sym read)
             (built_value Gs Found u.lawful names structs (built_in_text (unwrap_or (value_of s.of.heads g.result (decoration_number decoration.BuiltIn)) 0)) (input_among (built_in_of_number (unwrap_or (value_of s.of.heads g.result (decoration_number decoration.BuiltIn)) 0))));

@@ -29,6 +29,7 @@ use Rattle.profile_rules.specs.TypeRows.{is_pointer, differ, value_fails, is_oth
 use Rattle.profile_rules.specs.NumberRules.{points_to_other, is_no_content, has_no_int, breaks_t25_load}
 use Rattle.profile_rules.specs.TypeRules.{breaks_t25, is_value_broken, is_number_broken}
 use Rattle.conformance.specs.Rules.{Options}
+use Rattle.list_law.proofs.Lists.{index_get}
 use Rattle.plan_law.specs.InOrder.{IsAmong}
 use Rattle.module_semantics.specs.Setting.{Setting}
 use Rattle.use_chains.specs.Slots.{inst_at, is_value, is_taken, is_label_reached, IsLive}
@@ -67,7 +68,6 @@ use Rattle.unit_law.proofs.Forms.{unmade_gone}
 use Rattle.unit_law.proofs.Ways.{HaveKinds, F, R, V, plan_is, in_module}
 use Rattle.unit_law.proofs.Words.{atomic_value}
 use Rattle.unit_law.proofs.Structs.{Written}
-use Rattle.unit_law.proofs.Steps.{at_index}
 use Rattle.unit_law.proofs.Chains.{HasWay, place_uses}
 use Rattle.unit_law.proofs.Sets.{set_asked}
 use Rattle.unit_law.proofs.Kept.{store_meets}
@@ -167,7 +167,7 @@ module _ (s : Setting) (entry : Option (List ℕ)) (right : IsConforming s.of en
 
     -- an operand that it mentions
     pub read_arg : (k : ℕ) → IsReadAt i.op i.args k → slice_get i.args k ≡ Some (slice_index i.args k)
-    read_arg k r = at_index i.args k (r.many (length i.args) ((inside s entry right Fn in_it).formed i stands).least)
+    read_arg k r = index_get i.args k (r.many (length i.args) ((inside s entry right Fn in_it).formed i stands).least)
 
     pub read_mention : (k : ℕ) → IsReadAt i.op i.args k → IsMentioned Fn Marks block i (slice_index i.args k)
     read_mention k r = record {

@@ -24,6 +24,7 @@ use Rattle.spv_index.specs.Pointers.{pointee, pointee_of}
 use Rattle.profile_rules.specs.Places.{places, is_among, is_variable}
 use Rattle.profile_rules.specs.Variables.{classes, is_other_class, is_misclassed}
 use Rattle.conformance.specs.Rules.{Options}
+use Rattle.list_law.proofs.Numbers.{same_number, number_same}
 use Rattle.plan_law.specs.InOrder.{IsAmong}
 use Rattle.module_semantics.specs.Setting.{Setting}
 use Rattle.use_chains.specs.Slots.{is_value, is_taken, is_base, is_slot}
@@ -39,7 +40,7 @@ use Rattle.claim_law.specs.Claimed.{IsIn}
 use Rattle.claim_law.proofs.Listed.{in_flat, any_in, at_place}
 use Rattle.unit_law.specs.Mentioned.{IsLinked}
 use Rattle.unit_law.specs.Words.{AreOfStructs}
-use Rattle.unit_law.proofs.Lists.{same_test, test_same, as_among, in_block, numbered_first, as_parameter}
+use Rattle.unit_law.proofs.Lists.{as_among, in_block, numbered_first, as_parameter}
 use Rattle.unit_law.proofs.Ways.{HaveKinds, F, R, in_module}
 use Rattle.unit_law.proofs.Places.{IsRoot}
 use Rattle.unit_law.proofs.ResultShapes.{stands_inside}
@@ -85,7 +86,7 @@ module _ (s : Setting) (entry : Option (List ℕ)) (right : IsConforming s.of en
       operand =
           let slot = and_right (slice_index_or Marks c false || is_base i m.arg) (is_slot Fn Marks i m.arg) m.slot in
           let names_id = and_left (is_id i.op i.args m.arg) (is_value i.op m.arg && is_taken Fn Marks i m.arg) slot in
-          any_in (λ (q : ℕ × ℕ). is_id i.op i.args q.0 && (q.1 == n)) (enumerate_from 0 i.args) (m.arg, n) (numbered_first i.args m.arg n m.word) (and_from (is_id i.op i.args m.arg) (n == n) names_id (same_test n n refl))
+          any_in (λ (q : ℕ × ℕ). is_id i.op i.args q.0 && (q.1 == n)) (enumerate_from 0 i.args) (m.arg, n) (numbered_first i.args m.arg n m.word) (and_from (is_id i.op i.args m.arg) (n == n) names_id (number_same n n refl))
 
       -- a variable of the module, by its class
       module _ (g : Inst) (g_in : IsIn g Gs) (found : global Gs g.result ≡ Some g) (result : g.result ≡ n) (on : is_variable g ≡ true) (points : pointee Gs g.ty ≡ Some ty) (typed_is : T g.result ≡ Some g.ty) where
@@ -95,24 +96,24 @@ module _ (s : Setting) (entry : Option (List ℕ)) (right : IsConforming s.of en
         of_private : slice_index g.args 0 ≡ class_number storage.Private → Root g.result ty t
         of_private class =
             outer_root s entry right kinds o unit u p among names structs g g_in i user_in operand_of found
-            (first_on (is_private g) (is_workgroup g) (and_from (is_variable g) (slice_index g.args 0 == class_number storage.Private) on (same_test (slice_index g.args 0) (class_number storage.Private) class))) typed_is ty t points shaped
+            (first_on (is_private g) (is_workgroup g) (and_from (is_variable g) (slice_index g.args 0 == class_number storage.Private) on (number_same (slice_index g.args 0) (class_number storage.Private) class))) typed_is ty t points shaped
 
         of_workgroup : slice_index g.args 0 ≡ class_number storage.Workgroup → Root g.result ty t
         of_workgroup class =
             outer_root s entry right kinds o unit u p among names structs g g_in i user_in operand_of found
-            (second_on (is_private g) (is_workgroup g) (and_from (is_variable g) (slice_index g.args 0 == class_number storage.Workgroup) on (same_test (slice_index g.args 0) (class_number storage.Workgroup) class))) typed_is ty t points shaped
+            (second_on (is_private g) (is_workgroup g) (and_from (is_variable g) (slice_index g.args 0 == class_number storage.Workgroup) on (number_same (slice_index g.args 0) (class_number storage.Workgroup) class))) typed_is ty t points shaped
 
         of_block : ((slice_index g.args 0 == class_number storage.Uniform) || (slice_index g.args 0 == class_number storage.PushConstant) || (slice_index g.args 0 == class_number storage.StorageBuffer)) ≡ true → Root g.result ty t
         of_block class = block_root s entry right kinds o unit u p among names structs g g_in i user_in operand_of found on ty t points shaped (and_from (is_variable g) _ on class) typed_is
 
         of_input : slice_index g.args 0 ≡ class_number storage.Input → Root g.result ty t
-        of_input class = input_root s entry right kinds o unit u p among names structs g g_in i user_in operand_of found on ty t points shaped (same_test (slice_index g.args 0) (class_number storage.Input) class)
+        of_input class = input_root s entry right kinds o unit u p among names structs g g_in i user_in operand_of found on ty t points shaped (number_same (slice_index g.args 0) (class_number storage.Input) class)
 
         abbrev C : ℕ
         C = slice_index g.args 0
 
         is_it : (k : ℕ) → (k == C) ≡ true → C ≡ k
-        is_it k e = sym (test_same k C e)
+        is_it k e = sym (same_number k C e)
 
         left_test : (a b d : Bool) → a ≡ true → (a || b || d) ≡ true
         left_test true b d e = refl
@@ -132,15 +133,15 @@ module _ (s : Setting) (entry : Option (List ℕ)) (right : IsConforming s.of en
         by_class : (a b d e f g' h : Bool) → (class_number storage.Input == C) ≡ a → (class_number storage.Uniform == C) ≡ b → (class_number storage.Workgroup == C) ≡ d → (class_number storage.Private == C) ≡ e → (class_number storage.Function == C) ≡ f → (class_number storage.PushConstant == C) ≡ g' → (class_number storage.StorageBuffer == C) ≡ h
             → (a || (b || (d || (e || (f || (g' || (h || false))))))) ≡ true → (C == class_number storage.Function) ≡ false → Root g.result ty t
         by_class true b d e f g' h ea eb ed ee ef eg eh some off = of_input (is_it (class_number storage.Input) ea)
-        by_class false true d e f g' h ea eb ed ee ef eg eh some off = of_block (left_test (C == class_number storage.Uniform) (C == class_number storage.PushConstant) (C == class_number storage.StorageBuffer) (same_test C (class_number storage.Uniform) (is_it (class_number storage.Uniform) eb)))
+        by_class false true d e f g' h ea eb ed ee ef eg eh some off = of_block (left_test (C == class_number storage.Uniform) (C == class_number storage.PushConstant) (C == class_number storage.StorageBuffer) (number_same C (class_number storage.Uniform) (is_it (class_number storage.Uniform) eb)))
         by_class false false true e f g' h ea eb ed ee ef eg eh some off = of_workgroup (is_it (class_number storage.Workgroup) ed)
         by_class false false false true f g' h ea eb ed ee ef eg eh some off = of_private (is_it (class_number storage.Private) ee)
-        by_class false false false false true g' h ea eb ed ee ef eg eh some off = absurd (never (sym (same_test C (class_number storage.Function) (is_it (class_number storage.Function) ef)) ∙ off))
+        by_class false false false false true g' h ea eb ed ee ef eg eh some off = absurd (never (sym (number_same C (class_number storage.Function) (is_it (class_number storage.Function) ef)) ∙ off))
           where
             never : true ≡ false → ⊥
             never e = cc
-        by_class false false false false false true h ea eb ed ee ef eg eh some off = of_block (mid_test (C == class_number storage.Uniform) (C == class_number storage.PushConstant) (C == class_number storage.StorageBuffer) (same_test C (class_number storage.PushConstant) (is_it (class_number storage.PushConstant) eg)))
-        by_class false false false false false false true ea eb ed ee ef eg eh some off = of_block (last_test (C == class_number storage.Uniform) (C == class_number storage.PushConstant) (C == class_number storage.StorageBuffer) (same_test C (class_number storage.StorageBuffer) (is_it (class_number storage.StorageBuffer) eh)))
+        by_class false false false false false true h ea eb ed ee ef eg eh some off = of_block (mid_test (C == class_number storage.Uniform) (C == class_number storage.PushConstant) (C == class_number storage.StorageBuffer) (number_same C (class_number storage.PushConstant) (is_it (class_number storage.PushConstant) eg)))
+        by_class false false false false false false true ea eb ed ee ef eg eh some off = of_block (last_test (C == class_number storage.Uniform) (C == class_number storage.PushConstant) (C == class_number storage.StorageBuffer) (number_same C (class_number storage.StorageBuffer) (is_it (class_number storage.StorageBuffer) eh)))
         by_class false false false false false false false ea eb ed ee ef eg eh some off = cc
 
         variable_of_module : Root g.result ty t

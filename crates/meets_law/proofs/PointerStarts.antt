@@ -22,19 +22,20 @@ use Rattle.module_semantics.specs.Setting.{Setting}
 use Rattle.glsl_ast.specs.Tree.{TranslationUnit}
 use Rattle.function_text.specs.Functions.{FunctionPlan}
 use Rattle.unit_rules.specs.Unit.{IsUnitOf}
+use Rattle.list_law.proofs.Numbers.{same_number}
 use Rattle.path_law.specs.Chains.{NoneMakes}
 use Rattle.typed_law.specs.Conforms.{IsConforming}
 use Rattle.typed_law.proofs.Lists.{some_part}
 use Rattle.typed_law.proofs.Values.{inside, has_a_type}
 use Rattle.claim_law.specs.Claimed.{IsIn}
 use Rattle.claim_law.proofs.Constants.{found_in}
-use Rattle.unit_law.proofs.Lists.{test_same, found_by, as_in, as_among}
+use Rattle.unit_law.proofs.Lists.{found_by, as_in, as_among}
 use Rattle.unit_law.proofs.Shaped.{pointer_none}
 use Rattle.unit_law.proofs.Ways.{HaveKinds, F, in_module, own_type_of, mapped_some}
 use Rattle.unit_law.proofs.ResultShapes.{stands_inside, IsShaped, constant_shaped}
-use Rattle.unit_law.proofs.ResultTypes.{Gives, of_shape, of_pointer, of_call, gives}
+use Rattle.unit_law.proofs.ResultTypes.{Gives, of_shape, of_pointer, of_call, gives, variable_op}
 
-none_of : (n : ℕ) (is : List Inst) (j : Inst) → NoneMakes n is → IsIn j is → is_chain j.op ≡ true → j.result ≡ n → ⊥
+pub none_of : (n : ℕ) (is : List Inst) (j : Inst) → NoneMakes n is → IsIn j is → is_chain j.op ≡ true → j.result ≡ n → ⊥
 none_of n [] j none there on same = there
 none_of n (x ∷ is) j none (inl here) on same = none.0 (ap (λ (y : Inst). is_chain y.op) here ∙ on) (ap (λ (y : Inst). y.result) here ∙ same)
 none_of n (x ∷ is) j none (inr there) on same = none_of n is j none.1 there on same
@@ -43,11 +44,6 @@ chain_of : (o : Op) → group_of o ≡ groups.Chain → is_chain o ≡ true
 unfolding group_of
 chain_of code.AccessChain e = refl
 chain_of o e = cc
-
-variable_of : (o : Op) → group_of o ≡ groups.Variable → is o code.Variable ≡ true
-unfolding group_of number
-variable_of code.Variable e = refl
-variable_of o e = cc
 
 void_kind : (o : Op) → is o code.TypeVoid ≡ true → is o code.TypePointer ≡ false
 unfolding number
@@ -103,7 +99,7 @@ module _ (s : Setting) (entry : Option (List ℕ)) (right : IsConforming s.of en
       by_kind : Gives s entry right kinds Fn in_it (λ x x_in. inner x (as_in (insts_of Fn) x x_in)) j → IsStart
       by_kind (of_shape v) = no_shape j.ty points v
       by_kind (of_pointer w on (inl chain)) = absurd (none_of n (insts_of Fn) j none there.0 (chain_of j.op chain) there.1)
-      by_kind (of_pointer w on (inr variable)) = own j there.0 there.1 (variable_of j.op variable) has points
+      by_kind (of_pointer w on (inr variable)) = own j there.0 there.1 (variable_op j.op variable) has points
       by_kind (of_call w void call) =
           let g = pointee_row Gs j.ty ty points in
           absurd (never (sym g.2 ∙ (ap (λ (x : Inst). is x.op code.TypePointer) (same_Some g.0 w.0 (sym g.1 ∙ w.1)) ∙ void_kind w.0.op void)))
@@ -120,7 +116,7 @@ module _ (s : Setting) (entry : Option (List ℕ)) (right : IsConforming s.of en
       let q = mapped_some (λ (r : IdOf × IdOf). r.1.0) (find (λ (r : IdOf × IdOf). r.0.0 == n) Fn.params) y lent_as in
       let w = found_by (λ (r : IdOf × IdOf). r.0.0 == n) Fn.params q.0 q.1 in
       let same : q.0.1.0 ≡ pt = same_Some q.0.1.0 y (ap (option_map (λ (r : IdOf × IdOf). r.1.0)) (sym q.1) ∙ lent_as) ∙ same_Some y pt told in
-      lent q.0 w.0 (test_same q.0.0.0 n w.1) (ap (pointee Gs) same ∙ points) (typed_is ∙ ap (λ x. Some x) (sym same))
+      lent q.0 w.0 (same_number q.0.0.0 n w.1) (ap (pointee Gs) same ∙ points) (typed_is ∙ ap (λ x. Some x) (sym same))
 
   by_global : (x : Option ℕ) → global_type Gs n ≡ x → (pt : ℕ) → option_or x (local_type Fn n) ≡ Some pt → pointee Gs pt ≡ Some ty → T n ≡ Some pt → IsStart
   by_global None apart pt told points typed_is = by_parameter (parameter_in Fn n) refl pt told points typed_is

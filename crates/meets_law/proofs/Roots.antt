@@ -28,6 +28,8 @@ use Rattle.profile_rules.specs.Places.{is_among, is_variable, body_insts}
 use Rattle.profile_rules.specs.TypeForm.{parts_of, pointee_by, pointees, value_types, signature_types, block_misuses}
 use Rattle.profile_rules.specs.Variables.{is_other_class}
 use Rattle.conformance.specs.Rules.{Options}
+use Rattle.list_law.proofs.Numbers.{same_number, number_same}
+use Rattle.list_law.proofs.Tests.{or_true}
 use Rattle.plan_law.proofs.Order.{among_left as insts_left, among_right as insts_right}
 use Rattle.module_semantics.specs.Setting.{Setting}
 use Rattle.name_alloc.specs.declared.claims.Key.TheVariants.{Id}
@@ -53,7 +55,7 @@ use Rattle.claim_law.specs.Claimed.{IsIn, IsOf}
 use Rattle.claim_law.proofs.Listed.{in_flat, at_place}
 use Rattle.claim_law.proofs.Variables.{variable_no_constant, written_in, variable_named}
 use Rattle.unit_law.specs.Words.{words_of, AreOfStructs}
-use Rattle.unit_law.proofs.Lists.{same_test, test_same, as_in, as_among}
+use Rattle.unit_law.proofs.Lists.{as_in, as_among}
 use Rattle.unit_law.proofs.Ways.{HaveKinds, S, F, R, V, written_is, in_module, ordered, plan_is}
 use Rattle.unit_law.proofs.Free.{misused_free}
 use Rattle.unit_law.proofs.Structs.{Written, HasNames, written_names}
@@ -92,7 +94,7 @@ pointee_in : (gs : List Inst) (test : Inst → Bool) (is : List Inst) (v : Inst)
 pointee_in gs test [] v ty there e = absurd there
 pointee_in gs test (x ∷ is) v ty (inl same) e =
     subst (λ (q : Option ℕ). is_among (cons_option q (filter_map (pointee_by gs test) is)) ty ≡ true) (sym (ap (pointee_by gs test) same ∙ e))
-    (or_left (ty == ty) (is_among (filter_map (pointee_by gs test) is) ty) (same_test ty ty refl))
+    (or_left (ty == ty) (is_among (filter_map (pointee_by gs test) is) ty) (number_same ty ty refl))
 pointee_in gs test (x ∷ is) v ty (inr there) e = by_option (pointee_by gs test x) (pointee_in gs test is v ty there e)
   where
     by_option : (q : Option ℕ) → is_among (filter_map (pointee_by gs test) is) ty ≡ true → is_among (cons_option q (filter_map (pointee_by gs test) is)) ty ≡ true
@@ -102,13 +104,9 @@ pointee_in gs test (x ∷ is) v ty (inr there) e = by_option (pointee_by gs test
 named_variable : (x : Form) (reached : Bool) → has_name_by x reached true ≡ true
 named_variable Hoisted reached = refl
 named_variable Local reached = or_true reached
-  where
-    or_true : (b : Bool) → (b || true) ≡ true
-    or_true true = refl
-    or_true false = refl
 named_variable x reached = refl
 
-variable_impure : (o : Op) → is o code.Variable ≡ true → is_pure o ≡ false
+pub variable_impure : (o : Op) → is o code.Variable ≡ true → is_pure o ≡ false
 unfolding number shape
 variable_impure code.Variable on = refl
 variable_impure o on = cc
@@ -182,7 +180,7 @@ module _ (s : Setting) (entry : Option (List ℕ)) (right : IsConforming s.of en
     of_function : word j 0 ≡ class_number storage.Function
     of_function =
         let off = and_off (is_variable j) (is_other_class Gs j || not (word j 0 == class_number storage.Function)) (class_right s.of entry right j local) on in
-        test_same (word j 0) (class_number storage.Function) (not-false (word j 0 == class_number storage.Function) (or_right (is_other_class Gs j) (not (word j 0 == class_number storage.Function)) off))
+        same_number (word j 0) (class_number storage.Function) (not-false (word j 0 == class_number storage.Function) (or_right (is_other_class Gs j) (not (word j 0 == class_number storage.Function)) off))
 
     of_it : IsOf (claims_by (S s entry right kinds o unit u p among) p) j
     of_it = record { number = c; block = holder; there = subst (λ (f : Function). slice_get f.blocks c ≡ Some holder) (sym (written_is s entry right kinds o unit u p among)) there; among = inside_it }
@@ -230,8 +228,8 @@ module _ (s : Setting) (entry : Option (List ℕ)) (right : IsConforming s.of en
         either_right false a b e = cc
 
         by_class : (a : Bool) → (slice_index g.args 0 == class_number storage.Private) ≡ a → (b : Bool) → (slice_index g.args 0 == class_number storage.Workgroup) ≡ b → (a || b) ≡ true → is_some_block s.of.heads Gs g ≡ false
-        by_class true is_it b other e = no_block s.of.heads Gs g (class_number storage.Private) (test_same (slice_index g.args 0) (class_number storage.Private) is_it) (private_no_block s.of.heads)
-        by_class false is_it true other e = no_block s.of.heads Gs g (class_number storage.Workgroup) (test_same (slice_index g.args 0) (class_number storage.Workgroup) other) (workgroup_no_block s.of.heads)
+        by_class true is_it b other e = no_block s.of.heads Gs g (class_number storage.Private) (same_number (slice_index g.args 0) (class_number storage.Private) is_it) (private_no_block s.of.heads)
+        by_class false is_it true other e = no_block s.of.heads Gs g (class_number storage.Workgroup) (same_number (slice_index g.args 0) (class_number storage.Workgroup) other) (workgroup_no_block s.of.heads)
         by_class false is_it false other e = cc
 
     listed_function : IsIn i (insts_of (written p))
@@ -248,7 +246,7 @@ module _ (s : Setting) (entry : Option (List ℕ)) (right : IsConforming s.of en
           where
             by_class : (v : Bool) (c : ℕ) → ((v && (c == class_number storage.Private)) || (v && (c == class_number storage.Workgroup))) ≡ true → (v && (c == class_number storage.Input)) ≡ false
             by_class false c e = refl
-            by_class true c e = false_from_ne_true (c == class_number storage.Input) (λ input. apart (test_same c (class_number storage.Input) input))
+            by_class true c e = false_from_ne_true (c == class_number storage.Input) (λ input. apart (same_number c (class_number storage.Input) input))
               where
                 apart : c ≡ class_number storage.Input → ⊥
                 apart same = never (sym (subst (λ (n : ℕ). ((n == class_number storage.Private) || (n == class_number storage.Workgroup)) ≡ true) same e))

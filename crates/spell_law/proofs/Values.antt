@@ -3,6 +3,7 @@ use Rattle.std.proofs.Common.{◌≡◌, ◌<◌, ◌&&◌, ℕ, zero, suc, Bool
 use Rattle.std.specs.Prelude.{◌⊎◌, ◌==◌, option_map, slice_index}
 use Rattle.std.specs.Option.{option_map_or}
 use Rattle.std.proofs.lemmas.Bool.Decides.{nat_tests}
+use Rattle.std.proofs.lemmas.Option.{same_Some}
 use Rattle.spv_ops.specs.declared.Op.{Op}
 use Rattle.spv_module.specs.Held.{global}
 use Rattle.spv_module.specs.Lists.{id}
@@ -39,11 +40,8 @@ use Rattle.spell_law.proofs.Scalars.{each-uses}
 use Rattle.spell_law.proofs.Composites.{lowered-uses}
 
 -- vectors have two to four components
-some_same : (a b : Tree) → Some a ≡ Some b → a ≡ b
-some_same a b e = cc
-
 sized-fits : (n : ℕ) (e : Elem) (a b : Bool) (t : Tree) → nat_le 2 n ≡ a → nat_le n 4 ≡ b → (if a && b then Some (vector e n) else None) ≡ Some t → FitsShape t
-sized-fits n e true true t low high is = subst FitsShape (some_same (vector e n) t is) (grind (arith, nat_tests, low, high), grind (arith, nat_tests, low, high))
+sized-fits n e true true t low high is = subst FitsShape (same_Some (vector e n) t is) (grind (arith, nat_tests, low, high), grind (arith, nat_tests, low, high))
 sized-fits n e true false t low high is = cc
 sized-fits n e false b t low high is = cc
 
@@ -57,12 +55,12 @@ vector-fits (Some u) n t is = by_elem (elem_of u) is
 
 kind-fits : (gs : List Inst) (f : ℕ → Option Tree) (g : Inst) (k : TypeKind) (t : Tree) → tree_by_kind gs f g k ≡ Some t → FitsShape t
 kind-fits gs f g kinds.Vector t is = vector-fits (f (slice_index g.args 0)) (slice_index g.args 1) t is
-kind-fits gs f g kinds.Bool t is = subst FitsShape (some_same boolean t is) tt
+kind-fits gs f g kinds.Bool t is = subst FitsShape (same_Some boolean t is) tt
 kind-fits gs f g kinds.Int t is = by_width (slice_index g.args 0 == 32) (slice_index g.args 1 == 0) (slice_index g.args 1 == 1) is
   where
     by_width : (a b c : Bool) → (if a then (if b then Some uint else (if c then Some int else None)) else None) ≡ Some t → FitsShape t
-    by_width true true c is = subst FitsShape (some_same uint t is) tt
-    by_width true false true is = subst FitsShape (some_same int t is) tt
+    by_width true true c is = subst FitsShape (same_Some uint t is) tt
+    by_width true false true is = subst FitsShape (same_Some int t is) tt
     by_width true false false is = cc
     by_width false b c is = cc
 kind-fits gs f g kinds.Array t is = by_part (f (slice_index g.args 0)) (length_by (slice_index g.args 1) (global gs (slice_index g.args 1))) is
@@ -70,17 +68,17 @@ kind-fits gs f g kinds.Array t is = by_part (f (slice_index g.args 0)) (length_b
     by_part : (o : Option Tree) (l : Option Length) → array_tree o l ≡ Some t → FitsShape t
     by_part None l is = cc
     by_part (Some u) None is = cc
-    by_part (Some u) (Some l) is = subst FitsShape (some_same (array u l) t is) tt
+    by_part (Some u) (Some l) is = subst FitsShape (same_Some (array u l) t is) tt
 kind-fits gs f g kinds.Runtime t is = by_part (f (slice_index g.args 0)) is
   where
     by_part : (o : Option Tree) → option_map runtime o ≡ Some t → FitsShape t
     by_part None is = cc
-    by_part (Some u) is = subst FitsShape (some_same (runtime u) t is) tt
+    by_part (Some u) is = subst FitsShape (same_Some (runtime u) t is) tt
 kind-fits gs f g kinds.Struct t is = by_parts (all_trees f g.args) is
   where
     by_parts : (o : Option Trees) → option_map (struct g.result) o ≡ Some t → FitsShape t
     by_parts None is = cc
-    by_parts (Some ts) is = subst FitsShape (some_same (struct g.result ts) t is) tt
+    by_parts (Some ts) is = subst FitsShape (same_Some (struct g.result ts) t is) tt
 kind-fits gs f g kinds.Other t is = cc
 
 at-fits : (gs : List Inst) (g : Inst) (t : Tree) → tree_at gs g ≡ Some t → FitsShape t

@@ -1,5 +1,5 @@
 -- The operands of a module that was read are words, and what has no result has 0 for one.
-use Rattle.std.proofs.Common.{◌≡◌, ◌+◌, ℕ, zero, suc, Bool, true, false, List, [], ◌∷◌, ◌++◌, drop, take, Contains, inl, inr, sym, ap, subst, if◌then◌else◌}
+use Rattle.std.proofs.Common.{◌≡◌, ◌+◌, ℕ, Bool, true, false, List, [], ◌∷◌, ◌++◌, drop, Contains, inl, inr, sym, ap, subst, if◌then◌else◌}
 use Rattle.std.specs.Prelude.{flat_map}
 use Rattle.spv_ops.specs.Shape.{count_of}
 use Rattle.spv_words.specs.Words.{words, insts, slice}
@@ -21,18 +21,13 @@ use Rattle.module_check.specs.ReadFrom.{IsReadFrom}
 use Rattle.spell_law.specs.Blocks.{FitWords}
 use Rattle.typed_law.specs.Words.{AreAllWords, AreBytes}
 use Rattle.typed_law.proofs.LowValues.{drop_low}
-use Rattle.typed_law.proofs.OfWords.{words_of_bytes}
+use Rattle.typed_law.proofs.OfWords.{words_of_bytes, take_low}
 use Rattle.claim_law.specs.Claimed.{IsIn}
 use Rattle.unit_law.proofs.Lists.{of_contained}
 
 fit_words : (ws : List ℕ) → AreAllWords ws → FitWords ws
 fit_words [] all = tt
 fit_words (w ∷ ws) all = (all.0, fit_words ws all.1)
-
-take_all : (n : ℕ) (ws : List ℕ) → AreAllWords ws → AreAllWords (take n ws)
-take_all zero ws all = tt
-take_all (suc n) [] all = tt
-take_all (suc n) (w ∷ ws) all = (all.0, take_all n ws all.1)
 
 -- what is said of each instruction that words make is said of those of a module
 module _ (ws : List ℕ) (P : Inst → Type 0) (each : (x : Inst1) → P (inst_of ws x)) where
@@ -91,7 +86,7 @@ module _ (bytes : List ℕ) (m : ModuleState) (read : IsReadFrom bytes m) (octet
 
   made_of_words : (x : Inst1) → IsOfWords (inst_of (words bytes) x)
   made_of_words x = record {
-    args = fit_words (inst_of ws x).args (drop_low (1 + count_of (has_type (known x.opcode)) + count_of (has_result (known x.opcode))) (slice ws x) (take_all x.len (drop x.start ws) (drop_low x.start ws all)));
+    args = fit_words (inst_of ws x).args (drop_low (1 + count_of (has_type (known x.opcode)) + count_of (has_result (known x.opcode))) (slice ws x) (take_low x.len (drop x.start ws) (drop_low x.start ws all)));
     none = λ off. ap (λ (b : Bool). if b then word ws x (1 + count_of (has_type (known x.opcode))) else 0) off;
   }
 

@@ -11,10 +11,11 @@ use Rattle.spv_module.specs.declared.inst.Inst.{Inst}
 use Rattle.spv_module.specs.declared.inst.Function.{Function}
 use Rattle.use_chains.specs.declared.slot.SlotPlace.{SlotPlace}
 use Rattle.hoist_plan.specs.Plan.{Placed, user, is_elsewhere_by, carries_by, carries, is_carried_with, carried_from}
+use Rattle.list_law.proofs.Numbers.{same_number, number_same}
 use Rattle.plan_law.specs.Ordered.{NoOperand, NoneMentioned, AreOrdered}
 use Rattle.claim_law.specs.Claimed.{IsIn}
 use Rattle.claim_law.proofs.Listed.{any_in}
-use Rattle.unit_law.proofs.Lists.{same_test, test_same, split_at}
+use Rattle.unit_law.proofs.Lists.{split_at}
 use Rattle.unit_law.proofs.Carried.{carried_on}
 
 none_at : (f : Function) (n : ℕ) (places : List SlotPlace) (at : SlotPlace) (i : Inst) → NoOperand f n places → IsIn at places → user f at ≡ Some i → i.result ≡ n → ⊥
@@ -22,7 +23,7 @@ none_at f n [] at i none among there = absurd among
 none_at f n (x ∷ xs) at i none (inl same) there = subst (λ (q : Option Inst). IfSome q (λ (j : Inst). j.result ≡ n → ⊥)) (ap (user f) same ∙ there) none.0
 none_at f n (x ∷ xs) at i none (inr among) there = none_at f n xs at i none.1 among there
 
-none_of : (f : Function) (n : ℕ) (ps : List Placed) (p : Placed) → NoneMentioned f n ps → IsIn p ps → NoOperand f n p.mentions
+pub none_of : (f : Function) (n : ℕ) (ps : List Placed) (p : Placed) → NoneMentioned f n ps → IsIn p ps → NoOperand f n p.mentions
 none_of f n [] p none among = absurd among
 none_of f n (x ∷ xs) p none (inl same) = subst (λ (q : Placed). NoOperand f n q.mentions) same none.0
 none_of f n (x ∷ xs) p none (inr among) = none_of f n xs p none.1 among
@@ -63,7 +64,7 @@ module _ (f : Function) where
           back = ps;
           by = p;
           whole = refl;
-          result = sym (test_same n p.result same);
+          result = sym (same_number n p.result same);
           chain = (and_parts (is_chain p.op) (carried_from f ps p.result || list_any (carries f (carried_from f ps) p.block) p.mentions) is_it).0;
           carried = on;
         }
@@ -84,7 +85,7 @@ module _ (f : Function) where
         (carried_on f x.0 (p ∷ (x.1 ++ w.by ∷ w.back)) p.result (own (x.1 ++ w.by ∷ w.back) (carried_on f x.1 (w.by ∷ w.back) i.result w.carried)))
       where
         by_test : (back : List Placed) (b : Bool) → b ≡ true → elim b as (λ b. Bool) [ true ↦ carried_from f back p.result || (p.result == p.result) | false ↦ carried_from f back p.result ] ≡ true
-        by_test back true on = or_right (carried_from f back p.result) (p.result == p.result) (same_test p.result p.result refl)
+        by_test back true on = or_right (carried_from f back p.result) (p.result == p.result) (number_same p.result p.result refl)
         by_test back false on = cc
 
         own : (back : List Placed) → carried_from f back i.result ≡ true → carried_from f (p ∷ back) p.result ≡ true

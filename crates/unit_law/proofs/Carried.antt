@@ -27,6 +27,7 @@ use Rattle.function_plan.specs.Phis.{is_gone}
 use Rattle.function_text.specs.Functions.{FunctionPlan}
 use Rattle.unit_rules.specs.Translation.{Naming, text_of}
 use Rattle.unit_rules.specs.Unit.{IsUnitOf}
+use Rattle.list_law.proofs.Numbers.{number_same, number_other}
 use Rattle.plan_law.specs.Ordered.{AreOrdered}
 use Rattle.plan_law.proofs.Order.{in_order}
 use Rattle.typed_law.specs.Conforms.{IsConforming}
@@ -34,7 +35,7 @@ use Rattle.claim_law.specs.Claimed.{IsIn}
 use Rattle.claim_law.proofs.Listed.{any_in}
 use Rattle.unit_law.specs.Mentioned.{IsLinked}
 use Rattle.unit_law.specs.Words.{words_of, AreOfStructs}
-use Rattle.unit_law.proofs.Lists.{same_test, other_test, split_at}
+use Rattle.unit_law.proofs.Lists.{split_at}
 use Rattle.unit_law.proofs.Links.{link_at, linked_user, own_block, link_stands}
 use Rattle.unit_law.proofs.Forms.{placed, is_placed, form_at}
 use Rattle.unit_law.proofs.Ways.{HaveKinds, F, R, V, plan_is, ordered, reached_nth}
@@ -57,7 +58,7 @@ module _ (f : Function) where
       subst (λ (qs : List Placed). carried_from f qs p.result ≡ true) (sym w.2) (carried_on w.0 (p ∷ w.1) p.result (own w.1))
     where
       by_test : (back : List Placed) (b : Bool) → b ≡ true → elim b as (λ b. Bool) [ true ↦ carried_from f back p.result || (p.result == p.result) | false ↦ carried_from f back p.result ] ≡ true
-      by_test back true on = or_right (carried_from f back p.result) (p.result == p.result) (same_test p.result p.result refl)
+      by_test back true on = or_right (carried_from f back p.result) (p.result == p.result) (number_same p.result p.result refl)
       by_test back false on = cc
 
       own : (back : List Placed) → carried_from f (p ∷ back) p.result ≡ true
@@ -118,7 +119,7 @@ module _ (s : Setting) (entry : Option (List ℕ)) (right : IsConforming s.of en
         carried_elsewhere Fn (results (plan_is s entry right kinds o unit u p among).links Fn) P (link_at Fn Marks b i j.result m) i listed chain
         (link_stands Fn Marks b i j.result m (plan_is s entry right kinds o unit u p among).links (plan_is s entry right kinds o unit u p among).live)
         (linked_user Fn Marks b i j.result m)
-        (ap (λ (c : ℕ). not (c == block)) (own_block Fn Marks b i j.result m no_phi) ∙ ap not (other_test b block apart))
+        (ap (λ (c : ℕ). not (c == block)) (own_block Fn Marks b i j.result m no_phi) ∙ ap not (number_other b block apart))
 
     -- a load, a call, an atomic instruction or a composite that is put together has a variable, where it is not gone
     pub always_form : is_value s.of.globals j.ty ≡ true → is_always_named j.op ≡ true → is_gone (Where.form j.result) ≡ false → (Where.form j.result ≡ Local) ⊎ (Where.form j.result ≡ Hoisted)

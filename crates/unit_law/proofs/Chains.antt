@@ -1,5 +1,5 @@
 -- The path of a pointer, as it is written: of words that are declared, where its chains' indexes are written.
-use Rattle.std.proofs.Common.{◌≡◌, ◌+◌, ◌++◌, ◌==◌, ◌&&◌, not, ℕ, Bool, true, false, List, [], ◌∷◌, Option, Some, refl, sym, ap, ◌∙◌, subst}
+use Rattle.std.proofs.Common.{◌≡◌, ◌+◌, ◌++◌, ◌==◌, ◌&&◌, not, ℕ, true, false, List, [], ◌∷◌, Option, Some, refl, sym, ap, ◌∙◌, subst}
 use Rattle.std.specs.Prelude.{drop, is_some, option_and_then, slice_get, unwrap_or}
 use Rattle.std.specs.Option.{option_map_or}
 use Rattle.std.specs.List.{list_any}
@@ -28,6 +28,7 @@ use Rattle.expr_forward.specs.Paths as paths
 use Rattle.expr_forward.specs.Paths.{base_text, step_text, steps_text, place_text}
 use Rattle.unit_rules.specs.Unit.{IsUnitOf}
 use Rattle.name_alloc.specs.Naming.{name_of}
+use Rattle.list_law.proofs.Tests.{and_off}
 use Rattle.spell_law.specs.Uses.{Words, UseSteps, UsesLValue}
 use Rattle.type_law.proofs.Chains.{HaveTypes}
 use Rattle.type_law.proofs.Choices.{same_count}
@@ -44,10 +45,6 @@ use Rattle.unit_law.proofs.Steps.{HasMembers, IsWritable, one_step}
 nothing_left : (f : ℕ → ℕ → Reached) (ids : List ℕ) → walk f Nothing ids ≡ Nothing
 nothing_left f [] = refl
 nothing_left f (id ∷ ids) = nothing_left f ids
-
-both_off : (a b : Bool) → (a && b) ≡ false → a ≡ true → b ≡ false
-both_off true b e h = e
-both_off false b e h = cc
 
 not_nothing : (gs : List Inst) (ty : ℕ) (class : Option ℕ) (r : Reached) → leads_elsewhere gs ty class r ≡ false → r ≡ Nothing → ⊥
 not_nothing gs ty class r e is = never (sym (ap (leads_elsewhere gs ty class) is) ∙ e)
@@ -197,4 +194,4 @@ module _ (s : Setting) (entry : Option (List ℕ)) (right : IsConforming s.of en
     where
       same_rows : (a b : ℕ) (x y : Tree) → type_tree Gs a ≡ Some x → type_tree Gs b ≡ Some y → differ Gs a b ≡ false → a ≡ b
       same_rows a b x y one two apart =
-          same_count a b (both_off (is_some (type_row Gs a) && is_some (type_row Gs b)) (not (a == b)) apart (and_from (is_some (type_row Gs a)) (is_some (type_row Gs b)) (ap is_some (row s f a x one).1) (ap is_some (row s f b y two).1)))
+          same_count a b (and_off (is_some (type_row Gs a) && is_some (type_row Gs b)) (not (a == b)) apart (and_from (is_some (type_row Gs a)) (is_some (type_row Gs b)) (ap is_some (row s f a x one).1) (ap is_some (row s f b y two).1)))

@@ -19,12 +19,12 @@ use Rattle.conformance.specs.Rules.{Options}
 use Rattle.glsl_ast.specs.Tree.{TranslationUnit}
 use Rattle.text_rules.specs.Constants.{Source, is_scalar, is_constant, has_literal, size_ids, free_spec_id, reading, reading_by_spec, reading_by_part, reading_by_literal}
 use Rattle.text_rules.specs.declared.readings.Reading.TheVariants.{Named, GroupSize}
-use Rattle.text_rules.specs.Printed.{Reached, needs_constant, needed_from, is_needed, is_named, declares, has_operand, has_struct, is_declared_constant}
+use Rattle.text_rules.specs.Printed.{Reached, needs_constant, is_needed, is_named, has_struct, is_declared_constant}
 use Rattle.unit_rules.specs.Unit.{source_of, IsUnitOf}
+use Rattle.list_law.proofs.Numbers.{number_same}
 use Rattle.claim_law.specs.Claimed.{IsIn}
-use Rattle.claim_law.proofs.Constants.{found_in}
+use Rattle.claim_law.proofs.Constants.{found_in, needed_first}
 use Rattle.claim_law.proofs.Listed.{any_in}
-use Rattle.unit_law.proofs.Lists.{same_test}
 use Rattle.unit_law.proofs.Structs.{Written}
 
 found_any : {X : Type 0} (p : X → Bool) (n : ℕ) (xs : List X) (k : ℕ) → position_from p n xs ≡ Some k → list_any p xs ≡ true
@@ -34,14 +34,6 @@ found_any p n (x ∷ xs) k e = by_test (p x) e (found_any p (n + 1) xs k)
     by_test : (b : Bool) → (if b then Some n else position_from p (n + 1) xs) ≡ Some k → (position_from p (n + 1) xs ≡ Some k → list_any p xs ≡ true) → (b || list_any p xs) ≡ true
     by_test true e later = refl
     by_test false e later = later e
-
-needed_first : (s : Source) (first : ℕ → Bool) (gs : List Inst) (n : ℕ) → first n ≡ true → needed_from s first gs n ≡ true
-needed_first s first [] n on = on
-needed_first s first (g ∷ gs) n on = by_test (needed_from s first gs n) (needed_first s first gs n on)
-  where
-    by_test : (b : Bool) → b ≡ true → elim b as (λ b. Bool) [ true ↦ true | false ↦ declares s (needed_from s first gs) g && has_operand g n ] ≡ true
-    by_test true on = refl
-    by_test false on = cc
 
 -- scalars and vectors have no structs
 scalar_plain : (v : Tree) → is_scalar v ≡ true → (k : ℕ) → has_struct k v ≡ true → ⊥
@@ -100,7 +92,7 @@ module _ (m : ModuleState) (o : Options) (unit : TranslationUnit) (u : IsUnitOf 
     needed : is_needed S All g.result ≡ true
     needed =
         subst (λ (k : ℕ). is_needed S All k ≡ true) (sym there.1)
-        (needed_first S (needs_constant S All) m.globals n (or_left (list_any (λ (k : ℕ). k == n) All.mentions) _ (any_in (λ (k : ℕ). k == n) All.mentions n n_in (same_test n n refl))))
+        (needed_first S (needs_constant S All) m.globals n (or_left (list_any (λ (k : ℕ). k == n) All.mentions) _ (any_in (λ (k : ℕ). k == n) All.mentions n n_in (number_same n n refl))))
 
     by_name : reading S g ≡ Named → Told
     by_name named = inl (and_from (is_constant g) _ constant (and_from (is_named (reading S g)) _ (ap is_named named) (or_right (is_some (free_spec_id S g.result)) (is_needed S All g.result) needed)))

@@ -4,6 +4,7 @@ use Rattle.std.specs.Prelude.{◌⊎◌, slice_get}
 use Rattle.std.specs.Option.{option_map_or}
 use Rattle.std.specs.List.{enumerate_from, list_any}
 use Rattle.std.proofs.lemmas.Bool.{or_right as second_on}
+use Rattle.std.proofs.lemmas.Option.{none-some}
 use Rattle.spv_ops.specs.Opcode.{is}
 use Rattle.spv_ops.specs.Shape.{is_pure}
 use Rattle.spv_ops.specs.declared.Op.TheVariants as code
@@ -15,6 +16,7 @@ use Rattle.use_chains.specs.Links.{Link}
 use Rattle.hoist_plan.specs.declared.form.Form.{Form}
 use Rattle.hoist_plan.specs.declared.form.Form.TheVariants.{Gone, Forwarded, Local, Hoisted}
 use Rattle.hoist_plan.specs.Plan.{Placed, user, mention_block, is_elsewhere_by, is_elsewhere, is_live, is_value, is_always_named, wants_by, wants_variable, is_named_by_use, own_height, is_named, is_hoisted, form_with, with_operand, Known, with_result, nothing, known, mentions_of, result_of, results_of_block, results, form}
+use Rattle.list_law.proofs.Numbers.{same_number, number_same, number_other}
 use Rattle.plan_law.specs.Ordered.{AreOrdered}
 use Rattle.plan_law.proofs.Heights.{form_is}
 use Rattle.typed_law.proofs.Lists.{or_left, or_right, and_off, clash}
@@ -22,7 +24,7 @@ use Rattle.typed_law.proofs.Values.{same_count}
 use Rattle.claim_law.specs.Claimed.{IsIn}
 use Rattle.claim_law.proofs.Listed.{in_flat}
 use Rattle.unit_law.specs.Mentioned.{Stands}
-use Rattle.unit_law.proofs.Lists.{same_test, other_test, test_same, split_at, numbered_first, of_numbered_first, none_passes, some_length, of_flat}
+use Rattle.unit_law.proofs.Lists.{split_at, numbered_first, of_numbered_first, none_passes, some_length, of_flat}
 
 -- the result of an instruction, as it is planned
 abbrev pub placed : List Link → ℕ → Inst → Placed
@@ -33,7 +35,7 @@ module _ (links : List Link) (f : Function) where
   is_placed c block j there among some =
       in_flat (results_of_block links) (enumerate_from 0 f.blocks) (c, block) (placed links c j) (numbered_first f.blocks c block there)
       (in_flat (result_of links c) block.insts j (placed links c j) among
-      (subst (λ (b : Bool). IsIn (placed links c j) (if b then [] else placed links c j ∷ [])) (sym (other_test j.result 0 some)) (inl refl)))
+      (subst (λ (b : Bool). IsIn (placed links c j) (if b then [] else placed links c j ∷ [])) (sym (number_other j.result 0 some)) (inl refl)))
 
   -- each is that of an instruction of the function
   pub record IsMadeBy (p : Placed) : Type 0 where
@@ -60,7 +62,7 @@ module _ (links : List Link) (f : Function) where
         inst = j;
         there = there;
         among = among;
-        some = λ lacks. clash (sym (same_test j.result 0 lacks) ∙ is);
+        some = λ lacks. clash (sym (number_same j.result 0 lacks) ∙ is);
         is = same;
       }
 
@@ -74,7 +76,7 @@ module _ (gs : List Inst) (f : Function) where
   ]
     where
       by_test : (b : Bool) → (p.result == n) ≡ b → elim b as (λ b. Option Form) [ true ↦ Some (form_with gs f k.operands p) | false ↦ k.forms n ] ≡ Some x → (k.forms n ≡ Some x) ⊎ ((q : Placed) × IsIn q (p ∷ ps) × (q.result ≡ n))
-      by_test true same told = inr (p, inl refl, test_same p.result n same)
+      by_test true same told = inr (p, inl refl, same_number p.result n same)
       by_test false other told = inl told
 
   -- a form that is not gone is that of a result
@@ -95,13 +97,10 @@ module _ (gs : List Inst) (f : Function) where
   pub unmade_gone : (links : List Link) → form (record { globals = gs; function = f; links = links }) 0 ≡ Gone
   unmade_gone links = by_form ((known gs f (results links f)).forms 0) refl
     where
-      none_told : (x : Form) → None ≡ Some x → ⊥
-      none_told x e = cc
-
       by_form : (o : Option Form) → (known gs f (results links f)).forms 0 ≡ o → unwrap_or o Gone ≡ Gone
       by_form None told = refl
       by_form (Some x) told = elim (told_result nothing (results links f) 0 x told) [
-        | inl here ↦ absurd (none_told x here)
+        | inl here ↦ absurd (none-some x here)
         | inr there ↦ let w = made_by links f there.0 there.1 in absurd (w.some (ap (λ (q : Placed). q.result) w.is ∙ there.2))
       ]
 

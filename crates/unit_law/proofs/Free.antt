@@ -23,26 +23,24 @@ use Rattle.spv_index.specs.BlockStructs.{is_block, is_some_block}
 use Rattle.profile_rules.specs.Places.{is_among}
 use Rattle.profile_rules.specs.TypeForm.{parts_of, pointees, value_types, signature_types, block_misuses, runtime_misuses}
 use Rattle.text_rules.specs.Printed.{has_struct, have_struct}
+use Rattle.list_law.proofs.Numbers.{same_number, number_same}
+use Rattle.list_law.proofs.Tests.{off_on}
 use Rattle.typed_law.specs.Conforms.{IsConforming}
 use Rattle.typed_law.proofs.Lists.{or_left, clash, earlier_some}
 use Rattle.typed_law.proofs.Rules.{used_type}
-use Rattle.typed_law.proofs.Used.{among_left}
+use Rattle.typed_law.proofs.Used.{among_left, among_right, struct_part}
 use Rattle.claim_law.specs.Claimed.{IsIn}
 use Rattle.claim_law.proofs.Constants.{found_in}
-use Rattle.unit_law.proofs.Lists.{same_test, test_same, as_among}
+use Rattle.unit_law.proofs.Lists.{as_among}
 use Rattle.unit_law.proofs.Types.{array_op, struct_op}
 
 in_flat_list : (f : Inst → List ℕ) (xs : List Inst) (x : Inst) (id : ℕ) → IsIn x xs → is_among (f x) id ≡ true → is_among (flat_map f xs) id ≡ true
 in_flat_list f [] x id there own = absurd there
 in_flat_list f (y ∷ xs) x id (inl same) own = among_left (f y) (flat_map f xs) id (subst (λ (z : Inst). is_among (f z) id ≡ true) (sym same) own)
-in_flat_list f (y ∷ xs) x id (inr there) own = later (f y) (flat_map f xs) id (in_flat_list f xs x id there own)
-  where
-    later : (ys zs : List ℕ) (k : ℕ) → is_among zs k ≡ true → is_among (ys ++ zs) k ≡ true
-    later [] zs k on = on
-    later (y ∷ ys) zs k on = or_right (y == k) (is_among (ys ++ zs) k) (later ys zs k on)
+in_flat_list f (y ∷ xs) x id (inr there) own = among_right (f y) (flat_map f xs) id (in_flat_list f xs x id there own)
 
 first_among : (a : ℕ) (args : List ℕ) → is_among (a ∷ args) a ≡ true
-first_among a args = ap (λ (b : Bool). b || is_among args a) (same_test a a refl)
+first_among a args = ap (λ (b : Bool). b || is_among args a) (number_same a a refl)
 
 -- the parts of types
 element_part : (o : Op) (args : List ℕ) → (is o code.TypeArray ≡ true) ⊎ (is o code.TypeRuntimeArray ≡ true) → (shape o).least ≤ 1 + count_of (has_type o) + count_of (has_result o) + length args
@@ -54,11 +52,6 @@ element_part code.TypeRuntimeArray [] on least = absurd (omega (arith, least))
 element_part code.TypeRuntimeArray (a ∷ args) on least = first_among a []
 element_part o args (inl on) least = cc
 element_part o args (inr on) least = cc
-
-member_part : (o : Op) (args : List ℕ) (p : ℕ) → is o code.TypeStruct ≡ true → is_among args p ≡ true → is_among (option_map_or (λ (ids : List ℕ). ids) (ids_by_kind (kind o) args) []) p ≡ true
-unfolding kind number
-member_part code.TypeStruct args p on there = there
-member_part o args p on there = cc
 
 runtime_op : (o : Op) → kind o ≡ kinds.Runtime → is o code.TypeRuntimeArray ≡ true
 unfolding kind number
@@ -80,9 +73,6 @@ module _ (m : ModuleState) (entry : Option (List ℕ)) (right : IsConforming m e
   abbrev pub AreAllFree : Trees → Type 0
   AreAllFree ts = (n : ℕ) → have_struct n ts ≡ true → IsFree n
 
-  never : {A : Type 0} → false ≡ true → A
-  never e = cc
-
   free_struct : (g : Inst) → IsIn g m.globals → is g.op code.TypeStruct ≡ true → is_among (block_misuses m) g.result ≡ true → is_block m.heads g.result ≡ false
   free_struct g among on misused =
       false_from_ne_true (is_block m.heads g.result) (λ marked. clash (sym (and_from ((is g.op code.TypeStruct) && is_block m.heads g.result) (is_among (block_misuses m) g.result) (and_from (is g.op code.TypeStruct) (is_block m.heads g.result) on marked) misused)
@@ -98,16 +88,13 @@ module _ (m : ModuleState) (entry : Option (List ℕ)) (right : IsConforming m e
     part_free : (p : ℕ) (v : Tree) → is_among (parts_of g) p ≡ true → tree_before m.globals g.at p ≡ Some v → AreFree v
     part_free p v part is = known p v (part_misused g p among part) is
 
-    same_trees : (a b : Trees) → Some a ≡ Some b → a ≡ b
-    same_trees a b e = cc
-
     either_free : (n : ℕ) (v : Tree) (vs : Trees) → AreFree v → AreAllFree vs → (a b : Bool) → has_struct n v ≡ a → have_struct n vs ≡ b → (a || b) ≡ true → IsFree n
     either_free n v vs one rest true b on more e = one n on
     either_free n v vs one rest false true on more e = rest n more
-    either_free n v vs one rest false false on more e = never e
+    either_free n v vs one rest false false on more e = off_on e
 
     all_free : (ids : List ℕ) (ts : Trees) → ((p : ℕ) → is_among ids p ≡ true → is_among (parts_of g) p ≡ true) → all_trees (tree_before m.globals g.at) ids ≡ Some ts → AreAllFree ts
-    all_free [] ts sub is = subst AreAllFree (same_trees no_trees ts is) (λ n has. never has)
+    all_free [] ts sub is = subst AreAllFree (same_Some no_trees ts is) (λ n has. off_on has)
     all_free (id ∷ ids) ts sub is = by_both (tree_before m.globals g.at id) refl (all_trees (tree_before m.globals g.at) ids) refl is (all_free ids)
       where
         by_both : (o : Option Tree) → tree_before m.globals g.at id ≡ o → (q : Option Trees) → all_trees (tree_before m.globals g.at) ids ≡ q → both o q ≡ Some ts
@@ -115,7 +102,7 @@ module _ (m : ModuleState) (entry : Option (List ℕ)) (right : IsConforming m e
         by_both None part q rest is later = cc
         by_both (Some v) part None rest is later = cc
         by_both (Some v) part (Some vs) rest is later =
-            subst AreAllFree (same_trees (tree v vs) ts is)
+            subst AreAllFree (same_Some (tree v vs) ts is)
             (λ n has. either_free n v vs (part_free id v (sub id (first_among id ids)) part) (later vs (λ p there. sub p (or_right (id == p) (is_among ids p) there)) rest) (has_struct n v) (have_struct n vs) refl refl has)
 
     least_is : (shape g.op).least ≤ 1 + count_of (has_type g.op) + count_of (has_result g.op) + length g.args
@@ -132,7 +119,7 @@ module _ (m : ModuleState) (entry : Option (List ℕ)) (right : IsConforming m e
 
     -- the parts of a struct, be it a block's or not
     members_free : (ts : Trees) → is g.op code.TypeStruct ≡ true → all_trees (tree_before m.globals g.at) g.args ≡ Some ts → AreAllFree ts
-    members_free ts on all = all_free g.args ts (λ p there. member_part g.op g.args p on there) all
+    members_free ts on all = all_free g.args ts (λ p there. struct_part g.op g.args p on there) all
 
     struct_free : (is g.op code.TypeStruct ≡ true → is_block m.heads g.result ≡ false) → (q : Option Trees) (t : Tree) → all_trees (tree_before m.globals g.at) g.args ≡ q → is g.op code.TypeStruct ≡ true → option_map (struct g.result) q ≡ Some t → AreFree t
     struct_free top None t all on is = cc
@@ -140,7 +127,7 @@ module _ (m : ModuleState) (entry : Option (List ℕ)) (right : IsConforming m e
       where
         by_own : (n : ℕ) (b : Bool) → (g.result == n) ≡ b → (b || have_struct n ts) ≡ true → IsFree n
         by_own n true same has =
-            let here : g.result ≡ n = test_same g.result n same in
+            let here : g.result ≡ n = same_number g.result n same in
             record { ty = g; among = among; is_struct = on; result = here; free = subst (λ (k : ℕ). is_block m.heads k ≡ false) here (top on) }
         by_own n false other has = members_free ts on all n has
 
@@ -149,7 +136,7 @@ module _ (m : ModuleState) (entry : Option (List ℕ)) (right : IsConforming m e
     vector_free (Some v) n t is = by_elem (elem_of v) is
       where
         by_size : (e : Elem) (a b : Bool) → (if a && b then Some (vector e n) else None) ≡ Some t → AreFree t
-        by_size e true true is = subst AreFree (same_Some (vector e n) t is) (λ k has. never has)
+        by_size e true true is = subst AreFree (same_Some (vector e n) t is) (λ k has. off_on has)
         by_size e true false is = cc
         by_size e false b is = cc
 
@@ -158,12 +145,12 @@ module _ (m : ModuleState) (entry : Option (List ℕ)) (right : IsConforming m e
         by_elem (Some e) is = by_size e (nat_le 2 n) (nat_le n 4) is
 
     kind_free : (is g.op code.TypeStruct ≡ true → is_block m.heads g.result ≡ false) → (k : TypeKind) (t : Tree) → kind g.op ≡ k → tree_by_kind m.globals (tree_before m.globals g.at) g k ≡ Some t → AreFree t
-    kind_free top kinds.Bool t on is = subst AreFree (same_Some boolean t is) (λ n has. never has)
+    kind_free top kinds.Bool t on is = subst AreFree (same_Some boolean t is) (λ n has. off_on has)
     kind_free top kinds.Int t on is = by_width (slice_index g.args 0 == 32) (slice_index g.args 1 == 0) (slice_index g.args 1 == 1) is
       where
         by_width : (a b c : Bool) → (if a then (if b then Some uint else (if c then Some int else None)) else None) ≡ Some t → AreFree t
-        by_width true true c is = subst AreFree (same_Some uint t is) (λ n has. never has)
-        by_width true false true is = subst AreFree (same_Some int t is) (λ n has. never has)
+        by_width true true c is = subst AreFree (same_Some uint t is) (λ n has. off_on has)
+        by_width true false true is = subst AreFree (same_Some int t is) (λ n has. off_on has)
         by_width true false false is = cc
         by_width false b c is = cc
     kind_free top kinds.Vector t on is = vector_free (tree_before m.globals g.at (slice_index g.args 0)) (slice_index g.args 1) t is

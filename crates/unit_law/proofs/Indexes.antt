@@ -28,6 +28,7 @@ use Rattle.access_paths.specs.Ways.{indexes}
 use Rattle.expr_forward.specs.Scope.{Scope, type_of}
 use Rattle.function_text.specs.Functions.{FunctionPlan}
 use Rattle.unit_rules.specs.Unit.{IsUnitOf}
+use Rattle.list_law.proofs.Numbers.{number_same}
 use Rattle.type_law.proofs.Vectors.{three_off}
 use Rattle.type_law.proofs.Chains.{HaveTypes}
 use Rattle.spell_law.specs.Uses.{Words, UsesExpr}
@@ -37,7 +38,7 @@ use Rattle.typed_law.proofs.Values.{passing, int_shaped}
 use Rattle.claim_law.specs.Claimed.{IsIn}
 use Rattle.claim_law.proofs.Constants.{found_in}
 use Rattle.unit_law.specs.Words.{is_struct_key, words_of, AreOfStructs}
-use Rattle.unit_law.proofs.Lists.{same_test, as_among}
+use Rattle.unit_law.proofs.Lists.{as_among}
 use Rattle.unit_law.proofs.Ways.{HaveKinds, F, V, in_module, local_outside}
 use Rattle.unit_law.proofs.Kept.{shaped_type}
 use Rattle.unit_law.proofs.Places.{IsRuled, IsReadable}
@@ -80,7 +81,7 @@ module _ (s : Setting) (entry : Option (List ℕ)) (right : IsConforming s.of en
       untyped : (g : Inst) → global Gs n ≡ Some g → is g.op code.TypeStruct ≡ true → typed g ≡ None
       untyped g at on =
           let lacks : g.ty ≡ 0 = (right.formed g (as_among Gs g (found_in Gs n g at).0)).untyped (struct_untyped g.op on) in
-          ap (λ (b : Bool). if b then None else Some g.ty) (same_test g.ty 0 lacks)
+          ap (λ (b : Bool). if b then None else Some g.ty) (number_same g.ty 0 lacks)
 
       by_test : (g : Inst) → global Gs n ≡ Some g → (b : Bool) → is g.op code.TypeStruct ≡ b → b ≡ false
       by_test g at false off = refl

@@ -1,5 +1,5 @@
 -- A chain's indexes, as the paths that pass it are written: in its own block as they are, elsewhere as they were kept; and stores.
-use Rattle.std.proofs.Common.{◌≡◌, ◌+◌, ◌==◌, ◌&&◌, ◌||◌, not, ℕ, suc, Bool, true, false, List, [], ◌∷◌, drop, map, Option, Some, None, unwrap_or, inl, inr, refl, sym, ap, ◌∙◌, subst, arith, if◌then◌else◌}
+use Rattle.std.proofs.Common.{◌≡◌, ◌+◌, ◌==◌, ◌&&◌, ◌||◌, not, ℕ, suc, Bool, true, false, List, [], ◌∷◌, map, Option, Some, None, unwrap_or, inl, inr, refl, sym, ap, ◌∙◌, subst, arith, if◌then◌else◌}
 use Rattle.std.specs.Prelude.{slice_get, slice_index, slice_index_or, option_and_then}
 use Rattle.std.specs.List.{enumerate_from}
 use Rattle.std.proofs.lemmas.Bool.{and_from, not-true}
@@ -31,6 +31,8 @@ use Rattle.function_plan.specs.Planned.{captured_numbers}
 use Rattle.function_text.specs.Functions.{FunctionPlan}
 use Rattle.unit_rules.specs.Translation.{Naming, text_of}
 use Rattle.unit_rules.specs.Unit.{claims_by, IsUnitOf}
+pub use Rattle.list_law.proofs.Lists.{behind_first as dropped}
+use Rattle.list_law.proofs.Tests.{or_left}
 use Rattle.fits_law.specs.State.{value_shape, target_shape}
 use Rattle.spell_law.specs.Uses.{Words, UsesExpr}
 use Rattle.spell_law.specs.Statements.{AskKept, MeetsInst}
@@ -63,10 +65,6 @@ store_no_phi code.Store on = refl
 store_no_phi o on = cc
 
 -- an index is an operand
-pub dropped : (args : List ℕ) (j n : ℕ) → slice_get (drop 1 args) j ≡ Some n → slice_get args (suc j) ≡ Some n
-dropped [] j n at = cc
-dropped (x ∷ args) j n at = at
-
 pub shaped_type : (g : ℕ → Option Tree) (q : Option ℕ) (t : Tree) → option_and_then g q ≡ Some t → g (unwrap_or q 0) ≡ Some t
 shaped_type g None t e = cc
 shaped_type g (Some ty) t e = e
@@ -145,12 +143,8 @@ module _ (s : Setting) (entry : Option (List ℕ)) (right : IsConforming s.of en
       pub kept_writable : (printed : ℕ) → ((n : ℕ) → IsIn n (indexes i) → (is_constant_index Gs n || (block == printed)) ≡ true → UsesExpr W (index_expr Where.setting n)) → AllWritable (spot_of printed (block, i)) 0 (indexes i)
       kept_writable printed uses = from_first (spot_of printed (block, i)) (indexes i) (λ j n at. record {
         now = λ on. uses n (at_place (indexes i) j n at) on;
-        before = λ off. kept_text j n at (first_off (is_constant_index Gs n) (block == printed) off);
+        before = λ off. kept_text j n at (or_left (is_constant_index Gs n) (block == printed) off);
       })
-        where
-          first_off : (a b : Bool) → (a || b) ≡ false → a ≡ false
-          first_off true b off = cc
-          first_off false b off = refl
 
     -- what is asked where the indexes are kept
     pub chain_meets : is_chain i.op ≡ true → ((n : ℕ) → IsIn n (indexes i) → UsesExpr W (index_expr Where.setting n)) → MeetsInst W Found Where (IsValueIn Where Marks block) block i kind.Chain

@@ -13,11 +13,12 @@ use Rattle.use_chains.specs.declared.slot.SlotPlace.{SlotPlace}
 use Rattle.use_chains.specs.Slots.{is_slot_in, mention, slots_of_inst, slots_of_block, slots, inst_at, IsLive}
 use Rattle.use_chains.specs.Links.{Link, chain, link_of, AreLiveLinks}
 use Rattle.hoist_plan.specs.Plan.{user, mention_block, mentions_of}
+use Rattle.list_law.proofs.Numbers.{number_same}
 use Rattle.typed_law.proofs.Lists.{some_part}
 use Rattle.claim_law.specs.Claimed.{IsIn}
 use Rattle.claim_law.proofs.Listed.{in_flat, in_mapped, at_place}
 use Rattle.unit_law.specs.Mentioned.{IsMentioned, IsLinked}
-use Rattle.unit_law.proofs.Lists.{same_test, at_some, contained, numbered_first, in_filter}
+use Rattle.unit_law.proofs.Lists.{at_some, contained, numbered_first, in_filter}
 
 -- where an instruction stands in its block
 pub placed_in : (f : Function) (c : ℕ) (block : Block) (i : Inst) → slice_get f.blocks c ≡ Some block → IsIn i block.insts → (k : ℕ) × (inst_at f c k ≡ Some i)
@@ -69,7 +70,7 @@ module _ (f : Function) (reached : List Bool) (block : ℕ) (i : Inst) (n : ℕ)
 
     -- it is one of the places where the id is mentioned
     pub link_stands : IsIn link_at (mentions_of links n)
-    link_stands = in_mapped (λ (l : Link). l.place) (chain links n) (link_of (number.0, slot)) (in_filter (λ (l : Link). l.id == n) links (link_of (number.0, slot)) linked (same_test n n refl))
+    link_stands = in_mapped (λ (l : Link). l.place) (chain links n) (link_of (number.0, slot)) (in_filter (λ (l : Link). l.id == n) links (link_of (number.0, slot)) linked (number_same n n refl))
 
   -- what makes the id is live
   pub linked_live : (c k : ℕ) (j : Inst) → inst_at f c k ≡ Some j → j.result ≡ n → IsLive f reached c k

@@ -1,6 +1,6 @@
 -- The operands of an operation: a live one mentions them, and their types have shapes where that of the result has one.
-use Rattle.std.proofs.Common.{◌≡◌, ◌<◌, ◌≤◌, ◌+◌, ◌==◌, ◌||◌, ◌&&◌, not, ℕ, zero, suc, Bool, true, false, List, [], ◌∷◌, drop, take, length, Option, Some, None, Contains, nat_le, nat_lt, unwrap_or, is_some, inl, inr, refl, sym, ap, ◌∙◌, subst, arith}
-use Rattle.std.specs.Prelude.{◌⊎◌, slice_get, slice_index, slice_index_or, option_and_then}
+use Rattle.std.proofs.Common.{◌≡◌, ◌<◌, ◌≤◌, ◌+◌, ◌==◌, ◌||◌, ◌&&◌, not, ℕ, zero, suc, Bool, true, false, List, [], ◌∷◌, drop, take, length, Option, Some, Contains, nat_le, nat_lt, unwrap_or, is_some, inl, inr, refl, sym, ap, ◌∙◌, subst, arith}
+use Rattle.std.specs.Prelude.{◌⊎◌, slice_get, slice_index, slice_index_or}
 use Rattle.std.specs.List.{list_any, list_all}
 use Rattle.std.proofs.lemmas.Bool.Decides.{nat_tests}
 use Rattle.std.proofs.lemmas.Bool.{and_from, not-false}
@@ -25,6 +25,8 @@ use Rattle.op_semantics.specs.Value.{operation, operation_of, operation_in, exte
 use Rattle.profile_rules.specs.NumberRules.{are_unlike_ints, extended_rows, is_extended}
 use Rattle.profile_rules.specs.Operands.{is_there_in}
 use Rattle.profile_rules.specs.TypeRules.{is_number_broken}
+use Rattle.list_law.proofs.Numbers.{same_number, number_same}
+use Rattle.list_law.proofs.Tests.{unless}
 use Rattle.plan_law.specs.InOrder.{IsAmong}
 use Rattle.module_semantics.specs.Setting.{Setting}
 use Rattle.module_semantics.specs.Operands.{value_operands, literal_operands}
@@ -40,11 +42,12 @@ use Rattle.typed_law.specs.Conforms.{IsConforming}
 use Rattle.typed_law.proofs.Lists.{or_left, some_of}
 use Rattle.typed_law.proofs.Rules.{operand_there, value_right, number_right}
 use Rattle.typed_law.proofs.Values.{inside}
-use Rattle.typed_law.proofs.Operations.{Facts, given_by}
+use Rattle.typed_law.proofs.Operations.{Facts, given_by, behind_second}
+pub use Rattle.typed_law.proofs.Operations.{behind_second as not_one}
 use Rattle.claim_law.specs.Claimed.{IsIn}
 use Rattle.claim_law.proofs.Listed.{any_in}
 use Rattle.unit_law.specs.Mentioned.{IsMentioned}
-use Rattle.unit_law.proofs.Lists.{same_test, test_same}
+use Rattle.unit_law.proofs.Kept.{shaped_type}
 
 -- operations whose expressions hold values
 abbrev pub takes_values : OperationKind → Bool
@@ -92,14 +95,14 @@ abbrev pub has_id : ℕ → List ℕ → Bool
 has_id id xs = list_any (λ (x : ℕ). x == id) xs
 
 pub has_of : (id : ℕ) (xs : List ℕ) → IsIn id xs → has_id id xs ≡ true
-has_of id xs among = any_in (λ (x : ℕ). x == id) xs id among (same_test id id refl)
+has_of id xs among = any_in (λ (x : ℕ). x == id) xs id among (number_same id id refl)
 
 of_has : (id : ℕ) (xs : List ℕ) → has_id id xs ≡ true → IsIn id xs
 of_has id [] on = cc
 of_has id (x ∷ xs) on = by_test (x == id) refl on (of_has id xs)
   where
     by_test : (b : Bool) → (x == id) ≡ b → (b || has_id id xs) ≡ true → (has_id id xs ≡ true → IsIn id xs) → (x ≡ id) ⊎ IsIn id xs
-    by_test true same on later = inl (test_same x id same)
+    by_test true same on later = inl (same_number x id same)
     by_test false other on later = inr (later on)
 
 first_has : (args : List ℕ) (id : ℕ) → 1 ≤ length args → has_id id (slice_index args 0 ∷ []) ≡ true → has_id id args ≡ true
@@ -128,7 +131,7 @@ dropped_at zero [] id on = cc
 dropped_at zero (w ∷ ws) id on = by_test (w == id) refl on (dropped_at zero ws id)
   where
     by_test : (b : Bool) → (w == id) ≡ b → (b || has_id id ws) ≡ true → (has_id id ws ≡ true → (k : ℕ) × (slice_get ws k ≡ Some id) × (zero ≤ k)) → (k : ℕ) × (slice_get (w ∷ ws) k ≡ Some id) × (zero ≤ k)
-    by_test true same on later = (zero, ap (λ x. Some x) (test_same w id same), (let low : zero ≤ zero = omega arith in low))
+    by_test true same on later = (zero, ap (λ x. Some x) (same_number w id same), (let low : zero ≤ zero = omega arith in low))
     by_test false other on later = let w' = later on in (suc w'.0, w'.1, (let low : zero ≤ suc w'.0 = omega arith in low))
 dropped_at (suc n) [] id on = cc
 dropped_at (suc n) (w ∷ ws) id on = let w' = dropped_at n ws id on in (suc w'.0, w'.1, (let less = w'.2 in let low : suc n ≤ suc w'.0 = omega (arith, less) in low))
@@ -139,7 +142,7 @@ taken_at (suc n) [] id on = cc
 taken_at (suc n) (w ∷ ws) id on = by_test (w == id) refl on (taken_at n ws id)
   where
     by_test : (b : Bool) → (w == id) ≡ b → (b || has_id id (take n ws)) ≡ true → (has_id id (take n ws) ≡ true → (k : ℕ) × (slice_get ws k ≡ Some id) × (k < n)) → (k : ℕ) × (slice_get (w ∷ ws) k ≡ Some id) × (k < suc n)
-    by_test true same on later = (zero, ap (λ x. Some x) (test_same w id same), (let low : zero < suc n = omega arith in low))
+    by_test true same on later = (zero, ap (λ x. Some x) (same_number w id same), (let low : zero < suc n = omega arith in low))
     by_test false other on later = let w' = later on in (suc w'.0, w'.1, (let less = w'.2 in let low : suc w'.0 < suc n = omega (arith, less) in low))
 
 pub among_slot : (q : Operands) (ws : List ℕ) (id : ℕ) → has_id id (ids_among q ws) ≡ true → (k : ℕ) × (slice_get ws k ≡ Some id) × (is_id_among q ws k ≡ true)
@@ -155,15 +158,12 @@ unfolding operation_kind_of kind_of group_of takes_of number
 value_by code.ExtInst k values other = cc
 value_by o k values other = cc
 
-pub not_one : (k : ℕ) → 2 ≤ k → not (k == 1) ≡ true
-not_one k low = grind (arith, nat_tests, low)
-
 pub not_zero : (k : ℕ) → 2 ≤ k → not (k == 0) ≡ true
 not_zero k low = grind (arith, nat_tests, low)
 
 value_slot : (o : Op) (args : List ℕ) (id : ℕ) → takes_values (operation_kind_of o) ≡ true → has_id id (value_operands o args) ≡ true → (k : ℕ) × (slice_get args k ≡ Some id) × (is_id o args k ≡ true) × (is_value o k ≡ true)
 unfolding is_id takes_of group_of number
-value_slot code.ExtInst args id values on = let w = dropped_at 2 args id on in (w.0, w.1, not_one w.0 w.2, not_zero w.0 w.2)
+value_slot code.ExtInst args id values on = let w = dropped_at 2 args id on in (w.0, w.1, behind_second w.0 w.2, not_zero w.0 w.2)
 value_slot o args id values on = let w = among_slot (operands o) args id on in (w.0, w.1, w.2, value_by o w.0 values refl)
 
 no_phi_by : (o : Op) → takes_values (operation_kind_of o) ≡ true → is o code.Phi ≡ false
@@ -177,10 +177,6 @@ have_shape s f [] ts id have among = absurd among
 have_shape s f (x ∷ ids) [] id have among = absurd have
 have_shape s f (x ∷ ids) (t ∷ ts) id have (inl same) = (t, subst (λ (n : ℕ). value_shape s f n ≡ Some t) same have.0)
 have_shape s f (x ∷ ids) (t ∷ ts) id have (inr among) = have_shape s f ids ts id have.1 among
-
-shape_typed : (g : ℕ → Option Tree) (o : Option ℕ) (t : Tree) → option_and_then g o ≡ Some t → g (unwrap_or o 0) ≡ Some t
-shape_typed g None t e = cc
-shape_typed g (Some ty) t e = e
 
 -- the operation of an opcode
 operation_some : (o : Op) → takes_values (operation_kind_of o) ≡ true → is o code.ExtInst ≡ false → is_some (operation o) ≡ true
@@ -226,7 +222,7 @@ extended_some (r ∷ rows) n c all on = by_test (r.0 == n) refl (r.1 == c) (is_s
     by_test : (a : Bool) → (r.0 == n) ≡ a → (b v : Bool) → is_some (operation_in extended_opcodes r.0) ≡ v → ((a && b) || list_any (λ (q : ℕ × ℕ). (q.0 == n) && (q.1 == c)) rows) ≡ true → (v && list_all (λ (q : ℕ × ℕ). is_some (operation_in extended_opcodes q.0)) rows) ≡ true
         → (list_all (λ (q : ℕ × ℕ). is_some (operation_in extended_opcodes q.0)) rows ≡ true → list_any (λ (q : ℕ × ℕ). (q.0 == n) && (q.1 == c)) rows ≡ true → is_some (operation_in extended_opcodes n) ≡ true) → is_some (operation_in extended_opcodes n) ≡ true
     by_test a same b false is on all later = cc
-    by_test true same true true is on all later = subst (λ (m : ℕ). is_some (operation_in extended_opcodes m) ≡ true) (test_same r.0 n same) is
+    by_test true same true true is on all later = subst (λ (m : ℕ). is_some (operation_in extended_opcodes m) ≡ true) (same_number r.0 n same) is
     by_test true same false true is on all later = later all on
     by_test false other b true is on all later = later all on
 
@@ -266,7 +262,7 @@ module _ (s : Setting) (entry : Option (List ℕ)) (right : IsConforming s.of en
       let o = has_operation (values_kind (operation_kind_of i.op) i id among) in
       let g = given_by s entry right f in_it i there t shaped i.op o.0 facts_of o.1 in
       let u = have_shape s f (value_operands i.op i.args) g.0 id g.1 (among_values id among) in
-      (u.0, shape_typed (type_tree s.of.globals) (type_in s.of.globals f id) u.0 u.1)
+      (u.0, shaped_type (type_tree s.of.globals) (type_in s.of.globals f id) u.0 u.1)
 
   pub operation_no_phi : (id : ℕ) → IsIn id (operand_ids i) → is i.op code.Phi ≡ false
   operation_no_phi id among = no_phi_by i.op (values_kind (operation_kind_of i.op) i id among)
@@ -281,10 +277,6 @@ module _ (s : Setting) (entry : Option (List ℕ)) (right : IsConforming s.of en
         there = at;
         here = here;
         live = live;
-        slot = and_from (is_id i.op i.args w.0) (is_value i.op w.0 && is_taken f reached i w.0) w.2 (and_from (is_value i.op w.0) (is_taken f reached i w.0) w.3 (first_off (is i.op code.Phi) (is_label_reached f reached (slice_index i.args (w.0 + 1))) (operation_no_phi id among)));
+        slot = and_from (is_id i.op i.args w.0) (is_value i.op w.0 && is_taken f reached i w.0) w.2 (and_from (is_value i.op w.0) (is_taken f reached i w.0) w.3 (unless (is i.op code.Phi) (is_label_reached f reached (slice_index i.args (w.0 + 1))) (operation_no_phi id among)));
         word = w.1;
       }
-    where
-      first_off : (a b : Bool) → a ≡ false → (not a || b) ≡ true
-      first_off false b off = refl
-      first_off true b off = cc

@@ -34,17 +34,19 @@ use Rattle.expr_forward.specs.Scope.{Setting as Place}
 use Rattle.expr_forward.specs.Paths.{part_step_by, part_step, part_type_by, part_type, part_steps}
 use Rattle.unit_rules.specs.Translation.{Naming, text_of}
 use Rattle.unit_rules.specs.Unit.{source_of, IsUnitOf}
+use Rattle.list_law.proofs.Numbers.{number_same}
 use Rattle.spell_law.specs.Uses.{Words, UseSteps}
 use Rattle.spell_law.specs.Blocks.{FitWords}
 use Rattle.fits_law.specs.Takes.{nth_of, part_shape, shape_at}
 use Rattle.type_law.proofs.Parts.{earlier_is}
+use Rattle.type_law.proofs.Choices.{scalar_elem}
 use Rattle.typed_law.specs.Conforms.{IsConforming}
 use Rattle.typed_law.proofs.Used.{global_found}
 use Rattle.claim_law.specs.Claimed.{HasName}
 use Rattle.claim_law.proofs.Constants.{found_in}
 use Rattle.claim_law.proofs.Told.{named_is, axes_told}
 use Rattle.unit_law.specs.Words.{words_of}
-use Rattle.unit_law.proofs.Lists.{same_test, as_among}
+use Rattle.unit_law.proofs.Lists.{as_among}
 use Rattle.unit_law.proofs.Types.{struct_op}
 use Rattle.unit_law.proofs.Structs.{HasNames, part_named}
 
@@ -60,35 +62,20 @@ no_vector_struct e = cc
 no_array_struct : kinds.Array ≡ kinds.Struct → ⊥
 no_array_struct e = cc
 
-elem_is : (u : Tree) (e : Elem) → elem_of u ≡ Some e → u ≡ elem_tree e
-elem_is boolean e is = ap elem_tree (same_Some elem.Bool e is)
-elem_is int e is = ap elem_tree (same_Some elem.Int e is)
-elem_is uint e is = ap elem_tree (same_Some elem.Uint e is)
-elem_is (vector d n) e is = cc
-elem_is (array t l) e is = cc
-elem_is (runtime t) e is = cc
-elem_is (struct n ts) e is = cc
-
 -- the member of a struct
 pub nth_arg : (f : ℕ → Option Tree) (ids : List ℕ) (ts : Trees) (k : ℕ) (v : Tree) → all_trees f ids ≡ Some ts → nth_of ts k ≡ Some v → (slice_get ids k ≡ Some (slice_index ids k)) × (f (slice_index ids k) ≡ Some v)
-nth_arg f [] ts k v is at = absurd (never (ap (λ x. nth_of x k) (same_trees no_trees ts is) ∙ at))
+nth_arg f [] ts k v is at = absurd (never (ap (λ x. nth_of x k) (same_Some no_trees ts is) ∙ at))
   where
-    same_trees : (a b : Trees) → Some a ≡ Some b → a ≡ b
-    same_trees a b e = cc
-
     never : None ≡ Some v → ⊥
     never e = cc
 nth_arg f (x ∷ ids) ts k v is at = by_both (f x) refl (all_trees f ids) refl k is at (nth_arg f ids)
   where
-    same_trees : (a b : Trees) → Some a ≡ Some b → a ≡ b
-    same_trees a b e = cc
-
     by_both : (o : Option Tree) → f x ≡ o → (q : Option Trees) → all_trees f ids ≡ q → (k : ℕ) → both o q ≡ Some ts → nth_of ts k ≡ Some v → ((us : Trees) (j : ℕ) (w : Tree) → all_trees f ids ≡ Some us → nth_of us j ≡ Some w → (slice_get ids j ≡ Some (slice_index ids j)) × (f (slice_index ids j) ≡ Some w))
         → (slice_get (x ∷ ids) k ≡ Some (slice_index (x ∷ ids) k)) × (f (slice_index (x ∷ ids) k) ≡ Some v)
     by_both None one q all k is at later = cc
     by_both (Some w) one None all k is at later = cc
-    by_both (Some w) one (Some us) all zero is at later = (refl, one ∙ (ap (λ t. nth_of t zero) (same_trees (tree w us) ts is) ∙ at))
-    by_both (Some w) one (Some us) all (suc j) is at later = later us j v all (ap (λ t. nth_of t (suc j)) (same_trees (tree w us) ts is) ∙ at)
+    by_both (Some w) one (Some us) all zero is at later = (refl, one ∙ (ap (λ t. nth_of t zero) (same_Some (tree w us) ts is) ∙ at))
+    by_both (Some w) one (Some us) all (suc j) is at later = later us j v all (ap (λ t. nth_of t (suc j)) (same_Some (tree w us) ts is) ∙ at)
 
 pub nth_has : (ts : Trees) (k : ℕ) (v : Tree) (n : ℕ) → nth_of ts k ≡ Some v → has_struct n v ≡ true → have_struct n ts ≡ true
 nth_has no_trees k v n at has = cc
@@ -161,7 +148,7 @@ module _ (s : Setting) (entry : Option (List ℕ)) (right : IsConforming s.of en
       by_size : (u : Tree) → tree_before Gs g.at (slice_index g.args 0) ≡ Some u → (e : Elem) → elem_of u ≡ Some e → (n : ℕ) (a b : Bool) → (if a && b then Some (vector e n) else None) ≡ Some t → IsPartOf g t k v
       by_size u at e is_elem n true true is =
           let same : elem_tree e ≡ v = by_less e n (nat_lt k n) (ap (λ x. part_shape x k) (same_Some (vector e n) t is) ∙ part) in
-          first_part g t k v (no_struct g.op kinds.Vector on no_vector_struct) (at ∙ ap (λ x. Some x) (elem_is u e is_elem ∙ same))
+          first_part g t k v (no_struct g.op kinds.Vector on no_vector_struct) (at ∙ ap (λ x. Some x) (scalar_elem u e is_elem ∙ same))
       by_size u at e is_elem n true false is = cc
       by_size u at e is_elem n false b is = cc
 
@@ -204,7 +191,7 @@ module _ (s : Setting) (entry : Option (List ℕ)) (right : IsConforming s.of en
           let w = nth_arg (tree_before Gs g.at) g.args ts k v all (ap (λ x. part_shape x k) same ∙ part) in
           record {
             shaped = ap (λ (b : Bool). type_tree Gs (slice_index g.args (if b then k else 0))) (struct_op g.op on) ∙ earlier_is s f g.at (slice_index g.args k) v w.1;
-            member = λ on_struct. (ap (has_struct g.result) (sym same) ∙ or_left (g.result == g.result) (have_struct g.result ts) (same_test g.result g.result refl), w.0);
+            member = λ on_struct. (ap (has_struct g.result) (sym same) ∙ or_left (g.result == g.result) (have_struct g.result ts) (number_same g.result g.result refl), w.0);
           }
   part_by g kinds.Other t k v on is part = cc
 

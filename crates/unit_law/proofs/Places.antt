@@ -35,6 +35,9 @@ use Rattle.expr_forward.specs.Paths.{index_expr, base_text}
 use Rattle.function_text.specs.Functions.{FunctionPlan}
 use Rattle.unit_rules.specs.Translation.{text_of, id_text}
 use Rattle.unit_rules.specs.Unit.{IsUnitOf}
+use Rattle.list_law.proofs.Lists.{behind_first}
+use Rattle.list_law.proofs.Numbers.{number_same}
+use Rattle.list_law.proofs.Tests.{first_by}
 use Rattle.plan_law.specs.Ordered.{AreOrdered}
 use Rattle.plan_law.proofs.Order.{in_order}
 use Rattle.path_law.specs.Chains.{ChainsRise, NoneMakes}
@@ -44,14 +47,14 @@ use Rattle.typed_law.specs.Conforms.{IsConforming}
 use Rattle.claim_law.specs.Claimed.{IsIn}
 use Rattle.unit_law.specs.Mentioned.{IsMentioned, IsLinked, IsCaptured}
 use Rattle.unit_law.specs.Words.{is_struct_key, words_of, AreOfStructs}
-use Rattle.unit_law.proofs.Lists.{same_test, at_some, as_among, in_block, split_at}
+use Rattle.unit_law.proofs.Lists.{at_some, as_among, in_block, split_at}
 use Rattle.unit_law.proofs.Links.{as_linked, link_at, placed_in, linked_user, link_stands, linked_live}
 use Rattle.unit_law.proofs.Forms.{placed, is_placed}
 use Rattle.unit_law.proofs.Ways.{HaveKinds, S, F, R, V, plan_is, ordered}
 use Rattle.unit_law.proofs.Steps.{HasMembers}
 use Rattle.unit_law.proofs.Chains.{HasWay, AreWritable, start_has, chain_has}
 use Rattle.unit_law.proofs.Sets.{chain_id, chain_value, chain_no_phi, index_uses}
-use Rattle.unit_law.proofs.Kept.{dropped, here_writable, kept_writable}
+use Rattle.unit_law.proofs.Kept.{here_writable, kept_writable}
 use Rattle.unit_law.proofs.Carried.{carried_by_use}
 use Rattle.unit_law.proofs.Bases.{base_carried, carried_at}
 
@@ -110,11 +113,6 @@ constant_read src ids (Some g) on = (constant_expr src ids g, first_some (is_con
     first_some : (b : Bool) (e : Expr) (rest : Option Expr) → b ≡ true → (if b then Some e else rest) ≡ Some e
     first_some true e rest on = refl
     first_some false e rest on = cc
-
-constant_on : (a b : Bool) → (a || b) ≡ true → b ≡ false → a ≡ true
-constant_on true b on off = refl
-constant_on false true on off = cc
-constant_on false false on off = cc
 
 module _ (s : Setting) (entry : Option (List ℕ)) (right : IsConforming s.of entry) (kinds : HaveKinds s.of.globals) (o : Options) (unit : TranslationUnit) (u : IsUnitOf s.of o unit) (p : FunctionPlan) (among : IsIn p u.plans) (names : List (List ℕ)) (structs : AreOfStructs s.of.globals (name_of u.claimed) names) where
   abbrev Gs : List Inst
@@ -208,7 +206,7 @@ module _ (s : Setting) (entry : Option (List ℕ)) (right : IsConforming s.of en
           there = place.1;
           live = live;
           slot = and_from (slice_index_or Marks home.0 false || is_base j 0) (is_slot Fn Marks j 0)
-              (or_right (slice_index_or Marks home.0 false) (is_base j 0) (and_from (is_chain j.op) (0 == 0) chain (same_test 0 0 refl)))
+              (or_right (slice_index_or Marks home.0 false) (is_base j 0) (and_from (is_chain j.op) (0 == 0) chain (number_same 0 0 refl)))
               (value_at 0);
           word = ruled.based;
         }
@@ -228,7 +226,7 @@ module _ (s : Setting) (entry : Option (List ℕ)) (right : IsConforming s.of en
 
         -- so its base is seen there too
         pub based_seen : IsSeen home.0 (base j) j base_link
-        based_seen = elim (eqb_tells home.0 b) [ inl w ↦ inl w.1 | inr w ↦ inr (chain, same_test 0 0 refl, carried w.1) ]
+        based_seen = elim (eqb_tells home.0 b) [ inl w ↦ inl w.1 | inr w ↦ inr (chain, number_same 0 0 refl, carried w.1) ]
 
     module _ (rise : ChainsRise (insts_of Fn)) (readable : (i : Inst) → IsIn i (insts_of Fn) → is_chain i.op ≡ true → (n : ℕ) → IsIn n (indexes i) → (c : ℕ) → IsMentioned Fn Marks c i n ⊎ IsCaptured Where Marks c i → IsReadable n)
         (roots : (n ty : ℕ) (t : Tree) → NoneMakes n (insts_of Fn) → (c : ℕ) (i : Inst) → IsLinked Fn Marks c i n → pointee_of Gs Fn n ≡ Some ty → type_tree Gs ty ≡ Some t → IsRoot n ty t) where
@@ -246,8 +244,8 @@ module _ (s : Setting) (entry : Option (List ℕ)) (right : IsConforming s.of en
           uses : slice_index_or Marks its_home.0 false ≡ true → (n : ℕ) → IsIn n (indexes j) → UsesExpr W (index_expr Where.setting n)
           uses here n n_in =
               let at = at_some (indexes j) n n_in in
-              let r = readable j j_in chain n n_in its_home.0 (inl (index_mention b c0 user j m no_phi seen chain j_in here n at.0 (dropped j.args at.0 n at.1))) in
-              index_uses s entry right kinds o unit u p among names structs its_home.0 its_home.1 j its_home.2 its_home.3 its_rules.some its_place.0 at.0 n chain its_place.1 here (live b c0 user j m no_phi seen chain j_in) (dropped j.args at.0 n at.1) r.shape r.shaped r.other r.read
+              let r = readable j j_in chain n n_in its_home.0 (inl (index_mention b c0 user j m no_phi seen chain j_in here n at.0 (behind_first j.args at.0 n at.1))) in
+              index_uses s entry right kinds o unit u p among names structs its_home.0 its_home.1 j its_home.2 its_home.3 its_rules.some its_place.0 at.0 n chain its_place.1 here (live b c0 user j m no_phi seen chain j_in) (behind_first j.args at.0 n at.1) r.shape r.shaped r.other r.read
 
           -- of a chain that is printed in another block the constants among its indexes are written as they are, be its own block reached or not
           constant_uses : (its_home.0 ≡ b → ⊥) → (n : ℕ) → IsIn n (indexes j) → is_constant_index Gs n ≡ true → UsesExpr W (index_expr Where.setting n)
@@ -271,7 +269,7 @@ module _ (s : Setting) (entry : Option (List ℕ)) (right : IsConforming s.of en
                 (here_writable s entry right kinds o unit u p among names structs its_home.0 its_home.1 j its_home.2 its_home.3 (uses (ap (λ (x : ℕ). slice_index_or Marks x false) w.1 ∙ printed)))
             | inr w ↦
                 kept_writable s entry right kinds o unit u p among names structs its_home.0 its_home.1 j its_home.2 its_home.3 chain (carried b c0 user j m no_phi seen chain j_in w.1) b
-                (λ n n_in on. constant_uses w.1 n n_in (constant_on (is_constant_index Gs n) (its_home.0 == b) on w.0))
+                (λ n n_in on. constant_uses w.1 n n_in (first_by (is_constant_index Gs n) (its_home.0 == b) on w.0))
           ]
 
           chain_way : Way b (base j) → Way b j.result

@@ -18,7 +18,9 @@ use Rattle.use_chains.specs.Links.{Link, AreLiveLinks}
 use Rattle.hoist_plan.specs.declared.form.Form.{Form}
 use Rattle.hoist_plan.specs.declared.form.Form.TheVariants.{Gone, Forwarded, Local, Hoisted}
 use Rattle.hoist_plan.specs.Plan.{Placed, user, is_live, is_value, is_always_named, is_named_other, wants_variable, is_named_by_use, own_height, is_named, is_hoisted, form_with, known, mentions_of, results, Scope, form}
-use Rattle.plan_law.specs.Ordered.{NoOperand, NoneMentioned, AreOrdered, IsOperand}
+use Rattle.list_law.proofs.Numbers.{same_number, number_same}
+use Rattle.list_law.proofs.Tests.{and_left, and_right}
+use Rattle.plan_law.specs.Ordered.{NoOperand, AreOrdered, IsOperand}
 use Rattle.plan_law.specs.InOrder.{AreInOrder}
 use Rattle.plan_law.proofs.Order.{found, in_order}
 use Rattle.plan_law.proofs.Heights.{forms_fall, form_low}
@@ -27,9 +29,10 @@ use Rattle.claim_law.specs.Claimed.{IsIn}
 use Rattle.claim_law.proofs.Listed.{in_flat, at_place}
 use Rattle.claim_law.proofs.Constants.{found_in}
 use Rattle.unit_law.specs.Mentioned.{IsMentioned}
-use Rattle.unit_law.proofs.Lists.{same_test, test_same, split_at, found_by, found_some, two_split, as_among}
+use Rattle.unit_law.proofs.Lists.{split_at, found_by, found_some, two_split, as_among}
 use Rattle.unit_law.proofs.Links.{mention_at, user_is, mention_stands}
 use Rattle.unit_law.proofs.Forms.{IsMadeBy, made_by, formed_result, form_at}
+use Rattle.unit_law.proofs.Bases.{none_of}
 
 phi_named : (o : Op) → is o code.Phi ≡ true → is_named_other o ≡ true
 unfolding number
@@ -70,11 +73,6 @@ operand_clash f n [] at i none among there same = among
 operand_clash f n (x ∷ places) at i none (inl here) there same = (subst (λ (o : Option Inst). IfSome o (λ (j : Inst). j.result ≡ n → ⊥)) (ap (user f) here ∙ there) none.0) same
 operand_clash f n (x ∷ places) at i none (inr among) there same = operand_clash f n places at i none.1 among there same
 
-none_mentioned : (f : Function) (n : ℕ) (ps : List Placed) (p : Placed) → NoneMentioned f n ps → IsIn p ps → NoOperand f n p.mentions
-none_mentioned f n [] p none among = absurd among
-none_mentioned f n (q ∷ ps) p none (inl same) = subst (λ (x : Placed). NoOperand f n x.mentions) same none.0
-none_mentioned f n (q ∷ ps) p none (inr among) = none_mentioned f n ps p none.1 among
-
 abbrev is_forwarded : Form → Bool
 is_forwarded Forwarded = true
 is_forwarded _ = false
@@ -84,14 +82,6 @@ forwarded_is Forwarded on = refl
 forwarded_is Gone on = cc
 forwarded_is Local on = cc
 forwarded_is Hoisted on = cc
-
-both_left : (a b : Bool) → (a && b) ≡ true → a ≡ true
-both_left true b on = refl
-both_left false b on = cc
-
-both_right : (a b : Bool) → (a && b) ≡ true → b ≡ true
-both_right true b on = on
-both_right false b on = cc
 
 module _ (m : ModuleState) (f : Function) (order : AreInOrder m f) (reached : List Bool) (links : List Link) (live : AreLiveLinks f reached links) where
   abbrev Ps : List Placed
@@ -125,8 +115,8 @@ module _ (m : ModuleState) (f : Function) (order : AreInOrder m f) (reached : Li
   low_of : (p : Placed) → IsIn p Ps → (b : Bool) → counts p ≡ b → (if b then own_height H p else 0) ≤ 16
   low_of p among false off = omega arith
   low_of p among true on =
-      let value = both_left (is_value m.globals p.ty) (is_forwarded (form S p.result)) on in
-      let form_is = forwarded_is (form S p.result) (both_right (is_value m.globals p.ty) (is_forwarded (form S p.result)) on) in
+      let value = and_left (is_value m.globals p.ty) (is_forwarded (form S p.result)) on in
+      let form_is = forwarded_is (form S p.result) (and_right (is_value m.globals p.ty) (is_forwarded (form S p.result)) on) in
       let w = split_at Ps p among in
       form_low S ordered w.0 w.1 p w.2 (counted_phi p among value form_is) value form_is
 
@@ -143,7 +133,7 @@ module _ (m : ModuleState) (f : Function) (order : AreInOrder m f) (reached : Li
     own = formed_result m.globals f links n forwarded
 
     first : (q : Placed) × (find (with_result n) Ps ≡ Some q)
-    first = some_of (find (with_result n) Ps) (found_some (with_result n) Ps own.0 own.1 (same_test own.0.result n own.2))
+    first = some_of (find (with_result n) Ps) (found_some (with_result n) Ps own.0 own.1 (number_same own.0.result n own.2))
 
     abbrev Q : Placed
     Q = first.0
@@ -152,7 +142,7 @@ module _ (m : ModuleState) (f : Function) (order : AreInOrder m f) (reached : Li
     q_in = found_by (with_result n) Ps Q first.1
 
     q_result : Q.result ≡ n
-    q_result = test_same Q.result n q_in.1
+    q_result = same_number Q.result n q_in.1
 
     maker : IsMadeBy links f Q
     maker = made_by links f Q q_in.0
@@ -202,21 +192,21 @@ module _ (m : ModuleState) (f : Function) (order : AreInOrder m f) (reached : Li
         lower : own_height H P < own_height H Q
         lower = elim (two_split P Q Ps among q_in.0) [
           | inl b ↦ forms_fall S ordered b.0 b.1 b.2 P Q b.3 (counted_phi P among p_value p_form) q_phi q_undef p_value q_value p_form q_form (operand_in f Q.result P.mentions (mention_at f reached block i id w) i p_mentions (user_is f reached block i id w) user_result)
-          | inr b ↦ absurd (operand_clash f Q.result P.mentions (mention_at f reached block i id w) i (none_mentioned f Q.result (Q ∷ b.1) P (ordered.before b.0 b.1 Q b.2 q_phi) b.3) p_mentions (user_is f reached block i id w) user_result)
+          | inr b ↦ absurd (operand_clash f Q.result P.mentions (mention_at f reached block i id w) i (none_of f Q.result (Q ∷ b.1) P (ordered.before b.0 b.1 Q b.2 q_phi) b.3) p_mentions (user_is f reached block i id w) user_result)
         ]
 
       by_count : (P : Placed) → IsIn P Ps → P.result ≡ id → (b : Bool) → counts P ≡ b → (if b then own_height H P else 0) < rank n
       by_count P among result false off = rank_some
       by_count P among result true on =
-          let value = both_left (is_value m.globals P.ty) (is_forwarded (form S P.result)) on in
-          let form_is = forwarded_is (form S P.result) (both_right (is_value m.globals P.ty) (is_forwarded (form S P.result)) on) in
+          let value = and_left (is_value m.globals P.ty) (is_forwarded (form S P.result)) on in
+          let form_is = forwarded_is (form S P.result) (and_right (is_value m.globals P.ty) (is_forwarded (form S P.result)) on) in
           let less = lower P among result value form_is in
           let whole = rank_is in
           omega (arith, less, whole)
 
       by_found : (o : Option Placed) → find (with_result id) Ps ≡ o → option_map_or height_of o 0 < rank n
       by_found None is = rank_some
-      by_found (Some P) is = let q = found_by (with_result id) Ps P is in by_count P q.0 (test_same P.result id q.1) (counts P) refl
+      by_found (Some P) is = let q = found_by (with_result id) Ps P is in by_count P q.0 (same_number P.result id q.1) (counts P) refl
 
       pub rank_falls : rank id < rank n
       rank_falls = by_found (find (with_result id) Ps) refl

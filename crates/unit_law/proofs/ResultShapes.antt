@@ -5,7 +5,6 @@ use Rattle.std.specs.Option.{option_map_or}
 use Rattle.std.specs.List.{list_any}
 use Rattle.std.proofs.lemmas.Bool.Decides.{nat_tests}
 use Rattle.std.proofs.lemmas.Bool.{not-false}
-use Rattle.spv_words.specs.declared.rule.Rule.{Rule}
 use Rattle.spv_words.specs.declared.rule.Rule.TheVariants.{T1}
 use Rattle.spv_ops.specs.Opcode.{is, number}
 use Rattle.spv_ops.specs.Groups.{is_constant}
@@ -35,6 +34,7 @@ use Rattle.profile_rules.specs.TypeRows.{is_bool, is_int, is_uint, is_vector, is
 use Rattle.profile_rules.specs.ValueRules.{are_other_parts, are_other_members, is_no_array_id, is_other_component, has_other_components, has_other_sizes, is_other_count, is_misbuilt, literal_step, walk, part_of, is_elsewhere, is_value_elsewhere, breaks_t8_extract, breaks_t10, breaks_t11_extract, breaks_t11_insert}
 use Rattle.profile_rules.specs.NumberRules.{are_unlike_ints, is_no_bool_vector, is_extended, points_to_other, is_no_content, has_no_int, breaks_t25_load}
 use Rattle.profile_rules.specs.TypeRules.{broken_if, breaks_t25, broken_as, broken_inside, broken_by_global, broken_by_function, is_broken_outside, is_value_broken, is_number_broken, rule_of}
+use Rattle.list_law.proofs.Lists.{behind_one}
 use Rattle.plan_law.specs.InOrder.{IsAmong}
 use Rattle.module_semantics.specs.Setting.{Setting}
 use Rattle.use_chains.specs.Slots.{is_value}
@@ -43,7 +43,7 @@ use Rattle.type_law.proofs.Vectors.{three_off, five_off}
 use Rattle.type_law.proofs.Parts.{earlier_is, walk_leads}
 use Rattle.typed_law.specs.Conforms.{IsConforming}
 use Rattle.typed_law.proofs.Lists.{or_left, or_right, and_left, clash, none_left, none_right, none_among}
-use Rattle.typed_law.proofs.Rules.{operand_there, value_right, number_right}
+use Rattle.typed_law.proofs.Rules.{operand_there, value_right, number_right, refused}
 use Rattle.typed_law.proofs.Types.{row_is}
 use Rattle.typed_law.proofs.Values.{IsRow, shape_of_row, value_type_has, global_row, inside, local_row, HasType, HasItsShape, type_row_of, one_type, same_type, none_counted, value_sized, vector_shaped, bool_shaped, int_shaped, type_suits}
 use Rattle.typed_law.proofs.Shapes.{no_int, no_bool, row_of_shape, whole_shape}
@@ -199,10 +199,6 @@ points_by gs t i atomic.CompareExchange off broken = (four_off (points_to_other 
 points_by gs t i o off broken = or_left (points_to_other gs t (word i 0) i.ty) (has_no_int gs t (take 2 (drop 1 i.args))) (or_left (breaks_t25_load gs t i) (is_no_content gs t (word i 0) (word i 3)) broken)
 
 -- T2, T3: a constant is of a value type
-refused : (b : Bool) (rule : Rule) (at : ℕ) → broken_if b rule at ≡ [] → b ≡ false
-refused true rule at e = cc
-refused false rule at e = refl
-
 constant_value : (m : ModuleState) (t : ℕ → Option ℕ) (g : Inst) (o : Op) → is_constant o ≡ true → is_value_broken m t g (group_of o) ≡ false → is_no_value_type m.heads m.globals g.ty ≡ false
 unfolding group_of
 constant_value m t g code.Undef on off = off
@@ -323,10 +319,6 @@ module _ (s : Setting) (entry : Option (List ℕ)) (right : IsConforming s.of en
     whole_by : (id : ℕ) (w : HasType s entry right f in_it id) (ks : List ℕ) → 1 ≤ length ks → (walk (literal_step Gs) (Part w.0) ks ≡ Nothing → ⊥) → HasItsShape s entry right f in_it id
     whole_by id w [] some leads = absurd (omega (arith, some))
     whole_by id w (k ∷ ks) some leads = whole_shape s entry right f in_it id k ks w leads
-
-    behind_one : (args : List ℕ) → nat_le (length args) 1 ≡ false → 1 ≤ length (drop 1 args)
-    behind_one [] few = cc
-    behind_one (a ∷ args) few = grind (arith, nat_tests, few)
 
     behind_two : (args : List ℕ) → nat_le (length args) 2 ≡ false → 1 ≤ length (drop 2 args)
     behind_two [] few = cc

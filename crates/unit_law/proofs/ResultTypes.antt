@@ -1,10 +1,9 @@
 -- In a conforming module no value is of a function type; what an instruction gives has a shape, but for variables and chains, which are pointers, and calls, which may give nothing.
 use Rattle.std.proofs.Common.{◌≡◌, ◌<◌, ◌≤◌, ◌+◌, ◌==◌, ◌||◌, ◌&&◌, not, ℕ, zero, suc, Bool, true, false, List, [], ◌∷◌, length, drop, Contains, Option, Some, None, find, inl, inr, refl, sym, ap, subst, ◌∙◌, if◌then◌else◌, arith}
-use Rattle.std.specs.Prelude.{◌⊎◌, flat_map, nat_lt, is_some, option_map, option_and_then, slice_index}
+use Rattle.std.specs.Prelude.{◌⊎◌, nat_lt, is_some, option_map, option_and_then, slice_index}
 use Rattle.std.specs.Option.{option_map_or, option_or}
 use Rattle.std.specs.List.{list_any, list_all, zip}
 use Rattle.std.proofs.lemmas.Bool.Decides.{nat_tests}
-use Rattle.std.proofs.lemmas.List.Elements.{Contains-append_left, Contains-append_right}
 use Rattle.std.proofs.lemmas.Bool.{false_from_ne_true, not-false}
 use Rattle.std.proofs.lemmas.Option.{same_Some}
 use Rattle.spv_words.specs.declared.rule.Rule.TheVariants.{M5}
@@ -42,13 +41,14 @@ use Rattle.profile_rules.specs.FlowRules.{every_second, is_from_elsewhere, break
 use Rattle.profile_rules.specs.MemoryRules.{is_pointer as holds_pointer, may_be_pointer_of, may_be_pointer, is_stray_pointer, breaks_m5}
 use Rattle.profile_rules.specs.AccessRules.{breaks, broken_in}
 use Rattle.profile_rules.specs.TypeRules.{is_value_broken, is_number_broken, is_flow_broken}
+use Rattle.list_law.proofs.Numbers.{same_number}
 use Rattle.plan_law.specs.InOrder.{IsAmong}
 use Rattle.module_semantics.specs.Setting.{Setting}
 use Rattle.fits_law.proofs.Steps.{named}
 use Rattle.type_law.proofs.Vectors.{three_off}
 use Rattle.typed_law.specs.Conforms.{IsConforming}
 use Rattle.typed_law.proofs.Lists.{and_left, and_right, and_off, clash, some_part, earlier_some, from_zero, any_at, none_at_fault}
-use Rattle.typed_law.proofs.Rules.{operand_there, value_right, number_right, flow_right}
+use Rattle.typed_law.proofs.Rules.{operand_there, value_right, number_right, flow_right, contains_flat}
 use Rattle.typed_law.proofs.Types.{row_is}
 use Rattle.typed_law.proofs.Operations.{four_off}
 use Rattle.typed_law.proofs.Values.{IsRow, shape_of_row, value_type_has, global_row, inside, local_row, has_a_type, typed_value, HasType, type_row_of, same_type, type_suits, variable_type_is, parameter_right, parameter_row}
@@ -58,7 +58,7 @@ use Rattle.type_law.proofs.Rows.{by_kind as tree_kind, vector_parts}
 use Rattle.type_law.proofs.Parts.{array_kind, runtime_kind, struct_kind, all_nth, row as type_row_at, earlier_is}
 use Rattle.unit_law.proofs.CallTypes.{given_value}
 use Rattle.claim_law.proofs.Constants.{found_in}
-use Rattle.unit_law.proofs.Lists.{test_same, found_by, as_among, as_parameter}
+use Rattle.unit_law.proofs.Lists.{found_by, as_among, as_parameter}
 use Rattle.unit_law.proofs.Shaped.{other_none}
 use Rattle.unit_law.proofs.Ways.{HaveKinds, own_type_of, mapped_some}
 use Rattle.unit_law.proofs.ResultShapes.{stands_inside, makes, reads_first, reads_second, IsReadAt, first_read, second_read, IsShaped, constant_shaped, row, typed_read, by_value, made_shaped}
@@ -106,7 +106,7 @@ unfolding group_of number
 copy_op code.CopyLogical e = refl
 copy_op o e = cc
 
-variable_op : (o : Op) → group_of o ≡ groups.Variable → is o code.Variable ≡ true
+pub variable_op : (o : Op) → group_of o ≡ groups.Variable → is o code.Variable ≡ true
 unfolding group_of number
 variable_op code.Variable e = refl
 variable_op o e = cc
@@ -153,11 +153,6 @@ unfolding group_of shape
 chain_many code.AccessChain n e le = omega (arith, le)
 chain_many code.InBoundsAccessChain n e le = omega (arith, le)
 chain_many o n e le = cc
-
-contains_flat : {A : Type 0} (g : A → List ℕ) (fs : List A) (f : A) (at : ℕ) → Contains fs f → Contains (g f) at → Contains (flat_map g fs) at
-contains_flat g [] f at there own = let less = there.1 in absurd (omega (arith, less))
-contains_flat g (h ∷ fs) f at (zero, less, same) own = Contains-append_left (g h) (flat_map g fs) at (subst (λ z. Contains (g z) at) (sym same) own)
-contains_flat g (h ∷ fs) f at (suc k, less, same) own = Contains-append_right (g h) (flat_map g fs) at (contains_flat g fs f at (k, (let low : k < length fs = omega (arith, less) in low), same) own)
 
 module _ (s : Setting) (entry : Option (List ℕ)) (right : IsConforming s.of entry) (kinds_of : HaveKinds s.of.globals) (f : Function) (in_it : Contains s.of.functions f) where
   abbrev Gs : List Inst
@@ -395,7 +390,7 @@ module _ (s : Setting) (entry : Option (List ℕ)) (right : IsConforming s.of en
             let none = unbuilt own_row.0.op shapeless in
             let parts = by_match (from_row.0.result == i.ty) (is_void from_row.0) (is from_row.0.op code.TypeArray) (is own_row.0.op code.TypeArray) (is from_row.0.op code.TypeStruct) (is own_row.0.op code.TypeStruct)
             (match_before Gs from_row.0.at (word from_row.0 0) (word own_row.0 0)) (is_same_length Gs (word from_row.0 1) (word own_row.0 1)) (length from_row.0.args == length own_row.0.args) (list_all (λ (q : ℕ × ℕ). match_before Gs from_row.0.at q.0 q.1) (zip from_row.0.args own_row.0.args)) none.0 none.1 matches in
-            let one : from.0 ≡ i.ty = sym (named Gs from.0 from_row.0 from_row.1) ∙ test_same from_row.0.result i.ty parts.0 in
+            let one : from.0 ≡ i.ty = sym (named Gs from.0 from_row.0 from_row.1) ∙ same_number from_row.0.result i.ty parts.0 in
             (one, ap (λ (g : Inst). is g.op code.TypeVoid) (same_Some own_row.0 from_row.0 (sym own_row.1 ∙ (ap (global Gs) (sym one) ∙ from_row.1))) ∙ parts.1)
           where
             by_match : (a v x y z w p q k l : Bool) → y ≡ false → w ≡ false → ((a && not v) || ((x && y && p && q) || (z && w && k && l))) ≡ true → (a ≡ true) × (v ≡ false)

@@ -29,6 +29,7 @@ use Rattle.glsl_ast.specs.Tree.{Expr, TranslationUnit}
 use Rattle.access_paths.specs.Ways.{indexes}
 use Rattle.function_text.specs.Functions.{FunctionPlan}
 use Rattle.unit_rules.specs.Unit.{IsUnitOf}
+use Rattle.list_law.proofs.Lists.{index_get}
 use Rattle.type_law.proofs.Vectors.{three_off}
 use Rattle.plan_law.specs.InOrder.{IsAmong}
 use Rattle.path_law.specs.Chains.{ChainsRise, NoneMakes}
@@ -46,7 +47,6 @@ use Rattle.unit_law.specs.Mentioned.{IsMentioned, IsLinked, IsCaptured}
 use Rattle.unit_law.specs.Words.{words_of, AreOfStructs}
 use Rattle.unit_law.proofs.Lists.{as_among}
 use Rattle.unit_law.proofs.Ways.{HaveKinds, F, R, V, in_module, ordered}
-use Rattle.unit_law.proofs.Steps.{at_index}
 use Rattle.unit_law.proofs.Chains.{HasWay}
 use Rattle.unit_law.proofs.Places.{IsRuled, IsRoot, mentioned_way}
 use Rattle.unit_law.proofs.Indexes.{index_readable}
@@ -77,7 +77,7 @@ module _ (s : Setting) (entry : Option (List ℕ)) (right : IsConforming s.of en
     ruled : has_type i.op ≡ true → has_result i.op ≡ true → breaks_t6 Gs T i ≡ false → ((k : ℕ) → k < length i.args → HasType s entry right Fn in_it (slice_index i.args k)) → 0 < length i.args → IsRuled s entry right kinds o unit u p among names structs i
     ruled has results off each some = record {
       some = ((inside s entry right Fn in_it).formed i there).result results;
-      based = at_index i.args 0 some;
+      based = index_get i.args 0 some;
       typed = chain_types s entry right Fn in_it i there (drop 1 i.args) (behind i.args each);
       leads = target_of s entry right Fn in_it (word i 0) (each 0 some) (three_off (value_fails is_pointer Gs T (word i 0)) (list_any (value_fails is_int Gs T) (drop 1 i.args)) (leads_elsewhere Gs i.ty (option_and_then (storage_class Gs) (T (word i 0))) (chain_end Gs T i)) off).0;
       sound = off;

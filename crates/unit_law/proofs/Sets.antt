@@ -1,6 +1,6 @@
 -- What is asked of names where a result gets a value, and where the index of a chain is written or kept.
 use Rattle.std.proofs.Common.{◌≡◌, ◌+◌, ◌==◌, ◌&&◌, ◌||◌, not, ℕ, suc, Bool, true, false, List, Option, Some, None, unwrap_or, refl, sym, ap, ◌∙◌, subst, arith}
-use Rattle.std.specs.Prelude.{nat_le, slice_get, slice_index, slice_index_or}
+use Rattle.std.specs.Prelude.{slice_get, slice_index, slice_index_or}
 use Rattle.std.specs.Option.{option_map_or}
 use Rattle.std.proofs.lemmas.Bool.Decides.{nat_tests}
 use Rattle.std.proofs.lemmas.Bool.{and_from, or_left, or_right}
@@ -41,6 +41,7 @@ use Rattle.unit_rules.specs.Unit.{source_of, claims_by, liveness_of, IsUnitOf}
 use Rattle.glsl_grammar.specs.Read.{is_declared}
 use Rattle.text_rules.specs.Printed.{is_written_struct}
 use Rattle.text_rules.specs.Declarations.{length_extent}
+use Rattle.list_law.proofs.Numbers.{from_zero}
 use Rattle.spell_law.specs.Uses.{Words, UsesExpr, UsesExtent}
 use Rattle.spell_law.specs.Statements.{AsksSet, MeetsInst}
 use Rattle.typed_law.specs.Conforms.{IsConforming}
@@ -61,13 +62,10 @@ use Rattle.unit_law.proofs.ValueNames.{result_names}
 use Rattle.unit_law.proofs.Chains.{HasWay, place_uses}
 
 -- each operand of a chain is a value that it mentions
-low_zero : (k : ℕ) → nat_le 0 k ≡ true
-low_zero k = grind (arith, nat_tests)
-
 pub chain_id : (o : Op) (args : List ℕ) (k : ℕ) → is_chain o ≡ true → is_id o args k ≡ true
 unfolding is_id
-chain_id code.AccessChain args k on = low_zero k
-chain_id code.InBoundsAccessChain args k on = low_zero k
+chain_id code.AccessChain args k on = from_zero k
+chain_id code.InBoundsAccessChain args k on = from_zero k
 chain_id o args k on = cc
 
 pub chain_value : (o : Op) (k : ℕ) → is_chain o ≡ true → is_value o k ≡ true
@@ -82,7 +80,7 @@ chain_no_phi code.AccessChain on = refl
 chain_no_phi code.InBoundsAccessChain on = refl
 chain_no_phi o on = cc
 
-no_zero : (k : ℕ) → not (suc k == 0) ≡ true
+pub no_zero : (k : ℕ) → not (suc k == 0) ≡ true
 no_zero k = grind (arith, nat_tests)
 
 module _ (s : Setting) (entry : Option (List ℕ)) (right : IsConforming s.of entry) (kinds : HaveKinds s.of.globals) (o : Options) (unit : TranslationUnit) (u : IsUnitOf s.of o unit) (p : FunctionPlan) (among : IsIn p u.plans) (names : List (List ℕ)) (structs : AreOfStructs s.of.globals (name_of u.claimed) names) where

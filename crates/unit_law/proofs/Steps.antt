@@ -1,8 +1,7 @@
 -- The steps of a chain, as they are written: each leads to a part whose members have names, where the type before has.
-use Rattle.std.proofs.Common.{◌≡◌, ◌<◌, ◌==◌, ◌||◌, ℕ, zero, suc, Bool, true, false, List, [], ◌∷◌, length, Option, Some, None, nat_lt, is_some, inl, refl, sym, ap, ◌∙◌, subst, arith, if◌then◌else◌}
+use Rattle.std.proofs.Common.{◌≡◌, ◌==◌, ◌||◌, ℕ, Bool, true, false, List, ◌∷◌, length, Option, Some, None, nat_lt, is_some, inl, refl, sym, ap, ◌∙◌, subst, if◌then◌else◌}
 use Rattle.std.specs.Prelude.{slice_get, slice_index, option_and_then}
 use Rattle.std.specs.Option.{option_map_or}
-use Rattle.std.proofs.lemmas.Bool.Decides.{nat_tests}
 use Rattle.std.proofs.lemmas.Bool.{or_right}
 use Rattle.std.proofs.lemmas.Option.{same_Some}
 use Rattle.spv_ops.specs.Opcode.{is, number}
@@ -41,6 +40,9 @@ use Rattle.expr_forward.specs.Paths as paths
 use Rattle.expr_forward.specs.Paths.{word_at, index_expr, vector_size, index_by, step_text}
 use Rattle.unit_rules.specs.Translation.{Naming, text_of}
 use Rattle.unit_rules.specs.Unit.{IsUnitOf}
+use Rattle.list_law.proofs.Numbers.{less_of, number_same}
+use Rattle.list_law.proofs.Lists.{index_get}
+pub use Rattle.list_law.proofs.Lists.{index_get as at_index}
 use Rattle.spell_law.specs.Uses.{Words, UsesExpr, UseSteps}
 use Rattle.fits_law.specs.State.{element_shape}
 use Rattle.type_law.proofs.Parts.{row, all_nth}
@@ -51,7 +53,7 @@ use Rattle.typed_law.proofs.Used.{global_found}
 use Rattle.claim_law.specs.Claimed.{HasName}
 use Rattle.claim_law.proofs.Told.{named_is, axes_told}
 use Rattle.unit_law.specs.Words.{words_of}
-use Rattle.unit_law.proofs.Lists.{same_test, as_among}
+use Rattle.unit_law.proofs.Lists.{as_among}
 use Rattle.unit_law.proofs.Types.{of_types}
 use Rattle.unit_law.proofs.Structs.{HasNames, part_named}
 use Rattle.unit_law.proofs.Parts.{nth_has, Here}
@@ -72,14 +74,6 @@ elem_free (vector e m) k v n at has = by_elem (sym (ap (has_struct n) (same_Some
 elem_free (array t l) k v n at has = ap (has_struct n) (same_Some t v at) ∙ has
 elem_free (runtime t) k v n at has = ap (has_struct n) (same_Some t v at) ∙ has
 elem_free (struct m ts) k v n at has = or_right (m == n) (have_struct n ts) (nth_has ts k v n at has)
-
-less_of : (a b : ℕ) → nat_lt a b ≡ true → a < b
-less_of a b e = grind (arith, nat_tests, e)
-
-pub at_index : (xs : List ℕ) (k : ℕ) → k < length xs → slice_get xs k ≡ Some (slice_index xs k)
-at_index [] k less = absurd (omega (arith, less))
-at_index (x ∷ xs) zero less = refl
-at_index (x ∷ xs) (suc k) less = at_index xs k (let low : k < length xs = omega (arith, less) in low)
 
 module _ (s : Setting) (entry : Option (List ℕ)) (right : IsConforming s.of entry) (f : Function) (o : Options) (unit : TranslationUnit) (u : IsUnitOf s.of o unit) (names : List (List ℕ)) (read : ℕ → Option Expr) where
   abbrev Gs : List Inst
@@ -112,7 +106,7 @@ module _ (s : Setting) (entry : Option (List ℕ)) (right : IsConforming s.of en
         where
           by_shape : (t : Tree) → type_tree Gs ty ≡ Some t → HasNames s.of o unit u t → true ≡ is_struct_shape s t → HasName Found (Member (id ty) k)
           by_shape (struct n ts) shaped has e =
-              let w = has n (ap (λ (b : Bool). b || have_struct n ts) (same_test n n refl)) in
+              let w = has n (ap (λ (b : Bool). b || have_struct n ts) (number_same n n refl)) in
               let ty_is : w.ty.result ≡ ty = w.result ∙ struct_number s ty n ts shaped in
               let same : w.ty ≡ g = same_Some w.ty g (sym (global_found s.of entry right w.ty (as_among Gs w.ty w.among)) ∙ (ap (global Gs) ty_is ∙ at)) in
               subst (λ (q : ℕ). HasName Found (Member (id q) k)) ty_is (part_named s.of o unit u w.ty k x w.among w.is_struct w.written (subst (λ (y : Inst). slice_get y.args k ≡ Some x) (sym same) arg))
@@ -213,7 +207,7 @@ module _ (s : Setting) (entry : Option (List ℕ)) (right : IsConforming s.of en
         by_less i told false less is_it = absurd (leads is_it)
         by_less i told true less is_it =
             let low = less_of i (length G.args) less in
-            let arg = at_index G.args i low in
+            let arg = index_get G.args i low in
             let v = all_nth (tree_before Gs G.at) G.args ts i own_parts less in
             let element : element_shape t i ≡ Some v.0 = ap (λ (x : Tree). element_shape x i) shape ∙ v.2 in
             let taken : step Gs spot k n (Some ty) ≡ way.Member i =

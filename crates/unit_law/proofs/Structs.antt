@@ -25,6 +25,7 @@ use Rattle.text_rules.specs.Declarations.{length_extent, type_at, zero_at}
 use Rattle.text_rules.specs.Printed.{Reached, has_struct, pointee_or_self, type_has_struct, written_types, is_written_variable, is_written_struct}
 use Rattle.unit_rules.specs.Translation.{Naming, id_text, names_of}
 use Rattle.unit_rules.specs.Unit.{reached_of, source_of, IsUnitOf}
+use Rattle.list_law.proofs.Numbers.{number_same}
 use Rattle.spell_law.specs.Uses.{Words, UsesExtent, UsesType, UsesExpr}
 use Rattle.typed_law.specs.Conforms.{IsConforming}
 use Rattle.claim_law.specs.Claimed.{IsIn, HasName}
@@ -34,7 +35,6 @@ use Rattle.claim_law.proofs.Named.{Plans, has_name_of}
 use Rattle.claim_law.proofs.Told.{named_is}
 use Rattle.unit_law.specs.Types.{IsLengthOf}
 use Rattle.unit_law.specs.Words.{words_of}
-use Rattle.unit_law.proofs.Lists.{same_test}
 use Rattle.unit_law.proofs.Types.{AreNamedIn, type_uses, zero_at_uses}
 use Rattle.unit_law.proofs.Free.{AreFree}
 
@@ -70,7 +70,7 @@ module _ (m : ModuleState) (o : Options) (unit : TranslationUnit) (u : IsUnitOf 
       (or_right (is_written_struct S Written g) (is_written_block S Written g.result)
       (any_in (λ (x : Inst). is_written_variable Written x && has_block S g.result x) m.globals v there
       (and_from (is_written_variable Written v) (has_block S g.result v) written
-      (ap (λ (q : Option Inst). option_map_or (λ (h : Inst). h.result == g.result) q false) block ∙ same_test g.result g.result refl))))
+      (ap (λ (q : Option Inst). option_map_or (λ (h : Inst). h.result == g.result) q false) block ∙ number_same g.result g.result refl))))
       at
 
   -- a struct of this id is written

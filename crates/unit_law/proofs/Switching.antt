@@ -1,5 +1,5 @@
 -- A reached block that ends in OpSwitch leads to the blocks of its labels.
-use Rattle.std.proofs.Common.{◌≡◌, ◌<◌, ◌≤◌, ◌+◌, ℕ, zero, suc, true, List, [], ◌∷◌, length, map, Option, Some, None, refl, sym, ap, ◌∙◌, subst, arith}
+use Rattle.std.proofs.Common.{◌≡◌, ◌<◌, ◌≤◌, ◌+◌, ℕ, true, List, [], ◌∷◌, length, map, Option, Some, None, refl, sym, ap, ◌∙◌, subst, arith}
 use Rattle.std.specs.Prelude.{slice_get, option_and_then}
 use Rattle.spv_ops.specs.OpGroups.{group_of}
 use Rattle.spv_ops.specs.Shape.{shape, count_of}
@@ -23,6 +23,7 @@ use Rattle.spell_law.specs.Blocks.{FitWords}
 use Rattle.typed_law.specs.Conforms.{IsFormed}
 use Rattle.claim_law.specs.Claimed.{IsIn}
 use Rattle.claim_law.proofs.Listed.{in_flat, at_place}
+use Rattle.claim_law.proofs.Flags.{at_inside}
 use Rattle.unit_law.specs.Switches.{IsSwitchAt}
 use Rattle.unit_law.proofs.Lists.{found_by, as_among}
 
@@ -35,18 +36,13 @@ unfolding group_of shape
 switch_least code.Switch n on least = omega (arith, least)
 switch_least o n on least = cc
 
-block_at : (bs : List Block) (h : ℕ) → h < length bs → (b : Block) × (slice_get bs h ≡ Some b)
-block_at [] h less = absurd (omega (arith, less))
-block_at (b ∷ bs) zero less = (b, refl)
-block_at (b ∷ bs) (suc h) less = block_at bs h (let low : h < length bs = omega (arith, less) in low)
-
 two_more : (args : List ℕ) → 2 ≤ length args → (a b : ℕ) × (words : List ℕ) × (args ≡ a ∷ b ∷ words)
 two_more [] many = absurd (omega (arith, many))
 two_more (a ∷ []) many = absurd (omega (arith, many))
 two_more (a ∷ b ∷ words) many = (a, b, words, refl)
 
 pub switch_at : (f : Function) → ((i : Inst) → IsAmong i (insts_of f) → IsFormed i) → ((i : Inst) → IsIn i (insts_of f) → FitWords i.args) → (h : ℕ) → (nth (graph f) h).reached ≡ true → is_switch (nth (graph f) h).exit ≡ true → IsSwitchAt f (graph f) h
-switch_at f formed fit h reached on = by_block (block_at f.blocks h (let inside = reached_inside (graph f) h reached in let size = graph_sized f in let low : h < length f.blocks = omega (arith, inside, size) in low))
+switch_at f formed fit h reached on = by_block (at_inside f.blocks h (let inside = reached_inside (graph f) h reached in let size = graph_sized f in let low : h < length f.blocks = omega (arith, inside, size) in low))
   where
     by_block : (b : Block) × (slice_get f.blocks h ≡ Some b) → IsSwitchAt f (graph f) h
     by_block b = by_last (terminator b.0) refl (ap is_switch (sym (ap (λ (n : Node). n.exit) (node_is f h b.0 b.1))) ∙ on)

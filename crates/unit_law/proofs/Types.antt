@@ -26,13 +26,13 @@ use Rattle.text_rules.specs.Declarations.{Names, length_extent, spelling, shape_
 use Rattle.text_rules.specs.Outlines.{outline}
 use Rattle.text_rules.specs.Printed.{has_struct, have_struct}
 use Rattle.text_rules.specs.Types.{Spelling, vector_base, with_extent, type_text, zero_elem, times, zero_text, zero_texts}
+use Rattle.list_law.proofs.Numbers.{number_same}
 use Rattle.spell_law.specs.Uses.{Words, UsesExtent, UsesBase, UsesType, UsesExpr, UseExprs}
 use Rattle.global_law.proofs.Declared.{outline_same}
 use Rattle.typed_law.proofs.Lists.{earlier_some}
 use Rattle.claim_law.specs.Claimed.{IsIn}
 use Rattle.claim_law.proofs.Constants.{found_in}
 use Rattle.unit_law.specs.Types.{IsLengthOf, IsOfTypes, AreOfTypes}
-use Rattle.unit_law.proofs.Lists.{same_test}
 
 pub array_op : (o : Op) → kind o ≡ kinds.Array → is o code.TypeArray ≡ true
 unfolding kind number
@@ -69,17 +69,14 @@ module _ (gs : List Inst) where
     runtime_of None t part is = cc
     runtime_of (Some v) t part is = subst (IsOfTypes gs) (same_Some (runtime v) t is) (parts (slice_index g.args 0) v part)
 
-    same_trees : (a b : Trees) → Some a ≡ Some b → a ≡ b
-    same_trees a b e = cc
-
     all_of : (ids : List ℕ) (ts : Trees) → all_trees (tree_before gs g.at) ids ≡ Some ts → AreOfTypes gs ts
-    all_of [] ts is = subst (AreOfTypes gs) (same_trees no_trees ts is) tt
+    all_of [] ts is = subst (AreOfTypes gs) (same_Some no_trees ts is) tt
     all_of (id ∷ ids) ts is = by_both (tree_before gs g.at id) refl (all_trees (tree_before gs g.at) ids) refl is (all_of ids)
       where
         by_both : (o : Option Tree) → tree_before gs g.at id ≡ o → (q : Option Trees) → all_trees (tree_before gs g.at) ids ≡ q → both o q ≡ Some ts → ((us : Trees) → all_trees (tree_before gs g.at) ids ≡ Some us → AreOfTypes gs us) → AreOfTypes gs ts
         by_both None part q rest is later = cc
         by_both (Some v) part None rest is later = cc
-        by_both (Some v) part (Some vs) rest is later = subst (AreOfTypes gs) (same_trees (tree v vs) ts is) (parts id v part, later vs rest)
+        by_both (Some v) part (Some vs) rest is later = subst (AreOfTypes gs) (same_Some (tree v vs) ts is) (parts id v part, later vs rest)
 
     struct_of : (q : Option Trees) (t : Tree) → all_trees (tree_before gs g.at) g.args ≡ q → is g.op code.TypeStruct ≡ true → option_map (struct g.result) q ≡ Some t → IsOfTypes gs t
     struct_of None t all on is = cc
@@ -141,7 +138,7 @@ module _ (W : Words) (gs : List Inst) (s : Source) (ids : ℕ → Text) (lengths
   AreNamedInAll ts = (n : ℕ) → have_struct n ts ≡ true → W.struct (ids n)
 
   own_struct : (n : ℕ) (ts : Trees) → ((n == n) || have_struct n ts) ≡ true
-  own_struct n ts = ap (λ (b : Bool). b || have_struct n ts) (same_test n n refl)
+  own_struct n ts = ap (λ (b : Bool). b || have_struct n ts) (number_same n n refl)
 
   pub shape_uses : (t : Tree) → IsOfTypes gs t → AreNamedIn t → UsesType W (type_text Spelled t)
   shape_uses boolean of_it named = (tt, tt)

@@ -23,12 +23,13 @@ use Rattle.glsl_ast.specs.Tree.{TranslationUnit}
 use Rattle.text_rules.specs.Printed.{pointee_or_self, written_types}
 use Rattle.function_text.specs.Functions.{FunctionPlan}
 use Rattle.unit_rules.specs.Unit.{source_of, IsUnitOf}
+use Rattle.list_law.proofs.Numbers.{number_same}
 use Rattle.plan_law.proofs.Order.{among_right}
 use Rattle.typed_law.specs.Conforms.{IsConforming}
 use Rattle.typed_law.proofs.Used.{among_left, among_right as ids_right}
 use Rattle.typed_law.proofs.Values.{among_functions, local_row, variable_type_is}
 use Rattle.claim_law.specs.Claimed.{IsIn}
-use Rattle.unit_law.proofs.Lists.{same_test, as_among, as_in}
+use Rattle.unit_law.proofs.Lists.{as_among, as_in}
 use Rattle.unit_law.proofs.Shaped.{pointer_none}
 use Rattle.unit_law.proofs.Ways.{HaveKinds, F, in_module}
 use Rattle.unit_law.proofs.Free.{misused_free}
@@ -53,7 +54,7 @@ value_type_in (j ∷ is) i (inl same) off = subst (λ (x : Inst). is_among (filt
   where
     by_test : (b : Bool) → b ≡ false → is_among (cons_option (if b then None else Some i.ty) (filter_map value_type is)) i.ty ≡ true
     by_test true e = cc
-    by_test false e = ap (λ (b : Bool). b || is_among (filter_map value_type is) i.ty) (same_test i.ty i.ty refl)
+    by_test false e = ap (λ (b : Bool). b || is_among (filter_map value_type is) i.ty) (number_same i.ty i.ty refl)
 value_type_in (j ∷ is) i (inr there) off = by_option (value_type j) (value_type_in is i there off)
   where
     by_option : (o : Option ℕ) → is_among (filter_map value_type is) i.ty ≡ true → is_among (cons_option o (filter_map value_type is)) i.ty ≡ true

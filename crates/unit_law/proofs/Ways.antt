@@ -35,6 +35,7 @@ use Rattle.function_plan.specs.Planned.{is_reached_node, has_name_by}
 use Rattle.function_text.specs.Functions.{FunctionPlan, written}
 use Rattle.unit_rules.specs.Translation.{Naming, id_text, scope_of, IsPlanOf}
 use Rattle.unit_rules.specs.Unit.{is_called, called, source_of, IsUnitOf}
+use Rattle.list_law.proofs.Numbers.{same_number, number_same}
 use Rattle.plan_law.specs.InOrder.{AreInOrder}
 use Rattle.plan_law.specs.Ordered.{AreOrdered}
 use Rattle.plan_law.proofs.Order.{in_order}
@@ -46,7 +47,7 @@ use Rattle.claim_law.proofs.Listed.{in_flat, at_place}
 use Rattle.claim_law.proofs.Constants.{found_in}
 use Rattle.claim_law.proofs.Named.{result_named, parameter_named}
 use Rattle.unit_law.specs.Mentioned.{IsMentioned, Stands, IsValueIn}
-use Rattle.unit_law.proofs.Lists.{same_test, test_same, contained, of_filter, found_by, as_among, as_parameter, in_block}
+use Rattle.unit_law.proofs.Lists.{contained, of_filter, found_by, as_among, as_parameter, in_block}
 use Rattle.unit_law.proofs.Links.{as_linked, mention_at, own_block, placed_in, user_is, mention_stands, maker_live}
 use Rattle.unit_law.proofs.Forms.{placed, is_placed, made_by, formed_result, form_at, mentioned_form, wanted_form}
 use Rattle.unit_law.proofs.Shaped.{pointer_none, shaped_value}
@@ -72,7 +73,7 @@ own_type_of i ty is = by_test (i.ty == 0) refl is
   where
     by_test : (b : Bool) → (i.ty == 0) ≡ b → (if b then None else Some i.ty) ≡ Some ty → (i.ty ≡ ty) × (i.ty ≡ 0 → ⊥)
     by_test true zero_is is = cc
-    by_test false some is = (same_Some i.ty ty is, λ lacks. clash (sym (same_test i.ty 0 lacks) ∙ some))
+    by_test false some is = (same_Some i.ty ty is, λ lacks. clash (sym (number_same i.ty 0 lacks) ∙ some))
 
 no_hoisted : Hoisted ≡ Forwarded → ⊥
 no_hoisted e = cc
@@ -224,7 +225,7 @@ module _ (s : Setting) (entry : Option (List ℕ)) (right : IsConforming s.of en
       by_parameter (Some y) made told =
           let q = mapped_some (λ (r : IdOf × IdOf). r.1.0) (find (λ (r : IdOf × IdOf). r.0.0 == n) F.params) y made in
           let w = found_by (λ (r : IdOf × IdOf). r.0.0 == n) F.params q.0 q.1 in
-          subst (λ (k : ℕ). global Gs k ≡ None) (test_same q.0.0.0 n w.1) ((inside s entry right F in_module).outside q.0 (as_parameter q.0 F.params w.0))
+          subst (λ (k : ℕ). global Gs k ≡ None) (same_number q.0.0.0 n w.1) ((inside s entry right F in_module).outside q.0 (as_parameter q.0 F.params w.0))
       by_parameter None made told =
           let j = some_part typed (inst_in F n) ty told in
           let w = found_in (insts_of F) n j.0 j.1 in
@@ -262,7 +263,7 @@ module _ (s : Setting) (entry : Option (List ℕ)) (right : IsConforming s.of en
     by_local (Some y) made ty shaped is =
         let q = mapped_some (λ (r : IdOf × IdOf). r.1.0) (find (λ (r : IdOf × IdOf). r.0.0 == n) F.params) y made in
         let w = found_by (λ (r : IdOf × IdOf). r.0.0 == n) F.params q.0 q.1 in
-        by_parameter q.0 w.0 (test_same q.0.0.0 n w.1) y made
+        by_parameter q.0 w.0 (same_number q.0.0.0 n w.1) y made
 
     -- no global has its id and its type
     pub never_global : (g : Inst) → IsIn g Gs → global Gs n ≡ Some g → (g.ty ≡ 0 → ⊥) → type_tree Gs g.ty ≡ Some t → (is_constant_op g.op ≡ true) ⊎ (is g.op code.Variable ≡ true) → ⊥

@@ -28,11 +28,11 @@ use Rattle.switch_ladder.specs.Ladder.{chains_of}
 use Rattle.control_text.specs.Statements.{Blocks}
 use Rattle.function_plan.specs.Orders as orders
 use Rattle.function_plan.specs.Orders.{order_of, order_by}
+use Rattle.list_law.proofs.Numbers.{number_same}
 use Rattle.region_law.specs.Leads.{In}
 use Rattle.tree_law.proofs.SwitchOrder.{in_list, list_in, in_range, order_is}
 use Rattle.spell_law.specs.Blocks.{IsTarget, HasLabel, FitWords, IsHereAt, IsEntered, GoesOn, IsWhole, IsWholeItem, AreWhole}
 use Rattle.unit_law.specs.Switches.{IsSwitchAt, IsReached, Chooses, Leads, by_condition, by_selector}
-use Rattle.unit_law.proofs.Lists.{same_test}
 
 same_switch : (x : Terminator) → orders.is_switch x ≡ is_switch x
 same_switch terminator.Branch = refl
@@ -96,7 +96,7 @@ module _ (f : Function) (sound : IsSound (graph f)) (switches : (h : ℕ) → (n
   -- edges lead to reached blocks
   leads_at : (ts : List ℕ) (k t : ℕ) → slice_get ts k ≡ Some t → list_any (λ (x : ℕ). x == t) ts ≡ true
   leads_at [] k t at = cc
-  leads_at (x ∷ ts) zero t at = let same : x ≡ t = cc in or_left (x == t) (list_any (λ (y : ℕ). y == t) ts) (same_test x t same)
+  leads_at (x ∷ ts) zero t at = let same : x ≡ t = cc in or_left (x == t) (list_any (λ (y : ℕ). y == t) ts) (number_same x t same)
   leads_at (x ∷ ts) (suc k) t at = or_right (x == t) (list_any (λ (y : ℕ). y == t) ts) (leads_at ts k t at)
 
   carried_next : (b t : ℕ) (n : Next) → Here b → leads_to t (nth g b) ≡ true → Carries g b t n → IsReachedNext n

@@ -4,6 +4,7 @@ use Rattle.std.specs.Prelude.{◌⊎◌}
 use Rattle.std.specs.List.{list_all}
 use Rattle.std.proofs.lemmas.Slice.Eq.{bytes_eq-Decides}
 use Rattle.std.proofs.lemmas.Bool.{or_from}
+use Rattle.std.proofs.lemmas.Option.{none-some}
 use Rattle.spv_ops.specs.declared.AtomicOp.{AtomicOp}
 use Rattle.spv_ops.specs.declared.Op.TheVariants as code
 use Rattle.spv_module.specs.Lists.{id}
@@ -80,10 +81,7 @@ module _ (gs : List Inst) (found : Key → Option Text) (lawful : AreNames found
     built_value w on = (inr on, undeclared w (λ n struct is. struct_barred n w is (barred_of built_ins w built_barred on)))
 
     none_told : (w : Text) → (told (λ key. None)).value w → is_among built_ins w ≡ true
-    none_told w (inl is) = absurd (never w is.1)
-      where
-        never : (w : Text) → None ≡ Some w → ⊥
-        never w e = cc
+    none_told w (inl is) = absurd (none-some w is.1)
     none_told w (inr on) = on
 
     pub built_in_value : (f : BuiltIn) → (words_of gs found names).value (built_in_name f)
