@@ -40,8 +40,7 @@ use Rattle.glsl_semantics.specs.Expressions.{Program, Argument as Passed}
 use Rattle.text_rules.specs.Constants.{Source, reading, plain_value, constant_expr, is_constant}
 use Rattle.text_rules.specs.Declarations.{word_of, shape_at}
 use Rattle.text_items.specs.Names.{is_plain, is_number, literal_word, operand_by, operand, calculated_by, calculated_with}
-use Rattle.text_rules.specs.declared.readings.Reading.{Reading}
-use Rattle.text_rules.specs.declared.readings.Reading.TheVariants.{Plain, Named, GroupSize, GroupSizePart}
+use Rattle.list_law.proofs.Options.{none_some}
 use Rattle.plan_law.specs.InOrder.{AreRising}
 use Rattle.type_law.specs.Shaped.{HaveResults, HasConstants}
 use Rattle.lowering_law.specs.Says.{Says}
@@ -55,15 +54,13 @@ use Rattle.path_law.specs.Walks.{struct_names}
 use Rattle.global_law.specs.Sources.{source_of, chosen}
 use Rattle.global_law.proofs.Plain.{plain_has}
 use Rattle.global_law.proofs.Zeros.{HasZero, HaveZeros}
+use Rattle.global_law.proofs.Indexes.{plain_reading}
 use Rattle.typed_law.specs.Words.{HoldWords}
 use Rattle.typed_law.proofs.Lists.{and_left, and_right, some_part}
 use Rattle.constant_law.specs.Items.{key_text}
 use Rattle.constant_law.proofs.Valued.{IsOperand, AreOperands}
 use Rattle.constant_law.proofs.Constituents.{have_shapes, all_fit, operation_right}
 use Rattle.constant_law.proofs.Inner.{AllSized, inner_operation, inner_given}
-
-none_some : {A B : Type 0} {a : A} → None ≡ Some a → B
-none_some e = cc
 
 pub inner_is : (n : ℕ) (o : Op) → op_of n ≡ Some o → is_inner o ≡ true → inner_of n ≡ Some o
 unfolding inner_of
@@ -159,12 +156,6 @@ module _ (p : Program) (s : Setting) (source : Source) (found : Key → Option T
     types_written (tree t ts) z apart = (type_written t z.0 apart.0, types_written ts z.1 apart.1)
 
 -- an operand that is written as a literal has its word
-plain_reading : (r : Reading) → is_plain r ≡ true → r ≡ Plain
-plain_reading Plain e = refl
-plain_reading Named e = cc
-plain_reading GroupSize e = cc
-plain_reading (GroupSizePart axis) e = cc
-
 pub number_value : (t : Tree) (v : ValueTree) → is_number (elem_of t) ≡ true → fits t v ≡ true → v ≡ word (word_of v)
 number_value plain.int (word a) on fit = refl
 number_value plain.uint (word a) on fit = refl

@@ -2,7 +2,6 @@
 use Rattle.std.proofs.Common.{◌≡◌, ◌⊎◌, ◌+◌, ◌==◌, ℕ, suc, true, List, [], ◌∷◌, length, map, Option, Some, None, inl, inr, refl, sym, ap, ap₂, ◌∙◌, subst, if◌then◌else◌, arith}
 use Rattle.std.specs.Prelude.{option_map, option_and_then}
 use Rattle.std.specs.List.{list_all}
-use Rattle.std.proofs.lemmas.Bool.Decides.{eqb_tells}
 use Rattle.std.proofs.lemmas.Bool.{and_from}
 use Rattle.spv_module.specs.declared.tree.Elem.{Elem}
 use Rattle.spv_module.specs.declared.tree.Elem.TheVariants as elem
@@ -21,6 +20,7 @@ use Rattle.glsl_semantics.specs.States.{State}
 use Rattle.glsl_semantics.specs.Functions.{as_elem, scalars_of, joined, filled, vector_built, are_of, is_of, whole_of, built}
 use Rattle.glsl_semantics.specs.Expressions.{Program, Argument, type_of}
 use Rattle.text_rules.specs.Constants.{Source}
+use Rattle.list_law.proofs.Numbers.{number_same}
 use Rattle.fits_law.specs.Takes.{AreOfShape, AreMembers, AllFit}
 use Rattle.lowering_law.specs.Says.{Says, AllSay}
 use Rattle.lowering_law.proofs.Saying.{says_build}
@@ -28,9 +28,6 @@ use Rattle.path_law.specs.Parts.{StructNames, shape_in, fields_in}
 use Rattle.path_law.specs.Walks.{struct_names}
 use Rattle.global_law.proofs.Zeros.{HasZero, HaveZeros, same_itself}
 use Rattle.constant_law.proofs.Constituents.{AreConstituents}
-
-number_same : (a b : ℕ) → a ≡ b → (a == b) ≡ true
-number_same a b e = elim (eqb_tells a b) [ inl w ↦ w.0 | inr w ↦ absurd (w.1 e) ]
 
 -- scalars, each alone
 abbrev singles : List ValueTree → List (List ValueTree)

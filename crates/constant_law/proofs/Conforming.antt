@@ -3,7 +3,7 @@ use Rattle.std.proofs.Common.{◌≡◌, ◌⊎◌, ◌<◌, ◌==◌, ◌||◌,
 use Rattle.std.specs.Prelude.{Contains, is_some, nat_le, nat_lt, option_map}
 use Rattle.std.specs.Option.{option_map_or}
 use Rattle.std.specs.List.{list_any, count_by}
-use Rattle.std.proofs.lemmas.Bool.Decides.{eqb_tells, nat_tests}
+use Rattle.std.proofs.lemmas.Bool.Decides.{nat_tests}
 use Rattle.std.proofs.lemmas.List.Elements.{Contains-append_left, Contains-append_right}
 use Rattle.std.proofs.lemmas.List.Sums.{length-filter}
 use Rattle.std.proofs.lemmas.Bool.{not-false}
@@ -19,7 +19,6 @@ use Rattle.spv_module.specs.Held.{global}
 use Rattle.spv_module.specs.Inst.{has_type}
 use Rattle.spv_module.specs.State.{ModuleState}
 use Rattle.spv_module.specs.declared.inst.Inst.{Inst}
-use Rattle.spv_module.specs.declared.tree.Elem.{Elem}
 use Rattle.spv_module.specs.declared.tree.Elem.TheVariants as elem
 use Rattle.spv_types.specs.declared.kind.TypeKind.TheVariants as type_kinds
 use Rattle.spv_types.specs.Tree as plain
@@ -36,6 +35,8 @@ use Rattle.profile_rules.specs.Entry.{chosen, is_size_composite, is_local_size_i
 use Rattle.profile_rules.specs.Places.{places, is_defined_elsewhere}
 use Rattle.profile_rules.specs.TypeRows.{is_uint, type_row}
 use Rattle.module_semantics.specs.Setting.{Setting}
+use Rattle.list_law.proofs.Options.{none_some}
+use Rattle.list_law.proofs.Numbers.{same_number}
 use Rattle.plan_law.specs.InOrder.{IsAmong}
 use Rattle.text_rules.specs.Constants.{Source, size_ids}
 use Rattle.type_law.proofs.Rows.{vector_parts}
@@ -50,12 +51,6 @@ use Rattle.global_law.specs.Sources.{source_of}
 use Rattle.constant_law.specs.Items.{IsScalarSpec, AreSpecIds, AreSizes}
 use Rattle.constant_law.proofs.Within.{typed_constant}
 use Rattle.constant_law.proofs.Constituents.{nothing}
-
-none_some : {A B : Type 0} {a : A} → None ≡ Some a → B
-none_some e = cc
-
-number_is : (a b : ℕ) → (a == b) ≡ true → a ≡ b
-number_is a b e = elim (eqb_tells a b) [ inl w ↦ w.1 | inr w ↦ clash (sym e ∙ w.0) ]
 
 -- what is found
 found_row : (test : Inst → Bool) (rows : List Inst) (i : Inst) → find test rows ≡ Some i → (k : ℕ) × (k < length rows) × (nth_row rows k ≡ i) × (test i ≡ true)
@@ -103,7 +98,7 @@ decorate_key code.MemberDecorate i n d e = clash (sym e)
 decorate_key code.Decorate i n d e =
     let front = and_left ((number code.Decorate == number code.Decorate) && (word i 0 == n) && (0 == 0)) (word i 1 == d) e in
     let own = and_left ((number code.Decorate == number code.Decorate) && (word i 0 == n)) (0 == 0) front in
-    (refl, number_is (word i 0) n (and_right (number code.Decorate == number code.Decorate) (word i 0 == n) own), number_is (word i 1) d (and_right ((number code.Decorate == number code.Decorate) && (word i 0 == n) && (0 == 0)) (word i 1 == d) e))
+    (refl, same_number (word i 0) n (and_right (number code.Decorate == number code.Decorate) (word i 0 == n) own), same_number (word i 1) d (and_right ((number code.Decorate == number code.Decorate) && (word i 0 == n) && (0 == 0)) (word i 1 == d) e))
 decorate_key o i n d e = clash (sym e)
 
 row_key : (i : Inst) (n d : ℕ) → has_key (number code.Decorate, n, 0, d) i ≡ true → (is i.op code.Decorate ≡ true) × (word i 0 ≡ n) × (word i 1 ≡ d)
@@ -208,17 +203,14 @@ module _ (s : Setting) where
   pub uvec3_tree : (h : Inst) (t : Tree) → tree_at s.of.globals h ≡ Some t → is_no_uvec3 s.of.globals h ≡ false → t ≡ plain.vector elem.Uint 3
   uvec3_tree h t shape off =
       let vector = not-false ((is h.op code.TypeVector) && (word h 1 == 3)) (or_left (not ((is h.op code.TypeVector) && (word h 1 == 3))) (is_no_uint s.of.globals (word h 0)) off) in
-      let three = number_is (word h 1) 3 (and_right (is h.op code.TypeVector) (word h 1 == 3) vector) in
+      let three = same_number (word h 1) 3 (and_right (is h.op code.TypeVector) (word h 1 == 3) vector) in
       let typed = or_right (not ((is h.op code.TypeVector) && (word h 1 == 3))) (is_no_uint s.of.globals (word h 0)) off in
       let v = vector_parts s.of.globals h t (and_left (is h.op code.TypeVector) (word h 1 == 3) vector) shape in
       let part = row s nothing (word h 0) v.0 (earlier_is s nothing h.at (word h 0) v.0 v.2) in
       let uint = not-false (is_uint part.0) (ap (λ o. option_map_or (λ (x : Inst). not (is_uint x)) o false) (sym part.1) ∙ typed) in
       let component : plain.uint ≡ v.0 = same_Some plain.uint v.0 (sym (uint_tree part.0 uint) ∙ part.2) in
-      let unsigned : elem.Uint ≡ v.1 = same_elem elem.Uint v.1 (ap elem_of component ∙ v.3) in
+      let unsigned : elem.Uint ≡ v.1 = same_Some elem.Uint v.1 (ap elem_of component ∙ v.3) in
       v.4 ∙ ap (λ q. plain.vector q (word h 1)) (sym unsigned) ∙ ap (plain.vector elem.Uint) three
-    where
-      same_elem : (a b : Elem) → Some a ≡ Some b → a ≡ b
-      same_elem a b e = cc
 
 module _ (s : Setting) (entry : Option (List ℕ)) (right : IsConforming s.of entry) (overrides : List (ℕ × Given)) (e : Inst) (chosen_is : chosen entry s.of.heads ≡ Some e) (entry_is : s.entry ≡ word e 1) where
   abbrev source : Source
@@ -309,7 +301,7 @@ module _ (s : Setting) (entry : Option (List ℕ)) (right : IsConforming s.of en
       by_part n g in_it at (inr w) = by_place w.0 w.1 (w.1.first == n) refl (w.1.second == n) refl (w.1.third == n) refl (ap (list_any (λ (k : ℕ). k == n)) (sym w.1.whole) ∙ in_it)
         where
           at_id : (none : ℕ → Bool) (k : ℕ) → (k == n) ≡ true → is_no_part s.of none k ≡ false → (type_tree Gs g.ty ≡ Some plain.uint) × ((constant_kind g.op ≡ kinds.Word) ⊎ (constant_kind g.op ≡ kinds.SpecWord))
-          at_id none k same off = part_good none k g off (ap (global Gs) (number_is k n same) ∙ at)
+          at_id none k same off = part_good none k g off (ap (global Gs) (same_number k n same) ∙ at)
 
           by_place : (none : ℕ → Bool) (t : AreThree s.of none (size_ids source)) (x : Bool) → (t.first == n) ≡ x → (y : Bool) → (t.second == n) ≡ y → (z : Bool) → (t.third == n) ≡ z → (t.first == n || (t.second == n || (t.third == n || false))) ≡ true
               → (type_tree Gs g.ty ≡ Some plain.uint) × ((constant_kind g.op ≡ kinds.Word) ⊎ (constant_kind g.op ≡ kinds.SpecWord))

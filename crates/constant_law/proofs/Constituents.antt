@@ -9,7 +9,6 @@ use Rattle.spv_ops.specs.OpGroups.{group_of}
 use Rattle.spv_ops.specs.declared.Op.{Op}
 use Rattle.spv_ops.specs.declared.Op.TheVariants as code
 use Rattle.spv_ops.specs.declared.OpGroup.TheVariants as groups
-use Rattle.spv_words.specs.declared.rule.Rule.{Rule}
 use Rattle.spv_words.specs.declared.rule.Rule.TheVariants.{T1}
 use Rattle.spv_words.specs.declared.rule.Refusal.{Refusal}
 use Rattle.spv_module.specs.Held.{global}
@@ -35,6 +34,7 @@ use Rattle.profile_rules.specs.TypeRows.{is_vector, is_other, type_row, constant
 use Rattle.profile_rules.specs.ValueRules.{are_other_parts, are_other_members, misfit, is_other_count, is_misbuilt, breaks_t2_composite, breaks_t10}
 use Rattle.profile_rules.specs.TypeRules.{broken_if, is_value_broken, is_number_broken, is_broken_outside, broken_as, inner, broken_inside, broken_by_global, is_sound, rule_of}
 use Rattle.module_semantics.specs.Setting.{Setting}
+use Rattle.list_law.proofs.Options.{none_some}
 use Rattle.plan_law.specs.InOrder.{AreRising}
 use Rattle.fits_law.specs.Takes.{AreOfShape, AreParts, AllFit}
 use Rattle.fits_law.specs.State.{value_shape}
@@ -46,10 +46,8 @@ use Rattle.type_law.proofs.Choices.{same_count, scalar_elem}
 use Rattle.type_law.proofs.Parts.{row, earlier_is}
 use Rattle.type_law.proofs.Made.{made_takes}
 use Rattle.typed_law.proofs.Lists.{or_left, or_right, clash, none_left, none_right}
+use Rattle.typed_law.proofs.Rules.{refused}
 use Rattle.constant_law.proofs.Valued.{IsOperand, AreOperands}
-
-none_some : {A B : Type 0} {a : A} → None ≡ Some a → B
-none_some e = cc
 
 -- a function that defines nothing: in it the types of values are those of globals
 abbrev pub nothing : Function
@@ -63,10 +61,6 @@ types_same gs = λ i n. by_type (global_type gs n) i
     by_type (Some ty) = refl
 
 -- what a constant breaks that is sound: nothing
-refused : (b : Bool) (rule : Rule) (at : ℕ) → broken_if b rule at ≡ [] → b ≡ false
-refused true rule at e = cc
-refused false rule at e = refl
-
 none_broken : (rs : List Refusal) → (length rs == 0) ≡ true → rs ≡ []
 none_broken [] e = refl
 none_broken (r ∷ rs) e = elim (eqb_tells (suc (length rs)) 0) [ inl w ↦ (let never : suc (length rs) ≡ 0 = w.1 in absurd cc) | inr w ↦ (let never : true ≡ false = sym e ∙ w.0 in absurd cc) ]

@@ -3,7 +3,6 @@ use Rattle.std.proofs.Common.{◌≡◌, ◌⊎◌, ◌==◌, ◌||◌, ℕ, Boo
 use Rattle.std.specs.Prelude.{is_some, option_map, option_and_then, slice_index}
 use Rattle.std.specs.Option.{option_map_or}
 use Rattle.std.specs.List.{list_any, position_from}
-use Rattle.std.proofs.lemmas.Bool.Decides.{eqb_tells}
 use Rattle.std.proofs.lemmas.Bool.{or_left, or_right}
 use Rattle.std.proofs.lemmas.Option.{same_Some}
 use Rattle.spv_ops.specs.Opcode.{is, number}
@@ -32,33 +31,27 @@ use Rattle.glsl_semantics.specs.States.{State, Thing, value, member_of}
 use Rattle.glsl_semantics.specs.Expressions.{Program, Argument, constant_length, size_length, named, then_fetch}
 use Rattle.glsl_semantics.specs.Items.{words3, size_on}
 use Rattle.text_rules.specs.Constants.{Source, size_ids, size_now, sizes, sizes_by, axis_text, group_size_text}
+use Rattle.list_law.proofs.Options.{none_some}
+use Rattle.list_law.proofs.Numbers.{same_number, number_itself}
 use Rattle.plan_law.specs.InOrder.{IsAmong, AreRising}
 use Rattle.fits_law.proofs.Steps.{named as named_so}
 use Rattle.type_law.specs.Shaped.{HaveResults, HasConstants}
 use Rattle.global_law.specs.Sources.{source_of, chosen}
 use Rattle.global_law.proofs.Sizes.{part_value, part_is, sizes_are}
 use Rattle.lowering_law.specs.Says.{Says}
+use Rattle.path_law.proofs.Examples.{same_word}
 use Rattle.typed_law.proofs.Lists.{and_left, found_in}
 use Rattle.constant_law.specs.Items.{IsScalarSpec, AreSpecIds, AreSizes}
 use Rattle.constant_law.proofs.Valued.{IsValued, valued, IsOperand, AreOperands, operands}
 
-none_some : {A B : Type 0} {a : A} → None ≡ Some a → B
-none_some e = cc
-
-number_is : (a b : ℕ) → (a == b) ≡ true → a ≡ b
-number_is a b e = elim (eqb_tells a b) [ inl w ↦ w.1 | inr w ↦ (let never : true ≡ false = sym e ∙ w.0 in absurd cc) ]
-
-itself : (a : ℕ) → (a == a) ≡ true
-itself a = elim (eqb_tells a a) [ inl w ↦ w.0 | inr w ↦ absurd (w.1 refl) ]
-
 first : (a b c : ℕ) → list_any (λ (k : ℕ). k == a) (a ∷ b ∷ c ∷ []) ≡ true
-first a b c = or_left (a == a) (list_any (λ (k : ℕ). k == a) (b ∷ c ∷ [])) (itself a)
+first a b c = or_left (a == a) (list_any (λ (k : ℕ). k == a) (b ∷ c ∷ [])) (number_itself a)
 
 second : (a b c : ℕ) → list_any (λ (k : ℕ). k == b) (a ∷ b ∷ c ∷ []) ≡ true
-second a b c = or_right (a == b) (list_any (λ (k : ℕ). k == b) (b ∷ c ∷ [])) (or_left (b == b) (list_any (λ (k : ℕ). k == b) (c ∷ [])) (itself b))
+second a b c = or_right (a == b) (list_any (λ (k : ℕ). k == b) (b ∷ c ∷ [])) (or_left (b == b) (list_any (λ (k : ℕ). k == b) (c ∷ [])) (number_itself b))
 
 third : (a b c : ℕ) → list_any (λ (k : ℕ). k == c) (a ∷ b ∷ c ∷ []) ≡ true
-third a b c = or_right (a == c) (list_any (λ (k : ℕ). k == c) (b ∷ c ∷ [])) (or_right (b == c) (list_any (λ (k : ℕ). k == c) (c ∷ [])) (or_left (c == c) false (itself c)))
+third a b c = or_right (a == c) (list_any (λ (k : ℕ). k == c) (b ∷ c ∷ [])) (or_right (b == c) (list_any (λ (k : ℕ). k == c) (c ∷ [])) (or_left (c == c) false (number_itself c)))
 
 -- a uint is a word
 uint_word : (v : ValueTree) → fits plain.uint v ≡ true → (w : ℕ) × (v ≡ word w)
@@ -107,9 +100,6 @@ module _ (s : Setting) (overrides : List (ℕ × Given)) (have : HasConstants s 
       c : IsValued s (chosen s overrides) have results rising n (word w)
       c = valued s (chosen s overrides) have results rising n (word w) has
 
-      word_same : (a b : ℕ) → Some (word a) ≡ Some (word b) → a ≡ b
-      word_same a b e = cc
-
       by_kind : (c : IsValued s (chosen s overrides) have results rising n (word w)) → (constant_kind c.inst.op ≡ kinds.Word) ⊎ (constant_kind c.inst.op ≡ kinds.SpecWord) → part_value s.invocation (size_now overrides (size_part s.of n)) ≡ w
       by_kind c (inr spec) = part_is s overrides have results n w c.inst c.there spec has
       by_kind c (inl plain_is) =
@@ -117,7 +107,7 @@ module _ (s : Setting) (overrides : List (ℕ × Given)) (have : HasConstants s 
           let none : spec_id s.of.heads n ≡ None = subst (λ k. spec_id s.of.heads k ≡ None) own (no_spec c.inst (found_in Gs n c.inst c.there) (λ is. subst IsScalarSpec plain_is is)) in
           ap (λ o. part_value s.invocation (size_now overrides (size_by o (option_map_or (λ (g : Inst). slice_index g.args 0) (global Gs n) 0)))) none
           ∙ ap (λ o. option_map_or (λ (g : Inst). slice_index g.args 0) o 0) c.there
-          ∙ word_same (slice_index c.inst.args 0) w (ap (value_by_kind c.from (chosen s overrides c.inst.result) c.shape c.inst.args) (sym plain_is) ∙ c.made)
+          ∙ same_word (slice_index c.inst.args 0) w (ap (value_by_kind c.from (chosen s overrides c.inst.result) c.shape c.inst.args) (sym plain_is) ∙ c.made)
 
   -- the parts of the module's size are those of these ids
   group_parts : (a b c : ℕ) → size_ids source ≡ a ∷ b ∷ c ∷ [] → group_size s.of s.entry ≡ size_part s.of a ∷ size_part s.of b ∷ size_part s.of c ∷ []
@@ -230,9 +220,9 @@ module _ (s : Setting) (overrides : List (ℕ × Given)) (have : HasConstants s 
           subst (λ q. IsPartOf h q v) same_axis (record { typed_as = shape; count = w.0; value_is = w.1; counted = number w.0 (ap s.constants same_id ∙ has ∙ ap (λ q. Some q) w.1); one = one })
 
       by_place : (a b d : ℕ) → size_ids source ≡ a ∷ b ∷ d ∷ [] → (x y w : Bool) → (a == h.result) ≡ x → (b == h.result) ≡ y → (d == h.result) ≡ w → (if x then Some 0 else (if y then Some 1 else (if w then Some 2 else None))) ≡ Some axis → IsPartOf h axis v
-      by_place a b d e true y w first_is second_is third_is at = by_axis 0 a (number_is a h.result first_is) (subst (λ l. list_any (λ (k : ℕ). k == a) l ≡ true) (sym e) (first a b d)) (axes_have a b d e).0 (inl refl) (same_Some 0 axis at)
-      by_place a b d e false true w first_is second_is third_is at = by_axis 1 b (number_is b h.result second_is) (subst (λ l. list_any (λ (k : ℕ). k == b) l ≡ true) (sym e) (second a b d)) (axes_have a b d e).1 (inr (inl refl)) (same_Some 1 axis at)
-      by_place a b d e false false true first_is second_is third_is at = by_axis 2 d (number_is d h.result third_is) (subst (λ l. list_any (λ (k : ℕ). k == d) l ≡ true) (sym e) (third a b d)) (axes_have a b d e).2 (inr (inr refl)) (same_Some 2 axis at)
+      by_place a b d e true y w first_is second_is third_is at = by_axis 0 a (same_number a h.result first_is) (subst (λ l. list_any (λ (k : ℕ). k == a) l ≡ true) (sym e) (first a b d)) (axes_have a b d e).0 (inl refl) (same_Some 0 axis at)
+      by_place a b d e false true w first_is second_is third_is at = by_axis 1 b (same_number b h.result second_is) (subst (λ l. list_any (λ (k : ℕ). k == b) l ≡ true) (sym e) (second a b d)) (axes_have a b d e).1 (inr (inl refl)) (same_Some 1 axis at)
+      by_place a b d e false false true first_is second_is third_is at = by_axis 2 d (same_number d h.result third_is) (subst (λ l. list_any (λ (k : ℕ). k == d) l ≡ true) (sym e) (third a b d)) (axes_have a b d e).2 (inr (inr refl)) (same_Some 2 axis at)
       by_place a b d e false false false first_is second_is third_is at = none_some at
 
       by_three : (size_ids source ≡ []) ⊎ ((a : ℕ) × (b : ℕ) × (c : ℕ) × (size_ids source ≡ a ∷ b ∷ c ∷ [])) → IsPartOf h axis v

@@ -3,7 +3,7 @@ use Rattle.std.proofs.Common.{◌≡◌, ◌<◌, ◌≤◌, ◌+◌, ◌==◌, 
 use Rattle.std.specs.Prelude.{◌⊎◌, ◌-◌, nat_le, nat_lt, is_some, slice_index}
 use Rattle.std.specs.Option.{option_map_or}
 use Rattle.std.specs.List.{list_any, enumerate_from}
-use Rattle.std.proofs.lemmas.Bool.Decides.{eqb_tells, nat_tests}
+use Rattle.std.proofs.lemmas.Bool.Decides.{nat_tests}
 use Rattle.std.proofs.lemmas.Bool.{and_from, false_from_ne_true, not-false, or_cases}
 use Rattle.std.proofs.lemmas.Option.{same_Some}
 use Rattle.spv_ops.specs.Opcode.{is, number}
@@ -19,6 +19,7 @@ use Rattle.spv_module.specs.declared.inst.Inst.{Inst}
 use Rattle.spv_types.specs.Types.{earlier}
 use Rattle.profile_rules.specs.declared.needs.Need.{Need}
 use Rattle.profile_rules.specs.Operands.{need, type_need, suits, is_there, lacks_operand}
+use Rattle.list_law.proofs.Numbers.{less_is, same_number}
 use Rattle.plan_law.specs.InOrder.{IsAmong, AreRising}
 use Rattle.text_rules.specs.Constants.{Source, is_constant, reading, free_spec_id}
 use Rattle.text_rules.specs.Printed.{is_named, has_operand, has_operand_from, declares, needed_with, needed_from}
@@ -27,9 +28,6 @@ use Rattle.typed_law.proofs.Lists.{or_left, or_right, and_left, and_right, and_o
 use Rattle.typed_law.proofs.Rules.{global_there}
 use Rattle.typed_law.proofs.Sized.{rising_low}
 use Rattle.typed_law.proofs.Used.{global_found}
-
-number_is : (a b : ℕ) → (a == b) ≡ true → a ≡ b
-number_is a b e = elim (eqb_tells a b) [ inl w ↦ w.1 | inr w ↦ (let never : true ≡ false = sym e ∙ w.0 in absurd cc) ]
 
 -- an operand is an id that is there
 operand_there : (there : Need → ℕ → Bool) (i : Inst) (n : ℕ) (ps : List (ℕ × ℕ)) → list_any (lacks_operand there i) ps ≡ false → list_any (λ (p : ℕ × ℕ). is_id i.op i.args p.0 && (p.1 == n)) ps ≡ true → (which : Need) × (there which n ≡ true)
@@ -41,7 +39,7 @@ operand_there there i n (p ∷ ps) off on =
     by_first : ((is_id i.op i.args p.0 && (p.1 == n)) ≡ true) ⊎ (list_any (λ (p : ℕ × ℕ). is_id i.op i.args p.0 && (p.1 == n)) ps ≡ true) → (is_id i.op i.args p.0 && not (there (need i.op p.0) p.1)) ≡ false
         → (list_any (λ (p : ℕ × ℕ). is_id i.op i.args p.0 && (p.1 == n)) ps ≡ true → (which : Need) × (there which n ≡ true)) → (which : Need) × (there which n ≡ true)
     by_first (inl own) first later =
-        let same = number_is p.1 n (and_right (is_id i.op i.args p.0) (p.1 == n) own) in
+        let same = same_number p.1 n (and_right (is_id i.op i.args p.0) (p.1 == n) own) in
         let on = not-false (there (need i.op p.0) p.1) (and_off (is_id i.op i.args p.0) (not (there (need i.op p.0) p.1)) first (and_left (is_id i.op i.args p.0) (p.1 == n) own)) in
         (need i.op p.0, subst (λ k. there (need i.op p.0) k ≡ true) same on)
     by_first (inr more) first later = later more
@@ -112,11 +110,8 @@ module _ (g : Inst) (o : Op) (on : is g.op code.SpecConstantOp ≡ true) (at : i
       by_part (IdsFirst n) is = by_places g (take n (drop 1 g.args)) (λ j less.
           let a = take_place n (drop 1 g.args) j less in
           let b = drop_place 1 g.args j a.1 in
-          let part : is_in_part (operands o) j ≡ true = ap (λ q. is_in_part q j) is ∙ below j n a.2 in
+          let part : is_in_part (operands o) j ≡ true = ap (λ q. is_in_part q j) is ∙ less_is j n a.2 in
           subst (λ q. has_operand g q ≡ true) (sym (a.0 ∙ b.0)) (operand_inside j b.1 part))
-        where
-          below : (j n : ℕ) → j < n → nat_lt j n ≡ true
-          below j n less = grind (arith, nat_tests, less)
       by_part (LiteralsFirst n) is = by_places g (drop n (drop 1 g.args)) (λ j less.
           let a = drop_place n (drop 1 g.args) j less in
           let b = drop_place 1 g.args (n + j) a.1 in

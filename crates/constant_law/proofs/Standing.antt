@@ -35,6 +35,8 @@ use Rattle.profile_rules.specs.Entry.{is_size_composite}
 use Rattle.profile_rules.specs.TypeRules.{is_sound}
 use Rattle.module_semantics.specs.Setting.{Setting}
 use Rattle.module_semantics.specs.Memory.{array_length}
+use Rattle.list_law.proofs.Options.{none_some}
+use Rattle.list_law.proofs.Numbers.{number_same}
 use Rattle.plan_law.specs.InOrder.{IsAmong, AreRising}
 use Rattle.plan_law.proofs.Order.{among_left as inst_left}
 use Rattle.fits_law.proofs.Steps.{named as named_so}
@@ -86,9 +88,6 @@ use Rattle.constant_law.proofs.GroupSizes.{size_value, size_has, part_is_of, par
 use Rattle.constant_law.proofs.Reading.{size_reading, part_reading, reads_says}
 use Rattle.constant_law.proofs.Written.{IsHeld, held_member, own_type, held_by, struct_written}
 
-none_some : {A B : Type 0} {a : A} → None ≡ Some a → B
-none_some e = cc
-
 pub bytes_off : (a b : Text) → (a ≡ b → ⊥) → bytes_eq a b ≡ false
 bytes_off a b off = by_test (bytes_eq a b) refl
   where
@@ -117,7 +116,7 @@ kind_constant code.SpecConstant far = refl
 kind_constant code.SpecConstantOp far = refl
 kind_constant o far = absurd (far refl)
 
-composite_ids : (o : Op) (args : List ℕ) (k : ℕ) → constant_kind o ≡ kinds.Composite → is_id o args k ≡ true
+pub composite_ids : (o : Op) (args : List ℕ) (k : ℕ) → constant_kind o ≡ kinds.Composite → is_id o args k ≡ true
 unfolding constant_kind is_id
 composite_ids code.ConstantComposite args k e = from_zero k
 composite_ids code.SpecConstantComposite args k e = from_zero k
@@ -405,9 +404,6 @@ module _ (s : Setting) (entry : Option (List ℕ)) (overrides : List (ℕ × Giv
 
         needed : is_needed source r c.result ≡ true
         needed = needed_kept source (needs_constant source r) Gs c.result (or_right (list_any (λ (m : ℕ). m == c.result) r.mentions) _ (or_left (list_any (is_length_of c.result) Gs) _ (any_among (is_length_of c.result) Gs w.array w.among (and_from (is w.array.op code.TypeArray) (slice_index w.array.args 1 == c.result) w.opcode (number_same (slice_index w.array.args 1) c.result (w.length ∙ sym itself))))))
-          where
-            number_same : (a b : ℕ) → a ≡ b → (a == b) ≡ true
-            number_same a b e = grind (arith, nat_tests, e)
 
         by_reading : (q : Reading) → reading source c ≡ q → with_extent d.program (length_extent source names (Spec (id n))) u ≡ shapes.array u (array_length s n)
         by_reading Plain reads = plain_extent s overrides key d.program u n c w.there asked.have asked.right.results told.0 reads told.1 told.2

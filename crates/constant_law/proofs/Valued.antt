@@ -13,13 +13,11 @@ use Rattle.op_semantics.specs.Fits.{fits}
 use Rattle.profile_rules.specs.TypeRules.{is_sound}
 use Rattle.profile_rules.specs.Constants.{constant_kind, value_by_kind, if_fits, shaped_value, value_step, with_value}
 use Rattle.module_semantics.specs.Setting.{Setting}
+use Rattle.list_law.proofs.Options.{none_some}
 use Rattle.plan_law.specs.InOrder.{AreRising, HaveNot}
 use Rattle.fits_law.proofs.Operations.{before_some}
 use Rattle.type_law.specs.Shaped.{EachFound, HaveResults, HasConstants}
 use Rattle.typed_law.proofs.Lists.{some_part}
-
-none_some : {A B : Type 0} {a : A} → None ≡ Some a → B
-none_some e = cc
 
 module _ (gs : List Inst) (step : (ℕ → Option ValueTree) → Inst → Option ValueTree) where
   -- what has a value keeps it, where no later instruction has its id

@@ -1,9 +1,9 @@
 -- Private variables of a text begin with the values with which they begin in the module, and begin paths.
-use Rattle.std.proofs.Common.{◌≡◌, ◌<◌, ◌+◌, ◌++◌, ◌==◌, ◌||◌, ◌&&◌, ℕ, suc, Bool, true, false, List, [], ◌∷◌, length, not, Option, Some, None, inl, inr, refl, sym, ap, ap₂, ◌∙◌, subst, if◌then◌else◌, arith}
+use Rattle.std.proofs.Common.{◌≡◌, ◌<◌, ◌+◌, ◌++◌, ◌==◌, ◌||◌, ◌&&◌, ℕ, suc, true, false, List, [], ◌∷◌, length, not, Option, Some, None, inl, inr, refl, sym, ap, ap₂, ◌∙◌, subst, if◌then◌else◌, arith}
 use Rattle.std.specs.Prelude.{flat_map, is_some, nat_lt, option_and_then, slice_get, slice_index, unwrap_or}
 use Rattle.std.specs.Option.{option_map_or}
 use Rattle.std.specs.List.{list_any}
-use Rattle.std.proofs.lemmas.Bool.Decides.{eqb_tells, nat_tests}
+use Rattle.std.proofs.lemmas.Bool.Decides.{nat_tests}
 use Rattle.std.proofs.lemmas.List.Concat.{flat_map-cons}
 use Rattle.std.proofs.lemmas.Bool.{and_from, and_left as first_off, not-false, or_left, or_right as or_on_right}
 use Rattle.std.proofs.lemmas.Option.{same_Some}
@@ -33,6 +33,9 @@ use Rattle.module_semantics.specs.Setting.{Setting, global_variable}
 use Rattle.module_semantics.specs.State.{global as root}
 use Rattle.module_semantics.specs.Memory.{variable_type}
 use Rattle.module_semantics.specs.Accesses.{initial_private}
+use Rattle.list_law.proofs.Lists.{second_at}
+use Rattle.list_law.proofs.Tests.{and_none}
+use Rattle.list_law.proofs.Numbers.{same_number}
 use Rattle.plan_law.specs.InOrder.{IsAmong, AreRising}
 use Rattle.plan_law.proofs.Order.{among_left as inst_left}
 use Rattle.name_alloc.specs.declared.claims.Key.{Key}
@@ -56,13 +59,14 @@ use Rattle.path_law.specs.Starts.{IsPrivate}
 use Rattle.path_law.proofs.Starts.{outside_is}
 use Rattle.lowering_law.specs.Says.{Says}
 use Rattle.fits_law.proofs.Steps.{named as named_so}
-use Rattle.typed_law.proofs.Lists.{or_right, and_left, and_right, and_off, found_in, clash}
+use Rattle.typed_law.proofs.Lists.{or_right, and_left, and_right, and_off, found_in}
 use Rattle.typed_law.proofs.Rules.{initializer_right}
 use Rattle.typed_law.proofs.Sized.{rising_low}
 use Rattle.global_law.specs.Sources.{source_of, chosen}
 use Rattle.global_law.proofs.Blocks.{items_more, type_declared}
 use Rattle.global_law.proofs.Privates.{IsOtherVariable, AreOtherVariables, items_find, private_there, own_value, zero_begins, given_first, zero_first}
 use Rattle.global_law.proofs.Zeros.{HasZero, is_declared, zero_lengths}
+use Rattle.global_law.proofs.Shared.{no_other}
 use Rattle.constant_law.specs.Items.{key_text, AreAsked}
 use Rattle.constant_law.proofs.Valued.{IsValued, valued}
 use Rattle.constant_law.proofs.Needed.{operand_at, operand_earlier}
@@ -70,9 +74,6 @@ use Rattle.constant_law.proofs.Constituents.{nothing}
 use Rattle.constant_law.proofs.Reading.{reads_says}
 use Rattle.constant_law.proofs.Standing.{N, HasNoVariable, Stands, own, constant_op, declared_by as declared_if, constant_hidden, size_hidden, other_variables, needed_kept, bytes_off, same_item, variable_is_item, any_among}
 use Rattle.constant_law.proofs.Constants.{IsFunction, AreFunctions, first, stands_before, zero_before}
-
-number_is : (a b : ℕ) → (a == b) ≡ true → a ≡ b
-number_is a b e = elim (eqb_tells a b) [ inl w ↦ w.1 | inr w ↦ clash (sym e ∙ w.0) ]
 
 pub variable_id : (o : Op) (args : List ℕ) (k : ℕ) → is o code.Variable ≡ true → is_id o args (suc k) ≡ true
 unfolding number is_id
@@ -88,15 +89,6 @@ variable_no_constant : (o : Op) → is o code.Variable ≡ true → is_constant_
 unfolding number
 variable_no_constant code.Variable on = refl
 variable_no_constant o on = cc
-
-never : (a : Bool) → (a && false) ≡ false
-never true = refl
-never false = refl
-
-pub second_at : (args : List ℕ) (n : ℕ) → slice_get args 1 ≡ Some n → (1 < length args) × (slice_index args 1 ≡ n)
-second_at [] n e = cc
-second_at (a ∷ []) n e = cc
-second_at (a ∷ b ∷ args) n e = ((let low : 1 < suc (suc (length args)) = omega arith in low), let same : b ≡ n = cc in same)
 
 function_finds : (i : Decl) (x : Text) → IsFunction i → IsOtherVariable x i
 function_finds (Decl.struct w fs) x on = absurd on
@@ -167,7 +159,7 @@ module _ (s : Setting) (entry : Option (List ℕ)) (overrides : List (ℕ × Giv
     variable = and_left (is v.op code.Variable) (printed.class v == class_number storage.Private) private
 
     class : printed.class v ≡ class_number storage.Private
-    class = number_is (printed.class v) (class_number storage.Private) (and_right (is v.op code.Variable) (printed.class v == class_number storage.Private) private)
+    class = same_number (printed.class v) (class_number storage.Private) (and_right (is v.op code.Variable) (printed.class v == class_number storage.Private) private)
 
     written : is_written_variable r v ≡ true
     written = and_from (is_private v || (is_shared v || is_block_variable v)) (is_operand_in r.functions v.result) (or_left (is_private v) (is_shared v || is_block_variable v) private) mentioned
@@ -182,15 +174,11 @@ module _ (s : Setting) (entry : Option (List ℕ)) (overrides : List (ℕ × Giv
     declares_private =
         let no_struct : is_written_struct source r v ≡ false = first_off (is v.op code.TypeStruct) (not (is_block s.of.heads v.result) && list_any (type_has_struct Gs v.result) (written_types source r)) (variable_no_struct v.op variable) in
         let no_constant : is_declared_constant source r v ≡ false = first_off (is_constant_op v.op) (is_named (reading source v) && (is_some (free_spec_id source v.result) || is_needed source r v.result)) (variable_no_constant v.op variable) in
-        let no_block : block_of Gs v ≡ None = none_if (is v.op code.Variable && is_block_class (slice_index v.args 0)) (option_and_then as_struct (option_and_then (global_inst Gs) (pointee Gs v.ty))) (ap (λ n. is v.op code.Variable && is_block_class n) class ∙ never (is v.op code.Variable)) in
+        let no_block : block_of Gs v ≡ None = no_other (is v.op code.Variable && is_block_class (slice_index v.args 0)) (option_and_then as_struct (option_and_then (global_inst Gs) (pointee Gs v.ty))) (ap (λ n. is v.op code.Variable && is_block_class n) class ∙ and_none (is v.op code.Variable)) in
         ap (λ b. if b then struct_decl source Ns v ∷ [] else (if is_declared_constant source r v then constant_decl source Ns v ∷ [] else (if is_written_variable r v then variable_decl source Ns v (block_of Gs v) else []))) no_struct
         ∙ ap (λ b. if b then constant_decl source Ns v ∷ [] else (if is_written_variable r v then variable_decl source Ns v (block_of Gs v) else [])) no_constant
         ∙ ap₂ (λ b o. if b then variable_decl source Ns v o else []) written no_block
         ∙ ap (λ b. (if b then items.global (type_at source Ns (pointee_at source v.ty)) (names v.result) (initial source Ns v) else items.shared (type_at source Ns (pointee_at source v.ty)) (names v.result)) ∷ []) private
-      where
-        none_if : (b : Bool) (o : Option Inst) → b ≡ false → (if b then o else None) ≡ None
-        none_if true o e = cc
-        none_if false o e = refl
 
     module _ (q : ℕ) (t : Tree) (points : pointee Gs v.ty ≡ Some q) (shape : type_tree Gs q ≡ Some t) where
       zero_is : HasZero D.program s source key t
@@ -254,7 +242,7 @@ module _ (s : Setting) (entry : Option (List ℕ)) (overrides : List (ℕ × Giv
               (and_off (is v.op code.Variable && nat_lt 1 (length v.args)) (not ((word v 0 == class_number storage.Function) || (word v 0 == class_number storage.Private)) || is_other_value s.of v (word v 1)) (initializer_right s.of entry asked.right v (inst_left v Gs (local_insts s.of) there)) (and_from (is v.op code.Variable) (nat_lt 1 (length v.args)) variable (let inside = place.0 in above (length v.args) inside))) in
               let row : global_inst Gs (word v 1) ≡ Some h = ap (global_inst Gs) place.1 ∙ c.there in
               let other = or_right (not (is_constant_op h.op)) (is_of_other_type Gs v h) (ap (λ o. option_map_or (λ (g : Inst). not (is_constant_op g.op) || is_of_other_type Gs v g) o (is_defined_elsewhere s.of (word v 1))) (sym row) ∙ off) in
-              number_is h.ty q (not-false (h.ty == q) (ap (λ o. option_map_or (λ (k : ℕ). not (h.ty == k)) o false) (sym points) ∙ other))
+              same_number h.ty q (not-false (h.ty == q) (ap (λ o. option_map_or (λ (k : ℕ). not (h.ty == k)) o false) (sym points) ∙ other))
             where
               above : (n : ℕ) → 1 < n → nat_lt 1 n ≡ true
               above n less = grind (arith, nat_tests, less)
@@ -312,4 +300,4 @@ module _ (s : Setting) (entry : Option (List ℕ)) (overrides : List (ℕ × Giv
           no_expr =
               ap (option_and_then (global_by source names)) (own s entry overrides found_key r asked v there)
               ∙ ap (λ b. if b then Some (constant_expr source names v) else (if is_input v then Some (name (built_in_text (unwrap_or (value_of s.of.heads v.result (decoration_number decoration.BuiltIn)) 0))) else None)) (variable_no_constant v.op variable)
-              ∙ ap (λ b. if b then Some (name (built_in_text (unwrap_or (value_of s.of.heads v.result (decoration_number decoration.BuiltIn)) 0))) else None) (ap (λ n. is v.op code.Variable && (n == class_number storage.Input)) class ∙ never (is v.op code.Variable))
+              ∙ ap (λ b. if b then Some (name (built_in_text (unwrap_or (value_of s.of.heads v.result (decoration_number decoration.BuiltIn)) 0))) else None) (ap (λ n. is v.op code.Variable && (n == class_number storage.Input)) class ∙ and_none (is v.op code.Variable))

@@ -33,18 +33,19 @@ use Rattle.spv_index.specs.ValueTypes.{other_by, other_step, with_other, is_no_v
 use Rattle.profile_rules.specs.Operands.{need, type_need, suits, is_there}
 use Rattle.profile_rules.specs.Places.{is_among, is_variable, body_insts}
 use Rattle.profile_rules.specs.TypeForm.{parts_of, value_type, value_types, signature_types, pointee_by, pointees, block_misuses, runtime_misuses}
+use Rattle.list_law.proofs.Options.{none_some}
 use Rattle.plan_law.specs.InOrder.{IsAmong}
 use Rattle.plan_law.proofs.Order.{among_left as inst_left}
 use Rattle.fits_law.proofs.Steps.{named}
 use Rattle.type_law.proofs.Parts.{struct_kind}
+use Rattle.path_law.proofs.Types.{spec_is}
 use Rattle.typed_law.specs.Conforms.{IsConforming}
 use Rattle.typed_law.proofs.Lists.{or_left, or_right, and_off, found_in, earlier_some, some_by, from_zero}
 use Rattle.typed_law.proofs.Rules.{type_there, operand_there, global_there, used_type}
-use Rattle.typed_law.proofs.Used.{among_left, among_right, global_found}
+use Rattle.typed_law.proofs.Used.{among_left, among_right, global_found, among_flat}
+use Rattle.typed_law.proofs.Types.{pointer_id}
+use Rattle.typed_law.proofs.Calls.{variable_typed}
 use Rattle.constant_law.specs.Within.{IsStructBefore, IsLengthBefore, IsWithin, AreWithin, IsNoBlock, Anything}
-
-none_some : {A B : Type 0} {a : A} → None ≡ Some a → B
-none_some e = cc
 
 middle_off : (a b c d : Bool) → a ≡ true → c ≡ true → (a && b && c || d) ≡ false → b ≡ false
 middle_off true false c d on has e = refl
@@ -63,34 +64,15 @@ unfolding kind is_id
 array_ids code.TypeArray args k e = from_zero k
 array_ids o args k e = cc
 
-pointer_id : (o : Op) (args : List ℕ) → is o code.TypePointer ≡ true → is_id o args 1 ≡ true
-unfolding number is_id
-pointer_id code.TypePointer args e = refl
-pointer_id o args e = cc
-
 pub typed_constant : (o : Op) → is_constant_op o ≡ true → has_type o ≡ true
 unfolding shape
 typed_constant code.ConstantTrue on = refl
 typed_constant o on = cc
 
-typed_variable : (o : Op) → is o code.Variable ≡ true → has_type o ≡ true
-unfolding shape number
-typed_variable code.Variable on = refl
-typed_variable o on = cc
-
 pub constant_no_variable : (o : Op) → is_constant_op o ≡ true → is o code.Variable ≡ false
 unfolding number
 constant_no_variable code.Variable on = cc
 constant_no_variable o on = refl
-
-spec_is : (o : Op) (q w : ℕ) (l : Id) → length_of o q w ≡ Some (Spec l) → l.0 ≡ q
-spec_is code.Constant q w l e = cc
-spec_is code.SpecConstantTrue q w l e = let same : record { 0 = q } ≡ l = cc in ap (λ (x : Id). x.0) (sym same)
-spec_is code.SpecConstantFalse q w l e = let same : record { 0 = q } ≡ l = cc in ap (λ (x : Id). x.0) (sym same)
-spec_is code.SpecConstant q w l e = let same : record { 0 = q } ≡ l = cc in ap (λ (x : Id). x.0) (sym same)
-spec_is code.SpecConstantComposite q w l e = let same : record { 0 = q } ≡ l = cc in ap (λ (x : Id). x.0) (sym same)
-spec_is code.SpecConstantOp q w l e = let same : record { 0 = q } ≡ l = cc in ap (λ (x : Id). x.0) (sym same)
-spec_is o q w l e = cc
 
 spec_other : (o : Op) (q w : ℕ) (l : Id) → length_of o q w ≡ Some (Spec l) → is o code.Constant ≡ false
 unfolding number
@@ -113,15 +95,10 @@ two_to_four n a b = by_number n (let low : 2 ≤ n = grind (arith, nat_tests, a)
     by_number (suc (suc (suc (suc zero)))) low high = inr (inr refl)
     by_number (suc (suc (suc (suc (suc n))))) low high = absurd (omega (arith, high))
 
-other_struct : (heads gs : List Inst) (f : ℕ → Bool) (g : Inst) (o : Op) → is o code.TypeStruct ≡ true → other_by heads gs f g o ≡ false → is_block heads g.result ≡ false
+pub other_struct : (heads gs : List Inst) (f : ℕ → Bool) (g : Inst) (o : Op) → is o code.TypeStruct ≡ true → other_by heads gs f g o ≡ false → is_block heads g.result ≡ false
 unfolding number
 other_struct heads gs f g code.TypeStruct on off = or_left (is_block heads g.result) (list_any f g.args) off
 other_struct heads gs f g o on off = cc
-
-among_flat : (f : Inst → List ℕ) (xs : List Inst) (x : Inst) (p : ℕ) → IsAmong x xs → is_among (f x) p ≡ true → is_among (flat_map f xs) p ≡ true
-among_flat f [] x p there own = absurd there
-among_flat f (y ∷ xs) x p (inl same) own = among_left (f y) (flat_map f xs) p (subst (λ z. is_among (f z) p ≡ true) (sym same) own)
-among_flat f (y ∷ xs) x p (inr there) own = among_right (f y) (flat_map f xs) p (among_flat f xs x p there own)
 
 -- of a later word as well
 module _ (Q : Inst → Type 0) (m : ModuleState) (n k : ℕ) (le : n ≤ k) where
@@ -356,7 +333,7 @@ module _ (m : ModuleState) (entry : Option (List ℕ)) (right : IsConforming m e
   pointee_before v q h there on at here = by_pointer (is c.0.op code.TypePointer) refl (ap (λ o. option_map (λ (p : Inst). slice_index p.args 1) (option_and_then as_pointer o)) (sym c.1) ∙ at)
     where
       c : (p : Inst) × (global Gs v.ty ≡ Some p) × (p.at < v.at)
-      c = type_before v there (typed_variable v.op on)
+      c = type_before v there (variable_typed v.op on)
 
       by_pointer : (b : Bool) → is c.0.op code.TypePointer ≡ b → option_map (λ (p : Inst). slice_index p.args 1) (if b then Some c.0 else None) ≡ Some q → h.at < v.at
       by_pointer true pointer e =

@@ -19,6 +19,7 @@ use Rattle.spv_index.specs.Pointers.{pointee, as_pointer}
 use Rattle.spv_index.specs.BlockStructs.{is_block}
 use Rattle.profile_rules.specs.declared.given.Given.{Given}
 use Rattle.module_semantics.specs.Setting.{Setting}
+use Rattle.list_law.proofs.Options.{none_some}
 use Rattle.plan_law.specs.InOrder.{IsAmong}
 use Rattle.fits_law.proofs.Steps.{named}
 use Rattle.text_rules.specs.Constants.{Source}
@@ -28,9 +29,6 @@ use Rattle.typed_law.proofs.Lists.{clash}
 use Rattle.global_law.specs.Sources.{source_of}
 use Rattle.constant_law.specs.Within.{IsStructBefore, IsWithin, AreWithin, IsNoBlock, Anything}
 use Rattle.constant_law.proofs.Within.{any_within}
-
-none_some : {A B : Type 0} {a : A} → None ≡ Some a → B
-none_some e = cc
 
 -- tests of lists
 any_more : (P Q : ℕ → Bool) → ((x : ℕ) → P x ≡ true → Q x ≡ true) → (xs : List ℕ) → list_any P xs ≡ true → list_any Q xs ≡ true

@@ -5,8 +5,7 @@ use Rattle.std.specs.List.{list_any}
 use Rattle.std.proofs.lemmas.Slice.Eq.{bytes_eq-Decides}
 use Rattle.std.proofs.lemmas.Bool.Decides.{nat_tests}
 use Rattle.std.proofs.lemmas.Bool.{and_from, or_left, or_right}
-use Rattle.spv_ops.specs.Opcode.{is, number}
-use Rattle.spv_ops.specs.declared.Op.{Op}
+use Rattle.spv_ops.specs.Opcode.{is}
 use Rattle.spv_ops.specs.Groups.{is_constant as is_constant_op}
 use Rattle.spv_ops.specs.declared.Op.TheVariants as code
 use Rattle.spv_module.specs.Lists.{id}
@@ -18,6 +17,7 @@ use Rattle.spv_index.specs.Pointers.{pointee}
 use Rattle.spv_index.specs.BlockStructs.{is_block, is_some_block}
 use Rattle.profile_rules.specs.declared.given.Given.{Given}
 use Rattle.module_semantics.specs.Setting.{Setting}
+use Rattle.list_law.proofs.Tests.{and_left}
 use Rattle.plan_law.specs.InOrder.{IsAmong}
 use Rattle.fits_law.specs.Takes.{nth_of}
 use Rattle.fits_law.proofs.Steps.{named}
@@ -39,33 +39,16 @@ use Rattle.constant_law.specs.Within.{IsStructBefore, IsWithin, AreWithin, IsNoB
 use Rattle.constant_law.specs.Items.{key_text, is_item, HaveNames}
 use Rattle.constant_law.proofs.Within.{constant_within, pointee_within, members_unblocked}
 use Rattle.constant_law.proofs.Written.{IsHeld, own_type, pointed_type, held_by, struct_written}
+use Rattle.constant_law.proofs.Standing.{any_among}
 use Rattle.claim_law.specs.Claimed.{IsIn, HasKey, HasName}
 use Rattle.claim_law.proofs.Keys.{struct_claimed, member_claimed, constant_claimed, variable_claimed}
-
--- neither a constant nor a variable is a struct
-no_struct : (o : Op) → is_constant_op o ≡ true → is o code.TypeStruct ≡ false
-unfolding number
-no_struct code.TypeStruct on = cc
-no_struct o on = refl
-
-variable_no_struct : (o : Op) → is o code.Variable ≡ true → is o code.TypeStruct ≡ false
-unfolding number
-variable_no_struct code.Variable on = refl
-variable_no_struct o on = cc
+use Rattle.claim_law.proofs.Constants.{no_struct}
+use Rattle.claim_law.proofs.Variables.{variable_no_struct}
 
 -- a name that begins with a reserved prefix
 size_reserved : has_prefix group_size_text ≡ true
 unfolding has_prefix
 size_reserved = refl
-
-and_left : (a b : Bool) → (a && b) ≡ true → a ≡ true
-and_left true b e = refl
-and_left false b e = cc
-
-any_one : (test : Inst → Bool) (gs : List Inst) (g : Inst) → IsAmong g gs → test g ≡ true → list_any test gs ≡ true
-any_one test [] g there on = absurd there
-any_one test (h ∷ gs) g (inl same) on = or_left (test h) (list_any test gs) (ap test same ∙ on)
-any_one test (h ∷ gs) g (inr there) on = or_right (test h) (list_any test gs) (any_one test gs g there on)
 
 in_among : (g : Inst) (gs : List Inst) → IsAmong g gs → IsIn g gs
 in_among g [] there = absurd there
@@ -233,7 +216,7 @@ module _ (s : Setting) (entry : Option (List ℕ)) (right : IsConforming s.of en
   -- and with a block
   pub block_members : (v g : Inst) (ts : Trees) → IsAmong v Gs → is_written_variable r v ≡ true → IsAmong g Gs → is g.op code.TypeStruct ≡ true → has_block source g.result v ≡ true → pointee Gs v.ty ≡ Some g.result → type_tree Gs g.result ≡ Some (plain.struct g.result ts) → all_trees (tree_before Gs g.at) g.args ≡ Some ts → HasMembersApart (struct_names key) (plain.struct g.result ts)
   block_members v g ts there on among struct block at shape all = (
-    claimed_apart g ts (in_among g Gs among) struct (or_right (is_written_struct source r g) (is_written_block source r g.result) (any_one (λ (x : Inst). is_written_variable r x && has_block source g.result x) Gs v there (and_from (is_written_variable r v) (has_block source g.result v) on block))) all,
+    claimed_apart g ts (in_among g Gs among) struct (or_right (is_written_struct source r g) (is_written_block source r g.result) (any_among (λ (x : Inst). is_written_variable r x && has_block source g.result x) Gs v there (and_from (is_written_variable r v) (has_block source g.result v) on block))) all,
     have_apart g.at ts (members_unblocked s.of entry right g ts among struct all)
         (λ j has. held_by s entry right overrides r v j there (or_left (is_written_variable r v) (is_declared_constant source r v) on) (pointed_type s entry right overrides r v.ty g.result j (plain.struct g.result ts) at shape (or_right (g.result == j) (have_struct j ts) has))),
   )

@@ -18,6 +18,8 @@ use Rattle.spv_index.specs.Locals.{insts_of, inst_in, parameter_in}
 use Rattle.structure_rules.specs.declared.graph.Node.{Node}
 use Rattle.profile_rules.specs.declared.given.Given.{Given}
 use Rattle.profile_rules.specs.MemoryRules.{is_pointer, is_own_memory}
+use Rattle.list_law.proofs.Tests.{and_none, no_flip, second_by}
+use Rattle.list_law.proofs.Options.{none_or_some}
 use Rattle.plan_law.specs.InOrder.{IsAmong}
 use Rattle.hoist_plan.specs.declared.form.Form.{Form}
 use Rattle.hoist_plan.specs.declared.form.Form.TheVariants.{Gone, Forwarded, Local, Hoisted}
@@ -38,10 +40,6 @@ use Rattle.ruled_law.proofs.Ruled.{contains_of, parameter_of}
 use Rattle.naming_law.specs.Alone.{AreAlone}
 use Rattle.naming_law.specs.Names.{is_other, is_result, is_value_parameter, is_variable_name, is_local_form, is_written_private, keeps, names_by}
 
-pub no_flip : {A : Type 0} (t : Bool) → t ≡ true → t ≡ false → A
-no_flip true on off = cc
-no_flip false on off = cc
-
 -- of a function of a conforming module
 module _ (s : Setting) (entry : Option (List ℕ)) (right : IsConforming s.of entry) (f : Function) (is_one : IsFunctionOf f s.of.functions) where
   in_it : Contains s.of.functions f
@@ -54,9 +52,6 @@ module _ (s : Setting) (entry : Option (List ℕ)) (right : IsConforming s.of en
       by_inst None e = e
       by_inst (Some i) e = absurd (far i (found_in (insts_of f) n i e) (named (insts_of f) n i e))
 
-  no_some : {A : Type 0} (o : Option A) (a : A) → o ≡ None → o ≡ Some a → ⊥
-  no_some o a none some = let never : None ≡ Some a = sym none ∙ some in cc
-
   pub are_alone : AreAlone s.of.globals f
   are_alone = record {
     parameters = λ n on.
@@ -66,22 +61,14 @@ module _ (s : Setting) (entry : Option (List ℕ)) (right : IsConforming s.of en
               no_flip (is_parameter f n) on (ap (is_parameter f) (sym same) ∙ ap is_some ((inside s entry right f in_it).order.own i there some).made)),
           ap (global s.of.globals) (sym p.2) ∙ (inside s entry right f in_it).outside p.0 p.1,
         );
-    globals = λ n g at. none_gives n (λ i there same. no_some (global s.of.globals n) g (ap (global s.of.globals) (sym same) ∙ own_local s entry right f in_it i there) at);
+    globals = λ n g at. none_gives n (λ i there same. none_or_some (global s.of.globals n) g (ap (global s.of.globals) (sym same) ∙ own_local s entry right f in_it i there) at);
   }
-
-and_none : (b : Bool) → (b && false) ≡ false
-and_none true = refl
-and_none false = refl
 
 hoisted_no_local : (x : Form) (rest : Bool) → is_hoisted x ≡ true → (is_local_form x && rest) ≡ false
 hoisted_no_local Hoisted rest on = refl
 hoisted_no_local Gone rest on = cc
 hoisted_no_local Forwarded rest on = cc
 hoisted_no_local Local rest on = cc
-
-second_by : (a b : Bool) → (a || b) ≡ true → a ≡ false → b ≡ true
-second_by true b on off = cc
-second_by false b on off = on
 
 no_result : (f : Function) (n : ℕ) → inst_in f n ≡ None → is_result f n ≡ false
 no_result f n none = ap (λ o. option_map_or is_other o false) none

@@ -1,5 +1,5 @@
 -- The terminator of a reached block does what the tree of its function has there.
-use Rattle.std.proofs.Common.{◌≡◌, ◌≤◌, ◌+◌, ℕ, Bool, true, false, List, [], ◌∷◌, length, map, Option, Some, None, inl, inr, refl, sym, ap, subst, ◌∙◌, unwrap_or, arith}
+use Rattle.std.proofs.Common.{◌≡◌, ◌≤◌, ◌+◌, ℕ, Bool, true, false, List, [], ◌∷◌, length, map, Option, Some, None, inl, inr, refl, sym, ap, subst, ◌∙◌, arith}
 use Rattle.std.specs.Prelude.{◌⊎◌, is_some, slice_get, slice_index}
 use Rattle.std.specs.Option.{option_map_or}
 use Rattle.std.proofs.lemmas.List.{length-map}
@@ -20,6 +20,7 @@ use Rattle.structure_rules.specs.declared.graph.Exit.{Exit}
 use Rattle.structure_rules.specs.declared.graph.Exit.TheVariants.{Branch, Conditional, Switch, Leave}
 use Rattle.structure_rules.specs.Graph.{index_of, terminator, exit_of, exit_by, labels_by, target_labels, graph, nth}
 use Rattle.structure_recover.specs.Follows.{last_inst}
+use Rattle.list_law.proofs.Options.{some_number}
 use Rattle.region_law.specs.Leads.{Term, jump, table, return, lost, In}
 use Rattle.region_law.specs.Leads as ending
 use Rattle.module_semantics.specs.Operands.{arg}
@@ -78,11 +79,7 @@ least_of Leave = 0
 
 -- a label that a block has
 placed : (f : Function) (label : ℕ) → is_some (block_in f label) ≡ true → block_in f label ≡ Some (index_of f label)
-placed f label on = by_block (block_in f label) on
-  where
-    by_block : (o : Option ℕ) → is_some o ≡ true → o ≡ Some (unwrap_or o 0)
-    by_block None e = cc
-    by_block (Some n) e = refl
+placed f label on = some_number (block_in f label) on
 
 module _ (f : Function) (form : IsFormedFunction f) where
   abbrev body : (b : ℕ) → Option (Body f b)

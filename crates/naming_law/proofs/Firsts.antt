@@ -20,6 +20,7 @@ use Rattle.unit_rules.specs.Unit.{IsUnitOf}
 use Rattle.module_semantics.specs.Setting.{Setting}
 use Rattle.module_semantics.specs.Accesses.{initial_in}
 use Rattle.module_semantics.specs.Steps.{variable, step_kind, is_phi, behind_phis, first_insts}
+use Rattle.list_law.proofs.Tests.{no_flip}
 use Rattle.agree_law.specs.Agree.{Naming}
 use Rattle.agree_law.specs.Blocks.{IsOf}
 use Rattle.function_law.specs.Tops.{Top, IsOneOf, AreFirst}
@@ -27,7 +28,6 @@ use Rattle.function_law.proofs.PlannedText.{variable_top, hoisted_top, index_top
 use Rattle.claim_law.specs.Claimed.{IsIn}
 use Rattle.naming_law.specs.Alone.{AreAlone}
 use Rattle.formed_law.specs.Declares.{AreVariables, HaveNoVariable, NoneDeclare, DeclaresFirst}
-use Rattle.naming_law.proofs.Alone.{no_flip}
 use Rattle.naming_law.proofs.Keys.{S, names}
 use Rattle.naming_law.proofs.Tops.{of_filtered, of_mapped, of_either, of_flat, tops as tops_in}
 

@@ -20,6 +20,7 @@ use Rattle.expr_forward.specs.Scope.{Scope}
 use Rattle.function_text.specs.Functions.{FunctionPlan, written}
 use Rattle.unit_rules.specs.Translation.{IsPlanOf}
 use Rattle.unit_rules.specs.Unit.{is_called, called, has_id, source_of, IsUnitOf}
+use Rattle.list_law.proofs.Numbers.{same_number, number_same}
 use Rattle.agree_law.specs.Blocks.{IsOf}
 use Rattle.call_law.specs.Known.{IsFunctionOf}
 use Rattle.claim_law.specs.Claimed.{IsIn}
@@ -187,19 +188,13 @@ module _ (bytes : List ℕ) (m : ModuleState) (o : Options) (read : IsReadFrom b
       let on : is_called u.order f ≡ true = subst (λ (k : ℕ). list_any (λ (i : IdOf). i.0 == k) u.order ≡ true) (sym same) (called_among u.order n.0 there.0 there.1 there.2) in
       let p = zipped_back IsPlan (called u.order m.functions) u.plans u.planned f (in_filtered (is_called u.order) m.functions f one on) in
       let id_of_it : (written p.0).id.0 ≡ n.0 = ap (λ (g : Function). g.id.0) (written_is f p.0 p.2) ∙ same in
-      let q = first_that (has_id n) u.plans p.0 p.1 (itself (written p.0).id.0 n.0 id_of_it) in
+      let q = first_that (has_id n) u.plans p.0 p.1 (number_same (written p.0).id.0 n.0 id_of_it) in
       record {
         plan = q.0;
         at = q.1;
         among = q.2;
-        of_it = same_id m.functions own (written q.0) f (function_of_plan q.0 q.2) one (equal (written q.0).id.0 n.0 q.3 ∙ sym same);
+        of_it = same_id m.functions own (written q.0) f (function_of_plan q.0 q.2) one (same_number (written q.0).id.0 n.0 q.3 ∙ sym same);
       }
-    where
-      itself : (a b : ℕ) → a ≡ b → (a == b) ≡ true
-      itself a b e = elim (eqb_tells a b) [ inl w ↦ w.0 | inr w ↦ absurd (w.1 e) ]
-
-      equal : (a b : ℕ) → (a == b) ≡ true → a ≡ b
-      equal a b on = elim (eqb_tells a b) [ inl w ↦ w.1 | inr w ↦ (let never : true ≡ false = sym on ∙ w.0 in absurd cc) ]
 
   -- and calls reach only functions of the module
   pub reached_function : (n : ℕ) → Reaches (Calls m.functions) u.entry n → (f : Function) × IsFunctionOf f m.functions × (f.id.0 ≡ n)

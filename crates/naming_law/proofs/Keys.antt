@@ -4,7 +4,6 @@ use Rattle.std.specs.Prelude.{◌⊎◌, flat_map, slice_get, bytes_eq}
 use Rattle.std.specs.Option.{option_map_or}
 use Rattle.std.specs.List.{list_any}
 use Rattle.std.proofs.lemmas.Bool.{and_parts, or_cases, and_left, not-true}
-use Rattle.std.proofs.lemmas.Bool.Decides.{eqb_tells}
 use Rattle.spv_ops.specs.Opcode.{is}
 use Rattle.spv_ops.specs.Groups.{is_chain}
 use Rattle.spv_ops.specs.declared.Op.TheVariants as code
@@ -34,6 +33,9 @@ use Rattle.function_text.specs.Functions.{FunctionPlan, written, is_hoisted}
 use Rattle.unit_rules.specs.Translation.{text_of}
 use Rattle.unit_rules.specs.Unit.{claims_by, reached_of, source_of, IsUnitOf}
 use Rattle.module_semantics.specs.Setting.{Setting, setting}
+use Rattle.list_law.proofs.Numbers.{same_number}
+pub use Rattle.list_law.proofs.Numbers.{same_number as equal}
+use Rattle.list_law.proofs.Tests.{common, no_flip}
 use Rattle.region_law.proofs.Flags.{same_text}
 use Rattle.agree_law.specs.Agree.{Naming, is_named, AreApart}
 use Rattle.call_law.specs.Known.{is_parameter}
@@ -50,7 +52,7 @@ use Rattle.claim_law.proofs.Told.{named_is}
 use Rattle.claim_law.proofs.Apart.{names_apart}
 use Rattle.naming_law.specs.Alone.{AreAlone}
 use Rattle.naming_law.specs.Names.{is_other, is_result, is_value_parameter, is_variable_name, is_local_form, is_written_private, is_outer_global, has_text, keeps, names_of}
-use Rattle.naming_law.proofs.Alone.{no_flip, variable_inst, outer_once, variable_once, lent_once, global_apart, private_once}
+use Rattle.naming_law.proofs.Alone.{variable_inst, outer_once, variable_once, lent_once, global_apart, private_once}
 
 -- an instruction of a function stands in a block of it
 pub placed_in : (bs : List Block) (i : Inst) → IsIn i (flat_map (λ (b : Block). b.insts) bs) → (k : ℕ) × (b : Block) × (slice_get bs k ≡ Some b) × IsIn i b.insts
@@ -92,9 +94,6 @@ variable_has Local true = refl
 variable_has Local false = refl
 variable_has Gone reached = refl
 variable_has Forwarded reached = refl
-
-pub equal : (a b : ℕ) → (a == b) ≡ true → a ≡ b
-equal a b on = elim (eqb_tells a b) [ inl w ↦ w.1 | inr w ↦ no_flip (a == b) on w.0 ]
 
 as_in : (ps : List (IdOf × IdOf)) (p : IdOf × IdOf) → IsParameter p ps → IsIn p ps
 as_in [] p one = absurd one
@@ -208,7 +207,7 @@ module _ (m : ModuleState) (o : Options) (unit : TranslationUnit) (u : IsUnitOf 
         subst (λ (c : ℕ). HasName found (Captured (id c) k)) w.1 (captured_named m o unit u p i.0 k among w.0 (by_test i.0 (is_chain i.0.op && p.scope.carried i.0.result) i.2))
       where
         by_test : (i : Inst) (b : Bool) → list_any (λ (n : ℕ × ℕ). n.0 == k) (if b then captured_indexes m.globals i else []) ≡ true → IsIn k (if b then map (λ (n : ℕ × ℕ). n.0) (captured_indexes m.globals i) else [])
-        by_test i true e = let x = some_in (λ (n : ℕ × ℕ). n.0 == k) (captured_indexes m.globals i) e in in_numbers (captured_indexes m.globals i) k x.0 x.1 (equal x.0.0 k x.2)
+        by_test i true e = let x = some_in (λ (n : ℕ × ℕ). n.0 == k) (captured_indexes m.globals i) e in in_numbers (captured_indexes m.globals i) k x.0 x.1 (same_number x.0.0 k x.2)
         by_test i false e = cc
 
     -- and what stands outside is nothing of the function
@@ -250,11 +249,7 @@ module _ (m : ModuleState) (o : Options) (unit : TranslationUnit) (u : IsUnitOf 
       ]
         where
           written_is_variable : (g : Inst) → is_written_variable R g ≡ true → is_variable g ≡ true
-          written_is_variable g on = class_on (is_variable g) _ _ _ (and_parts (is_private g || (is_workgroup g || is_block_variable g)) (is_operand_in R.functions g.result) on).0
-            where
-              class_on : (v a b c : Bool) → ((v && a) || ((v && b) || (v && c))) ≡ true → v ≡ true
-              class_on true a b c on = refl
-              class_on false a b c on = cc
+          written_is_variable g on = common (is_variable g) _ _ _ (and_parts (is_private g || (is_workgroup g || is_block_variable g)) (is_operand_in R.functions g.result) on).0
 
       pub keys_are : AreOfKeys found N
       keys_are = record {

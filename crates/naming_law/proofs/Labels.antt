@@ -17,6 +17,7 @@ use Rattle.structure_rules.specs.Graph.{seconds, exit_of, labels_by}
 use Rattle.profile_rules.specs.declared.needs.Need.{Need}
 use Rattle.profile_rules.specs.declared.needs.Need.TheVariants.{Value, Label}
 use Rattle.profile_rules.specs.Operands.{need, suits, is_global, is_there_in}
+use Rattle.list_law.proofs.Tests.{or_true, second_by}
 use Rattle.region_law.specs.Leads.{In}
 use Rattle.module_semantics.specs.Setting.{Setting}
 use Rattle.call_law.specs.Known.{IsFunctionOf}
@@ -73,11 +74,7 @@ switch_label : (args : List ℕ) (label : ℕ) → In label (labels_by Switch ar
 unfolding is_id
 switch_label args label among =
     let p = odd_place args label among in
-    (suc p.0, p.1, p.2, ap (λ (n : ℕ). (suc p.0 == 0) || (n == 1)) p.3 ∙ either (suc p.0 == 0), later_label p.0)
-  where
-    either : (a : Bool) → (a || true) ≡ true
-    either true = refl
-    either false = refl
+    (suc p.0, p.1, p.2, ap (λ (n : ℕ). (suc p.0 == 0) || (n == 1)) p.3 ∙ or_true (suc p.0 == 0), later_label p.0)
 
 label_of : (o : Op) (args : List ℕ) (label : ℕ) → In label (labels_by (exit_of o) args) → IsLabelOf o args label
 unfolding group_of
@@ -99,10 +96,6 @@ no_global : (o : Option Inst) → option_map_or (suits Label) o false ≡ false
 no_global None = refl
 no_global (Some g) = refl
 
-second : (a b : Bool) → (a || b) ≡ true → a ≡ false → b ≡ true
-second true b on off = cc
-second false b on off = on
-
 module _ (s : Setting) (entry : Option (List ℕ)) (right : IsConforming s.of entry) (f : Function) (is_one : IsFunctionOf f s.of.functions) where
   in_it : Contains s.of.functions f
   in_it = contains_of s.of.functions f is_one
@@ -115,5 +108,5 @@ module _ (s : Setting) (entry : Option (List ℕ)) (right : IsConforming s.of en
         let p = label_of i.op i.args label among in
         let on = operand_there (is_there_in s.of f i.at) i ((inside s entry right f in_it).order.there i inside_it) p.0 p.1 p.3 in
         let its : is_there_in s.of f i.at Label label ≡ true = subst (λ (n : ℕ). is_there_in s.of f i.at Label n ≡ true) p.2 (subst (λ (q : Need). is_there_in s.of f i.at q (slice_index i.args p.0) ≡ true) p.4 on) in
-        second (is_global s.of.globals i.at Label label) (is_some (block_in f label)) its (no_global (earlier s.of.globals i.at label));
+        second_by (is_global s.of.globals i.at Label label) (is_some (block_in f label)) its (no_global (earlier s.of.globals i.at label));
   }

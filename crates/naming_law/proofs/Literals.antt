@@ -21,6 +21,7 @@ use Rattle.profile_rules.specs.TypeRows.{value_fails, is_int}
 use Rattle.profile_rules.specs.FlowRules.{every_second, has_repeat, breaks_t23_switch}
 use Rattle.profile_rules.specs.TypeRules.{is_flow_broken}
 use Rattle.module_semantics.specs.Setting.{Setting}
+use Rattle.list_law.proofs.Numbers.{number_itself}
 use Rattle.call_law.specs.Known.{IsFunctionOf}
 use Rattle.function_law.proofs.CaseGroups.{IsNoWord, AreOnceWords}
 use Rattle.typed_law.specs.Conforms.{IsConforming}
@@ -53,14 +54,11 @@ once_by all [] few off = tt
 once_by all (w ∷ ws) few off =
     let own = or_left (nat_le 2 (times w all)) (list_any (λ (x : ℕ). nat_le 2 (times x all)) ws) off in
     let le = few w in
-    let more : times w (w ∷ ws) ≡ 1 + times w ws = times_more w w ws ∙ ap (λ (t : Bool). cond t 1 0 + times w ws) (itself w) in (
+    let more : times w (w ∷ ws) ≡ 1 + times w ws = times_more w w ws ∙ ap (λ (t : Bool). cond t 1 0 + times w ws) (number_itself w) in (
       no_word w ws (none_left (times w all) (times w (w ∷ ws)) (times w ws) own le more),
       once_by all ws (λ x. let bound = few x in let next = times_more x w ws in below (times x all) (times x (w ∷ ws)) (times x ws) (cond (w == x) 1 0) bound next) (or_right (nat_le 2 (times w all)) (list_any (λ (x : ℕ). nat_le 2 (times x all)) ws) off),
     )
   where
-    itself : (n : ℕ) → (n == n) ≡ true
-    itself n = elim (eqb_tells n n) [ inl e ↦ e.0 | inr e ↦ absurd (e.1 refl) ]
-
     none_left : (n a c : ℕ) → nat_le 2 n ≡ false → a ≤ n → a ≡ 1 + c → c ≡ 0
     none_left n a c off le more = let few : n < 2 = grind (arith, nat_tests, off) in omega (arith, few, le, more)
 

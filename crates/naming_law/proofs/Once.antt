@@ -8,7 +8,6 @@ use Rattle.std.proofs.lemmas.Bool.Decides.{eqb_tells}
 use Rattle.std.proofs.lemmas.Option.{same_Some}
 use Rattle.spv_ops.specs.Opcode.{is}
 use Rattle.spv_ops.specs.Groups.{is_chain}
-use Rattle.spv_ops.specs.Shape.{shape}
 use Rattle.spv_ops.specs.declared.Op.{Op}
 use Rattle.spv_ops.specs.declared.Op.TheVariants as code
 use Rattle.spv_module.specs.State.{ModuleState}
@@ -34,6 +33,8 @@ use Rattle.function_text.specs.Functions.{FunctionPlan, written, is_variable, is
 use Rattle.unit_rules.specs.Translation.{plan_scope}
 use Rattle.unit_rules.specs.Unit.{source_of, IsUnitOf}
 use Rattle.module_semantics.specs.Setting.{Setting}
+use Rattle.list_law.proofs.Tests.{no_flip}
+pub use Rattle.formed_law.proofs.Pointing.{chain_result}
 use Rattle.agree_law.specs.Agree.{Naming}
 use Rattle.call_law.specs.Known.{IsFunctionOf}
 use Rattle.function_law.specs.Tops.{Top, IsNoTop, AreOnceTops, AreTops}
@@ -45,10 +46,11 @@ use Rattle.typed_law.proofs.Others.{typed_some}
 use Rattle.ruled_law.proofs.Ruled.{contains_of, variable_has}
 use Rattle.claim_law.specs.Claimed.{IsIn}
 use Rattle.claim_law.proofs.Listed.{in_flat}
+use Rattle.claim_law.proofs.Apart.{same_number}
 use Rattle.naming_law.specs.Alone.{AreAlone}
-use Rattle.naming_law.proofs.Alone.{no_flip, are_alone}
+use Rattle.naming_law.proofs.Alone.{are_alone}
 use Rattle.naming_law.proofs.Keys.{S, found as names_found, names, hoisted_is}
-use Rattle.naming_law.proofs.Tops.{no_top, of_filtered, of_mapped, of_either, of_flat, key_id, no_chain_key, tops as tops_in, planned as planned_in, variable_name, hoisted_name, index_name, variable_of, hoisted_of, index_of, tops_are}
+use Rattle.naming_law.proofs.Tops.{no_top, of_filtered, of_mapped, of_either, of_flat, no_chain_key, tops as tops_in, planned as planned_in, variable_name, hoisted_name, index_name, variable_of, hoisted_of, index_of, tops_are}
 
 -- what has a variable at the top is a value, and a result of the function
 module _ (gs : List Inst) (f : Function) where
@@ -189,12 +191,6 @@ module _ (IsKeyOf : Inst → Text → Type 0) (tells : (i j : Inst) (x : Text) �
 pub variable_result : (o : Op) → is o code.Variable ≡ true → has_result o ≡ true
 variable_result o on = typed_result o (variable_has o on)
 
-pub chain_result : (o : Op) → is_chain o ≡ true → has_result o ≡ true
-unfolding shape
-chain_result code.AccessChain on = refl
-chain_result code.InBoundsAccessChain on = refl
-chain_result o on = cc
-
 pub number_from : (xs : List ℕ) (from : ℕ) (n : ℕ × ℕ) → IsIn n (enumerate_from from xs) → from ≤ n.0
 number_from [] from n there = absurd there
 number_from (x ∷ xs) from n (inl same) = let here : from ≡ n.0 = ap (λ (q : ℕ × ℕ). q.0) same in omega (arith, here)
@@ -265,7 +261,7 @@ module _ (m : ModuleState) (o : Options) (unit : TranslationUnit) (u : IsUnitOf 
   IsKeptBy i x = (k : ℕ) × (found (Captured (id i.result) k) ≡ Some x)
 
   named_tells : (i j : Inst) (x : Text) → IsNamedBy i x → IsNamedBy j x → i.result ≡ j.result
-  named_tells i j x a b = key_id i.result j.result (u.lawful.apart (Id (id i.result)) (Id (id j.result)) x refl a b)
+  named_tells i j x a b = same_number i.result j.result (u.lawful.apart (Id (id i.result)) (Id (id j.result)) x refl a b)
 
   kept_tells : (i j : Inst) (x : Text) → IsKeptBy i x → IsKeptBy j x → i.result ≡ j.result
   kept_tells i j x a b = ap captured_id (u.lawful.apart (Captured (id i.result) a.0) (Captured (id j.result) b.0) x refl a.1 b.1)

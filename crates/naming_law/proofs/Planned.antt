@@ -18,10 +18,11 @@ use Rattle.name_alloc.specs.declared.claims.Key.TheVariants.{Again, Leave, Fell}
 use Rattle.glsl_ast.specs.Tree.{TranslationUnit}
 use Rattle.function_text.specs.Functions.{FunctionPlan, written, label_of, blocks_of}
 use Rattle.unit_rules.specs.Unit.{IsUnitOf}
+use Rattle.list_law.proofs.Numbers.{same_number}
 use Rattle.claim_law.specs.Claimed.{IsIn}
 use Rattle.claim_law.proofs.Flags.{at_inside, again_key, leave_key, fell_key}
 use Rattle.tree_law.specs.Written.{FlagsApart}
-use Rattle.naming_law.proofs.Keys.{some_in, equal}
+use Rattle.naming_law.proofs.Keys.{some_in}
 use Rattle.formed_law.proofs.Labelled.{AreOnceLabels, label_found}
 
 -- what names a merge block is a block
@@ -42,7 +43,7 @@ leave_inside g h on =
 
     by_header : (b t : ℕ) (o : Option ℕ) → option_and_then loop_header (nearest_loop g b) ≡ o → option_map_or (λ (y : ℕ). is_value t (merge_block g y)) o false ≡ true → is_value h o ≡ true → h < length g
     by_header b t None at breaks on = cc
-    by_header b t (Some y) at breaks on = by_merge y t (merge_block g y) refl breaks (equal y h on)
+    by_header b t (Some y) at breaks on = by_merge y t (merge_block g y) refl breaks (same_number y h on)
 
     by_break : (b t : ℕ) (c : Bool) → (is_break g b t && is_some (innermost_switch g b)) ≡ c → is_value h (if c then option_and_then loop_header (nearest_loop g b) else None) ≡ true → h < length g
     by_break b t false at on = cc

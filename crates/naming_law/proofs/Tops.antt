@@ -2,7 +2,6 @@
 use Rattle.std.proofs.Common.{◌≡◌, ◌≢◌, ◌==◌, ◌&&◌, not, ℕ, Bool, true, false, List, [], ◌∷◌, ◌++◌, map, filter, Option, Some, None, inl, inr, refl, sym, ap, ◌∙◌, subst, if◌then◌else◌}
 use Rattle.std.specs.Prelude.{◌⊎◌, flat_map, find, slice_get}
 use Rattle.std.proofs.lemmas.Bool.{and_parts, or_cases}
-use Rattle.std.proofs.lemmas.Bool.Decides.{eqb_tells}
 use Rattle.spv_ops.specs.Opcode.{is}
 use Rattle.spv_ops.specs.Groups.{is_chain}
 use Rattle.spv_ops.specs.declared.Op.TheVariants as code
@@ -30,6 +29,7 @@ use Rattle.unit_rules.specs.Translation.{IsPlanOf}
 use Rattle.unit_rules.specs.Unit.{claims_by, called, source_of, IsUnitOf}
 use Rattle.module_semantics.specs.Setting.{Setting}
 use Rattle.module_semantics.specs.Accesses.{initial_in}
+use Rattle.list_law.proofs.Numbers.{number_same, same_number as equal}
 use Rattle.agree_law.specs.Agree.{Naming}
 use Rattle.call_law.specs.Known.{is_parameter}
 use Rattle.function_law.specs.Tops.{Top, IsTop, IsNoTop, AreOnceTops, AreTops}
@@ -40,10 +40,12 @@ use Rattle.claim_law.proofs.Listed.{in_left, in_right, in_flat, in_mapped, at_pl
 use Rattle.claim_law.proofs.Named.{result_named, captured_named}
 use Rattle.claim_law.proofs.Told.{named_is}
 use Rattle.claim_law.proofs.Flags.{planned_as}
+use Rattle.claim_law.proofs.Apart.{same_number}
+pub use Rattle.claim_law.proofs.Apart.{same_number as key_id}
 use Rattle.naming_law.specs.Alone.{AreAlone}
 use Rattle.naming_law.specs.Names.{is_other, is_result, is_value_parameter, is_written_private, keeps, kept_of}
 use Rattle.naming_law.proofs.Alone.{variable_inst}
-use Rattle.naming_law.proofs.Keys.{S, found as names_found, key as key_of, R, names, placed_in, some_in, equal, hoisted_is, variable_has, stands, parameter_has, private_has}
+use Rattle.naming_law.proofs.Keys.{S, found as names_found, key as key_of, R, names, placed_in, some_in, hoisted_is, variable_has, stands, parameter_has, private_has}
 
 -- one of these is one of them by its name, its type and its value
 is_top : (ts : List Top) (t : Top) → IsIn t ts → IsTop t.name t.shape t.value ts
@@ -98,11 +100,8 @@ of_flat f (x ∷ xs) y among = elim (of_either y (f x) (flat_map f xs) among) [
 -- an instruction's result is that of one
 result_there : (is : List Inst) (i : Inst) → IsIn i is → find (λ (j : Inst). j.result == i.result) is ≡ None → ⊥
 result_there [] i among e = among
-result_there (j ∷ is) i (inl same) e = by_test (j.result == i.result) (own j.result i.result (ap (λ (x : Inst). x.result) same)) e
+result_there (j ∷ is) i (inl same) e = by_test (j.result == i.result) (number_same j.result i.result (ap (λ (x : Inst). x.result) same)) e
   where
-    own : (a b : ℕ) → a ≡ b → (a == b) ≡ true
-    own a b same = elim (eqb_tells a b) [ inl w ↦ w.0 | inr w ↦ absurd (w.1 same) ]
-
     by_test : (b : Bool) → b ≡ true → (if b then Some j else find (λ (x : Inst). x.result == i.result) is) ≡ None → ⊥
     by_test true on e = cc
     by_test false on e = cc
@@ -115,9 +114,6 @@ result_there (j ∷ is) i (inr among) e = by_test (j.result == i.result) e (resu
 abbrev key_number : Key → ℕ
 key_number (Id n) = n.0
 key_number _ = 0
-
-pub key_id : (a b : ℕ) → Id (id a) ≡ Id (id b) → a ≡ b
-key_id a b e = ap key_number e
 
 pub no_chain_key : (a q k : ℕ) → Captured (id q) k ≡ Id (id a) → ⊥
 no_chain_key a q k e = cc
@@ -274,7 +270,7 @@ module _ (m : ModuleState) (o : Options) (unit : TranslationUnit) (u : IsUnitOf 
   none_named n has none = no_top (N.name n) tops (λ t there same. elim (of_key t there) [
     | inl result ↦
         let one = u.lawful.apart (Id (id result.0.result)) (Id (id n)) t.name refl result.2 (named_is found (Id (id n)) has ∙ ap (λ (x : Text). Some x) (sym same)) in
-        result_there (insts_of f) result.0 result.1 (ap (inst_in f) (key_id result.0.result n one) ∙ none)
+        result_there (insts_of f) result.0 result.1 (ap (inst_in f) (same_number result.0.result n one) ∙ none)
     | inr index ↦ no_chain_key n index.0 index.1 (u.lawful.apart (Captured (id index.0) index.1) (Id (id n)) t.name refl index.2 (named_is found (Id (id n)) has ∙ ap (λ (x : Text). Some x) (sym same)))
   ])
 

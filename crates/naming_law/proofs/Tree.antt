@@ -27,6 +27,7 @@ use Rattle.glsl_ast.specs.Tree.{Text}
 use Rattle.text_rules.specs.Constants.{Source}
 use Rattle.function_text.specs.Functions.{FunctionPlan, label_of, when, blocks_of}
 use Rattle.unit_rules.specs.Translation.{Naming, IsPlanOf}
+use Rattle.list_law.proofs.Lists.{get_index, index_get}
 use Rattle.agree_law.specs.Blocks.{IsOf}
 use Rattle.tree_law.specs.Written.{FlagsApart, IsWritten}
 use Rattle.typed_law.specs.Conforms.{IsFormed}
@@ -83,16 +84,6 @@ reached_inside [] zero e = cc
 reached_inside [] (suc b) e = cc
 reached_inside (n ∷ g) zero e = omega arith
 reached_inside (n ∷ g) (suc b) e = let less = reached_inside g b e in omega (arith, less)
-
-get_index : (xs : List ℕ) (k t : ℕ) → slice_get xs k ≡ Some t → slice_index xs k ≡ t
-get_index [] k t e = cc
-get_index (x ∷ xs) zero t e = let same : x ≡ t = cc in same
-get_index (x ∷ xs) (suc k) t e = get_index xs k t e
-
-index_get : (xs : List ℕ) (k : ℕ) → k < length xs → slice_get xs k ≡ Some (slice_index xs k)
-index_get [] k less = absurd (omega (arith, less))
-index_get (x ∷ xs) zero less = refl
-index_get (x ∷ xs) (suc k) less = index_get xs k (let low : k < length xs = omega (arith, less) in low)
 
 pub switch_exit : (e : Exit) → is_switch e ≡ true → e ≡ Switch
 switch_exit Switch on = refl

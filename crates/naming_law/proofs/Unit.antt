@@ -18,6 +18,8 @@ use Rattle.expr_forward.specs.Scope.{Scope}
 use Rattle.function_text.specs.Functions.{FunctionPlan, written, function_key, function_name, function_decl}
 use Rattle.unit_rules.specs.Translation.{text_of, IsPlanOf}
 use Rattle.unit_rules.specs.Unit.{item_names_of, called, has_id, in_order, source_of, IsUnitOf}
+use Rattle.list_law.proofs.Lists.{map_joined, map_twice, contains_head, contains_tail}
+use Rattle.list_law.proofs.Tests.{no_flip}
 use Rattle.function_law.specs.Texts.{FunctionText, decl_of, IsNoName, AreOnceNames}
 use Rattle.claim_law.specs.Claimed.{IsIn, HasName}
 use Rattle.claim_law.proofs.Keys.{main_claimed}
@@ -26,14 +28,6 @@ use Rattle.claim_law.proofs.Told.{named_is}
 use Rattle.claim_law.proofs.Flags.{planned_as}
 use Rattle.naming_law.specs.Names.{text_of_plan}
 use Rattle.naming_law.proofs.Keys.{S, found as names_found, key as key_of, R}
-
-pub map_joined : {A B : Type 0} (f : A → B) (xs ys : List A) → map f (xs ++ ys) ≡ map f xs ++ map f ys
-map_joined f [] ys = refl
-map_joined f (x ∷ xs) ys = ap (λ l. f x ∷ l) (map_joined f xs ys)
-
-map_twice : {A B C : Type 0} (f : B → C) (g : A → B) (xs : List A) → map f (map g xs) ≡ map (λ x. f (g x)) xs
-map_twice f g [] = refl
-map_twice f g (x ∷ xs) = ap (λ l. f (g x) ∷ l) (map_twice f g xs)
 
 map_reversed : {A B : Type 0} (f : A → B) (xs : List A) → map f (reverse xs) ≡ reverse (map f xs)
 map_reversed f [] = refl
@@ -71,12 +65,6 @@ abbrev AllApart : List ℕ → Type 0
 AllApart [] = Unit {0}
 AllApart (x ∷ xs) = NotAmong x xs × AllApart xs
 
-contains_more : (y x : ℕ) (xs : List ℕ) → Contains xs x → Contains (y ∷ xs) x
-contains_more y x xs there = let less = there.1 in (suc there.0, (let more : suc there.0 < suc (length xs) = omega (arith, less) in more), there.2)
-
-contains_first : (x : ℕ) (xs : List ℕ) → Contains (x ∷ xs) x
-contains_first x xs = (0, (let some : 0 < suc (length xs) = omega arith in some), refl)
-
 not_first : (x : ℕ) (xs : List ℕ) → ((k : ℕ) → k < length xs → slice_index xs k ≡ x → ⊥) → NotAmong x xs
 not_first x [] far = tt
 not_first x (y ∷ xs) far = (λ same. far 0 (let some : 0 < suc (length xs) = omega arith in some) same, not_first x xs (λ k less same. far (suc k) (let more : suc k < suc (length xs) = omega (arith, less) in more) same))
@@ -84,18 +72,14 @@ not_first x (y ∷ xs) far = (λ same. far 0 (let some : 0 < suc (length xs) = o
 all_apart : (xs : List ℕ) → AreFresh xs → AllApart xs
 all_apart [] fresh = tt
 all_apart (x ∷ xs) fresh = (
-  not_first x xs (λ k less same. fresh (suc k) (let more : suc k < suc (length xs) = omega (arith, less) in more) (subst (Contains (x ∷ take k xs)) (sym same) (contains_first x (take k xs)))),
-  all_apart xs (λ k less there. fresh (suc k) (let more : suc k < suc (length xs) = omega (arith, less) in more) (contains_more x (slice_index xs k) (take k xs) there)),
+  not_first x xs (λ k less same. fresh (suc k) (let more : suc k < suc (length xs) = omega (arith, less) in more) (subst (Contains (x ∷ take k xs)) (sym same) (contains_head x (take k xs)))),
+  all_apart xs (λ k less there. fresh (suc k) (let more : suc k < suc (length xs) = omega (arith, less) in more) (contains_tail x (slice_index xs k) (take k xs) there)),
 )
 
 -- the key of a function
 abbrev key_number : Key → ℕ
 key_number (Id n) = n.0
 key_number _ = 0
-
-no_flip : {A : Type 0} (t : Bool) → t ≡ true → t ≡ false → A
-no_flip true on off = cc
-no_flip false on off = cc
 
 same_function : (entry : ℕ) (a b : IdOf) → function_key entry a ≡ function_key entry b → a.0 ≡ b.0
 same_function entry a b e = by_tests (a.0 == entry) (b.0 == entry) (eqb_tells a.0 entry) (eqb_tells b.0 entry) e

@@ -1,5 +1,6 @@
 -- In the text of a module the flags of a planned function have the names of their keys, and these are none of the function's other names.
 use Rattle.std.proofs.Common.{◌≡◌, ◌⊎◌, ◌<◌, ℕ, Bool, true, false, [], codes, length, Option, Some, None, unwrap_or, inl, inr, refl, sym, ap, ◌∙◌, arith}
+use Rattle.std.proofs.lemmas.Option.{same_Some}
 use Rattle.spv_module.specs.State.{ModuleState}
 use Rattle.spv_module.specs.declared.inst.Function.{Function}
 use Rattle.conformance.specs.Rules.{Options}
@@ -13,6 +14,7 @@ use Rattle.expr_forward.specs.Scope.{Scope}
 use Rattle.function_text.specs.Functions.{FunctionPlan, label_of, when, blocks_of}
 use Rattle.unit_rules.specs.Translation.{Naming, text_of, IsPlanOf}
 use Rattle.unit_rules.specs.Unit.{source_of, called, IsUnitOf}
+use Rattle.list_law.proofs.Tests.{not_both}
 use Rattle.agree_law.specs.Agree.{Naming as Names, IsOther}
 use Rattle.claim_law.specs.Claimed.{IsIn}
 use Rattle.claim_law.specs.Apart.{AreOfKeys, is_flow, IsFlow}
@@ -30,13 +32,6 @@ flag_space (Again label) on = refl
 flag_space (Leave label) on = refl
 flag_space (Fell label) on = refl
 flag_space key on = cc
-
-some_text : (x y : Text) → Some x ≡ Some y → x ≡ y
-some_text x y e = cc
-
-not_both : (b : Bool) → b ≡ true → b ≡ false → ⊥
-not_both true on off = cc
-not_both false on off = cc
 
 pub flags_other : (found : Key → Option Text) → AreNames found → (n : Names) → AreOfKeys found n → (x : Text) → IsFlag found x → IsOther n x
 flags_other found names n keys x is = flows_other found names n keys x (is.0, flag_flow is.0 is.1, is.2)
@@ -83,7 +78,7 @@ module _ (m : ModuleState) (o : Options) (unit : TranslationUnit) (u : IsUnitOf 
   named_flag key on true x is flow = by_name (found key) refl
     where
       text : text_of found key ≡ x
-      text = sym (ap (λ (w : Scope). w.setting.key key) planned.1.scope_is) ∙ some_text (p.scope.setting.key key) x is
+      text = sym (ap (λ (w : Scope). w.setting.key key) planned.1.scope_is) ∙ same_Some (p.scope.setting.key key) x is
 
       by_name : (q : Option Text) → found key ≡ q → IsFlag found x
       by_name (Some y) named = (key, on, named ∙ ap (λ (z : Text). Some z) (sym (ap (λ (q : Option Text). unwrap_or q []) named) ∙ text))
