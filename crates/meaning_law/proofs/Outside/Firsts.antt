@@ -63,7 +63,8 @@ use Rattle.function_law.specs.Tops.{IsClear, SaysFirst}
 use Rattle.constant_law.specs.Items.{AreAsked}
 use Rattle.constant_law.proofs.Constants.{AreFunctions}
 use Rattle.constant_law.proofs.Types.{zero_declared}
-use Rattle.constant_law.proofs.Variables.{variable_id, second_at}
+use Rattle.list_law.proofs.Lists.{second_at}
+use Rattle.constant_law.proofs.Variables.{variable_id}
 use Rattle.claim_law.specs.Claimed.{IsIn}
 use Rattle.claim_law.proofs.Constants.{mention_in}
 use Rattle.claim_law.proofs.Listed.{in_mapped, any_in}

@@ -56,6 +56,7 @@ use Rattle.unit_rules.specs.Translation.{names_of, IsPlanOf}
 use Rattle.unit_rules.specs.Unit.{called, source_of, IsUnitOf}
 use Rattle.list_law.proofs.Lists.{place_of}
 use Rattle.list_law.proofs.Options.{none_some}
+use Rattle.list_law.proofs.Tests.{no_flip}
 use Rattle.plan_law.specs.InOrder.{IsAmong}
 use Rattle.plan_law.proofs.Order.{found as found_at, among_right as body_right}
 use Rattle.region_law.proofs.Flags.{same_text}
@@ -87,7 +88,7 @@ use Rattle.meets_law.proofs.OperandNames.{composite_of}
 use Rattle.formed_law.proofs.Pointing.{chain_result}
 use Rattle.naming_law.specs.Alone.{AreAlone}
 use Rattle.naming_law.specs.Names.{is_outer_global, has_text}
-use Rattle.naming_law.proofs.Alone.{are_alone, no_flip}
+use Rattle.naming_law.proofs.Alone.{are_alone}
 use Rattle.naming_law.proofs.Keys.{S, found as names_found, key as key_of, R, names as names_in, some_in, hoisted_is}
 use Rattle.naming_law.proofs.Tops.{of_filtered, of_mapped, of_either, of_flat, key_id, no_chain_key, variable_name, hoisted_name, index_name}
 use Rattle.meaning_law.specs.Left.{IsLeftOfGlobals}

@@ -90,7 +90,8 @@ use Rattle.unit_law.proofs.CallTypes as types
 use Rattle.unit_law.proofs.Lists.{as_in, at_some}
 use Rattle.unit_law.proofs.Shaped.{shaped_value}
 use Rattle.unit_law.proofs.Ways.{HaveKinds, plan_is}
-use Rattle.meets_law.proofs.CallMeets.{call_need, call_value, behind_first}
+use Rattle.list_law.proofs.Lists.{behind_first}
+use Rattle.meets_law.proofs.CallMeets.{call_need, call_value}
 use Rattle.formed_law.specs.Formed.{IsFormedFunction}
 use Rattle.formed_law.specs.Traced.{IsTraced}
 use Rattle.formed_law.proofs.Inner.{is_inner, accepted_inner}

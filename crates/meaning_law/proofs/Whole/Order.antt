@@ -24,7 +24,8 @@ use Rattle.ruled_law.proofs.Ruled.{contains_of}
 use Rattle.claim_law.specs.Claimed.{IsIn}
 use Rattle.claim_law.proofs.Listed.{in_left, in_right, in_flat, in_mapped}
 use Rattle.naming_law.proofs.Tops.{of_mapped, of_either, of_flat}
-use Rattle.naming_law.proofs.Unit.{map_joined, text, found_plan}
+use Rattle.list_law.proofs.Lists.{map_joined}
+use Rattle.naming_law.proofs.Unit.{text, found_plan}
 use Rattle.naming_law.proofs.Functions.{contains_call, HasPlan, has_plan, reached_function, called_function, function_found}
 
 -- lists that are turned
