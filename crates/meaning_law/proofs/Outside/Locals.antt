@@ -6,9 +6,8 @@ use Rattle.std.specs.List.{enumerate_from}
 use Rattle.std.proofs.lemmas.Option.{same_Some}
 use Rattle.spv_words.specs.Words.{words}
 use Rattle.spv_ops.specs.Opcode.{is, number}
-use Rattle.spv_ops.specs.Shape.{shape, is_pure}
+use Rattle.spv_ops.specs.Shape.{shape}
 use Rattle.spv_ops.specs.Enumerants.{class_number}
-use Rattle.spv_ops.specs.declared.Op.{Op}
 use Rattle.spv_ops.specs.declared.Op.TheVariants as code
 use Rattle.spv_ops.specs.declared.StorageClass.TheVariants as storage
 use Rattle.spv_module.specs.State.{ModuleState}
@@ -68,18 +67,13 @@ use Rattle.claim_law.proofs.Listed.{in_right, in_flat, any_in}
 use Rattle.unit_law.proofs.Lists.{as_among, numbered_first}
 use Rattle.unit_law.proofs.Ways.{planned_as, reached_nth}
 use Rattle.unit_law.proofs.TypesWritten.{parameter_type_written}
+use Rattle.meets_law.proofs.Roots.{variable_impure}
 use Rattle.formed_law.specs.Declares.{HaveNoVariable, NoneDeclare, DeclaresFirst}
 use Rattle.formed_law.proofs.Declares.{declares_first}
 use Rattle.naming_law.proofs.Keys.{placed_in, S, found as names_found, R}
 use Rattle.formed_law.proofs.Reach.{first_marked}
 use Rattle.meaning_law.specs.Left.{IsLeftOfGlobals}
 use Rattle.meaning_law.proofs.Outside.Text.{function_of_plan}
-
--- a variable has an effect, so it is live
-variable_effect : (o : Op) → is o code.Variable ≡ true → is_pure o ≡ false
-unfolding shape number
-variable_effect code.Variable on = refl
-variable_effect o on = cc
 
 -- variables stand in the first block alone
 none_in : (is : List Inst) (i : Inst) → HaveNoVariable is → IsIn i is → is_variable i ≡ false
@@ -158,7 +152,7 @@ module _ (bytes : List ℕ) (m : ModuleState) (o : Options) (read : IsReadFrom b
     variable_reached = reached_nth p.graph of_it.number ∙ ap (λ n. (nth p.graph n).reached) first ∙ (ap (λ g. (nth g 0).reached) graph_is ∙ first_marked f of_it.block (ap (slice_get f.blocks) (sym first) ∙ of_it.there))
 
     pub variable_live : is_live p.scope.form i ≡ true
-    variable_live = ap (λ (b : Bool). elim b as (λ b. Bool) [ true ↦ elim (is_gone (p.scope.form i.result)) as (λ b. Bool) [ true ↦ false | false ↦ true ] | false ↦ true ]) (variable_effect i.op on)
+    variable_live = ap (λ (b : Bool). elim b as (λ b. Bool) [ true ↦ elim (is_gone (p.scope.form i.result)) as (λ b. Bool) [ true ↦ false | false ↦ true ] | false ↦ true ]) (variable_impure i.op on)
 
     -- so its type is written
     listed : IsIn i.ty Types

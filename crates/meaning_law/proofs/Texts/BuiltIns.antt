@@ -1,9 +1,8 @@
 -- No function of an accepted module's text is called as a built-in function: such names are reserved.
 use Rattle.std.proofs.Common.{◌≡◌, ◌||◌, ◌⊎◌, ℕ, Bool, true, false, List, [], ◌∷◌, map, Option, Some, None, inl, inr, refl, ap, ◌∙◌, subst, unwrap_or}
-use Rattle.std.specs.Prelude.{bytes_eq, codes, find, option_to_list}
+use Rattle.std.specs.Prelude.{bytes_eq, codes, option_to_list}
 use Rattle.std.proofs.lemmas.Slice.Eq.{bytes_eq-Decides}
 use Rattle.spv_module.specs.State.{ModuleState}
-use Rattle.spv_module.specs.declared.inst.Id.{Id}
 use Rattle.conformance.specs.Rules.{Options}
 use Rattle.module_check.specs.Judged.{IsFine}
 use Rattle.module_check.specs.ReadFrom.{IsReadFrom}
@@ -23,15 +22,15 @@ use Rattle.text_rules.specs.Printed.{Reached}
 use Rattle.expr_forward.specs.Scope.{Scope}
 use Rattle.function_text.specs.Functions.{FunctionPlan, function_key, function_name, function_decl}
 use Rattle.unit_rules.specs.Translation.{text_of, IsPlanOf}
-use Rattle.unit_rules.specs.Unit.{item_names_of, source_of, called, has_id, plan_at, in_order, IsUnitOf}
+use Rattle.unit_rules.specs.Unit.{item_names_of, source_of, called, in_order, IsUnitOf}
 use Rattle.list_law.proofs.Tests.{neither as both_off}
 use Rattle.lowering_law.specs.BuiltIns.{NoneDeclared}
 use Rattle.global_law.proofs.Blocks.{items_more}
 use Rattle.constant_law.specs.Items.{AreAsked}
 use Rattle.constant_law.proofs.Constants.{AreFunctions, first, last}
 use Rattle.claim_law.specs.Claimed.{IsIn}
-use Rattle.unit_law.proofs.Lists.{found_by, of_flat}
 use Rattle.unit_law.proofs.Ways.{planned_as}
+use Rattle.grammar_law.proofs.UnitMade.{in_plans}
 use Rattle.naming_law.proofs.Keys.{S, found as names_found, R}
 use Rattle.meaning_law.specs.Left.{IsLeftOfGlobals}
 use Rattle.meaning_law.proofs.Outside.Text.{fs as function_items, are_functions, asked as asked_of, P as program_in}
@@ -114,11 +113,6 @@ of_option : (x : FunctionPlan) (q : Option FunctionPlan) → IsIn x (option_to_l
 of_option x None among = absurd among
 of_option x (Some y) (inl same) = ap (λ (z : FunctionPlan). Some z) same
 of_option x (Some y) (inr none) = absurd none
-
-in_plans : (order : List Id) (plans : List FunctionPlan) (p : FunctionPlan) → IsIn p (in_order order plans) → IsIn p plans
-in_plans order plans p among =
-    let n = of_flat (plan_at plans) order p among in
-    (found_by (has_id n.0) plans p (of_option p (find (has_id n.0) plans) n.2)).0
 
 module _ (bytes : List ℕ) (m : ModuleState) (o : Options) (read : IsReadFrom bytes m) (fine : IsFine m o) (unit : TranslationUnit) (u : IsUnitOf m o unit) (inv : Invocation) (told : IsInvocation inv) (left : IsLeftOfGlobals bytes m o) where
   abbrev found : Key → Option Text

@@ -26,6 +26,7 @@ use Rattle.text_rules.specs.Declarations.{Names, type_at, pointee_at, initial, s
 use Rattle.function_text.specs.Functions.{FunctionPlan, written, function_decl}
 use Rattle.unit_rules.specs.Translation.{Naming, IsPlanOf}
 use Rattle.unit_rules.specs.Unit.{item_names_of, called, in_order, reached_of, source_of, IsUnitOf}
+use Rattle.constant_law.proofs.Within.{constant_no_variable}
 use Rattle.text_law.specs.Interface.{is_block_item, is_spec_item, items_in, sizes_in, is_seen, block_item, item_of, is_settable, HasInterface}
 
 -- what is a struct is no variable, and neither is a constant; a struct is no constant
@@ -33,11 +34,6 @@ struct_only : (o : Op) → is o code.TypeStruct ≡ true → (is o code.Variable
 unfolding number
 struct_only code.TypeStruct on = (refl, refl)
 struct_only o on = cc
-
-constant_only : (o : Op) → is_constant_op o ≡ true → is o code.Variable ≡ false
-unfolding number
-constant_only code.Variable on = cc
-constant_only o on = refl
 
 module _ (s : Source) (r : Reached) (names : Names) where
   -- a block has a variable
@@ -104,7 +100,7 @@ module _ (s : Source) (r : Reached) (names : Names) where
           one_item false = refl
 
       by_constant : (c : Bool) → is_declared_constant s r v ≡ c → filter is_block_item (if c then constant_decl s names v ∷ [] else (if is_written_variable r v then variable_decl s names v (block_of s.of.globals v) else [])) ≡ Blocks v (block_of s.of.globals v)
-      by_constant true on = none_there v (no_block v (constant_only v.op (constant_is v on)))
+      by_constant true on = none_there v (no_block v (constant_no_variable v.op (constant_is v on)))
       by_constant false off = by_variable (block_of s.of.globals v) refl
 
       by_struct : (t : Bool) → is_written_struct s r v ≡ t

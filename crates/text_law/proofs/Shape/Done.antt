@@ -28,6 +28,7 @@ use Rattle.expr_forward.specs.Scope.{Scope, globals}
 use Rattle.expr_forward.specs.Values.{value}
 use Rattle.expr_forward.specs.Paths.{place_text, place_expr}
 use Rattle.expr_forward.specs.Statements.{set_by, is_void, callee_text, call_argument, call_arguments, has_result, comparator, atomic_operand, atomic_name, atomic_arguments, bare_call, when_bit, memory_barrier, semantics, is_variable_form, inst_text}
+use Rattle.list_law.proofs.Tests.{or_true}
 use Rattle.spell_law.specs.Uses.{UseEach}
 use Rattle.spell_law.specs.Statements.{EachStmt}
 use Rattle.text_law.specs.Deeds.{Deed, reads, assigns, calls, deeds, deeds_of, place_deeds}
@@ -76,18 +77,10 @@ module _ (o : Outer) (h : ℕ) where
   seen-function f on = ap (λ (b : Bool). b || (is_in atomics f || is_in barriers f)) on
 
   seen-atomic : (f : Text) → is_in atomics f ≡ true → is_seen o (calls f) ≡ true
-  seen-atomic f on = ap (λ (b : Bool). is_in o.functions f || (b || is_in barriers f)) on ∙ by_test (is_in o.functions f)
-    where
-      by_test : (b : Bool) → (b || true) ≡ true
-      by_test true = refl
-      by_test false = refl
+  seen-atomic f on = ap (λ (b : Bool). is_in o.functions f || (b || is_in barriers f)) on ∙ or_true (is_in o.functions f)
 
   seen-barrier : (f : Text) → (is_in atomics f || is_in barriers f) ≡ true → is_seen o (calls f) ≡ true
-  seen-barrier f on = ap (λ (b : Bool). is_in o.functions f || b) on ∙ by_test (is_in o.functions f)
-    where
-      by_test : (b : Bool) → (b || true) ≡ true
-      by_test true = refl
-      by_test false = refl
+  seen-barrier f on = ap (λ (b : Bool). is_in o.functions f || b) on ∙ or_true (is_in o.functions f)
 
   atomic-in : (a : AtomicOp) → is_in atomics (atomic_name a) ≡ true
   atomic-in atomic.Load = refl

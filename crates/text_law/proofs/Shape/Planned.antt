@@ -1,6 +1,6 @@
 -- The tree of a planned function, its flags and the order of its groups are as its shape asks.
-use Rattle.std.proofs.Common.{◌≡◌, ◌<◌, ◌≤◌, ◌+◌, ◌==◌, ◌&&◌, ◌++◌, not, ℕ, zero, suc, Bool, true, List, [], ◌∷◌, length, filter, Some, refl, sym, ap, ◌∙◌, subst, if◌then◌else◌, arith}
-use Rattle.std.specs.Prelude.{is_some, slice_get, slice_index}
+use Rattle.std.proofs.Common.{◌≡◌, ◌<◌, ◌≤◌, ◌+◌, ◌==◌, ◌&&◌, ◌++◌, not, ℕ, Bool, true, List, [], length, filter, Some, refl, sym, ap, ◌∙◌, subst, if◌then◌else◌, arith}
+use Rattle.std.specs.Prelude.{is_some, slice_index}
 use Rattle.std.specs.List.{concat, list_any}
 use Rattle.std.proofs.lemmas.Bool.{and_from}
 use Rattle.spv_module.specs.State.{ModuleState}
@@ -23,6 +23,7 @@ use Rattle.function_plan.specs.Targets.{target_of}
 use Rattle.function_text.specs.Functions.{FunctionPlan, label_of, when, blocks_of}
 use Rattle.unit_rules.specs.Translation.{Naming, IsPlanOf}
 use Rattle.unit_rules.specs.Unit.{IsUnitOf}
+use Rattle.list_law.proofs.Lists.{get_index}
 use Rattle.region_law.specs.Leads.{In, AreApart}
 use Rattle.tree_law.proofs.SwitchOrder.{order_is}
 use Rattle.spell_law.specs.Blocks.{IsWhole}
@@ -40,11 +41,6 @@ flags_keyed m o unit u p among = record {
   leave = λ b x is. (Leave (label_of p b), refl, (leave_key m o unit u p among b x is).1);
   fell = λ b x is. (Fell (label_of p b), refl, (fell_key m o unit u p among b x is).1);
 }
-
-get_index : (xs : List ℕ) (k t : ℕ) → slice_get xs k ≡ Some t → slice_index xs k ≡ t
-get_index [] k t at = cc
-get_index (x ∷ xs) zero t at = cc
-get_index (x ∷ xs) (suc k) t at = get_index xs k t at
 
 module _ (src : Source) (found : Naming) (f : Function) (plan : FunctionPlan) (planned : IsPlanOf src found f plan) (sound : IsSound (graph f)) where
   abbrev g : List Node

@@ -1,7 +1,6 @@
 -- What is written of a function has its shape, where its blocks and edges are seen to do what their instructions do.
-use Rattle.std.proofs.Common.{◌≡◌, ◌≤◌, ◌+◌, ◌==◌, ℕ, Bool, true, false, List, [], ◌∷◌, ◌++◌, map, filter, length, None, Some, refl, sym, ◌∙◌, ap, subst, arith, append-nil, inl, inr, if◌then◌else◌}
+use Rattle.std.proofs.Common.{◌≡◌, ◌≤◌, ◌+◌, ◌==◌, ℕ, Bool, true, false, List, [], ◌∷◌, ◌++◌, map, filter, length, None, Some, refl, sym, ◌∙◌, ap, subst, arith, append-nil, if◌then◌else◌}
 use Rattle.std.specs.List.{AllZip}
-use Rattle.std.proofs.lemmas.Bool.Decides.{eqb_tells}
 use Rattle.spv_module.specs.declared.inst.Function.{Function}
 use Rattle.structure_rules.specs.declared.graph.Node.{Node}
 use Rattle.structure_rules.specs.declared.graph.Part.TheVariants.{Loop}
@@ -12,6 +11,7 @@ use Rattle.structure_recover.specs.Once.{Around, within, round, around, stands, 
 use Rattle.glsl_ast.specs.Tree.{Text, Stmt, stmts_in}
 use Rattle.control_text.specs.declared.place.Place.{Place}
 use Rattle.control_text.specs.Statements.{Blocks, function_text}
+use Rattle.list_law.proofs.Numbers.{number_itself}
 use Rattle.region_law.specs.Leads.{In, AreApart}
 use Rattle.spell_law.specs.Blocks.{IsWhole}
 use Rattle.text_rules.specs.Constants.{Source}
@@ -87,11 +87,8 @@ module _ (s : Source) (found : Naming) (o : Outer) (f : Function) (w : Blocks) (
 
     told-is : (t : Bool) → Told (if t then entry ∷ [] else []) ≡ (if t then statements_of s f g b else [])
     told-is false = refl
-    told-is true = by_test (b == b) (same b)
+    told-is true = by_test (b == b) (number_itself b)
       where
-        same : (n : ℕ) → (n == n) ≡ true
-        same n = elim (eqb_tells n n) [ inl w ↦ w.0 | inr w ↦ absurd (w.1 refl) ]
-
         by_test : (t : Bool) → t ≡ true → (if t then Whole b (around g b) else []) ++ [] ≡ statements_of s f g b
         by_test true on = append-nil (Whole b (around g b)) ∙ whole-is
         by_test false off = cc

@@ -2,9 +2,7 @@
 use Rattle.std.proofs.Common.{◌≡◌, ℕ, Bool, true, false, List, Contains, Option, Some, None, unwrap_or, inl, inr, refl, sym, ap, ◌∙◌, subst, if◌then◌else◌}
 use Rattle.std.specs.Prelude.{◌⊎◌, ◌==◌, option_and_then, slice_get, slice_index}
 use Rattle.std.proofs.lemmas.Option.{same_Some}
-use Rattle.spv_ops.specs.Opcode.{is, number}
-use Rattle.spv_ops.specs.Groups.{is_constant as is_constant_op}
-use Rattle.spv_ops.specs.declared.Op.{Op}
+use Rattle.spv_ops.specs.Opcode.{is}
 use Rattle.spv_ops.specs.declared.Op.TheVariants as code
 use Rattle.spv_ops.specs.Enumerants.{class_number}
 use Rattle.spv_ops.specs.declared.StorageClass.TheVariants as storage
@@ -47,6 +45,7 @@ use Rattle.typed_law.specs.Conforms.{IsConforming}
 use Rattle.typed_law.specs.Words.{AreGivenWords}
 use Rattle.typed_law.proofs.Lists.{and_left, some_part}
 use Rattle.typed_law.proofs.Values.{own_type, shaped_some}
+use Rattle.constant_law.proofs.Within.{constant_no_variable}
 use Rattle.claim_law.specs.Claimed.{IsIn, HasName}
 use Rattle.claim_law.proofs.Constants.{found_in}
 use Rattle.claim_law.proofs.Listed.{at_place}
@@ -67,11 +66,6 @@ use Rattle.text_law.proofs.Shape.Named.{size_unseen}
 use Rattle.text_law.proofs.Shape.BuiltIns.{built_unseen}
 use Rattle.text_law.proofs.Shape.Apart.{value_unseen, global_unseen, variable_apart}
 use Rattle.text_law.proofs.Shape.Parts.{extent_unseen, IsLeftOf, kind_unseen}
-
-no_variable : (o : Op) → is_constant_op o ≡ true → is o code.Variable ≡ false
-unfolding number
-no_variable code.Variable on = cc
-no_variable o on = refl
 
 module _ (s : Setting) (entry : Option (List ℕ)) (right : IsConforming s.of entry) (kinds : HaveKinds s.of.globals) (o : Options) (unit : TranslationUnit) (u : IsUnitOf s.of o unit) (p : FunctionPlan) (among : IsIn p u.plans) where
   abbrev Gs : List Inst
@@ -115,7 +109,7 @@ module _ (s : Setting) (entry : Option (List ℕ)) (right : IsConforming s.of en
       where
         by_reading : (r : Reading) → UsesExpr X (expr_by Src (id_text Found) g r)
         by_reading Plain = literal_fits (constant_shape Src g) (plain_value Src g) (plain_fits Src given g (words g g_in))
-        by_reading Named = global_unseen s entry right kinds o unit u p among g g_in (no_variable g.op on)
+        by_reading Named = global_unseen s entry right kinds o unit u p among g g_in (constant_no_variable g.op on)
         by_reading GroupSize = size_unseen Found u.lawful (memory_ids Src Fn)
         by_reading (GroupSizePart axis) = (size_unseen Found u.lawful (memory_ids Src Fn), tt)
 

@@ -26,7 +26,7 @@ use Rattle.naming_law.proofs.Tops.{of_filtered, of_mapped, of_either, of_flat}
 use Rattle.naming_law.proofs.Once.{have_not, one_inst, number_from}
 use Rattle.text_law.specs.Declarations.{occurs}
 use Rattle.text_law.specs.Variables.{of_result, is_local_here, locals_of, index_key, kept_of, flag_key}
-use Rattle.text_law.proofs.Variables.Named.{AllKeys}
+use Rattle.text_law.proofs.Variables.Named.{AllKeys, as_in}
 
 abbrev pub KeysApart : List Key → Type 0
 KeysApart [] = Unit {0}
@@ -181,17 +181,12 @@ module _ (gs : List Inst) (f : Function) (form : ℕ → Form) (carried : ℕ �
   flags_apart_keys key needs [] apart own = tt
   flags_apart_keys key needs (t ∷ ts) apart own = by_test (needs t) (flags_apart_keys key needs ts apart.1 (λ a b x y. own a b (inr x) (inr y)))
     where
-      as_number_in : (us : List ℕ) (u : ℕ) → IsIn u us → In u us
-      as_number_in [] u there = absurd there
-      as_number_in (v ∷ us) u (inl same) = inl (sym same)
-      as_number_in (v ∷ us) u (inr there) = inr (as_number_in us u there)
-
       by_test : (q : Bool) → KeysApart (map (flag_key gs f form carried key) (filter needs ts)) → KeysApart (map (flag_key gs f form carried key) (if q then t ∷ filter needs ts else filter needs ts))
       by_test false rest = rest
       by_test true rest = (
         (λ there.
             let u = of_mapped (flag_key gs f form carried key) (filter needs ts) (flag_key gs f form carried key t) there in
-            let u_in = as_number_in ts u.0 (of_filtered needs ts u.0 u.1).0 in
+            let u_in = as_in ts u.0 (of_filtered needs ts u.0 u.1).0 in
             apart.0 (subst (λ (n : ℕ). In n ts) (own u.0 t (inr u_in) (inl refl) u.2) u_in)),
         rest,
       )

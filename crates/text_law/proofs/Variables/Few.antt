@@ -5,6 +5,7 @@ use Rattle.std.specs.Option.{option_map_or}
 use Rattle.std.specs.List.{enumerate_from, range_with_len}
 use Rattle.std.proofs.lemmas.List.{length-append, length-map}
 use Rattle.std.proofs.lemmas.Bool.Decides.{eqb_tells}
+use Rattle.std.proofs.lemmas.Option.{same_Some}
 use Rattle.spv_module.specs.declared.inst.Inst.{Inst}
 use Rattle.spv_module.specs.declared.inst.Block.{Block}
 use Rattle.spv_module.specs.declared.inst.Function.{Function}
@@ -189,16 +190,13 @@ module _ (gs : List Inst) (p : FunctionPlan) (sound : IsSound (graph (written p)
       by_exit terminator.Switch con fit = cc
       by_exit terminator.Leave con fit = cc
 
-      one_is : (x y : ℕ) → Some x ≡ Some y → x ≡ y
-      one_is x y e = cc
-
       by_targets : (ts : List ℕ) → length ts ≤ 2 → is_pair_of_same ts ≡ false → slice_get ts 0 ≡ Some t → slice_get ts 1 ≡ Some u → ⊥
       by_targets [] few apart a c = cc
       by_targets (x ∷ []) few apart a c = cc
       by_targets (x ∷ y ∷ z ∷ zs) few apart a c = absurd (omega (arith, few))
       by_targets (x ∷ y ∷ []) few apart a c = elim (eqb_tells x y) [
         | inl w ↦ (let never : true ≡ false = sym w.0 ∙ apart in cc)
-        | inr w ↦ w.1 (one_is x t a ∙ (same ∙ sym (one_is y u c)))
+        | inr w ↦ w.1 (same_Some x t a ∙ (same ∙ sym (same_Some y u c)))
       ]
 
   both_few : (b : ℕ) → (nth g b).reached ≡ true → is_conditional (nth g b).exit ≡ true → length (to_spares p b (target g b 0) ++ to_spares p b (target g b 1)) ≤ kid_sum (many b) all

@@ -33,6 +33,7 @@ use Rattle.function_plan.specs.Phis.{phi_blocks}
 use Rattle.function_text.specs.Functions.{FunctionPlan, written, is_variable, is_hoisted, body_text}
 use Rattle.unit_rules.specs.Translation.{text_of, IsPlanOf}
 use Rattle.unit_rules.specs.Unit.{source_of, IsUnitOf}
+use Rattle.list_law.proofs.Tests.{not_both}
 use Rattle.call_law.specs.Known.{IsFunctionOf}
 use Rattle.typed_law.specs.Conforms.{IsConforming}
 use Rattle.plan_law.specs.InOrder.{AreApart}
@@ -59,9 +60,6 @@ variable_silent : (o : Op) → is o code.Variable ≡ true → kind_of o ≡ kin
 unfolding kind_of group_of number
 variable_silent code.Variable on = refl
 variable_silent o on = cc
-
-not_both : (b : Bool) → b ≡ true → b ≡ false → ⊥
-not_both b on off = cc
 
 one_form : (x : Form) → is_hoisted x ≡ true → is_local x ≡ true → ⊥
 one_form Hoisted a b = cc

@@ -28,6 +28,7 @@ use Rattle.expr_forward.specs.Kinds.{kind_of}
 use Rattle.expr_forward.specs.Statements.{is_void, has_result}
 use Rattle.function_text.specs.Functions.{FunctionPlan}
 use Rattle.unit_rules.specs.Unit.{IsUnitOf}
+use Rattle.list_law.proofs.Tests.{clash}
 use Rattle.plan_law.specs.Ordered.{AreOrdered}
 use Rattle.plan_law.proofs.Order.{in_order}
 use Rattle.plan_law.specs.InOrder.{IsAmong}
@@ -77,9 +78,6 @@ unset_cases groups.Chain e = inl refl
 unset_cases groups.Variable e = inr (inl refl)
 unset_cases groups.Phi e = inr (inr refl)
 unset_cases g e = cc
-
-clash : {A : Type 0} → true ≡ false → A
-clash e = cc
 
 -- so it is of all instructions of a function
 abbrev pub AreSet : Scope → Type 0

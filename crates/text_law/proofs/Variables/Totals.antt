@@ -1,13 +1,13 @@
 -- What a tree counts for its blocks, each reached block stands once: so each counts once.
 use Rattle.std.proofs.Common.{◌≡◌, ◌+◌, ◌==◌, ℕ, Bool, true, false, List, [], ◌∷◌, length, filter, inl, inr, refl, sym, ap, ◌∙◌, subst, arith, if◌then◌else◌}
 use Rattle.std.specs.List.{range_with_len}
-use Rattle.std.proofs.lemmas.Bool.Decides.{eqb_tells}
 use Rattle.structure_rules.specs.declared.graph.Node.{Node}
 use Rattle.structure_rules.specs.Graph.{nth}
 use Rattle.nest_place.proofs.Outward.{reached_inside}
 use Rattle.structure_recover.specs.Tree.{Region}
 use Rattle.structure_recover.specs.Once.{Around, around, stands, standing, StandsOnce}
 use Rattle.structure_recover.proofs.Counting.{kid_sum}
+use Rattle.list_law.proofs.Numbers.{number_same}
 use Rattle.region_law.specs.Leads.{In, AreApart}
 use Rattle.tree_law.proofs.SwitchOrder.{in_range, range_apart}
 use Rattle.claim_law.specs.Claimed.{IsIn}
@@ -39,10 +39,7 @@ module _ {A : Type 0} (v : ℕ → ℕ) where
 
   in_chosen : (s : ℕ × A) (ss : List (ℕ × A)) → IsIn s ss → IsIn s (chosen s.0 ss)
   in_chosen s [] there = absurd there
-  in_chosen s (t ∷ ss) (inl same) = subst (λ (b : Bool). IsIn s (if b then t ∷ chosen s.0 ss else chosen s.0 ss)) (sym (own t.0 s.0 (ap (λ (q : ℕ × A). q.0) same))) (inl same)
-    where
-      own : (a b : ℕ) → a ≡ b → (a == b) ≡ true
-      own a b same = elim (eqb_tells a b) [ inl w ↦ w.0 | inr w ↦ absurd (w.1 same) ]
+  in_chosen s (t ∷ ss) (inl same) = subst (λ (b : Bool). IsIn s (if b then t ∷ chosen s.0 ss else chosen s.0 ss)) (sym (number_same t.0 s.0 (ap (λ (q : ℕ × A). q.0) same))) (inl same)
   in_chosen s (t ∷ ss) (inr there) = by_test (t.0 == s.0) (in_chosen s ss there)
     where
       by_test : (b : Bool) → IsIn s (chosen s.0 ss) → IsIn s (if b then t ∷ chosen s.0 ss else chosen s.0 ss)
