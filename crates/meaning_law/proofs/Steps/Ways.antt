@@ -79,6 +79,7 @@ use Rattle.unit_law.proofs.Places.{Found, makes_in, IsRuled, IsSeen, home, place
 use Rattle.unit_law.proofs.Ruled.{chains}
 use Rattle.unit_law.proofs.Ways.{HaveKinds, F, R, V, in_module, written_is, own_type_of, local_outside, reached_nth}
 use Rattle.meets_law.proofs.GlobalReads.{mention_listed, captured_listed}
+use Rattle.meets_law.proofs.PointerStarts.{none_of}
 use Rattle.formed_law.specs.Formed.{IsFormedFunction}
 use Rattle.formed_law.proofs.Pointing.{accepted_chains}
 use Rattle.naming_law.proofs.Keys.{S, key, found as names_found, names}
@@ -103,11 +104,6 @@ variable_made : (q : steps.StepKind) → makes_pointer q ≡ true → (q ≡ ste
 variable_made steps.chain on = inl refl
 variable_made steps.variable on = inr refl
 variable_made q on = cc
-
-none_chain : (n : ℕ) (is : List Inst) (j : Inst) → NoneMakes n is → IsIn j is → is_chain j.op ≡ true → j.result ≡ n → ⊥
-none_chain n [] j none among on same = absurd among
-none_chain n (x ∷ xs) j none (inl here) on same = none.0 (ap (λ (i : Inst). is_chain i.op) here ∙ on) (ap (λ (i : Inst). i.result) here ∙ same)
-none_chain n (x ∷ xs) j none (inr later) on same = none_chain n xs j none.1 later on same
 
 -- a type that points to something is a pointer
 pointer_holds : (gs : List Inst) (ty : ℕ) → is_some (storage_class gs ty) ≡ true → fails rows.is_pointer gs ty ≡ false
@@ -348,7 +344,7 @@ module _ (bytes : List ℕ) (m : ModuleState) (o : Options) (read : IsReadFrom b
             by_step of_it.0 of_it.1 (makes_pointer (step_kind j.op)) refl
           where
             by_kind : IsIn j (insts_of Fn) → j.result ≡ n → (step_kind j.op ≡ steps.chain) ⊎ (step_kind j.op ≡ steps.variable) → Begins Fn
-            by_kind j_in same (inl step) = absurd (none_chain n (insts_of Fn) j none j_in (chain_op j.op step) same)
+            by_kind j_in same (inl step) = absurd (none_of n (insts_of Fn) j none j_in (chain_op j.op step) same)
             by_kind j_in same (inr step) = by_variable j j_in same step off
 
             by_step : IsIn j (insts_of Fn) → j.result ≡ n → (t : Bool) → makes_pointer (step_kind j.op) ≡ t → Begins Fn
