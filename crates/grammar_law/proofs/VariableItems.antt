@@ -9,7 +9,6 @@ use Rattle.std.proofs.lemmas.Option.{same_Some, none-some}
 use Rattle.spv_ops.specs.Opcode.{is, number}
 use Rattle.spv_ops.specs.Operands.{is_id}
 use Rattle.spv_ops.specs.Groups.{is_constant as is_constant_op}
-use Rattle.spv_ops.specs.Shape.{shape}
 use Rattle.spv_ops.specs.Enumerants.{class_number, decoration_number}
 use Rattle.spv_ops.specs.declared.Op.{Op}
 use Rattle.spv_ops.specs.declared.Op.TheVariants as code

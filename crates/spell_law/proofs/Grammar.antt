@@ -1,9 +1,8 @@
 -- What is made of names of the grammar is spelled, and what is made of names of structs that are declared, and of others, is declared.
-use Rattle.std.proofs.Common.{◌≡◌, true, false, List, [], ◌∷◌}
+use Rattle.std.proofs.Common.{List, [], ◌∷◌}
 use Rattle.glsl_ast.specs.Tree as tree
 use Rattle.glsl_ast.specs.Tree.{Text, TypeName, type_name, Extent, Base, Expr, Exprs, no_exprs}
-use Rattle.glsl_grammar.specs.Spelled.{IsName, IsSpelledExtent, AreSpelledExtents, IsSpelledBase, IsSpelledType, IsSpelledExpr, AreSpelledExprs}
-use Rattle.glsl_grammar.specs.Read.{is_declared}
+use Rattle.glsl_grammar.specs.Spelled.{IsSpelledExtent, AreSpelledExtents, IsSpelledBase, IsSpelledType, IsSpelledExpr, AreSpelledExprs}
 use Rattle.glsl_grammar.specs.Scopes.{IsDeclaredBase, IsDeclaredType, IsDeclaredExpr, AreDeclaredExprs}
 use Rattle.spell_law.specs.Uses.{Words, UsesExtent, UseExtents, UsesBase, UsesType, UsesExpr, UsesMeasured, UseExprs, AreSpelledWords, AreDeclaredWords}
 

@@ -1,9 +1,8 @@
 -- Statements of names of the grammar are spelled, and declared where structs are.
-use Rattle.std.proofs.Common.{◌≡◌, true, false, List, [], ◌∷◌, Option, Some, None}
+use Rattle.std.proofs.Common.{List, [], ◌∷◌, Option, Some, None}
 use Rattle.glsl_ast.specs.Tree as tree
 use Rattle.glsl_ast.specs.Tree.{Text, Expr, LStep, LValue, lvalue, Stmt, Stmts, no_stmts, Arms, no_arms, stmts_in}
-use Rattle.glsl_grammar.specs.Spelled.{IsName, AreSpelledSteps, IsSpelledLValue, IsSpelledIfSome, IsSpelledStmt, AreSpelledStmts, AreSpelledArms}
-use Rattle.glsl_grammar.specs.Read.{is_declared}
+use Rattle.glsl_grammar.specs.Spelled.{AreSpelledSteps, IsSpelledLValue, IsSpelledIfSome, IsSpelledStmt, AreSpelledStmts, AreSpelledArms}
 use Rattle.glsl_grammar.specs.Scopes.{AreDeclaredSteps, IsDeclaredLValue, IsDeclaredValue, IsDeclaredStmt, AreDeclaredStmts, AreDeclaredArms}
 use Rattle.spell_law.specs.Uses.{Words, UseSteps, UsesLValue, AreSpelledWords, AreDeclaredWords}
 use Rattle.spell_law.specs.Statements.{UsesIfSome, UsesStmt, UseStmts, UseArms, EachStmt}

@@ -1,9 +1,9 @@
 -- A text whose items are made of names of the grammar, and of structs that stand before them, is in the grammar.
-use Rattle.std.proofs.Common.{◌≡◌, true, false, List, [], ◌∷◌, Option, Some, None}
+use Rattle.std.proofs.Common.{List, [], ◌∷◌, Option, Some, None}
 use Rattle.glsl_ast.specs.Tree as tree
 use Rattle.glsl_ast.specs.Tree.{Text, TypeName, Field, field, Param, param, Decl, TranslationUnit, translation_unit}
-use Rattle.glsl_grammar.specs.Read.{is_declared, names_after}
-use Rattle.glsl_grammar.specs.Spelled.{IsName, IsSpelledDecl, AreSpelledDecls, AreSpelledFields, AreSpelledMembers, AreSpelledParams, IsSpelledResult}
+use Rattle.glsl_grammar.specs.Read.{names_after}
+use Rattle.glsl_grammar.specs.Spelled.{IsSpelledDecl, AreSpelledDecls, AreSpelledFields, AreSpelledMembers, AreSpelledParams, IsSpelledResult}
 use Rattle.glsl_grammar.specs.Scopes.{IsDeclared, IsDeclaredDecl, AreDeclaredDecls, AreDeclaredFields, AreDeclaredMembers, AreDeclaredParams, IsDeclaredResult}
 use Rattle.glsl_grammar.specs.InGrammar.{IsInGrammar}
 use Rattle.spell_law.specs.Uses.{Words, AreSpelledWords, AreDeclaredWords}

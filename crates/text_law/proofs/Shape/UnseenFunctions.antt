@@ -1,5 +1,5 @@
 -- What is written of a planned function, but for the statements of its blocks, is made of names of which nothing is seen: conditions and selectors, results, the copies of edges, and the top.
-use Rattle.std.proofs.Common.{◌≡◌, ◌<◌, ◌^◌, ℕ, true, false, List, length, Option, Some, None, refl, sym, ap, subst}
+use Rattle.std.proofs.Common.{◌≡◌, ◌<◌, ◌^◌, ℕ, true, false, List, length, Option, Some, None, refl, sym, subst}
 use Rattle.std.specs.Prelude.{option_map, slice_get}
 use Rattle.spv_ops.specs.Opcode.{is}
 use Rattle.spv_ops.specs.declared.Op.TheVariants as code

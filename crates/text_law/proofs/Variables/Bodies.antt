@@ -1,5 +1,5 @@
 -- The body of a planned function declares the variables of the function.
-use Rattle.std.proofs.Common.{◌≡◌, ◌+◌, ◌≤◌, ◌==◌, ◌&&◌, ℕ, Bool, true, false, List, [], ◌∷◌, ◌++◌, map, filter, None, append-nil, refl, sym, ap, ◌∙◌, arith, if◌then◌else◌}
+use Rattle.std.proofs.Common.{◌≡◌, ◌+◌, ◌==◌, ◌&&◌, ℕ, Bool, true, false, List, [], ◌∷◌, ◌++◌, map, filter, None, append-nil, refl, sym, ap, ◌∙◌, arith, if◌then◌else◌}
 use Rattle.std.specs.Prelude.{flat_map, bit_and, codes, slice_index, is_none}
 use Rattle.spv_ops.specs.Groups.{is_chain}
 use Rattle.spv_module.specs.Lists.{id}

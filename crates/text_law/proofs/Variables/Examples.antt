@@ -1,5 +1,5 @@
 -- What a body declares, computed.
-use Rattle.std.proofs.Common.{◌≡◌, List, [], ◌∷◌, ◌++◌, Some, None, refl}
+use Rattle.std.proofs.Common.{◌≡◌, [], ◌∷◌, ◌++◌, Some, None, refl}
 use Rattle.std.specs.Prelude.{codes}
 use Rattle.glsl_ast.specs.Tree.{Text, boolean, uint, TypeName, type_name, name, declare, loop, switch, Stmts, no_stmts, stmt, no_arms, arm}
 use Rattle.text_law.specs.Declarations.{valued, unset, opened, occurs}

@@ -1,9 +1,8 @@
 -- The functions of a text of an accepted module declare the variables of the module's functions.
-use Rattle.std.proofs.Common.{◌≡◌, ◌<◌, ◌≤◌, ◌^◌, ℕ, Bool, true, false, List, [], ◌∷◌, ◌++◌, length, map, Option, Some, None, inl, inr, refl, sym, ap, ◌∙◌, subst, if◌then◌else◌}
+use Rattle.std.proofs.Common.{◌≡◌, ◌<◌, ◌≤◌, ◌^◌, ℕ, true, false, List, [], ◌∷◌, ◌++◌, length, map, Option, Some, None, inl, inr, refl, sym, ap, subst}
 use Rattle.std.specs.Prelude.{flat_map, find}
 use Rattle.std.specs.Option.{option_to_list}
 use Rattle.std.proofs.lemmas.List.Elements.{All-contains}
-use Rattle.spv_ops.specs.Opcode.{is}
 use Rattle.spv_ops.specs.OpGroups.{group_of}
 use Rattle.spv_ops.specs.declared.Op.TheVariants as code
 use Rattle.spv_module.specs.Inst.{has_type}
@@ -21,13 +20,13 @@ use Rattle.module_check.specs.ReadFrom.{IsReadFrom}
 use Rattle.module_semantics.specs.Setting.{Setting}
 use Rattle.name_alloc.specs.declared.claims.Key.{Key}
 use Rattle.name_alloc.specs.Naming.{name_of}
-use Rattle.glsl_ast.specs.Tree.{Text, Decl, Stmts, stmts_in, TranslationUnit}
+use Rattle.glsl_ast.specs.Tree.{Text, Stmts, stmts_in, TranslationUnit}
 use Rattle.text_rules.specs.Claims.{label}
 use Rattle.text_rules.specs.Constants.{Source}
 use Rattle.expr_forward.specs.Scope.{Scope, globals}
 use Rattle.function_text.specs.Functions.{FunctionPlan, written, function_name, function_decl, body_text}
 use Rattle.unit_rules.specs.Translation.{Naming, scope_of, IsPlanOf}
-use Rattle.unit_rules.specs.Unit.{source_of, called, is_called, in_order, has_id, reached_of, item_names_of, IsUnitOf}
+use Rattle.unit_rules.specs.Unit.{source_of, called, is_called, in_order, has_id, IsUnitOf}
 use Rattle.height_law.proofs.Closed.{sound-of}
 use Rattle.plan_law.specs.InOrder.{IsAmong}
 use Rattle.formed_law.specs.Formed.{IsFormedFunction}

@@ -1,8 +1,8 @@
 -- What lists of statements declare with a value.
-use Rattle.std.proofs.Common.{◌≡◌, ◌+◌, ℕ, Bool, List, [], ◌∷◌, ◌++◌, Option, Some, None, append_assoc, refl, ap, sym, ◌∙◌, arith, if◌then◌else◌}
+use Rattle.std.proofs.Common.{◌≡◌, ◌+◌, ℕ, Bool, List, [], ◌∷◌, ◌++◌, Option, Some, None, append_assoc, refl, ap, sym, ◌∙◌, arith}
 use Rattle.std.specs.Prelude.{is_some}
 use Rattle.glsl_ast.specs.Tree as text
-use Rattle.glsl_ast.specs.Tree.{Text, Expr, Stmt, stmts_in, name, not}
+use Rattle.glsl_ast.specs.Tree.{Text, Expr, Stmt, stmts_in}
 use Rattle.control_text.specs.Statements.{set_flag, flags, conditional, unless_fallen, leave_again, turn}
 use Rattle.text_law.specs.Declarations.{declared_by, declared, valued, occurs}
 

@@ -1,5 +1,5 @@
 -- The declarations at the top of a function: its variables, which have values, and results and kept indexes, which have none.
-use Rattle.std.proofs.Common.{◌≡◌, ◌&&◌, ℕ, Bool, true, false, List, [], ◌∷◌, ◌++◌, map, filter, Option, Some, None, append-nil, refl, sym, ap, ◌∙◌, if◌then◌else◌}
+use Rattle.std.proofs.Common.{◌≡◌, ℕ, Bool, List, [], ◌∷◌, ◌++◌, map, filter, Option, Some, None, append-nil, refl, sym, ap, ◌∙◌}
 use Rattle.std.specs.Prelude.{flat_map, is_none, is_some}
 use Rattle.std.proofs.lemmas.List.{map-append}
 use Rattle.std.proofs.lemmas.List.Elements.{filter-append}
