@@ -39,7 +39,6 @@ use Rattle.type_law.specs.Shaped.{HaveResults, HasConstants}
 use Rattle.global_law.specs.Sources.{source_of, chosen}
 use Rattle.global_law.proofs.Sizes.{part_value, part_is, sizes_are}
 use Rattle.lowering_law.specs.Says.{Says}
-use Rattle.path_law.proofs.Examples.{same_word}
 use Rattle.typed_law.proofs.Lists.{and_left, found_in}
 use Rattle.constant_law.specs.Items.{IsScalarSpec, AreSpecIds, AreSizes}
 use Rattle.constant_law.proofs.Valued.{IsValued, valued, IsOperand, AreOperands, operands}
@@ -100,6 +99,9 @@ module _ (s : Setting) (overrides : List (ℕ × Given)) (have : HasConstants s 
       c : IsValued s (chosen s overrides) have results rising n (word w)
       c = valued s (chosen s overrides) have results rising n (word w) has
 
+      word_same : (a b : ℕ) → Some (word a) ≡ Some (word b) → a ≡ b
+      word_same a b e = cc
+
       by_kind : (c : IsValued s (chosen s overrides) have results rising n (word w)) → (constant_kind c.inst.op ≡ kinds.Word) ⊎ (constant_kind c.inst.op ≡ kinds.SpecWord) → part_value s.invocation (size_now overrides (size_part s.of n)) ≡ w
       by_kind c (inr spec) = part_is s overrides have results n w c.inst c.there spec has
       by_kind c (inl plain_is) =
@@ -107,7 +109,7 @@ module _ (s : Setting) (overrides : List (ℕ × Given)) (have : HasConstants s 
           let none : spec_id s.of.heads n ≡ None = subst (λ k. spec_id s.of.heads k ≡ None) own (no_spec c.inst (found_in Gs n c.inst c.there) (λ is. subst IsScalarSpec plain_is is)) in
           ap (λ o. part_value s.invocation (size_now overrides (size_by o (option_map_or (λ (g : Inst). slice_index g.args 0) (global Gs n) 0)))) none
           ∙ ap (λ o. option_map_or (λ (g : Inst). slice_index g.args 0) o 0) c.there
-          ∙ same_word (slice_index c.inst.args 0) w (ap (value_by_kind c.from (chosen s overrides c.inst.result) c.shape c.inst.args) (sym plain_is) ∙ c.made)
+          ∙ word_same (slice_index c.inst.args 0) w (ap (value_by_kind c.from (chosen s overrides c.inst.result) c.shape c.inst.args) (sym plain_is) ∙ c.made)
 
   -- the parts of the module's size are those of these ids
   group_parts : (a b c : ℕ) → size_ids source ≡ a ∷ b ∷ c ∷ [] → group_size s.of s.entry ≡ size_part s.of a ∷ size_part s.of b ∷ size_part s.of c ∷ []
