@@ -46,10 +46,10 @@ use Rattle.naming_law.proofs.Once.{a_value, among_in}
 use Rattle.formed_law.proofs.Shaped.{AreGlobals, accepted_shaped}
 use Rattle.naming_law.proofs.Unit.{items, ordered, text}
 use Rattle.naming_law.proofs.Whole.{stands_reached}
-use Rattle.unit_law.proofs.Lists.{as_in, as_among, of_contained}
-use Rattle.unit_law.proofs.Ways.{HaveKinds, F, R, V, in_module}
-use Rattle.grammar_law.proofs.Inner.{stands_within}
-use Rattle.grammar_law.proofs.Lives.{lives}
+use Rattle.grammar_law.proofs.Unit.Lists.{as_in, as_among, of_contained}
+use Rattle.grammar_law.proofs.Unit.Ways.{HaveKinds, F, R, V, in_module}
+use Rattle.grammar_law.proofs.Grammar.Inner.{stands_within}
+use Rattle.grammar_law.proofs.Grammar.Lives.{lives}
 use Rattle.meaning_law.proofs.Moves.Planned.{planned_edge}
 use Rattle.formed_law.proofs.Labelled.{label_place}
 use Rattle.naming_law.proofs.Firsts.{of_in}
@@ -58,7 +58,7 @@ use Rattle.meaning_law.proofs.Steps.Joined.{AreCallsMet, calls_met, insts_met}
 use Rattle.use_chains.specs.Slots.{inst_at, IsLive}
 use Rattle.function_plan.specs.Phis.{is_gone}
 use Rattle.module_semantics.specs.Steps.{is_phi}
-use Rattle.unit_law.proofs.Kinded.{have_kinds}
+use Rattle.grammar_law.proofs.Unit.Kinded.{have_kinds}
 use Rattle.meaning_law.specs.Left.{IsLeftOfGlobals}
 use Rattle.meaning_law.proofs.Outside.Begins.{not_stuck, private_first, outside_first}
 use Rattle.meaning_law.proofs.Outside.Typed.{types_of_text}

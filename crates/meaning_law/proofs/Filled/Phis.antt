@@ -12,9 +12,9 @@ use Rattle.module_semantics.specs.Steps.{is_phi}
 use Rattle.plan_law.specs.InOrder.{IsAmong}
 use Rattle.typed_law.specs.Conforms.{IsConforming}
 use Rattle.typed_law.proofs.Others.{phi_group}
-use Rattle.unit_law.proofs.Ways.{HaveKinds}
-use Rattle.unit_law.proofs.ResultShapes.{stands_inside, IsShaped}
-use Rattle.unit_law.proofs.ResultTypes.{Gives, of_shape, of_pointer, of_call, gives}
+use Rattle.grammar_law.proofs.Unit.Ways.{HaveKinds}
+use Rattle.grammar_law.proofs.Unit.ResultShapes.{stands_inside, IsShaped}
+use Rattle.grammar_law.proofs.Unit.ResultTypes.{Gives, of_shape, of_pointer, of_call, gives}
 use Rattle.meaning_law.proofs.Moves.PhiOperands.{phi_typed}
 
 no_chain : groups.Phi ≡ groups.Chain → ⊥

@@ -51,7 +51,7 @@ use Rattle.path_law.proofs.Asked.{load_met, store_met}
 use Rattle.typed_law.specs.Conforms.{IsConforming}
 use Rattle.typed_law.proofs.Lists.{some_part}
 use Rattle.claim_law.specs.Claimed.{IsIn}
-use Rattle.unit_law.proofs.Ways.{HaveKinds}
+use Rattle.grammar_law.proofs.Unit.Ways.{HaveKinds}
 use Rattle.formed_law.specs.Formed.{IsFormedFunction}
 use Rattle.naming_law.proofs.Accesses.{AreWays, AllPoint, SaysAll, access_asked}
 use Rattle.naming_law.proofs.Insts.{AsksAccess}

@@ -68,10 +68,10 @@ use Rattle.typed_law.proofs.Values.{inside, own_type}
 use Rattle.typed_law.proofs.Others.{typed_some}
 use Rattle.ruled_law.proofs.Ruled.{contains_of}
 use Rattle.claim_law.specs.Claimed.{IsIn}
-use Rattle.unit_law.proofs.Lists.{as_in}
-use Rattle.unit_law.proofs.Shaped.{shaped_value}
-use Rattle.unit_law.proofs.Sets.{chain_no_phi}
-use Rattle.unit_law.proofs.Ways.{HaveKinds, plan_is}
+use Rattle.grammar_law.proofs.Unit.Lists.{as_in}
+use Rattle.grammar_law.proofs.Unit.Shaped.{shaped_value}
+use Rattle.grammar_law.proofs.Unit.Sets.{chain_no_phi}
+use Rattle.grammar_law.proofs.Unit.Ways.{HaveKinds, plan_is}
 use Rattle.formed_law.specs.Formed.{IsFormedBlock, IsFormedFunction}
 use Rattle.formed_law.proofs.Blocks.{reached_body, reached_only}
 use Rattle.formed_law.proofs.Inner.{is_inner}

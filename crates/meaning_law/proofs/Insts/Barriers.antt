@@ -27,7 +27,7 @@ use Rattle.agree_law.proofs.Machine.{machine}
 use Rattle.call_law.specs.Known.{IsFunctionOf, LendsWhole}
 use Rattle.typed_law.specs.Conforms.{IsConforming}
 use Rattle.claim_law.specs.Claimed.{IsIn}
-use Rattle.unit_law.proofs.Ways.{HaveKinds}
+use Rattle.grammar_law.proofs.Unit.Ways.{HaveKinds}
 use Rattle.formed_law.specs.Formed.{IsFormedFunction}
 use Rattle.naming_law.proofs.Keys.{S, names}
 use Rattle.meaning_law.proofs.Insts.Asks.{LeftOfBarriers, Here}

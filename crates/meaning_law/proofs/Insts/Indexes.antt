@@ -47,8 +47,8 @@ use Rattle.function_law.proofs.Selectors.{word_value}
 use Rattle.typed_law.specs.Conforms.{IsConforming}
 use Rattle.claim_law.specs.Claimed.{IsIn}
 use Rattle.claim_law.proofs.Listed.{any_in}
-use Rattle.unit_law.proofs.Lists.{same_test, of_filter, of_numbered_first}
-use Rattle.unit_law.proofs.Ways.{HaveKinds, plan_is}
+use Rattle.grammar_law.proofs.Unit.Lists.{same_test, of_filter, of_numbered_first}
+use Rattle.grammar_law.proofs.Unit.Ways.{HaveKinds, plan_is}
 use Rattle.formed_law.specs.Formed.{IsFormedFunction}
 use Rattle.naming_law.proofs.Insts.{kept_exprs}
 use Rattle.naming_law.proofs.Keys.{S, names}

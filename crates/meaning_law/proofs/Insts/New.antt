@@ -22,7 +22,7 @@ use Rattle.path_law.proofs.Based.{op_chain}
 use Rattle.typed_law.specs.Conforms.{IsFormed}
 use Rattle.claim_law.specs.Claimed.{IsIn}
 use Rattle.claim_law.proofs.Listed.{in_flat, at_place}
-use Rattle.unit_law.proofs.Lists.{as_among}
+use Rattle.grammar_law.proofs.Unit.Lists.{as_among}
 use Rattle.formed_law.specs.Formed.{ArePlain, IsFormedBlock}
 use Rattle.formed_law.proofs.Blocks.{behind_is}
 use Rattle.formed_law.proofs.Inner.{is_inner}

@@ -49,9 +49,9 @@ use Rattle.typed_law.specs.Conforms.{IsConforming, IsConformingIn}
 use Rattle.typed_law.proofs.Values.{inside}
 use Rattle.ruled_law.proofs.Ruled.{contains_of}
 use Rattle.claim_law.specs.Claimed.{IsIn}
-use Rattle.unit_law.proofs.Lists.{as_in}
-use Rattle.unit_law.proofs.Sets.{chain_no_phi}
-use Rattle.unit_law.proofs.Ways.{HaveKinds, F, V, in_module, plan_is, written_is}
+use Rattle.grammar_law.proofs.Unit.Lists.{as_in}
+use Rattle.grammar_law.proofs.Unit.Sets.{chain_no_phi}
+use Rattle.grammar_law.proofs.Unit.Ways.{HaveKinds, F, V, in_module, plan_is, written_is}
 use Rattle.formed_law.specs.Formed.{IsFormedFunction}
 use Rattle.formed_law.proofs.Blocks.{reached_body}
 use Rattle.formed_law.proofs.Inner.{is_inner}

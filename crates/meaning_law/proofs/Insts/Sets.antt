@@ -50,9 +50,9 @@ use Rattle.typed_law.proofs.Values.{inside, own_type}
 use Rattle.ruled_law.proofs.Ruled.{contains_of}
 use Rattle.claim_law.specs.Claimed.{IsIn}
 use Rattle.claim_law.proofs.Listed.{any_in, numbered}
-use Rattle.unit_law.proofs.Lists.{same_test, as_among}
-use Rattle.unit_law.proofs.Forms.{unmade_gone}
-use Rattle.unit_law.proofs.Ways.{HaveKinds, F, V, plan_is, written_is}
+use Rattle.grammar_law.proofs.Unit.Lists.{same_test, as_among}
+use Rattle.grammar_law.proofs.Unit.Forms.{unmade_gone}
+use Rattle.grammar_law.proofs.Unit.Ways.{HaveKinds, F, V, plan_is, written_is}
 use Rattle.naming_law.specs.Names.{is_other, is_result, is_value_parameter, is_local_form}
 use Rattle.naming_law.specs.Types.{IsTypeOfText}
 use Rattle.naming_law.proofs.Keys.{S, key, names}

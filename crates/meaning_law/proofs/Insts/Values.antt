@@ -41,11 +41,11 @@ use Rattle.plan_law.specs.InOrder.{IsAmong}
 use Rattle.typed_law.specs.Conforms.{IsConforming, IsConformingIn}
 use Rattle.typed_law.proofs.Values.{inside}
 use Rattle.claim_law.specs.Claimed.{IsIn}
-use Rattle.unit_law.proofs.Lists.{as_in}
-use Rattle.unit_law.proofs.Links.{placed_in}
-use Rattle.unit_law.proofs.Operands.{same_ids, operand_shaped, operation_no_phi, operand_mentioned}
-use Rattle.unit_law.proofs.Ways.{HaveKinds, F, R, V, in_module, reached_nth}
-use Rattle.meets_law.proofs.LiveOrGone.{placed_live}
+use Rattle.grammar_law.proofs.Unit.Lists.{as_in}
+use Rattle.grammar_law.proofs.Unit.Links.{placed_in}
+use Rattle.grammar_law.proofs.Unit.Operands.{same_ids, operand_shaped, operation_no_phi, operand_mentioned}
+use Rattle.grammar_law.proofs.Unit.Ways.{HaveKinds, F, R, V, in_module, reached_nth}
+use Rattle.grammar_law.proofs.Meets.LiveOrGone.{placed_live}
 use Rattle.formed_law.specs.Formed.{IsFormedBlock, IsFormedFunction}
 use Rattle.formed_law.proofs.Blocks.{reached_body, reached_only}
 use Rattle.formed_law.proofs.Inner.{is_inner}

@@ -34,7 +34,7 @@ use Rattle.typed_law.proofs.Rules.{refused}
 use Rattle.typed_law.proofs.Others.{phi_group}
 use Rattle.claim_law.specs.Claimed.{IsIn}
 use Rattle.claim_law.proofs.Listed.{in_flat, in_mapped, at_place}
-use Rattle.unit_law.proofs.Lists.{test_same, at_some, in_filter, none_passes, numbered_first, as_among}
+use Rattle.grammar_law.proofs.Unit.Lists.{test_same, at_some, in_filter, none_passes, numbered_first, as_among}
 use Rattle.function_law.proofs.Nodes.{node_is}
 use Rattle.formed_law.specs.Formed.{IsFormedFunction}
 use Rattle.formed_law.proofs.Blocks.{reached_body, only_end, end_is}

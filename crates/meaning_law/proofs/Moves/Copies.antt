@@ -38,8 +38,8 @@ use Rattle.claim_law.proofs.Named.{spare_named}
 use Rattle.edge_law.specs.Copies.{EdgeNames, source_text, move_text}
 use Rattle.naming_law.proofs.Keys.{names}
 use Rattle.safe_law.proofs.Flags.{planned}
-use Rattle.grammar_law.proofs.Moving as moving
-use Rattle.grammar_law.proofs.Moving.{edge_moves}
+use Rattle.grammar_law.proofs.Grammar.Moving as moving
+use Rattle.grammar_law.proofs.Grammar.Moving.{edge_moves}
 use Rattle.meaning_law.proofs.Written.EdgeMoves.{saved_in, IsMoveOf, moves_are_of, spare_shape_of}
 use Rattle.meaning_law.proofs.Moves.Spares.{spare_text, spare_named_as}
 

@@ -63,12 +63,12 @@ use Rattle.typed_law.proofs.Others.{typed_some, phi_group}
 use Rattle.claim_law.specs.Claimed.{IsIn, IsOf as IsPlacedIn}
 use Rattle.claim_law.proofs.Listed.{in_flat, in_mapped, at_place, any_in}
 use Rattle.claim_law.proofs.Constants.{found_in, mention_in}
-use Rattle.unit_law.specs.Mentioned.{IsMentioned}
-use Rattle.unit_law.proofs.Lists.{same_test, other_test, in_filter, none_passes, numbered_first, as_among}
-use Rattle.unit_law.proofs.Links.{placed_in, mention_at, user_is, mention_stands}
-use Rattle.unit_law.proofs.Shaped.{pointer_none, shaped_value}
-use Rattle.unit_law.proofs.TypesWritten.{kept_live}
-use Rattle.unit_law.proofs.Ways.{HaveKinds, F, R, V, in_module, plan_is, written_is, reached_nth, ordered, home}
+use Rattle.grammar_law.specs.Mentioned.{IsMentioned}
+use Rattle.grammar_law.proofs.Unit.Lists.{same_test, other_test, in_filter, none_passes, numbered_first, as_among}
+use Rattle.grammar_law.proofs.Unit.Links.{placed_in, mention_at, user_is, mention_stands}
+use Rattle.grammar_law.proofs.Unit.Shaped.{pointer_none, shaped_value}
+use Rattle.grammar_law.proofs.Unit.TypesWritten.{kept_live}
+use Rattle.grammar_law.proofs.Unit.Ways.{HaveKinds, F, R, V, in_module, plan_is, written_is, reached_nth, ordered, home}
 use Rattle.module_semantics.specs.Steps.{is_phi}
 use Rattle.hoist_plan.specs.declared.form.Form.TheVariants.{Forwarded, Local}
 use Rattle.agree_law.specs.Agree.{Naming as Names}
@@ -86,7 +86,7 @@ use Rattle.meaning_law.proofs.Written.Says.{have_done, AreNamesOf, local_form_is
 use Rattle.plan_law.proofs.Order.{in_order}
 use Rattle.typed_law.proofs.Calls.{variable_typed}
 use Rattle.naming_law.proofs.Firsts.{of_in}
-use Rattle.unit_law.proofs.Forms.{is_placed, form_at, wanted_form, placed as placed_result}
+use Rattle.grammar_law.proofs.Unit.Forms.{is_placed, form_at, wanted_form, placed as placed_result}
 
 -- opcodes
 pub phi_typed : (o : Op) → is o code.Phi ≡ true → (has_type o ≡ true) × (has_result o ≡ true)

@@ -50,12 +50,12 @@ use Rattle.typed_law.specs.Conforms.{IsConforming}
 use Rattle.claim_law.specs.Claimed.{IsIn}
 use Rattle.claim_law.specs.Apart.{AreOfKeys}
 use Rattle.claim_law.proofs.Listed.{any_in}
-use Rattle.unit_law.proofs.Lists.{same_test, test_same, of_contained, of_filter}
-use Rattle.unit_law.proofs.Ways.{HaveKinds, F, R, V, in_module, plan_is, ordered, written_is}
+use Rattle.grammar_law.proofs.Unit.Lists.{same_test, test_same, of_contained, of_filter}
+use Rattle.grammar_law.proofs.Unit.Ways.{HaveKinds, F, R, V, in_module, plan_is, ordered, written_is}
 use Rattle.formed_law.specs.Formed.{IsFormedFunction}
 use Rattle.formed_law.proofs.Blocks.{reached_body, reached_only}
 use Rattle.naming_law.proofs.Keys.{S, names, some_in}
-use Rattle.grammar_law.proofs.PairsOf.{IsPairOf, pair_of, in_once}
+use Rattle.grammar_law.proofs.Grammar.PairsOf.{IsPairOf, pair_of, in_once}
 use Rattle.meaning_law.proofs.Written.EdgeMoves.{IsRightPair, all_typed, all_reads}
 use Rattle.meaning_law.proofs.Moves.Spares.{spares_apart}
 use Rattle.meaning_law.proofs.Moves.Copies.{reads_source, reads_constant, saved, all_pairs, proper, edge_names, sequence_is, move_of, copies_are, all_named, spare_types}

@@ -39,13 +39,13 @@ use Rattle.function_law.specs.Edges.{ArePhisOf}
 use Rattle.function_law.proofs.PhiSources.{all_phis}
 use Rattle.typed_law.specs.Conforms.{IsConforming}
 use Rattle.claim_law.specs.Claimed.{IsIn}
-use Rattle.unit_law.proofs.Lists.{in_filter}
-use Rattle.unit_law.proofs.Ways.{HaveKinds, F, R, V, plan_is, written_is}
+use Rattle.grammar_law.proofs.Unit.Lists.{in_filter}
+use Rattle.grammar_law.proofs.Unit.Ways.{HaveKinds, F, R, V, plan_is, written_is}
 use Rattle.formed_law.specs.Formed.{IsFormedBlock, IsFormedFunction}
 use Rattle.naming_law.specs.Names.{is_result, is_value_parameter}
 use Rattle.naming_law.proofs.Keys.{S, key, names}
 use Rattle.naming_law.proofs.Firsts.{of_in}
-use Rattle.grammar_law.proofs.PairsOf.{IsPairOf, pair_of}
+use Rattle.grammar_law.proofs.Grammar.PairsOf.{IsPairOf, pair_of}
 use Rattle.meaning_law.proofs.Written.EdgeMoves.{IsRightPair}
 use Rattle.meaning_law.proofs.Written.EdgePhis.{phis_are_of}
 use Rattle.meaning_law.proofs.Written.NamesOf.{names_are}

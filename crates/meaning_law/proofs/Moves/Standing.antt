@@ -38,9 +38,9 @@ use Rattle.global_law.specs.Names.{IsDeclared}
 use Rattle.global_law.proofs.Declared.{named_type, outline_same}
 use Rattle.typed_law.specs.Conforms.{IsConforming}
 use Rattle.claim_law.specs.Claimed.{IsIn}
-use Rattle.unit_law.proofs.Ways.{HaveKinds, F, R, V, plan_is, written_is}
+use Rattle.grammar_law.proofs.Unit.Ways.{HaveKinds, F, R, V, plan_is, written_is}
 use Rattle.naming_law.proofs.Keys.{S, key, names}
-use Rattle.grammar_law.proofs.PairsOf.{IsPairOf, pair_of}
+use Rattle.grammar_law.proofs.Grammar.PairsOf.{IsPairOf, pair_of}
 use Rattle.meaning_law.proofs.Written.Shapes.{shape_of_value}
 use Rattle.meaning_law.proofs.Moves.PhiOperands.{result_type, shaped}
 

@@ -51,7 +51,7 @@ use Rattle.constant_law.proofs.Constants.{IsFunction, AreFunctions, first, last}
 use Rattle.constant_law.proofs.Variables.{among_here, functions_find, private_begins, private_valued}
 use Rattle.global_law.proofs.Privates.{items_find}
 use Rattle.claim_law.specs.Claimed.{IsIn}
-use Rattle.unit_law.proofs.Lists.{as_among}
+use Rattle.grammar_law.proofs.Unit.Lists.{as_among}
 use Rattle.naming_law.specs.Names.{is_written_private}
 use Rattle.naming_law.proofs.Alone.{are_alone}
 use Rattle.naming_law.proofs.Keys.{S, found as names_found, key as key_of, R, names as names_in, are_apart}

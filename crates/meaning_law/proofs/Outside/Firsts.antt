@@ -68,7 +68,7 @@ use Rattle.constant_law.proofs.Variables.{variable_id}
 use Rattle.claim_law.specs.Claimed.{IsIn}
 use Rattle.claim_law.proofs.Constants.{mention_in}
 use Rattle.claim_law.proofs.Listed.{in_mapped, any_in}
-use Rattle.unit_law.proofs.Lists.{same_test, numbered_first, in_filter}
+use Rattle.grammar_law.proofs.Unit.Lists.{same_test, numbered_first, in_filter}
 use Rattle.naming_law.proofs.Keys.{S, found as names_found, key as key_of, R, names as names_in}
 use Rattle.naming_law.proofs.Firsts.{no_phi}
 use Rattle.meaning_law.specs.Left.{IsLeftOfGlobals}

@@ -90,7 +90,7 @@ use Rattle.claim_law.proofs.Named.{Plans}
 use Rattle.claim_law.proofs.Told.{named_is}
 use Rattle.claim_law.proofs.Variables.{variable_no_struct, variable_no_constant, undeclared}
 use Rattle.item_law.proofs.Named.{item_named, variable_members, block_members}
-use Rattle.unit_law.proofs.Lists.{same_test, test_same}
+use Rattle.grammar_law.proofs.Unit.Lists.{same_test, test_same}
 use Rattle.naming_law.specs.Names.{is_written_private, is_outer_global, has_text}
 use Rattle.naming_law.proofs.Keys.{S, found as names_found, key as key_of, R, names as names_in}
 use Rattle.meaning_law.specs.Left.{IsLeftOfGlobals}

@@ -34,7 +34,7 @@ use Rattle.typed_law.proofs.Lists.{or_left, or_right}
 use Rattle.typed_law.proofs.Rules.{operand_there, value_right}
 use Rattle.typed_law.proofs.Types.{row_is}
 use Rattle.typed_law.proofs.Values.{IsRow, shape_of_row, inside, type_row_of, typed_value, int_shaped}
-use Rattle.unit_law.proofs.Sets.{chain_id}
+use Rattle.grammar_law.proofs.Unit.Sets.{chain_id}
 use Rattle.height_law.proofs.Chains.{chain_need}
 
 -- T6

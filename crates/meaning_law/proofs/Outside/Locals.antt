@@ -64,10 +64,10 @@ use Rattle.constant_law.proofs.Within.{pointee_misused, misused_within, value_wi
 use Rattle.constant_law.proofs.Written.{IsHeld}
 use Rattle.claim_law.specs.Claimed.{IsIn, IsOf}
 use Rattle.claim_law.proofs.Listed.{in_right, in_flat, any_in}
-use Rattle.unit_law.proofs.Lists.{as_among, numbered_first}
-use Rattle.unit_law.proofs.Ways.{planned_as, reached_nth}
-use Rattle.unit_law.proofs.TypesWritten.{parameter_type_written}
-use Rattle.meets_law.proofs.Roots.{variable_impure}
+use Rattle.grammar_law.proofs.Unit.Lists.{as_among, numbered_first}
+use Rattle.grammar_law.proofs.Unit.Ways.{planned_as, reached_nth}
+use Rattle.grammar_law.proofs.Unit.TypesWritten.{parameter_type_written}
+use Rattle.grammar_law.proofs.Meets.Roots.{variable_impure}
 use Rattle.formed_law.specs.Declares.{HaveNoVariable, NoneDeclare, DeclaresFirst}
 use Rattle.formed_law.proofs.Declares.{declares_first}
 use Rattle.naming_law.proofs.Keys.{placed_in, S, found as names_found, R}

@@ -62,7 +62,7 @@ use Rattle.claim_law.specs.Claimed.{IsIn}
 use Rattle.claim_law.proofs.Listed.{in_mapped, any_in}
 use Rattle.claim_law.proofs.Named.{Plans}
 use Rattle.item_law.proofs.Named.{members_apart}
-use Rattle.unit_law.proofs.Lists.{as_in}
+use Rattle.grammar_law.proofs.Unit.Lists.{as_in}
 use Rattle.naming_law.proofs.Alone.{are_alone, variable_inst}
 use Rattle.naming_law.proofs.Keys.{S, found as names_found, key as key_of, R, names as names_in}
 use Rattle.meaning_law.specs.Left.{IsLeftOfGlobals}

@@ -47,8 +47,8 @@ use Rattle.global_law.proofs.Shared.{mentioned_same}
 use Rattle.constant_law.specs.Items.{AreAsked}
 use Rattle.constant_law.proofs.Constants.{AreFunctions, P as program_of}
 use Rattle.claim_law.specs.Claimed.{IsIn}
-use Rattle.unit_law.proofs.Lists.{of_filter, as_in, split_at}
-use Rattle.unit_law.proofs.Ways.{planned_as}
+use Rattle.grammar_law.proofs.Unit.Lists.{of_filter, as_in, split_at}
+use Rattle.grammar_law.proofs.Unit.Ways.{planned_as}
 use Rattle.naming_law.specs.Names.{shape_of}
 use Rattle.naming_law.proofs.Keys.{S, found as names_found, key as key_of, R}
 use Rattle.meaning_law.specs.Left.{IsLeftOfGlobals}

@@ -79,12 +79,12 @@ use Rattle.claim_law.proofs.Listed.{in_flat}
 use Rattle.claim_law.proofs.Named.{Plans}
 use Rattle.claim_law.proofs.Told.{named_is}
 use Rattle.item_law.proofs.Named.{item_named}
-use Rattle.unit_law.proofs.Lists.{as_among, of_numbered_first}
-use Rattle.unit_law.proofs.TypesWritten.{top_type_written}
-use Rattle.unit_law.proofs.Ways.{planned_as}
+use Rattle.grammar_law.proofs.Unit.Lists.{as_among, of_numbered_first}
+use Rattle.grammar_law.proofs.Unit.TypesWritten.{top_type_written}
+use Rattle.grammar_law.proofs.Unit.Ways.{planned_as}
 use Rattle.function_law.specs.Tops.{Top, SaysFirst, SaysTop, AllSay}
 use Rattle.function_law.proofs.PlannedText.{variable_top, hoisted_top, index_top, variable_tops, hoisted_tops, index_tops, tops_of}
-use Rattle.meets_law.proofs.OperandNames.{composite_of}
+use Rattle.grammar_law.proofs.Meets.OperandNames.{composite_of}
 use Rattle.formed_law.proofs.Pointing.{chain_result}
 use Rattle.naming_law.specs.Alone.{AreAlone}
 use Rattle.naming_law.specs.Names.{is_outer_global, has_text}

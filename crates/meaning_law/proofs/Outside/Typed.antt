@@ -42,7 +42,7 @@ use Rattle.constant_law.proofs.Types.{type_declared}
 use Rattle.constant_law.proofs.Within.{misused_within, value_within}
 use Rattle.constant_law.proofs.Written.{no_pointee}
 use Rattle.claim_law.specs.Claimed.{IsIn}
-use Rattle.unit_law.proofs.TypesWritten.{return_type_written}
+use Rattle.grammar_law.proofs.Unit.TypesWritten.{return_type_written}
 use Rattle.naming_law.specs.Types.{HasTypesOfText}
 use Rattle.naming_law.proofs.Keys.{S, found as names_found, key as key_of, R}
 use Rattle.meaning_law.specs.Left.{IsLeftOfGlobals}

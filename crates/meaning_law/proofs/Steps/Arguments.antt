@@ -56,7 +56,7 @@ use Rattle.typed_law.proofs.Values.{inside, own_local}
 use Rattle.ruled_law.proofs.Ruled.{contains_of}
 use Rattle.constant_law.proofs.Written.{no_pointee}
 use Rattle.claim_law.specs.Claimed.{IsIn}
-use Rattle.unit_law.proofs.Ways.{HaveKinds, plan_is}
+use Rattle.grammar_law.proofs.Unit.Ways.{HaveKinds, plan_is}
 use Rattle.naming_law.proofs.Keys.{S, R, key as key_of, names as names_in}
 use Rattle.naming_law.specs.Names.{shape_of, is_value_parameter, is_result}
 use Rattle.naming_law.proofs.Alone.{are_alone, variable_inst}

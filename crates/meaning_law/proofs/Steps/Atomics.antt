@@ -92,11 +92,11 @@ use Rattle.typed_law.proofs.Shapes.{row_of_shape, shaped_type}
 use Rattle.typed_law.proofs.Values.{IsRow, HasType, inside, one_type, own_shape}
 use Rattle.ruled_law.proofs.Ruled.{contains_of}
 use Rattle.claim_law.specs.Claimed.{IsIn}
-use Rattle.unit_law.proofs.ResultShapes.{reads_first, reads_fourth, has_operand, stores, IsReadAt, first_read, fourth_read, swap_read, typed_read, points_by}
-use Rattle.unit_law.proofs.ResultShapes as results
-use Rattle.unit_law.proofs.Steps.{at_index}
-use Rattle.unit_law.proofs.Ways.{HaveKinds, plan_is}
-use Rattle.meets_law.proofs.PlaceMeets.{atomic_typed, pointer_of, content_of}
+use Rattle.grammar_law.proofs.Unit.ResultShapes.{reads_first, reads_fourth, has_operand, stores, IsReadAt, first_read, fourth_read, swap_read, typed_read, points_by}
+use Rattle.grammar_law.proofs.Unit.ResultShapes as results
+use Rattle.grammar_law.proofs.Unit.Steps.{at_index}
+use Rattle.grammar_law.proofs.Unit.Ways.{HaveKinds, plan_is}
+use Rattle.grammar_law.proofs.Meets.PlaceMeets.{atomic_typed, pointer_of, content_of}
 use Rattle.formed_law.specs.Formed.{IsFormedFunction}
 use Rattle.naming_law.proofs.Keys.{S, key, names}
 use Rattle.meaning_law.proofs.Written.Shapes.{shape_of_value}

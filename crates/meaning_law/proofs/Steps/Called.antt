@@ -25,8 +25,8 @@ use Rattle.global_law.proofs.Blocks.{items_more}
 use Rattle.constant_law.proofs.Constants.{first}
 use Rattle.claim_law.specs.Claimed.{IsIn}
 use Rattle.claim_law.proofs.Listed.{in_flat}
-use Rattle.unit_law.proofs.Lists.{found_by, same_test, of_filter}
-use Rattle.unit_law.proofs.Ways.{planned_as}
+use Rattle.grammar_law.proofs.Unit.Lists.{found_by, same_test, of_filter}
+use Rattle.grammar_law.proofs.Unit.Ways.{planned_as}
 use Rattle.naming_law.proofs.Keys.{S, found as names_found, R, equal, some_in}
 use Rattle.naming_law.proofs.Unit.{named_so}
 use Rattle.meaning_law.specs.Left.{IsLeftOfGlobals}

@@ -85,13 +85,13 @@ use Rattle.typed_law.proofs.Values.{HasType, inside, own_type, same_count, typed
 use Rattle.global_law.specs.Sources.{chosen}
 use Rattle.ruled_law.proofs.Ruled.{contains_of, parameter_of}
 use Rattle.claim_law.specs.Claimed.{IsIn}
-use Rattle.unit_law.proofs.CallTypes.{call_typed, call_group, call_id, called_function, there_by, right_call, given_value, call_row}
-use Rattle.unit_law.proofs.CallTypes as types
-use Rattle.unit_law.proofs.Lists.{as_in, at_some}
-use Rattle.unit_law.proofs.Shaped.{shaped_value}
-use Rattle.unit_law.proofs.Ways.{HaveKinds, plan_is}
+use Rattle.grammar_law.proofs.Unit.CallTypes.{call_typed, call_group, call_id, called_function, there_by, right_call, given_value, call_row}
+use Rattle.grammar_law.proofs.Unit.CallTypes as types
+use Rattle.grammar_law.proofs.Unit.Lists.{as_in, at_some}
+use Rattle.grammar_law.proofs.Unit.Shaped.{shaped_value}
+use Rattle.grammar_law.proofs.Unit.Ways.{HaveKinds, plan_is}
 use Rattle.list_law.proofs.Lists.{behind_first}
-use Rattle.meets_law.proofs.CallMeets.{call_need, call_value}
+use Rattle.grammar_law.proofs.Meets.CallMeets.{call_need, call_value}
 use Rattle.formed_law.specs.Formed.{IsFormedFunction}
 use Rattle.formed_law.specs.Traced.{IsTraced}
 use Rattle.formed_law.proofs.Inner.{is_inner, accepted_inner}

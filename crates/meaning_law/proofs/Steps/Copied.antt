@@ -36,7 +36,7 @@ use Rattle.call_law.specs.Known.{IsFunctionOf, LendsWhole}
 use Rattle.typed_law.specs.Conforms.{IsConforming}
 use Rattle.typed_law.specs.Words.{IsSettingOfWords, IsStateOfWords}
 use Rattle.claim_law.specs.Claimed.{IsIn}
-use Rattle.unit_law.proofs.Ways.{HaveKinds, F}
+use Rattle.grammar_law.proofs.Unit.Ways.{HaveKinds, F}
 use Rattle.formed_law.specs.Formed.{IsFormedFunction}
 use Rattle.formed_law.proofs.Blocks.{reached_body}
 use Rattle.naming_law.proofs.Keys.{S, names}

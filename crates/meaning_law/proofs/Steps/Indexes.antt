@@ -57,13 +57,13 @@ use Rattle.typed_law.proofs.Values.{global_row, inside, variable_type_is}
 use Rattle.claim_law.specs.Claimed.{IsIn}
 use Rattle.claim_law.proofs.Constants.{found_in}
 use Rattle.claim_law.proofs.Listed.{any_in}
-use Rattle.unit_law.specs.Words.{AreOfStructs}
-use Rattle.unit_law.proofs.Lists.{as_among, in_filter, numbered_first, same_test, some_length, test_same}
-use Rattle.unit_law.proofs.Kept.{dropped}
-use Rattle.unit_law.proofs.Forms.{made_by}
-use Rattle.unit_law.proofs.Shaped.{pointer_none}
-use Rattle.unit_law.proofs.Sets.{chain_no_phi, mention, index_apart}
-use Rattle.unit_law.proofs.Ways.{HaveKinds, F, R, V, in_module, plan_is, written_is, local_outside, own_type_of}
+use Rattle.grammar_law.specs.Words.{AreOfStructs}
+use Rattle.grammar_law.proofs.Unit.Lists.{as_among, in_filter, numbered_first, same_test, some_length, test_same}
+use Rattle.grammar_law.proofs.Unit.Kept.{dropped}
+use Rattle.grammar_law.proofs.Unit.Forms.{made_by}
+use Rattle.grammar_law.proofs.Unit.Shaped.{pointer_none}
+use Rattle.grammar_law.proofs.Unit.Sets.{chain_no_phi, mention, index_apart}
+use Rattle.grammar_law.proofs.Unit.Ways.{HaveKinds, F, R, V, in_module, plan_is, written_is, local_outside, own_type_of}
 use Rattle.formed_law.specs.Formed.{IsFormedBlock}
 use Rattle.global_law.specs.Sources.{source_of as run_source}
 use Rattle.naming_law.proofs.Keys.{S, key, names, some_in}

@@ -53,8 +53,8 @@ use Rattle.function_law.proofs.UnderWay.{way_kept}
 use Rattle.ruled_law.proofs.Ruled.{contains_of}
 use Rattle.global_law.specs.Sources.{chosen}
 use Rattle.claim_law.specs.Claimed.{IsIn}
-use Rattle.unit_law.proofs.Lists.{as_in}
-use Rattle.unit_law.proofs.Ways.{HaveKinds, F, plan_is, written_is}
+use Rattle.grammar_law.proofs.Unit.Lists.{as_in}
+use Rattle.grammar_law.proofs.Unit.Ways.{HaveKinds, F, plan_is, written_is}
 use Rattle.formed_law.specs.Formed.{IsFormedFunction}
 use Rattle.formed_law.specs.Traced.{IsTraced}
 use Rattle.formed_law.proofs.Blocks.{reached_body}

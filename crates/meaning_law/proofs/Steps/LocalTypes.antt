@@ -37,9 +37,9 @@ use Rattle.typed_law.proofs.Lists.{or_left}
 use Rattle.global_law.proofs.Zeros.{is_declared}
 use Rattle.claim_law.specs.Claimed.{IsIn, IsOf}
 use Rattle.claim_law.proofs.Listed.{in_flat, at_place}
-use Rattle.unit_law.proofs.Forms.{unmade_gone}
-use Rattle.unit_law.proofs.Lists.{as_in, as_among}
-use Rattle.unit_law.proofs.Ways.{HaveKinds, F, plan_is, written_is, reached_nth}
+use Rattle.grammar_law.proofs.Unit.Forms.{unmade_gone}
+use Rattle.grammar_law.proofs.Unit.Lists.{as_in, as_among}
+use Rattle.grammar_law.proofs.Unit.Ways.{HaveKinds, F, plan_is, written_is, reached_nth}
 use Rattle.formed_law.specs.Formed.{IsFormedFunction}
 use Rattle.formed_law.proofs.Blocks.{reached_body, reached_only}
 use Rattle.formed_law.proofs.Inner.{accepted_inner}

@@ -34,8 +34,8 @@ use Rattle.plan_law.specs.InOrder.{IsAmong}
 use Rattle.typed_law.specs.Conforms.{IsConforming}
 use Rattle.typed_law.specs.Words.{IsSettingOfWords, IsStateOfWords}
 use Rattle.claim_law.specs.Claimed.{IsIn}
-use Rattle.unit_law.proofs.Lists.{as_in}
-use Rattle.unit_law.proofs.Ways.{HaveKinds, F, V}
+use Rattle.grammar_law.proofs.Unit.Lists.{as_in}
+use Rattle.grammar_law.proofs.Unit.Ways.{HaveKinds, F, V}
 use Rattle.formed_law.proofs.Inner.{is_inner, accepted_inner}
 use Rattle.formed_law.proofs.Shaped.{AreGlobals, accepted_shaped}
 use Rattle.naming_law.proofs.Keys.{S, names}

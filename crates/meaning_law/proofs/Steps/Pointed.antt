@@ -25,9 +25,9 @@ use Rattle.typed_law.proofs.Lists.{or_left, or_right}
 use Rattle.typed_law.proofs.Others.{target_of}
 use Rattle.typed_law.proofs.Rules.{value_right, number_right}
 use Rattle.typed_law.proofs.Values.{inside}
-use Rattle.unit_law.proofs.ResultShapes.{reads_first, IsReadAt, first_read, typed_read}
-use Rattle.unit_law.proofs.Steps.{at_index}
-use Rattle.meets_law.proofs.PlaceMeets.{pointer_of}
+use Rattle.grammar_law.proofs.Unit.ResultShapes.{reads_first, IsReadAt, first_read, typed_read}
+use Rattle.grammar_law.proofs.Unit.Steps.{at_index}
+use Rattle.grammar_law.proofs.Meets.PlaceMeets.{pointer_of}
 use Rattle.meaning_law.proofs.Steps.Stores.{load_group, store_group}
 use Rattle.meaning_law.proofs.Steps.Atomics.{atomic_group}
 

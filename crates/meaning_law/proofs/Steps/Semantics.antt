@@ -56,11 +56,11 @@ use Rattle.ruled_law.proofs.Ruled.{contains_of}
 use Rattle.constant_law.specs.Items.{AreAsked}
 use Rattle.constant_law.proofs.Standing.{scalar_fit}
 use Rattle.claim_law.specs.Claimed.{IsIn}
-use Rattle.unit_law.proofs.Lists.{of_contained}
-use Rattle.unit_law.proofs.Ways.{HaveKinds, F, V, in_module, plan_is, written_is}
+use Rattle.grammar_law.proofs.Unit.Lists.{of_contained}
+use Rattle.grammar_law.proofs.Unit.Ways.{HaveKinds, F, V, in_module, plan_is, written_is}
 use Rattle.formed_law.specs.Formed.{IsFormedFunction}
 use Rattle.formed_law.proofs.Inner.{accepted_inner}
-use Rattle.grammar_law.proofs.Literals.{semantics_right, control_op, memory_op, made_constant, literal_is}
+use Rattle.grammar_law.proofs.Grammar.Literals.{semantics_right, control_op, memory_op, made_constant, literal_is}
 use Rattle.naming_law.proofs.Keys.{S, found as names_found, R, names}
 use Rattle.meaning_law.specs.Left.{IsLeftOfGlobals}
 use Rattle.meaning_law.proofs.Outside.Text.{asked as asked_of}

@@ -67,10 +67,10 @@ use Rattle.typed_law.proofs.Values.{inside, own_type, value_type_has}
 use Rattle.global_law.specs.Sources.{chosen}
 use Rattle.ruled_law.proofs.Ruled.{contains_of}
 use Rattle.claim_law.specs.Claimed.{IsIn}
-use Rattle.unit_law.proofs.Lists.{as_in}
-use Rattle.unit_law.proofs.ResultShapes.{reads_first, reads_second, IsReadAt, first_read, second_read, typed_read}
-use Rattle.unit_law.proofs.Steps.{at_index}
-use Rattle.unit_law.proofs.Ways.{HaveKinds}
+use Rattle.grammar_law.proofs.Unit.Lists.{as_in}
+use Rattle.grammar_law.proofs.Unit.ResultShapes.{reads_first, reads_second, IsReadAt, first_read, second_read, typed_read}
+use Rattle.grammar_law.proofs.Unit.Steps.{at_index}
+use Rattle.grammar_law.proofs.Unit.Ways.{HaveKinds}
 use Rattle.formed_law.specs.Formed.{IsFormedFunction}
 use Rattle.naming_law.proofs.Keys.{S, key, names}
 use Rattle.naming_law.proofs.Firsts.{of_in}

@@ -67,19 +67,19 @@ use Rattle.ruled_law.proofs.Ruled.{class_pointed}
 use Rattle.claim_law.specs.Claimed.{IsIn}
 use Rattle.claim_law.proofs.Constants.{found_in}
 use Rattle.claim_law.proofs.Listed.{any_in, at_place}
-use Rattle.unit_law.specs.Mentioned.{IsLinked}
-use Rattle.unit_law.specs.Words.{AreOfStructs}
-use Rattle.unit_law.proofs.Lists.{as_among, numbered_first, same_test, test_same}
-use Rattle.unit_law.proofs.Links.{linked_in, as_linked}
-use Rattle.unit_law.proofs.Structs.{Written}
-use Rattle.unit_law.proofs.Sets.{chain_no_phi}
-use Rattle.unit_law.proofs.Kept.{dropped}
+use Rattle.grammar_law.specs.Mentioned.{IsLinked}
+use Rattle.grammar_law.specs.Words.{AreOfStructs}
+use Rattle.grammar_law.proofs.Unit.Lists.{as_among, numbered_first, same_test, test_same}
+use Rattle.grammar_law.proofs.Unit.Links.{linked_in, as_linked}
+use Rattle.grammar_law.proofs.Unit.Structs.{Written}
+use Rattle.grammar_law.proofs.Unit.Sets.{chain_no_phi}
+use Rattle.grammar_law.proofs.Unit.Kept.{dropped}
 use Rattle.path_law.proofs.Based.{chain_op}
-use Rattle.unit_law.proofs.Places.{Found, makes_in, IsRuled, IsSeen, home, place, live, base_link, index_mention, carried, based_seen}
-use Rattle.unit_law.proofs.Ruled.{chains}
-use Rattle.unit_law.proofs.Ways.{HaveKinds, F, R, V, in_module, written_is, own_type_of, local_outside, reached_nth}
-use Rattle.meets_law.proofs.GlobalReads.{mention_listed, captured_listed}
-use Rattle.meets_law.proofs.PointerStarts.{none_of}
+use Rattle.grammar_law.proofs.Unit.Places.{Found, makes_in, IsRuled, IsSeen, home, place, live, base_link, index_mention, carried, based_seen}
+use Rattle.grammar_law.proofs.Unit.Ruled.{chains}
+use Rattle.grammar_law.proofs.Unit.Ways.{HaveKinds, F, R, V, in_module, written_is, own_type_of, local_outside, reached_nth}
+use Rattle.grammar_law.proofs.Meets.GlobalReads.{mention_listed, captured_listed}
+use Rattle.grammar_law.proofs.Meets.PointerStarts.{none_of}
 use Rattle.formed_law.specs.Formed.{IsFormedFunction}
 use Rattle.formed_law.proofs.Pointing.{accepted_chains}
 use Rattle.naming_law.proofs.Keys.{S, key, found as names_found, names}
@@ -90,7 +90,7 @@ use Rattle.meaning_law.proofs.Outside.Text.{P as program_in}
 use Rattle.meaning_law.proofs.Written.Done.{linked_before, done_before}
 use Rattle.meaning_law.proofs.Written.Placed.{chain_step}
 use Rattle.meaning_law.proofs.Steps.Indexes.{no_names, no_structs, number as is_number, own_shape, kept_shape, counted, is_kept, written_so, own_none, stands_there}
-use Rattle.unit_law.proofs.ResultShapes.{constant_shaped}
+use Rattle.grammar_law.proofs.Unit.ResultShapes.{constant_shaped}
 use Rattle.constant_law.proofs.Written.{no_pointee}
 use Rattle.formed_law.proofs.Blocks.{reached_body, reached_only}
 use Rattle.formed_law.proofs.Inner.{is_inner, accepted_inner}

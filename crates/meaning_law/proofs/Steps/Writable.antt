@@ -65,8 +65,8 @@ use Rattle.typed_law.specs.Conforms.{IsConforming}
 use Rattle.typed_law.proofs.Calls.{global_variable_is, global_points}
 use Rattle.typed_law.proofs.Lists.{or_left, or_right, and_off, clash, none_by, none_at_fault, found_in}
 use Rattle.typed_law.proofs.Values.{same_count, typed_is, global_typed_some}
-use Rattle.unit_law.proofs.Shaped.{pointer_none}
-use Rattle.meets_law.proofs.ArrayLengths.{variable_typed}
+use Rattle.grammar_law.proofs.Unit.Shaped.{pointer_none}
+use Rattle.grammar_law.proofs.Meets.ArrayLengths.{variable_typed}
 
 no_some : {A : Type 0} {a : A} → None ≡ Some a → ⊥
 no_some e = cc

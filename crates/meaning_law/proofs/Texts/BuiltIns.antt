@@ -29,8 +29,8 @@ use Rattle.global_law.proofs.Blocks.{items_more}
 use Rattle.constant_law.specs.Items.{AreAsked}
 use Rattle.constant_law.proofs.Constants.{AreFunctions, first, last}
 use Rattle.claim_law.specs.Claimed.{IsIn}
-use Rattle.unit_law.proofs.Ways.{planned_as}
-use Rattle.grammar_law.proofs.UnitMade.{in_plans}
+use Rattle.grammar_law.proofs.Unit.Ways.{planned_as}
+use Rattle.grammar_law.proofs.Grammar.UnitMade.{in_plans}
 use Rattle.naming_law.proofs.Keys.{S, found as names_found, R}
 use Rattle.meaning_law.specs.Left.{IsLeftOfGlobals}
 use Rattle.meaning_law.proofs.Outside.Text.{fs as function_items, are_functions, asked as asked_of, P as program_in}

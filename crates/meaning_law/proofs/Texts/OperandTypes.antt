@@ -45,10 +45,10 @@ use Rattle.function_plan.specs.Planned.{is_reached_node}
 use Rattle.use_chains.specs.Slots.{inst_at}
 use Rattle.claim_law.specs.Claimed.{IsIn, IsOf}
 use Rattle.claim_law.proofs.Listed.{at_place}
-use Rattle.unit_law.specs.Mentioned.{IsValueIn, Stands}
-use Rattle.unit_law.proofs.Lists.{as_among, found_by}
-use Rattle.unit_law.proofs.Shaped.{shaped_value}
-use Rattle.unit_law.proofs.Ways.{HaveKinds, CountsIn, F, R, V, plan_is, written_is, in_module, counts_here, home, result, stands, reached_here, reached_nth}
+use Rattle.grammar_law.specs.Mentioned.{IsValueIn, Stands}
+use Rattle.grammar_law.proofs.Unit.Lists.{as_among, found_by}
+use Rattle.grammar_law.proofs.Unit.Shaped.{shaped_value}
+use Rattle.grammar_law.proofs.Unit.Ways.{HaveKinds, CountsIn, F, R, V, plan_is, written_is, in_module, counts_here, home, result, stands, reached_here, reached_nth}
 use Rattle.naming_law.specs.Names.{is_value_parameter}
 use Rattle.naming_law.proofs.Keys.{S}
 use Rattle.meaning_law.specs.Left.{IsLeftOfGlobals}

@@ -46,8 +46,8 @@ use Rattle.constant_law.proofs.Written.{IsHeld, no_pointee}
 use Rattle.item_law.proofs.Named.{members_apart}
 use Rattle.claim_law.specs.Claimed.{IsIn, IsOf}
 use Rattle.claim_law.proofs.Named.{Plans}
-use Rattle.unit_law.proofs.Lists.{as_among}
-use Rattle.unit_law.proofs.TypesWritten.{live_type_written, top_type_written}
+use Rattle.grammar_law.proofs.Unit.Lists.{as_among}
+use Rattle.grammar_law.proofs.Unit.TypesWritten.{live_type_written, top_type_written}
 use Rattle.naming_law.proofs.Keys.{S, found as names_found, key as key_of, R}
 use Rattle.meaning_law.specs.Left.{IsLeftOfGlobals}
 use Rattle.meaning_law.proofs.Outside.Asked.{claimed}

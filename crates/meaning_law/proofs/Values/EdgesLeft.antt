@@ -46,10 +46,10 @@ use Rattle.accepted_law.proofs.Small.{args_in, read_operands}
 use Rattle.claim_law.specs.Apart.{AreOfKeys}
 use Rattle.claim_law.specs.Claimed.{IsIn, IsOf}
 use Rattle.claim_law.proofs.Listed.{in_flat, at_place}
-use Rattle.unit_law.proofs.Lists.{as_among}
-use Rattle.unit_law.proofs.TypesWritten.{live_type_written}
-use Rattle.unit_law.proofs.Ways.{HaveKinds, F, R, V, plan_is, written_is, in_module, reached_nth}
-use Rattle.grammar_law.proofs.FewPairs.{few_pairs}
+use Rattle.grammar_law.proofs.Unit.Lists.{as_among}
+use Rattle.grammar_law.proofs.Unit.TypesWritten.{live_type_written}
+use Rattle.grammar_law.proofs.Unit.Ways.{HaveKinds, F, R, V, plan_is, written_is, in_module, reached_nth}
+use Rattle.grammar_law.proofs.Grammar.FewPairs.{few_pairs}
 use Rattle.formed_law.specs.Formed.{IsFormedFunction}
 use Rattle.naming_law.proofs.Keys.{S, names}
 use Rattle.meaning_law.specs.Left.{IsLeftOfGlobals}

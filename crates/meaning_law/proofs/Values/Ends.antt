@@ -27,7 +27,7 @@ use Rattle.call_law.specs.Known.{IsFunctionOf, LendsWhole}
 use Rattle.typed_law.specs.Conforms.{IsConforming}
 use Rattle.typed_law.specs.Words.{IsSettingOfWords, IsStateOfWords}
 use Rattle.claim_law.specs.Claimed.{IsIn}
-use Rattle.unit_law.proofs.Ways.{HaveKinds, F, V}
+use Rattle.grammar_law.proofs.Unit.Ways.{HaveKinds, F, V}
 use Rattle.naming_law.proofs.Keys.{S, names}
 use Rattle.meaning_law.specs.Left.{IsLeftOfGlobals}
 use Rattle.meaning_law.proofs.Outside.Text.{P as program_in}

@@ -34,9 +34,9 @@ use Rattle.typed_law.specs.Conforms.{IsConforming}
 use Rattle.typed_law.specs.Words.{IsSettingOfWords, IsStateOfWords}
 use Rattle.typed_law.proofs.Values.{typed_is, shaped_some}
 use Rattle.claim_law.specs.Claimed.{IsIn}
-use Rattle.unit_law.specs.Mentioned.{IsValueIn}
-use Rattle.unit_law.proofs.Lists.{as_among}
-use Rattle.unit_law.proofs.Ways.{HaveKinds, F, R as Marks, V, in_module}
+use Rattle.grammar_law.specs.Mentioned.{IsValueIn}
+use Rattle.grammar_law.proofs.Unit.Lists.{as_among}
+use Rattle.grammar_law.proofs.Unit.Ways.{HaveKinds, F, R as Marks, V, in_module}
 use Rattle.naming_law.proofs.Keys.{S, names}
 use Rattle.meaning_law.specs.Left.{IsLeftOfGlobals}
 use Rattle.meaning_law.proofs.Outside.Short.{copies_short}

@@ -81,10 +81,10 @@ use Rattle.constant_law.proofs.Conforming.{uint_tree}
 use Rattle.claim_law.specs.Claimed.{IsIn}
 use Rattle.claim_law.proofs.Constants.{found_in}
 use Rattle.claim_law.proofs.Listed.{in_mapped, any_in, at_place}
-use Rattle.unit_law.proofs.Lists.{as_among, numbered_first, same_test}
-use Rattle.unit_law.proofs.ResultShapes.{reads_first, IsReadAt, first_read, typed_read, makes, made_shaped}
-use Rattle.unit_law.proofs.Steps.{at_index}
-use Rattle.unit_law.proofs.Ways.{HaveKinds, F, V, in_module, written_is}
+use Rattle.grammar_law.proofs.Unit.Lists.{as_among, numbered_first, same_test}
+use Rattle.grammar_law.proofs.Unit.ResultShapes.{reads_first, IsReadAt, first_read, typed_read, makes, made_shaped}
+use Rattle.grammar_law.proofs.Unit.Steps.{at_index}
+use Rattle.grammar_law.proofs.Unit.Ways.{HaveKinds, F, V, in_module, written_is}
 use Rattle.naming_law.proofs.Keys.{S, R as reached_in, found as names_found, key as key_of, names}
 use Rattle.meaning_law.specs.Left.{IsLeftOfGlobals}
 use Rattle.meaning_law.proofs.Outside.Globals.{BeginsPaths, begins_paths}

@@ -33,11 +33,11 @@ use Rattle.typed_law.specs.Conforms.{IsConforming}
 use Rattle.typed_law.proofs.Lists.{some_part}
 use Rattle.claim_law.specs.Claimed.{IsIn}
 use Rattle.claim_law.proofs.Listed.{any_in}
-use Rattle.unit_law.specs.Mentioned.{IsMentioned}
-use Rattle.unit_law.specs.Words.{AreOfStructs}
-use Rattle.unit_law.proofs.Lists.{same_test}
-use Rattle.unit_law.proofs.Ways.{HaveKinds, F, R, V}
-use Rattle.meets_law.proofs.GlobalReads.{mention_listed}
+use Rattle.grammar_law.specs.Mentioned.{IsMentioned}
+use Rattle.grammar_law.specs.Words.{AreOfStructs}
+use Rattle.grammar_law.proofs.Unit.Lists.{same_test}
+use Rattle.grammar_law.proofs.Unit.Ways.{HaveKinds, F, R, V}
+use Rattle.grammar_law.proofs.Meets.GlobalReads.{mention_listed}
 use Rattle.naming_law.proofs.Keys.{S, names}
 use Rattle.meaning_law.specs.Left.{IsLeftOfGlobals}
 use Rattle.meaning_law.proofs.Outside.Text.{P as program_in}

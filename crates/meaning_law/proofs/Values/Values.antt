@@ -30,8 +30,8 @@ use Rattle.call_law.specs.Known.{IsFunctionOf, LendsWhole}
 use Rattle.typed_law.specs.Conforms.{IsConforming}
 use Rattle.typed_law.specs.Words.{IsSettingOfWords, IsStateOfWords}
 use Rattle.claim_law.specs.Claimed.{IsIn}
-use Rattle.unit_law.proofs.Lists.{as_among}
-use Rattle.unit_law.proofs.Ways.{HaveKinds, F, V}
+use Rattle.grammar_law.proofs.Unit.Lists.{as_among}
+use Rattle.grammar_law.proofs.Unit.Ways.{HaveKinds, F, V}
 use Rattle.formed_law.specs.Formed.{IsFormedBlock}
 use Rattle.formed_law.proofs.Inner.{accepted_inner}
 use Rattle.naming_law.proofs.Keys.{S, names}

@@ -61,7 +61,7 @@ use Rattle.function_law.specs.UnderWay.{IsUnderWay, IsRuled}
 use Rattle.function_law.proofs.UnderWay.{way_kept}
 use Rattle.function_law.proofs.Selectors.{word_value, selects}
 use Rattle.function_law.proofs.WholeEdges.{IsPlannedEdge}
-use Rattle.unit_law.proofs.Ways.{HaveKinds, F, written_is}
+use Rattle.grammar_law.proofs.Unit.Ways.{HaveKinds, F, written_is}
 use Rattle.formed_law.specs.Formed.{IsFormedFunction}
 use Rattle.formed_law.specs.Traced.{IsReachedBlock, IsTraced}
 use Rattle.naming_law.specs.Ends.{term_of, HasLabels}

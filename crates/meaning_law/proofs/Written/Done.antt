@@ -22,9 +22,9 @@ use Rattle.plan_law.proofs.Order.{before_of}
 use Rattle.typed_law.proofs.Rules.{operand_there}
 use Rattle.claim_law.specs.Claimed.{IsIn}
 use Rattle.claim_law.proofs.Constants.{found_in}
-use Rattle.unit_law.specs.Mentioned.{IsMentioned, IsLinked}
-use Rattle.unit_law.proofs.Links.{as_linked, linked_in}
-use Rattle.unit_law.proofs.Lists.{as_among}
+use Rattle.grammar_law.specs.Mentioned.{IsMentioned, IsLinked}
+use Rattle.grammar_law.proofs.Unit.Links.{as_linked, linked_in}
+use Rattle.grammar_law.proofs.Unit.Lists.{as_among}
 use Rattle.formed_law.specs.Formed.{ArePhis, IsFormedBlock}
 
 -- parts of a rising list rise

@@ -44,8 +44,8 @@ use Rattle.typed_law.proofs.Values.{inside}
 use Rattle.typed_law.proofs.Others.{phi_group}
 use Rattle.claim_law.specs.Claimed.{IsIn}
 use Rattle.claim_law.proofs.Listed.{in_flat, at_place}
-use Rattle.unit_law.proofs.Lists.{as_among}
-use Rattle.unit_law.proofs.Ways.{HaveKinds, F, V, in_module, ordered}
+use Rattle.grammar_law.proofs.Unit.Lists.{as_among}
+use Rattle.grammar_law.proofs.Unit.Ways.{HaveKinds, F, V, in_module, ordered}
 use Rattle.formed_law.specs.Formed.{IsFormedFunction}
 use Rattle.formed_law.proofs.Blocks.{phis_come_first}
 use Rattle.naming_law.specs.Names.{is_result, is_value_parameter}

@@ -13,7 +13,7 @@ use Rattle.function_plan.specs.Phis.{values_in, comes_from}
 use Rattle.module_semantics.specs.Steps.{source_from}
 use Rattle.list_law.proofs.Numbers.{odd_on}
 use Rattle.claim_law.specs.Claimed.{IsIn}
-use Rattle.unit_law.proofs.Lists.{none_passes}
+use Rattle.grammar_law.proofs.Unit.Lists.{none_passes}
 use Rattle.function_law.proofs.PhiSources.{comes_is}
 
 -- the labels of pairs

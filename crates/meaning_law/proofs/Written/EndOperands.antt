@@ -32,7 +32,7 @@ use Rattle.agree_law.specs.Points.{Stops}
 use Rattle.call_law.specs.Known.{IsFunctionOf, LendsWhole}
 use Rattle.typed_law.specs.Conforms.{IsConforming}
 use Rattle.claim_law.specs.Claimed.{IsIn}
-use Rattle.unit_law.proofs.Ways.{HaveKinds, F, R, V, plan_is, reached_nth}
+use Rattle.grammar_law.proofs.Unit.Ways.{HaveKinds, F, R, V, plan_is, reached_nth}
 use Rattle.formed_law.specs.Formed.{IsFormedFunction}
 use Rattle.formed_law.proofs.Blocks.{reached_body, reached_only}
 use Rattle.naming_law.proofs.Keys.{S, names}

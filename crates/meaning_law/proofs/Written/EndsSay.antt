@@ -28,9 +28,9 @@ use Rattle.typed_law.specs.Conforms.{IsConforming}
 use Rattle.typed_law.proofs.Values.{inside}
 use Rattle.claim_law.specs.Claimed.{IsIn}
 use Rattle.claim_law.proofs.Listed.{in_flat, at_place}
-use Rattle.unit_law.proofs.Lists.{as_among}
-use Rattle.unit_law.proofs.Links.{placed_in}
-use Rattle.unit_law.proofs.Ways.{HaveKinds, F, R, V, in_module}
+use Rattle.grammar_law.proofs.Unit.Lists.{as_among}
+use Rattle.grammar_law.proofs.Unit.Links.{placed_in}
+use Rattle.grammar_law.proofs.Unit.Ways.{HaveKinds, F, R, V, in_module}
 use Rattle.formed_law.specs.Formed.{IsFormedBlock, IsFormedFunction}
 use Rattle.formed_law.proofs.Blocks.{behind_is, reached_body}
 use Rattle.meaning_law.proofs.Written.Done.{all_behind}

@@ -45,11 +45,11 @@ use Rattle.typed_law.specs.Conforms.{IsConforming, IsFormed}
 use Rattle.typed_law.proofs.Lists.{clash, and_off, or_left}
 use Rattle.typed_law.proofs.Values.{typed_result, has_a_type, own_type, inside}
 use Rattle.claim_law.specs.Claimed.{IsIn}
-use Rattle.unit_law.proofs.Lists.{as_among, in_block}
-use Rattle.unit_law.proofs.Forms.{placed as placed_at, is_placed, form_at}
-use Rattle.unit_law.proofs.Shaped.{shaped_value}
-use Rattle.unit_law.proofs.Operands.{ids_at, same_ids}
-use Rattle.unit_law.proofs.Ways.{HaveKinds, F, R, V, in_module, plan_is, ordered}
+use Rattle.grammar_law.proofs.Unit.Lists.{as_among, in_block}
+use Rattle.grammar_law.proofs.Unit.Forms.{placed as placed_at, is_placed, form_at}
+use Rattle.grammar_law.proofs.Unit.Shaped.{shaped_value}
+use Rattle.grammar_law.proofs.Unit.Operands.{ids_at, same_ids}
+use Rattle.grammar_law.proofs.Unit.Ways.{HaveKinds, F, R, V, in_module, plan_is, ordered}
 use Rattle.formed_law.proofs.Inner.{is_inner}
 use Rattle.naming_law.proofs.Firsts.{of_in}
 use Rattle.meaning_law.proofs.Written.Placed.{chain_step, variable_step, value_no_pointer}

@@ -30,7 +30,7 @@ use Rattle.name_alloc.specs.declared.claims.Key.TheVariants.{Fell}
 use Rattle.claim_law.specs.Claimed.{IsIn}
 use Rattle.claim_law.proofs.Listed.{in_flat, any_in}
 use Rattle.typed_law.proofs.Lists.{clash}
-use Rattle.unit_law.proofs.Lists.{same_test, numbered_first}
+use Rattle.grammar_law.proofs.Unit.Lists.{same_test, numbered_first}
 use Rattle.naming_law.proofs.Tree.{among_that}
 use Rattle.safe_law.proofs.Flags.{planned, found}
 

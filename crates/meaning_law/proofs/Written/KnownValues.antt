@@ -36,7 +36,7 @@ use Rattle.typed_law.specs.Words.{IsSettingOfWords, IsStateOfWords}
 use Rattle.typed_law.proofs.Lists.{and_left, and_right}
 use Rattle.constant_law.proofs.Calculated.{number_value}
 use Rattle.claim_law.specs.Claimed.{IsIn}
-use Rattle.unit_law.proofs.Ways.{HaveKinds, F, V, Found, written_is}
+use Rattle.grammar_law.proofs.Unit.Ways.{HaveKinds, F, V, Found, written_is}
 use Rattle.naming_law.proofs.Keys.{S, names}
 use Rattle.meaning_law.proofs.Written.Shapes.{shape_of_value, value_has}
 

@@ -42,9 +42,9 @@ use Rattle.path_law.specs.Walks.{struct_names}
 use Rattle.typed_law.specs.Conforms.{IsConforming}
 use Rattle.typed_law.proofs.Values.{own_shape}
 use Rattle.claim_law.specs.Claimed.{IsIn}
-use Rattle.unit_law.specs.Mentioned.{IsValueIn}
-use Rattle.unit_law.proofs.Lists.{as_among}
-use Rattle.unit_law.proofs.Ways.{HaveKinds, S, Found, F, R, V, in_module}
+use Rattle.grammar_law.specs.Mentioned.{IsValueIn}
+use Rattle.grammar_law.proofs.Unit.Lists.{as_among}
+use Rattle.grammar_law.proofs.Unit.Ways.{HaveKinds, S, Found, F, R, V, in_module}
 use Rattle.lowers_law.proofs.Types.{IsText}
 use Rattle.lowers_law.proofs.Operations.{operation_says}
 use Rattle.meaning_law.proofs.Written.Expressed.{unnamed_so, forwarded_kind}

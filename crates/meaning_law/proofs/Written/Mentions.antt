@@ -14,7 +14,7 @@ use Rattle.spv_module.specs.declared.inst.Function.{Function}
 use Rattle.module_semantics.specs.Steps.{array_length, step_kind}
 use Rattle.use_chains.specs.Slots.{is_value, is_label_reached, is_taken, inst_at, IsLive}
 use Rattle.list_law.proofs.Tests.{unless}
-use Rattle.unit_law.specs.Mentioned.{IsMentioned}
+use Rattle.grammar_law.specs.Mentioned.{IsMentioned}
 
 -- an operand that is an id of a value, of a live instruction of a reached block that is no phi
 pub live_mentions : (f : Function) (reached : List Bool) (block place : ℕ) (i : Inst) → inst_at f block place ≡ Some i → slice_index_or reached block false ≡ true → IsLive f reached block place → is i.op code.Phi ≡ false

@@ -12,7 +12,7 @@ use Rattle.unit_rules.specs.Unit.{IsUnitOf}
 use Rattle.call_law.specs.Known.{LendsWhole}
 use Rattle.typed_law.specs.Conforms.{IsConforming}
 use Rattle.claim_law.specs.Claimed.{IsIn}
-use Rattle.unit_law.proofs.Ways.{HaveKinds, V, plan_is}
+use Rattle.grammar_law.proofs.Unit.Ways.{HaveKinds, V, plan_is}
 use Rattle.naming_law.specs.Names.{is_result, is_value_parameter, is_local_form}
 use Rattle.naming_law.proofs.Keys.{S, names}
 use Rattle.meaning_law.proofs.Written.Says.{AreNamesOf}

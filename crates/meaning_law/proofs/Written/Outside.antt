@@ -18,7 +18,7 @@ use Rattle.unit_rules.specs.Unit.{IsUnitOf}
 use Rattle.typed_law.specs.Conforms.{IsConforming}
 use Rattle.claim_law.specs.Claimed.{IsIn}
 use Rattle.claim_law.proofs.Constants.{found_in}
-use Rattle.unit_law.proofs.Ways.{HaveKinds, F, V, own_type_of, local_outside, never_global}
+use Rattle.grammar_law.proofs.Unit.Ways.{HaveKinds, F, V, own_type_of, local_outside, never_global}
 use Rattle.meaning_law.proofs.Written.Expressed.{no_zero}
 
 module _ (s : Setting) (entry : Option (List ℕ)) (right : IsConforming s.of entry) (kinds : HaveKinds s.of.globals) (o : Options) (unit : TranslationUnit) (u : IsUnitOf s.of o unit) (p : FunctionPlan) (among : IsIn p u.plans) where

@@ -38,10 +38,10 @@ use Rattle.typed_law.proofs.Lists.{clash}
 use Rattle.claim_law.specs.Claimed.{IsIn}
 use Rattle.claim_law.proofs.Listed.{any_in}
 use Rattle.claim_law.proofs.Constants.{found_in}
-use Rattle.unit_law.specs.Mentioned.{IsMentioned, Stands}
-use Rattle.unit_law.proofs.Lists.{same_test, numbered_first}
-use Rattle.unit_law.proofs.Shaped.{pointer_none, shaped_value}
-use Rattle.unit_law.proofs.Ways.{HaveKinds, F, R, V, own_type_of, CountsIn, home, stands, reached_here}
+use Rattle.grammar_law.specs.Mentioned.{IsMentioned, Stands}
+use Rattle.grammar_law.proofs.Unit.Lists.{same_test, numbered_first}
+use Rattle.grammar_law.proofs.Unit.Shaped.{pointer_none, shaped_value}
+use Rattle.grammar_law.proofs.Unit.Ways.{HaveKinds, F, R, V, own_type_of, CountsIn, home, stands, reached_here}
 use Rattle.naming_law.specs.Names.{is_other, is_result, is_value_parameter, is_local_form}
 use Rattle.naming_law.proofs.Firsts.{of_in}
 

@@ -48,13 +48,13 @@ use Rattle.typed_law.proofs.Values.{typed_result, has_a_type, inside}
 use Rattle.claim_law.specs.Claimed.{IsIn, HasName}
 use Rattle.claim_law.proofs.Constants.{found_in}
 use Rattle.claim_law.proofs.Listed.{at_place}
-use Rattle.unit_law.specs.Mentioned.{IsValueIn}
-use Rattle.unit_law.proofs.Lists.{same_test, as_among}
-use Rattle.unit_law.proofs.Shaped.{shaped_value}
-use Rattle.unit_law.proofs.Ranked.{rank_falls}
-use Rattle.unit_law.proofs.Ways.{HaveKinds, Found, F, R, V, in_module, plan_is, ordered, counts_here, IsOwnResult, ways}
-use Rattle.unit_law.proofs.Operands.{operand_shaped, operation_no_phi, operand_mentioned}
-use Rattle.unit_law.proofs.Usable.{Ranks, ranked}
+use Rattle.grammar_law.specs.Mentioned.{IsValueIn}
+use Rattle.grammar_law.proofs.Unit.Lists.{same_test, as_among}
+use Rattle.grammar_law.proofs.Unit.Shaped.{shaped_value}
+use Rattle.grammar_law.proofs.Unit.Ranked.{rank_falls}
+use Rattle.grammar_law.proofs.Unit.Ways.{HaveKinds, Found, F, R, V, in_module, plan_is, ordered, counts_here, IsOwnResult, ways}
+use Rattle.grammar_law.proofs.Unit.Operands.{operand_shaped, operation_no_phi, operand_mentioned}
+use Rattle.grammar_law.proofs.Unit.Usable.{Ranks, ranked}
 use Rattle.formed_law.specs.Formed.{IsFormedBlock}
 use Rattle.formed_law.proofs.Inner.{is_inner}
 use Rattle.naming_law.specs.Names.{is_result, is_value_parameter, is_local_form}

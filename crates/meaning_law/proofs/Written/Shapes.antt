@@ -27,7 +27,7 @@ use Rattle.fits_law.specs.State.{value_shape, HasShape, IdsFit, ModuleFits}
 use Rattle.path_law.specs.Parts.{shape_in}
 use Rattle.path_law.specs.Walks.{struct_names}
 use Rattle.global_law.specs.Sources.{source_of}
-use Rattle.unit_law.proofs.ValueNames.{no_pointer}
+use Rattle.grammar_law.proofs.Unit.ValueNames.{no_pointer}
 use Rattle.naming_law.proofs.Keys.{S, key, names}
 
 as_itself : (o : Option ℕ) (ty : ℕ) → unwrap_or o ty ≡ option_map_or (λ (p : ℕ). p) o ty

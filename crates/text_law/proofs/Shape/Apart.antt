@@ -32,11 +32,11 @@ use Rattle.typed_law.proofs.Used.{global_found}
 use Rattle.typed_law.proofs.Values.{typed_is, typed_result, variable_type_is, global_row, global_typed_some, inside, local_row, own_type}
 use Rattle.typed_law.proofs.Others.{typed_some}
 use Rattle.claim_law.specs.Claimed.{IsIn}
-use Rattle.unit_law.proofs.Lists.{in_either, of_filter, as_among, as_parameter}
-use Rattle.unit_law.proofs.Shaped.{pointer_none}
-use Rattle.unit_law.proofs.Ways.{HaveKinds, F, V, in_module}
-use Rattle.meets_law.proofs.ArrayLengths.{variable_typed}
-use Rattle.grammar_law.proofs.Listed.{of_mapped}
+use Rattle.grammar_law.proofs.Unit.Lists.{in_either, of_filter, as_among, as_parameter}
+use Rattle.grammar_law.proofs.Unit.Shaped.{pointer_none}
+use Rattle.grammar_law.proofs.Unit.Ways.{HaveKinds, F, V, in_module}
+use Rattle.grammar_law.proofs.Meets.ArrayLengths.{variable_typed}
+use Rattle.grammar_law.proofs.Grammar.Listed.{of_mapped}
 use Rattle.text_law.specs.Walks.{is_in}
 use Rattle.text_law.specs.Shape.{built_ins, is_pointer, memory_ids, names_in}
 use Rattle.text_law.proofs.Shape.Named.{id_unseen}

@@ -48,18 +48,18 @@ use Rattle.typed_law.proofs.Lists.{clash}
 use Rattle.typed_law.proofs.Values.{inside, typed_result}
 use Rattle.claim_law.specs.Claimed.{IsIn}
 use Rattle.claim_law.proofs.Listed.{in_flat, at_place}
-use Rattle.unit_law.specs.Mentioned.{IsValueIn}
-use Rattle.unit_law.specs.Words.{words_of, AreOfStructs}
-use Rattle.unit_law.proofs.Lists.{as_among, of_filter, of_numbered_first}
-use Rattle.unit_law.proofs.Links.{placed_in}
-use Rattle.unit_law.proofs.Shaped.{shaped_value}
-use Rattle.unit_law.proofs.Carried.{always_form}
-use Rattle.unit_law.proofs.CallTypes.{given_value, call_row}
-use Rattle.unit_law.proofs.ResultShapes.{IsShaped, makes, made_shaped}
-use Rattle.unit_law.proofs.Ways.{HaveKinds, F, R, V, in_module, plan_is}
-use Rattle.meets_law.proofs.LiveOrGone.{IsRun, is_quiet, pure_quiet, placed_live, run, live_or_gone}
-use Rattle.meets_law.proofs.PlaceMeets.{load_way, store_way, atomic_way}
-use Rattle.meets_law.proofs.BlocksMade.{AreKnown, is_shaped_kind, inst_meets}
+use Rattle.grammar_law.specs.Mentioned.{IsValueIn}
+use Rattle.grammar_law.specs.Words.{words_of, AreOfStructs}
+use Rattle.grammar_law.proofs.Unit.Lists.{as_among, of_filter, of_numbered_first}
+use Rattle.grammar_law.proofs.Unit.Links.{placed_in}
+use Rattle.grammar_law.proofs.Unit.Shaped.{shaped_value}
+use Rattle.grammar_law.proofs.Unit.Carried.{always_form}
+use Rattle.grammar_law.proofs.Unit.CallTypes.{given_value, call_row}
+use Rattle.grammar_law.proofs.Unit.ResultShapes.{IsShaped, makes, made_shaped}
+use Rattle.grammar_law.proofs.Unit.Ways.{HaveKinds, F, R, V, in_module, plan_is}
+use Rattle.grammar_law.proofs.Meets.LiveOrGone.{IsRun, is_quiet, pure_quiet, placed_live, run, live_or_gone}
+use Rattle.grammar_law.proofs.Meets.PlaceMeets.{load_way, store_way, atomic_way}
+use Rattle.grammar_law.proofs.Meets.BlocksMade.{AreKnown, is_shaped_kind, inst_meets}
 use Rattle.text_law.specs.Walks.{Outer, is_in}
 use Rattle.text_law.specs.Shape.{outer_of}
 use Rattle.text_law.specs.Unseen.{unseen, IsPath}

@@ -43,9 +43,9 @@ use Rattle.typed_law.proofs.Operations.{Facts}
 use Rattle.typed_law.proofs.Others.{typed_operand}
 use Rattle.constant_law.specs.Items.{AreSpecIds}
 use Rattle.claim_law.proofs.Listed.{at_place}
-use Rattle.unit_law.proofs.Lists.{of_contained, none_passes}
-use Rattle.unit_law.proofs.Steps.{at_index}
-use Rattle.grammar_law.proofs.Literals.{semantics_right, control_op, memory_op, made_constant, literal_is}
+use Rattle.grammar_law.proofs.Unit.Lists.{of_contained, none_passes}
+use Rattle.grammar_law.proofs.Unit.Steps.{at_index}
+use Rattle.grammar_law.proofs.Grammar.Literals.{semantics_right, control_op, memory_op, made_constant, literal_is}
 use Rattle.text_law.specs.Shape.{constant_word}
 
 literal_read : (w : scope.Setting) (g : Inst) → is_some (literal_word w g) ≡ true → unwrap_or (literal_word w g) 0 ≡ word_of (plain_value w.source g)

@@ -18,8 +18,8 @@ use Rattle.typed_law.proofs.Lists.{clash}
 use Rattle.claim_law.specs.Bodies.{function_in}
 use Rattle.claim_law.specs.Claimed.{IsIn}
 use Rattle.claim_law.proofs.Bodies.{bodies_are}
-use Rattle.grammar_law.proofs.Held.{any_invocation}
-use Rattle.grammar_law.proofs.UnitMade.{in_plans}
+use Rattle.grammar_law.proofs.Grammar.Held.{any_invocation}
+use Rattle.grammar_law.proofs.Grammar.UnitMade.{in_plans}
 use Rattle.naming_law.proofs.Unit.{named_so}
 use Rattle.text_law.specs.Walks.{is_in, atomics, barriers, is_seen}
 use Rattle.text_law.specs.Deeds.{calls}

@@ -28,11 +28,11 @@ use Rattle.typed_law.specs.Conforms.{IsConforming}
 use Rattle.claim_law.specs.Claimed.{IsIn}
 use Rattle.claim_law.specs.Bodies.{functions_in}
 use Rattle.claim_law.proofs.Told.{named_is}
-use Rattle.unit_law.proofs.Ways.{HaveKinds, F, V}
-use Rattle.grammar_law.proofs.Held.{any_invocation, Run}
-use Rattle.grammar_law.proofs.Called.{right, kinds}
-use Rattle.grammar_law.proofs.Callees.{function, listed, other_entry, callee_named}
-use Rattle.grammar_law.proofs.FirstBlocks.{as_function}
+use Rattle.grammar_law.proofs.Unit.Ways.{HaveKinds, F, V}
+use Rattle.grammar_law.proofs.Grammar.Held.{any_invocation, Run}
+use Rattle.grammar_law.proofs.Grammar.Called.{right, kinds}
+use Rattle.grammar_law.proofs.Grammar.Callees.{function, listed, other_entry, callee_named}
+use Rattle.grammar_law.proofs.Grammar.FirstBlocks.{as_function}
 use Rattle.naming_law.proofs.Functions.{has_plan}
 use Rattle.naming_law.proofs.Keys.{some_in, equal}
 use Rattle.text_law.specs.Walks.{is_in}

@@ -15,7 +15,7 @@ use Rattle.region_law.proofs.Flags.{other_text}
 use Rattle.typed_law.proofs.Lists.{clash}
 use Rattle.claim_law.specs.Claimed.{IsIn}
 use Rattle.claim_law.specs.Apart.{is_flow, IsFlow}
-use Rattle.grammar_law.proofs.FunctionsMade.{flow_own}
+use Rattle.grammar_law.proofs.Grammar.FunctionsMade.{flow_own}
 use Rattle.text_law.specs.Walks.{is_in}
 use Rattle.text_law.specs.Pairs.{Naming}
 use Rattle.text_law.specs.Shape.{built_ins, names_in}

@@ -47,13 +47,13 @@ use Rattle.claim_law.proofs.Listed.{in_left, in_right, in_mapped}
 use Rattle.claim_law.proofs.Variables.{variable_no_constant}
 use Rattle.spell_law.specs.Blocks.{FitWords}
 use Rattle.region_law.proofs.Flags.{own_text}
-use Rattle.unit_law.specs.Words.{IsOwnName, words_of, AreOfStructs}
-use Rattle.unit_law.proofs.Lists.{in_filter, as_among, as_parameter}
-use Rattle.unit_law.proofs.Indexes.{IsInt, index_int}
-use Rattle.unit_law.proofs.Ruled.{chains, rise}
-use Rattle.unit_law.proofs.ResultShapes.{stands_inside}
-use Rattle.unit_law.proofs.Ways.{HaveKinds, F, V, in_module, ordered}
-use Rattle.meets_law.proofs.PointerStarts.{IsStart, outside, lent, own, pointer_start}
+use Rattle.grammar_law.specs.Words.{IsOwnName, words_of, AreOfStructs}
+use Rattle.grammar_law.proofs.Unit.Lists.{in_filter, as_among, as_parameter}
+use Rattle.grammar_law.proofs.Unit.Indexes.{IsInt, index_int}
+use Rattle.grammar_law.proofs.Unit.Ruled.{chains, rise}
+use Rattle.grammar_law.proofs.Unit.ResultShapes.{stands_inside}
+use Rattle.grammar_law.proofs.Unit.Ways.{HaveKinds, F, V, in_module, ordered}
+use Rattle.grammar_law.proofs.Meets.PointerStarts.{IsStart, outside, lent, own, pointer_start}
 use Rattle.text_law.specs.Walks.{Outer, is_in}
 use Rattle.text_law.specs.Shape.{built_ins, is_pointer, memory_ids, names_in, outer_of}
 use Rattle.text_law.specs.Unseen.{unseen, IsPath}

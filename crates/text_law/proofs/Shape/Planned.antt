@@ -29,8 +29,8 @@ use Rattle.tree_law.proofs.SwitchOrder.{order_is}
 use Rattle.spell_law.specs.Blocks.{IsWhole}
 use Rattle.claim_law.specs.Claimed.{IsIn}
 use Rattle.claim_law.proofs.Flags.{again_key, leave_key, fell_key}
-use Rattle.unit_law.specs.Switches.{IsSwitchAt, IsReached, Chooses, Leads}
-use Rattle.unit_law.proofs.Whole.{tree-whole}
+use Rattle.grammar_law.specs.Switches.{IsSwitchAt, IsReached, Chooses, Leads}
+use Rattle.grammar_law.proofs.Unit.Whole.{tree-whole}
 use Rattle.naming_law.proofs.Tree.{among_that, switch_exit}
 use Rattle.text_law.specs.Quiet.{AreFlags}
 

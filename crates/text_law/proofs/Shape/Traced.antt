@@ -24,8 +24,8 @@ use Rattle.path_law.specs.Chains.{NoneMakes, ChainsRise}
 use Rattle.path_law.proofs.Ways.{start_way, chain_way}
 use Rattle.path_law.proofs.Based.{rank, base_lower}
 use Rattle.claim_law.specs.Claimed.{IsIn}
-use Rattle.unit_law.proofs.Lists.{in_block, as_among}
-use Rattle.unit_law.proofs.Places.{makes_in}
+use Rattle.grammar_law.proofs.Unit.Lists.{in_block, as_among}
+use Rattle.grammar_law.proofs.Unit.Places.{makes_in}
 use Rattle.text_law.specs.Walks.{Outer, is_in}
 use Rattle.text_law.specs.Unseen.{unseen}
 

@@ -33,17 +33,17 @@ use Rattle.claim_law.specs.Claimed.{IsIn}
 use Rattle.claim_law.specs.Apart.{IsFlow}
 use Rattle.claim_law.proofs.Flags.{again_is_flow, leave_is_flow, fell_is_flow}
 use Rattle.height_law.proofs.Closed.{sound-of}
-use Rattle.unit_law.specs.Switches.{IsReached, Chooses, Leads}
-use Rattle.unit_law.proofs.ArgWords.{args_words}
-use Rattle.unit_law.proofs.Switching.{switch_at}
-use Rattle.unit_law.specs.Words.{AreOfStructs}
-use Rattle.unit_law.proofs.Ways.{HaveKinds, F, V, plan_is, reached_nth}
-use Rattle.meets_law.proofs.LiveOrGone.{IsRun}
-use Rattle.meets_law.proofs.BlocksMade.{AreKnown}
-use Rattle.grammar_law.proofs.Held.{any_invocation, Run, Written}
-use Rattle.grammar_law.proofs.Called.{right, kinds}
-use Rattle.grammar_law.proofs.Lives.{lives}
-use Rattle.grammar_law.proofs.Accepted.{words, few, sound, all_known, made_function, Structs, of_structs, declared_structs}
+use Rattle.grammar_law.specs.Switches.{IsReached, Chooses, Leads}
+use Rattle.grammar_law.proofs.Unit.ArgWords.{args_words}
+use Rattle.grammar_law.proofs.Unit.Switching.{switch_at}
+use Rattle.grammar_law.specs.Words.{AreOfStructs}
+use Rattle.grammar_law.proofs.Unit.Ways.{HaveKinds, F, V, plan_is, reached_nth}
+use Rattle.grammar_law.proofs.Meets.LiveOrGone.{IsRun}
+use Rattle.grammar_law.proofs.Meets.BlocksMade.{AreKnown}
+use Rattle.grammar_law.proofs.Grammar.Held.{any_invocation, Run, Written}
+use Rattle.grammar_law.proofs.Grammar.Called.{right, kinds}
+use Rattle.grammar_law.proofs.Grammar.Lives.{lives}
+use Rattle.grammar_law.proofs.Grammar.Accepted.{words, few, sound, all_known, made_function, Structs, of_structs, declared_structs}
 use Rattle.naming_law.proofs.Functions.{function_of_plan, planned_of, has_plan}
 use Rattle.naming_law.proofs.Keys.{some_in, equal}
 use Rattle.text_law.specs.Walks.{Outer, is_in}

@@ -33,13 +33,13 @@ use Rattle.typed_law.specs.Conforms.{IsConforming}
 use Rattle.typed_law.specs.Words.{AreGivenWords}
 use Rattle.claim_law.specs.Claimed.{IsIn}
 use Rattle.claim_law.proofs.Listed.{in_flat, at_place}
-use Rattle.unit_law.specs.Switches.{Leads}
-use Rattle.unit_law.specs.Words.{words_of, AreOfStructs}
-use Rattle.unit_law.proofs.Structs.{Written}
-use Rattle.unit_law.proofs.Ways.{HaveKinds, F, R, V, plan_is}
-use Rattle.grammar_law.proofs.Edges.{copies_of}
-use Rattle.grammar_law.proofs.PairsOf.{IsPairOf}
-use Rattle.grammar_law.proofs.PhiNames.{shaped, whole, target_type}
+use Rattle.grammar_law.specs.Switches.{Leads}
+use Rattle.grammar_law.specs.Words.{words_of, AreOfStructs}
+use Rattle.grammar_law.proofs.Unit.Structs.{Written}
+use Rattle.grammar_law.proofs.Unit.Ways.{HaveKinds, F, R, V, plan_is}
+use Rattle.grammar_law.proofs.Grammar.Edges.{copies_of}
+use Rattle.grammar_law.proofs.Grammar.PairsOf.{IsPairOf}
+use Rattle.grammar_law.proofs.Grammar.PhiNames.{shaped, whole, target_type}
 use Rattle.text_law.specs.Shape.{memory_ids, outer_of}
 use Rattle.text_law.specs.Unseen.{unseen}
 use Rattle.text_law.proofs.Shape.Named.{other_unseen}

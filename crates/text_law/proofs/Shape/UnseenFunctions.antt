@@ -29,13 +29,13 @@ use Rattle.spell_law.specs.Blocks.{FitWords}
 use Rattle.typed_law.specs.Conforms.{IsConforming}
 use Rattle.typed_law.specs.Words.{AreGivenWords}
 use Rattle.claim_law.specs.Claimed.{IsIn}
-use Rattle.unit_law.specs.Switches.{IsReached, Chooses, Leads}
-use Rattle.unit_law.specs.Words.{AreOfStructs}
-use Rattle.unit_law.proofs.Structs.{Written}
-use Rattle.unit_law.proofs.Ways.{HaveKinds, F, R, V, plan_is, written_is}
-use Rattle.meets_law.proofs.LiveOrGone.{IsRun}
-use Rattle.meets_law.proofs.BlocksMade.{AreKnown}
-use Rattle.grammar_law.proofs.Ends.{chooser_usable, returned_usable}
+use Rattle.grammar_law.specs.Switches.{IsReached, Chooses, Leads}
+use Rattle.grammar_law.specs.Words.{AreOfStructs}
+use Rattle.grammar_law.proofs.Unit.Structs.{Written}
+use Rattle.grammar_law.proofs.Unit.Ways.{HaveKinds, F, R, V, plan_is, written_is}
+use Rattle.grammar_law.proofs.Meets.LiveOrGone.{IsRun}
+use Rattle.grammar_law.proofs.Meets.BlocksMade.{AreKnown}
+use Rattle.grammar_law.proofs.Grammar.Ends.{chooser_usable, returned_usable}
 use Rattle.text_law.specs.Walks.{Outer}
 use Rattle.text_law.specs.Shape.{outer_of}
 use Rattle.text_law.specs.Unseen.{unseen, AreStill}

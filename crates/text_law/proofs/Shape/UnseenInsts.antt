@@ -31,13 +31,13 @@ use Rattle.typed_law.specs.Conforms.{IsConforming}
 use Rattle.typed_law.specs.Words.{AreGivenWords}
 use Rattle.claim_law.specs.Claimed.{IsIn}
 use Rattle.claim_law.proofs.Listed.{in_flat, at_place}
-use Rattle.unit_law.specs.Mentioned.{IsValueIn}
-use Rattle.unit_law.specs.Words.{words_of, AreOfStructs}
-use Rattle.unit_law.proofs.ResultShapes.{IsShaped}
-use Rattle.unit_law.proofs.Usable.{Ranks, ranked}
-use Rattle.unit_law.proofs.Ways.{HaveKinds, F, R, V}
-use Rattle.meets_law.proofs.LiveOrGone.{IsRun}
-use Rattle.meets_law.proofs.BlocksMade.{is_shaped_kind, AreKnown, inst_meets, below}
+use Rattle.grammar_law.specs.Mentioned.{IsValueIn}
+use Rattle.grammar_law.specs.Words.{words_of, AreOfStructs}
+use Rattle.grammar_law.proofs.Unit.ResultShapes.{IsShaped}
+use Rattle.grammar_law.proofs.Unit.Usable.{Ranks, ranked}
+use Rattle.grammar_law.proofs.Unit.Ways.{HaveKinds, F, R, V}
+use Rattle.grammar_law.proofs.Meets.LiveOrGone.{IsRun}
+use Rattle.grammar_law.proofs.Meets.BlocksMade.{is_shaped_kind, AreKnown, inst_meets, below}
 use Rattle.text_law.specs.Walks.{Outer}
 use Rattle.text_law.specs.Shape.{outer_of}
 use Rattle.text_law.specs.Unseen.{unseen}

@@ -29,14 +29,14 @@ use Rattle.typed_law.specs.Conforms.{IsConforming}
 use Rattle.typed_law.specs.Words.{AreGivenWords}
 use Rattle.claim_law.specs.Claimed.{IsIn}
 use Rattle.claim_law.proofs.Constants.{found_in}
-use Rattle.unit_law.specs.Words.{AreOfStructs}
-use Rattle.unit_law.proofs.Lists.{at_some, of_filter, of_flat, in_either}
-use Rattle.unit_law.proofs.Structs.{Written}
-use Rattle.unit_law.proofs.Ways.{HaveKinds, F, V}
-use Rattle.meets_law.proofs.BlocksMade.{AreKnown}
-use Rattle.grammar_law.proofs.Listed.{of_mapped}
-use Rattle.grammar_law.proofs.Readings.{none_fits}
-use Rattle.grammar_law.proofs.Tops.{points, shaped, first_constant}
+use Rattle.grammar_law.specs.Words.{AreOfStructs}
+use Rattle.grammar_law.proofs.Unit.Lists.{at_some, of_filter, of_flat, in_either}
+use Rattle.grammar_law.proofs.Unit.Structs.{Written}
+use Rattle.grammar_law.proofs.Unit.Ways.{HaveKinds, F, V}
+use Rattle.grammar_law.proofs.Meets.BlocksMade.{AreKnown}
+use Rattle.grammar_law.proofs.Grammar.Listed.{of_mapped}
+use Rattle.grammar_law.proofs.Grammar.Readings.{none_fits}
+use Rattle.grammar_law.proofs.Grammar.Tops.{points, shaped, first_constant}
 use Rattle.text_law.specs.Walks.{Outer}
 use Rattle.text_law.specs.Shape.{outer_of}
 use Rattle.text_law.specs.Unseen.{unseen, IsStill, AreStill}

@@ -49,16 +49,16 @@ use Rattle.constant_law.proofs.Within.{constant_no_variable}
 use Rattle.claim_law.specs.Claimed.{IsIn, HasName}
 use Rattle.claim_law.proofs.Constants.{found_in}
 use Rattle.claim_law.proofs.Listed.{at_place}
-use Rattle.unit_law.specs.Mentioned.{IsValueIn}
-use Rattle.unit_law.specs.Words.{words_of, AreOfStructs}
-use Rattle.unit_law.specs.Types.{IsLengthOf}
-use Rattle.unit_law.proofs.Lists.{as_among}
-use Rattle.unit_law.proofs.Types.{zero_at_uses}
-use Rattle.unit_law.proofs.Usable.{Ranks, ranked}
-use Rattle.unit_law.proofs.Ways.{HaveKinds, F, R, V, in_module, ways}
-use Rattle.meets_law.proofs.LiveOrGone.{IsRun}
-use Rattle.meets_law.proofs.BlocksMade.{AreKnown, forwarded_meets, block_asked}
-use Rattle.grammar_law.proofs.Readings.{literal_fits, plain_fits}
+use Rattle.grammar_law.specs.Mentioned.{IsValueIn}
+use Rattle.grammar_law.specs.Words.{words_of, AreOfStructs}
+use Rattle.grammar_law.specs.Types.{IsLengthOf}
+use Rattle.grammar_law.proofs.Unit.Lists.{as_among}
+use Rattle.grammar_law.proofs.Unit.Types.{zero_at_uses}
+use Rattle.grammar_law.proofs.Unit.Usable.{Ranks, ranked}
+use Rattle.grammar_law.proofs.Unit.Ways.{HaveKinds, F, R, V, in_module, ways}
+use Rattle.grammar_law.proofs.Meets.LiveOrGone.{IsRun}
+use Rattle.grammar_law.proofs.Meets.BlocksMade.{AreKnown, forwarded_meets, block_asked}
+use Rattle.grammar_law.proofs.Grammar.Readings.{literal_fits, plain_fits}
 use Rattle.text_law.specs.Walks.{Outer}
 use Rattle.text_law.specs.Unseen.{unseen}
 use Rattle.text_law.specs.Shape.{memory_ids, outer_of}

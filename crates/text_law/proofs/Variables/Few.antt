@@ -29,10 +29,10 @@ use Rattle.phi_copies.specs.declared.moves.Move.{Move}
 use Rattle.phi_copies.specs.declared.moves.Move.TheVariants.{Set, Save, Restore}
 use Rattle.phi_copies.specs.Sequence.{IsSequence, is_save, saves}
 use Rattle.phi_copies.proofs.Reading.{as_number, saves_cons}
-use Rattle.grammar_law.proofs.Moving.{edge_saves}
+use Rattle.grammar_law.proofs.Grammar.Moving.{edge_saves}
 use Rattle.name_alloc.specs.declared.claims.Key.{Key}
 use Rattle.function_text.specs.Functions.{FunctionPlan, written}
-use Rattle.unit_law.proofs.Lists.{of_numbered_first}
+use Rattle.grammar_law.proofs.Unit.Lists.{of_numbered_first}
 use Rattle.claim_law.specs.Claimed.{IsIn}
 use Rattle.text_law.specs.Variables.{phi_pairs}
 use Rattle.text_law.proofs.Variables.Plans.{spare_of_move, edge_spares, to_spares, exit_spares, block_spares, spares}

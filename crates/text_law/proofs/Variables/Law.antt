@@ -41,12 +41,12 @@ use Rattle.claim_law.specs.Claimed.{IsIn, HasName}
 use Rattle.formed_law.proofs.Formed.{formed}
 use Rattle.formed_law.proofs.Inner.{accepted_inner}
 use Rattle.formed_law.proofs.Labelled.{accepted_labels}
-use Rattle.unit_law.proofs.Ways.{HaveKinds, planned, F, written_is}
-use Rattle.unit_law.proofs.Lists.{of_filter, as_in}
-use Rattle.unit_law.proofs.ResultShapes.{stands_inside}
-use Rattle.grammar_law.proofs.Held.{any_invocation}
-use Rattle.grammar_law.proofs.Inner.{stands_within}
-use Rattle.grammar_law.proofs.Outside.{have_kinds}
+use Rattle.grammar_law.proofs.Unit.Ways.{HaveKinds, planned, F, written_is}
+use Rattle.grammar_law.proofs.Unit.Lists.{of_filter, as_in}
+use Rattle.grammar_law.proofs.Unit.ResultShapes.{stands_inside}
+use Rattle.grammar_law.proofs.Grammar.Held.{any_invocation}
+use Rattle.grammar_law.proofs.Grammar.Inner.{stands_within}
+use Rattle.grammar_law.proofs.Grammar.Outside.{have_kinds}
 use Rattle.naming_law.specs.Ends.{term_of}
 use Rattle.function_law.proofs.TreeWays.{AreGroups}
 use Rattle.naming_law.proofs.Keys.{S}
@@ -68,7 +68,7 @@ use Rattle.text_law.proofs.Variables.Spared.{spares_named}
 use Rattle.text_law.proofs.Variables.OnceAll.{declared_once}
 use Rattle.function_plan.specs.Phis.{pairs}
 use Rattle.accepted_law.proofs.Small.{args_in, read_operands}
-use Rattle.grammar_law.proofs.FewPairs.{few_pairs}
+use Rattle.grammar_law.proofs.Grammar.FewPairs.{few_pairs}
 
 abbrev function_of : FunctionPlan → Text × Stmts
 function_of p = (function_name p.scope, stmts_in (body_text p))

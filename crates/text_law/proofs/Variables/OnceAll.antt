@@ -39,7 +39,7 @@ use Rattle.typed_law.specs.Conforms.{IsConforming}
 use Rattle.plan_law.specs.InOrder.{AreApart}
 use Rattle.region_law.specs.Leads.{In}
 use Rattle.claim_law.specs.Claimed.{IsIn, HasName}
-use Rattle.unit_law.proofs.Forms.{unmade_gone}
+use Rattle.grammar_law.proofs.Unit.Forms.{unmade_gone}
 use Rattle.naming_law.proofs.Keys.{placed_in}
 use Rattle.naming_law.proofs.Tops.{of_mapped, of_filtered, of_either}
 use Rattle.naming_law.proofs.Planned.{flow_number}

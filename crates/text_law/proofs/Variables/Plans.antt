@@ -37,7 +37,7 @@ use Rattle.expr_forward.specs.Kinds.{kind_of}
 use Rattle.expr_forward.specs.Statements.{inst_text, block_text}
 use Rattle.function_plan.specs.Phis.{phi_blocks}
 use Rattle.function_text.specs.Functions.{FunctionPlan, written, when, move_text, blocks_of}
-use Rattle.unit_law.proofs.Lists.{of_numbered_first}
+use Rattle.grammar_law.proofs.Unit.Lists.{of_numbered_first}
 use Rattle.claim_law.specs.Claimed.{IsIn}
 use Rattle.text_law.specs.Declarations.{occurs}
 use Rattle.text_law.specs.Variables.{of_result, is_local_here, locals_of, locals, flag_key, flags, all_flags}

@@ -35,11 +35,11 @@ use Rattle.plan_law.specs.InOrder.{IsAmong}
 use Rattle.typed_law.specs.Conforms.{IsConforming}
 use Rattle.claim_law.specs.Claimed.{IsIn}
 use Rattle.claim_law.proofs.Listed.{in_flat, at_place}
-use Rattle.unit_law.proofs.Lists.{in_block, as_among, same_test, test_same}
-use Rattle.unit_law.proofs.Forms.{placed, is_placed, form_at, unmade_gone}
-use Rattle.unit_law.proofs.Ways.{HaveKinds, F, R, V, ordered, plan_is, in_module}
-use Rattle.unit_law.proofs.ResultShapes.{stands_inside}
-use Rattle.unit_law.proofs.ResultTypes.{own_row, chain_pointer, variable_pointer}
+use Rattle.grammar_law.proofs.Unit.Lists.{in_block, as_among, same_test, test_same}
+use Rattle.grammar_law.proofs.Unit.Forms.{placed, is_placed, form_at, unmade_gone}
+use Rattle.grammar_law.proofs.Unit.Ways.{HaveKinds, F, R, V, ordered, plan_is, in_module}
+use Rattle.grammar_law.proofs.Unit.ResultShapes.{stands_inside}
+use Rattle.grammar_law.proofs.Unit.ResultTypes.{own_row, chain_pointer, variable_pointer}
 use Rattle.text_law.specs.Variables.{is_local}
 use Rattle.text_law.proofs.Variables.Blocks.{IsSet}
 

@@ -27,9 +27,9 @@ use Rattle.claim_law.proofs.Listed.{at_place}
 use Rattle.claim_law.proofs.Flags.{at_inside}
 use Rattle.claim_law.proofs.Named.{spare_named}
 use Rattle.naming_law.proofs.Tops.{of_filtered}
-use Rattle.grammar_law.proofs.Moving.{edge_moves}
-use Rattle.grammar_law.proofs.PairsOf.{in_once}
-use Rattle.grammar_law.proofs.Edges.{in_targets}
+use Rattle.grammar_law.proofs.Grammar.Moving.{edge_moves}
+use Rattle.grammar_law.proofs.Grammar.PairsOf.{in_once}
+use Rattle.grammar_law.proofs.Grammar.Edges.{in_targets}
 use Rattle.text_law.proofs.Variables.Plans.{spare_of_move, edge_spares, to_spares, exit_spares, block_spares, spares}
 use Rattle.text_law.proofs.Variables.Named.{AllKeys, all_both, all_flat}
 
