@@ -14,7 +14,8 @@ ghost use Rattle.spv_decor.specs.Broken.{Broken};
 ghost use Rattle.conformance.specs.Rules.{Conforms, IsRight, IsWithinLimits, Options as Asked};
 ghost use Rattle.module_check.specs.Asked.{asked};
 ghost use Rattle.module_check.specs.Judged.{IsFault, IsFine};
-ghost use Rattle.typed_law.specs.Words.{AreGivenWords};
+ghost use Rattle.module_check.specs.ReadFrom.{IsReadFrom, IsUnread};
+ghost use Rattle.typed_law.specs.Words.{AreBytes, AreGivenWords};
 ghost use Rattle.emit_glsl.specs.Given.{IsGiven};
 ghost use Rattle.dispatch_case.specs.Cases.{CaseParts};
 ghost use Rattle.run_module.specs.Ends.{IsRunOf};
@@ -129,22 +130,32 @@ fn written<K: Sink>(
     }
 }
 
+/// The module in these bytes, which are given back once it is read.
+fn read_given(alloc: Global, bytes: Vec<u8>) -> Result<Module, Fault>
+    requires { length bytes.items ≤ limit_number Bytes }
+    ensures read { IfOk result (IsReadFrom bytes.items) }
+    ensures refused { IfErr result (IsUnread bytes.items) }
+{
+    read_module(alloc, &bytes)
+}
+
 /// Reads a module and writes the answer to a command on it; where it has a fault, nothing. The module is not given back.
 fn answered<K: Sink>(
     alloc: Global,
     command: &Command,
-    bytes: &[u8],
+    bytes: Vec<u8>,
     output: &mut K,
 ) -> Result<Ending, Fault>
-    requires short { length bytes.now ≤ limit_number Bytes }
+    requires short { length bytes.items ≤ limit_number Bytes }
+    requires octets { AreBytes bytes.items }
     requires given { AreGivenWords command.now.options.overrides }
-    ensures end { IfOk result (IsEndOfTask (above command.now bytes.now)) }
-    ensures passes { OnOk result (Conforms bytes.now command.now.options × IsWithinLimits bytes.now command.now.options) }
-    ensures output { IfOk result (IsOutput K.written K.faults (IsAnswer command.now (Some bytes.now)) output.old output.new) }
-    ensures refused { IfErr result (IsRight bytes.now command.now.options) }
+    ensures end { IfOk result (IsEndOfTask (above command.now bytes.items)) }
+    ensures passes { OnOk result (Conforms bytes.items command.now.options × IsWithinLimits bytes.items command.now.options) }
+    ensures output { IfOk result (IsOutput K.written K.faults (IsAnswer command.now (Some bytes.items)) output.old output.new) }
+    ensures refused { IfErr result (IsRight bytes.items command.now.options) }
     ensures unwritten { OnErr result (output.new ≡ output.old) }
 {
-    let module = read_module(alloc, bytes)?;
+    let module = read_given(alloc, bytes)?;
     let decor = Decor::read(alloc, &module)?;
     let ending = written(
         alloc,
@@ -161,11 +172,12 @@ fn answered<K: Sink>(
 
 /// Carries out a command on the bytes of a module.
 #[tactic(auto, using(command_line::proofs::Ends::met_cause, command_line::proofs::Ends::fault_cause))]
-pub fn answer<K: Sink>(alloc: Global, command: &Command, bytes: &[u8], output: &mut K) -> Ending
-    requires short { length bytes.now ≤ limit_number Bytes }
+pub fn answer<K: Sink>(alloc: Global, command: &Command, bytes: Vec<u8>, output: &mut K) -> Ending
+    requires short { length bytes.items ≤ limit_number Bytes }
+    requires octets { AreBytes bytes.items }
     requires given { AreGivenWords command.now.options.overrides }
-    ensures cause { IsCause command.now.options (above command.now bytes.now) bytes.now result }
-    ensures output { IsOutput K.written K.faults (IsAnswer command.now (Some bytes.now)) output.old output.new result }
+    ensures cause { IsCause command.now.options (above command.now bytes.items) bytes.items result }
+    ensures output { IsOutput K.written K.faults (IsAnswer command.now (Some bytes.items)) output.old output.new result }
 {
     match answered(alloc, command, bytes, output) {
         Ok(ending) => ending,

@@ -32,7 +32,7 @@ fn run_on_input<S: Source, K: Sink>(
     ensures output { IsOutput K.written K.faults (IsAnswer command.now (S.left input.old)) output.old output.new result }
 {
     match read_all(alloc, input, Limit::Bytes.number() as usize) {
-        Ok(bytes) => answer(alloc, command, &bytes, output),
+        Ok(bytes) => answer(alloc, command, bytes, output),
         Err(ReadEnd::Fault) => Ending::ReadFault,
         Err(ReadEnd::TooLong) => Ending::Limit(Limit::Bytes),
         Err(ReadEnd::Memory) => Ending::Memory,
@@ -58,7 +58,7 @@ fn run_on_generated<K: Sink>(
             if bytes.len() > Limit::Bytes.number() as usize {
                 return Ending::Limit(Limit::Bytes);
             }
-            answer(alloc, command, &bytes, output)
+            answer(alloc, command, bytes, output)
         }
     }
 }
