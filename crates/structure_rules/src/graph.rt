@@ -24,15 +24,17 @@ pub enum Exit {
 /// A block in the graph: the word of its label, its merge instruction and its terminator with the
 /// words at which they stand, the blocks to which its terminator leads, and whether the block is
 /// reached from the first one.
+//
+// Fields lie in this order: the small ones share two words.
 #[derive(Drop)]
 pub struct Node {
     pub at: u32,
-    pub merge: Merge,
     pub merge_at: u32,
-    pub exit: Exit,
     pub exit_at: u32,
-    pub targets: Targets,
+    pub exit: Exit,
     pub reached: bool,
+    pub merge: Merge,
+    pub targets: Targets,
 }
 
 /// What a block is to its parent: the merge block or the continue target of a header, a case target
