@@ -37,8 +37,7 @@ fn group_size_part(alloc: Global, axis: usize) -> Result<Expr, Memory>
     ensures { IfOk result (λ e. expr_of e ≡ member_tree (name_tree group_size_text) (axis_text_of axis)) }
 {
     let axis = Name::from_str(alloc, axis_text(axis))?;
-    let size = group_size(alloc)?;
-    Ok(Expr::Member(Box::new(alloc, size)?, axis))
+    Expr::member(alloc, group_size(alloc)?, axis)
 }
 
 #[tactic(auto, using(glsl_ast::proofs::Views::expr_rows))]

@@ -29,10 +29,9 @@ fn name_of(alloc: Global, expr: &Expr) -> Result<Name, Memory>
 pub(crate) fn further(alloc: Global, of: Expr, step: LStep) -> Result<Expr, Memory>
     ensures { IfOk result (λ e. expr_of e ≡ further_of (expr_of of) (step_of step ∷ [])) }
 {
-    let of = Box::new(alloc, of)?;
     match step {
-        LStep::Member(name) => Ok(Expr::Member(of, name)),
-        LStep::Index(index) => Ok(Expr::Index(of, Box::new(alloc, index)?)),
+        LStep::Member(name) => Expr::member(alloc, of, name),
+        LStep::Index(index) => Ok(Expr::Index(Box::new(alloc, of)?, Box::new(alloc, index)?)),
     }
 }
 

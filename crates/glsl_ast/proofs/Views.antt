@@ -19,11 +19,11 @@ expr-Literal l = search (rules, expr_lemmas)
 pub expr-Name : (w : Name) → expr_of (expr.Name w) ≡ tree.name (name_text w)
 expr-Name w = search (rules, expr_lemmas)
 
-pub expr-Build : (t : Box TypeName Global) (args : Vec Expr Global) → expr_of (expr.Build t args) ≡ tree.build (type_of t.value) (exprs_of args.items)
-expr-Build t args = search (rules, expr_lemmas)
+pub expr-Build : (parts : Box (TypeName × Vec Expr Global) Global) → expr_of (expr.Build parts) ≡ tree.build (type_of parts.value.0) (exprs_of parts.value.1.items)
+expr-Build parts = search (rules, expr_lemmas)
 
-pub expr-Call : (w : Box Name Global) (args : Vec Expr Global) → expr_of (expr.Call w args) ≡ tree.Expr.call (name_text w.value) (exprs_of args.items)
-expr-Call w args = search (rules, expr_lemmas)
+pub expr-Call : (parts : Box (Name × Vec Expr Global) Global) → expr_of (expr.Call parts) ≡ tree.Expr.call (name_text parts.value.0) (exprs_of parts.value.1.items)
+expr-Call parts = search (rules, expr_lemmas)
 
 pub expr-Not : (e : Box Expr Global) → expr_of (expr.Not e) ≡ tree.not (expr_of e.value)
 expr-Not e = search (rules, expr_lemmas)
@@ -34,11 +34,11 @@ expr-Flip e = search (rules, expr_lemmas)
 pub expr-Binary : (op : BinOp) (a b : Box Expr Global) → expr_of (expr.Binary op a b) ≡ tree.binary op (expr_of a.value) (expr_of b.value)
 expr-Binary op a b = search (rules, expr_lemmas)
 
-pub expr-Choose : (c a b : Box Expr Global) → expr_of (expr.Choose c a b) ≡ tree.choose (expr_of c.value) (expr_of a.value) (expr_of b.value)
-expr-Choose c a b = search (rules, expr_lemmas)
+pub expr-Choose : (c : Box Expr Global) (parts : Box (Expr × Expr) Global) → expr_of (expr.Choose c parts) ≡ tree.choose (expr_of c.value) (expr_of parts.value.0) (expr_of parts.value.1)
+expr-Choose c parts = search (rules, expr_lemmas)
 
-pub expr-Member : (e : Box Expr Global) (w : Name) → expr_of (expr.Member e w) ≡ tree.Expr.member (expr_of e.value) (name_text w)
-expr-Member e w = search (rules, expr_lemmas)
+pub expr-Member : (parts : Box (Expr × Name) Global) → expr_of (expr.Member parts) ≡ tree.Expr.member (expr_of parts.value.0) (name_text parts.value.1)
+expr-Member parts = search (rules, expr_lemmas)
 
 pub expr-Index : (a b : Box Expr Global) → expr_of (expr.Index a b) ≡ tree.Expr.index (expr_of a.value) (expr_of b.value)
 expr-Index a b = search (rules, expr_lemmas)

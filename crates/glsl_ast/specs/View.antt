@@ -51,13 +51,13 @@ type_of t = tree.type_name (base_of t.base) (map extent_of t.extents.items)
 abbrev pub expr_step : Expr-F tree.Expr → tree.Expr
 expr_step (Expr-F.Literal l) = tree.literal l
 expr_step (Expr-F.Name w) = tree.name (name_text w)
-expr_step (Expr-F.Build t args) = tree.build (type_of t.value) (tree.exprs_in args.items)
-expr_step (Expr-F.Call w args) = tree.Expr.call (name_text w.value) (tree.exprs_in args.items)
+expr_step (Expr-F.Build parts) = tree.build (type_of parts.value.0) (tree.exprs_in parts.value.1.items)
+expr_step (Expr-F.Call parts) = tree.Expr.call (name_text parts.value.0) (tree.exprs_in parts.value.1.items)
 expr_step (Expr-F.Not e) = tree.not e.value
 expr_step (Expr-F.Flip e) = tree.flip e.value
 expr_step (Expr-F.Binary op a b) = tree.binary op a.value b.value
-expr_step (Expr-F.Choose c a b) = tree.choose c.value a.value b.value
-expr_step (Expr-F.Member e w) = tree.Expr.member e.value (name_text w)
+expr_step (Expr-F.Choose c parts) = tree.choose c.value parts.value.0 parts.value.1
+expr_step (Expr-F.Member parts) = tree.Expr.member parts.value.0 (name_text parts.value.1)
 expr_step (Expr-F.Index a b) = tree.Expr.index a.value b.value
 expr_step (Expr-F.Length e) = tree.length_of e.value
 

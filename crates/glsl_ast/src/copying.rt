@@ -60,19 +60,26 @@ impl Expr {
         Ok(match self {
             Expr::Literal(literal) => Expr::Literal(*literal),
             Expr::Name(name) => Expr::Name(name.shared()?),
-            Expr::Build(ty, args) => {
-                Expr::build(alloc, ty.clone_in(alloc)?, clone_all(args, alloc)?)?
+            Expr::Build(parts) => {
+                Expr::build(alloc, parts.0.clone_in(alloc)?, clone_all(&parts.1, alloc)?)?
             }
-            Expr::Call(name, args) => Expr::call(alloc, name.shared()?, clone_all(args, alloc)?)?,
+            Expr::Call(parts) => {
+                Expr::call(alloc, parts.0.shared()?, clone_all(&parts.1, alloc)?)?
+            }
             Expr::Not(of) => Expr::Not(of.boxed(alloc)?),
             Expr::Flip(of) => Expr::Flip(of.boxed(alloc)?),
             Expr::Binary(op, left, right) => {
                 Expr::Binary(*op, left.boxed(alloc)?, right.boxed(alloc)?)
             }
-            Expr::Choose(test, yes, no) => {
-                Expr::Choose(test.boxed(alloc)?, yes.boxed(alloc)?, no.boxed(alloc)?)
+            Expr::Choose(test, parts) => Expr::choose(
+                alloc,
+                test.clone_in(alloc)?,
+                parts.0.clone_in(alloc)?,
+                parts.1.clone_in(alloc)?,
+            )?,
+            Expr::Member(parts) => {
+                Expr::member(alloc, parts.0.clone_in(alloc)?, parts.1.shared()?)?
             }
-            Expr::Member(of, name) => Expr::Member(of.boxed(alloc)?, name.shared()?),
             Expr::Index(of, at) => Expr::Index(of.boxed(alloc)?, at.boxed(alloc)?),
             Expr::Length(of) => Expr::Length(of.boxed(alloc)?),
         })

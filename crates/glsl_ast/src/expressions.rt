@@ -42,19 +42,19 @@ pub enum BinOp {
 /// An expression (GLSL 4.60, chapter 5). `Build` is a constructor, `Not` is `!`, `Flip` is `~`, `Choose` is `?:` and
 /// `Length` is `.length()`.
 //
-// The type of a constructor and the name of a function are boxed: most expressions are neither, and each takes the room of the
+// What takes more than two boxes is boxed whole: most expressions are names, literals and operations, and each takes the room of the
 // largest.
 #[derive(Drop)]
 pub enum Expr {
     Literal(Literal),
     Name(Name),
-    Build(Box<TypeName>, Vec<Expr>),
-    Call(Box<Name>, Vec<Expr>),
+    Build(Box<(TypeName, Vec<Expr>)>),
+    Call(Box<(Name, Vec<Expr>)>),
     Not(Box<Expr>),
     Flip(Box<Expr>),
     Binary(BinOp, Box<Expr>, Box<Expr>),
-    Choose(Box<Expr>, Box<Expr>, Box<Expr>),
-    Member(Box<Expr>, Name),
+    Choose(Box<Expr>, Box<(Expr, Expr)>),
+    Member(Box<(Expr, Name)>),
     Index(Box<Expr>, Box<Expr>),
     Length(Box<Expr>),
 }
@@ -65,7 +65,7 @@ impl Expr {
     pub fn build(alloc: Global, ty: TypeName, args: Vec<Expr>) -> Result<Expr, Memory>
         ensures { IfOk result (λ e. expr_of e ≡ build (type_of ty) (exprs_of args.items)) }
     {
-        Ok(Expr::Build(Box::new(alloc, ty)?, args))
+        Ok(Expr::Build(Box::new(alloc, (ty, args))?))
     }
 
     /// A call with these arguments (GLSL 4.60, section 5.11). There is an error only where there is no memory for it.
@@ -74,6 +74,23 @@ impl Expr {
     pub fn call(alloc: Global, name: Name, args: Vec<Expr>) -> Result<Expr, Memory>
         ensures { IfOk result (λ e. expr_of e ≡ Rattle.glsl_ast.specs.Tree.Expr.call (name_text name) (exprs_of args.items)) }
     {
-        Ok(Expr::Call(Box::new(alloc, name)?, args))
+        Ok(Expr::Call(Box::new(alloc, (name, args))?))
+    }
+
+    /// One of two expressions, by a test (GLSL 4.60, section 5.9). There is an error only where there is no memory for it.
+    #[tactic(auto, using(crate::proofs::Views::expr_rows))]
+    pub fn choose(alloc: Global, test: Expr, yes: Expr, no: Expr) -> Result<Expr, Memory>
+        ensures { IfOk result (λ e. expr_of e ≡ Rattle.glsl_ast.specs.Tree.choose (expr_of test) (expr_of yes) (expr_of no)) }
+    {
+        Ok(Expr::Choose(Box::new(alloc, test)?, Box::new(alloc, (yes, no))?))
+    }
+
+    /// A member or a component of an expression (GLSL 4.60, sections 5.5 and 5.7). There is an error only where there is no memory for
+    /// it.
+    #[tactic(auto, using(crate::proofs::Views::expr_rows))]
+    pub fn member(alloc: Global, of: Expr, name: Name) -> Result<Expr, Memory>
+        ensures { IfOk result (λ e. expr_of e ≡ Rattle.glsl_ast.specs.Tree.Expr.member (expr_of of) (name_text name)) }
+    {
+        Ok(Expr::Member(Box::new(alloc, (of, name))?))
     }
 }

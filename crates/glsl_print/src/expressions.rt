@@ -89,13 +89,13 @@ fn print_tree<K: Sink>(expr: &Expr, sink: &mut K, page: &mut Page)
     match expr {
         Expr::Literal(literal) => print_literal(*literal, sink, page),
         Expr::Name(name) => page.put(name.as_bytes(), sink),
-        Expr::Build(ty, args) => {
-            print_type(ty, sink, page);
-            print_args(args, sink, page);
+        Expr::Build(parts) => {
+            print_type(&parts.0, sink, page);
+            print_args(&parts.1, sink, page);
         }
-        Expr::Call(name, args) => {
-            page.put(name.as_bytes(), sink);
-            print_args(args, sink, page);
+        Expr::Call(parts) => {
+            page.put(parts.0.as_bytes(), sink);
+            print_args(&parts.1, sink, page);
         }
         Expr::Not(of) => print_signed(Mark::Not, of, sink, page),
         Expr::Flip(of) => print_signed(Mark::Flip, of, sink, page),
@@ -103,14 +103,14 @@ fn print_tree<K: Sink>(expr: &Expr, sink: &mut K, page: &mut Page)
             print_left(left, op_level(*op), op_mark(*op), sink, page);
             print_operand(right, right_level(*op), sink, page);
         }
-        Expr::Choose(test, yes, no) => {
+        Expr::Choose(test, parts) => {
             print_left(test, CONDITION, Mark::Question, sink, page);
-            print_part(yes, Mark::Otherwise, sink, page);
-            print_expr(no, sink, page);
+            print_part(&parts.0, Mark::Otherwise, sink, page);
+            print_expr(&parts.1, sink, page);
         }
-        Expr::Member(of, name) => {
-            print_left(of, SUFFIXED, Mark::Dot, sink, page);
-            page.put(name.as_bytes(), sink);
+        Expr::Member(parts) => {
+            print_left(&parts.0, SUFFIXED, Mark::Dot, sink, page);
+            page.put(parts.1.as_bytes(), sink);
         }
         Expr::Index(of, at) => {
             print_left(of, SUFFIXED, Mark::BracketOpen, sink, page);

@@ -52,9 +52,7 @@ pub fn flip(alloc: Global, of: Expr) -> Result<Expr, Memory>
 pub fn choose(alloc: Global, test: Expr, yes: Expr, no: Expr) -> Result<Expr, Memory>
     ensures { IfOk result (λ e. expr_of e ≡ tree.choose (expr_of test) (expr_of yes) (expr_of no)) }
 {
-    let test = Box::new(alloc, test)?;
-    let yes = Box::new(alloc, yes)?;
-    Ok(Expr::Choose(test, yes, Box::new(alloc, no)?))
+    Expr::choose(alloc, test, yes, no)
 }
 
 pub fn call_one(alloc: Global, function: BuiltIn, arg: Expr) -> Result<Expr, Memory>

@@ -30,14 +30,14 @@ fn is_tree(structs: &Structs, expr: &Expr) -> bool
     match expr {
         Expr::Literal(literal) => is_literal(*literal),
         Expr::Name(name) => is_free(structs, name),
-        Expr::Build(ty, args) => is_type(structs, ty) && are_exprs(structs, args),
-        Expr::Call(name, args) => is_free(structs, name) && are_exprs(structs, args),
+        Expr::Build(parts) => is_type(structs, &parts.0) && are_exprs(structs, &parts.1),
+        Expr::Call(parts) => is_free(structs, &parts.0) && are_exprs(structs, &parts.1),
         Expr::Not(of) | Expr::Flip(of) | Expr::Length(of) => is_expr(structs, of),
         Expr::Binary(_, left, right) => is_expr(structs, left) && is_expr(structs, right),
-        Expr::Choose(test, yes, no) => {
-            is_expr(structs, test) && is_expr(structs, yes) && is_expr(structs, no)
+        Expr::Choose(test, parts) => {
+            is_expr(structs, test) && is_expr(structs, &parts.0) && is_expr(structs, &parts.1)
         }
-        Expr::Member(of, name) => is_expr(structs, of) && is_name(name),
+        Expr::Member(parts) => is_expr(structs, &parts.0) && is_name(&parts.1),
         Expr::Index(of, at) => is_expr(structs, of) && is_expr(structs, at),
     }
 }

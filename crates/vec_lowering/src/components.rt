@@ -32,7 +32,7 @@ pub fn axis(alloc: Global, of: Expr, k: u32) -> Result<Expr, Memory>
     ensures { IfOk result (λ e. expr_of e ≡ Tree.member (expr_of of) (component.axis_name k)) }
 {
     let name = Name::from_str(alloc, axis_text(k))?;
-    Ok(Expr::Member(Box::new(alloc, of)?, name))
+    Expr::member(alloc, of, name)
 }
 
 #[tactic(auto, using(spv_types::proofs::Views::shape_rows))]

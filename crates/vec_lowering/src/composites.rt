@@ -54,8 +54,7 @@ pub fn construct(
 pub fn member(alloc: Global, names: &Names, of: Expr, key: Key) -> Result<Expr, Memory>
     ensures { IfOk result (λ e. expr_of e ≡ Tree.member (expr_of of) (text_or_none (naming_of names.now key))) }
 {
-    let of = Box::new(alloc, of)?;
-    Ok(Expr::Member(of, name(alloc, names, key)?))
+    Expr::member(alloc, of, name(alloc, names, key)?)
 }
 
 #[tactic(auto, using(glsl_ast::proofs::Views::expr_rows))]

@@ -51,16 +51,16 @@ fn is_struct(ty: &TypeName, wanted: &str) -> bool {
 
 fn is_member(of: &Expr, base: &str, member: &str) -> bool {
     match of {
-        Expr::Member(of, name) => is_name(of, base) && name.as_str() == member,
+        Expr::Member(parts) => is_name(&parts.0, base) && parts.1.as_str() == member,
         _ => false,
     }
 }
 
 fn is_copy(expr: &Expr) -> bool {
     match expr {
-        Expr::Build(ty, parts) => match parts.as_slice() {
+        Expr::Build(parts) => match parts.1.as_slice() {
             [key, sum] => {
-                is_struct(ty, "Item_2")
+                is_struct(&parts.0, "Item_2")
                     && is_member(key, "v53", "key")
                     && is_member(sum, "v53", "sum")
             }

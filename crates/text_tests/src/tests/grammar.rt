@@ -39,10 +39,7 @@ fn array(alloc: Global, of: &str, value: &str) -> Result<Decl, Memory> {
         id: None,
         ty: struct_type(alloc, of)?,
         name: text(alloc, "c1")?,
-        value: Expr::Build(
-            Box::new(alloc, struct_type(alloc, of)?)?,
-            vec![in alloc; value]?,
-        ),
+        value: Expr::build(alloc, struct_type(alloc, of)?, vec![in alloc; value]?)?,
     })
 }
 

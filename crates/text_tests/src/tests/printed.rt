@@ -61,7 +61,7 @@ fn array_of_one(alloc: Global, name: &str) -> Result<Expr, Memory> {
         extents: vec![in alloc; Extent::Number(1)]?,
     };
     let name = Expr::Name(Name::from_str(alloc, name)?);
-    Ok(Expr::Build(Box::new(alloc, ty)?, vec![in alloc; name]?))
+    Expr::build(alloc, ty, vec![in alloc; name]?)
 }
 
 fn copy_of(alloc: Global, expr: &Expr) -> Result<Expr, Memory> {

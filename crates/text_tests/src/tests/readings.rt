@@ -47,7 +47,7 @@ fn elem(readings: &Readings, ty: u32) -> Option<Elem> {
 
 fn is_part(of: &Expr, wanted: &str) -> bool {
     match of {
-        Expr::Member(of, part) => is_name(of, "gl_WorkGroupSize") && part.as_str() == wanted,
+        Expr::Member(parts) => is_name(&parts.0, "gl_WorkGroupSize") && parts.1.as_str() == wanted,
         _ => false,
     }
 }
@@ -82,7 +82,7 @@ fn is_array_type(ty: &TypeName) -> bool {
 
 fn is_built_of_two(zero: &Expr) -> bool {
     match zero {
-        Expr::Build(_, parts) => parts.len() == 2,
+        Expr::Build(parts) => parts.1.len() == 2,
         _ => false,
     }
 }
