@@ -10,6 +10,7 @@ use Rattle.name_alloc.specs.declared.claims.Key.{Key}
 use Rattle.name_alloc.specs.declared.claims.Key.TheVariants.{Again, Leave, Fell}
 use Rattle.glsl_ast.specs.Tree.{Text, Expr, name, not}
 use Rattle.text_law.specs.Deeds.{Deed, reads, assigns, calls}
+pub use Rattle.unit_rules.specs.Translation.{Naming}
 use Rattle.text_law.specs.Walks as walks
 use Rattle.text_law.specs.Walks.{Outer, is_in, atomics, Token}
 
@@ -159,9 +160,6 @@ is_flag _ = false
 abbrev pub is_again : Key → Bool
 is_again (Again label) = true
 is_again _ = false
-
-abbrev pub Naming : Type 0
-Naming = Key → Option Text
 
 -- it tests the flag of such a key
 abbrev pub TestsFlag : Naming → (Key → Bool) → Expr → Type 0
