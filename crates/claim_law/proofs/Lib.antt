@@ -1,10 +1,3 @@
-pub mod Listed
-pub mod Keys
-pub mod Named
-pub mod Words
-pub mod Apart
-pub mod Told
-pub mod Flags
-pub mod Constants
-pub mod Variables
-pub mod Bodies
+pub mod Spell
+pub mod Block
+pub mod Claim

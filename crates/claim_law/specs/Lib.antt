@@ -1,3 +1,10 @@
+pub mod Uses
+pub mod Named
+pub mod Asked
+pub mod Statements
+pub mod Blocks
+pub mod Units
+pub mod Ranked
 pub mod Claimed
 pub mod Apart
 pub mod Told

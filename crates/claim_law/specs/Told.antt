@@ -3,7 +3,7 @@ use Rattle.std.specs.Prelude.{◌≡◌, ◌⊎◌, Bool, true, List, [], ◌∷
 use Rattle.std.specs.List.{list_any}
 use Rattle.name_alloc.specs.declared.claims.Key.{Key}
 use Rattle.glsl_ast.specs.Tree.{Text}
-use Rattle.spell_law.specs.Uses.{Words as Asked}
+use Rattle.claim_law.specs.Uses.{Words as Asked}
 
 -- functions and variables that GLSL has (GLSL 4.60, sections 7.1.3 and 8), and the components of vectors (section 5.5)
 abbrev pub built_ins : List Text

@@ -1,2 +1,2 @@
-// What a text names has a name: the keys of functions, values, flags, kept indexes, spares and items are claimed. Definitions and laws alone.
+// Which names stand in what is written: a tree is in the grammar where these are names, and structs are declared. What is written of a function's blocks: the text of a block is that of its instructions, and the expression of a value is that of its operation. What a text names has a name: the keys of functions, values, flags, kept indexes, spares and items are claimed. Laws alone.
 #![tactic(auto)]

@@ -35,9 +35,9 @@ use Rattle.module_semantics.specs.Setting.{Setting, setting}
 use Rattle.module_semantics.specs.Steps.{chain, variable, step_kind}
 use Rattle.type_law.specs.Shaped.{HasConstants}
 use Rattle.call_law.specs.Known.{IsFunctionOf}
-use Rattle.path_law.specs.Chains.{is_global, ChainsAreRight}
-use Rattle.path_law.proofs.Based.{chain_op}
-use Rattle.path_law.proofs.Order.{chains_rise}
+use Rattle.global_law.specs.Chains.{is_global, ChainsAreRight}
+use Rattle.global_law.proofs.Path.Based.{chain_op}
+use Rattle.global_law.proofs.Path.Order.{chains_rise}
 use Rattle.typed_law.specs.Conforms.{BreakNone, IsConformingIn, IsConforming}
 use Rattle.typed_law.proofs.Rules.{class_right}
 use Rattle.typed_law.proofs.Values.{inside, own_local, typed_result, among_functions}

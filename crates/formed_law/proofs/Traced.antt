@@ -23,8 +23,8 @@ use Rattle.call_law.specs.Reached.{IsInReached}
 use Rattle.call_law.proofs.FramesKept.{all_kept}
 use Rattle.call_law.proofs.Lending.{first_lending}
 use Rattle.call_law.proofs.Reached.{reached_closed, first_reached}
-use Rattle.path_law.specs.Chains.{AreLed, ChainsAreRight}
-use Rattle.path_law.proofs.Led.{called_led, led_closed}
+use Rattle.global_law.specs.Chains.{AreLed, ChainsAreRight}
+use Rattle.global_law.proofs.Path.Led.{called_led, led_closed}
 use Rattle.function_law.specs.UnderWay.{IsRuled}
 use Rattle.typed_law.specs.Conforms.{BreakNone}
 use Rattle.typed_law.specs.Words.{AreAllWords, IsSettingOfWords, IsStateOfWords, LeadsToWords}

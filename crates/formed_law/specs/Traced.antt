@@ -6,7 +6,7 @@ use Rattle.module_semantics.specs.Setting.{Setting}
 use Rattle.module_semantics.specs.State.{Conf}
 use Rattle.call_law.specs.Frames.{HoldsOfAll}
 use Rattle.call_law.specs.Reached.{IsInReached}
-use Rattle.path_law.specs.Chains.{AreLed}
+use Rattle.global_law.specs.Chains.{AreLed}
 use Rattle.typed_law.specs.Words.{IsStateOfWords}
 
 -- edges lead there from the first block (SPIR-V 1.6, section 2.11)

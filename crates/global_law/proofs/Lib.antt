@@ -1,13 +1,3 @@
-pub mod Plain
-pub mod Indexes
-pub mod BuiltIns
-pub mod Declared
-pub mod Blocks
-pub mod Shared
-pub mod Told
-pub mod Zeros
-pub mod Privates
-pub mod Extents
-pub mod Structs
-pub mod Nulls
-pub mod Sizes
+pub mod Path
+pub mod Global
+pub mod Constant

@@ -1,2 +1,11 @@
+pub mod Parts
+pub mod Laid
+pub mod Walks
+pub mod Starts
+pub mod Pointers
+pub mod Chains
+pub mod Writings
 pub mod Sources
 pub mod Names
+pub mod Within
+pub mod Items

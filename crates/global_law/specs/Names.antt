@@ -14,8 +14,8 @@ use Rattle.glsl_semantics.specs.Shapes.{Shape, Fields}
 use Rattle.glsl_semantics.specs.Expressions.{Program, with_extent}
 use Rattle.text_rules.specs.Constants.{Source}
 use Rattle.text_rules.specs.Declarations.{Names, length_extent}
-use Rattle.path_law.specs.Parts.{HasLength, AreFields}
-use Rattle.path_law.specs.Walks.{struct_names}
+use Rattle.global_law.specs.Parts.{HasLength, AreFields}
+use Rattle.global_law.specs.Walks.{struct_names}
 
 -- the names of keys, as the items have them
 abbrev pub names_of : (Key → Text) → (Inst → Expr) → Names

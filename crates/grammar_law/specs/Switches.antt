@@ -5,7 +5,7 @@ use Rattle.spv_module.specs.declared.inst.Function.{Function}
 use Rattle.structure_rules.specs.declared.graph.Node.{Node}
 use Rattle.structure_rules.specs.Graph.{nth, leads_to, index_of, is_conditional, is_switch, seconds}
 use Rattle.structure_recover.specs.Follows.{last_inst}
-use Rattle.spell_law.specs.Blocks.{FitWords}
+use Rattle.claim_law.specs.Blocks.{FitWords}
 
 -- its node leads to the blocks of its labels, the default first; its literals are words
 pub record IsSwitchAt (f : Function) (g : List Node) (h : ℕ) : Type 0 where

@@ -9,7 +9,7 @@ use Rattle.name_alloc.specs.declared.claims.Key.TheVariants.{Id}
 use Rattle.name_alloc.specs.Naming.{space_of}
 use Rattle.glsl_ast.specs.Tree.{Text}
 use Rattle.glsl_grammar.specs.Read.{is_declared}
-use Rattle.spell_law.specs.Uses.{Words}
+use Rattle.claim_law.specs.Uses.{Words}
 use Rattle.claim_law.specs.Told.{built_ins, is_among, IsGiven, told}
 
 -- the key is that of a struct

@@ -32,18 +32,18 @@ use Rattle.glsl_ast.specs.Tree.{Text}
 use Rattle.text_rules.specs.Constants.{Source, is_constant, reading, free_spec_id, group_size_text}
 use Rattle.text_rules.specs.Printed.{Reached, is_variable, is_private, is_workgroup, is_block_variable, is_operand_in, is_named, is_needed, has_struct, have_struct, is_written_variable, is_declared_constant, is_written_struct, type_has_struct, written_types}
 use Rattle.text_rules.specs.Claims.{Plan, claims, has_block, is_written_block}
-use Rattle.path_law.specs.Parts.{AreMembersApart, HasMembersApart, HaveMembersApart}
-use Rattle.path_law.specs.Walks.{struct_names}
+use Rattle.global_law.specs.Parts.{AreMembersApart, HasMembersApart, HaveMembersApart}
+use Rattle.global_law.specs.Walks.{struct_names}
 use Rattle.global_law.specs.Sources.{source_of}
-use Rattle.constant_law.specs.Within.{IsStructBefore, IsWithin, AreWithin, IsNoBlock}
-use Rattle.constant_law.specs.Items.{key_text, is_item, HaveNames}
-use Rattle.constant_law.proofs.Within.{constant_within, pointee_within, members_unblocked}
-use Rattle.constant_law.proofs.Written.{IsHeld, own_type, pointed_type, held_by, struct_written}
-use Rattle.constant_law.proofs.Standing.{any_among}
+use Rattle.global_law.specs.Within.{IsStructBefore, IsWithin, AreWithin, IsNoBlock}
+use Rattle.global_law.specs.Items.{key_text, is_item, HaveNames}
+use Rattle.global_law.proofs.Constant.Within.{constant_within, pointee_within, members_unblocked}
+use Rattle.global_law.proofs.Constant.Written.{IsHeld, own_type, pointed_type, held_by, struct_written}
+use Rattle.global_law.proofs.Constant.Standing.{any_among}
 use Rattle.claim_law.specs.Claimed.{IsIn, HasKey, HasName}
-use Rattle.claim_law.proofs.Keys.{struct_claimed, member_claimed, constant_claimed, variable_claimed}
-use Rattle.claim_law.proofs.Constants.{no_struct}
-use Rattle.claim_law.proofs.Variables.{variable_no_struct}
+use Rattle.claim_law.proofs.Claim.Keys.{struct_claimed, member_claimed, constant_claimed, variable_claimed}
+use Rattle.claim_law.proofs.Claim.Constants.{no_struct}
+use Rattle.claim_law.proofs.Claim.Variables.{variable_no_struct}
 
 -- a name that begins with a reserved prefix
 size_reserved : has_prefix group_size_text ≡ true

@@ -41,10 +41,10 @@ use Rattle.fits_law.specs.Takes.{nth_of}
 use Rattle.type_law.specs.Shaped.{AreConstants}
 use Rattle.agree_law.specs.Agree.{Naming, Agree}
 use Rattle.agree_law.specs.Blocks.{measured}
-use Rattle.path_law.specs.Parts.{HasMembersApart}
-use Rattle.path_law.specs.Walks.{struct_names}
-use Rattle.path_law.specs.Starts.{IsBlock}
-use Rattle.path_law.proofs.Lengths.{length_says}
+use Rattle.global_law.specs.Parts.{HasMembersApart}
+use Rattle.global_law.specs.Walks.{struct_names}
+use Rattle.global_law.specs.Starts.{IsBlock}
+use Rattle.global_law.proofs.Path.Lengths.{length_says}
 use Rattle.lowers_law.proofs.Types.{W}
 
 -- a variable that others see is itself

@@ -34,9 +34,9 @@ use Rattle.lowering_law.specs.BuiltIns.{NoneDeclared}
 use Rattle.lowering_law.specs.Written.{IsWritten}
 use Rattle.lowering_law.specs.Arguments.{MeansAs, AllMeanAs, AllWritten, IsBasic, IsExpression}
 use Rattle.lowering_law.proofs.Arguments.{written_says}
-use Rattle.path_law.specs.Parts.{StructNames, shape_in}
-use Rattle.path_law.specs.Walks.{struct_names}
-use Rattle.constant_law.proofs.Calculated.{shape_same, type_written}
+use Rattle.global_law.specs.Parts.{StructNames, shape_in}
+use Rattle.global_law.specs.Walks.{struct_names}
+use Rattle.global_law.proofs.Constant.Calculated.{shape_same, type_written}
 use Rattle.lowers_law.proofs.Types.{of_basic, basic_by, Src, W, IsText, type_is}
 
 abbrev pub AllBasic : List Tree → Type 0

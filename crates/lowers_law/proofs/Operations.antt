@@ -61,8 +61,8 @@ use Rattle.lowering_law.specs.BuiltIns.{NoneDeclared}
 use Rattle.lowering_law.specs.Written.{IsShort}
 use Rattle.lowering_law.specs.Arguments.{IsBasic, IsPlainCopy, IsCopy, IsExpression}
 use Rattle.lowering_law.proofs.Saying.{read}
-use Rattle.path_law.specs.Parts.{shape_in}
-use Rattle.global_law.proofs.Zeros.{zero_says}
+use Rattle.global_law.specs.Parts.{shape_in}
+use Rattle.global_law.proofs.Global.Zeros.{zero_says}
 use Rattle.typed_law.specs.Conforms.{IsConforming}
 use Rattle.typed_law.proofs.Lists.{or_right, clash, some_part}
 use Rattle.typed_law.proofs.Rules.{value_right, number_right}

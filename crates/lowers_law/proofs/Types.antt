@@ -41,12 +41,12 @@ use Rattle.fits_law.specs.Takes.{nth_of, shape_at}
 use Rattle.fits_law.specs.State.{value_shape}
 use Rattle.type_law.proofs.Places.{part_leads}
 use Rattle.lowering_law.specs.Arguments.{IsBasic}
-use Rattle.path_law.specs.Parts.{HasMembersApart}
-use Rattle.path_law.specs.Walks.{struct_names}
-use Rattle.path_law.proofs.Bytes.{declared_by}
-use Rattle.path_law.proofs.Types.{op_of, declared_as}
-use Rattle.global_law.proofs.Declared.{outline_same}
-use Rattle.global_law.proofs.Zeros.{HasZero}
+use Rattle.global_law.specs.Parts.{HasMembersApart}
+use Rattle.global_law.specs.Walks.{struct_names}
+use Rattle.global_law.proofs.Path.Bytes.{declared_by}
+use Rattle.global_law.proofs.Path.Types.{op_of, declared_as}
+use Rattle.global_law.proofs.Global.Declared.{outline_same}
+use Rattle.global_law.proofs.Global.Zeros.{HasZero}
 
 -- scalars and vectors
 pub of_basic : (t : Tree) → IsBasic t → basic_of (Some t) ≡ t

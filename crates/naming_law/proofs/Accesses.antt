@@ -34,11 +34,11 @@ use Rattle.agree_law.specs.Evaluates.{IsKept}
 use Rattle.agree_law.proofs.Instructions.{Reads, Updates}
 use Rattle.agree_law.proofs.Machine.{machine, IsUpdate}
 use Rattle.call_law.specs.Known.{is_parameter, LendsWhole}
-use Rattle.path_law.specs.Parts.{shape_in, IsInput}
-use Rattle.path_law.specs.Walks.{writing, struct_names}
-use Rattle.path_law.specs.Chains.{AreLed, ChainsAreRight}
-use Rattle.path_law.proofs.Accesses.{PointsTo, SaysOperands}
-use Rattle.path_law.proofs.Asked.{IsWrittenSo, load_met, store_met, atomic_met}
+use Rattle.global_law.specs.Parts.{shape_in, IsInput}
+use Rattle.global_law.specs.Walks.{writing, struct_names}
+use Rattle.global_law.specs.Chains.{AreLed, ChainsAreRight}
+use Rattle.global_law.proofs.Path.Accesses.{PointsTo, SaysOperands}
+use Rattle.global_law.proofs.Path.Asked.{IsWrittenSo, load_met, store_met, atomic_met}
 use Rattle.function_law.specs.UnderWay.{IsUnderWay, IsRuled}
 use Rattle.function_law.specs.Texts.{FunctionText, IsFine}
 use Rattle.function_law.proofs.UnderWay.{way_kept}

@@ -29,11 +29,11 @@ use Rattle.unit_rules.specs.Translation.{names_of as type_names, scope_of, IsPla
 use Rattle.unit_rules.specs.Unit.{source_of, called, IsUnitOf}
 use Rattle.module_semantics.specs.Setting.{Setting}
 use Rattle.agree_law.specs.Agree.{Naming}
-use Rattle.path_law.specs.Parts.{shape_in}
-use Rattle.path_law.specs.Walks.{struct_names}
-use Rattle.path_law.proofs.Parts.{sized_lengths}
-use Rattle.path_law.proofs.Accesses.{shape_itself}
-use Rattle.global_law.proofs.Declared.{named_type, outline_same}
+use Rattle.global_law.specs.Parts.{shape_in}
+use Rattle.global_law.specs.Walks.{struct_names}
+use Rattle.global_law.proofs.Path.Parts.{sized_lengths}
+use Rattle.global_law.proofs.Path.Accesses.{shape_itself}
+use Rattle.global_law.proofs.Global.Declared.{named_type, outline_same}
 use Rattle.call_law.specs.Known.{IsFunctionOf}
 use Rattle.function_law.specs.Passed.{ShareNames, AreOnceIds, AreTypedParameters}
 use Rattle.function_law.specs.Texts.{IsFine}
@@ -43,7 +43,7 @@ use Rattle.typed_law.proofs.Lists.{some_by, found_in}
 use Rattle.typed_law.proofs.Values.{inside, global_typed_some, typed_is}
 use Rattle.ruled_law.proofs.Ruled.{contains_of, variable_has}
 use Rattle.claim_law.specs.Claimed.{IsIn}
-use Rattle.claim_law.proofs.Flags.{planned_as}
+use Rattle.claim_law.proofs.Claim.Flags.{planned_as}
 use Rattle.naming_law.specs.Names.{is_written_private, shape_of, text_of_plan}
 use Rattle.naming_law.specs.Types.{IsTypeOfText, HasTypesOfText}
 use Rattle.naming_law.proofs.Alone.{are_alone}

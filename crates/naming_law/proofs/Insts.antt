@@ -44,7 +44,7 @@ use Rattle.agree_law.proofs.Inserts.{Inserting, insert_assigned, insert_declared
 use Rattle.agree_law.proofs.Instructions.{Reads, Writes, Updates, operation_evaluates, operation_follows, load_evaluates, merge_follows, length_evaluates, length_follows, variable_follows, memory_barrier_follows, control_barrier_follows, store_follows, atomic_evaluates, atomic_store_follows}
 use Rattle.agree_law.proofs.Insts.{AllFollow}
 use Rattle.agree_law.proofs.Machine.{machine, IsUpdate}
-use Rattle.block_law.proofs.Blocks.{text_of}
+use Rattle.claim_law.proofs.Block.Blocks.{text_of}
 
 -- what is found is the result, where there is one
 finds : (a : AtomicOp) → has_result a ≡ true → (c : Conf) (rest : List Inst) (i : Inst) (words : List ℕ) → set_found c rest i a words ≡ set_result c rest i (word (slice_index words 0))

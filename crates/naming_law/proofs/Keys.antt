@@ -44,12 +44,12 @@ use Rattle.typed_law.proofs.Lists.{some_by}
 use Rattle.ruled_law.proofs.Ruled.{parameter_of}
 use Rattle.claim_law.specs.Claimed.{IsIn, HasName, IsOf}
 use Rattle.claim_law.specs.Apart.{IsOutside, AreOfKeys}
-use Rattle.claim_law.proofs.Keys.{result_claimed, constant_claimed, variable_claimed}
-use Rattle.claim_law.proofs.Named.{Plans, has_name_of, plan_in, result_named, captured_named, parameter_named}
-use Rattle.claim_law.proofs.Constants.{found_in, no_struct}
-use Rattle.claim_law.proofs.Variables.{variable_no_struct, variable_no_constant, undeclared}
-use Rattle.claim_law.proofs.Told.{named_is}
-use Rattle.claim_law.proofs.Apart.{names_apart}
+use Rattle.claim_law.proofs.Claim.Keys.{result_claimed, constant_claimed, variable_claimed}
+use Rattle.claim_law.proofs.Claim.Named.{Plans, has_name_of, plan_in, result_named, captured_named, parameter_named}
+use Rattle.claim_law.proofs.Claim.Constants.{found_in, no_struct}
+use Rattle.claim_law.proofs.Claim.Variables.{variable_no_struct, variable_no_constant, undeclared}
+use Rattle.claim_law.proofs.Claim.Told.{named_is}
+use Rattle.claim_law.proofs.Claim.Apart.{names_apart}
 use Rattle.naming_law.specs.Alone.{AreAlone}
 use Rattle.naming_law.specs.Names.{is_other, is_result, is_value_parameter, is_variable_name, is_local_form, is_written_private, is_outer_global, has_text, keeps, names_of}
 use Rattle.naming_law.proofs.Alone.{variable_inst, outer_once, variable_once, lent_once, global_apart, private_once}

@@ -26,7 +26,7 @@ use Rattle.typed_law.proofs.Rules.{operand_there}
 use Rattle.typed_law.proofs.Values.{inside}
 use Rattle.ruled_law.proofs.Ruled.{contains_of}
 use Rattle.claim_law.specs.Claimed.{IsIn}
-use Rattle.claim_law.proofs.Listed.{in_flat, at_place}
+use Rattle.claim_law.proofs.Claim.Listed.{in_flat, at_place}
 use Rattle.naming_law.specs.Ends.{HasLabels}
 use Rattle.naming_law.proofs.Once.{among_in}
 

@@ -45,8 +45,8 @@ use Rattle.typed_law.proofs.Values.{inside, local_row, variable_type_is, typed_r
 use Rattle.typed_law.proofs.Others.{typed_some}
 use Rattle.ruled_law.proofs.Ruled.{contains_of, variable_has}
 use Rattle.claim_law.specs.Claimed.{IsIn}
-use Rattle.claim_law.proofs.Listed.{in_flat}
-use Rattle.claim_law.proofs.Apart.{same_number}
+use Rattle.claim_law.proofs.Claim.Listed.{in_flat}
+use Rattle.claim_law.proofs.Claim.Apart.{same_number}
 use Rattle.naming_law.specs.Alone.{AreAlone}
 use Rattle.naming_law.proofs.Alone.{are_alone}
 use Rattle.naming_law.proofs.Keys.{S, found as names_found, names, hoisted_is}

@@ -20,7 +20,7 @@ use Rattle.function_text.specs.Functions.{FunctionPlan, written, label_of, block
 use Rattle.unit_rules.specs.Unit.{IsUnitOf}
 use Rattle.list_law.proofs.Numbers.{same_number}
 use Rattle.claim_law.specs.Claimed.{IsIn}
-use Rattle.claim_law.proofs.Flags.{at_inside, again_key, leave_key, fell_key}
+use Rattle.claim_law.proofs.Claim.Flags.{at_inside, again_key, leave_key, fell_key}
 use Rattle.tree_law.specs.Written.{FlagsApart}
 use Rattle.naming_law.proofs.Keys.{some_in}
 use Rattle.formed_law.proofs.Labelled.{AreOnceLabels, label_found}

@@ -36,12 +36,12 @@ use Rattle.function_law.specs.Tops.{Top, IsTop, IsNoTop, AreOnceTops, AreTops}
 use Rattle.function_law.proofs.PlannedText.{variable_top, hoisted_top, index_top, variable_tops, hoisted_tops, index_tops, tops_of}
 use Rattle.typed_law.proofs.Lists.{some_by}
 use Rattle.claim_law.specs.Claimed.{IsIn, HasName, IsOf}
-use Rattle.claim_law.proofs.Listed.{in_left, in_right, in_flat, in_mapped, at_place}
-use Rattle.claim_law.proofs.Named.{result_named, captured_named}
-use Rattle.claim_law.proofs.Told.{named_is}
-use Rattle.claim_law.proofs.Flags.{planned_as}
-use Rattle.claim_law.proofs.Apart.{same_number}
-pub use Rattle.claim_law.proofs.Apart.{same_number as key_id}
+use Rattle.claim_law.proofs.Claim.Listed.{in_left, in_right, in_flat, in_mapped, at_place}
+use Rattle.claim_law.proofs.Claim.Named.{result_named, captured_named}
+use Rattle.claim_law.proofs.Claim.Told.{named_is}
+use Rattle.claim_law.proofs.Claim.Flags.{planned_as}
+use Rattle.claim_law.proofs.Claim.Apart.{same_number}
+pub use Rattle.claim_law.proofs.Claim.Apart.{same_number as key_id}
 use Rattle.naming_law.specs.Alone.{AreAlone}
 use Rattle.naming_law.specs.Names.{is_other, is_result, is_value_parameter, is_written_private, keeps, kept_of}
 use Rattle.naming_law.proofs.Alone.{variable_inst}

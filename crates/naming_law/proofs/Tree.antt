@@ -34,7 +34,7 @@ use Rattle.typed_law.specs.Conforms.{IsFormed}
 use Rattle.function_law.proofs.TreeWays.{AreGroups}
 use Rattle.formed_law.specs.Formed.{IsFormedFunction}
 use Rattle.naming_law.specs.Ends.{term_by, is_lost_block, term_of}
-use Rattle.claim_law.proofs.Flags.{at_inside}
+use Rattle.claim_law.proofs.Claim.Flags.{at_inside}
 use Rattle.formed_law.proofs.Blocks.{has_body}
 use Rattle.naming_law.proofs.Ends.{least_of, targets_of}
 

@@ -22,10 +22,10 @@ use Rattle.list_law.proofs.Lists.{map_joined, map_twice, contains_head, contains
 use Rattle.list_law.proofs.Tests.{no_flip}
 use Rattle.function_law.specs.Texts.{FunctionText, decl_of, IsNoName, AreOnceNames}
 use Rattle.claim_law.specs.Claimed.{IsIn, HasName}
-use Rattle.claim_law.proofs.Keys.{main_claimed}
-use Rattle.claim_law.proofs.Named.{Plans, has_name_of, function_named}
-use Rattle.claim_law.proofs.Told.{named_is}
-use Rattle.claim_law.proofs.Flags.{planned_as}
+use Rattle.claim_law.proofs.Claim.Keys.{main_claimed}
+use Rattle.claim_law.proofs.Claim.Named.{Plans, has_name_of, function_named}
+use Rattle.claim_law.proofs.Claim.Told.{named_is}
+use Rattle.claim_law.proofs.Claim.Flags.{planned_as}
 use Rattle.naming_law.specs.Names.{text_of_plan}
 use Rattle.naming_law.proofs.Keys.{S, found as names_found, key as key_of, R}
 

@@ -35,7 +35,7 @@ use Rattle.region_law.specs.Leads.{In}
 use Rattle.agree_law.specs.Agree.{Naming, AreApart}
 use Rattle.agree_law.specs.Blocks.{IsOf}
 use Rattle.agree_law.specs.Points.{Body}
-use Rattle.block_law.proofs.Blocks.{text_of}
+use Rattle.claim_law.proofs.Block.Blocks.{text_of}
 use Rattle.tree_law.specs.Serves.{no_ways}
 use Rattle.tree_law.specs.Written.{FlagsApart}
 use Rattle.function_law.specs.UnderWay.{IsUnderWay, IsRuled}

@@ -34,7 +34,7 @@ use Rattle.agree_law.specs.Blocks.{IsOf}
 use Rattle.agree_law.proofs.Closed.{AreWritten}
 use Rattle.agree_law.proofs.Machine.{machine}
 use Rattle.agree_law.proofs.Terminators.{GivesIt}
-use Rattle.block_law.proofs.Blocks.{text_of, texts_are, condition_is, result_is}
+use Rattle.claim_law.proofs.Block.Blocks.{text_of, texts_are, condition_is, result_is}
 use Rattle.edge_law.proofs.Copies.{IsTaken, IsEdge, copies_follow}
 use Rattle.function_law.proofs.WholeEdges.{IsPlannedEdge, edge_whole}
 use Rattle.typed_law.specs.Conforms.{IsFormed}

@@ -31,8 +31,8 @@ use Rattle.module_semantics.specs.Setting.{Setting}
 use Rattle.agree_law.specs.Agree.{Naming}
 use Rattle.call_law.specs.Known.{is_parameter}
 use Rattle.function_law.specs.Texts.{FunctionText}
-use Rattle.path_law.specs.Parts.{shape_in}
-use Rattle.path_law.specs.Walks.{struct_names}
+use Rattle.global_law.specs.Parts.{shape_in}
+use Rattle.global_law.specs.Walks.{struct_names}
 use Rattle.global_law.specs.Sources.{source_of}
 
 -- an instruction gives it that is no OpVariable and no chain: what it gives is no pointer

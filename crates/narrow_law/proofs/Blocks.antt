@@ -14,9 +14,9 @@ use Rattle.module_semantics.specs.Setting.{Setting}
 use Rattle.module_semantics.specs.Memory.{array_stride, bytes_along, bytes_by, member_offset, part_bytes, part_type}
 use Rattle.fits_law.specs.Takes.{nth_of}
 use Rattle.type_law.proofs.Places.{part_leads}
-use Rattle.path_law.specs.Laid.{IsLaidOut}
-use Rattle.path_law.specs.Parts.{StructNames}
-use Rattle.path_law.proofs.Types.{declared_as, op_of}
+use Rattle.global_law.specs.Laid.{IsLaidOut}
+use Rattle.global_law.specs.Parts.{StructNames}
+use Rattle.global_law.proofs.Path.Types.{declared_as, op_of}
 use Rattle.narrow_law.specs.Reach.{Along}
 use Rattle.narrow_law.specs.Low.{IsLowMember}
 use Rattle.narrow_law.proofs.Sizes.{at_least}

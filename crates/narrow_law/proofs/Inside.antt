@@ -24,11 +24,11 @@ use Rattle.fits_law.specs.Takes.{nth_of}
 use Rattle.fits_law.specs.State.{element_shape, place_shape}
 use Rattle.type_law.specs.Shaped.{AreConstants}
 use Rattle.type_law.proofs.Places.{part_leads}
-use Rattle.path_law.specs.Laid.{IsLaidOut}
-use Rattle.path_law.specs.Parts.{StructNames, shape_in, fields_in, IsInside}
-use Rattle.path_law.proofs.Bytes.{bytes_in, bytes_same, stride_same}
-use Rattle.path_law.proofs.Parts.{sized_lengths, part_same}
-use Rattle.path_law.proofs.Types.{allowed_is}
+use Rattle.global_law.specs.Laid.{IsLaidOut}
+use Rattle.global_law.specs.Parts.{StructNames, shape_in, fields_in, IsInside}
+use Rattle.global_law.proofs.Path.Bytes.{bytes_in, bytes_same, stride_same}
+use Rattle.global_law.proofs.Path.Parts.{sized_lengths, part_same}
+use Rattle.global_law.proofs.Path.Types.{allowed_is}
 use Rattle.narrow_law.specs.Reach.{count_of, IsIn, IsShort, Along, Reaches}
 use Rattle.narrow_law.proofs.Sizes.{at_least, within}
 

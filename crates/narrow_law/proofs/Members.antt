@@ -22,9 +22,9 @@ use Rattle.module_semantics.specs.Setting.{Setting}
 use Rattle.module_semantics.specs.Memory.{member_offset, part_type}
 use Rattle.fits_law.specs.Takes.{nth_of}
 use Rattle.fits_law.proofs.Steps.{named}
-use Rattle.path_law.specs.Laid.{IsLaidOut}
-use Rattle.path_law.proofs.Bytes.{declared_by}
-use Rattle.path_law.proofs.BlockLayouts.{offset_is, none_found, any_none, taken_fits, block_laid, AllFalse}
+use Rattle.global_law.specs.Laid.{IsLaidOut}
+use Rattle.global_law.proofs.Path.Bytes.{declared_by}
+use Rattle.global_law.proofs.Path.BlockLayouts.{offset_is, none_found, any_none, taken_fits, block_laid, AllFalse}
 use Rattle.narrow_law.specs.Low.{IsLowMember, IsFineMember}
 
 not_past : (n : ℕ) → is_past n ≡ false → n ≤ 4294967295

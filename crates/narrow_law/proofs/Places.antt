@@ -16,7 +16,7 @@ use Rattle.module_semantics.specs.Memory.{are_allowed, bytes_along, class_of, lo
 use Rattle.fits_law.specs.State.{place_shape}
 use Rattle.type_law.specs.Shaped.{AreConstants}
 use Rattle.type_law.proofs.Places.{part_leads}
-use Rattle.path_law.specs.Parts.{StructNames}
+use Rattle.global_law.specs.Parts.{StructNames}
 use Rattle.memory_places.specs.Capped.{capped, most_bytes, most_variables}
 use Rattle.memory_places.proofs.Narrow.{narrow_location, narrow_locations, AreLow}
 use Rattle.narrow_law.specs.Reach.{Along, AllAlong}

@@ -11,7 +11,7 @@ use Rattle.value_words.specs.Words.{behind, scalar_paths, member_paths}
 use Rattle.module_semantics.specs.Setting.{Setting}
 use Rattle.fits_law.specs.Takes.{nth_of}
 use Rattle.fits_law.specs.State.{element_shape, place_shape}
-use Rattle.path_law.specs.Parts.{IsInside}
+use Rattle.global_law.specs.Parts.{IsInside}
 use Rattle.narrow_law.specs.Reach.{IsShort, Along, AllAlong}
 
 module _ (s : Setting) where

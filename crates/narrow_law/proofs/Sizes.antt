@@ -9,7 +9,7 @@ use Rattle.spv_types.specs.Tree.{Tree, boolean, int, uint, vector, array, runtim
 use Rattle.layout_rules.specs.declared.Kind.{Kind}
 use Rattle.layout_rules.specs.Sizes.{aligned, whole_alignment, alignment_of, greatest_alignment, size_of, end_from, stride_over, offsets_from}
 use Rattle.glsl_semantics.specs.Places.{part_bytes, part_tree, nth_tree, elem_tree}
-use Rattle.path_law.proofs.Bytes.{bytes_in}
+use Rattle.global_law.proofs.Path.Bytes.{bytes_in}
 use Rattle.narrow_law.specs.Reach.{count_of, IsIn, Reaches}
 
 pub at_least : (n a : ℕ) → n ≤ aligned n a

@@ -4,7 +4,7 @@ use Rattle.spv_module.specs.declared.tree.Length.TheVariants.{Fixed}
 use Rattle.spv_types.specs.Tree.{Tree, vector, array, runtime, struct, Trees, no_trees, tree}
 use Rattle.module_semantics.specs.Setting.{Setting}
 use Rattle.fits_law.specs.State.{element_shape}
-use Rattle.path_law.specs.Parts.{IsInside}
+use Rattle.global_law.specs.Parts.{IsInside}
 use Rattle.glsl_semantics.specs.Places.{part_tree}
 
 abbrev pub count_of : Trees → ℕ

@@ -18,7 +18,7 @@ use Rattle.list_law.proofs.Tests.{not_both}
 use Rattle.agree_law.specs.Agree.{Naming as Names, IsOther}
 use Rattle.claim_law.specs.Claimed.{IsIn}
 use Rattle.claim_law.specs.Apart.{AreOfKeys, is_flow, IsFlow}
-use Rattle.claim_law.proofs.Flags.{planned_as, again_is_flow, leave_is_flow, fell_is_flow, flows_other}
+use Rattle.claim_law.proofs.Claim.Flags.{planned_as, again_is_flow, leave_is_flow, fell_is_flow, flows_other}
 use Rattle.safe_law.specs.Flags.{is_flag, IsFlag, IsNoFlag}
 
 flag_flow : (key : Key) → is_flag key ≡ true → is_flow key ≡ true

@@ -11,8 +11,8 @@ use Rattle.expr_forward.specs.Scope.{Scope, globals}
 use Rattle.expr_forward.specs.Values.{value}
 use Rattle.expr_forward.specs.Paths.{place_text}
 use Rattle.expr_forward.specs.Statements.{is_void, callee_text, has_result, comparator, atomic_operand, semantics, is_variable_form, inst_text}
-use Rattle.spell_law.specs.Uses.{UsesExpr, UseEach}
-use Rattle.spell_law.specs.Statements.{EachStmt}
+use Rattle.claim_law.specs.Uses.{UsesExpr, UseEach}
+use Rattle.claim_law.specs.Statements.{EachStmt}
 use Rattle.text_law.specs.Walks.{Outer, is_in}
 use Rattle.text_law.specs.Shape.{constant_word}
 use Rattle.text_law.specs.Unseen.{unseen, IsPath}

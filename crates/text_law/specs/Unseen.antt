@@ -1,7 +1,7 @@
 -- Names of which nothing is seen from outside, so that expressions and statements made of them are quiet.
 use Rattle.std.specs.Prelude.{◌≡◌, true, false, List, [], ◌∷◌, filter}
 use Rattle.glsl_ast.specs.Tree.{LValue, lvalue, Stmt, declare, assign, leave, again, give}
-use Rattle.spell_law.specs.Uses.{Words, UseSteps}
+use Rattle.claim_law.specs.Uses.{Words, UseSteps}
 use Rattle.text_law.specs.Deeds.{Deed, calls, own_deeds}
 use Rattle.text_law.specs.Walks.{Outer, is_in, is_seen}
 

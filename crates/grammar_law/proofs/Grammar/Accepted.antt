@@ -20,9 +20,9 @@ use Rattle.function_plan.specs.Phis.{pairs}
 use Rattle.function_text.specs.Functions.{FunctionPlan}
 use Rattle.unit_rules.specs.Translation.{id_text}
 use Rattle.unit_rules.specs.Unit.{source_of, IsUnitOf}
-use Rattle.spell_law.specs.Blocks.{FitWords}
-use Rattle.constant_law.specs.Items.{AreSizes}
-use Rattle.constant_law.proofs.Conforming.{sizes_conform}
+use Rattle.claim_law.specs.Blocks.{FitWords}
+use Rattle.global_law.specs.Items.{AreSizes}
+use Rattle.global_law.proofs.Constant.Conforming.{sizes_conform}
 use Rattle.typed_law.specs.Conforms.{IsConforming}
 use Rattle.typed_law.specs.Words.{AreBytes, AreGivenWords}
 use Rattle.accepted_law.proofs.Small.{args_in, read_operands}

@@ -55,12 +55,12 @@ use Rattle.list_law.proofs.Numbers.{number_same}
 use Rattle.fits_law.specs.Takes as takes
 use Rattle.unit_rules.specs.Translation.{id_text}
 use Rattle.unit_rules.specs.Unit.{source_of, IsUnitOf}
-use Rattle.spell_law.specs.Uses.{Words, UsesExpr}
-use Rattle.spell_law.specs.Named.{FitsShape, FitsIfSome, LeadIn, IsArgument, AreArguments, IsNamedType, AreNamedAlong, AsksIfAny}
-use Rattle.spell_law.specs.Blocks.{FitWords}
-use Rattle.spell_law.proofs.Scalars.{zero-uses}
-use Rattle.spell_law.proofs.Composites.{lowered-uses}
-use Rattle.spell_law.proofs.Values.{shape-fits}
+use Rattle.claim_law.specs.Uses.{Words, UsesExpr}
+use Rattle.claim_law.specs.Named.{FitsShape, FitsIfSome, LeadIn, IsArgument, AreArguments, IsNamedType, AreNamedAlong, AsksIfAny}
+use Rattle.claim_law.specs.Blocks.{FitWords}
+use Rattle.claim_law.proofs.Spell.Scalars.{zero-uses}
+use Rattle.claim_law.proofs.Spell.Composites.{lowered-uses}
+use Rattle.claim_law.proofs.Spell.Values.{shape-fits}
 use Rattle.type_law.proofs.Parts.{extract_takes}
 use Rattle.type_law.proofs.Rows.{vector_parts}
 use Rattle.typed_law.specs.Conforms.{IsConforming}
@@ -69,19 +69,19 @@ use Rattle.typed_law.proofs.Lists.{or_left, or_right}
 use Rattle.typed_law.proofs.Types.{row_is}
 use Rattle.typed_law.proofs.Used.{global_found}
 use Rattle.typed_law.proofs.Values.{type_suits, typed_is, global_row, global_typed_some}
-use Rattle.constant_law.specs.Within.{IsWithin, AreWithin, IsNoBlock}
-use Rattle.constant_law.proofs.Within.{typed_constant, constant_within}
-use Rattle.constant_law.proofs.Written.{own_type, held_by, struct_written}
-use Rattle.constant_law.proofs.Needed.{AllOperands, inner_operands_are}
-use Rattle.constant_law.proofs.Constituents.{nothing, calculated_op, operation_right}
-use Rattle.constant_law.specs.Items.{AreSizes}
-use Rattle.constant_law.proofs.Inner.{inner_operation}
-use Rattle.constant_law.proofs.Conforming.{sizes_conform}
-use Rattle.constant_law.proofs.Reading.{size_reading, part_reading}
-use Rattle.global_law.proofs.Plain.{plain_is}
+use Rattle.global_law.specs.Within.{IsWithin, AreWithin, IsNoBlock}
+use Rattle.global_law.proofs.Constant.Within.{typed_constant, constant_within}
+use Rattle.global_law.proofs.Constant.Written.{own_type, held_by, struct_written}
+use Rattle.global_law.proofs.Constant.Needed.{AllOperands, inner_operands_are}
+use Rattle.global_law.proofs.Constant.Constituents.{nothing, calculated_op, operation_right}
+use Rattle.global_law.specs.Items.{AreSizes}
+use Rattle.global_law.proofs.Constant.Inner.{inner_operation}
+use Rattle.global_law.proofs.Constant.Conforming.{sizes_conform}
+use Rattle.global_law.proofs.Constant.Reading.{size_reading, part_reading}
+use Rattle.global_law.proofs.Global.Plain.{plain_is}
 use Rattle.claim_law.specs.Claimed.{IsIn, HasName}
-use Rattle.claim_law.proofs.Constants.{found_in}
-use Rattle.claim_law.proofs.Told.{axes_told}
+use Rattle.claim_law.proofs.Claim.Constants.{found_in}
+use Rattle.claim_law.proofs.Claim.Told.{axes_told}
 use Rattle.grammar_law.specs.Words.{words_of, AreOfStructs}
 use Rattle.grammar_law.proofs.Unit.Lists.{as_among}
 use Rattle.grammar_law.proofs.Unit.Structs.{part_named}

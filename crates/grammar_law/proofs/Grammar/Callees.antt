@@ -27,8 +27,8 @@ use Rattle.unit_rules.specs.Unit.{is_called, called, source_of, IsUnitOf}
 use Rattle.list_law.proofs.Numbers.{same_number, number_same}
 use Rattle.typed_law.specs.Conforms.{IsConforming}
 use Rattle.claim_law.specs.Claimed.{IsIn, HasName}
-use Rattle.claim_law.proofs.Named.{function_named}
-use Rattle.claim_law.proofs.Told.{named_is}
+use Rattle.claim_law.proofs.Claim.Named.{function_named}
+use Rattle.claim_law.proofs.Claim.Told.{named_is}
 use Rattle.grammar_law.specs.Words.{words_of, AreOfStructs}
 use Rattle.grammar_law.proofs.Unit.Lists.{contained, of_contained, in_filter, of_filter}
 use Rattle.grammar_law.proofs.Unit.Ways.{HaveKinds, F, V, planned, in_module}

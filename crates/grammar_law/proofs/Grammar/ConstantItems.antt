@@ -45,22 +45,22 @@ use Rattle.text_rules.specs.Declarations.{Names, type_at, zero_at, expr_at, valu
 use Rattle.text_rules.specs.Printed.{is_named, has_operand, needs_constant, is_needed, is_written_variable, is_declared_constant, has_struct}
 use Rattle.unit_rules.specs.Unit.{source_of, IsUnitOf}
 use Rattle.list_law.proofs.Lists.{place_of}
-use Rattle.spell_law.specs.Uses.{Words, UsesType, UsesExpr, UseEach}
-use Rattle.spell_law.specs.Units.{UsesDecl}
-use Rattle.spell_law.specs.Blocks.{FitWords}
-use Rattle.spell_law.proofs.Scalars.{each-uses}
+use Rattle.claim_law.specs.Uses.{Words, UsesType, UsesExpr, UseEach}
+use Rattle.claim_law.specs.Units.{UsesDecl}
+use Rattle.claim_law.specs.Blocks.{FitWords}
+use Rattle.claim_law.proofs.Spell.Scalars.{each-uses}
 use Rattle.typed_law.specs.Conforms.{IsConforming}
 use Rattle.typed_law.specs.Words.{AreGivenWords}
 use Rattle.typed_law.proofs.Lists.{and_left, or_left, none_left, none_right, none_among, some_by, earlier_some}
 use Rattle.typed_law.proofs.Rules.{operand_there, global_there, refused}
 use Rattle.typed_law.proofs.Values.{type_suits, global_row, global_typed_some, value_type_has}
-use Rattle.constant_law.specs.Within.{IsWithin, IsNoBlock}
-use Rattle.constant_law.proofs.Within.{typed_constant, constant_within}
-use Rattle.constant_law.proofs.Written.{own_type, held_by}
-use Rattle.constant_law.proofs.Needed.{operand_at, operand_needed}
-use Rattle.constant_law.proofs.Standing.{composite_ids}
+use Rattle.global_law.specs.Within.{IsWithin, IsNoBlock}
+use Rattle.global_law.proofs.Constant.Within.{typed_constant, constant_within}
+use Rattle.global_law.proofs.Constant.Written.{own_type, held_by}
+use Rattle.global_law.proofs.Constant.Needed.{operand_at, operand_needed}
+use Rattle.global_law.proofs.Constant.Standing.{composite_ids}
 use Rattle.claim_law.specs.Claimed.{IsIn}
-use Rattle.claim_law.proofs.Constants.{found_in}
+use Rattle.claim_law.proofs.Claim.Constants.{found_in}
 use Rattle.grammar_law.specs.Words.{words_of, AreOfStructs}
 use Rattle.grammar_law.proofs.Unit.Lists.{found_by, as_among, of_numbered_first}
 use Rattle.grammar_law.proofs.Grammar.Readings.{none_fits, literal_fits, plain_fits, constant_uses}

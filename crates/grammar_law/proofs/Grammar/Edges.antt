@@ -36,14 +36,14 @@ use Rattle.function_text.specs.Functions.{FunctionPlan, label_of, source_expr, s
 use Rattle.unit_rules.specs.Translation.{Naming, text_of, id_text}
 use Rattle.unit_rules.specs.Unit.{source_of, IsUnitOf}
 use Rattle.list_law.proofs.Numbers.{same_number}
-use Rattle.spell_law.specs.Uses.{Words, UsesType, UsesExpr}
-use Rattle.spell_law.specs.Statements.{UsesStmt, EachStmt}
-use Rattle.spell_law.specs.Blocks.{FitWords}
+use Rattle.claim_law.specs.Uses.{Words, UsesType, UsesExpr}
+use Rattle.claim_law.specs.Statements.{UsesStmt, EachStmt}
+use Rattle.claim_law.specs.Blocks.{FitWords}
 use Rattle.typed_law.specs.Conforms.{IsConforming}
 use Rattle.typed_law.specs.Words.{AreGivenWords}
 use Rattle.claim_law.specs.Claimed.{IsIn}
-use Rattle.claim_law.proofs.Named.{spare_named}
-use Rattle.claim_law.proofs.Flags.{at_inside}
+use Rattle.claim_law.proofs.Claim.Named.{spare_named}
+use Rattle.claim_law.proofs.Claim.Flags.{at_inside}
 use Rattle.grammar_law.specs.Switches.{Leads}
 use Rattle.grammar_law.specs.Words.{words_of, AreOfStructs}
 use Rattle.grammar_law.proofs.Unit.Structs.{Written}

@@ -56,8 +56,8 @@ use Rattle.typed_law.proofs.Values.{function_id, function_need, function_least, 
 use Rattle.typed_law.proofs.Operations.{Facts}
 use Rattle.typed_law.proofs.Others.{typed_operand}
 use Rattle.claim_law.specs.Claimed.{IsIn}
-use Rattle.claim_law.proofs.Listed.{in_flat, at_place}
-use Rattle.claim_law.proofs.Flags.{at_inside}
+use Rattle.claim_law.proofs.Claim.Listed.{in_flat, at_place}
+use Rattle.claim_law.proofs.Claim.Flags.{at_inside}
 use Rattle.grammar_law.specs.Mentioned.{IsMentioned, IsValueIn}
 use Rattle.grammar_law.specs.Switches.{Chooses, by_condition, by_selector}
 use Rattle.grammar_law.proofs.Unit.Lists.{found_by, as_among}

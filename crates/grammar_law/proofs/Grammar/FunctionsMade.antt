@@ -30,24 +30,24 @@ use Rattle.function_text.specs.Functions.{FunctionPlan, written, copies_text, fi
 use Rattle.unit_rules.specs.Translation.{Naming, text_of, id_text}
 use Rattle.unit_rules.specs.Unit.{source_of, reached_of, IsUnitOf}
 use Rattle.list_law.proofs.Lists.{get_index}
-use Rattle.spell_law.specs.Uses.{Words, UsesExpr}
-use Rattle.spell_law.specs.Asked.{IsAsked}
-use Rattle.spell_law.specs.Statements.{EachStmt}
-use Rattle.spell_law.specs.Blocks.{FitWords, AreMade}
-use Rattle.spell_law.specs.Units.{UseParams, UsesResult, UsesDecl}
-use Rattle.spell_law.proofs.Values.{value-uses}
-use Rattle.spell_law.proofs.Statements.{both-stmts}
-use Rattle.spell_law.proofs.Sentences.{list-uses}
-use Rattle.spell_law.proofs.Regions.{region-made}
+use Rattle.claim_law.specs.Uses.{Words, UsesExpr}
+use Rattle.claim_law.specs.Asked.{IsAsked}
+use Rattle.claim_law.specs.Statements.{EachStmt}
+use Rattle.claim_law.specs.Blocks.{FitWords, AreMade}
+use Rattle.claim_law.specs.Units.{UseParams, UsesResult, UsesDecl}
+use Rattle.claim_law.proofs.Spell.Values.{value-uses}
+use Rattle.claim_law.proofs.Spell.Statements.{both-stmts}
+use Rattle.claim_law.proofs.Spell.Sentences.{list-uses}
+use Rattle.claim_law.proofs.Spell.Regions.{region-made}
 use Rattle.typed_law.specs.Conforms.{IsConforming}
 use Rattle.typed_law.specs.Words.{AreGivenWords}
 use Rattle.typed_law.proofs.Values.{inside}
 use Rattle.claim_law.specs.Claimed.{IsIn, HasName}
 use Rattle.claim_law.specs.Apart.{is_flow, IsFlow}
-use Rattle.claim_law.proofs.Keys.{main_claimed}
-use Rattle.claim_law.proofs.Named.{Plans, has_name_of, function_named}
-use Rattle.claim_law.proofs.Told.{axes_told}
-use Rattle.claim_law.proofs.Flags.{again_is_flow, leave_is_flow, fell_is_flow}
+use Rattle.claim_law.proofs.Claim.Keys.{main_claimed}
+use Rattle.claim_law.proofs.Claim.Named.{Plans, has_name_of, function_named}
+use Rattle.claim_law.proofs.Claim.Told.{axes_told}
+use Rattle.claim_law.proofs.Claim.Flags.{again_is_flow, leave_is_flow, fell_is_flow}
 use Rattle.grammar_law.specs.Mentioned.{IsValueIn}
 use Rattle.grammar_law.specs.Switches.{IsReached, Chooses, Leads}
 use Rattle.grammar_law.specs.Words.{is_struct_key, words_of, AreOfStructs}

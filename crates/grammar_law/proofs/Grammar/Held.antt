@@ -21,13 +21,13 @@ use Rattle.unit_rules.specs.Translation.{Naming, id_text}
 use Rattle.unit_rules.specs.Unit.{reached_of, source_of, IsUnitOf}
 use Rattle.list_law.proofs.Numbers.{same_number}
 use Rattle.list_law.proofs.Tests.{off_on}
-use Rattle.spell_law.specs.Uses.{Words, UsesExtent, UsesType, UsesExpr}
+use Rattle.claim_law.specs.Uses.{Words, UsesExtent, UsesType, UsesExpr}
 use Rattle.typed_law.specs.Conforms.{IsConforming}
-use Rattle.constant_law.specs.Within.{IsStructBefore, IsWithin, AreWithin, IsNoBlock}
-use Rattle.constant_law.proofs.Written.{IsHeld, struct_written}
+use Rattle.global_law.specs.Within.{IsStructBefore, IsWithin, AreWithin, IsNoBlock}
+use Rattle.global_law.proofs.Constant.Written.{IsHeld, struct_written}
 use Rattle.claim_law.specs.Claimed.{IsIn}
-use Rattle.claim_law.proofs.Constants.{found_in}
-use Rattle.claim_law.proofs.Told.{named_is}
+use Rattle.claim_law.proofs.Claim.Constants.{found_in}
+use Rattle.claim_law.proofs.Claim.Told.{named_is}
 use Rattle.grammar_law.specs.Types.{IsLengthOf}
 use Rattle.grammar_law.specs.Words.{words_of}
 use Rattle.grammar_law.proofs.Unit.Types.{AreNamedIn, type_uses, zero_at_uses}

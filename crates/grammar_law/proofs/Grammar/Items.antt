@@ -22,16 +22,16 @@ use Rattle.text_rules.specs.Declarations.{Names, struct_decl, constant_decl, var
 use Rattle.text_rules.specs.Printed.{is_private, is_written_struct, is_written_variable, is_declared_constant}
 use Rattle.unit_rules.specs.Translation.{id_text}
 use Rattle.unit_rules.specs.Unit.{source_of, IsUnitOf}
-use Rattle.spell_law.specs.Uses.{Words, UsesExpr}
-use Rattle.spell_law.specs.Units.{UseDecls}
-use Rattle.spell_law.specs.Blocks.{FitWords}
+use Rattle.claim_law.specs.Uses.{Words, UsesExpr}
+use Rattle.claim_law.specs.Units.{UseDecls}
+use Rattle.claim_law.specs.Blocks.{FitWords}
 use Rattle.plan_law.specs.InOrder.{AreRising}
 use Rattle.typed_law.specs.Conforms.{IsConforming}
 use Rattle.typed_law.specs.Words.{AreGivenWords}
 use Rattle.typed_law.proofs.Lists.{and_left, clash}
 use Rattle.typed_law.proofs.Used.{global_found}
 use Rattle.claim_law.specs.Claimed.{IsIn}
-use Rattle.claim_law.proofs.Told.{named_is}
+use Rattle.claim_law.proofs.Claim.Told.{named_is}
 use Rattle.grammar_law.specs.Words.{words_of, AreOfStructs}
 use Rattle.grammar_law.proofs.Unit.Lists.{as_among}
 use Rattle.grammar_law.proofs.Unit.Structs.{struct_named}

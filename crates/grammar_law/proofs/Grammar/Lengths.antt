@@ -29,16 +29,16 @@ use Rattle.text_rules.specs.Printed.{Reached, is_named, is_length_of, needs_cons
 use Rattle.unit_rules.specs.Translation.{Naming, id_text}
 use Rattle.unit_rules.specs.Unit.{reached_of, source_of, IsUnitOf}
 use Rattle.list_law.proofs.Numbers.{number_same}
-use Rattle.spell_law.specs.Uses.{Words, UsesExtent}
-use Rattle.spell_law.specs.Blocks.{FitWords}
+use Rattle.claim_law.specs.Uses.{Words, UsesExtent}
+use Rattle.claim_law.specs.Blocks.{FitWords}
 use Rattle.typed_law.specs.Conforms.{IsConforming}
 use Rattle.typed_law.specs.Words.{AreGivenWords}
-use Rattle.constant_law.proofs.Standing.{needed_kept}
+use Rattle.global_law.proofs.Constant.Standing.{needed_kept}
 use Rattle.claim_law.specs.Claimed.{IsIn, HasName}
-use Rattle.claim_law.proofs.Listed.{any_in}
-use Rattle.claim_law.proofs.Keys.{constant_claimed}
-use Rattle.claim_law.proofs.Constants.{found_in, no_struct}
-use Rattle.claim_law.proofs.Named.{Plans, has_name_of}
+use Rattle.claim_law.proofs.Claim.Listed.{any_in}
+use Rattle.claim_law.proofs.Claim.Keys.{constant_claimed}
+use Rattle.claim_law.proofs.Claim.Constants.{found_in, no_struct}
+use Rattle.claim_law.proofs.Claim.Named.{Plans, has_name_of}
 use Rattle.grammar_law.specs.Types.{IsLengthOf}
 use Rattle.grammar_law.specs.Words.{words_of, AreOfStructs}
 use Rattle.grammar_law.proofs.Grammar.Readings.{none_fits, first_fits, plain_word_fits, id_value, axis_member, no_struct_there}

@@ -2,8 +2,8 @@
 use Rattle.std.proofs.Common.{List, [], ◌∷◌, inl, inr, refl}
 use Rattle.glsl_ast.specs.Tree.{Stmt}
 pub use Rattle.grammar_law.proofs.Meets.LiveOrGone.{of_mapped}
-use Rattle.spell_law.specs.Uses.{Words}
-use Rattle.spell_law.specs.Statements.{UsesStmt, EachStmt}
+use Rattle.claim_law.specs.Uses.{Words}
+use Rattle.claim_law.specs.Statements.{UsesStmt, EachStmt}
 use Rattle.claim_law.specs.Claimed.{IsIn}
 
 pub each_stmt : (W : Words) (xs : List Stmt) → ((x : Stmt) → IsIn x xs → UsesStmt W x) → EachStmt W xs

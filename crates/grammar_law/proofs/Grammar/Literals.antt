@@ -30,9 +30,9 @@ use Rattle.expr_forward.specs.Paths.{is_plain, is_number, literal_word}
 use Rattle.plan_law.specs.InOrder.{IsAmong}
 use Rattle.typed_law.specs.Conforms.{IsConforming}
 use Rattle.typed_law.proofs.Lists.{and_off, some_by, some_part, none_at_fault}
-use Rattle.constant_law.specs.Items.{AreSpecIds, IsScalarSpec}
+use Rattle.global_law.specs.Items.{AreSpecIds, IsScalarSpec}
 use Rattle.claim_law.specs.Claimed.{IsIn}
-use Rattle.claim_law.proofs.Listed.{in_flat}
+use Rattle.claim_law.proofs.Claim.Listed.{in_flat}
 use Rattle.grammar_law.proofs.Unit.Lists.{contained, of_contained}
 
 -- A5 of an instruction of a function

@@ -15,7 +15,7 @@ use Rattle.list_law.proofs.Tests.{clash}
 use Rattle.typed_law.specs.Conforms.{IsConforming}
 use Rattle.typed_law.proofs.Lists.{some_part}
 use Rattle.claim_law.specs.Claimed.{IsIn}
-use Rattle.claim_law.proofs.Listed.{at_place}
+use Rattle.claim_law.proofs.Claim.Listed.{at_place}
 use Rattle.grammar_law.proofs.Unit.Forms.{placed, unmade_gone}
 use Rattle.grammar_law.proofs.Meets.LiveOrGone.{placed_live, live_form}
 use Rattle.grammar_law.proofs.Unit.Ways.{HaveKinds, F, R, V, plan_is}

@@ -57,8 +57,8 @@ use Rattle.function_text.specs.Functions.{FunctionPlan, written, name_expr, cons
 use Rattle.unit_rules.specs.Translation.{Naming, text_of, id_text, names_of}
 use Rattle.unit_rules.specs.Unit as unit_rules
 use Rattle.unit_rules.specs.Unit.{claims_by, liveness_of, IsUnitOf}
-use Rattle.spell_law.specs.Uses.{Words, UsesExtent, UsesType, UsesExpr}
-use Rattle.spell_law.specs.Blocks.{FitWords}
+use Rattle.claim_law.specs.Uses.{Words, UsesExtent, UsesType, UsesExpr}
+use Rattle.claim_law.specs.Blocks.{FitWords}
 use Rattle.plan_law.specs.InOrder.{IsAmong}
 use Rattle.type_law.proofs.Vectors.{three_off}
 use Rattle.typed_law.specs.Conforms.{IsConforming}
@@ -70,8 +70,8 @@ use Rattle.typed_law.proofs.Shapes.{shaped_type}
 use Rattle.typed_law.proofs.Others.{typed_some, phi_group}
 use Rattle.typed_law.proofs.Calls.{variable_typed}
 use Rattle.claim_law.specs.Claimed.{IsIn, IsOf, HasName}
-use Rattle.claim_law.proofs.Listed.{in_flat, in_mapped, at_place, any_in}
-use Rattle.claim_law.proofs.Constants.{found_in, mention_in, constant_named}
+use Rattle.claim_law.proofs.Claim.Listed.{in_flat, in_mapped, at_place, any_in}
+use Rattle.claim_law.proofs.Claim.Constants.{found_in, mention_in, constant_named}
 use Rattle.grammar_law.specs.Mentioned.{IsMentioned}
 use Rattle.grammar_law.specs.Types.{IsLengthOf}
 use Rattle.grammar_law.specs.Words.{words_of, AreOfStructs}

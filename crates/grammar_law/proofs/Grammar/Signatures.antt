@@ -36,19 +36,19 @@ use Rattle.unit_rules.specs.Translation.{Naming, text_of, id_text, names_of}
 use Rattle.unit_rules.specs.Unit.{source_of, IsUnitOf}
 use Rattle.list_law.proofs.Numbers.{number_same}
 use Rattle.list_law.proofs.Tests.{clash}
-use Rattle.spell_law.specs.Uses.{Words, UsesType}
-use Rattle.spell_law.specs.Units.{UseParams, UsesResult}
-use Rattle.spell_law.specs.Blocks.{FitWords}
+use Rattle.claim_law.specs.Uses.{Words, UsesType}
+use Rattle.claim_law.specs.Units.{UseParams, UsesResult}
+use Rattle.claim_law.specs.Blocks.{FitWords}
 use Rattle.typed_law.specs.Conforms.{IsConforming}
 use Rattle.typed_law.specs.Words.{AreGivenWords}
 use Rattle.typed_law.proofs.Lists.{or_right, and_off}
 use Rattle.typed_law.proofs.Used.{among_right as ids_right}
 use Rattle.typed_law.proofs.Values.{inside, parameter_right}
-use Rattle.constant_law.proofs.Within.{other_struct}
+use Rattle.global_law.proofs.Constant.Within.{other_struct}
 use Rattle.claim_law.specs.Claimed.{IsIn}
-use Rattle.claim_law.proofs.Listed.{in_flat, in_mapped, any_in}
-use Rattle.claim_law.proofs.Constants.{found_in}
-use Rattle.claim_law.proofs.Named.{parameter_named}
+use Rattle.claim_law.proofs.Claim.Listed.{in_flat, in_mapped, any_in}
+use Rattle.claim_law.proofs.Claim.Constants.{found_in}
+use Rattle.claim_law.proofs.Claim.Named.{parameter_named}
 use Rattle.grammar_law.specs.Words.{words_of, AreOfStructs}
 use Rattle.grammar_law.proofs.Unit.Lists.{of_contained, as_parameter}
 use Rattle.grammar_law.proofs.Unit.Free.{misused_free, open_free}

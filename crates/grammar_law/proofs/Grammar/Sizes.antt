@@ -28,12 +28,12 @@ use Rattle.glsl_grammar.specs.Spelled.{FitsWord, AreSpelledSizes}
 use Rattle.glsl_grammar.specs.Scopes.{AreAxes}
 use Rattle.text_rules.specs.Constants.{axes, overridden, size_now, sizes_of, sizes_by, sizes}
 use Rattle.unit_rules.specs.Unit.{source_of}
-use Rattle.spell_law.specs.Blocks.{FitWords}
+use Rattle.claim_law.specs.Blocks.{FitWords}
 use Rattle.typed_law.specs.Conforms.{IsConforming}
 use Rattle.typed_law.specs.Words.{AreGivenWords}
 use Rattle.typed_law.proofs.Lists.{and_left, and_off, or_left, or_right, none_at_fault}
 use Rattle.claim_law.specs.Claimed.{IsIn}
-use Rattle.claim_law.proofs.Constants.{found_in}
+use Rattle.claim_law.proofs.Claim.Constants.{found_in}
 use Rattle.grammar_law.proofs.Unit.Lists.{found_by, as_among}
 use Rattle.grammar_law.proofs.Meets.CompositeMeets.{dropped}
 use Rattle.grammar_law.proofs.Grammar.Readings.{none_fits, FitsIfGiven, given_fits}

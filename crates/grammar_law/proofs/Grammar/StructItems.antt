@@ -26,20 +26,20 @@ use Rattle.text_rules.specs.Declarations.{Names, members, struct_decl, member_de
 use Rattle.text_rules.specs.Printed.{has_struct, have_struct, is_written_struct, pointee_or_self, type_has_struct, written_types}
 use Rattle.unit_rules.specs.Translation.{text_of}
 use Rattle.unit_rules.specs.Unit.{source_of, item_names_of, IsUnitOf}
-use Rattle.spell_law.specs.Uses.{Words, UsesType}
-use Rattle.spell_law.specs.Units.{UseFields, UseMembers, UsesDecl}
-use Rattle.spell_law.specs.Blocks.{FitWords}
+use Rattle.claim_law.specs.Uses.{Words, UsesType}
+use Rattle.claim_law.specs.Units.{UseFields, UseMembers, UsesDecl}
+use Rattle.claim_law.specs.Blocks.{FitWords}
 use Rattle.typed_law.specs.Conforms.{IsConforming}
 use Rattle.typed_law.specs.Words.{AreGivenWords}
 use Rattle.typed_law.proofs.Lists.{and_right, and_off, earlier_some, some_by}
 use Rattle.typed_law.proofs.Types.{of_form}
 use Rattle.typed_law.proofs.Used.{global_found}
-use Rattle.constant_law.specs.Within.{IsWithin, AreWithin, IsNoBlock, Anything}
-use Rattle.constant_law.proofs.Within.{members_unblocked, any_within}
-use Rattle.constant_law.proofs.Written.{held_member}
+use Rattle.global_law.specs.Within.{IsWithin, AreWithin, IsNoBlock, Anything}
+use Rattle.global_law.proofs.Constant.Within.{members_unblocked, any_within}
+use Rattle.global_law.proofs.Constant.Written.{held_member}
 use Rattle.claim_law.specs.Claimed.{IsIn, HasName}
-use Rattle.claim_law.proofs.Told.{named_is}
-use Rattle.claim_law.proofs.Words.{given_is_name}
+use Rattle.claim_law.proofs.Claim.Told.{named_is}
+use Rattle.claim_law.proofs.Claim.Words.{given_is_name}
 use Rattle.grammar_law.specs.Words.{words_of, AreOfStructs}
 use Rattle.grammar_law.proofs.Unit.Lists.{found_by, as_among, of_numbered_first}
 use Rattle.grammar_law.proofs.Unit.Structs.{struct_named, part_named}

@@ -61,9 +61,9 @@ use Rattle.unit_rules.specs.Translation.{Naming, text_of, id_text, names_of}
 use Rattle.unit_rules.specs.Unit.{claims_by, liveness_of, source_of, IsUnitOf}
 use Rattle.list_law.proofs.Numbers.{number_same}
 use Rattle.list_law.proofs.Lists.{second_at}
-use Rattle.spell_law.specs.Uses.{Words, UsesExtent, UsesType, UsesExpr}
-use Rattle.spell_law.specs.Statements.{UsesStmt, EachStmt}
-use Rattle.spell_law.specs.Blocks.{FitWords}
+use Rattle.claim_law.specs.Uses.{Words, UsesExtent, UsesType, UsesExpr}
+use Rattle.claim_law.specs.Statements.{UsesStmt, EachStmt}
+use Rattle.claim_law.specs.Blocks.{FitWords}
 use Rattle.plan_law.specs.InOrder.{IsAmong}
 use Rattle.plan_law.proofs.Order.{among_right}
 use Rattle.type_law.proofs.Vectors.{three_off}
@@ -76,9 +76,9 @@ use Rattle.typed_law.proofs.Used.{among_left, among_right as ids_right}
 use Rattle.typed_law.proofs.Values.{variable_type_is, among_functions, inside, local_row, same_count}
 use Rattle.typed_law.proofs.Others.{typed_some}
 use Rattle.claim_law.specs.Claimed.{IsIn, IsOf, HasName}
-use Rattle.claim_law.proofs.Listed.{in_flat, in_mapped, at_place, any_in}
-use Rattle.claim_law.proofs.Constants.{found_in, mention_in, constant_named}
-use Rattle.claim_law.proofs.Named.{captured_named}
+use Rattle.claim_law.proofs.Claim.Listed.{in_flat, in_mapped, at_place, any_in}
+use Rattle.claim_law.proofs.Claim.Constants.{found_in, mention_in, constant_named}
+use Rattle.claim_law.proofs.Claim.Named.{captured_named}
 use Rattle.grammar_law.specs.Types.{IsLengthOf}
 use Rattle.grammar_law.specs.Words.{words_of, AreOfStructs}
 use Rattle.grammar_law.proofs.Unit.Lists.{at_some, in_filter, of_filter, none_passes, in_either, of_flat, of_numbered_first, numbered_first, as_among}

@@ -29,7 +29,7 @@ use Rattle.function_text.specs.Live.{is_composite_type, is_composite}
 use Rattle.unit_rules.specs.Translation.{id_text, names_of}
 use Rattle.unit_rules.specs.Unit.{source_of, IsUnitOf}
 use Rattle.list_law.proofs.Tests.{clash}
-use Rattle.spell_law.specs.Uses.{Words, UsesExtent, UsesType}
+use Rattle.claim_law.specs.Uses.{Words, UsesExtent, UsesType}
 use Rattle.typed_law.specs.Conforms.{IsConforming}
 use Rattle.typed_law.proofs.Types.{type_shaped}
 use Rattle.claim_law.specs.Claimed.{IsIn}

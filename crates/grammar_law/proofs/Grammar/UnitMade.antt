@@ -15,9 +15,9 @@ use Rattle.text_rules.specs.Printed.{is_written_struct, is_declared_constant}
 use Rattle.function_text.specs.Functions.{FunctionPlan, function_decl}
 use Rattle.unit_rules.specs.Translation.{id_text}
 use Rattle.unit_rules.specs.Unit.{has_id, plan_at, in_order, source_of, IsUnitOf}
-use Rattle.spell_law.specs.Uses.{Words, UsesExpr}
-use Rattle.spell_law.specs.Units.{UsesDecl, UseDecls, UsesUnit}
-use Rattle.spell_law.specs.Blocks.{FitWords}
+use Rattle.claim_law.specs.Uses.{Words, UsesExpr}
+use Rattle.claim_law.specs.Units.{UsesDecl, UseDecls, UsesUnit}
+use Rattle.claim_law.specs.Blocks.{FitWords}
 use Rattle.typed_law.specs.Conforms.{IsConforming}
 use Rattle.typed_law.specs.Words.{AreGivenWords}
 use Rattle.claim_law.specs.Claimed.{IsIn}

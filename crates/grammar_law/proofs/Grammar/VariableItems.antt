@@ -43,9 +43,9 @@ use Rattle.unit_rules.specs.Unit.{source_of, IsUnitOf}
 use Rattle.list_law.proofs.Numbers.{same_number}
 use Rattle.list_law.proofs.Lists.{second_at}
 use Rattle.list_law.proofs.Tests.{common}
-use Rattle.spell_law.specs.Uses.{Words, UsesType, UsesExpr}
-use Rattle.spell_law.specs.Units.{UsesDecl, UseDecls}
-use Rattle.spell_law.specs.Blocks.{FitWords}
+use Rattle.claim_law.specs.Uses.{Words, UsesType, UsesExpr}
+use Rattle.claim_law.specs.Units.{UsesDecl, UseDecls}
+use Rattle.claim_law.specs.Blocks.{FitWords}
 use Rattle.plan_law.proofs.Order.{among_left as inst_left}
 use Rattle.type_law.proofs.Parts.{struct_kind}
 use Rattle.typed_law.specs.Conforms.{IsConforming}
@@ -55,16 +55,16 @@ use Rattle.typed_law.proofs.Rules.{initializer_right}
 use Rattle.typed_law.proofs.Types.{row_is, pointee_shaped}
 use Rattle.typed_law.proofs.Values.{variable_type_is, global_row, global_typed_some}
 use Rattle.typed_law.proofs.Calls.{variable_typed}
-use Rattle.constant_law.specs.Within.{IsWithin, IsNoBlock}
-use Rattle.constant_law.proofs.Needed.{operand_at}
-use Rattle.constant_law.proofs.Within.{pointee_before, pointee_within}
-use Rattle.constant_law.proofs.Written.{held_by, pointed_type}
+use Rattle.global_law.specs.Within.{IsWithin, IsNoBlock}
+use Rattle.global_law.proofs.Constant.Needed.{operand_at}
+use Rattle.global_law.proofs.Constant.Within.{pointee_before, pointee_within}
+use Rattle.global_law.proofs.Constant.Written.{held_by, pointed_type}
 use Rattle.claim_law.specs.Claimed.{IsIn, HasName}
-use Rattle.claim_law.proofs.Listed.{any_in}
-use Rattle.claim_law.proofs.Keys.{variable_claimed, block_claimed}
-use Rattle.claim_law.proofs.Constants.{found_in}
-use Rattle.claim_law.proofs.Named.{Plans, has_name_of}
-use Rattle.claim_law.proofs.Variables.{variable_no_struct, undeclared}
+use Rattle.claim_law.proofs.Claim.Listed.{any_in}
+use Rattle.claim_law.proofs.Claim.Keys.{variable_claimed, block_claimed}
+use Rattle.claim_law.proofs.Claim.Constants.{found_in}
+use Rattle.claim_law.proofs.Claim.Named.{Plans, has_name_of}
+use Rattle.claim_law.proofs.Claim.Variables.{variable_no_struct, undeclared}
 use Rattle.grammar_law.specs.Words.{words_of, AreOfStructs}
 use Rattle.grammar_law.proofs.Unit.Lists.{as_among}
 use Rattle.grammar_law.proofs.Unit.Structs.{block_member_named}

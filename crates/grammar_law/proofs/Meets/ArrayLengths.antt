@@ -40,9 +40,9 @@ use Rattle.expr_forward.specs.declared.kinds.OperationKind.TheVariants as kind
 use Rattle.function_text.specs.Functions.{FunctionPlan}
 use Rattle.unit_rules.specs.Translation.{Naming, text_of}
 use Rattle.unit_rules.specs.Unit.{IsUnitOf}
-use Rattle.spell_law.specs.Uses.{Words, UsesMeasured, UsesLValue}
-use Rattle.spell_law.specs.Asked.{MeetsKind}
-use Rattle.spell_law.proofs.Values.{further-measured}
+use Rattle.claim_law.specs.Uses.{Words, UsesMeasured, UsesLValue}
+use Rattle.claim_law.specs.Asked.{MeetsKind}
+use Rattle.claim_law.proofs.Spell.Values.{further-measured}
 use Rattle.typed_law.specs.Conforms.{IsConforming}
 use Rattle.typed_law.proofs.Lists.{or_left, or_right, and_off}
 use Rattle.typed_law.proofs.Rules.{value_right}
@@ -51,9 +51,9 @@ use Rattle.typed_law.proofs.Types.{row_is, pointee_shaped}
 use Rattle.typed_law.proofs.Values.{IsRow, HasType, global_row, global_typed_some, typed_is, variable_type_is}
 use Rattle.typed_law.proofs.Shapes.{row_of_shape}
 use Rattle.claim_law.specs.Claimed.{IsIn, HasName}
-use Rattle.claim_law.proofs.Listed.{in_flat, at_place}
-use Rattle.claim_law.proofs.Constants.{found_in}
-use Rattle.claim_law.proofs.Told.{named_is}
+use Rattle.claim_law.proofs.Claim.Listed.{in_flat, at_place}
+use Rattle.claim_law.proofs.Claim.Constants.{found_in}
+use Rattle.claim_law.proofs.Claim.Told.{named_is}
 use Rattle.grammar_law.specs.Mentioned.{IsMentioned, IsValueIn}
 use Rattle.grammar_law.specs.Words.{words_of, AreOfStructs}
 use Rattle.grammar_law.proofs.Unit.Lists.{as_among}

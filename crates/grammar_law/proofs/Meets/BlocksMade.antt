@@ -48,23 +48,23 @@ use Rattle.function_plan.specs.Phis.{is_gone}
 use Rattle.function_text.specs.Functions.{FunctionPlan}
 use Rattle.unit_rules.specs.Translation.{Naming, text_of, id_text}
 use Rattle.unit_rules.specs.Unit.{source_of, IsUnitOf}
-use Rattle.block_law.specs.Ranked.{operand_ids, AreBelow, IsForwardedBy}
-use Rattle.spell_law.specs.Uses.{Words, UsesExpr, UsesExtent}
-use Rattle.spell_law.specs.Named.{FitsIfSome}
-use Rattle.spell_law.specs.Asked.{MeetsKind, Meets, IsAsked}
-use Rattle.spell_law.specs.Statements.{EachStmt, AsksSet, MeetsInst}
-use Rattle.spell_law.proofs.Statements.{MeetsOne, MeetEach, insts-use}
+use Rattle.claim_law.specs.Ranked.{operand_ids, AreBelow, IsForwardedBy}
+use Rattle.claim_law.specs.Uses.{Words, UsesExpr, UsesExtent}
+use Rattle.claim_law.specs.Named.{FitsIfSome}
+use Rattle.claim_law.specs.Asked.{MeetsKind, Meets, IsAsked}
+use Rattle.claim_law.specs.Statements.{EachStmt, AsksSet, MeetsInst}
+use Rattle.claim_law.proofs.Spell.Statements.{MeetsOne, MeetEach, insts-use}
 use Rattle.typed_law.specs.Conforms.{IsConforming}
 use Rattle.typed_law.proofs.Lists.{some_part}
 use Rattle.typed_law.proofs.Values.{inside, has_a_type, typed_result}
 use Rattle.typed_law.proofs.Others.{typed_some}
 use Rattle.claim_law.specs.Claimed.{IsIn, HasName}
-use Rattle.claim_law.proofs.Listed.{in_flat, at_place}
-use Rattle.claim_law.proofs.Told.{axes_told}
+use Rattle.claim_law.proofs.Claim.Listed.{in_flat, at_place}
+use Rattle.claim_law.proofs.Claim.Told.{axes_told}
 use Rattle.grammar_law.specs.Mentioned.{IsMentioned, IsValueIn}
 use Rattle.grammar_law.specs.Words.{is_struct_key, words_of, AreOfStructs}
 use Rattle.grammar_law.specs.Types.{IsLengthOf}
-use Rattle.claim_law.proofs.Constants.{found_in}
+use Rattle.claim_law.proofs.Claim.Constants.{found_in}
 use Rattle.grammar_law.proofs.Unit.Lists.{as_among}
 use Rattle.grammar_law.proofs.Unit.Links.{placed_in}
 use Rattle.grammar_law.proofs.Unit.Shaped.{shaped_value}

@@ -48,15 +48,15 @@ use Rattle.expr_forward.specs.declared.kinds.InstKind.TheVariants as kind
 use Rattle.function_text.specs.Functions.{FunctionPlan}
 use Rattle.unit_rules.specs.Translation.{Naming, id_text}
 use Rattle.unit_rules.specs.Unit.{source_of, IsUnitOf}
-use Rattle.spell_law.specs.Uses.{Words, UsesExtent}
-use Rattle.spell_law.specs.Statements.{AsksSet, AsksArgument, AskArguments, MeetsInst}
+use Rattle.claim_law.specs.Uses.{Words, UsesExtent}
+use Rattle.claim_law.specs.Statements.{AsksSet, AsksArgument, AskArguments, MeetsInst}
 use Rattle.typed_law.specs.Conforms.{IsConforming}
 use Rattle.typed_law.proofs.Lists.{or_left, or_right}
 use Rattle.typed_law.proofs.Types.{pointee_shaped}
 use Rattle.typed_law.proofs.Values.{same_count, IsRow, HasType, same_type, typed_value, typed_result, inside, value_type_has}
 use Rattle.typed_law.proofs.Others.{typed_some}
 use Rattle.claim_law.specs.Claimed.{IsIn}
-use Rattle.claim_law.proofs.Listed.{in_flat, at_place}
+use Rattle.claim_law.proofs.Claim.Listed.{in_flat, at_place}
 use Rattle.grammar_law.specs.Mentioned.{IsMentioned, IsValueIn}
 use Rattle.grammar_law.specs.Words.{words_of, AreOfStructs}
 use Rattle.grammar_law.specs.Types.{IsLengthOf}

@@ -45,18 +45,18 @@ use Rattle.fits_law.specs.State.{value_shape}
 use Rattle.op_semantics.specs.Fits.{elem_tree}
 use Rattle.fits_law.specs.Takes.{numbers, Has, Takes, Alike, OfOne, OfTwo, OfThree, shape_at}
 use Rattle.fits_law.specs.Typed.{HaveShapes}
-use Rattle.spell_law.specs.Uses.{Words, UsesExtent}
-use Rattle.spell_law.specs.Named.{CanCopy, AsksIfAny}
-use Rattle.spell_law.specs.Asked.{MeetsKind}
-use Rattle.spell_law.specs.Blocks.{FitWords}
-use Rattle.spell_law.specs.Statements.{MeetsInst}
+use Rattle.claim_law.specs.Uses.{Words, UsesExtent}
+use Rattle.claim_law.specs.Named.{CanCopy, AsksIfAny}
+use Rattle.claim_law.specs.Asked.{MeetsKind}
+use Rattle.claim_law.specs.Blocks.{FitWords}
+use Rattle.claim_law.specs.Statements.{MeetsInst}
 use Rattle.typed_law.specs.Conforms.{IsConforming}
 use Rattle.typed_law.proofs.Rules.{operand_there, value_right, number_right}
 use Rattle.typed_law.proofs.Values.{inside, typed_result}
 use Rattle.typed_law.proofs.Operations.{Facts, given_by}
 use Rattle.typed_law.proofs.Others.{typed_some}
 use Rattle.claim_law.specs.Claimed.{IsIn}
-use Rattle.claim_law.proofs.Listed.{in_flat, at_place}
+use Rattle.claim_law.proofs.Claim.Listed.{in_flat, at_place}
 use Rattle.grammar_law.specs.Mentioned.{IsValueIn}
 use Rattle.grammar_law.specs.Words.{words_of, AreOfStructs}
 use Rattle.grammar_law.specs.Types.{IsLengthOf}

@@ -40,13 +40,13 @@ use Rattle.unit_rules.specs.Translation.{Naming, id_text}
 use Rattle.unit_rules.specs.Unit.{liveness_of, live_of, source_of, IsUnitOf}
 use Rattle.list_law.proofs.Lists.{behind_first}
 use Rattle.list_law.proofs.Numbers.{number_same}
-use Rattle.spell_law.specs.Uses.{Words, UsesExpr}
+use Rattle.claim_law.specs.Uses.{Words, UsesExpr}
 use Rattle.typed_law.specs.Conforms.{IsConforming}
 use Rattle.typed_law.proofs.Lists.{some_part}
 use Rattle.claim_law.specs.Claimed.{IsIn, HasName}
 use Rattle.claim_law.specs.Told.{built_ins, is_among}
-use Rattle.claim_law.proofs.Listed.{in_flat, in_mapped, any_in, at_place}
-use Rattle.claim_law.proofs.Constants.{found_in, constant_named}
+use Rattle.claim_law.proofs.Claim.Listed.{in_flat, in_mapped, any_in, at_place}
+use Rattle.claim_law.proofs.Claim.Constants.{found_in, constant_named}
 use Rattle.grammar_law.specs.Mentioned.{IsMentioned, IsCaptured}
 use Rattle.grammar_law.specs.Words.{words_of, AreOfStructs}
 use Rattle.grammar_law.proofs.Unit.Lists.{at_some, as_among, numbered_first, in_filter}

@@ -41,11 +41,11 @@ use Rattle.expr_forward.specs.Statements.{callee_text}
 use Rattle.function_text.specs.Functions.{FunctionPlan}
 use Rattle.unit_rules.specs.Translation.{id_text}
 use Rattle.unit_rules.specs.Unit.{source_of, IsUnitOf}
-use Rattle.spell_law.specs.Uses.{Words, UsesExpr, UsesExtent}
+use Rattle.claim_law.specs.Uses.{Words, UsesExpr, UsesExtent}
 use Rattle.typed_law.specs.Conforms.{IsConforming}
 use Rattle.typed_law.proofs.Calls.{variable_typed}
 use Rattle.claim_law.specs.Claimed.{IsIn, HasName}
-use Rattle.claim_law.proofs.Listed.{in_flat, at_place}
+use Rattle.claim_law.proofs.Claim.Listed.{in_flat, at_place}
 use Rattle.grammar_law.specs.Mentioned.{IsMentioned, IsCaptured}
 use Rattle.grammar_law.specs.Words.{words_of, AreOfStructs}
 use Rattle.grammar_law.specs.Types.{IsLengthOf}

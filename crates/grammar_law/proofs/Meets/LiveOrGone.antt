@@ -43,7 +43,7 @@ use Rattle.typed_law.specs.Conforms.{IsConforming}
 use Rattle.typed_law.proofs.Lists.{clash}
 use Rattle.typed_law.proofs.Values.{inside}
 use Rattle.claim_law.specs.Claimed.{IsIn}
-use Rattle.claim_law.proofs.Listed.{in_flat, in_mapped, at_place}
+use Rattle.claim_law.proofs.Claim.Listed.{in_flat, in_mapped, at_place}
 use Rattle.grammar_law.proofs.Unit.Lists.{some_length, at_some, contained, of_contained, numbered_first, in_filter, of_filter, of_numbered_first, as_among}
 use Rattle.grammar_law.proofs.Unit.Forms.{placed, is_placed, made_by, form_at}
 use Rattle.grammar_law.proofs.Unit.Ways.{HaveKinds, F, R, V, plan_is, ordered, in_module}

@@ -25,12 +25,12 @@ use Rattle.unit_rules.specs.Translation.{Naming, id_text}
 use Rattle.unit_rules.specs.Unit.{source_of, IsUnitOf}
 use Rattle.list_law.proofs.Numbers.{number_same}
 use Rattle.fits_law.specs.Takes.{nth_of, Alike, AllAlike}
-use Rattle.spell_law.specs.Uses.{Words, UsesExtent}
-use Rattle.spell_law.specs.Named.{IsNamedType, CanCopy, CanCopyParts}
+use Rattle.claim_law.specs.Uses.{Words, UsesExtent}
+use Rattle.claim_law.specs.Named.{IsNamedType, CanCopy, CanCopyParts}
 use Rattle.typed_law.specs.Conforms.{IsConforming}
 use Rattle.typed_law.proofs.Used.{global_found}
 use Rattle.claim_law.specs.Claimed.{IsIn, HasName}
-use Rattle.claim_law.proofs.Told.{named_is}
+use Rattle.claim_law.proofs.Claim.Told.{named_is}
 use Rattle.grammar_law.specs.Words.{words_of}
 use Rattle.grammar_law.specs.Types.{IsLengthOf, IsStructOf, IsOfTypes, AreOfTypes}
 use Rattle.grammar_law.proofs.Unit.Lists.{as_among}

@@ -41,13 +41,13 @@ use Rattle.function_text.specs.Live.{is_composite_type, is_composite}
 use Rattle.function_text.specs.Functions.{FunctionPlan}
 use Rattle.unit_rules.specs.Translation.{id_text}
 use Rattle.unit_rules.specs.Unit.{claims_by, source_of, IsUnitOf}
-use Rattle.spell_law.specs.Uses.{UsesExtent}
+use Rattle.claim_law.specs.Uses.{UsesExtent}
 use Rattle.typed_law.specs.Conforms.{IsConforming}
 use Rattle.typed_law.proofs.Lists.{some_part}
 use Rattle.typed_law.proofs.Used.{among_left, among_right as ids_right}
 use Rattle.typed_law.proofs.Values.{inside, typed_result, has_a_type, global_row, variable_type_is}
 use Rattle.claim_law.specs.Claimed.{IsIn, IsOf}
-use Rattle.claim_law.proofs.Constants.{found_in}
+use Rattle.claim_law.proofs.Claim.Constants.{found_in}
 use Rattle.grammar_law.specs.Mentioned.{IsMentioned, Stands, IsValueIn}
 use Rattle.grammar_law.specs.Words.{words_of, AreOfStructs}
 use Rattle.grammar_law.specs.Types.{IsLengthOf}

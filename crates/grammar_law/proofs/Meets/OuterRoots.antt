@@ -52,7 +52,7 @@ use Rattle.unit_rules.specs.Translation.{Naming, text_of, id_text}
 use Rattle.unit_rules.specs.Unit.{source_of, IsUnitOf}
 use Rattle.fits_law.specs.State.{element_shape}
 use Rattle.fits_law.proofs.Steps.{named}
-use Rattle.spell_law.specs.Uses.{Words}
+use Rattle.claim_law.specs.Uses.{Words}
 use Rattle.type_law.proofs.Rows.{by_kind as tree_kind}
 use Rattle.type_law.proofs.Parts.{struct_kind}
 use Rattle.type_law.proofs.Vectors.{three_off}
@@ -63,9 +63,9 @@ use Rattle.typed_law.proofs.Types.{row_is}
 use Rattle.typed_law.proofs.Values.{IsRow, inside, parameter_right, parameter_row}
 use Rattle.typed_law.proofs.Shapes.{row_of_shape}
 use Rattle.claim_law.specs.Claimed.{IsIn, HasName}
-use Rattle.claim_law.proofs.Constants.{found_in}
-use Rattle.claim_law.proofs.Variables.{variable_no_constant, written_in, variable_named}
-use Rattle.claim_law.proofs.Named.{parameter_named}
+use Rattle.claim_law.proofs.Claim.Constants.{found_in}
+use Rattle.claim_law.proofs.Claim.Variables.{variable_no_constant, written_in, variable_named}
+use Rattle.claim_law.proofs.Claim.Named.{parameter_named}
 use Rattle.grammar_law.specs.Words.{words_of, AreOfStructs}
 use Rattle.grammar_law.proofs.Unit.Lists.{as_among}
 use Rattle.grammar_law.proofs.Unit.Ways.{HaveKinds, F, V, written_is, in_module}

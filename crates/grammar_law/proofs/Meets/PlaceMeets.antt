@@ -49,8 +49,8 @@ use Rattle.function_text.specs.Functions.{FunctionPlan}
 use Rattle.unit_rules.specs.Translation.{Naming, id_text}
 use Rattle.unit_rules.specs.Unit.{source_of, IsUnitOf}
 use Rattle.fits_law.specs.State.{value_shape}
-use Rattle.spell_law.specs.Uses.{Words, UsesExpr, UsesExtent}
-use Rattle.spell_law.specs.Statements.{AsksSet, AsksOperand, MeetsInst}
+use Rattle.claim_law.specs.Uses.{Words, UsesExpr, UsesExtent}
+use Rattle.claim_law.specs.Statements.{AsksSet, AsksOperand, MeetsInst}
 use Rattle.typed_law.specs.Conforms.{IsConforming}
 use Rattle.typed_law.proofs.Lists.{or_left, or_right}
 use Rattle.typed_law.proofs.Rules.{value_right, number_right}
@@ -59,7 +59,7 @@ use Rattle.typed_law.proofs.Shapes.{shaped_type}
 use Rattle.typed_law.proofs.Operations.{four_off}
 use Rattle.typed_law.proofs.Others.{target_of, typed_some, as_store}
 use Rattle.claim_law.specs.Claimed.{IsIn}
-use Rattle.claim_law.proofs.Listed.{in_flat, at_place}
+use Rattle.claim_law.proofs.Claim.Listed.{in_flat, at_place}
 use Rattle.grammar_law.specs.Mentioned.{IsMentioned, IsValueIn}
 use Rattle.grammar_law.specs.Words.{words_of, AreOfStructs}
 use Rattle.grammar_law.specs.Types.{IsLengthOf}

@@ -32,11 +32,11 @@ use Rattle.glsl_ast.specs.Tree.{TranslationUnit}
 use Rattle.text_rules.specs.Printed.{has_operand, is_private, is_workgroup}
 use Rattle.function_text.specs.Functions.{FunctionPlan}
 use Rattle.unit_rules.specs.Unit.{IsUnitOf}
-use Rattle.path_law.specs.Chains.{NoneMakes}
+use Rattle.global_law.specs.Chains.{NoneMakes}
 use Rattle.typed_law.specs.Conforms.{IsConforming}
 use Rattle.typed_law.proofs.Lists.{some_part, and_left, and_right, and_off, or_left, or_right, none_at_fault}
 use Rattle.claim_law.specs.Claimed.{IsIn}
-use Rattle.claim_law.proofs.Listed.{in_flat, any_in, at_place}
+use Rattle.claim_law.proofs.Claim.Listed.{in_flat, any_in, at_place}
 use Rattle.grammar_law.specs.Mentioned.{IsLinked}
 use Rattle.grammar_law.specs.Words.{AreOfStructs}
 use Rattle.grammar_law.proofs.Unit.Lists.{as_among, in_block, numbered_first, as_parameter}

@@ -23,12 +23,12 @@ use Rattle.glsl_ast.specs.Tree.{TranslationUnit}
 use Rattle.function_text.specs.Functions.{FunctionPlan}
 use Rattle.unit_rules.specs.Unit.{IsUnitOf}
 use Rattle.list_law.proofs.Numbers.{same_number}
-use Rattle.path_law.specs.Chains.{NoneMakes}
+use Rattle.global_law.specs.Chains.{NoneMakes}
 use Rattle.typed_law.specs.Conforms.{IsConforming}
 use Rattle.typed_law.proofs.Lists.{some_part}
 use Rattle.typed_law.proofs.Values.{inside, has_a_type}
 use Rattle.claim_law.specs.Claimed.{IsIn}
-use Rattle.claim_law.proofs.Constants.{found_in}
+use Rattle.claim_law.proofs.Claim.Constants.{found_in}
 use Rattle.grammar_law.proofs.Unit.Lists.{found_by, as_in, as_among}
 use Rattle.grammar_law.proofs.Unit.Shaped.{pointer_none}
 use Rattle.grammar_law.proofs.Unit.Ways.{HaveKinds, F, in_module, own_type_of, mapped_some}

@@ -44,7 +44,7 @@ use Rattle.function_plan.specs.Phis.{is_gone}
 use Rattle.function_text.specs.Functions.{FunctionPlan, written}
 use Rattle.unit_rules.specs.Translation.{Naming, text_of, id_text}
 use Rattle.unit_rules.specs.Unit.{source_of, IsUnitOf, claims_by}
-use Rattle.spell_law.specs.Uses.{Words}
+use Rattle.claim_law.specs.Uses.{Words}
 use Rattle.text_rules.specs.Constants.{is_constant, constant_expr}
 use Rattle.typed_law.specs.Conforms.{IsConforming}
 use Rattle.typed_law.proofs.Lists.{or_right, and_off}
@@ -52,8 +52,8 @@ use Rattle.typed_law.proofs.Rules.{class_right}
 use Rattle.typed_law.proofs.Used.{among_left, among_right as ids_right}
 use Rattle.typed_law.proofs.Values.{inside, among_functions, typed_result}
 use Rattle.claim_law.specs.Claimed.{IsIn, IsOf}
-use Rattle.claim_law.proofs.Listed.{in_flat, at_place}
-use Rattle.claim_law.proofs.Variables.{variable_no_constant, written_in, variable_named}
+use Rattle.claim_law.proofs.Claim.Listed.{in_flat, at_place}
+use Rattle.claim_law.proofs.Claim.Variables.{variable_no_constant, written_in, variable_named}
 use Rattle.grammar_law.specs.Words.{words_of, AreOfStructs}
 use Rattle.grammar_law.proofs.Unit.Lists.{as_in, as_among}
 use Rattle.grammar_law.proofs.Unit.Ways.{HaveKinds, S, F, R, V, written_is, in_module, ordered, plan_is}

@@ -18,7 +18,7 @@ use Rattle.spv_module.specs.declared.inst.Block.{Block}
 use Rattle.spv_module.specs.declared.inst.Function.{Function}
 use Rattle.spv_index.specs.Locals.{insts_of}
 use Rattle.module_check.specs.ReadFrom.{IsReadFrom}
-use Rattle.spell_law.specs.Blocks.{FitWords}
+use Rattle.claim_law.specs.Blocks.{FitWords}
 use Rattle.typed_law.specs.Words.{AreAllWords, AreBytes}
 use Rattle.typed_law.proofs.LowValues.{drop_low}
 use Rattle.typed_law.proofs.OfWords.{words_of_bytes, take_low}

@@ -14,7 +14,7 @@ use Rattle.hoist_plan.specs.Plan.{Placed, user, is_elsewhere_by, carries_by, car
 use Rattle.list_law.proofs.Numbers.{same_number, number_same}
 use Rattle.plan_law.specs.Ordered.{NoOperand, NoneMentioned, AreOrdered}
 use Rattle.claim_law.specs.Claimed.{IsIn}
-use Rattle.claim_law.proofs.Listed.{any_in}
+use Rattle.claim_law.proofs.Claim.Listed.{any_in}
 use Rattle.grammar_law.proofs.Unit.Lists.{split_at}
 use Rattle.grammar_law.proofs.Unit.Carried.{carried_on}
 

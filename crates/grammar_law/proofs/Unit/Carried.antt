@@ -32,7 +32,7 @@ use Rattle.plan_law.specs.Ordered.{AreOrdered}
 use Rattle.plan_law.proofs.Order.{in_order}
 use Rattle.typed_law.specs.Conforms.{IsConforming}
 use Rattle.claim_law.specs.Claimed.{IsIn}
-use Rattle.claim_law.proofs.Listed.{any_in}
+use Rattle.claim_law.proofs.Claim.Listed.{any_in}
 use Rattle.grammar_law.specs.Mentioned.{IsLinked}
 use Rattle.grammar_law.specs.Words.{words_of, AreOfStructs}
 use Rattle.grammar_law.proofs.Unit.Lists.{split_at}

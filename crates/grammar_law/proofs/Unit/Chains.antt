@@ -29,14 +29,14 @@ use Rattle.expr_forward.specs.Paths.{base_text, step_text, steps_text, place_tex
 use Rattle.unit_rules.specs.Unit.{IsUnitOf}
 use Rattle.name_alloc.specs.Naming.{name_of}
 use Rattle.list_law.proofs.Tests.{and_off}
-use Rattle.spell_law.specs.Uses.{Words, UseSteps, UsesLValue}
+use Rattle.claim_law.specs.Uses.{Words, UseSteps, UsesLValue}
 use Rattle.type_law.proofs.Chains.{HaveTypes}
 use Rattle.type_law.proofs.Choices.{same_count}
 use Rattle.type_law.proofs.Vectors.{three_off}
 use Rattle.type_law.proofs.Parts.{row}
 use Rattle.agree_law.specs.Blocks.{IsOf}
-use Rattle.path_law.specs.Chains.{ChainsRise, NoneMakes}
-use Rattle.path_law.proofs.Ways.{start_way, chain_way}
+use Rattle.global_law.specs.Chains.{ChainsRise, NoneMakes}
+use Rattle.global_law.proofs.Path.Ways.{start_way, chain_way}
 use Rattle.typed_law.specs.Conforms.{IsConforming}
 use Rattle.grammar_law.specs.Words.{words_of}
 use Rattle.grammar_law.proofs.Unit.Parts.{Here}

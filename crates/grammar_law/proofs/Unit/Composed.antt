@@ -31,9 +31,9 @@ use Rattle.text_rules.specs.Printed.{is_written_struct}
 use Rattle.text_rules.specs.Declarations.{length_extent}
 use Rattle.fits_law.specs.State.{value_shape}
 use Rattle.fits_law.specs.Takes.{shape_at}
-use Rattle.spell_law.specs.Blocks.{FitWords}
-use Rattle.spell_law.specs.Uses.{Words, UsesExtent}
-use Rattle.spell_law.specs.Statements.{MeetsInst}
+use Rattle.claim_law.specs.Blocks.{FitWords}
+use Rattle.claim_law.specs.Uses.{Words, UsesExtent}
+use Rattle.claim_law.specs.Statements.{MeetsInst}
 use Rattle.typed_law.specs.Conforms.{IsConforming}
 use Rattle.claim_law.specs.Claimed.{IsIn}
 use Rattle.grammar_law.specs.Mentioned.{IsValueIn}

@@ -22,7 +22,7 @@ use Rattle.plan_law.proofs.Heights.{form_is}
 use Rattle.typed_law.proofs.Lists.{or_left, or_right, and_off, clash}
 use Rattle.typed_law.proofs.Values.{same_count}
 use Rattle.claim_law.specs.Claimed.{IsIn}
-use Rattle.claim_law.proofs.Listed.{in_flat}
+use Rattle.claim_law.proofs.Claim.Listed.{in_flat}
 use Rattle.grammar_law.specs.Mentioned.{Stands}
 use Rattle.grammar_law.proofs.Unit.Lists.{split_at, numbered_first, of_numbered_first, none_passes, some_length, of_flat}
 

@@ -30,7 +30,7 @@ use Rattle.typed_law.proofs.Lists.{or_left, clash, earlier_some}
 use Rattle.typed_law.proofs.Rules.{used_type}
 use Rattle.typed_law.proofs.Used.{among_left, among_right, struct_part}
 use Rattle.claim_law.specs.Claimed.{IsIn}
-use Rattle.claim_law.proofs.Constants.{found_in}
+use Rattle.claim_law.proofs.Claim.Constants.{found_in}
 use Rattle.grammar_law.proofs.Unit.Lists.{as_among}
 use Rattle.grammar_law.proofs.Unit.Types.{array_op, struct_op}
 

@@ -31,12 +31,12 @@ use Rattle.unit_rules.specs.Unit.{IsUnitOf}
 use Rattle.list_law.proofs.Numbers.{number_same}
 use Rattle.type_law.proofs.Vectors.{three_off}
 use Rattle.type_law.proofs.Chains.{HaveTypes}
-use Rattle.spell_law.specs.Uses.{Words, UsesExpr}
+use Rattle.claim_law.specs.Uses.{Words, UsesExpr}
 use Rattle.typed_law.specs.Conforms.{IsConforming}
 use Rattle.typed_law.proofs.Lists.{or_left, or_right}
 use Rattle.typed_law.proofs.Values.{passing, int_shaped}
 use Rattle.claim_law.specs.Claimed.{IsIn}
-use Rattle.claim_law.proofs.Constants.{found_in}
+use Rattle.claim_law.proofs.Claim.Constants.{found_in}
 use Rattle.grammar_law.specs.Words.{is_struct_key, words_of, AreOfStructs}
 use Rattle.grammar_law.proofs.Unit.Lists.{as_among}
 use Rattle.grammar_law.proofs.Unit.Ways.{HaveKinds, F, V, in_module, local_outside}

@@ -34,12 +34,12 @@ use Rattle.unit_rules.specs.Unit.{claims_by, IsUnitOf}
 pub use Rattle.list_law.proofs.Lists.{behind_first as dropped}
 use Rattle.list_law.proofs.Tests.{or_left}
 use Rattle.fits_law.specs.State.{value_shape, target_shape}
-use Rattle.spell_law.specs.Uses.{Words, UsesExpr}
-use Rattle.spell_law.specs.Statements.{AskKept, MeetsInst}
+use Rattle.claim_law.specs.Uses.{Words, UsesExpr}
+use Rattle.claim_law.specs.Statements.{AskKept, MeetsInst}
 use Rattle.typed_law.specs.Conforms.{IsConforming}
 use Rattle.claim_law.specs.Claimed.{IsIn, IsOf}
-use Rattle.claim_law.proofs.Listed.{in_mapped, at_place}
-use Rattle.claim_law.proofs.Named.{captured_named}
+use Rattle.claim_law.proofs.Claim.Listed.{in_mapped, at_place}
+use Rattle.claim_law.proofs.Claim.Named.{captured_named}
 use Rattle.grammar_law.specs.Mentioned.{IsValueIn}
 use Rattle.grammar_law.specs.Words.{words_of, AreOfStructs}
 use Rattle.grammar_law.proofs.Unit.Lists.{in_filter, numbered_first, of_filter, of_numbered_first}

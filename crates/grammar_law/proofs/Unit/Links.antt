@@ -16,7 +16,7 @@ use Rattle.hoist_plan.specs.Plan.{user, mention_block, mentions_of}
 use Rattle.list_law.proofs.Numbers.{number_same}
 use Rattle.typed_law.proofs.Lists.{some_part}
 use Rattle.claim_law.specs.Claimed.{IsIn}
-use Rattle.claim_law.proofs.Listed.{in_flat, in_mapped, at_place}
+use Rattle.claim_law.proofs.Claim.Listed.{in_flat, in_mapped, at_place}
 use Rattle.grammar_law.specs.Mentioned.{IsMentioned, IsLinked}
 use Rattle.grammar_law.proofs.Unit.Lists.{at_some, contained, numbered_first, in_filter}
 

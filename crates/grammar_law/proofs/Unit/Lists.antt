@@ -13,7 +13,7 @@ use Rattle.plan_law.specs.InOrder.{IsAmong}
 use Rattle.typed_law.specs.Conforms.{IsParameter}
 use Rattle.typed_law.proofs.Lists.{clash}
 use Rattle.claim_law.specs.Claimed.{IsIn}
-use Rattle.claim_law.proofs.Listed.{numbered, any_in}
+use Rattle.claim_law.proofs.Claim.Listed.{numbered, any_in}
 
 -- at a place, and between others
 pub at_some : {A : Type 0} (xs : List A) (x : A) → IsIn x xs → (k : ℕ) × (slice_get xs k ≡ Some x)

@@ -31,11 +31,11 @@ use Rattle.expr_forward.specs.Scope.{Scope, globals}
 use Rattle.expr_forward.specs.Values.{value_words}
 use Rattle.function_text.specs.Functions.{FunctionPlan}
 use Rattle.unit_rules.specs.Unit.{IsUnitOf}
-use Rattle.block_law.specs.Ranked.{ids_by_kind, operand_ids}
-use Rattle.spell_law.specs.Uses.{Words}
-use Rattle.spell_law.specs.Named.{FitsShape, IsNamedType, Asks, AsksIfAny}
-use Rattle.spell_law.specs.Asked.{AreUsable, AsksOf, MeetsKind}
-use Rattle.spell_law.proofs.Values.{basic-fits}
+use Rattle.claim_law.specs.Ranked.{ids_by_kind, operand_ids}
+use Rattle.claim_law.specs.Uses.{Words}
+use Rattle.claim_law.specs.Named.{FitsShape, IsNamedType, Asks, AsksIfAny}
+use Rattle.claim_law.specs.Asked.{AreUsable, AsksOf, MeetsKind}
+use Rattle.claim_law.proofs.Spell.Values.{basic-fits}
 use Rattle.typed_law.specs.Conforms.{IsConforming}
 use Rattle.claim_law.specs.Claimed.{IsIn}
 use Rattle.grammar_law.specs.Mentioned.{IsValueIn}

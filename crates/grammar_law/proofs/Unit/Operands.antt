@@ -35,7 +35,7 @@ use Rattle.expr_forward.specs.declared.kinds.OperationKind.{OperationKind}
 use Rattle.expr_forward.specs.declared.kinds.OperationKind.TheVariants as kind
 use Rattle.expr_forward.specs.Kinds.{kind_of, operation_kind_of}
 use Rattle.expr_forward.specs.Values.{value_words}
-use Rattle.block_law.specs.Ranked.{ids_by_kind, operand_ids}
+use Rattle.claim_law.specs.Ranked.{ids_by_kind, operand_ids}
 use Rattle.fits_law.specs.State.{value_shape}
 use Rattle.fits_law.specs.Typed.{HaveShapes}
 use Rattle.typed_law.specs.Conforms.{IsConforming}
@@ -45,7 +45,7 @@ use Rattle.typed_law.proofs.Values.{inside}
 use Rattle.typed_law.proofs.Operations.{Facts, given_by, behind_second}
 pub use Rattle.typed_law.proofs.Operations.{behind_second as not_one}
 use Rattle.claim_law.specs.Claimed.{IsIn}
-use Rattle.claim_law.proofs.Listed.{any_in}
+use Rattle.claim_law.proofs.Claim.Listed.{any_in}
 use Rattle.grammar_law.specs.Mentioned.{IsMentioned}
 use Rattle.grammar_law.proofs.Unit.Kept.{shaped_type}
 

@@ -35,16 +35,16 @@ use Rattle.expr_forward.specs.Paths.{part_step_by, part_step, part_type_by, part
 use Rattle.unit_rules.specs.Translation.{Naming, text_of}
 use Rattle.unit_rules.specs.Unit.{source_of, IsUnitOf}
 use Rattle.list_law.proofs.Numbers.{number_same}
-use Rattle.spell_law.specs.Uses.{Words, UseSteps}
-use Rattle.spell_law.specs.Blocks.{FitWords}
+use Rattle.claim_law.specs.Uses.{Words, UseSteps}
+use Rattle.claim_law.specs.Blocks.{FitWords}
 use Rattle.fits_law.specs.Takes.{nth_of, part_shape, shape_at}
 use Rattle.type_law.proofs.Parts.{earlier_is}
 use Rattle.type_law.proofs.Choices.{scalar_elem}
 use Rattle.typed_law.specs.Conforms.{IsConforming}
 use Rattle.typed_law.proofs.Used.{global_found}
 use Rattle.claim_law.specs.Claimed.{HasName}
-use Rattle.claim_law.proofs.Constants.{found_in}
-use Rattle.claim_law.proofs.Told.{named_is, axes_told}
+use Rattle.claim_law.proofs.Claim.Constants.{found_in}
+use Rattle.claim_law.proofs.Claim.Told.{named_is, axes_told}
 use Rattle.grammar_law.specs.Words.{words_of}
 use Rattle.grammar_law.proofs.Unit.Lists.{as_among}
 use Rattle.grammar_law.proofs.Unit.Types.{struct_op}

@@ -40,9 +40,9 @@ use Rattle.list_law.proofs.Numbers.{number_same}
 use Rattle.list_law.proofs.Tests.{first_by}
 use Rattle.plan_law.specs.Ordered.{AreOrdered}
 use Rattle.plan_law.proofs.Order.{in_order}
-use Rattle.path_law.specs.Chains.{ChainsRise, NoneMakes}
+use Rattle.global_law.specs.Chains.{ChainsRise, NoneMakes}
 use Rattle.type_law.proofs.Chains.{HaveTypes}
-use Rattle.spell_law.specs.Uses.{Words, UsesExpr}
+use Rattle.claim_law.specs.Uses.{Words, UsesExpr}
 use Rattle.typed_law.specs.Conforms.{IsConforming}
 use Rattle.claim_law.specs.Claimed.{IsIn}
 use Rattle.grammar_law.specs.Mentioned.{IsMentioned, IsLinked, IsCaptured}

@@ -26,8 +26,8 @@ use Rattle.plan_law.proofs.Order.{found, in_order}
 use Rattle.plan_law.proofs.Heights.{forms_fall, form_low}
 use Rattle.typed_law.proofs.Lists.{some_of, clash}
 use Rattle.claim_law.specs.Claimed.{IsIn}
-use Rattle.claim_law.proofs.Listed.{in_flat, at_place}
-use Rattle.claim_law.proofs.Constants.{found_in}
+use Rattle.claim_law.proofs.Claim.Listed.{in_flat, at_place}
+use Rattle.claim_law.proofs.Claim.Constants.{found_in}
 use Rattle.grammar_law.specs.Mentioned.{IsMentioned}
 use Rattle.grammar_law.proofs.Unit.Lists.{split_at, found_by, found_some, two_split, as_among}
 use Rattle.grammar_law.proofs.Unit.Links.{mention_at, user_is, mention_stands}

@@ -57,7 +57,7 @@ use Rattle.type_law.proofs.Chains.{HaveTypes}
 use Rattle.type_law.proofs.Rows.{by_kind as tree_kind, vector_parts}
 use Rattle.type_law.proofs.Parts.{array_kind, runtime_kind, struct_kind, all_nth, row as type_row_at, earlier_is}
 use Rattle.grammar_law.proofs.Unit.CallTypes.{given_value}
-use Rattle.claim_law.proofs.Constants.{found_in}
+use Rattle.claim_law.proofs.Claim.Constants.{found_in}
 use Rattle.grammar_law.proofs.Unit.Lists.{found_by, as_among, as_parameter}
 use Rattle.grammar_law.proofs.Unit.Shaped.{other_none}
 use Rattle.grammar_law.proofs.Unit.Ways.{HaveKinds, own_type_of, mapped_some}

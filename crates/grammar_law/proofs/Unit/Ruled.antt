@@ -32,9 +32,9 @@ use Rattle.unit_rules.specs.Unit.{IsUnitOf}
 use Rattle.list_law.proofs.Lists.{index_get}
 use Rattle.type_law.proofs.Vectors.{three_off}
 use Rattle.plan_law.specs.InOrder.{IsAmong}
-use Rattle.path_law.specs.Chains.{ChainsRise, NoneMakes}
-use Rattle.path_law.proofs.Order.{chains_rise}
-use Rattle.spell_law.specs.Uses.{UsesExpr}
+use Rattle.global_law.specs.Chains.{ChainsRise, NoneMakes}
+use Rattle.global_law.proofs.Path.Order.{chains_rise}
+use Rattle.claim_law.specs.Uses.{UsesExpr}
 use Rattle.typed_law.specs.Conforms.{IsConforming}
 use Rattle.typed_law.proofs.Lists.{from_zero, at_least}
 use Rattle.typed_law.proofs.Rules.{operand_there, value_right, number_right}

@@ -42,13 +42,13 @@ use Rattle.glsl_grammar.specs.Read.{is_declared}
 use Rattle.text_rules.specs.Printed.{is_written_struct}
 use Rattle.text_rules.specs.Declarations.{length_extent}
 use Rattle.list_law.proofs.Numbers.{from_zero}
-use Rattle.spell_law.specs.Uses.{Words, UsesExpr, UsesExtent}
-use Rattle.spell_law.specs.Statements.{AsksSet, MeetsInst}
+use Rattle.claim_law.specs.Uses.{Words, UsesExpr, UsesExtent}
+use Rattle.claim_law.specs.Statements.{AsksSet, MeetsInst}
 use Rattle.typed_law.specs.Conforms.{IsConforming}
 use Rattle.claim_law.specs.Claimed.{IsIn, IsOf, HasName}
-use Rattle.claim_law.proofs.Told.{named_is}
-use Rattle.claim_law.proofs.Listed.{in_flat, at_place}
-use Rattle.claim_law.proofs.Named.{result_named}
+use Rattle.claim_law.proofs.Claim.Told.{named_is}
+use Rattle.claim_law.proofs.Claim.Listed.{in_flat, at_place}
+use Rattle.claim_law.proofs.Claim.Named.{result_named}
 use Rattle.grammar_law.specs.Mentioned.{IsMentioned, IsValueIn}
 use Rattle.grammar_law.specs.Words.{is_struct_key, words_of, AreOfStructs}
 use Rattle.grammar_law.specs.Types.{IsLengthOf}

@@ -43,15 +43,15 @@ use Rattle.unit_rules.specs.Unit.{IsUnitOf}
 use Rattle.list_law.proofs.Numbers.{less_of, number_same}
 use Rattle.list_law.proofs.Lists.{index_get}
 pub use Rattle.list_law.proofs.Lists.{index_get as at_index}
-use Rattle.spell_law.specs.Uses.{Words, UsesExpr, UseSteps}
+use Rattle.claim_law.specs.Uses.{Words, UsesExpr, UseSteps}
 use Rattle.fits_law.specs.State.{element_shape}
 use Rattle.type_law.proofs.Parts.{row, all_nth}
 use Rattle.type_law.proofs.Places.{part_leads}
-use Rattle.path_law.proofs.Types.{op_of, declared_as, is_struct_shape, struct_by, struct_number}
+use Rattle.global_law.proofs.Path.Types.{op_of, declared_as, is_struct_shape, struct_by, struct_number}
 use Rattle.typed_law.specs.Conforms.{IsConforming}
 use Rattle.typed_law.proofs.Used.{global_found}
 use Rattle.claim_law.specs.Claimed.{HasName}
-use Rattle.claim_law.proofs.Told.{named_is, axes_told}
+use Rattle.claim_law.proofs.Claim.Told.{named_is, axes_told}
 use Rattle.grammar_law.specs.Words.{words_of}
 use Rattle.grammar_law.proofs.Unit.Lists.{as_among}
 use Rattle.grammar_law.proofs.Unit.Types.{of_types}

@@ -26,13 +26,13 @@ use Rattle.text_rules.specs.Printed.{Reached, has_struct, pointee_or_self, type_
 use Rattle.unit_rules.specs.Translation.{Naming, id_text, names_of}
 use Rattle.unit_rules.specs.Unit.{reached_of, source_of, IsUnitOf}
 use Rattle.list_law.proofs.Numbers.{number_same}
-use Rattle.spell_law.specs.Uses.{Words, UsesExtent, UsesType, UsesExpr}
+use Rattle.claim_law.specs.Uses.{Words, UsesExtent, UsesType, UsesExpr}
 use Rattle.typed_law.specs.Conforms.{IsConforming}
 use Rattle.claim_law.specs.Claimed.{IsIn, HasName}
-use Rattle.claim_law.proofs.Listed.{any_in}
-use Rattle.claim_law.proofs.Keys.{struct_claimed, member_claimed}
-use Rattle.claim_law.proofs.Named.{Plans, has_name_of}
-use Rattle.claim_law.proofs.Told.{named_is}
+use Rattle.claim_law.proofs.Claim.Listed.{any_in}
+use Rattle.claim_law.proofs.Claim.Keys.{struct_claimed, member_claimed}
+use Rattle.claim_law.proofs.Claim.Named.{Plans, has_name_of}
+use Rattle.claim_law.proofs.Claim.Told.{named_is}
 use Rattle.grammar_law.specs.Types.{IsLengthOf}
 use Rattle.grammar_law.specs.Words.{words_of}
 use Rattle.grammar_law.proofs.Unit.Types.{AreNamedIn, type_uses, zero_at_uses}

@@ -19,11 +19,11 @@ use Rattle.nest_place.proofs.Outward.{reached_inside}
 use Rattle.block_graph.proofs.Within.{graph_sized}
 use Rattle.function_law.proofs.Nodes.{node_is}
 use Rattle.plan_law.specs.InOrder.{IsAmong}
-use Rattle.spell_law.specs.Blocks.{FitWords}
+use Rattle.claim_law.specs.Blocks.{FitWords}
 use Rattle.typed_law.specs.Conforms.{IsFormed}
 use Rattle.claim_law.specs.Claimed.{IsIn}
-use Rattle.claim_law.proofs.Listed.{in_flat, at_place}
-use Rattle.claim_law.proofs.Flags.{at_inside}
+use Rattle.claim_law.proofs.Claim.Listed.{in_flat, at_place}
+use Rattle.claim_law.proofs.Claim.Flags.{at_inside}
 use Rattle.grammar_law.specs.Switches.{IsSwitchAt}
 use Rattle.grammar_law.proofs.Unit.Lists.{found_by, as_among}
 

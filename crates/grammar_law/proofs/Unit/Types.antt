@@ -27,11 +27,11 @@ use Rattle.text_rules.specs.Outlines.{outline}
 use Rattle.text_rules.specs.Printed.{has_struct, have_struct}
 use Rattle.text_rules.specs.Types.{Spelling, vector_base, with_extent, type_text, zero_elem, times, zero_text, zero_texts}
 use Rattle.list_law.proofs.Numbers.{number_same}
-use Rattle.spell_law.specs.Uses.{Words, UsesExtent, UsesBase, UsesType, UsesExpr, UseExprs}
-use Rattle.global_law.proofs.Declared.{outline_same}
+use Rattle.claim_law.specs.Uses.{Words, UsesExtent, UsesBase, UsesType, UsesExpr, UseExprs}
+use Rattle.global_law.proofs.Global.Declared.{outline_same}
 use Rattle.typed_law.proofs.Lists.{earlier_some}
 use Rattle.claim_law.specs.Claimed.{IsIn}
-use Rattle.claim_law.proofs.Constants.{found_in}
+use Rattle.claim_law.proofs.Claim.Constants.{found_in}
 use Rattle.grammar_law.specs.Types.{IsLengthOf, IsOfTypes, AreOfTypes}
 
 pub array_op : (o : Op) → kind o ≡ kinds.Array → is o code.TypeArray ≡ true

@@ -19,7 +19,7 @@ use Rattle.function_text.specs.Functions.{FunctionPlan, written, is_hoisted}
 use Rattle.function_text.specs.Live.{is_composite, is_wanted, has_type_written, types_of, in_block}
 use Rattle.unit_rules.specs.Unit.{claims_by, liveness_of, live_of, source_of, IsUnitOf}
 use Rattle.claim_law.specs.Claimed.{IsIn, IsOf}
-use Rattle.claim_law.proofs.Listed.{in_left, in_right, in_flat, in_mapped}
+use Rattle.claim_law.proofs.Claim.Listed.{in_left, in_right, in_flat, in_mapped}
 use Rattle.grammar_law.proofs.Unit.Lists.{numbered_first, in_filter}
 use Rattle.grammar_law.proofs.Unit.Structs.{Written}
 

@@ -22,11 +22,11 @@ use Rattle.expr_forward.specs.Kinds.{kind_of, operation_kind_of}
 use Rattle.expr_forward.specs.Scope.{Scope}
 use Rattle.function_text.specs.Functions.{FunctionPlan}
 use Rattle.unit_rules.specs.Unit.{IsUnitOf}
-use Rattle.block_law.specs.Ranked.{operand_ids, AreBelow, IsForwardedBy}
-use Rattle.spell_law.specs.Asked.{AreRanked}
+use Rattle.claim_law.specs.Ranked.{operand_ids, AreBelow, IsForwardedBy}
+use Rattle.claim_law.specs.Asked.{AreRanked}
 use Rattle.typed_law.specs.Conforms.{IsConforming}
 use Rattle.claim_law.specs.Claimed.{IsIn, HasName}
-use Rattle.claim_law.proofs.Constants.{found_in}
+use Rattle.claim_law.proofs.Claim.Constants.{found_in}
 use Rattle.grammar_law.specs.Mentioned.{IsMentioned, IsValueIn}
 use Rattle.grammar_law.proofs.Unit.Lists.{as_among}
 use Rattle.grammar_law.proofs.Unit.Shaped.{shaped_value}

@@ -43,9 +43,9 @@ use Rattle.typed_law.specs.Conforms.{IsConforming}
 use Rattle.typed_law.proofs.Lists.{some_part, clash}
 use Rattle.typed_law.proofs.Values.{typed_result, has_a_type, variable_type_is, global_row, inside}
 use Rattle.claim_law.specs.Claimed.{IsIn, HasName}
-use Rattle.claim_law.proofs.Listed.{in_flat, at_place}
-use Rattle.claim_law.proofs.Constants.{found_in}
-use Rattle.claim_law.proofs.Named.{result_named, parameter_named}
+use Rattle.claim_law.proofs.Claim.Listed.{in_flat, at_place}
+use Rattle.claim_law.proofs.Claim.Constants.{found_in}
+use Rattle.claim_law.proofs.Claim.Named.{result_named, parameter_named}
 use Rattle.grammar_law.specs.Mentioned.{IsMentioned, Stands, IsValueIn}
 use Rattle.grammar_law.proofs.Unit.Lists.{contained, of_filter, found_by, as_among, as_parameter, in_block}
 use Rattle.grammar_law.proofs.Unit.Links.{as_linked, mention_at, own_block, placed_in, user_is, mention_stands, maker_live}

@@ -31,7 +31,7 @@ use Rattle.function_plan.specs.Orders.{order_of, order_by}
 use Rattle.list_law.proofs.Numbers.{number_same}
 use Rattle.region_law.specs.Leads.{In}
 use Rattle.tree_law.proofs.SwitchOrder.{in_list, list_in, in_range, order_is}
-use Rattle.spell_law.specs.Blocks.{IsTarget, HasLabel, FitWords, IsHereAt, IsEntered, GoesOn, IsWhole, IsWholeItem, AreWhole}
+use Rattle.claim_law.specs.Blocks.{IsTarget, HasLabel, FitWords, IsHereAt, IsEntered, GoesOn, IsWhole, IsWholeItem, AreWhole}
 use Rattle.grammar_law.specs.Switches.{IsSwitchAt, IsReached, Chooses, Leads, by_condition, by_selector}
 
 same_switch : (x : Terminator) → orders.is_switch x ≡ is_switch x

@@ -21,13 +21,13 @@ use Rattle.glsl_grammar.specs.InGrammar.{IsInGrammar}
 use Rattle.int_lowering.specs.declared.built_ins.BuiltIn.{BuiltIn}
 use Rattle.int_lowering.specs.Term.{built_in_name}
 use Rattle.expr_forward.specs.Statements.{atomic_name}
-use Rattle.spell_law.specs.Uses.{AreSpelledWords, AreDeclaredWords}
-use Rattle.spell_law.specs.Units.{UsesUnit}
-use Rattle.spell_law.proofs.Units.{unit-in-grammar}
+use Rattle.claim_law.specs.Uses.{AreSpelledWords, AreDeclaredWords}
+use Rattle.claim_law.specs.Units.{UsesUnit}
+use Rattle.claim_law.proofs.Spell.Units.{unit-in-grammar}
 use Rattle.typed_law.proofs.Lists.{clash}
 use Rattle.claim_law.specs.Told.{built_ins, is_among, told}
-use Rattle.claim_law.proofs.Told.{value_name, member_name, built_told, atomic_told}
-use Rattle.claim_law.proofs.Words.{given_is_name}
+use Rattle.claim_law.proofs.Claim.Told.{value_name, member_name, built_told, atomic_told}
+use Rattle.claim_law.proofs.Claim.Words.{given_is_name}
 use Rattle.grammar_law.specs.Words.{is_struct_key, IsOwnName, words_of, AreOfStructs}
 
 -- what GLSL has is a reserved word, or begins with a reserved prefix

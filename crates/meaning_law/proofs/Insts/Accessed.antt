@@ -42,12 +42,12 @@ use Rattle.agree_law.proofs.Machine.{machine}
 use Rattle.fits_law.specs.State.{value_shape, target_shape}
 use Rattle.fits_law.specs.Typed.{IsLoad, IsTyped}
 use Rattle.call_law.specs.Known.{is_parameter, IsFunctionOf, LendsWhole}
-use Rattle.path_law.specs.Chains.{AreLed, ChainsAreRight}
-use Rattle.path_law.specs.Parts.{shape_in, IsInput}
-use Rattle.path_law.specs.Walks.{writing, struct_names}
-use Rattle.path_law.proofs.Walks.{IsNoBlock}
-use Rattle.path_law.proofs.Accesses.{PointsTo}
-use Rattle.path_law.proofs.Asked.{load_met, store_met}
+use Rattle.global_law.specs.Chains.{AreLed, ChainsAreRight}
+use Rattle.global_law.specs.Parts.{shape_in, IsInput}
+use Rattle.global_law.specs.Walks.{writing, struct_names}
+use Rattle.global_law.proofs.Path.Walks.{IsNoBlock}
+use Rattle.global_law.proofs.Path.Accesses.{PointsTo}
+use Rattle.global_law.proofs.Path.Asked.{load_met, store_met}
 use Rattle.typed_law.specs.Conforms.{IsConforming}
 use Rattle.typed_law.proofs.Lists.{some_part}
 use Rattle.claim_law.specs.Claimed.{IsIn}

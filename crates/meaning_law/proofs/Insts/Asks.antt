@@ -59,7 +59,7 @@ use Rattle.agree_law.proofs.Machine.{machine}
 use Rattle.fits_law.specs.State.{value_shape}
 use Rattle.fits_law.specs.Typed.{IsOfWords, IsAtomic, IsLoad, IsTyped}
 use Rattle.call_law.specs.Known.{IsFunctionOf, LendsWhole}
-use Rattle.path_law.proofs.Based.{chain_op}
+use Rattle.global_law.proofs.Path.Based.{chain_op}
 use Rattle.plan_law.specs.InOrder.{IsAmong}
 use Rattle.plan_law.proofs.Order.{found}
 use Rattle.typed_law.specs.Conforms.{IsConforming, IsConformingIn}

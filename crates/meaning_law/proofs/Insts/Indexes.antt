@@ -46,7 +46,7 @@ use Rattle.call_law.specs.Known.{IsFunctionOf, LendsWhole}
 use Rattle.function_law.proofs.Selectors.{word_value}
 use Rattle.typed_law.specs.Conforms.{IsConforming}
 use Rattle.claim_law.specs.Claimed.{IsIn}
-use Rattle.claim_law.proofs.Listed.{any_in}
+use Rattle.claim_law.proofs.Claim.Listed.{any_in}
 use Rattle.grammar_law.proofs.Unit.Lists.{same_test, of_filter, of_numbered_first}
 use Rattle.grammar_law.proofs.Unit.Ways.{HaveKinds, plan_is}
 use Rattle.formed_law.specs.Formed.{IsFormedFunction}

@@ -18,10 +18,10 @@ use Rattle.agree_law.specs.Points.{Body}
 use Rattle.agree_law.proofs.Chains.{IsFree}
 use Rattle.plan_law.specs.InOrder.{IsAmong, AreRising, AreInOrder}
 use Rattle.plan_law.proofs.Order.{found}
-use Rattle.path_law.proofs.Based.{op_chain}
+use Rattle.global_law.proofs.Path.Based.{op_chain}
 use Rattle.typed_law.specs.Conforms.{IsFormed}
 use Rattle.claim_law.specs.Claimed.{IsIn}
-use Rattle.claim_law.proofs.Listed.{in_flat, at_place}
+use Rattle.claim_law.proofs.Claim.Listed.{in_flat, at_place}
 use Rattle.grammar_law.proofs.Unit.Lists.{as_among}
 use Rattle.formed_law.specs.Formed.{ArePlain, IsFormedBlock}
 use Rattle.formed_law.proofs.Blocks.{behind_is}

@@ -39,9 +39,9 @@ use Rattle.function_text.specs.Functions.{FunctionPlan, written, is_hoisted}
 use Rattle.unit_rules.specs.Unit.{IsUnitOf}
 use Rattle.agree_law.specs.Agree.{Naming}
 use Rattle.call_law.specs.Known.{is_parameter, IsFunctionOf, LendsWhole}
-use Rattle.path_law.specs.Parts.{shape_in}
-use Rattle.path_law.specs.Walks.{struct_names}
-use Rattle.path_law.proofs.Accesses.{shape_itself}
+use Rattle.global_law.specs.Parts.{shape_in}
+use Rattle.global_law.specs.Walks.{struct_names}
+use Rattle.global_law.proofs.Path.Accesses.{shape_itself}
 use Rattle.plan_law.specs.InOrder.{IsAmong}
 use Rattle.plan_law.proofs.Order.{found}
 use Rattle.typed_law.specs.Conforms.{IsConforming, IsConformingIn}
@@ -49,7 +49,7 @@ use Rattle.typed_law.proofs.Lists.{clash}
 use Rattle.typed_law.proofs.Values.{inside, own_type}
 use Rattle.ruled_law.proofs.Ruled.{contains_of}
 use Rattle.claim_law.specs.Claimed.{IsIn}
-use Rattle.claim_law.proofs.Listed.{any_in, numbered}
+use Rattle.claim_law.proofs.Claim.Listed.{any_in, numbered}
 use Rattle.grammar_law.proofs.Unit.Lists.{same_test, as_among}
 use Rattle.grammar_law.proofs.Unit.Forms.{unmade_gone}
 use Rattle.grammar_law.proofs.Unit.Ways.{HaveKinds, F, V, plan_is, written_is}

@@ -22,7 +22,7 @@ use Rattle.region_law.specs.Leads.{In}
 use Rattle.agree_law.specs.Blocks.{read_ids, reads}
 use Rattle.plan_law.specs.InOrder.{IsAmong, IsOwn, AreInOrder}
 use Rattle.plan_law.proofs.Order.{found, before_of}
-use Rattle.path_law.proofs.Based.{chain_op}
+use Rattle.global_law.proofs.Path.Based.{chain_op}
 use Rattle.typed_law.specs.Conforms.{IsFormed}
 use Rattle.typed_law.proofs.Rules.{operand_there}
 use Rattle.grammar_law.proofs.Unit.Operands.{has_id, has_of, dropped_at, among_slot, not_one, not_zero}

@@ -35,7 +35,7 @@ use Rattle.region_law.specs.Leads.{In}
 use Rattle.agree_law.specs.Agree.{Naming}
 use Rattle.agree_law.specs.Blocks.{IsOf, read_ids, reads, outcome, At}
 use Rattle.agree_law.specs.Points.{Body}
-use Rattle.block_law.specs.Ranked.{operand_ids}
+use Rattle.claim_law.specs.Ranked.{operand_ids}
 use Rattle.call_law.specs.Known.{IsFunctionOf, LendsWhole}
 use Rattle.plan_law.specs.InOrder.{IsAmong}
 use Rattle.typed_law.specs.Conforms.{IsConforming, IsConformingIn}

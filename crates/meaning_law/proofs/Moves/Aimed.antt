@@ -33,7 +33,7 @@ use Rattle.typed_law.proofs.Lists.{none_left, none_right, none_by, none_among}
 use Rattle.typed_law.proofs.Rules.{refused}
 use Rattle.typed_law.proofs.Others.{phi_group}
 use Rattle.claim_law.specs.Claimed.{IsIn}
-use Rattle.claim_law.proofs.Listed.{in_flat, in_mapped, at_place}
+use Rattle.claim_law.proofs.Claim.Listed.{in_flat, in_mapped, at_place}
 use Rattle.grammar_law.proofs.Unit.Lists.{test_same, at_some, in_filter, none_passes, numbered_first, as_among}
 use Rattle.function_law.proofs.Nodes.{node_is}
 use Rattle.formed_law.specs.Formed.{IsFormedFunction}

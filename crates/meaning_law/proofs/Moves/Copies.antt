@@ -34,7 +34,7 @@ use Rattle.unit_rules.specs.Translation.{text_of}
 use Rattle.unit_rules.specs.Unit.{IsUnitOf}
 use Rattle.agree_law.specs.Agree.{Naming}
 use Rattle.claim_law.specs.Claimed.{IsIn, HasName}
-use Rattle.claim_law.proofs.Named.{spare_named}
+use Rattle.claim_law.proofs.Claim.Named.{spare_named}
 use Rattle.edge_law.specs.Copies.{EdgeNames, source_text, move_text}
 use Rattle.naming_law.proofs.Keys.{names}
 use Rattle.safe_law.proofs.Flags.{planned}

@@ -61,8 +61,8 @@ use Rattle.typed_law.proofs.Values.{HasType, global_row, global_typed_some, vari
 use Rattle.typed_law.proofs.Shapes.{shaped_type}
 use Rattle.typed_law.proofs.Others.{typed_some, phi_group}
 use Rattle.claim_law.specs.Claimed.{IsIn, IsOf as IsPlacedIn}
-use Rattle.claim_law.proofs.Listed.{in_flat, in_mapped, at_place, any_in}
-use Rattle.claim_law.proofs.Constants.{found_in, mention_in}
+use Rattle.claim_law.proofs.Claim.Listed.{in_flat, in_mapped, at_place, any_in}
+use Rattle.claim_law.proofs.Claim.Constants.{found_in, mention_in}
 use Rattle.grammar_law.specs.Mentioned.{IsMentioned}
 use Rattle.grammar_law.proofs.Unit.Lists.{same_test, other_test, in_filter, none_passes, numbered_first, as_among}
 use Rattle.grammar_law.proofs.Unit.Links.{placed_in, mention_at, user_is, mention_stands}

@@ -49,7 +49,7 @@ use Rattle.global_law.specs.Sources.{chosen}
 use Rattle.typed_law.specs.Conforms.{IsConforming}
 use Rattle.claim_law.specs.Claimed.{IsIn}
 use Rattle.claim_law.specs.Apart.{AreOfKeys}
-use Rattle.claim_law.proofs.Listed.{any_in}
+use Rattle.claim_law.proofs.Claim.Listed.{any_in}
 use Rattle.grammar_law.proofs.Unit.Lists.{same_test, test_same, of_contained, of_filter}
 use Rattle.grammar_law.proofs.Unit.Ways.{HaveKinds, F, R, V, in_module, plan_is, ordered, written_is}
 use Rattle.formed_law.specs.Formed.{IsFormedFunction}

@@ -32,9 +32,9 @@ use Rattle.agree_law.specs.Points.{Body, behind}
 use Rattle.edge_law.specs.Copies.{EdgeNames, IsSource, IsRead}
 use Rattle.fits_law.specs.State.{value_shape}
 use Rattle.call_law.specs.Known.{IsFunctionOf, LendsWhole}
-use Rattle.path_law.specs.Parts.{shape_in}
-use Rattle.path_law.specs.Walks.{struct_names}
-use Rattle.path_law.proofs.Accesses.{shape_itself}
+use Rattle.global_law.specs.Parts.{shape_in}
+use Rattle.global_law.specs.Walks.{struct_names}
+use Rattle.global_law.proofs.Path.Accesses.{shape_itself}
 use Rattle.function_law.specs.Edges.{ArePhisOf}
 use Rattle.function_law.proofs.PhiSources.{all_phis}
 use Rattle.typed_law.specs.Conforms.{IsConforming}

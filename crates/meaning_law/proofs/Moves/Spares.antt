@@ -12,7 +12,7 @@ use Rattle.list_law.proofs.Tests.{clash}
 use Rattle.agree_law.specs.Agree.{Naming, IsOther}
 use Rattle.claim_law.specs.Claimed.{HasName}
 use Rattle.claim_law.specs.Apart.{IsOutside, AreOfKeys}
-use Rattle.claim_law.proofs.Apart.{flow_is_other}
+use Rattle.claim_law.proofs.Claim.Apart.{flow_is_other}
 use Rattle.edge_law.specs.Copies.{EdgeNames, SparesApart}
 
 -- what no name is: a text of zeros, of any length but none

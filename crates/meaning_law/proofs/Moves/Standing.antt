@@ -30,12 +30,12 @@ use Rattle.function_text.specs.Functions.{FunctionPlan}
 use Rattle.unit_rules.specs.Unit.{source_of, IsUnitOf}
 use Rattle.agree_law.specs.Agree.{Naming}
 use Rattle.fits_law.specs.State.{value_shape}
-use Rattle.path_law.specs.Parts.{shape_in}
-use Rattle.path_law.specs.Walks.{struct_names}
-use Rattle.path_law.proofs.Parts.{sized_lengths}
+use Rattle.global_law.specs.Parts.{shape_in}
+use Rattle.global_law.specs.Walks.{struct_names}
+use Rattle.global_law.proofs.Path.Parts.{sized_lengths}
 use Rattle.global_law.specs.Sources.{source_of as run_source}
 use Rattle.global_law.specs.Names.{IsDeclared}
-use Rattle.global_law.proofs.Declared.{named_type, outline_same}
+use Rattle.global_law.proofs.Global.Declared.{named_type, outline_same}
 use Rattle.typed_law.specs.Conforms.{IsConforming}
 use Rattle.claim_law.specs.Claimed.{IsIn}
 use Rattle.grammar_law.proofs.Unit.Ways.{HaveKinds, F, R, V, plan_is, written_is}

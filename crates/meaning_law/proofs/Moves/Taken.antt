@@ -24,7 +24,7 @@ use Rattle.fits_law.specs.State.{FrameFits}
 use Rattle.agree_law.specs.Blocks.{IsOf}
 use Rattle.type_law.specs.Shaped.{HaveResults, HasConstants}
 use Rattle.type_law.proofs.Constants.{constant_of}
-use Rattle.constant_law.proofs.Standing.{kind_constant}
+use Rattle.global_law.proofs.Constant.Standing.{kind_constant}
 use Rattle.function_law.specs.Edges.{AreConstants}
 
 -- an opcode whose results have values as constants is one of a constant

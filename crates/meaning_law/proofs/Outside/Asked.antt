@@ -19,10 +19,10 @@ use Rattle.type_law.specs.Shaped.{HasConstants}
 use Rattle.typed_law.specs.Conforms.{IsConforming}
 use Rattle.accepted_law.proofs.Accepted.{accepted_conforming}
 use Rattle.global_law.specs.Sources.{chosen}
-use Rattle.constant_law.specs.Items.{AreAsked}
-use Rattle.constant_law.proofs.Conforming.{spec_ids_are, sizes_conform}
+use Rattle.global_law.specs.Items.{AreAsked}
+use Rattle.global_law.proofs.Constant.Conforming.{spec_ids_are, sizes_conform}
 use Rattle.claim_law.specs.Claimed.{HasKey, HasName}
-use Rattle.claim_law.proofs.Named.{Plans, has_name_of}
+use Rattle.claim_law.proofs.Claim.Named.{Plans, has_name_of}
 use Rattle.item_law.proofs.Named.{have_names, constant_members}
 use Rattle.naming_law.proofs.Keys.{S, found as names_found, R}
 use Rattle.meaning_law.specs.Left.{IsLeftOfGlobals}

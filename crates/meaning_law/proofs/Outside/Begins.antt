@@ -42,14 +42,14 @@ use Rattle.typed_law.specs.Conforms.{IsConforming}
 use Rattle.typed_law.proofs.Lists.{found_in, some_by}
 use Rattle.typed_law.proofs.Used.{global_found}
 use Rattle.accepted_law.proofs.Accepted.{accepted_conforming}
-use Rattle.path_law.specs.Parts.{shape_in}
-use Rattle.path_law.specs.Walks.{struct_names}
-use Rattle.global_law.proofs.Blocks.{items_more}
-use Rattle.constant_law.specs.Items.{AreAsked}
-use Rattle.constant_law.proofs.Standing.{N as item_names, bytes_off}
-use Rattle.constant_law.proofs.Constants.{IsFunction, AreFunctions, first, last}
-use Rattle.constant_law.proofs.Variables.{among_here, functions_find, private_begins, private_valued}
-use Rattle.global_law.proofs.Privates.{items_find}
+use Rattle.global_law.specs.Parts.{shape_in}
+use Rattle.global_law.specs.Walks.{struct_names}
+use Rattle.global_law.proofs.Global.Blocks.{items_more}
+use Rattle.global_law.specs.Items.{AreAsked}
+use Rattle.global_law.proofs.Constant.Standing.{N as item_names, bytes_off}
+use Rattle.global_law.proofs.Constant.Constants.{IsFunction, AreFunctions, first, last}
+use Rattle.global_law.proofs.Constant.Variables.{among_here, functions_find, private_begins, private_valued}
+use Rattle.global_law.proofs.Global.Privates.{items_find}
 use Rattle.claim_law.specs.Claimed.{IsIn}
 use Rattle.grammar_law.proofs.Unit.Lists.{as_among}
 use Rattle.naming_law.specs.Names.{is_written_private}

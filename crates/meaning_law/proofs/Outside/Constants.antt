@@ -45,17 +45,17 @@ use Rattle.typed_law.specs.Conforms.{IsConforming}
 use Rattle.typed_law.proofs.Lists.{found_in}
 use Rattle.typed_law.proofs.Values.{typed_is, global_typed_some}
 use Rattle.accepted_law.proofs.Accepted.{accepted_conforming}
-use Rattle.path_law.specs.Parts.{shape_in}
-use Rattle.path_law.specs.Walks.{writing, struct_names, SaysIndex}
+use Rattle.global_law.specs.Parts.{shape_in}
+use Rattle.global_law.specs.Walks.{writing, struct_names, SaysIndex}
 use Rattle.global_law.specs.Sources.{chosen}
-use Rattle.global_law.proofs.Indexes.{word_number, literal_right}
+use Rattle.global_law.proofs.Global.Indexes.{word_number, literal_right}
 use Rattle.function_law.specs.Tops.{IsClear}
-use Rattle.constant_law.specs.Items.{AreAsked}
-use Rattle.constant_law.proofs.Valued.{IsValued, valued}
-use Rattle.constant_law.proofs.Within.{typed_constant}
-use Rattle.constant_law.proofs.Written.{no_pointee}
-use Rattle.constant_law.proofs.Standing.{any_among, scalar_fit, constant_op, declared_by}
-use Rattle.constant_law.proofs.Constants.{AreFunctions, IsReadHere, mentioned_needed, constants_say}
+use Rattle.global_law.specs.Items.{AreAsked}
+use Rattle.global_law.proofs.Constant.Valued.{IsValued, valued}
+use Rattle.global_law.proofs.Constant.Within.{typed_constant}
+use Rattle.global_law.proofs.Constant.Written.{no_pointee}
+use Rattle.global_law.proofs.Constant.Standing.{any_among, scalar_fit, constant_op, declared_by}
+use Rattle.global_law.proofs.Constant.Constants.{AreFunctions, IsReadHere, mentioned_needed, constants_say}
 use Rattle.fits_law.proofs.Steps.{named}
 use Rattle.naming_law.specs.Names.{is_outer_global, has_text}
 use Rattle.naming_law.proofs.Keys.{S, found as names_found, key as key_of, R, names as names_in}

@@ -55,19 +55,19 @@ use Rattle.typed_law.proofs.Lists.{or_right, and_off}
 use Rattle.typed_law.proofs.Rules.{initializer_right}
 use Rattle.typed_law.proofs.Values.{same_count}
 use Rattle.accepted_law.proofs.Accepted.{accepted_conforming}
-use Rattle.path_law.specs.Parts.{shape_in}
-use Rattle.path_law.specs.Walks.{struct_names}
-use Rattle.global_law.proofs.Blocks.{type_declared}
-use Rattle.global_law.proofs.Zeros.{HasZero, is_declared, zero_lengths, same_itself, zero_says}
+use Rattle.global_law.specs.Parts.{shape_in}
+use Rattle.global_law.specs.Walks.{struct_names}
+use Rattle.global_law.proofs.Global.Blocks.{type_declared}
+use Rattle.global_law.proofs.Global.Zeros.{HasZero, is_declared, zero_lengths, same_itself, zero_says}
 use Rattle.function_law.specs.Tops.{IsClear, SaysFirst}
-use Rattle.constant_law.specs.Items.{AreAsked}
-use Rattle.constant_law.proofs.Constants.{AreFunctions}
-use Rattle.constant_law.proofs.Types.{zero_declared}
+use Rattle.global_law.specs.Items.{AreAsked}
+use Rattle.global_law.proofs.Constant.Constants.{AreFunctions}
+use Rattle.global_law.proofs.Constant.Types.{zero_declared}
 use Rattle.list_law.proofs.Lists.{second_at}
-use Rattle.constant_law.proofs.Variables.{variable_id}
+use Rattle.global_law.proofs.Constant.Variables.{variable_id}
 use Rattle.claim_law.specs.Claimed.{IsIn}
-use Rattle.claim_law.proofs.Constants.{mention_in}
-use Rattle.claim_law.proofs.Listed.{in_mapped, any_in}
+use Rattle.claim_law.proofs.Claim.Constants.{mention_in}
+use Rattle.claim_law.proofs.Claim.Listed.{in_mapped, any_in}
 use Rattle.grammar_law.proofs.Unit.Lists.{same_test, numbered_first, in_filter}
 use Rattle.naming_law.proofs.Keys.{S, found as names_found, key as key_of, R, names as names_in}
 use Rattle.naming_law.proofs.Firsts.{no_phi}

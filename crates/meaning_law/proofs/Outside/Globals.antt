@@ -68,27 +68,27 @@ use Rattle.typed_law.proofs.Rules.{input_right}
 use Rattle.typed_law.proofs.Sized.{rising_low}
 use Rattle.typed_law.proofs.Used.{global_found}
 use Rattle.accepted_law.proofs.Accepted.{accepted_conforming}
-use Rattle.path_law.specs.Parts.{StructNames, HasMembersApart}
-use Rattle.path_law.specs.Laid.{HasLengths, HaveLengths}
-use Rattle.path_law.proofs.Parts.{sized_lengths}
-use Rattle.path_law.specs.Walks.{struct_names}
-use Rattle.path_law.specs.Starts.{IsPrivate, IsBuiltIn, IsShared, IsBlock}
+use Rattle.global_law.specs.Parts.{StructNames, HasMembersApart}
+use Rattle.global_law.specs.Laid.{HasLengths, HaveLengths}
+use Rattle.global_law.proofs.Path.Parts.{sized_lengths}
+use Rattle.global_law.specs.Walks.{struct_names}
+use Rattle.global_law.specs.Starts.{IsPrivate, IsBuiltIn, IsShared, IsBlock}
 use Rattle.narrow_law.specs.Low.{IsFineMember}
 use Rattle.narrow_law.proofs.Taken.{kind_there}
 use Rattle.places_law.proofs.Blocks.{points as block_points, found as block_found, struct_is, decorated_is, block_is, parts, member_fine}
 use Rattle.global_law.specs.Sources.{chosen}
-use Rattle.global_law.proofs.BuiltIns.{AreOtherNames, built_in_shape, IsInputOne, built_in_begins}
-use Rattle.global_law.proofs.Blocks.{block_begins}
-use Rattle.global_law.proofs.Shared.{AllOff, HaveBlocks, shared_begins}
-use Rattle.constant_law.specs.Items.{is_item, AreAsked}
-use Rattle.constant_law.proofs.Constituents.{nothing}
-use Rattle.constant_law.proofs.Standing.{N as item_names, bytes_off, any_among, same_item, variable_is_item, other_names}
-use Rattle.constant_law.proofs.Constants.{AreFunctions, functions_keep, first, things_same, block_declared, type_declared_before}
-use Rattle.constant_law.proofs.Variables.{behind, among_behind, among_here, private_is}
-use Rattle.constant_law.proofs.Conforming.{uint_tree, uvec3_tree}
-use Rattle.claim_law.proofs.Named.{Plans}
-use Rattle.claim_law.proofs.Told.{named_is}
-use Rattle.claim_law.proofs.Variables.{variable_no_struct, variable_no_constant, undeclared}
+use Rattle.global_law.proofs.Global.BuiltIns.{AreOtherNames, built_in_shape, IsInputOne, built_in_begins}
+use Rattle.global_law.proofs.Global.Blocks.{block_begins}
+use Rattle.global_law.proofs.Global.Shared.{AllOff, HaveBlocks, shared_begins}
+use Rattle.global_law.specs.Items.{is_item, AreAsked}
+use Rattle.global_law.proofs.Constant.Constituents.{nothing}
+use Rattle.global_law.proofs.Constant.Standing.{N as item_names, bytes_off, any_among, same_item, variable_is_item, other_names}
+use Rattle.global_law.proofs.Constant.Constants.{AreFunctions, functions_keep, first, things_same, block_declared, type_declared_before}
+use Rattle.global_law.proofs.Constant.Variables.{behind, among_behind, among_here, private_is}
+use Rattle.global_law.proofs.Constant.Conforming.{uint_tree, uvec3_tree}
+use Rattle.claim_law.proofs.Claim.Named.{Plans}
+use Rattle.claim_law.proofs.Claim.Told.{named_is}
+use Rattle.claim_law.proofs.Claim.Variables.{variable_no_struct, variable_no_constant, undeclared}
 use Rattle.item_law.proofs.Named.{item_named, variable_members, block_members}
 use Rattle.grammar_law.proofs.Unit.Lists.{same_test, test_same}
 use Rattle.naming_law.specs.Names.{is_written_private, is_outer_global, has_text}

@@ -59,11 +59,11 @@ use Rattle.typed_law.proofs.Others.{typed_some}
 use Rattle.places_law.proofs.Blocks.{type_found}
 use Rattle.accepted_law.proofs.Accepted.{accepted_conforming}
 use Rattle.ruled_law.proofs.Ruled.{contains_of, variable_has}
-use Rattle.constant_law.specs.Within.{IsWithin, IsNoBlock}
-use Rattle.constant_law.proofs.Within.{pointee_misused, misused_within, value_within}
-use Rattle.constant_law.proofs.Written.{IsHeld}
+use Rattle.global_law.specs.Within.{IsWithin, IsNoBlock}
+use Rattle.global_law.proofs.Constant.Within.{pointee_misused, misused_within, value_within}
+use Rattle.global_law.proofs.Constant.Written.{IsHeld}
 use Rattle.claim_law.specs.Claimed.{IsIn, IsOf}
-use Rattle.claim_law.proofs.Listed.{in_right, in_flat, any_in}
+use Rattle.claim_law.proofs.Claim.Listed.{in_right, in_flat, any_in}
 use Rattle.grammar_law.proofs.Unit.Lists.{as_among, numbered_first}
 use Rattle.grammar_law.proofs.Unit.Ways.{planned_as, reached_nth}
 use Rattle.grammar_law.proofs.Unit.TypesWritten.{parameter_type_written}

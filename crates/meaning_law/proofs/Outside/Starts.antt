@@ -52,15 +52,15 @@ use Rattle.typed_law.proofs.Lists.{found_in}
 use Rattle.typed_law.proofs.Values.{inside, own_local}
 use Rattle.accepted_law.proofs.Accepted.{accepted_conforming}
 use Rattle.ruled_law.proofs.Ruled.{parameter_of}
-use Rattle.path_law.specs.Parts.{shape_in}
-use Rattle.path_law.specs.Chains.{NoneMakes}
-use Rattle.path_law.specs.Walks.{struct_names}
-use Rattle.path_law.specs.Writings.{IsWrittenStart}
+use Rattle.global_law.specs.Parts.{shape_in}
+use Rattle.global_law.specs.Chains.{NoneMakes}
+use Rattle.global_law.specs.Walks.{struct_names}
+use Rattle.global_law.specs.Writings.{IsWrittenStart}
 use Rattle.global_law.specs.Sources.{chosen}
-use Rattle.constant_law.proofs.Valued.{valued}
+use Rattle.global_law.proofs.Constant.Valued.{valued}
 use Rattle.claim_law.specs.Claimed.{IsIn}
-use Rattle.claim_law.proofs.Listed.{in_mapped, any_in}
-use Rattle.claim_law.proofs.Named.{Plans}
+use Rattle.claim_law.proofs.Claim.Listed.{in_mapped, any_in}
+use Rattle.claim_law.proofs.Claim.Named.{Plans}
 use Rattle.item_law.proofs.Named.{members_apart}
 use Rattle.grammar_law.proofs.Unit.Lists.{as_in}
 use Rattle.naming_law.proofs.Alone.{are_alone, variable_inst}

@@ -40,12 +40,12 @@ use Rattle.accepted_law.proofs.Accepted.{accepted_conforming}
 use Rattle.ruled_law.proofs.Ruled.{variable_has}
 use Rattle.memory_places.specs.Mentions.{is_among_ids, with_ids, mention}
 use Rattle.memory_places.proofs.Reached.{mentioned_are}
-use Rattle.path_law.specs.Parts.{shape_in}
-use Rattle.path_law.specs.Walks.{struct_names}
+use Rattle.global_law.specs.Parts.{shape_in}
+use Rattle.global_law.specs.Walks.{struct_names}
 use Rattle.global_law.specs.Sources.{chosen}
-use Rattle.global_law.proofs.Shared.{mentioned_same}
-use Rattle.constant_law.specs.Items.{AreAsked}
-use Rattle.constant_law.proofs.Constants.{AreFunctions, P as program_of}
+use Rattle.global_law.proofs.Global.Shared.{mentioned_same}
+use Rattle.global_law.specs.Items.{AreAsked}
+use Rattle.global_law.proofs.Constant.Constants.{AreFunctions, P as program_of}
 use Rattle.claim_law.specs.Claimed.{IsIn}
 use Rattle.grammar_law.proofs.Unit.Lists.{of_filter, as_in, split_at}
 use Rattle.grammar_law.proofs.Unit.Ways.{planned_as}

@@ -65,19 +65,19 @@ use Rattle.typed_law.specs.Conforms.{IsConforming}
 use Rattle.typed_law.proofs.Used.{global_found, used_sized}
 use Rattle.typed_law.proofs.Values.{among_functions, inside, own_local, own_type, shaped_some}
 use Rattle.accepted_law.proofs.Accepted.{accepted_conforming}
-use Rattle.path_law.specs.Parts.{shape_in}
-use Rattle.path_law.specs.Laid.{HasLengths}
-use Rattle.path_law.specs.Walks.{struct_names}
-use Rattle.path_law.proofs.Parts.{sized_lengths}
+use Rattle.global_law.specs.Parts.{shape_in}
+use Rattle.global_law.specs.Laid.{HasLengths}
+use Rattle.global_law.specs.Walks.{struct_names}
+use Rattle.global_law.proofs.Path.Parts.{sized_lengths}
 use Rattle.global_law.specs.Names.{IsDeclared}
-use Rattle.global_law.proofs.Blocks.{type_declared}
-use Rattle.constant_law.specs.Items.{is_item}
-use Rattle.constant_law.proofs.Within.{value_misused}
-use Rattle.constant_law.proofs.Written.{no_pointee}
+use Rattle.global_law.proofs.Global.Blocks.{type_declared}
+use Rattle.global_law.specs.Items.{is_item}
+use Rattle.global_law.proofs.Constant.Within.{value_misused}
+use Rattle.global_law.proofs.Constant.Written.{no_pointee}
 use Rattle.claim_law.specs.Claimed.{IsIn}
-use Rattle.claim_law.proofs.Listed.{in_flat}
-use Rattle.claim_law.proofs.Named.{Plans}
-use Rattle.claim_law.proofs.Told.{named_is}
+use Rattle.claim_law.proofs.Claim.Listed.{in_flat}
+use Rattle.claim_law.proofs.Claim.Named.{Plans}
+use Rattle.claim_law.proofs.Claim.Told.{named_is}
 use Rattle.item_law.proofs.Named.{item_named}
 use Rattle.grammar_law.proofs.Unit.Lists.{as_among, of_numbered_first}
 use Rattle.grammar_law.proofs.Unit.TypesWritten.{top_type_written}

@@ -36,11 +36,11 @@ use Rattle.typed_law.proofs.Rules.{operand_there, global_there, pointed_type}
 use Rattle.typed_law.proofs.Values.{IsRow, result_row, declared_by, one_type, function_id, function_need, function_least, value_type_has}
 use Rattle.accepted_law.proofs.Accepted.{accepted_conforming}
 use Rattle.global_law.specs.Names.{IsDeclared}
-use Rattle.constant_law.specs.Items.{AreAsked}
-use Rattle.constant_law.proofs.Constants.{AreFunctions}
-use Rattle.constant_law.proofs.Types.{type_declared}
-use Rattle.constant_law.proofs.Within.{misused_within, value_within}
-use Rattle.constant_law.proofs.Written.{no_pointee}
+use Rattle.global_law.specs.Items.{AreAsked}
+use Rattle.global_law.proofs.Constant.Constants.{AreFunctions}
+use Rattle.global_law.proofs.Constant.Types.{type_declared}
+use Rattle.global_law.proofs.Constant.Within.{misused_within, value_within}
+use Rattle.global_law.proofs.Constant.Written.{no_pointee}
 use Rattle.claim_law.specs.Claimed.{IsIn}
 use Rattle.grammar_law.proofs.Unit.TypesWritten.{return_type_written}
 use Rattle.naming_law.specs.Types.{HasTypesOfText}

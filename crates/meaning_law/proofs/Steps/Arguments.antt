@@ -46,15 +46,15 @@ use Rattle.fits_law.proofs.Steps.{named}
 use Rattle.fits_law.proofs.Operations.{before_some}
 use Rattle.agree_law.specs.Agree.{Naming}
 use Rattle.call_law.specs.Known.{is_parameter, IsFunctionOf}
-use Rattle.path_law.specs.Chains.{NoneMakes}
-use Rattle.path_law.proofs.Ways.{start_way}
+use Rattle.global_law.specs.Chains.{NoneMakes}
+use Rattle.global_law.proofs.Path.Ways.{start_way}
 use Rattle.function_law.specs.Passed.{IsArgument, ArgumentSays, ArgumentsSay}
 use Rattle.typed_law.specs.Conforms.{IsConforming, IsParameter}
 use Rattle.typed_law.proofs.Calls.{AreOfTypes}
 use Rattle.typed_law.proofs.Lists.{and_left, and_off, or_left, or_right, clash, found_in}
 use Rattle.typed_law.proofs.Values.{inside, own_local}
 use Rattle.ruled_law.proofs.Ruled.{contains_of}
-use Rattle.constant_law.proofs.Written.{no_pointee}
+use Rattle.global_law.proofs.Constant.Written.{no_pointee}
 use Rattle.claim_law.specs.Claimed.{IsIn}
 use Rattle.grammar_law.proofs.Unit.Ways.{HaveKinds, plan_is}
 use Rattle.naming_law.proofs.Keys.{S, R, key as key_of, names as names_in}

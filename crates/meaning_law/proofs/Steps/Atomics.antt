@@ -72,11 +72,11 @@ use Rattle.agree_law.specs.Points.{Body}
 use Rattle.agree_law.proofs.Machine.{machine, IsUpdate}
 use Rattle.call_law.specs.Known.{IsFunctionOf, LendsWhole}
 use Rattle.plan_law.specs.InOrder.{IsAmong}
-use Rattle.path_law.specs.Chains.{AreLed, ChainsAreRight}
-use Rattle.path_law.specs.Parts.{StructNames, shape_in}
-use Rattle.path_law.specs.Walks.{writing, struct_names}
-use Rattle.path_law.proofs.Accesses.{SaysOperands}
-use Rattle.path_law.proofs.Walks.{IsNoBlock}
+use Rattle.global_law.specs.Chains.{AreLed, ChainsAreRight}
+use Rattle.global_law.specs.Parts.{StructNames, shape_in}
+use Rattle.global_law.specs.Walks.{writing, struct_names}
+use Rattle.global_law.proofs.Path.Accesses.{SaysOperands}
+use Rattle.global_law.proofs.Path.Walks.{IsNoBlock}
 use Rattle.lowering_law.specs.Numbers.{IsNumeric, number}
 use Rattle.lowering_law.specs.Says.{Says}
 use Rattle.lowering_law.proofs.Functions.{negated_word}

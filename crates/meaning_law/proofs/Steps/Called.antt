@@ -21,10 +21,10 @@ use Rattle.expr_forward.specs.Scope.{Scope}
 use Rattle.function_text.specs.Functions.{FunctionPlan, written, function_key, function_name, function_decl}
 use Rattle.unit_rules.specs.Translation.{IsPlanOf}
 use Rattle.unit_rules.specs.Unit.{item_names_of, source_of, called, is_called, has_id, plan_at, in_order, IsUnitOf}
-use Rattle.global_law.proofs.Blocks.{items_more}
-use Rattle.constant_law.proofs.Constants.{first}
+use Rattle.global_law.proofs.Global.Blocks.{items_more}
+use Rattle.global_law.proofs.Constant.Constants.{first}
 use Rattle.claim_law.specs.Claimed.{IsIn}
-use Rattle.claim_law.proofs.Listed.{in_flat}
+use Rattle.claim_law.proofs.Claim.Listed.{in_flat}
 use Rattle.grammar_law.proofs.Unit.Lists.{found_by, same_test, of_filter}
 use Rattle.grammar_law.proofs.Unit.Ways.{planned_as}
 use Rattle.naming_law.proofs.Keys.{S, found as names_found, R, equal, some_in}

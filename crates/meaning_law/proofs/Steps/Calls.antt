@@ -67,9 +67,9 @@ use Rattle.agree_law.specs.Points.{Body}
 use Rattle.agree_law.proofs.Machine.{machine}
 use Rattle.call_law.specs.Known.{is_parameter, IsFunctionOf, IsLending}
 use Rattle.plan_law.specs.InOrder.{IsAmong}
-use Rattle.path_law.specs.Parts.{StructNames, shape_in}
-use Rattle.path_law.specs.Walks.{struct_names}
-use Rattle.path_law.proofs.Accesses.{shape_itself}
+use Rattle.global_law.specs.Parts.{StructNames, shape_in}
+use Rattle.global_law.specs.Walks.{struct_names}
+use Rattle.global_law.proofs.Path.Accesses.{shape_itself}
 use Rattle.function_law.specs.Texts.{FunctionText, IsFine}
 use Rattle.function_law.specs.UnderWay.{IsUnderWay, IsRuled}
 use Rattle.function_law.proofs.AllFunctions.{IsRun, call_statement, call_expression}

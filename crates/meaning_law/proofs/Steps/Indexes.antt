@@ -46,17 +46,17 @@ use Rattle.agree_law.specs.Agree.{Naming}
 use Rattle.agree_law.specs.Blocks.{IsOf, have_result}
 use Rattle.agree_law.specs.Points.{Body}
 use Rattle.call_law.specs.Known.{IsFunctionOf, LendsWhole}
-use Rattle.path_law.specs.Parts.{StructNames, shape_in}
-use Rattle.path_law.specs.Walks.{struct_names}
-use Rattle.path_law.specs.Writings.{IsNumber}
+use Rattle.global_law.specs.Parts.{StructNames, shape_in}
+use Rattle.global_law.specs.Walks.{struct_names}
+use Rattle.global_law.specs.Writings.{IsNumber}
 use Rattle.plan_law.specs.InOrder.{IsAmong}
 use Rattle.plan_law.proofs.Order.{found}
 use Rattle.typed_law.specs.Conforms.{IsConforming, IsConformingIn}
 use Rattle.typed_law.proofs.Lists.{clash}
 use Rattle.typed_law.proofs.Values.{global_row, inside, variable_type_is}
 use Rattle.claim_law.specs.Claimed.{IsIn}
-use Rattle.claim_law.proofs.Constants.{found_in}
-use Rattle.claim_law.proofs.Listed.{any_in}
+use Rattle.claim_law.proofs.Claim.Constants.{found_in}
+use Rattle.claim_law.proofs.Claim.Listed.{any_in}
 use Rattle.grammar_law.specs.Words.{AreOfStructs}
 use Rattle.grammar_law.proofs.Unit.Lists.{as_among, in_filter, numbered_first, same_test, some_length, test_same}
 use Rattle.grammar_law.proofs.Unit.Kept.{dropped}

@@ -35,7 +35,7 @@ use Rattle.fits_law.specs.Typed.{HaveShapes, IsTyped}
 use Rattle.fits_law.proofs.Literals.{inserted_along}
 use Rattle.fits_law.proofs.Operations.{before_some}
 use Rattle.fits_law.proofs.Parts.{many_of}
-use Rattle.path_law.proofs.Parts.{there_below}
+use Rattle.global_law.proofs.Path.Parts.{there_below}
 use Rattle.typed_law.proofs.Lists.{some_part}
 
 insert_op : (o : Op) → kind_of o ≡ kind.CompositeInsert → o ≡ code.CompositeInsert

@@ -56,13 +56,13 @@ use Rattle.agree_law.proofs.Machine.{machine}
 use Rattle.agree_law.proofs.Owned.{own_found}
 use Rattle.call_law.specs.Known.{IsFunctionOf, LendsWhole}
 use Rattle.plan_law.specs.InOrder.{IsAmong}
-use Rattle.path_law.specs.Parts.{StructNames, HasMembersApart, shape_in}
-use Rattle.path_law.specs.Walks.{struct_names, Walks}
-use Rattle.path_law.proofs.Accesses.{shape_itself}
-use Rattle.path_law.proofs.Parts.{scalar_in}
-use Rattle.path_law.proofs.Types.{vector_size_is}
-use Rattle.path_law.proofs.Walks.{steps_walk}
-use Rattle.global_law.proofs.Indexes.{word_number}
+use Rattle.global_law.specs.Parts.{StructNames, HasMembersApart, shape_in}
+use Rattle.global_law.specs.Walks.{struct_names, Walks}
+use Rattle.global_law.proofs.Path.Accesses.{shape_itself}
+use Rattle.global_law.proofs.Path.Parts.{scalar_in}
+use Rattle.global_law.proofs.Path.Types.{vector_size_is}
+use Rattle.global_law.proofs.Path.Walks.{steps_walk}
+use Rattle.global_law.proofs.Global.Indexes.{word_number}
 use Rattle.typed_law.specs.Conforms.{IsConforming, IsConformingIn}
 use Rattle.typed_law.specs.Words.{IsSettingOfWords, IsStateOfWords}
 use Rattle.typed_law.proofs.Lists.{some_part}

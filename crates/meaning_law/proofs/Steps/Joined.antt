@@ -42,8 +42,8 @@ use Rattle.agree_law.specs.Evaluates.{IsKept}
 use Rattle.agree_law.specs.Points.{Body}
 use Rattle.agree_law.proofs.Machine.{machine}
 use Rattle.call_law.specs.Known.{IsFunctionOf}
-use Rattle.path_law.specs.Chains.{AreLed, ChainsAreRight}
-use Rattle.path_law.specs.Walks.{writing}
+use Rattle.global_law.specs.Chains.{AreLed, ChainsAreRight}
+use Rattle.global_law.specs.Walks.{writing}
 use Rattle.plan_law.specs.InOrder.{IsAmong}
 use Rattle.typed_law.specs.Conforms.{IsConforming, IsConformingIn}
 use Rattle.typed_law.specs.Words.{IsSettingOfWords, IsStateOfWords}

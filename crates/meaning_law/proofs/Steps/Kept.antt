@@ -34,7 +34,7 @@ use Rattle.agree_law.specs.Agree.{Naming}
 use Rattle.agree_law.specs.Blocks.{IsOf, have_result}
 use Rattle.agree_law.specs.Points.{Body}
 use Rattle.call_law.specs.Known.{IsFunctionOf, LendsWhole}
-use Rattle.path_law.proofs.Based.{chain_op}
+use Rattle.global_law.proofs.Path.Based.{chain_op}
 use Rattle.plan_law.specs.InOrder.{IsAmong}
 use Rattle.typed_law.specs.Conforms.{IsConforming, IsConformingIn}
 use Rattle.typed_law.proofs.Values.{inside}

@@ -34,9 +34,9 @@ use Rattle.agree_law.specs.Points.{Body}
 use Rattle.call_law.specs.Known.{IsFunctionOf, LendsWhole}
 use Rattle.typed_law.specs.Conforms.{IsConforming}
 use Rattle.typed_law.proofs.Lists.{or_left}
-use Rattle.global_law.proofs.Zeros.{is_declared}
+use Rattle.global_law.proofs.Global.Zeros.{is_declared}
 use Rattle.claim_law.specs.Claimed.{IsIn, IsOf}
-use Rattle.claim_law.proofs.Listed.{in_flat, at_place}
+use Rattle.claim_law.proofs.Claim.Listed.{in_flat, at_place}
 use Rattle.grammar_law.proofs.Unit.Forms.{unmade_gone}
 use Rattle.grammar_law.proofs.Unit.Lists.{as_in, as_among}
 use Rattle.grammar_law.proofs.Unit.Ways.{HaveKinds, F, plan_is, written_is, reached_nth}

@@ -17,11 +17,11 @@ use Rattle.glsl_semantics.specs.States.{State}
 use Rattle.glsl_semantics.specs.Expressions.{Program, Argument}
 use Rattle.fits_law.proofs.Steps.{named}
 use Rattle.type_law.specs.Shaped.{AreConstants}
-use Rattle.path_law.proofs.Walks.{IsNoBlock}
+use Rattle.global_law.proofs.Path.Walks.{IsNoBlock}
 use Rattle.typed_law.specs.Conforms.{IsConforming}
-use Rattle.constant_law.specs.Within.{IsWithin}
-use Rattle.constant_law.specs.Within as within
-use Rattle.constant_law.proofs.Within.{value_within}
+use Rattle.global_law.specs.Within.{IsWithin}
+use Rattle.global_law.specs.Within as within
+use Rattle.global_law.proofs.Constant.Within.{value_within}
 
 module _ (s : Setting) (entry : Option (List ℕ)) (right : IsConforming s.of entry) (program : Program) (calls : Text → List Argument → State → Result (Option Typed × State)) (overrides : List (ℕ × Given)) (f : Function) (key : Key → Text) (globals : ℕ → Option Expr) (constants : AreConstants s) (c : Conf) (z : State) where
   abbrev NoBlock : Tree → Type 0

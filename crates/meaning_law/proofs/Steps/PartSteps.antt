@@ -31,11 +31,11 @@ use Rattle.fits_law.specs.Takes.{part_shape, shape_at}
 use Rattle.fits_law.specs.State.{element_shape}
 use Rattle.type_law.proofs.Places.{part_leads}
 use Rattle.lowering_law.proofs.Components.{axis_part}
-use Rattle.path_law.specs.Parts.{StructNames, HasMembersApart, shape_in}
-use Rattle.path_law.specs.Walks.{struct_names, Walks}
-use Rattle.path_law.proofs.Parts.{scalar_in, member_named}
-use Rattle.path_law.proofs.Types.{op_of, vector_size_is, struct_number}
-use Rattle.path_law.proofs.Walks.{part_apart}
+use Rattle.global_law.specs.Parts.{StructNames, HasMembersApart, shape_in}
+use Rattle.global_law.specs.Walks.{struct_names, Walks}
+use Rattle.global_law.proofs.Path.Parts.{scalar_in, member_named}
+use Rattle.global_law.proofs.Path.Types.{op_of, vector_size_is, struct_number}
+use Rattle.global_law.proofs.Path.Walks.{part_apart}
 use Rattle.typed_law.proofs.Lists.{and_left, and_right, some_part}
 use Rattle.lowers_law.proofs.Types.{W, op_at, part_at}
 

@@ -53,8 +53,8 @@ use Rattle.typed_law.specs.Words.{IsSettingOfWords, IsStateOfWords}
 use Rattle.typed_law.proofs.Lists.{or_left, found_in}
 use Rattle.typed_law.proofs.Values.{inside}
 use Rattle.ruled_law.proofs.Ruled.{contains_of}
-use Rattle.constant_law.specs.Items.{AreAsked}
-use Rattle.constant_law.proofs.Standing.{scalar_fit}
+use Rattle.global_law.specs.Items.{AreAsked}
+use Rattle.global_law.proofs.Constant.Standing.{scalar_fit}
 use Rattle.claim_law.specs.Claimed.{IsIn}
 use Rattle.grammar_law.proofs.Unit.Lists.{of_contained}
 use Rattle.grammar_law.proofs.Unit.Ways.{HaveKinds, F, V, in_module, plan_is, written_is}

@@ -55,9 +55,9 @@ use Rattle.agree_law.specs.Points.{Body}
 use Rattle.agree_law.proofs.Machine.{machine}
 use Rattle.call_law.specs.Known.{IsFunctionOf, LendsWhole}
 use Rattle.plan_law.specs.InOrder.{IsAmong}
-use Rattle.path_law.specs.Chains.{AreLed, ChainsAreRight}
-use Rattle.path_law.specs.Walks.{writing}
-use Rattle.path_law.proofs.Walks.{IsNoBlock}
+use Rattle.global_law.specs.Chains.{AreLed, ChainsAreRight}
+use Rattle.global_law.specs.Walks.{writing}
+use Rattle.global_law.proofs.Path.Walks.{IsNoBlock}
 use Rattle.typed_law.specs.Conforms.{IsConforming, IsConformingIn}
 use Rattle.typed_law.proofs.Lists.{or_left, or_right}
 use Rattle.typed_law.proofs.Others.{target_of, typed_some, as_store}

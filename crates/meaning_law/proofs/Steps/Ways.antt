@@ -53,10 +53,10 @@ use Rattle.agree_law.specs.Blocks.{IsOf, have_result}
 use Rattle.agree_law.specs.Points.{Body}
 use Rattle.call_law.specs.Frames.{makes_pointer}
 use Rattle.call_law.specs.Known.{is_parameter, IsFunctionOf, LendsWhole}
-use Rattle.path_law.specs.Chains.{NoneMakes, ChainsAreRight}
-use Rattle.path_law.specs.Walks.{writing, SaysIndex}
-use Rattle.path_law.specs.Writings.{IsWrittenIndex, AreWrittenIndexes, IsWrittenChain, IsWrittenStart, IsNumber}
-use Rattle.path_law.proofs.Reached.{HaveTypes, IsRightChain}
+use Rattle.global_law.specs.Chains.{NoneMakes, ChainsAreRight}
+use Rattle.global_law.specs.Walks.{writing, SaysIndex}
+use Rattle.global_law.specs.Writings.{IsWrittenIndex, AreWrittenIndexes, IsWrittenChain, IsWrittenStart, IsNumber}
+use Rattle.global_law.proofs.Path.Reached.{HaveTypes, IsRightChain}
 use Rattle.type_law.proofs.Chains.{HaveTypes as HaveTypesIn}
 use Rattle.plan_law.specs.InOrder.{IsAmong}
 use Rattle.plan_law.proofs.Order.{found}
@@ -65,8 +65,8 @@ use Rattle.typed_law.proofs.Lists.{clash}
 use Rattle.typed_law.proofs.Values.{inside, own_local}
 use Rattle.ruled_law.proofs.Ruled.{class_pointed}
 use Rattle.claim_law.specs.Claimed.{IsIn}
-use Rattle.claim_law.proofs.Constants.{found_in}
-use Rattle.claim_law.proofs.Listed.{any_in, at_place}
+use Rattle.claim_law.proofs.Claim.Constants.{found_in}
+use Rattle.claim_law.proofs.Claim.Listed.{any_in, at_place}
 use Rattle.grammar_law.specs.Mentioned.{IsLinked}
 use Rattle.grammar_law.specs.Words.{AreOfStructs}
 use Rattle.grammar_law.proofs.Unit.Lists.{as_among, numbered_first, same_test, test_same}
@@ -74,7 +74,7 @@ use Rattle.grammar_law.proofs.Unit.Links.{linked_in, as_linked}
 use Rattle.grammar_law.proofs.Unit.Structs.{Written}
 use Rattle.grammar_law.proofs.Unit.Sets.{chain_no_phi}
 use Rattle.grammar_law.proofs.Unit.Kept.{dropped}
-use Rattle.path_law.proofs.Based.{chain_op}
+use Rattle.global_law.proofs.Path.Based.{chain_op}
 use Rattle.grammar_law.proofs.Unit.Places.{Found, makes_in, IsRuled, IsSeen, home, place, live, base_link, index_mention, carried, based_seen}
 use Rattle.grammar_law.proofs.Unit.Ruled.{chains}
 use Rattle.grammar_law.proofs.Unit.Ways.{HaveKinds, F, R, V, in_module, written_is, own_type_of, local_outside, reached_nth}
@@ -91,7 +91,7 @@ use Rattle.meaning_law.proofs.Written.Done.{linked_before, done_before}
 use Rattle.meaning_law.proofs.Written.Placed.{chain_step}
 use Rattle.meaning_law.proofs.Steps.Indexes.{no_names, no_structs, number as is_number, own_shape, kept_shape, counted, is_kept, written_so, own_none, stands_there}
 use Rattle.grammar_law.proofs.Unit.ResultShapes.{constant_shaped}
-use Rattle.constant_law.proofs.Written.{no_pointee}
+use Rattle.global_law.proofs.Constant.Written.{no_pointee}
 use Rattle.formed_law.proofs.Blocks.{reached_body, reached_only}
 use Rattle.formed_law.proofs.Inner.{is_inner, accepted_inner}
 use Rattle.naming_law.proofs.Firsts.{of_in}

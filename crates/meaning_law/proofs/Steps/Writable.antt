@@ -51,16 +51,16 @@ use Rattle.agree_law.specs.Evaluates.{IsKept}
 use Rattle.agree_law.proofs.Machine.{machine}
 use Rattle.call_law.specs.Known.{LendsWhole}
 use Rattle.plan_law.specs.InOrder.{IsAmong}
-use Rattle.path_law.specs.Chains.{ChainsRise, IsLed, AreLed, ChainsAreRight}
-use Rattle.path_law.specs.Parts.{IsInput}
-use Rattle.path_law.specs.Starts.{IsStart}
-use Rattle.path_law.specs.Walks.{writing}
-use Rattle.path_law.specs.Writings.{IsWrittenChain}
-use Rattle.path_law.proofs.Asked.{IsWrittenSo}
-use Rattle.path_law.proofs.Based.{chain_op, rank, base_lower}
-use Rattle.path_law.proofs.Reached.{IsRightChain}
-use Rattle.path_law.proofs.Reached as reached
-use Rattle.path_law.proofs.Writings.{begins}
+use Rattle.global_law.specs.Chains.{ChainsRise, IsLed, AreLed, ChainsAreRight}
+use Rattle.global_law.specs.Parts.{IsInput}
+use Rattle.global_law.specs.Starts.{IsStart}
+use Rattle.global_law.specs.Walks.{writing}
+use Rattle.global_law.specs.Writings.{IsWrittenChain}
+use Rattle.global_law.proofs.Path.Asked.{IsWrittenSo}
+use Rattle.global_law.proofs.Path.Based.{chain_op, rank, base_lower}
+use Rattle.global_law.proofs.Path.Reached.{IsRightChain}
+use Rattle.global_law.proofs.Path.Reached as reached
+use Rattle.global_law.proofs.Path.Writings.{begins}
 use Rattle.typed_law.specs.Conforms.{IsConforming}
 use Rattle.typed_law.proofs.Calls.{global_variable_is, global_points}
 use Rattle.typed_law.proofs.Lists.{or_left, or_right, and_off, clash, none_by, none_at_fault, found_in}

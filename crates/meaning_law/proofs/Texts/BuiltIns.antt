@@ -25,9 +25,9 @@ use Rattle.unit_rules.specs.Translation.{text_of, IsPlanOf}
 use Rattle.unit_rules.specs.Unit.{item_names_of, source_of, called, in_order, IsUnitOf}
 use Rattle.list_law.proofs.Tests.{neither as both_off}
 use Rattle.lowering_law.specs.BuiltIns.{NoneDeclared}
-use Rattle.global_law.proofs.Blocks.{items_more}
-use Rattle.constant_law.specs.Items.{AreAsked}
-use Rattle.constant_law.proofs.Constants.{AreFunctions, first, last}
+use Rattle.global_law.proofs.Global.Blocks.{items_more}
+use Rattle.global_law.specs.Items.{AreAsked}
+use Rattle.global_law.proofs.Constant.Constants.{AreFunctions, first, last}
 use Rattle.claim_law.specs.Claimed.{IsIn}
 use Rattle.grammar_law.proofs.Unit.Ways.{planned_as}
 use Rattle.grammar_law.proofs.Grammar.UnitMade.{in_plans}

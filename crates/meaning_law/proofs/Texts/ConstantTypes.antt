@@ -30,16 +30,16 @@ use Rattle.fits_law.proofs.Steps.{named}
 use Rattle.typed_law.proofs.Lists.{found_in}
 use Rattle.typed_law.proofs.Used.{global_found, used_sized}
 use Rattle.global_law.specs.Sources.{chosen}
-use Rattle.global_law.proofs.Plain.{plain_is}
-use Rattle.constant_law.specs.Items.{AreAsked}
-use Rattle.constant_law.proofs.Valued.{IsValued}
-use Rattle.constant_law.proofs.Within.{constant_no_variable, constant_within}
-use Rattle.constant_law.proofs.Written.{IsHeld, own_type, held_by}
-use Rattle.constant_law.proofs.GroupSizes.{size_has, part_is_of}
-use Rattle.constant_law.proofs.Reading.{size_reading, part_reading}
-use Rattle.constant_law.proofs.Standing.{declared_by}
-use Rattle.constant_law.proofs.Constants.{AreFunctions, mentioned_needed}
-use Rattle.constant_law.proofs.Types.{zero_declared}
+use Rattle.global_law.proofs.Global.Plain.{plain_is}
+use Rattle.global_law.specs.Items.{AreAsked}
+use Rattle.global_law.proofs.Constant.Valued.{IsValued}
+use Rattle.global_law.proofs.Constant.Within.{constant_no_variable, constant_within}
+use Rattle.global_law.proofs.Constant.Written.{IsHeld, own_type, held_by}
+use Rattle.global_law.proofs.Constant.GroupSizes.{size_has, part_is_of}
+use Rattle.global_law.proofs.Constant.Reading.{size_reading, part_reading}
+use Rattle.global_law.proofs.Constant.Standing.{declared_by}
+use Rattle.global_law.proofs.Constant.Constants.{AreFunctions, mentioned_needed}
+use Rattle.global_law.proofs.Constant.Types.{zero_declared}
 use Rattle.claim_law.specs.Claimed.{IsIn}
 use Rattle.naming_law.proofs.Keys.{S, found as names_found, R}
 use Rattle.meaning_law.specs.Left.{IsLeftOfGlobals}

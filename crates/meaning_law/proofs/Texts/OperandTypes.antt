@@ -34,17 +34,17 @@ use Rattle.call_law.specs.Known.{LendsWhole}
 use Rattle.fits_law.specs.State.{value_shape}
 use Rattle.lowering_law.specs.Arguments.{IsBasic}
 use Rattle.lowers_law.proofs.Types.{decide_basic}
-use Rattle.path_law.proofs.Types.{op_of, declared_as}
+use Rattle.global_law.proofs.Path.Types.{op_of, declared_as}
 use Rattle.typed_law.specs.Conforms.{IsConforming, IsParameter}
 use Rattle.typed_law.proofs.Lists.{and_left, some_part}
 use Rattle.typed_law.proofs.Types.{pointee_shaped}
 use Rattle.typed_law.proofs.Values.{local_row, shaped_some, variable_type_is}
-use Rattle.constant_law.proofs.Written.{no_pointee}
+use Rattle.global_law.proofs.Constant.Written.{no_pointee}
 use Rattle.structure_rules.specs.declared.graph.Node.{Node}
 use Rattle.function_plan.specs.Planned.{is_reached_node}
 use Rattle.use_chains.specs.Slots.{inst_at}
 use Rattle.claim_law.specs.Claimed.{IsIn, IsOf}
-use Rattle.claim_law.proofs.Listed.{at_place}
+use Rattle.claim_law.proofs.Claim.Listed.{at_place}
 use Rattle.grammar_law.specs.Mentioned.{IsValueIn, Stands}
 use Rattle.grammar_law.proofs.Unit.Lists.{as_among, found_by}
 use Rattle.grammar_law.proofs.Unit.Shaped.{shaped_value}

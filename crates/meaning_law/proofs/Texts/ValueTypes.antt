@@ -34,18 +34,18 @@ use Rattle.typed_law.specs.Conforms.{IsConforming, IsParameter}
 use Rattle.typed_law.proofs.Values.{among_functions, value_sized, own_type, shaped_some}
 use Rattle.accepted_law.proofs.Accepted.{accepted_conforming}
 use Rattle.lowering_law.specs.Arguments.{IsBasic}
-use Rattle.path_law.specs.Parts.{HasMembersApart}
-use Rattle.path_law.specs.Walks.{struct_names}
-use Rattle.global_law.proofs.Zeros.{HasZero}
-use Rattle.constant_law.specs.Items.{AreAsked}
-use Rattle.constant_law.specs.Within.{IsWithin, IsNoBlock}
-use Rattle.constant_law.proofs.Constants.{AreFunctions}
-use Rattle.constant_law.proofs.Types.{zero_declared}
-use Rattle.constant_law.proofs.Within.{any_within, value_misused, misused_within}
-use Rattle.constant_law.proofs.Written.{IsHeld, no_pointee}
+use Rattle.global_law.specs.Parts.{HasMembersApart}
+use Rattle.global_law.specs.Walks.{struct_names}
+use Rattle.global_law.proofs.Global.Zeros.{HasZero}
+use Rattle.global_law.specs.Items.{AreAsked}
+use Rattle.global_law.specs.Within.{IsWithin, IsNoBlock}
+use Rattle.global_law.proofs.Constant.Constants.{AreFunctions}
+use Rattle.global_law.proofs.Constant.Types.{zero_declared}
+use Rattle.global_law.proofs.Constant.Within.{any_within, value_misused, misused_within}
+use Rattle.global_law.proofs.Constant.Written.{IsHeld, no_pointee}
 use Rattle.item_law.proofs.Named.{members_apart}
 use Rattle.claim_law.specs.Claimed.{IsIn, IsOf}
-use Rattle.claim_law.proofs.Named.{Plans}
+use Rattle.claim_law.proofs.Claim.Named.{Plans}
 use Rattle.grammar_law.proofs.Unit.Lists.{as_among}
 use Rattle.grammar_law.proofs.Unit.TypesWritten.{live_type_written, top_type_written}
 use Rattle.naming_law.proofs.Keys.{S, found as names_found, key as key_of, R}

@@ -41,11 +41,11 @@ use Rattle.agree_law.specs.Agree.{Naming, AreApart, Agree}
 use Rattle.call_law.specs.Known.{IsFunctionOf, LendsWhole}
 use Rattle.typed_law.specs.Conforms.{IsConforming}
 use Rattle.typed_law.proofs.Values.{among_functions}
-use Rattle.constant_law.proofs.Within.{value_misused}
+use Rattle.global_law.proofs.Constant.Within.{value_misused}
 use Rattle.accepted_law.proofs.Small.{args_in, read_operands}
 use Rattle.claim_law.specs.Apart.{AreOfKeys}
 use Rattle.claim_law.specs.Claimed.{IsIn, IsOf}
-use Rattle.claim_law.proofs.Listed.{in_flat, at_place}
+use Rattle.claim_law.proofs.Claim.Listed.{in_flat, at_place}
 use Rattle.grammar_law.proofs.Unit.Lists.{as_among}
 use Rattle.grammar_law.proofs.Unit.TypesWritten.{live_type_written}
 use Rattle.grammar_law.proofs.Unit.Ways.{HaveKinds, F, R, V, plan_is, written_is, in_module, reached_nth}

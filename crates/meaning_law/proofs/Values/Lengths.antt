@@ -72,15 +72,15 @@ use Rattle.typed_law.proofs.Rules.{value_right}
 use Rattle.typed_law.proofs.Shapes.{row_of_shape}
 use Rattle.typed_law.proofs.Types.{row_is}
 use Rattle.typed_law.proofs.Values.{inside, own_shape, IsRow, HasType}
-use Rattle.path_law.specs.Starts.{IsPrivate, IsBuiltIn, IsShared, IsBlock}
-use Rattle.path_law.specs.Chains.{NoneMakes}
-use Rattle.path_law.proofs.Ways.{start_way}
+use Rattle.global_law.specs.Starts.{IsPrivate, IsBuiltIn, IsShared, IsBlock}
+use Rattle.global_law.specs.Chains.{NoneMakes}
+use Rattle.global_law.proofs.Path.Ways.{start_way}
 use Rattle.global_law.specs.Sources.{chosen}
-use Rattle.global_law.proofs.Told.{items_invocation}
-use Rattle.constant_law.proofs.Conforming.{uint_tree}
+use Rattle.global_law.proofs.Global.Told.{items_invocation}
+use Rattle.global_law.proofs.Constant.Conforming.{uint_tree}
 use Rattle.claim_law.specs.Claimed.{IsIn}
-use Rattle.claim_law.proofs.Constants.{found_in}
-use Rattle.claim_law.proofs.Listed.{in_mapped, any_in, at_place}
+use Rattle.claim_law.proofs.Claim.Constants.{found_in}
+use Rattle.claim_law.proofs.Claim.Listed.{in_mapped, any_in, at_place}
 use Rattle.grammar_law.proofs.Unit.Lists.{as_among, numbered_first, same_test}
 use Rattle.grammar_law.proofs.Unit.ResultShapes.{reads_first, IsReadAt, first_read, typed_read, makes, made_shaped}
 use Rattle.grammar_law.proofs.Unit.Steps.{at_index}

@@ -28,11 +28,11 @@ use Rattle.unit_rules.specs.Translation.{id_text}
 use Rattle.unit_rules.specs.Unit.{source_of, IsUnitOf}
 use Rattle.fits_law.specs.State.{ConfFits}
 use Rattle.agree_law.specs.Agree.{Naming, Agree}
-use Rattle.block_law.proofs.Steady.{written_as_read}
+use Rattle.claim_law.proofs.Block.Steady.{written_as_read}
 use Rattle.typed_law.specs.Conforms.{IsConforming}
 use Rattle.typed_law.proofs.Lists.{some_part}
 use Rattle.claim_law.specs.Claimed.{IsIn}
-use Rattle.claim_law.proofs.Listed.{any_in}
+use Rattle.claim_law.proofs.Claim.Listed.{any_in}
 use Rattle.grammar_law.specs.Mentioned.{IsMentioned}
 use Rattle.grammar_law.specs.Words.{AreOfStructs}
 use Rattle.grammar_law.proofs.Unit.Lists.{same_test}

@@ -36,7 +36,7 @@ use Rattle.typed_law.proofs.Rules.{used_type}
 use Rattle.typed_law.proofs.Shapes.{row_of_shape}
 use Rattle.typed_law.proofs.Types.{row_is}
 use Rattle.typed_law.proofs.Used.{among_left, among_flat, struct_part, pointee_among}
-use Rattle.path_law.proofs.Types.{struct_args}
+use Rattle.global_law.proofs.Path.Types.{struct_args}
 use Rattle.places_law.proofs.Blocks.{struct_part_by}
 
 runtime_kind : (o : Op) → is o code.TypeRuntimeArray ≡ true → kind o ≡ kinds.Runtime

@@ -22,7 +22,7 @@ use Rattle.call_law.specs.Known.{IsFunctionOf}
 use Rattle.function_law.specs.Texts.{FunctionText, IsText}
 use Rattle.ruled_law.proofs.Ruled.{contains_of}
 use Rattle.claim_law.specs.Claimed.{IsIn}
-use Rattle.claim_law.proofs.Listed.{in_left, in_right, in_flat, in_mapped}
+use Rattle.claim_law.proofs.Claim.Listed.{in_left, in_right, in_flat, in_mapped}
 use Rattle.naming_law.proofs.Tops.{of_mapped, of_either, of_flat}
 use Rattle.list_law.proofs.Lists.{map_joined}
 use Rattle.naming_law.proofs.Unit.{text, found_plan}

@@ -44,13 +44,13 @@ use Rattle.agree_law.specs.Blocks.{IsOf}
 use Rattle.agree_law.specs.Evaluates.{IsKept}
 use Rattle.agree_law.specs.Points.{Body, Stops}
 use Rattle.agree_law.proofs.Machine.{machine}
-use Rattle.block_law.proofs.Blocks.{first_is}
+use Rattle.claim_law.proofs.Block.Blocks.{first_is}
 use Rattle.edge_law.proofs.Copies.{IsTaken}
 use Rattle.fits_law.specs.State.{value_shape, result_shape, HasShape, functions_of}
 use Rattle.fits_law.specs.Typed.{IsTyped}
 use Rattle.call_law.specs.Known.{IsFunctionOf, LendsWhole}
-use Rattle.path_law.specs.Parts.{StructNames, shape_in}
-use Rattle.path_law.specs.Walks.{struct_names}
+use Rattle.global_law.specs.Parts.{StructNames, shape_in}
+use Rattle.global_law.specs.Walks.{struct_names}
 use Rattle.global_law.specs.Sources.{source_of as run_source}
 use Rattle.plan_law.specs.InOrder.{IsAmong}
 use Rattle.typed_law.specs.Conforms.{IsFormed, IsConforming}

@@ -21,7 +21,7 @@ use Rattle.plan_law.specs.InOrder.{AreRising, IsOwn, AreInOrder}
 use Rattle.plan_law.proofs.Order.{before_of}
 use Rattle.typed_law.proofs.Rules.{operand_there}
 use Rattle.claim_law.specs.Claimed.{IsIn}
-use Rattle.claim_law.proofs.Constants.{found_in}
+use Rattle.claim_law.proofs.Claim.Constants.{found_in}
 use Rattle.grammar_law.specs.Mentioned.{IsMentioned, IsLinked}
 use Rattle.grammar_law.proofs.Unit.Links.{as_linked, linked_in}
 use Rattle.grammar_law.proofs.Unit.Lists.{as_among}

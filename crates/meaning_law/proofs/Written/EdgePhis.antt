@@ -43,7 +43,7 @@ use Rattle.typed_law.proofs.Rules.{flow_right}
 use Rattle.typed_law.proofs.Values.{inside}
 use Rattle.typed_law.proofs.Others.{phi_group}
 use Rattle.claim_law.specs.Claimed.{IsIn}
-use Rattle.claim_law.proofs.Listed.{in_flat, at_place}
+use Rattle.claim_law.proofs.Claim.Listed.{in_flat, at_place}
 use Rattle.grammar_law.proofs.Unit.Lists.{as_among}
 use Rattle.grammar_law.proofs.Unit.Ways.{HaveKinds, F, V, in_module, ordered}
 use Rattle.formed_law.specs.Formed.{IsFormedFunction}

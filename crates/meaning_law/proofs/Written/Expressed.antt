@@ -37,7 +37,7 @@ use Rattle.unit_rules.specs.Unit.{IsUnitOf}
 use Rattle.list_law.proofs.Tests.{and_left}
 use Rattle.region_law.specs.Leads.{In}
 use Rattle.agree_law.specs.Blocks.{IsOf}
-use Rattle.block_law.specs.Ranked.{operand_ids}
+use Rattle.claim_law.specs.Ranked.{operand_ids}
 use Rattle.call_law.specs.Known.{IsFunctionOf, LendsWhole}
 use Rattle.plan_law.specs.Ordered.{AreOrdered}
 use Rattle.plan_law.proofs.Order.{in_order}

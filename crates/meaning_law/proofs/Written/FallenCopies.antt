@@ -28,7 +28,7 @@ use Rattle.unit_rules.specs.Unit.{source_of, IsUnitOf}
 use Rattle.expr_forward.specs.Scope.{Scope}
 use Rattle.name_alloc.specs.declared.claims.Key.TheVariants.{Fell}
 use Rattle.claim_law.specs.Claimed.{IsIn}
-use Rattle.claim_law.proofs.Listed.{in_flat, any_in}
+use Rattle.claim_law.proofs.Claim.Listed.{in_flat, any_in}
 use Rattle.typed_law.proofs.Lists.{clash}
 use Rattle.grammar_law.proofs.Unit.Lists.{same_test, numbered_first}
 use Rattle.naming_law.proofs.Tree.{among_that}

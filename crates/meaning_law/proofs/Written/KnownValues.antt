@@ -26,15 +26,15 @@ use Rattle.unit_rules.specs.Translation.{text_of}
 use Rattle.unit_rules.specs.Unit.{IsUnitOf}
 use Rattle.agree_law.specs.Agree.{Naming}
 use Rattle.fits_law.specs.State.{value_shape, HasShape, ConfFits, ModuleFits, functions_of}
-use Rattle.path_law.specs.Parts.{shape_in}
-use Rattle.path_law.specs.Walks.{struct_names}
+use Rattle.global_law.specs.Parts.{shape_in}
+use Rattle.global_law.specs.Walks.{struct_names}
 use Rattle.global_law.specs.Sources.{source_of}
-use Rattle.global_law.proofs.Plain.{plain_has}
-use Rattle.global_law.proofs.Indexes.{plain_reading}
+use Rattle.global_law.proofs.Global.Plain.{plain_has}
+use Rattle.global_law.proofs.Global.Indexes.{plain_reading}
 use Rattle.typed_law.specs.Conforms.{IsConforming}
 use Rattle.typed_law.specs.Words.{IsSettingOfWords, IsStateOfWords}
 use Rattle.typed_law.proofs.Lists.{and_left, and_right}
-use Rattle.constant_law.proofs.Calculated.{number_value}
+use Rattle.global_law.proofs.Constant.Calculated.{number_value}
 use Rattle.claim_law.specs.Claimed.{IsIn}
 use Rattle.grammar_law.proofs.Unit.Ways.{HaveKinds, F, V, Found, written_is}
 use Rattle.naming_law.proofs.Keys.{S, names}

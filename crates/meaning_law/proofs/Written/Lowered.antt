@@ -37,8 +37,8 @@ use Rattle.fits_law.specs.State.{value_shape}
 use Rattle.fits_law.specs.Typed.{IsTyped}
 use Rattle.lowering_law.specs.BuiltIns.{NoneDeclared}
 use Rattle.lowering_law.specs.Written.{IsShort}
-use Rattle.path_law.specs.Parts.{shape_in}
-use Rattle.path_law.specs.Walks.{struct_names}
+use Rattle.global_law.specs.Parts.{shape_in}
+use Rattle.global_law.specs.Walks.{struct_names}
 use Rattle.typed_law.specs.Conforms.{IsConforming}
 use Rattle.typed_law.proofs.Values.{own_shape}
 use Rattle.claim_law.specs.Claimed.{IsIn}

@@ -17,7 +17,7 @@ use Rattle.function_text.specs.Functions.{FunctionPlan}
 use Rattle.unit_rules.specs.Unit.{IsUnitOf}
 use Rattle.typed_law.specs.Conforms.{IsConforming}
 use Rattle.claim_law.specs.Claimed.{IsIn}
-use Rattle.claim_law.proofs.Constants.{found_in}
+use Rattle.claim_law.proofs.Claim.Constants.{found_in}
 use Rattle.grammar_law.proofs.Unit.Ways.{HaveKinds, F, V, own_type_of, local_outside, never_global}
 use Rattle.meaning_law.proofs.Written.Expressed.{no_zero}
 

@@ -36,8 +36,8 @@ use Rattle.call_law.specs.Known.{IsFunctionOf, is_parameter, LendsWhole}
 use Rattle.typed_law.specs.Conforms.{IsConforming}
 use Rattle.typed_law.proofs.Lists.{clash}
 use Rattle.claim_law.specs.Claimed.{IsIn}
-use Rattle.claim_law.proofs.Listed.{any_in}
-use Rattle.claim_law.proofs.Constants.{found_in}
+use Rattle.claim_law.proofs.Claim.Listed.{any_in}
+use Rattle.claim_law.proofs.Claim.Constants.{found_in}
 use Rattle.grammar_law.specs.Mentioned.{IsMentioned, Stands}
 use Rattle.grammar_law.proofs.Unit.Lists.{same_test, numbered_first}
 use Rattle.grammar_law.proofs.Unit.Shaped.{pointer_none, shaped_value}

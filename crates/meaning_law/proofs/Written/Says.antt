@@ -40,14 +40,14 @@ use Rattle.agree_law.specs.Agree.{Naming}
 use Rattle.agree_law.specs.Blocks.{IsOf, have_result, measured, outcome, has_outcome, read_ids, reads, Stands}
 use Rattle.agree_law.specs.Points.{Body}
 use Rattle.agree_law.proofs.Values.{Way, value_held, value_says}
-use Rattle.block_law.specs.Ranked.{operand_ids, AreBelow, AreUsableBelow, IsForwardedBy, IsRanked}
-use Rattle.block_law.proofs.Steady.{written_as, written_by_name}
+use Rattle.claim_law.specs.Ranked.{operand_ids, AreBelow, AreUsableBelow, IsForwardedBy, IsRanked}
+use Rattle.claim_law.proofs.Block.Steady.{written_as, written_by_name}
 use Rattle.call_law.specs.Known.{IsFunctionOf, LendsWhole}
 use Rattle.typed_law.specs.Conforms.{IsConforming}
 use Rattle.typed_law.proofs.Values.{typed_result, has_a_type, inside}
 use Rattle.claim_law.specs.Claimed.{IsIn, HasName}
-use Rattle.claim_law.proofs.Constants.{found_in}
-use Rattle.claim_law.proofs.Listed.{at_place}
+use Rattle.claim_law.proofs.Claim.Constants.{found_in}
+use Rattle.claim_law.proofs.Claim.Listed.{at_place}
 use Rattle.grammar_law.specs.Mentioned.{IsValueIn}
 use Rattle.grammar_law.proofs.Unit.Lists.{same_test, as_among}
 use Rattle.grammar_law.proofs.Unit.Shaped.{shaped_value}

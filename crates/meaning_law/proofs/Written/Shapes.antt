@@ -24,8 +24,8 @@ use Rattle.text_rules.specs.Declarations.{shape_at}
 use Rattle.function_text.specs.Functions.{FunctionPlan, written}
 use Rattle.unit_rules.specs.Unit.{IsUnitOf}
 use Rattle.fits_law.specs.State.{value_shape, HasShape, IdsFit, ModuleFits}
-use Rattle.path_law.specs.Parts.{shape_in}
-use Rattle.path_law.specs.Walks.{struct_names}
+use Rattle.global_law.specs.Parts.{shape_in}
+use Rattle.global_law.specs.Walks.{struct_names}
 use Rattle.global_law.specs.Sources.{source_of}
 use Rattle.grammar_law.proofs.Unit.ValueNames.{no_pointer}
 use Rattle.naming_law.proofs.Keys.{S, key, names}

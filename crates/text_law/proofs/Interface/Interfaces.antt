@@ -26,7 +26,7 @@ use Rattle.text_rules.specs.Declarations.{Names, type_at, pointee_at, initial, s
 use Rattle.function_text.specs.Functions.{FunctionPlan, written, function_decl}
 use Rattle.unit_rules.specs.Translation.{Naming, IsPlanOf}
 use Rattle.unit_rules.specs.Unit.{item_names_of, called, in_order, reached_of, source_of, IsUnitOf}
-use Rattle.constant_law.proofs.Within.{constant_no_variable}
+use Rattle.global_law.proofs.Constant.Within.{constant_no_variable}
 use Rattle.text_law.specs.Interface.{is_block_item, is_spec_item, items_in, sizes_in, is_seen, block_item, item_of, is_settable, HasInterface}
 
 -- what is a struct is no variable, and neither is a constant; a struct is no constant

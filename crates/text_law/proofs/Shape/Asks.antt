@@ -38,16 +38,16 @@ use Rattle.expr_forward.specs.Statements.{callee_text, has_result, comparator, a
 use Rattle.function_text.specs.Functions.{FunctionPlan}
 use Rattle.unit_rules.specs.Translation.{Naming}
 use Rattle.unit_rules.specs.Unit.{source_of, IsUnitOf}
-use Rattle.spell_law.specs.Uses.{Words, UsesExpr, UseEach, UsesLValue}
-use Rattle.spell_law.specs.Statements.{EachStmt, AskArguments, AsksOperand, MeetsInst}
-use Rattle.spell_law.specs.Blocks.{FitWords}
-use Rattle.constant_law.specs.Items.{AreSpecIds}
+use Rattle.claim_law.specs.Uses.{Words, UsesExpr, UseEach, UsesLValue}
+use Rattle.claim_law.specs.Statements.{EachStmt, AskArguments, AsksOperand, MeetsInst}
+use Rattle.claim_law.specs.Blocks.{FitWords}
+use Rattle.global_law.specs.Items.{AreSpecIds}
 use Rattle.typed_law.specs.Conforms.{IsConforming}
 use Rattle.typed_law.specs.Words.{AreGivenWords}
 use Rattle.typed_law.proofs.Lists.{clash}
 use Rattle.typed_law.proofs.Values.{inside, typed_result}
 use Rattle.claim_law.specs.Claimed.{IsIn}
-use Rattle.claim_law.proofs.Listed.{in_flat, at_place}
+use Rattle.claim_law.proofs.Claim.Listed.{in_flat, at_place}
 use Rattle.grammar_law.specs.Mentioned.{IsValueIn}
 use Rattle.grammar_law.specs.Words.{words_of, AreOfStructs}
 use Rattle.grammar_law.proofs.Unit.Lists.{as_among, of_filter, of_numbered_first}

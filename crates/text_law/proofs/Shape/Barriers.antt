@@ -41,8 +41,8 @@ use Rattle.typed_law.proofs.Rules.{operand_there, value_right, number_right}
 use Rattle.typed_law.proofs.Values.{int_shaped, typed_is, inside, global_typed_some, HasType, passing}
 use Rattle.typed_law.proofs.Operations.{Facts}
 use Rattle.typed_law.proofs.Others.{typed_operand}
-use Rattle.constant_law.specs.Items.{AreSpecIds}
-use Rattle.claim_law.proofs.Listed.{at_place}
+use Rattle.global_law.specs.Items.{AreSpecIds}
+use Rattle.claim_law.proofs.Claim.Listed.{at_place}
 use Rattle.grammar_law.proofs.Unit.Lists.{of_contained, none_passes}
 use Rattle.grammar_law.proofs.Unit.Steps.{at_index}
 use Rattle.grammar_law.proofs.Grammar.Literals.{semantics_right, control_op, memory_op, made_constant, literal_is}

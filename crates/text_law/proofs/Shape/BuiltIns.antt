@@ -17,7 +17,7 @@ use Rattle.region_law.proofs.Flags.{own_text, other_text}
 use Rattle.typed_law.proofs.Lists.{clash}
 use Rattle.claim_law.specs.Bodies.{function_in}
 use Rattle.claim_law.specs.Claimed.{IsIn}
-use Rattle.claim_law.proofs.Bodies.{bodies_are}
+use Rattle.claim_law.proofs.Claim.Bodies.{bodies_are}
 use Rattle.grammar_law.proofs.Grammar.Held.{any_invocation}
 use Rattle.grammar_law.proofs.Grammar.UnitMade.{in_plans}
 use Rattle.naming_law.proofs.Unit.{named_so}

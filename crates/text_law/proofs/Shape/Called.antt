@@ -27,7 +27,7 @@ use Rattle.region_law.proofs.Flags.{same_text, own_text}
 use Rattle.typed_law.specs.Conforms.{IsConforming}
 use Rattle.claim_law.specs.Claimed.{IsIn}
 use Rattle.claim_law.specs.Bodies.{functions_in}
-use Rattle.claim_law.proofs.Told.{named_is}
+use Rattle.claim_law.proofs.Claim.Told.{named_is}
 use Rattle.grammar_law.proofs.Unit.Ways.{HaveKinds, F, V}
 use Rattle.grammar_law.proofs.Grammar.Held.{any_invocation, Run}
 use Rattle.grammar_law.proofs.Grammar.Called.{right, kinds}

@@ -29,8 +29,8 @@ use Rattle.expr_forward.specs.Values.{value}
 use Rattle.expr_forward.specs.Paths.{place_text, place_expr}
 use Rattle.expr_forward.specs.Statements.{set_by, is_void, callee_text, call_argument, call_arguments, has_result, comparator, atomic_operand, atomic_name, atomic_arguments, bare_call, when_bit, memory_barrier, semantics, is_variable_form, inst_text}
 use Rattle.list_law.proofs.Tests.{or_true}
-use Rattle.spell_law.specs.Uses.{UseEach}
-use Rattle.spell_law.specs.Statements.{EachStmt}
+use Rattle.claim_law.specs.Uses.{UseEach}
+use Rattle.claim_law.specs.Statements.{EachStmt}
 use Rattle.text_law.specs.Deeds.{Deed, reads, assigns, calls, deeds, deeds_of, place_deeds}
 use Rattle.text_law.specs.Walks.{Outer, is_in, atomics, barriers, is_seen}
 use Rattle.text_law.specs.Pairs.{Act, loads, stores, enters, updates, bars, does, is_read, is_done}

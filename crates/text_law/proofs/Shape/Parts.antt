@@ -31,10 +31,10 @@ use Rattle.expr_forward.specs.Context.{operand}
 use Rattle.expr_forward.specs.Values.{argument, value_words, literal_words, length_text, whole_argument}
 use Rattle.expr_forward.specs.declared.kinds.OperationKind.{OperationKind}
 use Rattle.expr_forward.specs.declared.kinds.OperationKind.TheVariants as kind
-use Rattle.spell_law.specs.Uses.{Words, UsesExtent, UseExtents, UsesBase, UsesType, UsesExpr, UseSteps}
-use Rattle.spell_law.specs.Named.{IsNamedLength, IsNamedType, AreNamedAlong, CanCopy, CanCopyParts, Asks, AsksIfAny}
-use Rattle.spell_law.specs.Asked.{AsksOf, MeetsKind}
-use Rattle.spell_law.specs.Statements.{AsksSet}
+use Rattle.claim_law.specs.Uses.{Words, UsesExtent, UseExtents, UsesBase, UsesType, UsesExpr, UseSteps}
+use Rattle.claim_law.specs.Named.{IsNamedLength, IsNamedType, AreNamedAlong, CanCopy, CanCopyParts, Asks, AsksIfAny}
+use Rattle.claim_law.specs.Asked.{AsksOf, MeetsKind}
+use Rattle.claim_law.specs.Statements.{AsksSet}
 use Rattle.text_law.specs.Walks.{Outer}
 use Rattle.text_law.specs.Unseen.{unseen}
 

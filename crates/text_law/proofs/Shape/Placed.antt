@@ -22,7 +22,7 @@ use Rattle.glsl_ast.specs.Tree.{Text, Expr, name}
 use Rattle.control_text.specs.declared.place.Place.{Place}
 use Rattle.control_text.specs.Statements.{Blocks, groups_have_break, inside_loop, inside_switch}
 use Rattle.region_law.specs.Leads.{In, AreApart}
-use Rattle.spell_law.specs.Blocks.{IsWhole, IsWholeItem, AreWhole}
+use Rattle.claim_law.specs.Blocks.{IsWhole, IsWholeItem, AreWhole}
 use Rattle.text_law.specs.Deeds.{Deed}
 use Rattle.text_law.specs.Walks.{Outer}
 use Rattle.text_law.specs.Pairs.{Act, repeats, branches, selects, exit_acts, with_round, Pair, turns, chooses, tests, guards, does, is_done, Site, is_of, Frame, turn, choice, test, frame_of, frames_in, Naming, is_again, AreGuards, IsPlaced}

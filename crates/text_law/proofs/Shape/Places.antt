@@ -35,17 +35,17 @@ use Rattle.expr_forward.specs.Values.{length_text}
 use Rattle.function_text.specs.Functions.{FunctionPlan}
 use Rattle.unit_rules.specs.Translation.{Naming, text_of, id_text}
 use Rattle.unit_rules.specs.Unit.{source_of, IsUnitOf}
-use Rattle.spell_law.specs.Uses.{Words, UsesExpr, UseSteps}
-use Rattle.spell_law.proofs.Values.{further-measured}
-use Rattle.path_law.specs.Chains.{NoneMakes, ChainsRise}
+use Rattle.claim_law.specs.Uses.{Words, UsesExpr, UseSteps}
+use Rattle.claim_law.proofs.Spell.Values.{further-measured}
+use Rattle.global_law.specs.Chains.{NoneMakes, ChainsRise}
 use Rattle.typed_law.specs.Conforms.{IsConforming}
 use Rattle.typed_law.specs.Words.{AreGivenWords}
 use Rattle.typed_law.proofs.Values.{inside, typed_result}
 use Rattle.claim_law.specs.Claimed.{IsIn}
 use Rattle.claim_law.specs.Told.{is_among, built_ins as all_built_ins}
-use Rattle.claim_law.proofs.Listed.{in_left, in_right, in_mapped}
-use Rattle.claim_law.proofs.Variables.{variable_no_constant}
-use Rattle.spell_law.specs.Blocks.{FitWords}
+use Rattle.claim_law.proofs.Claim.Listed.{in_left, in_right, in_mapped}
+use Rattle.claim_law.proofs.Claim.Variables.{variable_no_constant}
+use Rattle.claim_law.specs.Blocks.{FitWords}
 use Rattle.region_law.proofs.Flags.{own_text}
 use Rattle.grammar_law.specs.Words.{IsOwnName, words_of, AreOfStructs}
 use Rattle.grammar_law.proofs.Unit.Lists.{in_filter, as_among, as_parameter}

@@ -26,9 +26,9 @@ use Rattle.unit_rules.specs.Unit.{IsUnitOf}
 use Rattle.list_law.proofs.Lists.{get_index}
 use Rattle.region_law.specs.Leads.{In, AreApart}
 use Rattle.tree_law.proofs.SwitchOrder.{order_is}
-use Rattle.spell_law.specs.Blocks.{IsWhole}
+use Rattle.claim_law.specs.Blocks.{IsWhole}
 use Rattle.claim_law.specs.Claimed.{IsIn}
-use Rattle.claim_law.proofs.Flags.{again_key, leave_key, fell_key}
+use Rattle.claim_law.proofs.Claim.Flags.{again_key, leave_key, fell_key}
 use Rattle.grammar_law.specs.Switches.{IsSwitchAt, IsReached, Chooses, Leads}
 use Rattle.grammar_law.proofs.Unit.Whole.{tree-whole}
 use Rattle.naming_law.proofs.Tree.{among_that, switch_exit}

@@ -13,7 +13,7 @@ use Rattle.control_text.specs.declared.place.Place.{Place}
 use Rattle.control_text.specs.Statements.{Blocks, function_text}
 use Rattle.list_law.proofs.Numbers.{number_itself}
 use Rattle.region_law.specs.Leads.{In, AreApart}
-use Rattle.spell_law.specs.Blocks.{IsWhole}
+use Rattle.claim_law.specs.Blocks.{IsWhole}
 use Rattle.text_rules.specs.Constants.{Source}
 use Rattle.text_law.specs.Deeds.{Deed}
 use Rattle.text_law.specs.Walks.{Outer, walk}

@@ -19,10 +19,10 @@ use Rattle.std.specs.Prelude.{nat_lt}
 use Rattle.expr_forward.specs.Scope.{Setting}
 use Rattle.expr_forward.specs.Paths.{index_expr, word_at, vector_size, index_by, steps_text}
 use Rattle.expr_forward.specs.Paths as paths
-use Rattle.spell_law.specs.Uses.{UsesExpr, UseSteps}
-use Rattle.path_law.specs.Chains.{NoneMakes, ChainsRise}
-use Rattle.path_law.proofs.Ways.{start_way, chain_way}
-use Rattle.path_law.proofs.Based.{rank, base_lower}
+use Rattle.claim_law.specs.Uses.{UsesExpr, UseSteps}
+use Rattle.global_law.specs.Chains.{NoneMakes, ChainsRise}
+use Rattle.global_law.proofs.Path.Ways.{start_way, chain_way}
+use Rattle.global_law.proofs.Path.Based.{rank, base_lower}
 use Rattle.claim_law.specs.Claimed.{IsIn}
 use Rattle.grammar_law.proofs.Unit.Lists.{in_block, as_among}
 use Rattle.grammar_law.proofs.Unit.Places.{makes_in}

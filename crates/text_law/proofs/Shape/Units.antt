@@ -23,15 +23,15 @@ use Rattle.expr_forward.specs.declared.kinds.OperationKind.TheVariants as kind
 use Rattle.function_text.specs.Functions.{FunctionPlan, written, body_text}
 use Rattle.unit_rules.specs.Translation.{id_text}
 use Rattle.unit_rules.specs.Unit.{is_called, called, source_of, IsUnitOf}
-use Rattle.spell_law.specs.Uses.{UsesExpr}
-use Rattle.spell_law.specs.Blocks.{FitWords}
+use Rattle.claim_law.specs.Uses.{UsesExpr}
+use Rattle.claim_law.specs.Blocks.{FitWords}
 use Rattle.call_law.specs.Known.{IsFunctionOf}
 use Rattle.typed_law.specs.Conforms.{IsConforming}
 use Rattle.typed_law.specs.Words.{AreBytes, AreGivenWords}
 use Rattle.ruled_law.proofs.Ruled.{contains_of}
 use Rattle.claim_law.specs.Claimed.{IsIn}
 use Rattle.claim_law.specs.Apart.{IsFlow}
-use Rattle.claim_law.proofs.Flags.{again_is_flow, leave_is_flow, fell_is_flow}
+use Rattle.claim_law.proofs.Claim.Flags.{again_is_flow, leave_is_flow, fell_is_flow}
 use Rattle.height_law.proofs.Closed.{sound-of}
 use Rattle.grammar_law.specs.Switches.{IsReached, Chooses, Leads}
 use Rattle.grammar_law.proofs.Unit.ArgWords.{args_words}
@@ -59,8 +59,8 @@ use Rattle.text_law.proofs.Shape.UnseenFunctions.{condition_unseen, result_unsee
 use Rattle.spv_words.specs.declared.rule.Rule.TheVariants.{P11}
 use Rattle.spv_decor.specs.Broken.{Broken}
 use Rattle.expr_forward.specs.Scope.{Scope}
-use Rattle.constant_law.specs.Items.{AreSpecIds}
-use Rattle.constant_law.proofs.Conforming.{spec_ids_are}
+use Rattle.global_law.specs.Items.{AreSpecIds}
+use Rattle.global_law.proofs.Constant.Conforming.{spec_ids_are}
 use Rattle.text_law.proofs.Shape.Places.{length_unseen}
 use Rattle.text_law.proofs.Shape.Called.{callee_seen}
 use Rattle.text_law.proofs.Shape.Asks.{all_ask}

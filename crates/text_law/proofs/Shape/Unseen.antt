@@ -6,8 +6,8 @@ use Rattle.phi_copies.specs.declared.moves.Move.TheVariants.{Set, Save, Restore}
 use Rattle.glsl_ast.specs.Tree.{Text, Expr, literal, name, build, not, flip, binary, choose, length_of, Exprs, no_exprs, expr, LStep, LValue, lvalue, Stmt, declare, assign, when, either, loop, switch, leave, again, give, stmts_in}
 use Rattle.control_text.specs.Statements.{Blocks}
 use Rattle.function_text.specs.Functions.{FunctionPlan, move_text}
-use Rattle.spell_law.specs.Uses.{UsesExpr, UsesMeasured, UseExprs, UseSteps, UsesLValue}
-use Rattle.spell_law.specs.Statements.{UsesIfSome, UsesStmt, EachStmt}
+use Rattle.claim_law.specs.Uses.{UsesExpr, UsesMeasured, UseExprs, UseSteps, UsesLValue}
+use Rattle.claim_law.specs.Statements.{UsesIfSome, UsesStmt, EachStmt}
 use Rattle.text_law.specs.Deeds.{Deed, reads, assigns, calls, deeds, deeds_of, deeds_if, step_deeds, place_deeds, own_deeds}
 use Rattle.text_law.specs.Walks.{Outer, is_in, is_seen, Token, if_any, walk_stmt, walk}
 use Rattle.text_law.specs.Quiet.{AreQuiet, Does, AreSeen}

@@ -26,13 +26,13 @@ use Rattle.function_plan.specs.Phis.{is_gone, is_constant_id, source_by, pairs}
 use Rattle.function_text.specs.Functions.{FunctionPlan, label_of, name_expr, constant_text, source_expr, spare_name, copies_text}
 use Rattle.unit_rules.specs.Translation.{Naming, text_of, id_text}
 use Rattle.unit_rules.specs.Unit.{source_of, IsUnitOf}
-use Rattle.spell_law.specs.Uses.{Words, UsesType, UsesExpr}
-use Rattle.spell_law.specs.Statements.{EachStmt}
-use Rattle.spell_law.specs.Blocks.{FitWords}
+use Rattle.claim_law.specs.Uses.{Words, UsesType, UsesExpr}
+use Rattle.claim_law.specs.Statements.{EachStmt}
+use Rattle.claim_law.specs.Blocks.{FitWords}
 use Rattle.typed_law.specs.Conforms.{IsConforming}
 use Rattle.typed_law.specs.Words.{AreGivenWords}
 use Rattle.claim_law.specs.Claimed.{IsIn}
-use Rattle.claim_law.proofs.Listed.{in_flat, at_place}
+use Rattle.claim_law.proofs.Claim.Listed.{in_flat, at_place}
 use Rattle.grammar_law.specs.Switches.{Leads}
 use Rattle.grammar_law.specs.Words.{words_of, AreOfStructs}
 use Rattle.grammar_law.proofs.Unit.Structs.{Written}

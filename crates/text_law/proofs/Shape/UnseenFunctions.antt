@@ -23,9 +23,9 @@ use Rattle.function_plan.specs.Phis.{is_gone, pairs}
 use Rattle.function_text.specs.Functions.{FunctionPlan, written, first_operand, returned, blocks_of, copies_text, top_text}
 use Rattle.unit_rules.specs.Translation.{id_text}
 use Rattle.unit_rules.specs.Unit.{source_of, IsUnitOf}
-use Rattle.spell_law.specs.Uses.{UsesExpr}
-use Rattle.spell_law.specs.Statements.{EachStmt}
-use Rattle.spell_law.specs.Blocks.{FitWords}
+use Rattle.claim_law.specs.Uses.{UsesExpr}
+use Rattle.claim_law.specs.Statements.{EachStmt}
+use Rattle.claim_law.specs.Blocks.{FitWords}
 use Rattle.typed_law.specs.Conforms.{IsConforming}
 use Rattle.typed_law.specs.Words.{AreGivenWords}
 use Rattle.claim_law.specs.Claimed.{IsIn}

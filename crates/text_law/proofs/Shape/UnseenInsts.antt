@@ -20,17 +20,17 @@ use Rattle.expr_forward.specs.declared.kinds.OperationKind.TheVariants as kind
 use Rattle.function_text.specs.Functions.{FunctionPlan}
 use Rattle.unit_rules.specs.Translation.{Naming, id_text}
 use Rattle.unit_rules.specs.Unit.{source_of, IsUnitOf}
-use Rattle.spell_law.specs.Uses.{Words, UsesExpr, UseSteps}
-use Rattle.spell_law.specs.Blocks.{FitWords}
-use Rattle.spell_law.specs.Asked.{Meets}
-use Rattle.spell_law.specs.Statements.{EachStmt, AsksSet, MeetsInst}
-use Rattle.spell_law.proofs.Values.{operation-uses}
-use Rattle.spell_law.proofs.Statements.{set-uses, inserted-use}
-use Rattle.block_law.specs.Ranked.{operand_ids}
+use Rattle.claim_law.specs.Uses.{Words, UsesExpr, UseSteps}
+use Rattle.claim_law.specs.Blocks.{FitWords}
+use Rattle.claim_law.specs.Asked.{Meets}
+use Rattle.claim_law.specs.Statements.{EachStmt, AsksSet, MeetsInst}
+use Rattle.claim_law.proofs.Spell.Values.{operation-uses}
+use Rattle.claim_law.proofs.Spell.Statements.{set-uses, inserted-use}
+use Rattle.claim_law.specs.Ranked.{operand_ids}
 use Rattle.typed_law.specs.Conforms.{IsConforming}
 use Rattle.typed_law.specs.Words.{AreGivenWords}
 use Rattle.claim_law.specs.Claimed.{IsIn}
-use Rattle.claim_law.proofs.Listed.{in_flat, at_place}
+use Rattle.claim_law.proofs.Claim.Listed.{in_flat, at_place}
 use Rattle.grammar_law.specs.Mentioned.{IsValueIn}
 use Rattle.grammar_law.specs.Words.{words_of, AreOfStructs}
 use Rattle.grammar_law.proofs.Unit.ResultShapes.{IsShaped}

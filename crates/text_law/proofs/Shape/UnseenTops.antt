@@ -23,12 +23,12 @@ use Rattle.expr_forward.specs.Statements.{captured_of}
 use Rattle.function_text.specs.Functions.{FunctionPlan, is_variable, variable_text, variables_text, is_hoisted_in, hoisted_text, hoisted_texts, captured_text, captured_texts_of, captured_texts, in_blocks, top_text}
 use Rattle.unit_rules.specs.Translation.{Naming, id_text, names_of}
 use Rattle.unit_rules.specs.Unit.{source_of, IsUnitOf}
-use Rattle.spell_law.specs.Uses.{Words, UsesExpr}
-use Rattle.spell_law.specs.Blocks.{FitWords}
+use Rattle.claim_law.specs.Uses.{Words, UsesExpr}
+use Rattle.claim_law.specs.Blocks.{FitWords}
 use Rattle.typed_law.specs.Conforms.{IsConforming}
 use Rattle.typed_law.specs.Words.{AreGivenWords}
 use Rattle.claim_law.specs.Claimed.{IsIn}
-use Rattle.claim_law.proofs.Constants.{found_in}
+use Rattle.claim_law.proofs.Claim.Constants.{found_in}
 use Rattle.grammar_law.specs.Words.{AreOfStructs}
 use Rattle.grammar_law.proofs.Unit.Lists.{at_some, of_filter, of_flat, in_either}
 use Rattle.grammar_law.proofs.Unit.Structs.{Written}

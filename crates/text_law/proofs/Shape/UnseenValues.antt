@@ -36,19 +36,19 @@ use Rattle.function_plan.specs.Phis.{is_gone}
 use Rattle.function_text.specs.Functions.{FunctionPlan}
 use Rattle.unit_rules.specs.Translation.{Naming, id_text, names_of}
 use Rattle.unit_rules.specs.Unit.{source_of, IsUnitOf}
-use Rattle.block_law.specs.Ranked.{IsForwardedBy}
-use Rattle.spell_law.specs.Uses.{Words, UsesExtent, UsesExpr}
-use Rattle.spell_law.specs.Blocks.{FitWords}
-use Rattle.spell_law.specs.Asked.{Meets, IsAsked}
-use Rattle.spell_law.proofs.Values.{value-uses}
+use Rattle.claim_law.specs.Ranked.{IsForwardedBy}
+use Rattle.claim_law.specs.Uses.{Words, UsesExtent, UsesExpr}
+use Rattle.claim_law.specs.Blocks.{FitWords}
+use Rattle.claim_law.specs.Asked.{Meets, IsAsked}
+use Rattle.claim_law.proofs.Spell.Values.{value-uses}
 use Rattle.typed_law.specs.Conforms.{IsConforming}
 use Rattle.typed_law.specs.Words.{AreGivenWords}
 use Rattle.typed_law.proofs.Lists.{and_left, some_part}
 use Rattle.typed_law.proofs.Values.{own_type, shaped_some}
-use Rattle.constant_law.proofs.Within.{constant_no_variable}
+use Rattle.global_law.proofs.Constant.Within.{constant_no_variable}
 use Rattle.claim_law.specs.Claimed.{IsIn, HasName}
-use Rattle.claim_law.proofs.Constants.{found_in}
-use Rattle.claim_law.proofs.Listed.{at_place}
+use Rattle.claim_law.proofs.Claim.Constants.{found_in}
+use Rattle.claim_law.proofs.Claim.Listed.{at_place}
 use Rattle.grammar_law.specs.Mentioned.{IsValueIn}
 use Rattle.grammar_law.specs.Words.{words_of, AreOfStructs}
 use Rattle.grammar_law.specs.Types.{IsLengthOf}

@@ -11,7 +11,7 @@ use Rattle.glsl_ast.specs.Tree as text
 use Rattle.glsl_ast.specs.Tree.{Text, Expr, Stmt, name, give, when, stmts_in, arms_in}
 use Rattle.control_text.specs.declared.place.Place.{Place}
 use Rattle.control_text.specs.Statements.{Blocks, set_flag, declare_flag, flags, conditional, unless_fallen, groups_have_break, plain_block, leave_again, by_target, in_order, turn, inside_loop, inside_switch, leave_loop, edge_text, exit_text, entering, onward, entering_case, behind_switch, labels_text, fell_flags, loop_flags, loop_text, region_text, item_text, groups_text}
-use Rattle.spell_law.specs.Blocks.{IsHereAt, IsEntered, GoesOn, IsWhole, IsWholeItem, AreWhole}
+use Rattle.claim_law.specs.Blocks.{IsHereAt, IsEntered, GoesOn, IsWhole, IsWholeItem, AreWhole}
 use Rattle.text_law.specs.Deeds.{Deed, reads, assigns}
 use Rattle.text_law.specs.Walks as walks
 use Rattle.text_law.specs.Walks.{Outer, is_in, Token, if_any, walk_stmt, walk, walk_arms}

@@ -20,8 +20,8 @@ use Rattle.region_law.specs.Leads.{In, AreApart as AreApartNumbers}
 use Rattle.region_law.proofs.Flags.{same_text}
 use Rattle.unit_rules.specs.Translation.{Naming, text_of}
 use Rattle.claim_law.specs.Claimed.{IsIn, HasName}
-use Rattle.claim_law.proofs.Listed.{in_left, in_right}
-use Rattle.claim_law.proofs.Told.{named_is}
+use Rattle.claim_law.proofs.Claim.Listed.{in_left, in_right}
+use Rattle.claim_law.proofs.Claim.Told.{named_is}
 use Rattle.naming_law.proofs.Tops.{of_filtered, of_mapped, of_either, of_flat}
 use Rattle.naming_law.proofs.Once.{have_not, one_inst, number_from}
 use Rattle.text_law.specs.Declarations.{occurs}

@@ -55,7 +55,7 @@ use Rattle.naming_law.proofs.Planned.{same_block, leave_inside, flags_apart}
 use Rattle.naming_law.proofs.Functions.{planned_of, function_of_plan}
 use Rattle.naming_law.proofs.Tree.{tree_written}
 use Rattle.claim_law.specs.Bodies.{function_in, functions_in}
-use Rattle.claim_law.proofs.Bodies.{bodies_are}
+use Rattle.claim_law.proofs.Claim.Bodies.{bodies_are}
 use Rattle.text_law.specs.Declarations.{valued, unset, occurs, AreSame}
 use Rattle.text_law.specs.Variables.{phi_pairs, with_value, without_value, Declares, IsBodyOf, HasVariables}
 use Rattle.text_law.proofs.Variables.Plans.{IsKnown, spares}

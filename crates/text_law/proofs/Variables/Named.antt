@@ -38,8 +38,8 @@ use Rattle.unit_rules.specs.Translation.{Naming}
 use Rattle.unit_rules.specs.Unit.{claims_by, source_of, IsUnitOf}
 use Rattle.region_law.specs.Leads.{In}
 use Rattle.claim_law.specs.Claimed.{IsIn, HasName, IsOf}
-use Rattle.claim_law.proofs.Flags.{at_inside}
-use Rattle.claim_law.proofs.Named.{result_named, again_named, leave_named, fell_named, captured_named}
+use Rattle.claim_law.proofs.Claim.Flags.{at_inside}
+use Rattle.claim_law.proofs.Claim.Named.{result_named, again_named, leave_named, fell_named, captured_named}
 use Rattle.naming_law.proofs.Keys.{placed_in, hoisted_is, variable_has}
 use Rattle.naming_law.proofs.Tops.{of_filtered}
 use Rattle.grammar_law.proofs.Unit.Lists.{of_numbered_first}

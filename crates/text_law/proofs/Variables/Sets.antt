@@ -34,7 +34,7 @@ use Rattle.plan_law.proofs.Order.{in_order}
 use Rattle.plan_law.specs.InOrder.{IsAmong}
 use Rattle.typed_law.specs.Conforms.{IsConforming}
 use Rattle.claim_law.specs.Claimed.{IsIn}
-use Rattle.claim_law.proofs.Listed.{in_flat, at_place}
+use Rattle.claim_law.proofs.Claim.Listed.{in_flat, at_place}
 use Rattle.grammar_law.proofs.Unit.Lists.{in_block, as_among, same_test, test_same}
 use Rattle.grammar_law.proofs.Unit.Forms.{placed, is_placed, form_at, unmade_gone}
 use Rattle.grammar_law.proofs.Unit.Ways.{HaveKinds, F, R, V, ordered, plan_is, in_module}

@@ -23,9 +23,9 @@ use Rattle.function_plan.specs.Targets.{targets_in}
 use Rattle.function_text.specs.Functions.{FunctionPlan, written}
 use Rattle.unit_rules.specs.Unit.{IsUnitOf}
 use Rattle.claim_law.specs.Claimed.{IsIn, HasName}
-use Rattle.claim_law.proofs.Listed.{at_place}
-use Rattle.claim_law.proofs.Flags.{at_inside}
-use Rattle.claim_law.proofs.Named.{spare_named}
+use Rattle.claim_law.proofs.Claim.Listed.{at_place}
+use Rattle.claim_law.proofs.Claim.Flags.{at_inside}
+use Rattle.claim_law.proofs.Claim.Named.{spare_named}
 use Rattle.naming_law.proofs.Tops.{of_filtered}
 use Rattle.grammar_law.proofs.Grammar.Moving.{edge_moves}
 use Rattle.grammar_law.proofs.Grammar.PairsOf.{in_once}

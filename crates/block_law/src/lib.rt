@@ -1,2 +1,0 @@
-// What is written of a function's blocks: the text of a block is that of its instructions, and the expression of a value is that of its operation. Definitions and laws alone.
-#![tactic(auto)]

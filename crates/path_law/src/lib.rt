@@ -1,2 +1,0 @@
-// The text of a pointer's path stands for the place to which the pointer leads. Definitions and laws alone.
-#![tactic(auto)]

@@ -1,6 +1,0 @@
-pub mod Uses
-pub mod Named
-pub mod Asked
-pub mod Statements
-pub mod Blocks
-pub mod Units
