@@ -1,11 +1,2 @@
+pub mod Ruled
 pub mod Formed
-pub mod Blocks
-pub mod Reach
-pub mod Inner
-pub mod Pointers
-pub mod Pointing
-pub mod Shaped
-pub mod Traced
-pub mod Parameters
-pub mod Declares
-pub mod Labelled

@@ -36,7 +36,7 @@ use Rattle.function_law.specs.Passed.{NamesMemory}
 use Rattle.typed_law.specs.Conforms.{IsConforming}
 use Rattle.typed_law.proofs.Lists.{some_by, found_in}
 use Rattle.typed_law.proofs.Values.{inside, own_local}
-use Rattle.ruled_law.proofs.Ruled.{contains_of, parameter_of}
+use Rattle.formed_law.proofs.Ruled.Ruled.{contains_of, parameter_of}
 use Rattle.naming_law.specs.Alone.{AreAlone}
 use Rattle.naming_law.specs.Names.{is_other, is_result, is_value_parameter, is_variable_name, is_local_form, is_written_private, keeps, names_by}
 

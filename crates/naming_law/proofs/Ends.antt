@@ -33,7 +33,7 @@ use Rattle.typed_law.specs.Conforms.{IsFormed}
 use Rattle.function_law.proofs.Nodes.{node_is}
 use Rattle.formed_law.specs.Formed.{IsFormedFunction}
 use Rattle.naming_law.specs.Ends.{term_by, is_lost_block, term_of, HasLabels}
-use Rattle.formed_law.proofs.Blocks.{end_is, body_if, reached_body}
+use Rattle.formed_law.proofs.Formed.Blocks.{end_is, body_if, reached_body}
 
 -- what an exit tells of an opcode
 branch_step : (p : Op) → exit_of p ≡ Branch → (step_kind p ≡ steps.branch ends.Branch) × ((n : ℕ) → (shape p).least ≤ 1 + count_of (has_type p) + count_of (has_result p) + n → 1 ≤ n)

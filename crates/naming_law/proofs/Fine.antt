@@ -41,7 +41,7 @@ use Rattle.type_law.specs.Shaped.{EachFound}
 use Rattle.typed_law.specs.Conforms.{IsParameter, IsConforming}
 use Rattle.typed_law.proofs.Lists.{some_by, found_in}
 use Rattle.typed_law.proofs.Values.{inside, global_typed_some, typed_is}
-use Rattle.ruled_law.proofs.Ruled.{contains_of, variable_has}
+use Rattle.formed_law.proofs.Ruled.Ruled.{contains_of, variable_has}
 use Rattle.claim_law.specs.Claimed.{IsIn}
 use Rattle.claim_law.proofs.Claim.Flags.{planned_as}
 use Rattle.naming_law.specs.Names.{is_written_private, shape_of, text_of_plan}

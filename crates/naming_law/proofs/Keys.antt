@@ -41,7 +41,7 @@ use Rattle.agree_law.specs.Agree.{Naming, is_named, AreApart}
 use Rattle.call_law.specs.Known.{is_parameter}
 use Rattle.typed_law.specs.Conforms.{IsParameter}
 use Rattle.typed_law.proofs.Lists.{some_by}
-use Rattle.ruled_law.proofs.Ruled.{parameter_of}
+use Rattle.formed_law.proofs.Ruled.Ruled.{parameter_of}
 use Rattle.claim_law.specs.Claimed.{IsIn, HasName, IsOf}
 use Rattle.claim_law.specs.Apart.{IsOutside, AreOfKeys}
 use Rattle.claim_law.proofs.Claim.Keys.{result_claimed, constant_claimed, variable_claimed}

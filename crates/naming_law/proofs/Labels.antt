@@ -24,7 +24,7 @@ use Rattle.call_law.specs.Known.{IsFunctionOf}
 use Rattle.typed_law.specs.Conforms.{IsConforming}
 use Rattle.typed_law.proofs.Rules.{operand_there}
 use Rattle.typed_law.proofs.Values.{inside}
-use Rattle.ruled_law.proofs.Ruled.{contains_of}
+use Rattle.formed_law.proofs.Ruled.Ruled.{contains_of}
 use Rattle.claim_law.specs.Claimed.{IsIn}
 use Rattle.claim_law.proofs.Claim.Listed.{in_flat, at_place}
 use Rattle.naming_law.specs.Ends.{HasLabels}

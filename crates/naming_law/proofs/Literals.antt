@@ -27,7 +27,7 @@ use Rattle.function_law.proofs.CaseGroups.{IsNoWord, AreOnceWords}
 use Rattle.typed_law.specs.Conforms.{IsConforming}
 use Rattle.typed_law.proofs.Lists.{or_left, or_right}
 use Rattle.typed_law.proofs.Rules.{flow_right}
-use Rattle.ruled_law.proofs.Ruled.{contains_of}
+use Rattle.formed_law.proofs.Ruled.Ruled.{contains_of}
 use Rattle.claim_law.proofs.Claim.Listed.{in_flat, at_place}
 use Rattle.naming_law.proofs.Once.{among_in}
 use Rattle.naming_law.proofs.Labels.{found_among}

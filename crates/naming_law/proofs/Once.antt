@@ -34,7 +34,7 @@ use Rattle.unit_rules.specs.Translation.{plan_scope}
 use Rattle.unit_rules.specs.Unit.{source_of, IsUnitOf}
 use Rattle.module_semantics.specs.Setting.{Setting}
 use Rattle.list_law.proofs.Tests.{no_flip}
-pub use Rattle.formed_law.proofs.Pointing.{chain_result}
+pub use Rattle.formed_law.proofs.Formed.Pointing.{chain_result}
 use Rattle.agree_law.specs.Agree.{Naming}
 use Rattle.call_law.specs.Known.{IsFunctionOf}
 use Rattle.function_law.specs.Tops.{Top, IsNoTop, AreOnceTops, AreTops}
@@ -43,7 +43,7 @@ use Rattle.plan_law.specs.InOrder.{IsAmong, HaveNot, AreApart}
 use Rattle.typed_law.specs.Conforms.{IsConforming}
 use Rattle.typed_law.proofs.Values.{inside, local_row, variable_type_is, typed_result}
 use Rattle.typed_law.proofs.Others.{typed_some}
-use Rattle.ruled_law.proofs.Ruled.{contains_of, variable_has}
+use Rattle.formed_law.proofs.Ruled.Ruled.{contains_of, variable_has}
 use Rattle.claim_law.specs.Claimed.{IsIn}
 use Rattle.claim_law.proofs.Claim.Listed.{in_flat}
 use Rattle.claim_law.proofs.Claim.Apart.{same_number}

@@ -23,7 +23,7 @@ use Rattle.claim_law.specs.Claimed.{IsIn}
 use Rattle.claim_law.proofs.Claim.Flags.{at_inside, again_key, leave_key, fell_key}
 use Rattle.tree_law.specs.Written.{FlagsApart}
 use Rattle.naming_law.proofs.Keys.{some_in}
-use Rattle.formed_law.proofs.Labelled.{AreOnceLabels, label_found}
+use Rattle.formed_law.proofs.Formed.Labelled.{AreOnceLabels, label_found}
 
 -- what names a merge block is a block
 merges_inside : (g : List Node) (h t : ℕ) → merge_block g h ≡ Some t → h < length g

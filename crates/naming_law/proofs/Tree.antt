@@ -35,7 +35,7 @@ use Rattle.function_law.proofs.TreeWays.{AreGroups}
 use Rattle.formed_law.specs.Formed.{IsFormedFunction}
 use Rattle.naming_law.specs.Ends.{term_by, is_lost_block, term_of}
 use Rattle.claim_law.proofs.Claim.Flags.{at_inside}
-use Rattle.formed_law.proofs.Blocks.{has_body}
+use Rattle.formed_law.proofs.Formed.Blocks.{has_body}
 use Rattle.naming_law.proofs.Ends.{least_of, targets_of}
 
 pub among_that : (test : ℕ → Bool) (n from b : ℕ) → test b ≡ true → from ≤ b → b < from + n → is_among (filter test (range_with_len from n)) b ≡ true

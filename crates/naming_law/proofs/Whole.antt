@@ -52,9 +52,9 @@ use Rattle.typed_law.specs.Conforms.{IsFormed}
 use Rattle.formed_law.specs.Formed.{IsFormedFunction}
 use Rattle.formed_law.specs.Traced.{IsReachedBlock, IsTraced}
 use Rattle.naming_law.specs.Ends.{term_of, HasLabels}
-use Rattle.formed_law.proofs.Blocks.{reached_body, has_body}
+use Rattle.formed_law.proofs.Formed.Blocks.{reached_body, has_body}
 use Rattle.naming_law.proofs.Ends.{ends_by}
-use Rattle.formed_law.proofs.Reach.{first_marked}
+use Rattle.formed_law.proofs.Formed.Reach.{first_marked}
 use Rattle.naming_law.proofs.Tree.{switch_exit, tree_written}
 use Rattle.naming_law.proofs.Written.{AreAsked, are_written}
 

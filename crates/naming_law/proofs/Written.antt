@@ -41,7 +41,7 @@ use Rattle.typed_law.specs.Conforms.{IsFormed}
 use Rattle.formed_law.specs.Formed.{IsFormedFunction}
 use Rattle.formed_law.specs.Traced.{IsReachedBlock}
 use Rattle.naming_law.specs.Ends.{term_of, HasLabels}
-use Rattle.formed_law.proofs.Blocks.{reached_body, has_body}
+use Rattle.formed_law.proofs.Formed.Blocks.{reached_body, has_body}
 use Rattle.naming_law.proofs.Ends.{ends_by, jumps_to, branches_to, table_kind, return_kind, lost_kind}
 use Rattle.naming_law.proofs.Insts.{AllAsk, all_follow}
 

@@ -40,10 +40,10 @@ use Rattle.formed_law.specs.Traced.{IsTraced}
 use Rattle.naming_law.specs.Ends.{HasLabels}
 use Rattle.naming_law.proofs.Fine.{each_found}
 use Rattle.naming_law.proofs.Functions.{planned_of}
-use Rattle.formed_law.proofs.Inner.{accepted_inner}
+use Rattle.formed_law.proofs.Formed.Inner.{accepted_inner}
 use Rattle.naming_law.proofs.Keys.{S, keys_are}
 use Rattle.naming_law.proofs.Once.{a_value, among_in}
-use Rattle.formed_law.proofs.Shaped.{AreGlobals, accepted_shaped}
+use Rattle.formed_law.proofs.Formed.Shaped.{AreGlobals, accepted_shaped}
 use Rattle.naming_law.proofs.Unit.{items, ordered, text}
 use Rattle.naming_law.proofs.Whole.{stands_reached}
 use Rattle.grammar_law.proofs.Unit.Lists.{as_in, as_among, of_contained}
@@ -51,7 +51,7 @@ use Rattle.grammar_law.proofs.Unit.Ways.{HaveKinds, F, R, V, in_module}
 use Rattle.grammar_law.proofs.Grammar.Inner.{stands_within}
 use Rattle.grammar_law.proofs.Grammar.Lives.{lives}
 use Rattle.meaning_law.proofs.Moves.Planned.{planned_edge}
-use Rattle.formed_law.proofs.Labelled.{label_place}
+use Rattle.formed_law.proofs.Formed.Labelled.{label_place}
 use Rattle.naming_law.proofs.Firsts.{of_in}
 use Rattle.meaning_law.proofs.Values.EdgesLeft.{edge_left}
 use Rattle.meaning_law.proofs.Steps.Joined.{AreCallsMet, calls_met, insts_met}

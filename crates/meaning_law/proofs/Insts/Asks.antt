@@ -66,15 +66,15 @@ use Rattle.typed_law.specs.Conforms.{IsConforming, IsConformingIn}
 use Rattle.typed_law.proofs.Lists.{clash}
 use Rattle.typed_law.proofs.Values.{inside, own_type}
 use Rattle.typed_law.proofs.Others.{typed_some}
-use Rattle.ruled_law.proofs.Ruled.{contains_of}
+use Rattle.formed_law.proofs.Ruled.Ruled.{contains_of}
 use Rattle.claim_law.specs.Claimed.{IsIn}
 use Rattle.grammar_law.proofs.Unit.Lists.{as_in}
 use Rattle.grammar_law.proofs.Unit.Shaped.{shaped_value}
 use Rattle.grammar_law.proofs.Unit.Sets.{chain_no_phi}
 use Rattle.grammar_law.proofs.Unit.Ways.{HaveKinds, plan_is}
 use Rattle.formed_law.specs.Formed.{IsFormedBlock, IsFormedFunction}
-use Rattle.formed_law.proofs.Blocks.{reached_body, reached_only}
-use Rattle.formed_law.proofs.Inner.{is_inner}
+use Rattle.formed_law.proofs.Formed.Blocks.{reached_body, reached_only}
+use Rattle.formed_law.proofs.Formed.Inner.{is_inner}
 use Rattle.naming_law.specs.Names.{is_other}
 use Rattle.naming_law.specs.Types.{IsTypeOfText}
 use Rattle.naming_law.proofs.Insts.{IsSet, IsUnset, Plain, Comes, AsksAccess, Inserts, kept_exprs, Asks, AllAsk}

@@ -21,7 +21,7 @@ use Rattle.expr_forward.specs.declared.kinds.InstKind.TheVariants as kind
 use Rattle.expr_forward.specs.declared.kinds.OperationKind.{OperationKind}
 use Rattle.expr_forward.specs.Kinds.{kind_in, kind_of}
 use Rattle.expr_forward.specs.Statements.{has_result as gives_word}
-use Rattle.formed_law.proofs.Inner.{is_inner}
+use Rattle.formed_law.proofs.Formed.Inner.{is_inner}
 
 load_in : (g : OpGroup) → kind_in g ≡ kind.Load → step_in g ≡ steps.load
 load_in groups.Load e = refl

@@ -24,8 +24,8 @@ use Rattle.claim_law.specs.Claimed.{IsIn}
 use Rattle.claim_law.proofs.Claim.Listed.{in_flat, at_place}
 use Rattle.grammar_law.proofs.Unit.Lists.{as_among}
 use Rattle.formed_law.specs.Formed.{ArePlain, IsFormedBlock}
-use Rattle.formed_law.proofs.Blocks.{behind_is}
-use Rattle.formed_law.proofs.Inner.{is_inner}
+use Rattle.formed_law.proofs.Formed.Blocks.{behind_is}
+use Rattle.formed_law.proofs.Formed.Inner.{is_inner}
 use Rattle.naming_law.proofs.Firsts.{of_in as in_of}
 use Rattle.meaning_law.proofs.Written.Done.{rising_in, rising_low}
 use Rattle.meaning_law.proofs.Written.EndsSay.{in_middle}

@@ -47,14 +47,14 @@ use Rattle.plan_law.specs.InOrder.{IsAmong}
 use Rattle.plan_law.proofs.Order.{found}
 use Rattle.typed_law.specs.Conforms.{IsConforming, IsConformingIn}
 use Rattle.typed_law.proofs.Values.{inside}
-use Rattle.ruled_law.proofs.Ruled.{contains_of}
+use Rattle.formed_law.proofs.Ruled.Ruled.{contains_of}
 use Rattle.claim_law.specs.Claimed.{IsIn}
 use Rattle.grammar_law.proofs.Unit.Lists.{as_in}
 use Rattle.grammar_law.proofs.Unit.Sets.{chain_no_phi}
 use Rattle.grammar_law.proofs.Unit.Ways.{HaveKinds, F, V, in_module, plan_is, written_is}
 use Rattle.formed_law.specs.Formed.{IsFormedFunction}
-use Rattle.formed_law.proofs.Blocks.{reached_body}
-use Rattle.formed_law.proofs.Inner.{is_inner}
+use Rattle.formed_law.proofs.Formed.Blocks.{reached_body}
+use Rattle.formed_law.proofs.Formed.Inner.{is_inner}
 use Rattle.naming_law.specs.Types.{IsTypeOfText}
 use Rattle.naming_law.proofs.Keys.{S, key, names}
 use Rattle.naming_law.proofs.Once.{chain_result}

@@ -27,7 +27,7 @@ use Rattle.typed_law.specs.Conforms.{IsFormed}
 use Rattle.typed_law.proofs.Rules.{operand_there}
 use Rattle.grammar_law.proofs.Unit.Operands.{has_id, has_of, dropped_at, among_slot, not_one, not_zero}
 use Rattle.grammar_law.proofs.Unit.Sets.{chain_id, chain_value}
-use Rattle.formed_law.proofs.Inner.{is_inner}
+use Rattle.formed_law.proofs.Formed.Inner.{is_inner}
 use Rattle.meaning_law.proofs.Written.Mentions.{first_word, length_op, length_value, length_id, length_least}
 use Rattle.meaning_law.proofs.Written.Expressed.{as_in, is_operation}
 

@@ -47,8 +47,8 @@ use Rattle.grammar_law.proofs.Unit.Operands.{same_ids, operand_shaped, operation
 use Rattle.grammar_law.proofs.Unit.Ways.{HaveKinds, F, R, V, in_module, reached_nth}
 use Rattle.grammar_law.proofs.Meets.LiveOrGone.{placed_live}
 use Rattle.formed_law.specs.Formed.{IsFormedBlock, IsFormedFunction}
-use Rattle.formed_law.proofs.Blocks.{reached_body, reached_only}
-use Rattle.formed_law.proofs.Inner.{is_inner}
+use Rattle.formed_law.proofs.Formed.Blocks.{reached_body, reached_only}
+use Rattle.formed_law.proofs.Formed.Inner.{is_inner}
 use Rattle.naming_law.proofs.Keys.{S, names}
 use Rattle.meaning_law.proofs.Written.Expressed.{is_operation, operands_by, variable_live}
 use Rattle.meaning_law.proofs.Written.NamesOf.{names_are}

@@ -37,7 +37,7 @@ use Rattle.claim_law.proofs.Claim.Listed.{in_flat, in_mapped, at_place}
 use Rattle.grammar_law.proofs.Unit.Lists.{test_same, at_some, in_filter, none_passes, numbered_first, as_among}
 use Rattle.function_law.proofs.Nodes.{node_is}
 use Rattle.formed_law.specs.Formed.{IsFormedFunction}
-use Rattle.formed_law.proofs.Blocks.{reached_body, only_end, end_is}
+use Rattle.formed_law.proofs.Formed.Blocks.{reached_body, only_end, end_is}
 use Rattle.naming_law.proofs.Ends.{ends_by}
 use Rattle.naming_law.proofs.Keys.{some_in}
 use Rattle.naming_law.proofs.Firsts.{of_in}

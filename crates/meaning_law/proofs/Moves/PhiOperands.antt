@@ -81,7 +81,7 @@ use Rattle.meaning_law.proofs.Written.Done.{all_behind}
 use Rattle.meaning_law.proofs.Written.Expressed.{local_no_phi}
 use Rattle.meaning_law.proofs.Written.Outside.{no_global}
 use Rattle.meaning_law.proofs.Written.Placed.{IsMadeBy, maker, IsPlaced, placed}
-use Rattle.formed_law.proofs.Blocks.{behind_is}
+use Rattle.formed_law.proofs.Formed.Blocks.{behind_is}
 use Rattle.meaning_law.proofs.Written.Says.{have_done, AreNamesOf, local_form_is}
 use Rattle.plan_law.proofs.Order.{in_order}
 use Rattle.typed_law.proofs.Calls.{variable_typed}

@@ -53,7 +53,7 @@ use Rattle.claim_law.proofs.Claim.Listed.{any_in}
 use Rattle.grammar_law.proofs.Unit.Lists.{same_test, test_same, of_contained, of_filter}
 use Rattle.grammar_law.proofs.Unit.Ways.{HaveKinds, F, R, V, in_module, plan_is, ordered, written_is}
 use Rattle.formed_law.specs.Formed.{IsFormedFunction}
-use Rattle.formed_law.proofs.Blocks.{reached_body, reached_only}
+use Rattle.formed_law.proofs.Formed.Blocks.{reached_body, reached_only}
 use Rattle.naming_law.proofs.Keys.{S, names, some_in}
 use Rattle.grammar_law.proofs.Grammar.PairsOf.{IsPairOf, pair_of, in_once}
 use Rattle.meaning_law.proofs.Written.EdgeMoves.{IsRightPair, all_typed, all_reads}

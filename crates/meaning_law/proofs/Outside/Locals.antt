@@ -58,7 +58,7 @@ use Rattle.typed_law.proofs.Values.{same_count, IsRow, parameter_row, among_func
 use Rattle.typed_law.proofs.Others.{typed_some}
 use Rattle.places_law.proofs.Blocks.{type_found}
 use Rattle.accepted_law.proofs.Accepted.{accepted_conforming}
-use Rattle.ruled_law.proofs.Ruled.{contains_of, variable_has}
+use Rattle.formed_law.proofs.Ruled.Ruled.{contains_of, variable_has}
 use Rattle.global_law.specs.Within.{IsWithin, IsNoBlock}
 use Rattle.global_law.proofs.Constant.Within.{pointee_misused, misused_within, value_within}
 use Rattle.global_law.proofs.Constant.Written.{IsHeld}
@@ -69,9 +69,9 @@ use Rattle.grammar_law.proofs.Unit.Ways.{planned_as, reached_nth}
 use Rattle.grammar_law.proofs.Unit.TypesWritten.{parameter_type_written}
 use Rattle.grammar_law.proofs.Meets.Roots.{variable_impure}
 use Rattle.formed_law.specs.Declares.{HaveNoVariable, NoneDeclare, DeclaresFirst}
-use Rattle.formed_law.proofs.Declares.{declares_first}
+use Rattle.formed_law.proofs.Formed.Declares.{declares_first}
 use Rattle.naming_law.proofs.Keys.{placed_in, S, found as names_found, R}
-use Rattle.formed_law.proofs.Reach.{first_marked}
+use Rattle.formed_law.proofs.Formed.Reach.{first_marked}
 use Rattle.meaning_law.specs.Left.{IsLeftOfGlobals}
 use Rattle.meaning_law.proofs.Outside.Text.{function_of_plan}
 

@@ -51,7 +51,7 @@ use Rattle.typed_law.specs.Conforms.{IsConforming}
 use Rattle.typed_law.proofs.Lists.{found_in}
 use Rattle.typed_law.proofs.Values.{inside, own_local}
 use Rattle.accepted_law.proofs.Accepted.{accepted_conforming}
-use Rattle.ruled_law.proofs.Ruled.{parameter_of}
+use Rattle.formed_law.proofs.Ruled.Ruled.{parameter_of}
 use Rattle.global_law.specs.Parts.{shape_in}
 use Rattle.global_law.specs.Chains.{NoneMakes}
 use Rattle.global_law.specs.Walks.{struct_names}

@@ -37,7 +37,7 @@ use Rattle.typed_law.proofs.Calls.{global_variable_is, global_points}
 use Rattle.type_law.specs.Shaped.{HasConstants}
 use Rattle.typed_law.specs.Conforms.{IsConforming}
 use Rattle.accepted_law.proofs.Accepted.{accepted_conforming}
-use Rattle.ruled_law.proofs.Ruled.{variable_has}
+use Rattle.formed_law.proofs.Ruled.Ruled.{variable_has}
 use Rattle.memory_places.specs.Mentions.{is_among_ids, with_ids, mention}
 use Rattle.memory_places.proofs.Reached.{mentioned_are}
 use Rattle.global_law.specs.Parts.{shape_in}

@@ -85,7 +85,7 @@ use Rattle.grammar_law.proofs.Unit.Ways.{planned_as}
 use Rattle.function_law.specs.Tops.{Top, SaysFirst, SaysTop, AllSay}
 use Rattle.function_law.proofs.PlannedText.{variable_top, hoisted_top, index_top, variable_tops, hoisted_tops, index_tops, tops_of}
 use Rattle.grammar_law.proofs.Meets.OperandNames.{composite_of}
-use Rattle.formed_law.proofs.Pointing.{chain_result}
+use Rattle.formed_law.proofs.Formed.Pointing.{chain_result}
 use Rattle.naming_law.specs.Alone.{AreAlone}
 use Rattle.naming_law.specs.Names.{is_outer_global, has_text}
 use Rattle.naming_law.proofs.Alone.{are_alone}

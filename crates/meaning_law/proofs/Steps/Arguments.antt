@@ -53,7 +53,7 @@ use Rattle.typed_law.specs.Conforms.{IsConforming, IsParameter}
 use Rattle.typed_law.proofs.Calls.{AreOfTypes}
 use Rattle.typed_law.proofs.Lists.{and_left, and_off, or_left, or_right, clash, found_in}
 use Rattle.typed_law.proofs.Values.{inside, own_local}
-use Rattle.ruled_law.proofs.Ruled.{contains_of}
+use Rattle.formed_law.proofs.Ruled.Ruled.{contains_of}
 use Rattle.global_law.proofs.Constant.Written.{no_pointee}
 use Rattle.claim_law.specs.Claimed.{IsIn}
 use Rattle.grammar_law.proofs.Unit.Ways.{HaveKinds, plan_is}

@@ -90,7 +90,7 @@ use Rattle.typed_law.proofs.Others.{target_of}
 use Rattle.typed_law.proofs.Rules.{number_right, access_right}
 use Rattle.typed_law.proofs.Shapes.{row_of_shape, shaped_type}
 use Rattle.typed_law.proofs.Values.{IsRow, HasType, inside, one_type, own_shape}
-use Rattle.ruled_law.proofs.Ruled.{contains_of}
+use Rattle.formed_law.proofs.Ruled.Ruled.{contains_of}
 use Rattle.claim_law.specs.Claimed.{IsIn}
 use Rattle.grammar_law.proofs.Unit.ResultShapes.{reads_first, reads_fourth, has_operand, stores, IsReadAt, first_read, fourth_read, swap_read, typed_read, points_by}
 use Rattle.grammar_law.proofs.Unit.ResultShapes as results

@@ -83,7 +83,7 @@ use Rattle.typed_law.proofs.Others.{contains_found, typed_some}
 use Rattle.typed_law.proofs.Rules.{flow_right}
 use Rattle.typed_law.proofs.Values.{HasType, inside, own_type, same_count, typed_value, typed_result, value_sized}
 use Rattle.global_law.specs.Sources.{chosen}
-use Rattle.ruled_law.proofs.Ruled.{contains_of, parameter_of}
+use Rattle.formed_law.proofs.Ruled.Ruled.{contains_of, parameter_of}
 use Rattle.claim_law.specs.Claimed.{IsIn}
 use Rattle.grammar_law.proofs.Unit.CallTypes.{call_typed, call_group, call_id, called_function, there_by, right_call, given_value, call_row}
 use Rattle.grammar_law.proofs.Unit.CallTypes as types
@@ -94,7 +94,7 @@ use Rattle.list_law.proofs.Lists.{behind_first}
 use Rattle.grammar_law.proofs.Meets.CallMeets.{call_need, call_value}
 use Rattle.formed_law.specs.Formed.{IsFormedFunction}
 use Rattle.formed_law.specs.Traced.{IsTraced}
-use Rattle.formed_law.proofs.Inner.{is_inner, accepted_inner}
+use Rattle.formed_law.proofs.Formed.Inner.{is_inner, accepted_inner}
 use Rattle.naming_law.specs.Names.{shape_of}
 use Rattle.naming_law.proofs.Alone.{names_memory, variable_inst}
 use Rattle.naming_law.proofs.Functions.{found_by}

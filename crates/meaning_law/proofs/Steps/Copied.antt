@@ -38,7 +38,7 @@ use Rattle.typed_law.specs.Words.{IsSettingOfWords, IsStateOfWords}
 use Rattle.claim_law.specs.Claimed.{IsIn}
 use Rattle.grammar_law.proofs.Unit.Ways.{HaveKinds, F}
 use Rattle.formed_law.specs.Formed.{IsFormedFunction}
-use Rattle.formed_law.proofs.Blocks.{reached_body}
+use Rattle.formed_law.proofs.Formed.Blocks.{reached_body}
 use Rattle.naming_law.proofs.Keys.{S, names}
 use Rattle.meaning_law.specs.Left.{IsLeftOfGlobals}
 use Rattle.meaning_law.proofs.Outside.Text.{P as program_in}

@@ -67,13 +67,13 @@ use Rattle.typed_law.specs.Conforms.{IsConforming, IsConformingIn}
 use Rattle.typed_law.specs.Words.{IsSettingOfWords, IsStateOfWords}
 use Rattle.typed_law.proofs.Lists.{some_part}
 use Rattle.typed_law.proofs.Values.{inside, value_sized}
-use Rattle.ruled_law.proofs.Ruled.{contains_of}
+use Rattle.formed_law.proofs.Ruled.Ruled.{contains_of}
 use Rattle.claim_law.specs.Claimed.{IsIn}
 use Rattle.grammar_law.proofs.Unit.Lists.{as_in}
 use Rattle.grammar_law.proofs.Unit.Ways.{HaveKinds, F, V, plan_is, written_is}
 use Rattle.formed_law.specs.Formed.{IsFormedFunction}
-use Rattle.formed_law.proofs.Blocks.{reached_body, reached_only}
-use Rattle.formed_law.proofs.Inner.{is_inner, accepted_inner}
+use Rattle.formed_law.proofs.Formed.Blocks.{reached_body, reached_only}
+use Rattle.formed_law.proofs.Formed.Inner.{is_inner, accepted_inner}
 use Rattle.naming_law.proofs.Keys.{S, key as key_of, names}
 use Rattle.meaning_law.specs.Left.{IsLeftOfGlobals}
 use Rattle.meaning_law.proofs.Outside.Text.{P as program_in}

@@ -50,17 +50,17 @@ use Rattle.typed_law.specs.Words.{IsSettingOfWords, IsStateOfWords}
 use Rattle.typed_law.proofs.Values.{inside}
 use Rattle.function_law.specs.UnderWay.{IsUnderWay, IsRuled}
 use Rattle.function_law.proofs.UnderWay.{way_kept}
-use Rattle.ruled_law.proofs.Ruled.{contains_of}
+use Rattle.formed_law.proofs.Ruled.Ruled.{contains_of}
 use Rattle.global_law.specs.Sources.{chosen}
 use Rattle.claim_law.specs.Claimed.{IsIn}
 use Rattle.grammar_law.proofs.Unit.Lists.{as_in}
 use Rattle.grammar_law.proofs.Unit.Ways.{HaveKinds, F, plan_is, written_is}
 use Rattle.formed_law.specs.Formed.{IsFormedFunction}
 use Rattle.formed_law.specs.Traced.{IsTraced}
-use Rattle.formed_law.proofs.Blocks.{reached_body}
-use Rattle.formed_law.proofs.Inner.{is_inner, accepted_inner}
-use Rattle.formed_law.proofs.Pointing.{accepted_chains}
-use Rattle.formed_law.proofs.Shaped.{AreGlobals, accepted_shaped}
+use Rattle.formed_law.proofs.Formed.Blocks.{reached_body}
+use Rattle.formed_law.proofs.Formed.Inner.{is_inner, accepted_inner}
+use Rattle.formed_law.proofs.Formed.Pointing.{accepted_chains}
+use Rattle.formed_law.proofs.Formed.Shaped.{AreGlobals, accepted_shaped}
 use Rattle.naming_law.proofs.Insts.{AllAsk}
 use Rattle.naming_law.proofs.Keys.{S, key, found as names_found, names}
 use Rattle.naming_law.proofs.Firsts.{of_in}

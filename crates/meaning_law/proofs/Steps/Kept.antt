@@ -44,8 +44,8 @@ use Rattle.grammar_law.proofs.Unit.Links.{placed_in}
 use Rattle.grammar_law.proofs.Unit.Ways.{HaveKinds, F, R, V, in_module, plan_is, reached_nth}
 use Rattle.grammar_law.proofs.Meets.LiveOrGone.{placed_live}
 use Rattle.formed_law.specs.Formed.{IsFormedBlock, IsFormedFunction}
-use Rattle.formed_law.proofs.Blocks.{reached_body, reached_only}
-use Rattle.formed_law.proofs.Inner.{is_inner, accepted_inner}
+use Rattle.formed_law.proofs.Formed.Blocks.{reached_body, reached_only}
+use Rattle.formed_law.proofs.Formed.Inner.{is_inner, accepted_inner}
 use Rattle.naming_law.proofs.Keys.{S, names}
 use Rattle.meaning_law.specs.Left.{IsLeftOfGlobals}
 use Rattle.meaning_law.proofs.Insts.KindSteps.{chain_step}

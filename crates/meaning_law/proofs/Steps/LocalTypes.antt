@@ -41,9 +41,9 @@ use Rattle.grammar_law.proofs.Unit.Forms.{unmade_gone}
 use Rattle.grammar_law.proofs.Unit.Lists.{as_in, as_among}
 use Rattle.grammar_law.proofs.Unit.Ways.{HaveKinds, F, plan_is, written_is, reached_nth}
 use Rattle.formed_law.specs.Formed.{IsFormedFunction}
-use Rattle.formed_law.proofs.Blocks.{reached_body, reached_only}
-use Rattle.formed_law.proofs.Inner.{accepted_inner}
-use Rattle.formed_law.proofs.Shaped.{AreGlobals, accepted_shaped}
+use Rattle.formed_law.proofs.Formed.Blocks.{reached_body, reached_only}
+use Rattle.formed_law.proofs.Formed.Inner.{accepted_inner}
+use Rattle.formed_law.proofs.Formed.Shaped.{AreGlobals, accepted_shaped}
 use Rattle.naming_law.specs.Types.{IsTypeOfText}
 use Rattle.naming_law.proofs.Keys.{S, key as key_of}
 use Rattle.meaning_law.specs.Left.{IsLeftOfGlobals}

@@ -36,8 +36,8 @@ use Rattle.typed_law.specs.Words.{IsSettingOfWords, IsStateOfWords}
 use Rattle.claim_law.specs.Claimed.{IsIn}
 use Rattle.grammar_law.proofs.Unit.Lists.{as_in}
 use Rattle.grammar_law.proofs.Unit.Ways.{HaveKinds, F, V}
-use Rattle.formed_law.proofs.Inner.{is_inner, accepted_inner}
-use Rattle.formed_law.proofs.Shaped.{AreGlobals, accepted_shaped}
+use Rattle.formed_law.proofs.Formed.Inner.{is_inner, accepted_inner}
+use Rattle.formed_law.proofs.Formed.Shaped.{AreGlobals, accepted_shaped}
 use Rattle.naming_law.proofs.Keys.{S, names}
 use Rattle.meaning_law.specs.Left.{IsLeftOfGlobals}
 use Rattle.meaning_law.proofs.Outside.Text.{P as program_in}

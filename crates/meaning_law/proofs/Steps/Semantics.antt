@@ -52,14 +52,14 @@ use Rattle.typed_law.specs.Conforms.{IsConforming}
 use Rattle.typed_law.specs.Words.{IsSettingOfWords, IsStateOfWords}
 use Rattle.typed_law.proofs.Lists.{or_left, found_in}
 use Rattle.typed_law.proofs.Values.{inside}
-use Rattle.ruled_law.proofs.Ruled.{contains_of}
+use Rattle.formed_law.proofs.Ruled.Ruled.{contains_of}
 use Rattle.global_law.specs.Items.{AreAsked}
 use Rattle.global_law.proofs.Constant.Standing.{scalar_fit}
 use Rattle.claim_law.specs.Claimed.{IsIn}
 use Rattle.grammar_law.proofs.Unit.Lists.{of_contained}
 use Rattle.grammar_law.proofs.Unit.Ways.{HaveKinds, F, V, in_module, plan_is, written_is}
 use Rattle.formed_law.specs.Formed.{IsFormedFunction}
-use Rattle.formed_law.proofs.Inner.{accepted_inner}
+use Rattle.formed_law.proofs.Formed.Inner.{accepted_inner}
 use Rattle.grammar_law.proofs.Grammar.Literals.{semantics_right, control_op, memory_op, made_constant, literal_is}
 use Rattle.naming_law.proofs.Keys.{S, found as names_found, R, names}
 use Rattle.meaning_law.specs.Left.{IsLeftOfGlobals}

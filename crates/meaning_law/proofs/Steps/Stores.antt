@@ -65,7 +65,7 @@ use Rattle.typed_law.proofs.Rules.{value_right}
 use Rattle.typed_law.proofs.Shapes.{row_of_shape}
 use Rattle.typed_law.proofs.Values.{inside, own_type, value_type_has}
 use Rattle.global_law.specs.Sources.{chosen}
-use Rattle.ruled_law.proofs.Ruled.{contains_of}
+use Rattle.formed_law.proofs.Ruled.Ruled.{contains_of}
 use Rattle.claim_law.specs.Claimed.{IsIn}
 use Rattle.grammar_law.proofs.Unit.Lists.{as_in}
 use Rattle.grammar_law.proofs.Unit.ResultShapes.{reads_first, reads_second, IsReadAt, first_read, second_read, typed_read}

@@ -63,7 +63,7 @@ use Rattle.plan_law.proofs.Order.{found}
 use Rattle.typed_law.specs.Conforms.{IsConforming, IsConformingIn}
 use Rattle.typed_law.proofs.Lists.{clash}
 use Rattle.typed_law.proofs.Values.{inside, own_local}
-use Rattle.ruled_law.proofs.Ruled.{class_pointed}
+use Rattle.formed_law.proofs.Ruled.Ruled.{class_pointed}
 use Rattle.claim_law.specs.Claimed.{IsIn}
 use Rattle.claim_law.proofs.Claim.Constants.{found_in}
 use Rattle.claim_law.proofs.Claim.Listed.{any_in, at_place}
@@ -81,7 +81,7 @@ use Rattle.grammar_law.proofs.Unit.Ways.{HaveKinds, F, R, V, in_module, written_
 use Rattle.grammar_law.proofs.Meets.GlobalReads.{mention_listed, captured_listed}
 use Rattle.grammar_law.proofs.Meets.PointerStarts.{none_of}
 use Rattle.formed_law.specs.Formed.{IsFormedFunction}
-use Rattle.formed_law.proofs.Pointing.{accepted_chains}
+use Rattle.formed_law.proofs.Formed.Pointing.{accepted_chains}
 use Rattle.naming_law.proofs.Keys.{S, key, found as names_found, names}
 use Rattle.meaning_law.specs.Left.{IsLeftOfGlobals}
 use Rattle.meaning_law.proofs.Outside.Constants.{IsMentioned as IsListed, index_constant, index_literal}
@@ -92,8 +92,8 @@ use Rattle.meaning_law.proofs.Written.Placed.{chain_step}
 use Rattle.meaning_law.proofs.Steps.Indexes.{no_names, no_structs, number as is_number, own_shape, kept_shape, counted, is_kept, written_so, own_none, stands_there}
 use Rattle.grammar_law.proofs.Unit.ResultShapes.{constant_shaped}
 use Rattle.global_law.proofs.Constant.Written.{no_pointee}
-use Rattle.formed_law.proofs.Blocks.{reached_body, reached_only}
-use Rattle.formed_law.proofs.Inner.{is_inner, accepted_inner}
+use Rattle.formed_law.proofs.Formed.Blocks.{reached_body, reached_only}
+use Rattle.formed_law.proofs.Formed.Inner.{is_inner, accepted_inner}
 use Rattle.naming_law.proofs.Firsts.{of_in}
 use Rattle.structure_rules.specs.Graph.{graph}
 use Rattle.meaning_law.proofs.Insts.New.{split_behind}

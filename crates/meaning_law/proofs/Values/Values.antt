@@ -33,7 +33,7 @@ use Rattle.claim_law.specs.Claimed.{IsIn}
 use Rattle.grammar_law.proofs.Unit.Lists.{as_among}
 use Rattle.grammar_law.proofs.Unit.Ways.{HaveKinds, F, V}
 use Rattle.formed_law.specs.Formed.{IsFormedBlock}
-use Rattle.formed_law.proofs.Inner.{accepted_inner}
+use Rattle.formed_law.proofs.Formed.Inner.{accepted_inner}
 use Rattle.naming_law.proofs.Keys.{S, names}
 use Rattle.meaning_law.specs.Left.{IsLeftOfGlobals}
 use Rattle.meaning_law.proofs.Outside.Text.{P as program_in}

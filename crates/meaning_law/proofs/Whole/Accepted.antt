@@ -22,7 +22,7 @@ use Rattle.typed_law.specs.Conforms.{IsFormed, IsConforming}
 use Rattle.typed_law.specs.Words.{IsSettingOfWords}
 use Rattle.typed_law.proofs.Values.{inside}
 use Rattle.accepted_law.proofs.Accepted.{accepted_conforming}
-use Rattle.ruled_law.proofs.Ruled.{contains_of, among_of}
+use Rattle.formed_law.proofs.Ruled.Ruled.{contains_of, among_of}
 use Rattle.claim_law.specs.Claimed.{IsIn}
 use Rattle.naming_law.specs.Alone.{AreAlone}
 use Rattle.formed_law.specs.Declares.{DeclaresFirst}
@@ -30,13 +30,13 @@ use Rattle.naming_law.specs.Ends.{HasLabels}
 use Rattle.formed_law.specs.Formed.{IsFormedFunction}
 use Rattle.formed_law.specs.Traced.{IsTraced}
 use Rattle.naming_law.proofs.Alone.{are_alone, kept_once}
-use Rattle.formed_law.proofs.Declares.{declares_first}
+use Rattle.formed_law.proofs.Formed.Declares.{declares_first}
 use Rattle.naming_law.proofs.Fine.{each_found}
-use Rattle.formed_law.proofs.Formed.{formed}
+use Rattle.formed_law.proofs.Formed.Formed.{formed}
 use Rattle.naming_law.proofs.Keys.{S, key, R, names, are_apart}
 use Rattle.naming_law.proofs.Labels.{labels_there}
-use Rattle.formed_law.proofs.Parameters.{parameters_once}
-use Rattle.formed_law.proofs.Traced.{accepted_traced}
+use Rattle.formed_law.proofs.Formed.Parameters.{parameters_once}
+use Rattle.formed_law.proofs.Formed.Traced.{accepted_traced}
 use Rattle.naming_law.proofs.Functions.{function_of_plan}
 
 module _ (bytes : List ℕ) (m : ModuleState) (o : Options) (read : IsReadFrom bytes m) (fine : IsFine m o) (unit : TranslationUnit) (u : IsUnitOf m o unit) (inv : Invocation) where

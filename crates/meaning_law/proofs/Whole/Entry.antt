@@ -35,7 +35,7 @@ use Rattle.call_law.specs.Known.{IsFunctionOf}
 use Rattle.function_law.specs.Texts.{IsText}
 use Rattle.typed_law.proofs.Lists.{or_left, or_right, and_off}
 use Rattle.typed_law.proofs.Values.{result_row}
-use Rattle.ruled_law.proofs.Ruled.{contains_of}
+use Rattle.formed_law.proofs.Ruled.Ruled.{contains_of}
 use Rattle.claim_law.specs.Claimed.{IsIn}
 use Rattle.naming_law.proofs.Keys.{S}
 use Rattle.naming_law.proofs.Unit.{text, texts, named_so}

@@ -30,14 +30,14 @@ use Rattle.function_law.proofs.AllFunctions.{IsKnownText, AllKnown}
 use Rattle.function_law.proofs.OneFunction.{IsWritten}
 use Rattle.call_law.specs.Known.{IsFunctionOf}
 use Rattle.typed_law.specs.Words.{IsSettingOfWords}
-use Rattle.ruled_law.proofs.Ruled.{contains_of}
+use Rattle.formed_law.proofs.Ruled.Ruled.{contains_of}
 use Rattle.claim_law.specs.Claimed.{IsIn}
 use Rattle.formed_law.specs.Traced.{IsTraced}
 use Rattle.naming_law.proofs.Alone.{names_memory}
 use Rattle.naming_law.proofs.Fine.{is_fine}
 use Rattle.naming_law.proofs.Firsts.{variables_first}
 use Rattle.naming_law.proofs.Keys.{S, key, R}
-use Rattle.formed_law.proofs.Labelled.{accepted_labels}
+use Rattle.formed_law.proofs.Formed.Labelled.{accepted_labels}
 use Rattle.naming_law.proofs.Literals.{literals_once}
 use Rattle.naming_law.proofs.Once.{tops_named}
 use Rattle.naming_law.proofs.Planned.{leave_inside, flags_apart}

@@ -20,7 +20,7 @@ use Rattle.unit_rules.specs.Unit.{has_id, plan_at, in_order, IsUnitOf}
 use Rattle.agree_law.specs.Blocks.{IsOf}
 use Rattle.call_law.specs.Known.{IsFunctionOf}
 use Rattle.function_law.specs.Texts.{FunctionText, IsText}
-use Rattle.ruled_law.proofs.Ruled.{contains_of}
+use Rattle.formed_law.proofs.Ruled.Ruled.{contains_of}
 use Rattle.claim_law.specs.Claimed.{IsIn}
 use Rattle.claim_law.proofs.Claim.Listed.{in_left, in_right, in_flat, in_mapped}
 use Rattle.naming_law.proofs.Tops.{of_mapped, of_either, of_flat}

@@ -22,7 +22,7 @@ use Rattle.accepted_law.proofs.Accepted.{accepted_start}
 use Rattle.naming_law.specs.Names.{shape_of}
 use Rattle.formed_law.specs.Traced.{IsTraced}
 use Rattle.naming_law.proofs.Keys.{S, key, R}
-use Rattle.formed_law.proofs.Traced.{accepted_first}
+use Rattle.formed_law.proofs.Formed.Traced.{accepted_first}
 use Rattle.naming_law.proofs.Unit.{text, ordered, items, texts, functions_are, once_named}
 use Rattle.meaning_law.proofs.Whole.Worded.{worded as worded_of}
 use Rattle.meaning_law.proofs.Whole.Accepted.{ruled}

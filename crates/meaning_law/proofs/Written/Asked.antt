@@ -54,7 +54,7 @@ use Rattle.global_law.specs.Walks.{struct_names}
 use Rattle.global_law.specs.Sources.{source_of as run_source}
 use Rattle.plan_law.specs.InOrder.{IsAmong}
 use Rattle.typed_law.specs.Conforms.{IsFormed, IsConforming}
-use Rattle.ruled_law.proofs.Ruled.{contains_of, among_of}
+use Rattle.formed_law.proofs.Ruled.Ruled.{contains_of, among_of}
 use Rattle.claim_law.specs.Claimed.{IsIn}
 use Rattle.claim_law.specs.Apart.{AreOfKeys}
 use Rattle.function_law.specs.UnderWay.{IsUnderWay, IsRuled}
@@ -65,7 +65,7 @@ use Rattle.grammar_law.proofs.Unit.Ways.{HaveKinds, F, written_is}
 use Rattle.formed_law.specs.Formed.{IsFormedFunction}
 use Rattle.formed_law.specs.Traced.{IsReachedBlock, IsTraced}
 use Rattle.naming_law.specs.Ends.{term_of, HasLabels}
-use Rattle.formed_law.proofs.Blocks.{reached_body}
+use Rattle.formed_law.proofs.Formed.Blocks.{reached_body}
 use Rattle.naming_law.proofs.Ends.{ends_by, branches_to, table_kind, return_kind}
 use Rattle.naming_law.proofs.Insts.{AllAsk}
 use Rattle.naming_law.proofs.Keys.{S, key, names}

@@ -47,7 +47,7 @@ use Rattle.claim_law.proofs.Claim.Listed.{in_flat, at_place}
 use Rattle.grammar_law.proofs.Unit.Lists.{as_among}
 use Rattle.grammar_law.proofs.Unit.Ways.{HaveKinds, F, V, in_module, ordered}
 use Rattle.formed_law.specs.Formed.{IsFormedFunction}
-use Rattle.formed_law.proofs.Blocks.{phis_come_first}
+use Rattle.formed_law.proofs.Formed.Blocks.{phis_come_first}
 use Rattle.naming_law.specs.Names.{is_result, is_value_parameter}
 use Rattle.meaning_law.proofs.Written.EdgeSource.{one_source}
 use Rattle.meaning_law.proofs.Written.PhiLabels.{phi_labels}

@@ -34,7 +34,7 @@ use Rattle.typed_law.specs.Conforms.{IsConforming}
 use Rattle.claim_law.specs.Claimed.{IsIn}
 use Rattle.grammar_law.proofs.Unit.Ways.{HaveKinds, F, R, V, plan_is, reached_nth}
 use Rattle.formed_law.specs.Formed.{IsFormedFunction}
-use Rattle.formed_law.proofs.Blocks.{reached_body, reached_only}
+use Rattle.formed_law.proofs.Formed.Blocks.{reached_body, reached_only}
 use Rattle.naming_law.proofs.Keys.{S, names}
 use Rattle.meaning_law.proofs.Written.Mentions.{reads_first}
 use Rattle.meaning_law.proofs.Written.Shapes.{value_has, has_shape}

@@ -32,7 +32,7 @@ use Rattle.grammar_law.proofs.Unit.Lists.{as_among}
 use Rattle.grammar_law.proofs.Unit.Links.{placed_in}
 use Rattle.grammar_law.proofs.Unit.Ways.{HaveKinds, F, R, V, in_module}
 use Rattle.formed_law.specs.Formed.{IsFormedBlock, IsFormedFunction}
-use Rattle.formed_law.proofs.Blocks.{behind_is, reached_body}
+use Rattle.formed_law.proofs.Formed.Blocks.{behind_is, reached_body}
 use Rattle.meaning_law.proofs.Written.Done.{all_behind}
 use Rattle.meaning_law.proofs.Written.Mentions.{reads_first, first_no_phi, terminator_mentions}
 use Rattle.meaning_law.proofs.Written.Says.{IsReady, AreNamesOf, SaysSo, IsLeftOfValues, ready_says}

@@ -50,7 +50,7 @@ use Rattle.grammar_law.proofs.Unit.Forms.{placed as placed_at, is_placed, form_a
 use Rattle.grammar_law.proofs.Unit.Shaped.{shaped_value}
 use Rattle.grammar_law.proofs.Unit.Operands.{ids_at, same_ids}
 use Rattle.grammar_law.proofs.Unit.Ways.{HaveKinds, F, R, V, in_module, plan_is, ordered}
-use Rattle.formed_law.proofs.Inner.{is_inner}
+use Rattle.formed_law.proofs.Formed.Inner.{is_inner}
 use Rattle.naming_law.proofs.Firsts.{of_in}
 use Rattle.meaning_law.proofs.Written.Placed.{chain_step, variable_step, value_no_pointer}
 

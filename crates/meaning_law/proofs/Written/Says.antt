@@ -56,7 +56,7 @@ use Rattle.grammar_law.proofs.Unit.Ways.{HaveKinds, Found, F, R, V, in_module, p
 use Rattle.grammar_law.proofs.Unit.Operands.{operand_shaped, operation_no_phi, operand_mentioned}
 use Rattle.grammar_law.proofs.Unit.Usable.{Ranks, ranked}
 use Rattle.formed_law.specs.Formed.{IsFormedBlock}
-use Rattle.formed_law.proofs.Inner.{is_inner}
+use Rattle.formed_law.proofs.Formed.Inner.{is_inner}
 use Rattle.naming_law.specs.Names.{is_result, is_value_parameter, is_local_form}
 use Rattle.meaning_law.proofs.Written.Done.{maker_before, done_before}
 use Rattle.meaning_law.proofs.Written.Mentions.{length_mentions, length_no_undef}

@@ -35,12 +35,12 @@ use Rattle.spv_words.specs.Words.{words}
 use Rattle.accepted_law.proofs.Accepted.{accepted_conforming}
 use Rattle.typed_law.proofs.Values.{inside}
 use Rattle.typed_law.specs.Conforms.{IsConforming, IsFormed}
-use Rattle.ruled_law.proofs.Ruled.{contains_of, among_of}
+use Rattle.formed_law.proofs.Ruled.Ruled.{contains_of, among_of}
 use Rattle.call_law.specs.Known.{IsFunctionOf}
 use Rattle.claim_law.specs.Claimed.{IsIn, HasName}
-use Rattle.formed_law.proofs.Formed.{formed}
-use Rattle.formed_law.proofs.Inner.{accepted_inner}
-use Rattle.formed_law.proofs.Labelled.{accepted_labels}
+use Rattle.formed_law.proofs.Formed.Formed.{formed}
+use Rattle.formed_law.proofs.Formed.Inner.{accepted_inner}
+use Rattle.formed_law.proofs.Formed.Labelled.{accepted_labels}
 use Rattle.grammar_law.proofs.Unit.Ways.{HaveKinds, planned, F, written_is}
 use Rattle.grammar_law.proofs.Unit.Lists.{of_filter, as_in}
 use Rattle.grammar_law.proofs.Unit.ResultShapes.{stands_inside}

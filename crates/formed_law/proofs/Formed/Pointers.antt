@@ -66,8 +66,8 @@ use Rattle.typed_law.proofs.Shapes.{no_int, no_bool, row_of_shape, whole_shape}
 use Rattle.typed_law.proofs.Operations.{four_off}
 use Rattle.typed_law.proofs.Others.{typed_some, contains_found, callee_is}
 use Rattle.typed_law.proofs.Whole.{is_typed}
-use Rattle.ruled_law.proofs.Ruled.{parameter_of, class_there, pointer_by}
-use Rattle.formed_law.proofs.Inner.{is_frame}
+use Rattle.formed_law.proofs.Ruled.Ruled.{parameter_of, class_there, pointer_by}
+use Rattle.formed_law.proofs.Formed.Inner.{is_frame}
 
 -- groups whose instructions have a type
 abbrev is_typed_group : OpGroup → Bool

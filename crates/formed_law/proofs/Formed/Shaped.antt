@@ -54,9 +54,9 @@ use Rattle.typed_law.proofs.Rules.{operand_there, refused}
 use Rattle.typed_law.proofs.Values.{IsRow, global_row, shape_of_row, value_type_has, inside, parameter_right, value_sized, own_type, has_a_type, variable_type_is}
 use Rattle.typed_law.proofs.Others.{typed_some}
 use Rattle.accepted_law.proofs.Accepted.{accepted_conforming}
-use Rattle.ruled_law.proofs.Ruled.{contains_of, parameter_of, lends_whole}
-use Rattle.formed_law.proofs.Inner.{is_frame, accepted_free}
-use Rattle.formed_law.proofs.Pointers.{NoSame, row, function_shapeless, shapeless_is, no_tree, no_class, shapeless_none}
+use Rattle.formed_law.proofs.Ruled.Ruled.{contains_of, parameter_of, lends_whole}
+use Rattle.formed_law.proofs.Formed.Inner.{is_frame, accepted_free}
+use Rattle.formed_law.proofs.Formed.Pointers.{NoSame, row, function_shapeless, shapeless_is, no_tree, no_class, shapeless_none}
 
 of_among : (is : List Inst) (i : Inst) → IsAmong i is → IsOf i is
 of_among [] i there = there

@@ -30,10 +30,10 @@ use Rattle.typed_law.specs.Conforms.{BreakNone}
 use Rattle.typed_law.specs.Words.{AreAllWords, IsSettingOfWords, IsStateOfWords, LeadsToWords}
 use Rattle.typed_law.proofs.LowSteps.{words_step, words_start}
 use Rattle.accepted_law.proofs.Accepted.{break_none}
-use Rattle.ruled_law.proofs.Ruled.{conforming_lends, conforming_ruled}
+use Rattle.formed_law.proofs.Ruled.Ruled.{conforming_lends, conforming_ruled}
 use Rattle.formed_law.specs.Traced.{IsReachedBlock, IsTraced}
-use Rattle.formed_law.proofs.Pointing.{conforming_chains}
-use Rattle.formed_law.proofs.Reach.{conforming_reached}
+use Rattle.formed_law.proofs.Formed.Pointing.{conforming_chains}
+use Rattle.formed_law.proofs.Formed.Reach.{conforming_reached}
 
 -- words
 words_are : (ws : List ℕ) → are_words ws ≡ true → AreAllWords ws

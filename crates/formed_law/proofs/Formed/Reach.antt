@@ -39,11 +39,11 @@ use Rattle.typed_law.proofs.Words.{conforms}
 use Rattle.height_law.proofs.Closed.{closed_reached}
 use Rattle.function_law.proofs.CaseGroups.{placed_below}
 use Rattle.function_law.proofs.Nodes.{node_is}
-use Rattle.ruled_law.proofs.Ruled.{contains_of, among_of}
+use Rattle.formed_law.proofs.Ruled.Ruled.{contains_of, among_of}
 use Rattle.formed_law.specs.Formed.{IsFormedFunction}
 use Rattle.formed_law.specs.Traced.{IsReachedBlock}
-use Rattle.formed_law.proofs.Formed.{formed}
-use Rattle.formed_law.proofs.Blocks.{end_is, only_end}
+use Rattle.formed_law.proofs.Formed.Formed.{formed}
+use Rattle.formed_law.proofs.Formed.Blocks.{end_is, only_end}
 
 -- the least number of operands of a terminator that leads on
 abbrev fewest : Terminator → ℕ

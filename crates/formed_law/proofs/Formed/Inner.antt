@@ -33,8 +33,8 @@ use Rattle.module_check.specs.ReadFrom.{IsReadFrom}
 use Rattle.list_law.proofs.Tests.{no_flip, and_off}
 use Rattle.plan_law.specs.InOrder.{IsAmong}
 use Rattle.call_law.specs.Known.{IsFunctionOf}
-use Rattle.formed_law.proofs.Formed.{AreGood, good, inside}
-use Rattle.formed_law.proofs.Declares.{AreStanding, standing}
+use Rattle.formed_law.proofs.Formed.Formed.{AreGood, good, inside}
+use Rattle.formed_law.proofs.Formed.Declares.{AreStanding, standing}
 
 -- groups of opcodes that stand in blocks
 abbrev pub is_inner : OpGroup → Bool

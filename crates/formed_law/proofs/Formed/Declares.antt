@@ -23,7 +23,7 @@ use Rattle.spv_module.specs.Lists.{with_inst, block_insts, block, with_block, bl
 use Rattle.profile_rules.specs.Places.{is_variable}
 use Rattle.call_law.specs.Known.{IsFunctionOf}
 use Rattle.formed_law.specs.Declares.{HaveNoVariable, NoneDeclare, IsSplit, DeclaresFirst}
-use Rattle.formed_law.proofs.Formed.{AreGood, good, inside}
+use Rattle.formed_law.proofs.Formed.Formed.{AreGood, good, inside}
 
 abbrev is_variable_kind : Kind → Bool
 is_variable_kind Variable = true

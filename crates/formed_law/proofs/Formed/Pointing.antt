@@ -43,9 +43,9 @@ use Rattle.typed_law.proofs.Rules.{class_right}
 use Rattle.typed_law.proofs.Values.{inside, own_local, typed_result, among_functions}
 use Rattle.typed_law.proofs.Words.{conforms}
 use Rattle.accepted_law.proofs.Accepted.{break_none}
-use Rattle.ruled_law.proofs.Ruled.{contains_of, among_of, parameter_of, variable_op, base_pointer}
-use Rattle.formed_law.proofs.Inner.{is_frame, frameless}
-use Rattle.formed_law.proofs.Pointers.{no_pointer}
+use Rattle.formed_law.proofs.Ruled.Ruled.{contains_of, among_of, parameter_of, variable_op, base_pointer}
+use Rattle.formed_law.proofs.Formed.Inner.{is_frame, frameless}
+use Rattle.formed_law.proofs.Formed.Pointers.{no_pointer}
 
 pub chain_result : (o : Op) → is_chain o ≡ true → has_result o ≡ true
 unfolding shape

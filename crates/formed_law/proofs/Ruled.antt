@@ -1,0 +1,2 @@
+-- A module that conforms is as the laws on calls and functions ask.
+pub mod Ruled

@@ -1,2 +1,0 @@
-// A module that conforms is as the laws on calls and functions ask. Definitions and laws alone.
-#![tactic(auto)]
