@@ -1,5 +1,5 @@
 -- Values from words, part by part.
-use Rattle.std.proofs.Common.{◌≡◌, ◌<◌, ◌≤◌, ◌+◌, ◌-◌, ◌*◌, ℕ, zero, suc, List, [], ◌∷◌, ◌++◌, refl, ap, sym, ◌∙◌, arith, add-one, append_assoc, map, length, drop, take, get_or, min, replicate, inl, inr}
+use Rattle.std.proofs.Common.{◌≡◌, ◌<◌, ◌≤◌, ◌+◌, ◌-◌, ◌*◌, ◌^◌, ℕ, zero, suc, List, [], ◌∷◌, ◌++◌, refl, ap, sym, ◌∙◌, arith, add-one, append_assoc, map, length, drop, take, get_or, min, replicate, inl, inr}
 use Rattle.std.specs.Prelude.{slice_index}
 use Rattle.std.proofs.Math.Seq.{drop-cons}
 use Rattle.std.proofs.Math.ListN.{drop_of_length-le}
@@ -116,9 +116,9 @@ mutual
       ∙ ap (λ ws. value (zero_of t) (values_from ts ws)) (drop_zeros (leaf_count t) m)
       ∙ ap (value (zero_of t)) (zeros_from ts (m - leaf_count t) rest)
 
-pub zero_words : (t : Tree) (n cap : ℕ) → n ≡ min cap (leaf_count t) → (n ≡ cap → ⊥) → value_from t (zeros n) ≡ zero_of t
-zero_words t n cap capped other =
-    let enough : leaf_count t ≤ n = omega (arith, capped, other) in
+pub zero_words : (t : Tree) (n : ℕ) → n ≡ min (2 ^ 64 - 1) (leaf_count t) → n < 2 ^ 63 → value_from t (zeros n) ≡ zero_of t
+zero_words t n capped few =
+    let enough : leaf_count t ≤ n = omega (arith, capped, few) in
     zero_from t n enough
 
 pub ruleset zero_rules = (zero_words)

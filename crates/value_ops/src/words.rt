@@ -1,5 +1,5 @@
 // Values from words, and the words of values.
-ghost use Rattle.std.specs.Prelude.{◌≡◌, ◌++◌, IfOk, OnOk, map, drop, replicate, slice_index};
+ghost use Rattle.std.specs.Prelude.{◌≡◌, ◌<◌, ◌++◌, ◌^◌, IfOk, OnOk, map, drop, replicate, slice_index};
 ghost use Rattle.spv_types.specs.Tree.{values_in};
 ghost use Rattle.spv_types.specs.View.{tree_of, trees_of, value_of};
 ghost use Rattle.spv_types.specs.Leaves.{leaf_count, zero_of};
@@ -125,9 +125,10 @@ fn add_all_words(values: &[Value], words: &mut Vec<u32>) -> Result<(), Memory>
     Ok(())
 }
 
-/// So many words that are 0.
+/// So many words that are 0: fewer than 2^63, since none has room for more.
 fn zero_words(alloc: Global, count: u64) -> Result<Vec<u32>, Memory>
-    ensures { IfOk result (λ words. words.items ≡ replicate count 0) }
+    ensures zeros { IfOk result (λ words. words.items ≡ replicate count 0) }
+    ensures few { OnOk result (count < 2 ^ 63) }
 {
     let mut words = Vec::new(alloc);
     for _ in 0..count {
@@ -136,17 +137,13 @@ fn zero_words(alloc: Global, count: u64) -> Result<Vec<u32>, Memory>
     Ok(words)
 }
 
-/// The zero of a shape with parts, from words that are 0. More of them than can be counted have no
-/// room in any memory.
+/// The zero of a shape with parts, from words that are 0: one for each scalar, or else more than any
+/// memory has room for.
 #[tactic(auto, using(crate::proofs::Streams::zero_rules))]
 fn composite_zero(alloc: Global, shape: &Shape) -> Result<Value, Memory>
     ensures { IfOk result (λ v. value_of v ≡ zero_of (tree_of shape.now)) }
 {
-    let count = leaves(shape, u64::MAX);
-    if count == u64::MAX {
-        return Err(Memory);
-    }
-    let words = zero_words(alloc, count)?;
+    let words = zero_words(alloc, leaves(shape, u64::MAX))?;
     value_from(alloc, shape, &words)
 }
 
