@@ -1,7 +1,7 @@
 -- Values of a shape by their parts.
-use Rattle.std.proofs.Common.{◌≡◌, ◌==◌, ◌&&◌, ℕ, zero, suc, Bool, true, false, List, [], ◌∷◌, length, replicate, Option, Some, None, inl, inr, refl, sym, ap, ◌∙◌, subst, arith}
+use Rattle.std.proofs.Common.{◌≡◌, ◌==◌, ◌&&◌, ℕ, zero, suc, Bool, true, false, List, [], ◌∷◌, length, replicate, Some, None, refl, sym, ap, ◌∙◌, subst, arith}
 use Rattle.std.specs.Prelude.{nat_lt, option_and_then, slice_get, slice_set, if◌then◌else◌}
-use Rattle.std.proofs.lemmas.Bool.Decides.{eqb_tells, nat_tests}
+use Rattle.std.proofs.lemmas.Bool.Decides.{nat_tests}
 use Rattle.std.proofs.lemmas.Bool.{and_parts, and_from}
 use Rattle.spv_module.specs.declared.tree.Elem.{Elem}
 use Rattle.spv_module.specs.declared.tree.Elem.TheVariants as elem
@@ -11,6 +11,8 @@ use Rattle.spv_types.specs.Leaves.{zero_elem, zero_of, zeros_of, IsSized, AreSiz
 use Rattle.op_semantics.specs.Component.{listed, composite}
 use Rattle.op_semantics.specs.Composite.{part_at, with_part, extracted, inserted}
 use Rattle.op_semantics.specs.Fits.{count_of, elem_tree, fits, each_fits, fits_parts}
+use Rattle.list_law.proofs.Options.{some_part}
+use Rattle.list_law.proofs.Numbers.{same_number, number_same}
 use Rattle.fits_law.specs.Takes.{Alike, AreAlike, AllAlike, nth_of, part_shape, shape_at}
 use Rattle.fits_law.specs.State.{element_shape, place_shape}
 
@@ -25,16 +27,6 @@ listed_back (value v vs) = ap (value v) (listed_back vs)
 pub count_listed : (vs : ValueTrees) → count_of vs ≡ length (listed vs)
 count_listed no_values = refl
 count_listed (value v vs) = omega (arith, count_listed vs)
-
-pub same_number : (a b : ℕ) → (a == b) ≡ true → a ≡ b
-same_number a b e = elim (eqb_tells a b) [ inl w ↦ w.1 | inr w ↦ absurd (never (a == b) e w.0) ]
-  where
-    never : (t : Bool) → t ≡ true → t ≡ false → ⊥
-    never true on off = cc
-    never false on off = cc
-
-pub number_same : (a b : ℕ) → a ≡ b → (a == b) ≡ true
-number_same a b e = elim (eqb_tells a b) [ inl w ↦ w.0 | inr w ↦ absurd (w.1 e) ]
 
 -- each of a list has a shape
 abbrev pub EachFits : Tree → List ValueTree → Type 0
@@ -158,23 +150,20 @@ with_fits (struct id ts) u i (word w) part r shape e at is = cc
 with_fits (struct id ts) u i (truth b) part r shape e at is = cc
 
 -- along indexes
-some_first : {A B : Type 0} (f : A → Option B) (o : Option A) (b : B) → option_and_then f o ≡ Some b → (a : A) × (o ≡ Some a) × (f a ≡ Some b)
-some_first f None b e = cc
-some_first f (Some a) b e = (a, refl, e)
-
+-- along indexes
 pub extracted_fits : (is : List ℕ) (t u : Tree) (v r : ValueTree) → shape_at t is ≡ Some u → fits t v ≡ true → extracted is v ≡ Some r → fits u r ≡ true
 extracted_fits [] t u v r shape e at = let same : v ≡ r = cc in let one : t ≡ u = cc in subst (λ x. fits u x ≡ true) same (subst (λ x. fits x v ≡ true) one e)
 extracted_fits (i ∷ is) t u v r shape e at =
-    let inner = some_first (λ x. shape_at x is) (part_shape t i) u shape in
-    let part = some_first (extracted is) (part_at v i) r at in
+    let inner = some_part (λ x. shape_at x is) (part_shape t i) u shape in
+    let part = some_part (extracted is) (part_at v i) r at in
     extracted_fits is inner.0 u part.0 r inner.2 (part_fits t inner.0 i v part.0 inner.1 e part.1) part.2
 
 pub inserted_fits : (is : List ℕ) (t u : Tree) (object v r : ValueTree) → shape_at t is ≡ Some u → fits u object ≡ true → fits t v ≡ true → inserted object is v ≡ Some r → fits t r ≡ true
 inserted_fits [] t u object v r shape o e at = let same : object ≡ r = cc in let one : t ≡ u = cc in subst (λ x. fits t x ≡ true) same (subst (λ x. fits x object ≡ true) (sym one) o)
 inserted_fits (i ∷ is) t u object v r shape o e at =
-    let inner = some_first (λ x. shape_at x is) (part_shape t i) u shape in
-    let part = some_first (λ part. option_and_then (with_part v i) (inserted object is part)) (part_at v i) r at in
-    let new = some_first (with_part v i) (inserted object is part.0) r part.2 in
+    let inner = some_part (λ x. shape_at x is) (part_shape t i) u shape in
+    let part = some_part (λ part. option_and_then (with_part v i) (inserted object is part)) (part_at v i) r at in
+    let new = some_part (with_part v i) (inserted object is part.0) r part.2 in
     with_fits t inner.0 i v new.0 r inner.1 e (inserted_fits is inner.0 u object part.0 new.0 inner.2 o (part_fits t inner.0 i v part.0 inner.1 e part.1) new.1) new.2
 
 -- a part that a value has is below the number of parts
@@ -207,17 +196,17 @@ element_is (struct id ts) u i v r shape e at = shape
 pub place_is : (is : List ℕ) (t u : Tree) (v r : ValueTree) → place_shape t is ≡ Some u → fits t v ≡ true → extracted is v ≡ Some r → shape_at t is ≡ Some u
 place_is [] t u v r shape e at = shape
 place_is (i ∷ is) t u v r shape e at =
-    let inner = some_first (λ x. place_shape x is) (element_shape t i) u shape in
-    let part = some_first (extracted is) (part_at v i) r at in
+    let inner = some_part (λ x. place_shape x is) (element_shape t i) u shape in
+    let part = some_part (extracted is) (part_at v i) r at in
     let one = element_is t inner.0 i v part.0 inner.1 e part.1 in
     ap (option_and_then (λ x. shape_at x is)) one ∙ place_is is inner.0 u part.0 r inner.2 (part_fits t inner.0 i v part.0 one e part.1) part.2
 
 pub placed_is : (is : List ℕ) (t u : Tree) (object v r : ValueTree) → place_shape t is ≡ Some u → fits t v ≡ true → inserted object is v ≡ Some r → shape_at t is ≡ Some u
 placed_is [] t u object v r shape e at = shape
 placed_is (i ∷ is) t u object v r shape e at =
-    let inner = some_first (λ x. place_shape x is) (element_shape t i) u shape in
-    let part = some_first (λ part. option_and_then (with_part v i) (inserted object is part)) (part_at v i) r at in
-    let new = some_first (with_part v i) (inserted object is part.0) r part.2 in
+    let inner = some_part (λ x. place_shape x is) (element_shape t i) u shape in
+    let part = some_part (λ part. option_and_then (with_part v i) (inserted object is part)) (part_at v i) r at in
+    let new = some_part (with_part v i) (inserted object is part.0) r part.2 in
     let one = element_is t inner.0 i v part.0 inner.1 e part.1 in
     ap (option_and_then (λ x. shape_at x is)) one ∙ placed_is is inner.0 u object part.0 new.0 inner.2 (part_fits t inner.0 i v part.0 one e part.1) new.1
 

@@ -36,16 +36,13 @@ use Rattle.module_semantics.specs.Operands.{of_module, held, as_value, as_pointe
 use Rattle.module_semantics.specs.Accesses.{seen, kept, keeping, with_lent, global_value, global_value_by}
 use Rattle.module_semantics.specs.Steps as the
 use Rattle.module_semantics.specs.Steps.{with_some, advanced, set, set_value, computed, operation_step, base, without_based, is_based_on, lead_if, chain_step, length_step, variable_step, read_shape, load_from, load_step, store_to, store_step, atomic_operands, set_found, atomic_step, memory_barriers, memory_barrier_step, control_barrier_step, phis, passed, argument_of, entered, call_step, return_step, given_to, return_value_step, target_label, phi_value, source_from, with_phis, present_label, edge_step, branch_step, StepKind, step_kind, step_by, act_on, act}
+use Rattle.list_law.proofs.Options.{some_part}
 use Rattle.fits_law.specs.Takes.{AllFit}
 use Rattle.fits_law.specs.State.{value_shape, target_shape, global_shape, result_shape, place_shape, functions_of, function_at, root_shape, HasShape, LeadsTo, IsLocal, HeldFits, IdsFit, VariablesFit, FrameFits, CallsFit, Await, ConfFits, ActFits, ModuleFits}
 use Rattle.fits_law.specs.Typed.{HaveShapes, AreArguments, ArePhis, IsAtomic, IsLoad, IsTyped}
 use Rattle.fits_law.proofs.Parts.{extracted_fits, inserted_fits, place_is, placed_is}
 use Rattle.fits_law.proofs.Operations.{before_some, op_fits}
 use Rattle.fits_law.proofs.Words.{read_fits, scalars}
-
-some_first : {A B : Type 0} (f : A → Option B) (o : Option A) (b : B) → option_and_then f o ≡ Some b → (a : A) × (o ≡ Some a) × (f a ≡ Some b)
-some_first f None b e = cc
-some_first f (Some a) b e = (a, refl, e)
 
 same_head : {A : Type 0} (x y : A) (xs ys : List A) → x ∷ xs ≡ y ∷ ys → x ≡ y
 same_head x y xs ys e = cc
@@ -62,7 +59,7 @@ some_has o t v e f = subst (λ q. HasShape q v) (sym e) f
 
 shape_append : (is js : List ℕ) (t u : Tree) → place_shape t is ≡ Some u → place_shape t (is ++ js) ≡ place_shape u js
 shape_append [] js t u e = ap (λ x. place_shape x js) (same_Some t u e)
-shape_append (i ∷ is) js t u e = let part = some_first (λ x. place_shape x is) _ u e in ap (option_and_then (λ x. place_shape x (is ++ js))) part.1 ∙ shape_append is js part.0 u part.2
+shape_append (i ∷ is) js t u e = let part = some_part (λ x. place_shape x is) _ u e in ap (option_and_then (λ x. place_shape x (is ++ js))) part.1 ∙ shape_append is js part.0 u part.2
 
 leads_on : (r u w : Option Tree) (is js : List ℕ) → LeadsTo r is u → LeadsTo u js w → LeadsTo r (is ++ js) w
 leads_on None u w is js a b = absurd a
@@ -162,9 +159,9 @@ module _ (s : Setting) (right : ModuleFits s) where
   unfolding operation_step
   operation_fits c rest i fit typed =
       some_fits (computed s c.top i) (λ v. goes [] (set_value c rest i v)) (λ v e.
-      let t = some_first (λ (t : Tree). option_and_then (op_value i.op t (literal_operands i.op i.args)) (values_at s c.top (value_operands i.op i.args))) (type_tree s.of.globals i.ty) v e in
-      let vs = some_first (op_value i.op t.0 (literal_operands i.op i.args)) (values_at s c.top (value_operands i.op i.args)) v t.2 in
-      let o = some_first (λ (o : Operation). value_of_operation o t.0 (literal_operands i.op i.args) vs.0) (operation_of i.op (literal_operands i.op i.args)) v vs.2 in
+      let t = some_part (λ (t : Tree). option_and_then (op_value i.op t (literal_operands i.op i.args)) (values_at s c.top (value_operands i.op i.args))) (type_tree s.of.globals i.ty) v e in
+      let vs = some_part (op_value i.op t.0 (literal_operands i.op i.args)) (values_at s c.top (value_operands i.op i.args)) v t.2 in
+      let o = some_part (λ (o : Operation). value_of_operation o t.0 (literal_operands i.op i.args) vs.0) (operation_of i.op (literal_operands i.op i.args)) v vs.2 in
       let is = typed.1 o.0 t.0 o.1 t.1 in
       set_fits c rest i (value v) fit typed.0
       (some_has (value_shape s c.top.function i.result) t.0 v is.0
@@ -243,10 +240,10 @@ module _ (s : Setting) (right : ModuleFits s) where
   kept_has : (c : Conf) (r : Root) (v : ValueTree) → ConfFits s c → kept s c r ≡ Some v → HasShape (root_shape s (functions_of c.below) c.top.function r) v
   kept_has c (own id) v fit e = fit.top.1 id v e
   kept_has c (lent depth id) v fit e =
-      let g = some_first (λ (f : Frame). f.variables id) (call_at depth c.below) v e in
+      let g = some_part (λ (f : Frame). f.variables id) (call_at depth c.below) v e in
       subst (λ o. HasShape (option_and_then (λ x. target_shape s x id) o) v) (sym (called_at depth c.below g.0 g.1)) (calls_have depth c.below g.0 id v fit.calls g.1 g.2)
   kept_has c (global id) v fit e =
-      let g = some_first (global_value s c) (global_variable s id) v e in
+      let g = some_part (global_value s c) (global_variable s id) v e in
       by_class g.0 g.1 (class_of g.0) refl g.2
     where
       by_class : (g : Inst) → global_variable s id ≡ Some g → (o : Option StorageClass) → class_of g ≡ o → global_value_by s c g o ≡ Some v → HasShape (global_shape s id) v
@@ -280,7 +277,7 @@ module _ (s : Setting) (right : ModuleFits s) where
       by_root (lent depth id) is leads t shape = cc
   reads_fit_of c rest i p fit typed leads None is =
       some_fits (option_and_then (extracted p.1) (kept s c p.0)) _ (λ v got.
-      let whole = some_first (extracted p.1) (kept s c p.0) v got in
+      let whole = some_part (extracted p.1) (kept s c p.0) v got in
       let shape = leads_shape (root_shape s (functions_of c.below) c.top.function p.0) p.1 typed.shape (subst (LeadsTo (root_shape s (functions_of c.below) c.top.function p.0) p.1) typed.target leads) in
       let old = has_some (root_shape s (functions_of c.below) c.top.function p.0) shape.0 whole.0 shape.1 (kept_has c p.0 whole.0 fit whole.1) in
       set_fits c rest i (value v) fit typed.local
@@ -339,7 +336,7 @@ module _ (s : Setting) (right : ModuleFits s) where
   stored_fits c rest p v u fit leads has (Some var) = advanced_fits c rest fit
   stored_fits c rest p v u fit leads has None =
       some_fits (option_and_then (inserted v p.1) (kept s c p.0)) _ (λ w got.
-      let whole = some_first (inserted v p.1) (kept s c p.0) w got in
+      let whole = some_part (inserted v p.1) (kept s c p.0) w got in
       let new = has_is u v has in
       let shape = leads_shape (root_shape s (functions_of c.below) c.top.function p.0) p.1 new.0 (subst (LeadsTo (root_shape s (functions_of c.below) c.top.function p.0) p.1) new.1 leads) in
       let old = has_some (root_shape s (functions_of c.below) c.top.function p.0) shape.0 whole.0 shape.1 (kept_has c p.0 whole.0 fit whole.1) in
@@ -458,7 +455,7 @@ module _ (s : Setting) (right : ModuleFits s) where
       let b = before_some (phi_value s c from i) (each_one (phi_value s c from) is) (v ∷ vs) e in
       let first : v ≡ b.0 = same_head v b.0 vs b.1 b.4 in
       let rest : vs ≡ b.1 = same_tail v b.0 vs b.1 b.4 in
-      let source = some_first (value_at s c) (source_from from i.args) v (b.2 ∙ ap (λ x. Some x) (sym first)) in
+      let source = some_part (value_at s c) (source_from from i.args) v (b.2 ∙ ap (λ x. Some x) (sym first)) in
       ids_put fs c.function (with_phis is vs c.ids) i.result (value v) (phis_fit fs c from fit is vs are.2 (b.3 ∙ ap (λ l. Some l) (sym rest))) are.1
       (subst (λ o. HasShape o v) (are.0 from source.0 source.1) (value_has fs c source.0 v fit source.2))
 

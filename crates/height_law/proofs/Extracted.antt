@@ -26,11 +26,11 @@ use Rattle.profile_rules.specs.ValueRules.{walk, literal_step, part_of, is_elsew
 use Rattle.profile_rules.specs.TypeRules.{is_value_broken}
 use Rattle.module_semantics.specs.Setting.{Setting}
 use Rattle.op_semantics.specs.Fits.{elem_tree}
+use Rattle.list_law.proofs.Options.{some_part}
 use Rattle.list_law.proofs.Tests.{or_left, or_right}
 use Rattle.plan_law.specs.InOrder.{IsAmong}
 use Rattle.fits_law.specs.Takes.{part_shape, shape_at}
 use Rattle.type_law.proofs.Parts.{walk_leads}
-use Rattle.type_law.proofs.Operands.{some_first}
 use Rattle.typed_law.specs.Conforms.{IsConforming}
 use Rattle.typed_law.proofs.Rules.{operand_there, value_right}
 use Rattle.typed_law.proofs.Values.{HasType, inside, typed_value, value_sized}
@@ -68,7 +68,7 @@ part-down (struct id ts) i u e = let low = nth-depth ts i u e in let own = room-
 parts-few : (ks : List ℕ) (t u : Tree) → shape_at t ks ≡ Some u → room u + length ks ≤ room t
 parts-few [] t u e = subst (λ y. room y + 0 ≤ room t) (same_Some t u e) (omega arith)
 parts-few (k ∷ ks) t u e =
-    let part = some_first (λ x. shape_at x ks) (part_shape t k) u e in
+    let part = some_part (λ x. shape_at x ks) (part_shape t k) u e in
     let one = part-down t k part.0 part.1 in
     let rest = parts-few ks part.0 u part.2 in
     omega (arith, one, rest)

@@ -1,11 +1,10 @@
 -- Operations that are written component by component say the value of the operation, component by component.
-use Rattle.std.proofs.Common.{◌≡◌, ℕ, zero, suc, ◌<◌, ◌≤◌, ◌==◌, Bool, true, false, List, [], ◌∷◌, ◌++◌, length, map, take, slice_get, Option, Some, None, refl, sym, ap, ◌∙◌, subst, arith}
-use Rattle.std.specs.Prelude.{nat_lt, option_map, option_and_then, if◌then◌else◌}
-use Rattle.std.proofs.lemmas.Bool.Decides.{nat_tests}
+use Rattle.std.proofs.Common.{◌≡◌, ℕ, zero, suc, ◌<◌, ◌≤◌, ◌==◌, Bool, false, List, [], ◌∷◌, ◌++◌, length, map, take, slice_get, Option, Some, None, refl, sym, ap, ◌∙◌, subst, arith}
+use Rattle.std.specs.Prelude.{option_map, option_and_then, if◌then◌else◌}
 use Rattle.std.proofs.lemmas.Option.{slice_get_within}
 use Rattle.spv_module.specs.declared.tree.Elem.{Elem}
 use Rattle.spv_module.specs.declared.tree.Elem.TheVariants as elem
-use Rattle.spv_types.specs.Tree.{Tree, ValueTree, truth, word, many, ValueTrees, values_in}
+use Rattle.spv_types.specs.Tree.{Tree, ValueTree, truth, word, many, ValueTrees}
 use Rattle.glsl_ast.specs.Tree.{Text, Expr, exprs_in, build}
 use Rattle.op_semantics.specs.declared.operation.Unary.{Unary}
 use Rattle.op_semantics.specs.declared.operation.Binary.{Binary}
@@ -26,6 +25,9 @@ use Rattle.glsl_semantics.specs.Shapes.{vector, Typed, typed, scalar as shape_of
 use Rattle.glsl_semantics.specs.States.{State, component_if}
 use Rattle.glsl_semantics.specs.Functions.{as_elem, scalars_of, joined, filled, vector_built, built}
 use Rattle.glsl_semantics.specs.Expressions.{Program, Argument, type_of}
+use Rattle.list_law.proofs.Numbers.{less_is}
+use Rattle.fits_law.proofs.Operations.{before_some}
+use Rattle.fits_law.proofs.Parts.{listed_values}
 use Rattle.lowering_law.specs.Says.{Says, AllSay}
 use Rattle.lowering_law.specs.BuiltIns.{NoneDeclared}
 use Rattle.lowering_law.specs.Stands.{GoesByComponent, Means, IsScalarOf, IsLow, AreOf, AreLow, IsVectorOf, MeansVector, MeansAny, AllMeanAny, vector_type, OnScalars}
@@ -34,10 +36,6 @@ use Rattle.lowering_law.proofs.Saying.{all_end, says_build}
 use Rattle.lowering_law.proofs.Vectors.{filled_is}
 use Rattle.lowering_law.proofs.Scalars.{numeric_of, truth_of, scalar_says}
 use Rattle.lowering_law.proofs.Parts.{says_member}
-
-pub listed_values : (vs : List ValueTree) → listed (values_in vs) ≡ vs
-listed_values [] = refl
-listed_values (v ∷ vs) = ap (λ us. v ∷ us) (listed_values vs)
 
 of_at : (e : Elem) (vs : List ValueTree) (k : ℕ) (v : ValueTree) → AreOf e vs → slice_get vs k ≡ Some v → IsScalarOf e v
 of_at e [] k v a is = cc
@@ -65,11 +63,7 @@ map_end f [] x = refl
 map_end f (y ∷ xs) x = ap (λ ys. f y ∷ ys) (map_end f xs x)
 
 -- what is given of each, at a place
-pub before_some : {A : Type 0} (o : Option A) (q : Option (List A)) (rs : List A) → before o q ≡ Some rs → (y : A) × (ys : List A) × (o ≡ Some y) × (q ≡ Some ys) × (rs ≡ y ∷ ys)
-before_some None q rs h = cc
-before_some (Some y) None rs h = cc
-before_some (Some y) (Some ys) rs h = (y, ys, refl, refl, let same : rs ≡ y ∷ ys = cc in same)
-
+-- what is given of each, at a place
 one_at : (f : ValueTree → Option ValueTree) (vs rs : List ValueTree) (k : ℕ) (r : ValueTree) → each_one f vs ≡ Some rs → slice_get rs k ≡ Some r → (v : ValueTree) × (slice_get vs k ≡ Some v) × (f v ≡ Some r)
 one_at f [] rs k r h e = let none : rs ≡ [] = cc in let never : None ≡ Some r = ap (λ ys. slice_get ys k) (sym none) ∙ e in cc
 one_at f (v ∷ vs) rs k r h e = let b = before_some (f v) (each_one f vs) rs h in by_place k b.0 b.1 b.2 (ap (λ ys. slice_get ys k) (sym b.4) ∙ e) (λ m q. one_at f vs b.1 m r b.3 q)
@@ -156,9 +150,6 @@ axis_number (suc zero) low = refl
 axis_number (suc (suc zero)) low = refl
 axis_number (suc (suc (suc zero))) low = refl
 axis_number (suc (suc (suc (suc k)))) low = absurd (omega (arith, low))
-
-pub less_is : (k n : ℕ) → k < n → nat_lt k n ≡ true
-less_is k n h = grind (arith, nat_tests, h)
 
 pub axis_part : (e : Elem) (n k : ℕ) → k < n → n ≤ 4 → component_if n (shape_of_elem e) (component_number (axis_name k)) ≡ Some (k, shape_of_elem e)
 axis_part e n k less four =

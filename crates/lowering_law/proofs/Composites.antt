@@ -1,9 +1,8 @@
 -- Arrays and structs: made of their parts, taken apart along indexes, and copied part by part, as they are written.
-use Rattle.std.proofs.Common.{◌≡◌, ◌<◌, ◌≤◌, ◌+◌, ◌^◌, ◌==◌, ℕ, zero, suc, Bool, true, false, List, [], ◌∷◌, length, map, take, Option, Some, None, inl, inr, refl, sym, ap, ◌∙◌, subst, arith}
-use Rattle.std.specs.Prelude.{nat_lt, option_map, option_and_then, slice_get, bytes_eq, if◌then◌else◌}
+use Rattle.std.proofs.Common.{◌≡◌, ◌<◌, ◌≤◌, ◌+◌, ◌^◌, ◌==◌, ℕ, zero, suc, Bool, true, false, List, [], ◌∷◌, length, map, take, Option, Some, None, refl, sym, ap, ◌∙◌, subst, arith}
+use Rattle.std.specs.Prelude.{nat_lt, option_map, slice_get, bytes_eq, if◌then◌else◌}
 use Rattle.std.specs.List.{list_all}
 use Rattle.std.proofs.lemmas.Bool.{and_parts, and_from}
-use Rattle.std.proofs.lemmas.Bool.Decides.{nat_tests, eqb_tells}
 use Rattle.std.proofs.lemmas.Slice.Eq.{bytes_eq-Decides}
 use Rattle.std.proofs.lemmas.Option.{slice_get_within}
 use Rattle.spv_module.specs.declared.tree.Elem.{Elem}
@@ -16,6 +15,8 @@ use Rattle.glsl_ast.specs.declared.expressions.Literal.TheVariants as lit
 use Rattle.op_semantics.specs.Component.{listed, composite}
 use Rattle.op_semantics.specs.Composite.{part_at, extracted as part_extracted, are_indexes}
 use Rattle.op_semantics.specs.Fits.{fits, elem_tree}
+use Rattle.list_law.proofs.Numbers.{less_is, less_of, number_itself}
+use Rattle.list_law.proofs.Options.{some_part}
 use Rattle.fits_law.specs.Takes.{AreAlike, Alike, AllAlike, nth_of, part_shape, shape_at}
 use Rattle.fits_law.proofs.Parts.{MembersFit, many_of, members_of, each_at, all_alike, listed_back}
 use Rattle.vec_lowering.specs.Named.{Naming, id_name, member_name, array_of, shape_type}
@@ -35,9 +36,6 @@ use Rattle.lowering_law.proofs.Components.{axis_part, type_is, take_end, map_end
 -- names and types are themselves
 bytes_same : (w : Text) → bytes_eq w w ≡ true
 bytes_same w = (bytes_eq-Decides w w).1 refl
-
-number_itself : (n : ℕ) → (n == n) ≡ true
-number_itself n = elim (eqb_tells n n) [ inl w ↦ w.0 | inr w ↦ absurd (w.1 refl) ]
 
 elem_itself : (e : Elem) → same_elem e e ≡ true
 elem_itself elem.Bool = refl
@@ -151,31 +149,22 @@ module _ (p : Program) (names : Naming) where
         (written_is (plain.struct id ts) w) say (struct_made id ts vs w.2 f)
 
     -- a part: an element, a member, a component
-    below_of : (i n : ℕ) → nat_lt i n ≡ true → i < n
-    below_of i n e = grind (arith, nat_tests, e)
-
-    is_below : (i n : ℕ) → i < n → nat_lt i n ≡ true
-    is_below i n e = grind (arith, nat_tests, e)
-
+    -- a part: an element, a member, a component
     below_some : {A : Type 0} (i n : ℕ) (t u : A) → (if nat_lt i n then Some t else None) ≡ Some u → (i < n) × (t ≡ u)
     below_some {A} i n t u e = by_test (nat_lt i n) refl e
       where
         by_test : (b : Bool) → nat_lt i n ≡ b → (if b then Some t else None) ≡ Some u → (i < n) × (t ≡ u)
-        by_test true is e = (below_of i n is, let same : t ≡ u = cc in same)
+        by_test true is e = (less_of i n is, let same : t ≡ u = cc in same)
         by_test false is e = cc
 
     element_says : (t : Tree) (n : ℕ) (e : Expr) (i : ℕ) (v c : ValueTree) → nat_lt i (2 ^ 31) ≡ true → i < n → S e (typed_as names (plain.array t (Fixed n)) v) → part_at v i ≡ Some c → S (element e i) (typed_as names t c)
     element_says t n e i v c low less say at =
         says_element p calls s e (literal (lit.Int i)) (array (text_shape names t) (Some n)) (text_shape names t) i v c (typed int (word i)) say (says_literal p calls s (lit.Int i)) refl
-        low (ap (λ b. if b then Some (text_shape names t) else None) (is_below i n less)) at
+        low (ap (λ b. if b then Some (text_shape names t) else None) (less_is i n less)) at
 
     member_says : (id : ℕ) (ts : Trees) (e : Expr) (i : ℕ) (t : Tree) (v c : ValueTree) → IsWritten p names (plain.struct id ts) → nth_of ts i ≡ Some t → S e (typed_as names (plain.struct id ts) v) → part_at v i ≡ Some c → S (member_of names e id i) (typed_as names t c)
     member_says id ts e i t v c w is say at =
         says_member p calls s e (member_name names id i) (struct (id_name names id) (text_fields names id 0 ts)) (text_shape names t) i v c say (member_found id i (λ j less. w.1 j i t less is) ts 0 i t (let same : i ≡ 0 + i = omega arith in same) is) at
-
-    some_first : {A B : Type 0} (f : A → Option B) (o : Option A) (b : B) → option_and_then f o ≡ Some b → (a : A) × (o ≡ Some a) × (f a ≡ Some b)
-    some_first f None b e = cc
-    some_first f (Some a) b e = (a, refl, e)
 
     -- a scalar has no parts
     no_more : (d : Elem) (is : List ℕ) (u : Tree) (v r : ValueTree) → shape_at (elem_tree d) is ≡ Some u → part_extracted is v ≡ Some r → (elem_tree d ≡ u) × (v ≡ r)
@@ -193,21 +182,21 @@ module _ (p : Program) (names : Naming) where
     pub extracted_says : (is : List ℕ) (t u : Tree) (e : Expr) (v r : ValueTree) → IsWritten p names t → shape_at t is ≡ Some u → are_indexes is ≡ true → S e (typed_as names t v) → part_extracted is v ≡ Some r → S (extracted names t is e) (typed_as names u r)
     extracted_says [] t u e v r w shape low say at = let one : t ≡ u = cc in let same : v ≡ r = cc in subst (λ x. S e (typed_as names u x)) same (subst (λ x. S e (typed_as names x v)) one say)
     extracted_says (i ∷ is) (plain.vector d n) u e v r w shape low say at =
-        let inner = some_first (λ x. shape_at x is) (part_shape (plain.vector d n) i) u shape in
-        let part = some_first (part_extracted is) (part_at v i) r at in
+        let inner = some_part (λ x. shape_at x is) (part_shape (plain.vector d n) i) u shape in
+        let part = some_part (part_extracted is) (part_at v i) r at in
         let less = below_some i n (elem_tree d) inner.0 inner.1 in
         let rest = no_more d is u part.0 r (subst (λ x. shape_at x is ≡ Some u) (sym less.1) inner.2) part.2 in
         let here : S (axis e i) (typed (scalar d) part.0) = says_member p calls s e (axis_name i) (vector d n) (scalar d) i v part.0 say (axis_part d n i less.0 w.0) part.1 in
         subst (λ x. S (axis e i) (typed_as names u x)) rest.1 (subst (λ x. S (axis e i) (typed_as names x part.0)) rest.0 (subst (λ q. S (axis e i) (typed q part.0)) (sym (scalar_as d)) here))
     extracted_says (i ∷ is) (plain.array t (Fixed n)) u e v r w shape low say at =
-        let inner = some_first (λ x. shape_at x is) (part_shape (plain.array t (Fixed n)) i) u shape in
-        let part = some_first (part_extracted is) (part_at v i) r at in
+        let inner = some_part (λ x. shape_at x is) (part_shape (plain.array t (Fixed n)) i) u shape in
+        let part = some_part (part_extracted is) (part_at v i) r at in
         let less = below_some i n t inner.0 inner.1 in
         let lows = and_parts (nat_lt i (2 ^ 31)) (are_indexes is) low in
         extracted_says is t u (element e i) part.0 r w (subst (λ x. shape_at x is ≡ Some u) (sym less.1) inner.2) lows.1 (element_says t n e i v part.0 lows.0 less.0 say part.1) part.2
     extracted_says (i ∷ is) (plain.struct id ts) u e v r w shape low say at =
-        let inner = some_first (λ x. shape_at x is) (nth_of ts i) u shape in
-        let part = some_first (part_extracted is) (part_at v i) r at in
+        let inner = some_part (λ x. shape_at x is) (nth_of ts i) u shape in
+        let part = some_part (part_extracted is) (part_at v i) r at in
         let lows = and_parts (nat_lt i (2 ^ 31)) (are_indexes is) low in
         subst (λ x. S (extracted names x is (member_of names e id i)) (typed_as names u r)) (sym (nth_is ts i inner.0 plain.boolean inner.1))
         (extracted_says is inner.0 u (member_of names e id i) part.0 r (written_at ts i inner.0 w.2 inner.1) inner.2 lows.1 (member_says id ts e i inner.0 v part.0 w inner.1 say part.1) part.2)
@@ -272,7 +261,7 @@ module _ (p : Program) (names : Naming) where
         (subst (λ us. AllSay p calls s (exprs_in (each_below n (λ k. copied names t u (element e k)))) (map (typed_as names t) us)) (take_whole (listed vs) n count)
         (each_below_say (λ k. copied names t u (element e k)) t (listed vs) (λ k c at.
         let less = slice_get_within (listed vs) k c at in
-        one (element e k) c (each_at u (listed vs) k c parts.1 at) (element_says u m e k (many vs) c (is_below k (2 ^ 31) (let low : k < 2 ^ 31 = omega (arith, less, count, few) in low)) (subst (λ q. k < q) parts.0 less) say at)) n (let le : n ≤ length (listed vs) = omega (arith, count) in le)))
+        one (element e k) c (each_at u (listed vs) k c parts.1 at) (element_says u m e k (many vs) c (less_is k (2 ^ 31) (let low : k < 2 ^ 31 = omega (arith, less, count, few) in low)) (subst (λ q. k < q) parts.0 less) say at)) n (let le : n ≤ length (listed vs) = omega (arith, count) in le)))
         (array_made t n (listed vs) wt count))
 
     -- a value copied part by part; and the members of a struct from one on, whose trees and values are those of the whole from there on

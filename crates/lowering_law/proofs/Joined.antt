@@ -20,13 +20,14 @@ use Rattle.traces.specs.Outcomes.{Result}
 use Rattle.glsl_semantics.specs.Shapes.{vector, Typed, typed}
 use Rattle.glsl_semantics.specs.States.{State}
 use Rattle.glsl_semantics.specs.Expressions.{Program, Argument}
+use Rattle.fits_law.proofs.Parts.{listed_back}
 use Rattle.lowering_law.specs.Says.{Says}
 use Rattle.lowering_law.specs.Numbers.{IsNumeric}
 use Rattle.lowering_law.specs.BuiltIns.{NoneDeclared}
 use Rattle.lowering_law.specs.Stands.{IsVectorOf, MeansVector, MeansAny, AllMeanAny, StandsVector, vector_type}
 use Rattle.lowering_law.specs.Wanted.{IsOfNumbers, OnVectors}
 use Rattle.lowering_law.proofs.Counts.{by_one_operand, by_two_operands, by_three_operands}
-use Rattle.lowering_law.proofs.Vectors.{listed_back, flip_says, vector_says}
+use Rattle.lowering_law.proofs.Vectors.{flip_says, vector_says}
 use Rattle.lowering_law.proofs.Components.{not_vector, unary_one, binary_two, by_component_says}
 use Rattle.lowering_law.proofs.Whole.{words_listed, choice_says, copied_says, quotient_says, remainder_says}
 use Rattle.lowering_law.proofs.Spread.{minus_says, left_says, right_says, signed_right_says}

@@ -4,6 +4,7 @@ use Rattle.std.specs.Prelude.{◌==◌, ◌||◌, ◌&&◌, nat_lt, bit_and, opt
 use Rattle.std.specs.Int.{int_shr}
 use Rattle.std.proofs.lemmas.Bool.Decides.{nat_tests}
 use Rattle.std.proofs.lemmas.Nat.{and_mask}
+use Rattle.std.proofs.lemmas.Option.{same_Some}
 use Rattle.spv_module.specs.declared.tree.Elem.{Elem}
 use Rattle.spv_module.specs.declared.tree.Elem.TheVariants as elem
 use Rattle.spv_types.specs.Tree.{word}
@@ -87,9 +88,6 @@ is_defined a b h = by_zero (b == 0) h
 above_zero : (b : ℕ) → (b == 0) ≡ false → 0 < b
 above_zero b e = grind (arith, nat_tests, e)
 
-some_is : (a b : ℕ) → Some a ≡ Some b → a ≡ b
-some_is a b h = cc
-
 module _ (p : Program) (calls : Text → List Argument → State → Result (Option Typed × State)) (s : State) where
   abbrev S : Expr → Typed → Type 0
   S = Says p calls s
@@ -129,7 +127,7 @@ module _ (p : Program) (calls : Text → List Argument → State → Result (Opt
     of_signed : (q : ℕ) (r : ℕ) (x : Expr) → (if is_undefined a b then None else Some q) ≡ Some r → (0 < b → S x (number elem.Uint q)) → S (converted (scalar g) elem.Uint x) (number g r)
     of_signed q r x h says =
         let known = has_divisor (is_undefined a b) (Some q) r h in
-        as_result p calls s g numbers elem.Uint x r tt (subst (λ n. S x (number elem.Uint n)) (some_is q r known.1) (says (above_zero b (is_defined a b known.0))))
+        as_result p calls s g numbers elem.Uint x r tt (subst (λ n. S x (number elem.Uint n)) (same_Some q r known.1) (says (above_zero b (is_defined a b known.0))))
 
     pub binary_says : (o : Binary) (r : ℕ) → IsOperator o → binary_word o a b ≡ Some r → S (written.binary o (scalar g) x y) (number g r)
     binary_says IAdd r is h = both_says Add g x y a b r numbers refl refl hx hy h

@@ -23,13 +23,16 @@ use Rattle.glsl_semantics.specs.Shapes.{vector, Typed, typed, scalar as shape_of
 use Rattle.glsl_semantics.specs.States.{State}
 use Rattle.glsl_semantics.specs.Functions.{as_elem, scalars_of, joined, filled, vector_built, built}
 use Rattle.glsl_semantics.specs.Expressions.{Program, Argument}
+use Rattle.list_law.proofs.Numbers.{less_of}
+use Rattle.fits_law.proofs.Operations.{before_some}
+use Rattle.fits_law.proofs.Parts.{listed_values}
 use Rattle.lowering_law.specs.Says.{Says, AllSay}
 use Rattle.lowering_law.specs.BuiltIns.{NoneDeclared}
 use Rattle.lowering_law.specs.Stands.{AreOf, IsVectorOf, MeansVector, vector_type}
 use Rattle.lowering_law.proofs.Saying.{says_build, says_literal}
 use Rattle.lowering_law.proofs.Parts.{says_member}
 use Rattle.lowering_law.proofs.Vectors.{filled_is}
-use Rattle.lowering_law.proofs.Components.{listed_values, before_some, composite_some, each_itself, built_of, type_is, axis_part, components_say}
+use Rattle.lowering_law.proofs.Components.{composite_some, each_itself, built_of, type_is, axis_part, components_say}
 
 slice_left : {A : Type 0} (xs ys : List A) (k : ℕ) → k < length xs → slice_get (xs ++ ys) k ≡ slice_get xs k
 slice_left [] ys k less = absurd (omega (arith, less))
@@ -43,9 +46,6 @@ slice_right (x ∷ xs) ys (suc k) le = slice_right xs ys k (omega (arith, le)) �
 
 not_less : (k m : ℕ) → nat_lt k m ≡ false → m ≤ k
 not_less k m e = grind (arith, nat_tests, e)
-
-less_of : (k m : ℕ) → nat_lt k m ≡ true → k < m
-less_of k m e = grind (arith, nat_tests, e)
 
 -- a scalar or a vector of components of one type, as a constructor takes it
 abbrev pub IsPart : Typed → ValueTree → Type 0

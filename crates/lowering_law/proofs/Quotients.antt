@@ -17,7 +17,7 @@ use Rattle.glsl_semantics.specs.Operators.{operated}
 use Rattle.glsl_semantics.specs.Expressions.{Program, Argument}
 use Rattle.lowering_law.specs.Magnitudes.{negated, negated_where, magnitude, differ}
 use Rattle.lowering_law.specs.Says.{Says}
-use Rattle.lowering_law.proofs.Division.{negated_is, no_zero, missing, modulo_by, signed_quotient, signed_remainder, signed_modulo}
+use Rattle.lowering_law.proofs.Division.{negated_is, no_zero, missing, modulo_by, signed_quotient, signed_remainder, signed_modulo, none_below}
 use Rattle.lowering_law.proofs.Saying.{says_binary, says_choose_first, says_choose_second}
 
 abbrev u : ℕ → Typed
@@ -33,11 +33,8 @@ magnitude_some a h some = by_sign (nat_lt a (2 ^ 31)) refl
     not_zero : (n : ℕ) → 0 < n → (n == 0) ≡ false
     not_zero n h = grind (arith, nat_tests, h)
 
-    below : (n : ℕ) → nat_lt n 0 ≡ false
-    below n = grind (arith, nat_tests)
-
     by_sign : (x : Bool) → nat_lt a (2 ^ 31) ≡ x → (magnitude a == 0) ≡ false
-    by_sign true e = rw (e, below a) (not_zero a some)
+    by_sign true e = rw (e, none_below a) (not_zero a some)
     by_sign false e = rw (e, negated_is a some h) (no_zero (2 ^ 32 - suc a))
 
 divides : (m n : ℕ) → (n == 0) ≡ false → operated Div (u m) (u n) ≡ Some (u (m / n))

@@ -23,6 +23,8 @@ use Rattle.glsl_semantics.specs.Shapes.{vector, Typed, typed, scalar as shape_of
 use Rattle.glsl_semantics.specs.States.{State}
 use Rattle.glsl_semantics.specs.Operators.{shift, operator_kind, operated_by, operated, word_operator, on_words, by_components, common_count, shift_count}
 use Rattle.glsl_semantics.specs.Expressions.{Program, Argument, settling}
+use Rattle.list_law.proofs.Numbers.{number_itself}
+use Rattle.fits_law.proofs.Parts.{listed_values}
 use Rattle.lowering_law.specs.Says.{Says}
 use Rattle.lowering_law.specs.Numbers.{IsNumeric, number}
 use Rattle.lowering_law.specs.Stands.{AreWords, IsVectorOf, StandsVector, vector_type}
@@ -30,8 +32,7 @@ use Rattle.lowering_law.proofs.Saying.{says_literal, says_binary}
 use Rattle.lowering_law.proofs.Operands.{literal_number}
 use Rattle.lowering_law.proofs.Functions.{negated_word}
 use Rattle.lowering_law.proofs.Lowered.{mask_31, left_by, right_by, signed_right_by}
-use Rattle.lowering_law.proofs.Vectors.{each_one_alike, itself_equal, as_vector_says, converted_vector}
-use Rattle.lowering_law.proofs.Components.{listed_values}
+use Rattle.lowering_law.proofs.Vectors.{each_one_alike, as_vector_says, converted_vector}
 use Rattle.lowering_law.proofs.Whole.{words_listed}
 
 each_copies : (f : ValueTree → ValueTree → Option ValueTree) (u : ValueTree) (vs : List ValueTree) → each_two f (replicate (length vs) u) vs ≡ each_one (f u) vs
@@ -59,7 +60,7 @@ by_second o e n w u more =
 -- two vectors, of which the second is the amounts of a shift
 by_amounts : (o : BinOp) (e : Elem) (n : ℕ) (v w : ValueTree) → (n == 1) ≡ false → by_components o e n n v w (shift_count n n) ≡ option_map (typed (vector e n)) (by_two (on_words (word_operator o e)) v w)
 by_amounts o e n v w more =
-    ap (λ t. by_components o e n n v w (if t || (n == 1) then Some n else None)) (itself_equal n)
+    ap (λ t. by_components o e n n v w (if t || (n == 1) then Some n else None)) (number_itself n)
     ∙ ap (λ t. option_map (typed (if t then shape_of_elem e else vector e n)) (by_two (on_words (word_operator o e)) (if t && not t then times n v else v) (if t && not t then times n w else w))) more
 
 -- 0 - v

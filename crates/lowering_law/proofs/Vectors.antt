@@ -1,10 +1,9 @@
 -- Operators on vectors of numbers go by component, as the operations of a module do.
-use Rattle.std.proofs.Common.{◌≡◌, ℕ, true, false, List, [], ◌∷◌, Option, Some, None, refl, sym, ap, ◌∙◌, subst, arith}
+use Rattle.std.proofs.Common.{◌≡◌, ℕ, false, List, [], ◌∷◌, Option, Some, None, refl, sym, ap, ◌∙◌, subst}
 use Rattle.std.specs.Prelude.{◌==◌, ◌&&◌, not, ◌++◌, length, option_map, option_and_then, if◌then◌else◌}
-use Rattle.std.proofs.lemmas.Bool.Decides.{nat_tests}
 use Rattle.spv_module.specs.declared.tree.Elem.{Elem}
 use Rattle.spv_module.specs.declared.tree.Elem.TheVariants as elem
-use Rattle.spv_types.specs.Tree.{ValueTree, truth, word, many, ValueTrees, no_values, value, values_in}
+use Rattle.spv_types.specs.Tree.{ValueTree, truth, word, many, ValueTrees, no_values, value}
 use Rattle.spv_types.specs.Leaves.{times}
 use Rattle.glsl_ast.specs.Tree.{Text, Expr, expr, no_exprs}
 use Rattle.glsl_ast.specs.Tree as tree
@@ -23,6 +22,8 @@ use Rattle.glsl_semantics.specs.States.{State}
 use Rattle.glsl_semantics.specs.Operators.{numeric, operator_kind, operated_by, operated, word_operator, on_words, by_components, flipped_word, flipped}
 use Rattle.glsl_semantics.specs.Functions.{as_elem as component_as, filled, vector_of}
 use Rattle.glsl_semantics.specs.Expressions.{Program, Argument, settling}
+use Rattle.list_law.proofs.Numbers.{number_itself}
+use Rattle.fits_law.proofs.Parts.{listed_back}
 use Rattle.lowering_law.specs.Says.{Says}
 use Rattle.lowering_law.specs.Numbers.{IsNumeric, IsPlain}
 use Rattle.lowering_law.specs.Stands.{AreWords, StandsVector, vector_type}
@@ -41,14 +42,11 @@ words_alike f o same (word a) (many ws) = refl
 words_alike f o same (truth t) w = refl
 words_alike f o same (many vs) w = refl
 
-pub itself_equal : (n : ℕ) → (n == n) ≡ true
-itself_equal n = grind (arith, nat_tests)
-
 -- operands of as many components, more than one, stay as they are
 pub by_component : (o : BinOp) (e : Elem) (n : ℕ) (v w : ValueTree) → (n == 1) ≡ false
     → by_components o e n n v w (if n == n then Some n else (if n == 1 then Some n else (if n == 1 then Some n else None))) ≡ option_map (typed (vector e n)) (by_two (on_words (word_operator o e)) v w)
 by_component o e n v w more =
-    ap (λ t. by_components o e n n v w (if t then Some n else (if n == 1 then Some n else (if n == 1 then Some n else None)))) (itself_equal n)
+    ap (λ t. by_components o e n n v w (if t then Some n else (if n == 1 then Some n else (if n == 1 then Some n else None)))) (number_itself n)
     ∙ ap (λ t. option_map (typed (if t then scalar e else vector e n)) (by_two (on_words (word_operator o e)) (if t && not t then times n v else v) (if t && not t then times n w else w))) more
 
 on_vectors : (o : BinOp) (op : Binary) (e : Elem) (n : ℕ) (vs ws : ValueTrees) (r : ValueTree) → IsNumeric e → (n == 1) ≡ false → operator_kind o ≡ numeric → ((a b : ℕ) → word_operator o e a b ≡ binary_word op a b)
@@ -70,7 +68,7 @@ append_none (v ∷ vs) = ap (λ ws. v ∷ ws) (append_none vs)
 filled_whole : (vs : List ValueTree) → (length vs == 1) ≡ false → filled (length vs) vs ≡ Some vs
 filled_whole [] more = refl
 filled_whole (v ∷ []) more = cc
-filled_whole (v ∷ (w ∷ vs)) more = ap (λ t. if t then Some (v ∷ (w ∷ vs)) else None) (itself_equal (length (v ∷ (w ∷ vs))))
+filled_whole (v ∷ (w ∷ vs)) more = ap (λ t. if t then Some (v ∷ (w ∷ vs)) else None) (number_itself (length (v ∷ (w ∷ vs))))
 
 pub filled_is : (n : ℕ) (vs : List ValueTree) → length vs ≡ n → (n == 1) ≡ false → filled n vs ≡ Some vs
 filled_is n vs count = subst (λ n. (n == 1) ≡ false → filled n vs ≡ Some vs) count (filled_whole vs)
@@ -82,10 +80,6 @@ each_word elem.Uint (value (word a) vs) he h = ap (before (Some (word a))) (each
 each_word elem.Bool (value (word a) vs) he h = absurd he
 each_word e (value (truth t) vs) he h = absurd h
 each_word e (value (many us) vs) he h = absurd h
-
-pub listed_back : (vs : ValueTrees) → values_in (listed vs) ≡ vs
-listed_back no_values = refl
-listed_back (value v vs) = ap (value v) (listed_back vs)
 
 -- a vector of numbers as one of other numbers
 made : (e : Elem) (n : ℕ) (vs : ValueTrees) → IsNumeric e → AreWords vs → length (listed vs) ≡ n → (n == 1) ≡ false → vector_of e n (listed vs ∷ []) ≡ Some (many vs)

@@ -23,6 +23,8 @@ use Rattle.op_semantics.specs.declared.operation.Binary.TheVariants.{UDiv, UMod}
 use Rattle.op_semantics.specs.Word.{binary_word}
 use Rattle.glsl_ast.specs.declared.expressions.BinOp.TheVariants.{Div, Rem}
 use Rattle.glsl_semantics.specs.Operators.{word_operator}
+use Rattle.list_law.proofs.Numbers.{less_is}
+use Rattle.fits_law.proofs.Parts.{listed_values}
 use Rattle.lowering_law.specs.Says.{Says}
 use Rattle.lowering_law.specs.Numbers.{IsNumeric, number}
 use Rattle.lowering_law.specs.BuiltIns.{NoneDeclared}
@@ -30,7 +32,6 @@ use Rattle.lowering_law.specs.Stands.{Means, AreOf, AreWords, MeansVector, vecto
 use Rattle.lowering_law.proofs.Vectors.{converted_vector, both_say}
 use Rattle.lowering_law.proofs.Functions.{call_says}
 use Rattle.lowering_law.proofs.Comparisons.{select_says}
-use Rattle.lowering_law.proofs.Components.{listed_values, less_is}
 use Rattle.lowering_law.proofs.Parts.{says_element}
 
 -- the components of a vector of numbers are words

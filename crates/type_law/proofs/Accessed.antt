@@ -15,11 +15,11 @@ use Rattle.profile_rules.specs.TypeRows.{is_int, is_uint, fails, is_other}
 use Rattle.profile_rules.specs.FlowRules.{every_second}
 use Rattle.module_semantics.specs.Setting.{Setting}
 use Rattle.module_semantics.specs.Steps.{source_from}
+use Rattle.list_law.proofs.Tests.{or_left, or_right}
 use Rattle.fits_law.specs.Takes.{numbers, Has}
 use Rattle.fits_law.specs.State.{value_shape}
 use Rattle.fits_law.specs.Typed.{IsOfWords}
 use Rattle.type_law.proofs.Rows.{int_has}
-use Rattle.type_law.proofs.Scalars.{or_left, or_right}
 use Rattle.type_law.proofs.Operands.{same_shape_of}
 use Rattle.type_law.proofs.Choices.{passes}
 use Rattle.type_law.proofs.Parts.{row}

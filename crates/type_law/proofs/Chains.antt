@@ -25,13 +25,13 @@ use Rattle.module_semantics.specs.Setting.{Setting, as_variable, global_variable
 use Rattle.module_semantics.specs.State.{global, Held, value, pointer, Frame}
 use Rattle.module_semantics.specs.Operands.{of_module, as_value, as_word, word_at, words_at}
 use Rattle.module_semantics.specs.Steps.{base}
+use Rattle.list_law.proofs.Options.{some_part}
 use Rattle.fits_law.specs.Takes.{nth_of}
 use Rattle.fits_law.specs.State.{target_shape, element_shape, place_shape, LeadsTo}
 use Rattle.fits_law.specs.Typed.{HasOwn, IsChain}
 use Rattle.fits_law.proofs.Operations.{before_some}
 use Rattle.type_law.specs.Shaped.{AreConstants}
 use Rattle.type_law.proofs.Rows.{by_kind, vector_parts}
-use Rattle.type_law.proofs.Operands.{some_first}
 use Rattle.type_law.proofs.Choices.{scalar_elem}
 use Rattle.type_law.proofs.Vectors.{three_off}
 use Rattle.type_law.proofs.Parts.{array_kind, runtime_kind, struct_kind, all_nth, row, earlier_is, same_types}
@@ -186,7 +186,7 @@ module _ (s : Setting) (f : Function) where
   -- T6: a chain leads to what its type says, where pointers lead to shapes
   pub chain_typed : (i : Inst) (t : Tree) → breaks_t6 Gs T i ≡ false → AreConstants s → HaveTypes (drop 1 i.args) → target_shape s f (base i) ≡ Some t → T i.result ≡ Some i.ty → (fails is_pointer Gs i.ty ≡ false → (q : ℕ) × (u : Tree) × (pointee Gs i.ty ≡ Some q) × (type_tree Gs q ≡ Some u)) → IsChain s f i
   chain_typed i t right known have from typed to c indexes ty is own words there allowed =
-      let start = some_first (type_tree Gs) (option_and_then (pointee Gs) (T (base i))) t from in
+      let start = some_part (type_tree Gs) (option_and_then (pointee Gs) (T (base i))) t from in
       let off = three_off (value_fails is_pointer Gs T (word i 0)) (list_any (value_fails is_int Gs T) (drop 1 i.args)) (leads_elsewhere Gs i.ty (option_and_then (storage_class Gs) (T (word i 0))) (chain_end Gs T i)) right in
       let reached : leads_elsewhere Gs i.ty (option_and_then (storage_class Gs) (T (word i 0))) (walk (chain_step Gs T) (Part start.0) (drop 1 i.args)) ≡ false
       = ap (λ o. leads_elsewhere Gs i.ty (option_and_then (storage_class Gs) (T (word i 0))) (walk (chain_step Gs T) (option_map_or Part o Unknown) (drop 1 i.args))) (sym start.1) ∙ off.2 in
@@ -218,7 +218,7 @@ module _ (s : Setting) (f : Function) where
 
   pub chain_pointer : (i : Inst) (t : Tree) → breaks_t6 Gs T i ≡ false → HaveTypes (drop 1 i.args) → target_shape s f (base i) ≡ Some t → fails is_pointer Gs i.ty ≡ false
   chain_pointer i t right have from =
-      let start = some_first (type_tree Gs) (option_and_then (pointee Gs) (T (base i))) t from in
+      let start = some_part (type_tree Gs) (option_and_then (pointee Gs) (T (base i))) t from in
       let off = three_off (value_fails is_pointer Gs T (word i 0)) (list_any (value_fails is_int Gs T) (drop 1 i.args)) (leads_elsewhere Gs i.ty (option_and_then (storage_class Gs) (T (word i 0))) (chain_end Gs T i)) right in
       let reached : leads_elsewhere Gs i.ty (option_and_then (storage_class Gs) (T (word i 0))) (walk (chain_step Gs T) (Part start.0) (drop 1 i.args)) ≡ false
       = ap (λ o. leads_elsewhere Gs i.ty (option_and_then (storage_class Gs) (T (word i 0))) (walk (chain_step Gs T) (option_map_or Part o Unknown) (drop 1 i.args))) (sym start.1) ∙ off.2 in

@@ -1,8 +1,7 @@
 -- Select, Any and All, copies, and components at an index that is computed: they take the shapes of their operands.
-use Rattle.std.proofs.Common.{◌≡◌, ◌==◌, ◌&&◌, ◌||◌, ℕ, Bool, true, false, not, List, [], ◌∷◌, Option, Some, None, inl, inr, refl, sym, ap, ◌∙◌, subst, if◌then◌else◌}
+use Rattle.std.proofs.Common.{◌≡◌, ◌==◌, ◌&&◌, ◌||◌, ℕ, Bool, true, false, not, List, [], ◌∷◌, Option, Some, None, refl, sym, ap, ◌∙◌, subst, if◌then◌else◌}
 use Rattle.std.specs.Prelude.{option_and_then, is_some}
 use Rattle.std.specs.Option.{option_map_or}
-use Rattle.std.proofs.lemmas.Bool.Decides.{eqb_tells}
 use Rattle.std.proofs.lemmas.Bool.{and_from, not-false}
 use Rattle.std.proofs.lemmas.Option.{same_Some}
 use Rattle.spv_module.specs.declared.inst.Inst.{Inst}
@@ -18,23 +17,15 @@ use Rattle.op_semantics.specs.Fits.{elem_tree}
 use Rattle.profile_rules.specs.TypeRows.{is_bool, is_int, is_vector, type_row, fails, differ, value_fails, is_other, count_in, component_if, component, size_if, size, bools, bools_of, is_not}
 use Rattle.profile_rules.specs.NumberRules.{is_no_bool_vector, has_other_size, is_no_condition}
 use Rattle.module_semantics.specs.Setting.{Setting}
+use Rattle.list_law.proofs.Options.{some_part}
+use Rattle.list_law.proofs.Tests.{and_off, or_left, or_right}
+use Rattle.list_law.proofs.Numbers.{same_count}
 use Rattle.fits_law.specs.Takes.{numbers, truths, Has, IsCondition, Takes}
 use Rattle.fits_law.specs.State.{value_shape}
 use Rattle.type_law.specs.Shaped.{size_by}
 use Rattle.type_law.proofs.Rows.{int_has, bool_has, vector_parts}
-use Rattle.type_law.proofs.Scalars.{or_left, or_right, row_of, before_row, shape_has, is_counted}
-use Rattle.type_law.proofs.Operands.{some_first, int_scalar, same_shape_of}
-
-pub both_off : (a b : Bool) → (a && b) ≡ false → a ≡ true → b ≡ false
-both_off true b e on = e
-both_off false b e on = cc
-
-pub same_count : (m n : ℕ) → not (m == n) ≡ false → m ≡ n
-same_count m n e = elim (eqb_tells m n) [ inl w ↦ w.1 | inr w ↦ absurd (never (m == n) w.0 e) ]
-  where
-    never : (b : Bool) → b ≡ false → not b ≡ false → ⊥
-    never true off on = cc
-    never false off on = cc
+use Rattle.type_law.proofs.Scalars.{row_of, before_row, shape_has, is_counted}
+use Rattle.type_law.proofs.Operands.{int_scalar, same_shape_of}
 
 pub scalar_elem : (u : Tree) (e : Elem) → elem_of u ≡ Some e → u ≡ elem_tree e
 scalar_elem boolean e is = ap elem_tree (same_Some elem.Bool e is)
@@ -73,7 +64,7 @@ module _ (s : Setting) (f : Function) where
   pub over_takes : (id : ℕ) (t u : Tree) (ty : ℕ) → fails is_bool Gs ty ≡ false → is_no_bool_vector Gs T id ≡ false → type_tree Gs ty ≡ Some t → value_shape s f id ≡ Some u → (n : ℕ) × Has truths None t × Has truths (Some n) u
   over_takes id t u ty result right shape value =
       let first = row ty t shape in
-      let own = some_first (type_tree Gs) (T id) u value in
+      let own = some_part (type_tree Gs) (T id) u value in
       let g = row own.0 u own.2 in
       let is_a = passes is_vector own.0 g.0 g.1 (ap (λ o. option_map_or (fails is_vector Gs) o false) (sym own.1) ∙ or_left (value_fails is_vector Gs T id) (option_map_or (λ n. n == 0) (bools_of Gs T id) false) right) in
       let count = is_counted is_bool truths bool_has Gs own.0 u own.2 in
@@ -85,7 +76,7 @@ module _ (s : Setting) (f : Function) where
   pub index_takes : (ls : List ℕ) (ty x y : ℕ) (t a b : Tree) → value_fails is_vector Gs T x ≡ false → value_fails is_int Gs T y ≡ false → option_map_or (differ Gs ty) (option_and_then (component Gs) (T x)) false ≡ false
       → type_tree Gs ty ≡ Some t → value_shape s f x ≡ Some a → value_shape s f y ≡ Some b → Takes op.VectorExtractDynamic t ls (a ∷ b ∷ [])
   index_takes ls ty x y t a b right second third shape ha hb =
-      let own = some_first (type_tree Gs) (T x) a ha in
+      let own = some_part (type_tree Gs) (T x) a ha in
       let g = row own.0 a own.2 in
       let on = passes is_vector own.0 g.0 g.1 (ap (λ o. option_map_or (fails is_vector Gs) o false) (sym own.1) ∙ right) in
       let parts = vector_parts Gs g.0 a on g.2 in
@@ -98,7 +89,7 @@ module _ (s : Setting) (f : Function) where
       same_types a b t u ta tb right =
           let ra = row a t ta in
           let rb = row b u tb in
-          let same = same_count a b (both_off (is_some (type_row Gs a) && is_some (type_row Gs b)) (not (a == b)) right (and_from (is_some (type_row Gs a)) (is_some (type_row Gs b)) (ap is_some ra.1) (ap is_some rb.1))) in
+          let same = same_count a b (and_off (is_some (type_row Gs a) && is_some (type_row Gs b)) (not (a == b)) right (and_from (is_some (type_row Gs a)) (is_some (type_row Gs b)) (ap is_some ra.1) (ap is_some rb.1))) in
           same_Some t u (sym ta ∙ ap (type_tree Gs) same ∙ tb)
 
   -- T17: a choice between values of the result's type, by a bool or a vector of as many bools
@@ -129,7 +120,7 @@ module _ (s : Setting) (f : Function) where
           one_truth (runtime q) h = absurd h
           one_truth (struct id ts) h = absurd h
       by_bool g is tree n count has sizes false off =
-          let other : has_other_size Gs ty n ≡ false = both_off (fails is_bool Gs c) (has_other_size Gs ty n) sizes (first_row g is ∙ ap not off) in
+          let other : has_other_size Gs ty n ≡ false = and_off (fails is_bool Gs c) (has_other_size Gs ty n) sizes (first_row g is ∙ ap not off) in
           let result = row ty t shape in
           let on = passes is_vector ty result.0 result.1 (or_left (fails is_vector Gs ty) (is_not n (size Gs ty)) other) in
           let parts = vector_parts Gs result.0 t on result.2 in

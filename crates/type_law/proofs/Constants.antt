@@ -24,9 +24,9 @@ use Rattle.profile_rules.specs.Constants.{constant_kind, value_by_kind, if_fits,
 use Rattle.module_semantics.specs.Setting.{Setting, global_variable}
 use Rattle.module_semantics.specs.Memory.{class_of}
 use Rattle.module_semantics.specs.Accesses.{input_value}
+use Rattle.list_law.proofs.Options.{some_part}
 use Rattle.fits_law.specs.State.{value_shape, target_shape, global_shape, HasShape, LeadsTo, ModuleFits}
 use Rattle.type_law.specs.Shaped.{EachFound, HaveResults, AreConstants, HasConstants}
-use Rattle.type_law.proofs.Operands.{some_first}
 use Rattle.type_law.proofs.Places.{along_is}
 
 word_kind : (o : Op) → is o code.Constant ≡ true → constant_kind o ≡ Word
@@ -68,8 +68,8 @@ module _ (s : Setting) (chosen : ℕ → Option ℕ) (have : HasConstants s chos
       by_sound : (g : Inst) (h : ℕ → Option ValueTree) (b : Bool) → global_inst Gs id ≡ Some g → (if b then option_and_then (shaped_value h (chosen g.result) g) (type_tree Gs g.ty) else None) ≡ Some v
           → (g : Inst) × (h : ℕ → Option ValueTree) × (t : Tree) × (global_inst Gs id ≡ Some g) × (type_tree Gs g.ty ≡ Some t) × (fits t v ≡ true) × (value_by_kind h (chosen g.result) t g.args (constant_kind g.op) ≡ Some v)
       by_sound g h true there e =
-          let t = some_first (shaped_value h (chosen g.result) g) (type_tree Gs g.ty) v e in
-          let w = some_first (if_fits t.0) (value_by_kind h (chosen g.result) t.0 g.args (constant_kind g.op)) v t.2 in
+          let t = some_part (shaped_value h (chosen g.result) g) (type_tree Gs g.ty) v e in
+          let w = some_part (if_fits t.0) (value_by_kind h (chosen g.result) t.0 g.args (constant_kind g.op)) v t.2 in
           let fit = by_fits t.0 w.0 (fits t.0 w.0) refl w.2 in
           (g, h, t.0, there, t.1, fit.1, w.1 ∙ ap (λ x. Some x) fit.0)
       by_sound g h false there e = cc
@@ -112,8 +112,8 @@ module _ (s : Setting) (chosen : ℕ → Option ℕ) (have : HasConstants s chos
 
   global_leads : (f : Function) (id : ℕ) (t : Tree) → global_shape s id ≡ Some t → LeadsTo (global_shape s id) [] (target_shape s f id)
   global_leads f id t shape =
-      let part = some_first (type_tree Gs) (option_and_then (pointee Gs) (global_type Gs id)) t shape in
-      let own = some_first (pointee Gs) (global_type Gs id) part.0 part.1 in
+      let part = some_part (type_tree Gs) (option_and_then (pointee Gs) (global_type Gs id)) t shape in
+      let own = some_part (pointee Gs) (global_type Gs id) part.0 part.1 in
       let target : target_shape s f id ≡ Some t = ap (λ o. option_and_then (type_tree Gs) (option_and_then (pointee Gs) (option_or o (local_type f id)))) own.1 ∙ (ap (option_and_then (type_tree Gs)) own.2 ∙ part.2) in
       subst (λ o. LeadsTo o [] (target_shape s f id)) (sym shape) (sym target)
 

@@ -24,12 +24,12 @@ use Rattle.op_semantics.specs.declared.operation.Operation.TheVariants as op
 use Rattle.profile_rules.specs.TypeRows.{is_type, if_type, is_void, is_not, type_row, constant_word}
 use Rattle.profile_rules.specs.ValueRules.{is_same_length, do_parts_match, match_step, match_before, match_at, do_match, breaks_t12}
 use Rattle.module_semantics.specs.Setting.{Setting}
+use Rattle.list_law.proofs.Numbers.{same_count}
+use Rattle.list_law.proofs.Options.{some_part}
 use Rattle.fits_law.specs.Takes.{Alike, AllAlike, Takes}
 use Rattle.fits_law.specs.State.{value_shape}
 use Rattle.fits_law.proofs.Steps.{named}
 use Rattle.type_law.proofs.Rows.{by_kind}
-use Rattle.type_law.proofs.Operands.{some_first}
-use Rattle.type_law.proofs.Choices.{same_count}
 use Rattle.type_law.proofs.Vectors.{alike_self}
 use Rattle.type_law.proofs.Parts.{array_kind, struct_kind, fixed_word, row, earlier_is}
 
@@ -206,7 +206,7 @@ module _ (s : Setting) (f : Function) (R : Tree → Tree → Type 0) (Rs : Trees
   -- T12
   pub logical_matched : (i : Inst) (t a : Tree) → breaks_t12 Gs (type_in Gs f) i ≡ false → type_tree Gs i.ty ≡ Some t → value_shape s f (word i 0) ≡ Some a → IsSized t → IsSized a → R t a
   logical_matched i t a right shape value st sa =
-      let own = some_first (type_tree Gs) (type_in Gs f (word i 0)) a value in
+      let own = some_part (type_tree Gs) (type_in Gs f (word i 0)) a value in
       let g = row s f own.0 a own.2 in
       let on : do_match Gs own.0 i.ty ≡ true = not-false (do_match Gs own.0 i.ty) (ap (λ o. option_map_or (λ ty. not (do_match Gs ty i.ty)) o false) (sym own.1) ∙ right) in
       matched a own.0 i.ty t g.0 (row_global own.0 g.0 g.1) own.2 shape sa st (ap (λ o. option_map_or (λ x. match_at Gs x i.ty) o true) (sym g.1) ∙ on)
@@ -216,7 +216,7 @@ module _ (s : Setting) (f : Function) (R : Tree → Tree → Type 0) (Rs : Trees
       row_if x g false e = cc
 
       row_global : (ty : ℕ) (g : Inst) → type_row Gs ty ≡ Some g → global_inst Gs ty ≡ Some g
-      row_global ty g e = let x = some_first if_type (global_inst Gs ty) g e in x.1 ∙ ap (λ y. Some y) (row_if x.0 g (is_type x.0) x.2)
+      row_global ty g e = let x = some_part if_type (global_inst Gs ty) g e in x.1 ∙ ap (λ y. Some y) (row_if x.0 g (is_type x.0) x.2)
 
 alike_by_parts : IsByParts Alike AllAlike
 alike_by_parts = record { self = alike_self; arrays = λ u t n m part same. (part, same); structs = λ i k us ts parts. parts; none = tt; more = λ u t us ts one parts. (one, parts) }

@@ -30,13 +30,15 @@ use Rattle.profile_rules.specs.NumberRules.{pointee_of, points_to_other, is_no_c
 use Rattle.profile_rules.specs.ValueRules.{are_other_parts, are_other_members, misfit, given_by, given_of, given, given_or_zero, gives_none, is_other_count, is_misbuilt, breaks_t10}
 use Rattle.module_semantics.specs.Setting.{Setting}
 use Rattle.module_semantics.specs.Operands.{arg}
+use Rattle.list_law.proofs.Numbers.{same_count}
+use Rattle.list_law.proofs.Options.{some_part}
+use Rattle.list_law.proofs.Tests.{not_both, or_left, or_right}
 use Rattle.fits_law.specs.Takes.{Gives, GiveAll, AreOfShape, AreMembers, AreParts, Takes}
 use Rattle.fits_law.specs.State.{value_shape, target_shape, result_shape, IsLocal}
 use Rattle.fits_law.specs.Typed.{HaveShapes, IsLoad}
 use Rattle.type_law.proofs.Rows.{by_kind, vector_parts}
-use Rattle.type_law.proofs.Scalars.{or_left, or_right}
-use Rattle.type_law.proofs.Operands.{some_first, same_shape_of}
-use Rattle.type_law.proofs.Choices.{same_count, scalar_elem}
+use Rattle.type_law.proofs.Operands.{same_shape_of}
+use Rattle.type_law.proofs.Choices.{scalar_elem}
 use Rattle.type_law.proofs.Parts.{array_kind, struct_kind, fixed_word, row, earlier_is, same_types}
 
 module _ (s : Setting) (f : Function) where
@@ -105,15 +107,11 @@ module _ (s : Setting) (f : Function) where
 
   -- scalars and vectors that give the components of a vector
   no_zero : (m : ℕ) → m ≡ 0 → (m == 0) ≡ false → ⊥
-  no_zero m e some = elim (eqb_tells m 0) [ inl w ↦ never (m == 0) w.0 some | inr w ↦ w.1 e ]
-    where
-      never : (b : Bool) → b ≡ true → b ≡ false → ⊥
-      never true on off = cc
-      never false on off = cc
+  no_zero m e some = elim (eqb_tells m 0) [ inl w ↦ not_both (m == 0) w.0 some | inr w ↦ w.1 e ]
 
   one_gives : (c id : ℕ) (q : Tree) (e : Elem) (u : Tree) → type_tree Gs c ≡ Some q → elem_of q ≡ Some e → value_shape s f id ≡ Some u → gives_none Gs T c id ≡ false → (m : ℕ) × (given Gs T c id ≡ Some m) × Gives e m u
   one_gives c id q e u shape part value right =
-      let own = some_first (type_tree Gs) (T id) u value in
+      let own = some_part (type_tree Gs) (T id) u value in
       let g = row s f own.0 u own.2 in
       let gives : given Gs T c id ≡ Some (given_by Gs c own.0 g.0) = ap (option_and_then (given_of Gs c)) own.1 ∙ ap (option_map (given_by Gs c own.0)) g.1 in
       (given_by Gs c own.0 g.0, gives, by_vector g.0 own.0 own.2 g.2 (ap (λ o. option_map_or (λ m. m == 0) o false) (sym gives) ∙ right) (is_vector g.0) refl)
@@ -138,12 +136,9 @@ module _ (s : Setting) (f : Function) where
           let parts = vector_parts Gs g u on whole in
           let now : ((if differ Gs c (word g 0) then 0 else word g 1) == 0) ≡ false = ap (λ b. (if b then (if differ Gs c (word g 0) then 0 else word g 1) else (if differ Gs c ty then 0 else 1)) == 0) (sym on) ∙ some in
           let same = same_types s f c (word g 0) q parts.0 shape (earlier_is s f g.at (word g 0) parts.0 parts.2) (zero_given (differ Gs c (word g 0)) (word g 1) now) in
-          let one : parts.1 ≡ e = some_elem parts.1 e (sym parts.3 ∙ ap elem_of (sym same) ∙ part) in
+          let one : parts.1 ≡ e = same_Some parts.1 e (sym parts.3 ∙ ap elem_of (sym same) ∙ part) in
           let count : given_by Gs c ty g ≡ word g 1 = ap (λ b. if b then (if differ Gs c (word g 0) then 0 else word g 1) else (if differ Gs c ty then 0 else 1)) on ∙ ap (λ b. if b then 0 else word g 1) (zero_given (differ Gs c (word g 0)) (word g 1) now) in
           subst (λ m. Gives e m u) (sym count) (of_vector e parts.1 (word g 1) u parts.4 one)
-        where
-          some_elem : (a b : Elem) → Some a ≡ Some b → a ≡ b
-          some_elem a b e = cc
       by_vector g ty there whole some false off =
           let now : ((if differ Gs c ty then 0 else 1) == 0) ≡ false = ap (λ b. (if b then (if differ Gs c (word g 0) then 0 else word g 1) else (if differ Gs c ty then 0 else 1)) == 0) (sym off) ∙ some in
           let same = same_types s f c ty q u shape there (zero_given (differ Gs c ty) 1 now) in
@@ -199,7 +194,7 @@ module _ (s : Setting) (f : Function) where
   -- T5: what is stored has the shape of what the pointer leads to
   pub store_typed : (pointer object : ℕ) (u w : Tree) → is_no_content Gs T pointer object ≡ false → value_shape s f object ≡ Some u → target_shape s f pointer ≡ Some w → value_shape s f object ≡ target_shape s f pointer
   store_typed pointer object u w right value target =
-      let part = some_first (type_tree Gs) (option_and_then (pointee Gs) (T pointer)) w target in
+      let part = some_part (type_tree Gs) (option_and_then (pointee Gs) (T pointer)) w target in
       let other = or_right (value_fails is_pointer Gs T pointer) (option_map_or (λ p. is_other Gs T p object) (pointee_of Gs T pointer) false) right in
       let same = same_shape_of s f part.0 object w u (ap (λ o. option_map_or (λ p. is_other Gs T p object) o false) (sym part.1) ∙ other) part.2 value in
       value ∙ ap (λ x. Some x) same ∙ sym target
@@ -207,7 +202,7 @@ module _ (s : Setting) (f : Function) where
   -- T4: what is loaded has the shape of what the pointer leads to
   pub load_typed : (i : Inst) (t w : Tree) → points_to_other Gs T (arg i 0) i.ty ≡ false → type_tree Gs i.ty ≡ Some t → value_shape s f i.result ≡ Some t → target_shape s f (arg i 0) ≡ Some w → IsSized t → IsLocal s i.result → IsLoad s f i
   load_typed i t w right shape result target sized local =
-      let part = some_first (type_tree Gs) (option_and_then (pointee Gs) (T (arg i 0))) w target in
+      let part = some_part (type_tree Gs) (option_and_then (pointee Gs) (T (arg i 0))) w target in
       let other = or_right (value_fails is_pointer Gs T (arg i 0)) (option_map_or (λ p. differ Gs p i.ty) (pointee_of Gs T (arg i 0)) false) right in
       let same = same_types s f part.0 i.ty w t part.2 shape (ap (λ o. option_map_or (λ p. differ Gs p i.ty) o false) (sym part.1) ∙ other) in
       record { shape = t; result = result; target = target ∙ ap (λ x. Some x) same; sized = sized; local = local }

@@ -1,9 +1,10 @@
 -- What the rules on types say of an operation: it takes the shapes of its operands.
-use Rattle.std.proofs.Common.{◌≡◌, ◌==◌, ◌&&◌, ℕ, Bool, true, false, not, List, [], ◌∷◌, length, Option, Some, None, inl, inr, refl, sym, ap, ◌∙◌, arith}
-use Rattle.std.specs.Prelude.{◌⊎◌, option_and_then, is_some}
+use Rattle.std.proofs.Common.{◌≡◌, ◌==◌, ◌&&◌, ℕ, Bool, true, false, not, List, [], ◌∷◌, length, Option, Some, None, inl, inr, sym, ap, ◌∙◌, arith}
+use Rattle.std.specs.Prelude.{◌⊎◌, is_some}
 use Rattle.std.specs.Option.{option_map_or}
 use Rattle.std.proofs.lemmas.Bool.Decides.{eqb_tells}
 use Rattle.std.proofs.lemmas.Bool.{not-false}
+use Rattle.std.proofs.lemmas.Option.{same_Some}
 use Rattle.spv_module.specs.declared.inst.Inst.{Inst}
 use Rattle.spv_module.specs.declared.inst.Function.{Function}
 use Rattle.spv_module.specs.declared.tree.Elem.{Elem}
@@ -20,16 +21,13 @@ use Rattle.op_semantics.specs.declared.operation.Operation.TheVariants as op
 use Rattle.profile_rules.specs.TypeRows.{is_int, type_row, fails, differ, value_fails, is_other}
 use Rattle.profile_rules.specs.NumberRules.{are_unlike_ints, breaks_t14, breaks_t15}
 use Rattle.module_semantics.specs.Setting.{Setting}
+use Rattle.list_law.proofs.Options.{some_part}
 use Rattle.fits_law.specs.Takes.{numbers, truths, Has, IsOfSort, AreAlike, Alike, IsField, Takes}
 use Rattle.fits_law.specs.State.{value_shape}
 use Rattle.fits_law.specs.Typed.{HaveShapes}
 use Rattle.type_law.specs.Shaped.{AllHave}
 use Rattle.type_law.proofs.Rows.{int_has}
 use Rattle.type_law.proofs.Scalars.{row_of, like_ints, compared_ints, like_bools}
-
-pub some_first : {A B : Type 0} (f : A → Option B) (o : Option A) (b : B) → option_and_then f o ≡ Some b → (a : A) × (o ≡ Some a) × (f a ≡ Some b)
-some_first f None b e = cc
-some_first f (Some a) b e = (a, refl, e)
 
 -- numbers are alike
 alike_elems : (e d : Elem) → IsOfSort numbers e → IsOfSort numbers d → AreAlike e d
@@ -145,7 +143,7 @@ module _ (s : Setting) (f : Function) (i : Inst) (t : Tree) (ls : List ℕ) (us 
 module _ (s : Setting) (f : Function) where
   pub int_scalar : (id : ℕ) (u : Tree) → value_fails is_int s.of.globals (type_in s.of.globals f) id ≡ false → value_shape s f id ≡ Some u → Has numbers None u
   int_scalar id u right shape =
-      let own = some_first (type_tree s.of.globals) (type_in s.of.globals f id) u shape in
+      let own = some_part (type_tree s.of.globals) (type_in s.of.globals f id) u shape in
       let row = row_of is_int numbers int_has s.of.globals own.0 u own.2 in
       let on : not (is_int row.0) ≡ false = ap (λ o. option_map_or (λ g. not (is_int g)) o false) (sym row.1) ∙ (ap (λ o. option_map_or (fails is_int s.of.globals) o false) (sym own.1) ∙ right) in
       int_has s.of.globals (tree_before s.of.globals row.0.at) row.0 u (not-false (is_int row.0) on) row.2
@@ -153,16 +151,13 @@ module _ (s : Setting) (f : Function) where
   -- a value that has to have a type
   pub same_shape_of : (ty id : ℕ) (t u : Tree) → is_other s.of.globals (type_in s.of.globals f) ty id ≡ false → type_tree s.of.globals ty ≡ Some t → value_shape s f id ≡ Some u → u ≡ t
   same_shape_of ty id t u right shape value =
-      let own = some_first (type_tree s.of.globals) (type_in s.of.globals f id) u value in
+      let own = some_part (type_tree s.of.globals) (type_in s.of.globals f id) u value in
       let row = row_of is_int numbers int_has s.of.globals own.0 u own.2 in
       let first = row_of is_int numbers int_has s.of.globals ty t shape in
       let differs : differ s.of.globals ty own.0 ≡ false = ap (λ o. option_map_or (differ s.of.globals ty) o false) (sym own.1) ∙ right in
       let same = same_ids (ty == own.0) (eqb_tells ty own.0) (ap (λ o. is_some o && is_some (type_row s.of.globals own.0) && not (ty == own.0)) (sym first.1) ∙ differs) row.1 in
-      some_same u t (sym own.2 ∙ ap (type_tree s.of.globals) (sym same) ∙ shape)
+      same_Some u t (sym own.2 ∙ ap (type_tree s.of.globals) (sym same) ∙ shape)
     where
-      some_same : (a b : Tree) → Some a ≡ Some b → a ≡ b
-      some_same a b e = cc
-
       same_ids : {x y : ℕ} {g : Inst} {o : Option Inst} (b : Bool) → ((b ≡ true) × (x ≡ y)) ⊎ ((b ≡ false) × (x ≡ y → ⊥)) → (is_some o && not b) ≡ false → o ≡ Some g → x ≡ y
       same_ids b (inl w) e is = w.1
       same_ids b (inr w) e is = absurd (never b w.0 (ap (λ q. is_some q && not b) (sym is) ∙ e))

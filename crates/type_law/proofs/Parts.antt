@@ -28,12 +28,15 @@ use Rattle.profile_rules.specs.declared.needs.Reached.TheVariants.{Part, Nothing
 use Rattle.profile_rules.specs.TypeRows.{is_int, is_vector, is_runtime_array, type_row, differ, is_other, constant_if, constant_word}
 use Rattle.profile_rules.specs.ValueRules.{walk, nth_member, one_of, literal_part, literal_step, part_of, is_elsewhere, is_value_elsewhere}
 use Rattle.module_semantics.specs.Setting.{Setting}
+use Rattle.list_law.proofs.Tests.{and_off}
+use Rattle.list_law.proofs.Numbers.{same_count}
+use Rattle.list_law.proofs.Options.{some_part}
 use Rattle.fits_law.specs.Takes.{numbers, nth_of, part_shape, shape_at, Takes}
 use Rattle.fits_law.specs.State.{value_shape}
 use Rattle.type_law.proofs.Rows.{int_has, by_kind, vector_parts}
 use Rattle.type_law.proofs.Scalars.{row_of, before_row}
-use Rattle.type_law.proofs.Operands.{some_first, same_shape_of}
-use Rattle.type_law.proofs.Choices.{same_count, both_off, scalar_elem}
+use Rattle.type_law.proofs.Operands.{same_shape_of}
+use Rattle.type_law.proofs.Choices.{scalar_elem}
 
 -- a type with a shape is of one of five kinds besides scalars, by its opcode
 pub array_kind : (o : Op) → is o code.TypeArray ≡ true → kind o ≡ Array
@@ -206,13 +209,13 @@ module _ (s : Setting) (f : Function) where
   same_types a b t u ta tb right =
       let ra = row a t ta in
       let rb = row b u tb in
-      let same = same_count a b (both_off (is_some (type_row Gs a) && is_some (type_row Gs b)) (not (a == b)) right (and_from (is_some (type_row Gs a)) (is_some (type_row Gs b)) (ap is_some ra.1) (ap is_some rb.1))) in
+      let same = same_count a b (and_off (is_some (type_row Gs a) && is_some (type_row Gs b)) (not (a == b)) right (and_from (is_some (type_row Gs a)) (is_some (type_row Gs b)) (ap is_some ra.1) (ap is_some rb.1))) in
       same_Some t u (sym ta ∙ ap (type_tree Gs) same ∙ tb)
 
   -- T11: the part has the type of the result
   pub extract_takes : (ty id : ℕ) (ks : List ℕ) (t a : Tree) → is_elsewhere Gs ty (part_of Gs (type_in Gs f id) ks) ≡ false → type_tree Gs ty ≡ Some t → value_shape s f id ≡ Some a → IsSized a → Takes op.CompositeExtract t ks (a ∷ [])
   extract_takes ty id ks t a right shape value sized =
-      let own = some_first (type_tree Gs) (type_in Gs f id) a value in
+      let own = some_part (type_tree Gs) (type_in Gs f id) a value in
       let there : is_elsewhere Gs ty (walk (literal_step Gs) (Part own.0) ks) ≡ false = ap (λ o. is_elsewhere Gs ty (walk (literal_step Gs) (option_map_or Part o Unknown) ks)) (sym own.1) ∙ right in
       elim (walk_leads ks own.0 a own.2 sized) [
         | inl none ↦ absurd (never (ap (is_elsewhere Gs ty) (sym none) ∙ there))
@@ -227,7 +230,7 @@ module _ (s : Setting) (f : Function) where
       → Takes op.CompositeInsert t ks (o ∷ a ∷ [])
   insertion_takes ty object id ks t o a same right shape given value sized =
       let whole = same_shape_of s f ty id t a same shape value in
-      let own = some_first (type_tree Gs) (type_in Gs f id) a value in
+      let own = some_part (type_tree Gs) (type_in Gs f id) a value in
       let there : is_value_elsewhere Gs (type_in Gs f) object (walk (literal_step Gs) (Part own.0) ks) ≡ false = ap (λ q. is_value_elsewhere Gs (type_in Gs f) object (walk (literal_step Gs) (option_map_or Part q Unknown) ks)) (sym own.1) ∙ right in (
         whole,
         subst (λ x. shape_at x ks ≡ Some o) whole (elim (walk_leads ks own.0 a own.2 sized) [

@@ -20,12 +20,12 @@ use Rattle.module_semantics.specs.Setting.{Setting, is_variable, as_variable, gl
 use Rattle.module_semantics.specs.Memory.{part_by, part_type, type_along, variable_type, shape_along, class_of}
 use Rattle.module_semantics.specs.State.{global}
 use Rattle.module_semantics.specs.Accesses.{seen, seen_if, if_seen, is_seen}
+use Rattle.list_law.proofs.Options.{some_part}
 use Rattle.fits_law.specs.Takes.{numbers, nth_of}
 use Rattle.fits_law.specs.State.{global_shape, element_shape, place_shape, LeadsTo}
 use Rattle.profile_rules.specs.TypeRows.{is_int}
 use Rattle.type_law.proofs.Rows.{int_has}
 use Rattle.type_law.proofs.Scalars.{before_row}
-use Rattle.type_law.proofs.Operands.{some_first}
 use Rattle.type_law.proofs.Choices.{scalar_elem}
 
 -- the part at an index by the kind of type
@@ -120,7 +120,7 @@ module _ (s : Setting) where
   pub types_along : (path : List ℕ) (ty : ℕ) (t u : Tree) → type_tree Gs ty ≡ Some t → place_shape t path ≡ Some u → type_tree Gs (type_along s ty path) ≡ Some u
   types_along [] ty t u shape at = shape ∙ at
   types_along (i ∷ path) ty t u shape at =
-      let part = some_first (λ x. place_shape x path) (element_shape t i) u at in
+      let part = some_part (λ x. place_shape x path) (element_shape t i) u at in
       types_along path (part_type s ty i) part.0 u (part_leads ty i t part.0 shape part.1) part.2
 
   -- a variable's type is that of what its pointer leads to
@@ -144,7 +144,7 @@ module _ (s : Setting) where
 
   seen_is : (id : ℕ) (v : Inst) → seen s (global id) ≡ Some v → global_inst Gs id ≡ Some v
   seen_is id v e =
-      let g = some_first seen_if (global_variable s id) v e in
+      let g = some_part seen_if (global_variable s id) v e in
       variable_is id g.0 g.1 ∙ by_class g.0 (class_of g.0) g.2
     where
       by_test : (g : Inst) (b : Bool) → elim b [ true ↦ Some g | false ↦ None ] ≡ Some v → Some g ≡ Some v
@@ -162,8 +162,8 @@ module _ (s : Setting) where
       by_shape : (o : Option Tree) → global_shape s id ≡ o → LeadsTo o path (Some u) → t ≡ u
       by_shape None e leads = absurd leads
       by_shape (Some r) e leads =
-          let part = some_first (type_tree Gs) (option_and_then (pointee Gs) (global_type Gs id)) r e in
-          let own = some_first (pointee Gs) (global_type Gs id) part.0 part.1 in
+          let part = some_part (type_tree Gs) (option_and_then (pointee Gs) (global_type Gs id)) r e in
+          let own = some_part (pointee Gs) (global_type Gs id) part.0 part.1 in
           let typed_is : typed v ≡ Some own.0 = ap (option_and_then typed) (sym (seen_is id v is)) ∙ own.1 in
           let there = types_along path part.0 r u part.2 leads in
           same_Some t u (sym shape ∙ (ap (λ ty. type_tree Gs (type_along s ty path)) (variable_type_is v own.0 part.0 typed_is own.2) ∙ there))

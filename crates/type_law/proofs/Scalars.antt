@@ -1,5 +1,5 @@
 -- A type of which the rules count scalars of a sort has the shape of a scalar or of a vector of so many.
-use Rattle.std.proofs.Common.{◌≡◌, ◌==◌, ◌||◌, ℕ, Bool, true, false, not, List, [], ◌∷◌, Option, Some, None, inl, inr, refl, sym, ap, ◌∙◌, subst, arith, if◌then◌else◌}
+use Rattle.std.proofs.Common.{◌≡◌, ◌==◌, ◌||◌, ℕ, Bool, true, false, List, [], ◌∷◌, Option, Some, None, inl, inr, refl, sym, ap, ◌∙◌, subst, arith, if◌then◌else◌}
 use Rattle.std.specs.Prelude.{nat_le, nat_lt, option_map, option_and_then}
 use Rattle.std.specs.Option.{option_map_or}
 use Rattle.std.specs.List.{list_any}
@@ -17,28 +17,19 @@ use Rattle.spv_index.specs.Locals.{type_in}
 use Rattle.profile_rules.specs.TypeRows.{is_bool, is_int, is_vector, if_type, type_row, one_if, count_in, ints_of, bools_of, is_not}
 use Rattle.profile_rules.specs.NumberRules.{are_unlike_ints, breaks_t14, breaks_t15}
 use Rattle.module_semantics.specs.Setting.{Setting}
+use Rattle.list_law.proofs.Options.{some_part}
+use Rattle.list_law.proofs.Numbers.{same_count}
+use Rattle.list_law.proofs.Tests.{not_both, or_left, or_right}
 use Rattle.fits_law.specs.Takes.{Sort, numbers, truths, Has, IsOfSort}
 use Rattle.fits_law.specs.Typed.{HaveShapes}
 use Rattle.type_law.specs.Shaped.{size_by, AllHave}
 use Rattle.type_law.proofs.Rows.{int_has, bool_has, elem_sort, is_a_type, vector_parts}
-
-some_first : {A B : Type 0} (f : A → Option B) (o : Option A) (b : B) → option_and_then f o ≡ Some b → (a : A) × (o ≡ Some a) × (f a ≡ Some b)
-some_first f None b e = cc
-some_first f (Some a) b e = (a, refl, e)
 
 one_of : (n : ℕ) → n ≡ 1 → size_by n ≡ None
 one_of n e = ap size_by e
 
 more_of : (n : ℕ) → nat_le 2 n ≡ true → size_by n ≡ Some n
 more_of n le = let many : (n == 1) ≡ false = grind (arith, nat_tests, le) in ap (λ b. if b then None else Some n) many
-
-pub or_left : (a b : Bool) → (a || b) ≡ false → a ≡ false
-or_left true b e = cc
-or_left false b e = refl
-
-pub or_right : (a b : Bool) → (a || b) ≡ false → b ≡ false
-or_right true b e = cc
-or_right false b e = e
 
 module _ (test : Inst → Bool) (k : Sort) (scalar : (gs : List Inst) (f : ℕ → Option Tree) (g : Inst) (t : Tree) → test g ≡ true → tree_step gs f g ≡ Some t → Has k None t) (gs : List Inst) where
   -- the row of a type with a shape
@@ -70,11 +61,7 @@ module _ (test : Inst → Bool) (k : Sort) (scalar : (gs : List Inst) (f : ℕ �
   one_when false n m e some = absurd (no_zero m e some)
     where
       no_zero : (m : ℕ) → 0 ≡ m → (m == 0) ≡ false → ⊥
-      no_zero m e some = elim (eqb_tells m 0) [ inl w ↦ never (m == 0) w.0 some | inr w ↦ w.1 (sym e) ]
-        where
-          never : (b : Bool) → b ≡ true → b ≡ false → ⊥
-          never true on off = cc
-          never false on off = cc
+      no_zero m e some = elim (eqb_tells m 0) [ inl w ↦ not_both (m == 0) w.0 some | inr w ↦ w.1 (sym e) ]
 
   scalar_or_vector : (g : Inst) (t : Tree) (n : ℕ) → tree_at gs g ≡ Some t → count_in test gs g ≡ Some n → (n == 0) ≡ false → Has k (size_by n) t
   scalar_or_vector g t n shape count some = by_vector (is_vector g) refl count
@@ -120,20 +107,13 @@ module _ (test : Inst → Bool) (k : Sort) (scalar : (gs : List Inst) (f : ℕ �
   all_have s f same n some [] (u ∷ us) have e = absurd have
   all_have s f same n some (id ∷ ids) [] have e = absurd have
   all_have s f same n some (id ∷ ids) (u ∷ us) have e =
-      let own = some_first (type_tree gs) (type_in gs f id) u (subst (λ hs. option_and_then (type_tree hs) (type_in hs f id) ≡ Some u) same have.0) in
+      let own = some_part (type_tree gs) (type_in gs f id) u (subst (λ hs. option_and_then (type_tree hs) (type_in hs f id) ≡ Some u) same have.0) in
       let count = is_counted own.0 u own.2 in
       let first = or_left (is_not n (option_and_then (λ ty. option_and_then (count_in test gs) (type_row gs ty)) (type_in gs f id))) (list_any (λ id. is_not n (option_and_then (λ ty. option_and_then (count_in test gs) (type_row gs ty)) (type_in gs f id))) ids) e in
       let rest = or_right (is_not n (option_and_then (λ ty. option_and_then (count_in test gs) (type_row gs ty)) (type_in gs f id))) (list_any (λ id. is_not n (option_and_then (λ ty. option_and_then (count_in test gs) (type_row gs ty)) (type_in gs f id))) ids) e in
       let is : is_not n (Some count.0) ≡ false = ap (is_not n) (sym (ap (option_and_then (λ ty. option_and_then (count_in test gs) (type_row gs ty))) own.1 ∙ count.1)) ∙ first in
       let equal : count.0 ≡ n = same_count count.0 n is in
       (shape_has own.0 u n own.2 (count.1 ∙ ap (λ m. Some m) equal) some, all_have s f same n some ids us have.1 rest)
-    where
-      same_count : (m n : ℕ) → not (m == n) ≡ false → m ≡ n
-      same_count m n e = elim (eqb_tells m n) [ inl w ↦ w.1 | inr w ↦ absurd (never (m == n) w.0 e) ]
-        where
-          never : (b : Bool) → b ≡ false → not b ≡ false → ⊥
-          never true off on = cc
-          never false off on = cc
 
 module _ (s : Setting) (f : Function) where
   -- where no operand is unlike: the result and the operands are numbers, of one number of components

@@ -17,12 +17,14 @@ use Rattle.op_semantics.specs.Fits.{elem_tree}
 use Rattle.profile_rules.specs.TypeRows.{is_int, is_vector, fails, value_fails, is_other, component_if, component, size_if, size, is_not}
 use Rattle.profile_rules.specs.ValueRules.{is_other_component, are_other_types, some_out_of, has_other_components, has_other_sizes, breaks_t8_insert, breaks_t9}
 use Rattle.module_semantics.specs.Setting.{Setting}
+use Rattle.list_law.proofs.Numbers.{same_count}
+use Rattle.list_law.proofs.Options.{some_part}
+use Rattle.list_law.proofs.Tests.{or_left}
 use Rattle.fits_law.specs.Takes.{AreAlike, Alike, AllAlike, IsShuffle, Takes}
 use Rattle.fits_law.specs.State.{value_shape}
 use Rattle.type_law.proofs.Rows.{vector_parts}
-use Rattle.type_law.proofs.Scalars.{or_left}
-use Rattle.type_law.proofs.Operands.{some_first, int_scalar, same_shape_of}
-use Rattle.type_law.proofs.Choices.{passes, same_count, scalar_elem}
+use Rattle.type_law.proofs.Operands.{int_scalar, same_shape_of}
+use Rattle.type_law.proofs.Choices.{passes, scalar_elem}
 use Rattle.type_law.proofs.Parts.{row, earlier_is, same_types}
 
 -- of five tests none is on
@@ -116,8 +118,8 @@ module _ (s : Setting) (f : Function) where
   pub shuffle_takes : (i : Inst) (t a b : Tree) → breaks_t9 Gs T i ≡ false → type_tree Gs i.ty ≡ Some t → value_shape s f (word i 0) ≡ Some a → value_shape s f (word i 1) ≡ Some b → Takes op.VectorShuffle t (drop 2 i.args) (a ∷ b ∷ [])
   shuffle_takes i t a b right shape ha hb =
       let off = five_off (fails is_vector Gs i.ty) (value_fails is_vector Gs T (word i 0)) (value_fails is_vector Gs T (word i 1)) (has_other_components Gs i.ty (T (word i 0)) (T (word i 1))) (has_other_sizes Gs i.ty (T (word i 0)) (T (word i 1)) (drop 2 i.args)) right in
-      let x = some_first (type_tree Gs) (T (word i 0)) a ha in
-      let y = some_first (type_tree Gs) (T (word i 1)) b hb in
+      let x = some_part (type_tree Gs) (T (word i 0)) a ha in
+      let y = some_part (type_tree Gs) (T (word i 1)) b hb in
       let v = vector_of i.ty t shape off.0 in
       let p = vector_of x.0 a x.2 (ap (λ o. option_map_or (fails is_vector Gs) o false) (sym x.1) ∙ off.1) in
       let q = vector_of y.0 b y.2 (ap (λ o. option_map_or (fails is_vector Gs) o false) (sym y.1) ∙ off.2) in

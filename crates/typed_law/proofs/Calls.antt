@@ -37,7 +37,7 @@ use Rattle.profile_rules.specs.FlowRules.{function_type, is_miscalled, breaks_t2
 use Rattle.profile_rules.specs.Variables.{is_other_class, is_of_other_type, is_other_value}
 use Rattle.profile_rules.specs.Entry.{function_of}
 use Rattle.list_law.proofs.Numbers.{same_count}
-use Rattle.list_law.proofs.Options.{some_by}
+use Rattle.list_law.proofs.Options.{some_by, some_part}
 use Rattle.list_law.proofs.Tests.{or_left, or_right, and_off}
 use Rattle.plan_law.specs.InOrder.{IsAmong}
 use Rattle.plan_law.proofs.Order.{among_left, among_right}
@@ -50,7 +50,6 @@ use Rattle.fits_law.specs.Typed.{AreArguments, IsCall}
 use Rattle.fits_law.proofs.Parts.{zero_fits}
 use Rattle.fits_law.proofs.Steps.{named}
 use Rattle.type_law.specs.Shaped.{HasConstants}
-use Rattle.type_law.proofs.Operands.{some_first}
 use Rattle.type_law.proofs.Constants.{constant_of}
 use Rattle.typed_law.specs.Conforms.{IsParameter, IsConforming}
 use Rattle.typed_law.proofs.Lists.{found_in, earlier_some}
@@ -149,8 +148,8 @@ module _ (s : Setting) (entry : Option (List ℕ)) (right : IsConforming s.of en
   -- the variables of a call at its start
   pub initial_in_fits : (f : Function) → Contains s.of.functions f → VariablesFit s f (initial_in s f)
   initial_in_fits f in_it id x e =
-      let v = some_first (initial s) (option_and_then as_variable (inst_in f id)) x e in
-      let i = some_first as_variable (inst_in f id) v.0 v.1 in
+      let v = some_part (initial s) (option_and_then as_variable (inst_in f id)) x e in
+      let i = some_part as_variable (inst_in f id) v.0 v.1 in
       let w = is_the_variable i.0 v.0 i.2 in
       let there : IsAmong v.0 (insts_of f) = subst (λ (y : Inst). IsAmong y (insts_of f)) w.0 (found_in (insts_of f) id i.0 i.1) in
       let local = among_functions s.of.functions f v.0 in_it there in

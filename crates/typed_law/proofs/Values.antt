@@ -34,14 +34,13 @@ use Rattle.profile_rules.specs.Places.{is_variable, body_insts}
 use Rattle.profile_rules.specs.TypeRows.{is_type, type_row, fails, differ, value_fails, is_other, one_if, count_in, is_not}
 use Rattle.profile_rules.specs.TypeForm.{is_no_variable, is_other_parameter, is_other_result, is_other_function, is_other_pointer}
 use Rattle.profile_rules.specs.FlowRules.{function_type_if, function_type, is_misdeclared}
-use Rattle.list_law.proofs.Options.{some_by}
+use Rattle.list_law.proofs.Options.{some_by, some_part}
 pub use Rattle.list_law.proofs.Numbers.{same_count}
 use Rattle.list_law.proofs.Tests.{first_by, or_left, or_right, and_off, and_left, clash}
 use Rattle.plan_law.specs.InOrder.{IsAmong}
 use Rattle.plan_law.proofs.Order.{found, among_left, among_right}
 use Rattle.module_semantics.specs.Setting.{Setting}
 use Rattle.fits_law.specs.State.{value_shape, IsLocal}
-use Rattle.type_law.proofs.Operands.{some_first}
 use Rattle.type_law.proofs.Vectors.{three_off}
 use Rattle.typed_law.specs.Conforms.{IsFormed, IsParameter, IsConforming, IsConformingIn}
 use Rattle.typed_law.proofs.Lists.{any_none, found_in, earlier_some}
@@ -292,14 +291,14 @@ module _ (s : Setting) (entry : Option (List ℕ)) (right : IsConforming s.of en
             let p = some_param (find (λ (q : Id × Id). q.0.0 == id) f.params) f.params id x refl at in
             subst IsRow (p.1 ∙ same_Some x ty e) (parameter_row p.0 p.2)
         by_local None at e =
-            let i = some_first typed (inst_in f id) ty e in
+            let i = some_part typed (inst_in f id) ty e in
             let own = type_of i.0 ty i.2 in
             let g = local_row i.0 (found_in (insts_of f) id i.0 i.1) own.1 in
             subst IsRow own.0 (g.0, g.1, type_suits i.0.op g.0 g.2)
 
         by_global : (o : Option ℕ) → global_type Gs id ≡ o → option_or o (local_type f id) ≡ Some ty → IsRow ty
         by_global (Some x) at e =
-            let h = some_first typed (global Gs id) x at in
+            let h = some_part typed (global Gs id) x at in
             let own = type_of h.0 x h.2 in
             let g = global_row h.0 (found_in Gs id h.0 h.1) own.1 in
             subst IsRow (own.0 ∙ same_Some x ty e) (g.0, g.1, type_suits h.0.op g.0 g.2)
@@ -352,14 +351,14 @@ module _ (s : Setting) (entry : Option (List ℕ)) (right : IsConforming s.of en
             let g = parameter_row p.0 p.2 in
             by_pointer p.0 (p.1 ∙ same_Some x ty e) (parameter_right p.0 p.2) g.0 g.1 g.2 (is g.0.op code.TypePointer) refl
         by_local None at e =
-            let i = some_first typed (inst_in f id) ty e in
+            let i = some_part typed (inst_in f id) ty e in
             let own = type_of i.0 ty i.2 in
             let there = found_in (insts_of f) id i.0 i.1 in
             by_inst i.0 (among_right i.0 Gs (local_insts s.of) (among_functions s.of.functions f i.0 in_it there)) own.0 (local_row i.0 there own.1) (is_variable i.0) refl
 
         by_global : (o : Option ℕ) → global_type Gs id ≡ o → option_or o (local_type f id) ≡ Some ty → IsSized t
         by_global (Some x) at e =
-            let h = some_first typed (global Gs id) x at in
+            let h = some_part typed (global Gs id) x at in
             let own = type_of h.0 x h.2 in
             let there = found_in Gs id h.0 h.1 in
             by_inst h.0 (among_left h.0 Gs (local_insts s.of) there) (own.0 ∙ same_Some x ty e) (global_row h.0 there own.1) (is_variable h.0) refl

@@ -34,6 +34,7 @@ use Rattle.profile_rules.specs.TypeRows.{is_vector, is_other, type_row, constant
 use Rattle.profile_rules.specs.ValueRules.{are_other_parts, are_other_members, misfit, is_other_count, is_misbuilt, breaks_t2_composite, breaks_t10}
 use Rattle.profile_rules.specs.TypeRules.{broken_if, is_value_broken, is_number_broken, is_broken_outside, broken_as, inner, broken_inside, broken_by_global, is_sound, rule_of}
 use Rattle.module_semantics.specs.Setting.{Setting}
+use Rattle.list_law.proofs.Numbers.{same_count}
 use Rattle.list_law.proofs.Options.{none_some}
 use Rattle.plan_law.specs.InOrder.{AreRising}
 use Rattle.fits_law.specs.Takes.{AreOfShape, AreParts, AllFit}
@@ -42,7 +43,7 @@ use Rattle.fits_law.specs.Typed.{HaveShapes}
 use Rattle.type_law.specs.Shaped.{HaveResults, HasConstants}
 use Rattle.type_law.proofs.Rows.{vector_parts}
 use Rattle.type_law.proofs.Operands.{same_shape_of}
-use Rattle.type_law.proofs.Choices.{same_count, scalar_elem}
+use Rattle.type_law.proofs.Choices.{scalar_elem}
 use Rattle.type_law.proofs.Parts.{row, earlier_is}
 use Rattle.type_law.proofs.Made.{made_takes}
 use Rattle.typed_law.proofs.Lists.{or_left, or_right, clash, none_left, none_right}

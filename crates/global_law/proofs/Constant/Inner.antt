@@ -28,10 +28,11 @@ use Rattle.profile_rules.specs.ValueRules.{breaks_t9, breaks_t11_extract, is_els
 use Rattle.profile_rules.specs.NumberRules.{breaks_t17}
 use Rattle.profile_rules.specs.TypeRules.{is_value_broken, is_number_broken}
 use Rattle.module_semantics.specs.Setting.{Setting}
+use Rattle.list_law.proofs.Options.{some_part}
 use Rattle.fits_law.specs.Takes.{Takes, AllFit}
 use Rattle.fits_law.specs.State.{value_shape}
 use Rattle.fits_law.specs.Typed.{HaveShapes}
-use Rattle.type_law.proofs.Operands.{some_first, unary_takes, binary_takes, comparison_takes, logical_takes, not_takes}
+use Rattle.type_law.proofs.Operands.{unary_takes, binary_takes, comparison_takes, logical_takes, not_takes}
 use Rattle.type_law.proofs.Choices.{select_takes}
 use Rattle.type_law.proofs.Parts.{extract_takes}
 use Rattle.type_law.proofs.Vectors.{shuffle_takes}
@@ -123,7 +124,7 @@ module _ (s : Setting) (g : Inst) (t : Tree) (shape : type_tree s.of.globals g.t
     select_given off have count =
         let w = three_are s g.args us have count in
         let parts = four_off (fails (λ g. not (is_void g)) Gs g.ty) (is_other Gs T g.ty (word g 1)) (is_other Gs T g.ty (word g 2)) (option_map_or (is_no_condition Gs g.ty) (T (word g 0)) false) off in
-        let c = some_first (type_tree Gs) (T (word g 0)) w.0 w.4 in
+        let c = some_part (type_tree Gs) (T (word g 0)) w.0 w.4 in
         let told : is_no_condition Gs g.ty c.0 ≡ false = ap (λ o. option_map_or (is_no_condition Gs g.ty) o false) (sym c.1) ∙ parts.3 in
         subst (Takes op.Select t []) (sym w.3) (select_takes s nothing [] g.ty (word g 0) (word g 1) (word g 2) c.0 t w.0 w.1 w.2 c.1 told parts.1 parts.2 shape w.4 w.5 w.6)
 

@@ -28,10 +28,10 @@ use Rattle.expr_forward.specs.Paths as paths
 use Rattle.expr_forward.specs.Paths.{base_text, step_text, steps_text, place_text}
 use Rattle.unit_rules.specs.Unit.{IsUnitOf}
 use Rattle.name_alloc.specs.Naming.{name_of}
+use Rattle.list_law.proofs.Numbers.{same_count}
 use Rattle.list_law.proofs.Tests.{and_off}
 use Rattle.claim_law.specs.Uses.{Words, UseSteps, UsesLValue}
 use Rattle.type_law.proofs.Chains.{HaveTypes}
-use Rattle.type_law.proofs.Choices.{same_count}
 use Rattle.type_law.proofs.Vectors.{three_off}
 use Rattle.type_law.proofs.Parts.{row}
 use Rattle.agree_law.specs.Blocks.{IsOf}
