@@ -7,6 +7,7 @@ ghost use Rattle.group_items.specs.Sides.{told_of, IsWhole, Begun, fresh, with_a
 use crate::event::Pause;
 use spv_module::Value;
 use spv_words::Memory;
+use std::alloc::Global;
 use std::collections::BTreeMap;
 
 /// What an invocation is told: the values of the built-in variables NumWorkgroups, WorkgroupId, LocalInvocationId,
@@ -17,6 +18,24 @@ pub struct Invocation {
     pub builtins: Vec<Value>,
     pub sizes: Vec<(u32, u32, u32)>,
     pub special: BTreeMap<u32, u32>,
+}
+
+impl Invocation {
+    /// The bytes of buffers once more. There is an error only for want of memory.
+    pub fn copied_sizes(&self, alloc: Global) -> Result<Vec<(u32, u32, u32)>, Memory>
+        ensures { IfOk result (λ copy. copy.items ≡ self.now.sizes.items) }
+    {
+        let mut copy = Vec::with_capacity(alloc, self.sizes.len())?;
+        copy.extend_from_slice(&self.sizes)?;
+        Ok(copy)
+    }
+
+    /// The specialization once more. There is an error only for want of memory.
+    pub fn copied_special(&self) -> Result<BTreeMap<u32, u32>, Memory>
+        ensures { IfOk result (λ copy. copy.entries ≡ self.now.special.entries) }
+    {
+        Ok(self.special.clone()?)
+    }
 }
 
 /// Runs invocations event by event. Each does what its run does with its answers, within a number of steps or turns that the

@@ -6,11 +6,9 @@ ghost use Rattle.spv_run.specs.Whole.{have_shape};
 
 use group_items::Invocation;
 use run_state::Conf;
-use spv_module::Value;
 use spv_words::Memory;
 use std::alloc::Global;
-use std::collections::BTreeMap;
-use value_ops::copied;
+use value_ops::all_copied;
 
 /// An invocation under way: what it is told, where it stands, and the words for which it has asked, or room for them, until the
 /// instruction that asks for them has taken them.
@@ -24,30 +22,6 @@ pub struct State {
     ghost sizes: { keys_repeat told.sizes.items ≡ false },
 }
 
-fn values_again(alloc: Global, values: &[Value]) -> Result<Vec<Value>, Memory>
-    ensures { IfOk result (λ copies. map value_of copies.items ≡ map value_of values.now) }
-{
-    let mut copies = Vec::with_capacity(alloc, values.len())?;
-    for value in values {
-        copies.push(copied(alloc, value)?)?;
-    }
-    Ok(copies)
-}
-
-fn sizes_again(alloc: Global, sizes: &[(u32, u32, u32)]) -> Result<Vec<(u32, u32, u32)>, Memory>
-    ensures { IfOk result (λ copies. copies.items ≡ sizes.now) }
-{
-    let mut copies = Vec::with_capacity(alloc, sizes.len())?;
-    copies.extend_from_slice(sizes)?;
-    Ok(copies)
-}
-
-fn special_again(special: &BTreeMap<u32, u32>) -> Result<BTreeMap<u32, u32>, Memory>
-    ensures { IfOk result (λ copy. copy.entries ≡ special.now.entries) }
-{
-    Ok(special.clone()?)
-}
-
 impl State {
     /// An invocation that is told this and stands here. There is an error only for want of memory.
     pub(crate) fn of(alloc: Global, inv: &Invocation, conf: Conf) -> Result<State, Memory>
@@ -58,9 +32,9 @@ impl State {
     {
         Ok(State {
             told: Invocation {
-                builtins: values_again(alloc, &inv.builtins)?,
-                sizes: sizes_again(alloc, &inv.sizes)?,
-                special: special_again(&inv.special)?,
+                builtins: all_copied(alloc, &inv.builtins)?,
+                sizes: inv.copied_sizes(alloc)?,
+                special: inv.copied_special()?,
             },
             conf,
             words: Vec::new(alloc),

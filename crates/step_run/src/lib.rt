@@ -2,6 +2,7 @@
 #![tactic(auto)]
 
 mod answer;
+mod builtins;
 mod copies;
 mod going;
 mod machine;

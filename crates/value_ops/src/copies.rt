@@ -22,9 +22,10 @@ pub fn copied(alloc: Global, value: &Value) -> Result<Value, Memory>
     })
 }
 
+/// Copies of values. There is an error only for want of memory.
 #[cycle(copying)]
 #[tactic(auto, using(crate::proofs::Values::value_smaller))]
-fn all_copied(alloc: Global, values: &[Value]) -> Result<Vec<Value>, Memory>
+pub fn all_copied(alloc: Global, values: &[Value]) -> Result<Vec<Value>, Memory>
     ensures { IfOk result (λ copies. map value_of copies.items ≡ map value_of values.now) }
 {
     let mut copies = Vec::new(alloc);

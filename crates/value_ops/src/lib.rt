@@ -13,7 +13,7 @@ mod shuffle;
 mod truths;
 mod words;
 
-pub use copies::copied;
+pub use copies::{all_copied, copied};
 pub use operate::op_value;
 pub use parts::{inserted, part_by, put_part};
 pub use words::{add_words, value_from, zero_value};
