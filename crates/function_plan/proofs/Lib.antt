@@ -9,3 +9,4 @@ pub mod Moving
 pub mod Ordered
 pub mod One
 pub mod Lone
+pub mod Marks

@@ -1,19 +1,47 @@
 // The flags that the text of a function needs, asked by block.
-ghost use Rattle.std.specs.Prelude.{◌≡◌, ℕ, IfOk};
+ghost use Rattle.std.specs.Prelude.{◌≡◌, ◌==◌, ◌||◌, ℕ, IfOk, OnOk, false, slice_index_or};
 ghost use Rattle.function_plan.specs.Orders.{is_among};
 ghost use Rattle.function_plan.specs.Flagged.{has_again, has_leave, has_fell};
 
-use crate::orders::set_of;
 use std::alloc::{AllocError, Global};
-use std::collections::BTreeSet;
 use switch_ladder::FlagPlan;
 
-/// The loops that need the flags `again` and `leave`, and the case targets that need `fell`.
+/// The loops that need the flags `again` and `leave`, and the case targets that need `fell`: a mark for each block, up to the last
+/// that needs the flag.
 #[derive(Drop)]
 pub struct FlagSets {
-    again: BTreeSet<usize>,
-    leave: BTreeSet<usize>,
-    fell: BTreeSet<usize>,
+    again: Vec<bool>,
+    leave: Vec<bool>,
+    fell: Vec<bool>,
+}
+
+/// Marks a block.
+fn mark(marks: &mut Vec<bool>, block: usize) -> Result<(), AllocError>
+    ensures { OnOk result ((b : ℕ) → slice_index_or marks.new.items b false ≡ (slice_index_or marks.old.items b false || block == b)) }
+{
+    while marks.len() <= block {
+        marks.push(false)?;
+    }
+    marks[block] = true;
+    Ok(())
+}
+
+/// A mark for each of these blocks.
+fn marks_of(alloc: Global, blocks: &[usize]) -> Result<Vec<bool>, AllocError>
+    ensures { IfOk result (λ marks. (b : ℕ) → slice_index_or marks.items b false ≡ is_among blocks.now b) }
+{
+    let mut marks = Vec::new(alloc);
+    for block in blocks {
+        mark(&mut marks, *block)?;
+    }
+    Ok(marks)
+}
+
+/// Whether a block has a mark.
+fn is_marked(marks: &[bool], block: usize) -> bool
+    ensures { result ≡ slice_index_or marks.now block false }
+{
+    marks.get(block).copied().unwrap_or(false)
 }
 
 impl FlagSets {
@@ -23,9 +51,9 @@ impl FlagSets {
         ensures leave { IfOk result (λ flags. (b : ℕ) → has_leave flags b ≡ is_among plan.now.leave.items b) }
         ensures fell { IfOk result (λ flags. (b : ℕ) → has_fell flags b ≡ is_among plan.now.fell.items b) }
     {
-        let again = set_of(alloc, plan.again.as_slice())?;
-        let leave = set_of(alloc, plan.leave.as_slice())?;
-        let fell = set_of(alloc, plan.fell.as_slice())?;
+        let again = marks_of(alloc, plan.again.as_slice())?;
+        let leave = marks_of(alloc, plan.leave.as_slice())?;
+        let fell = marks_of(alloc, plan.fell.as_slice())?;
         Ok(FlagSets { again, leave, fell })
     }
 }
@@ -34,19 +62,19 @@ impl FlagSets {
 pub fn again_at(flags: &FlagSets, block: usize) -> bool
     ensures { result ≡ has_again flags.now block }
 {
-    flags.again.contains(&block)
+    is_marked(&flags.again, block)
 }
 
 /// Whether a loop needs the flag `leave`.
 pub fn leave_at(flags: &FlagSets, block: usize) -> bool
     ensures { result ≡ has_leave flags.now block }
 {
-    flags.leave.contains(&block)
+    is_marked(&flags.leave, block)
 }
 
 /// Whether a case target needs the flag `fell`.
 pub fn fell_at(flags: &FlagSets, block: usize) -> bool
     ensures { result ≡ has_fell flags.now block }
 {
-    flags.fell.contains(&block)
+    is_marked(&flags.fell, block)
 }

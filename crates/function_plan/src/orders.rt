@@ -47,7 +47,7 @@ fn add(set: &mut BTreeSet<usize>, block: usize) -> Result<(), AllocError>
 }
 
 /// A set of blocks.
-pub fn set_of(alloc: Global, blocks: &[usize]) -> Result<BTreeSet<usize>, AllocError>
+fn set_of(alloc: Global, blocks: &[usize]) -> Result<BTreeSet<usize>, AllocError>
     ensures { IfOk result (λ set. (q : ℕ) → contains nat_cmp set q ≡ is_among blocks.now q) }
 {
     let mut set = BTreeSet::new(alloc);
