@@ -1,3 +1,4 @@
+pub mod Before
 pub mod Bytes
 pub mod Steps
 pub mod Measures

@@ -2,8 +2,6 @@
 ghost use Rattle.std.specs.Prelude.{◌≡◌, ◌+◌, ◌≤◌, ℕ, IfOk, map, min, nat_lt, option_map, false};
 ghost use Rattle.std.specs.List.{list_any};
 ghost use Rattle.std.specs.Option.{option_map_or};
-ghost use Rattle.spv_types.specs.View.{tree_of};
-ghost use Rattle.spv_types.specs.Types.{tree_before};
 ghost use Rattle.layout_rules.specs.Sizes.{size_of};
 ghost use Rattle.layout_rules.specs.Rules.{is_past};
 ghost use Rattle.layout_rules.specs.Blocks.{members_of as members_in, is_misaligned as is_misaligned_in, end_of, begins_below as begins_below_in, any_overlap as any_overlap_in, member_breaks as member_breaks_in, members_break as members_break_in, first_broken as first_broken_in};
@@ -14,9 +12,9 @@ use crate::decorations::offset_of;
 use crate::measure::{Measured, either, leaf, measure};
 use crate::ruler::Ruler;
 use crate::sizes::CAP;
+use crate::types::shape_before;
 use spv_decor::Decor;
-use spv_module::{Id, Inst, Module, Shape};
-use spv_types::judged_shape;
+use spv_module::{Inst, Module, Shape};
 use spv_words::{Memory, Rule};
 use std::alloc::Global;
 
@@ -27,22 +25,6 @@ pub struct Member {
     pub id: u32,
     pub offset: Option<u32>,
     pub shape: Option<Shape>,
-}
-
-/// The shape of a type that stands before a word, where no such type passes a limit.
-#[tactic(auto, using(spv_types::proofs::Below::tree_before_is))]
-fn shape_before(
-    alloc: Global,
-    module: &Module,
-    before: u32,
-    id: u32,
-) -> Result<Option<Shape>, Memory>
-    ensures { IfOk result (λ s. option_map tree_of s ≡ tree_before «module».now.globals before id) }
-{
-    match module.global(Id(id)) {
-        Some(inst) if inst.at < before => judged_shape(alloc, module, Id(id)),
-        _ => Ok(None),
-    }
 }
 
 /// The members of a block whose type passes no limit.
@@ -60,7 +42,7 @@ pub fn members_of(
         members.push(Member {
             id: *id,
             offset: offset_of(decor, block.result, k),
-            shape: shape_before(alloc, module, block.at, *id)?,
+            shape: shape_before(alloc, module, *id, block)?,
         })?;
     }
     Ok(members)

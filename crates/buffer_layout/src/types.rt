@@ -1,7 +1,7 @@
-// The layout of a type.
-ghost use Rattle.std.specs.Prelude.{◌≡◌, IfOk, IfErr, OnOk, find};
+// The shape of a member's type, and the layout of a type.
+ghost use Rattle.std.specs.Prelude.{◌≡◌, IfOk, IfErr, OnOk, find, option_map};
 ghost use Rattle.spv_types.specs.View.{tree_of};
-ghost use Rattle.spv_types.specs.Types.{IsWithin, type_tree};
+ghost use Rattle.spv_types.specs.Types.{IsWithin, tree_before, type_tree};
 ghost use Rattle.layout_rules.specs.Sizes.{layout_or_zeros};
 ghost use Rattle.layout_rules.specs.Parts.{any_part};
 ghost use Rattle.layout_rules.specs.Rules.{breaks as breaks_in};
@@ -14,10 +14,26 @@ use crate::plan::Layout;
 use crate::ruler::Ruler;
 use layout_rules::Kind;
 use spv_decor::Decor;
-use spv_module::{Id, Module, Shape};
-use spv_types::shape;
-use spv_words::{Fault, Refusal, Rule};
+use spv_module::{Id, Inst, Module, Shape};
+use spv_types::{judged_shape, shape};
+use spv_words::{Fault, Memory, Refusal, Rule};
 use std::alloc::Global;
+
+/// The shape of a type that stands before a struct, where no such type passes a limit.
+#[tactic(auto, using(spv_types::proofs::Below::tree_before_is))]
+pub fn shape_before(
+    alloc: Global,
+    module: &Module,
+    id: u32,
+    block: &Inst,
+) -> Result<Option<Shape>, Memory>
+    ensures { IfOk result (λ s. option_map tree_of s ≡ tree_before «module».now.globals block.now.at id) }
+{
+    match module.global(Id(id)) {
+        Some(inst) if inst.at < block.at => judged_shape(alloc, module, Id(id)),
+        _ => Ok(None),
+    }
+}
 
 /// Where a global stands, or 0.
 fn place_of(module: &Module, id: Id) -> u32
