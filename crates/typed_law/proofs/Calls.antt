@@ -34,7 +34,7 @@ use Rattle.profile_rules.specs.Places.{is_variable, is_defined_elsewhere, body_i
 use Rattle.profile_rules.specs.TypeRows.{differ, is_other}
 use Rattle.profile_rules.specs.ValueRules.{are_other_members}
 use Rattle.profile_rules.specs.FlowRules.{function_type, is_miscalled, breaks_t21}
-use Rattle.profile_rules.specs.Variables.{is_other_class, is_of_other_type, is_other_value}
+use Rattle.profile_rules.specs.Variables.{is_of_other_type, is_other_value}
 use Rattle.profile_rules.specs.Entry.{function_of}
 use Rattle.list_law.proofs.Numbers.{same_count}
 use Rattle.list_law.proofs.Options.{some_by, some_part}
@@ -53,7 +53,7 @@ use Rattle.type_law.specs.Shaped.{HasConstants}
 use Rattle.type_law.proofs.Constants.{constant_of}
 use Rattle.typed_law.specs.Conforms.{IsParameter, IsConforming}
 use Rattle.typed_law.proofs.Lists.{found_in, earlier_some}
-use Rattle.typed_law.proofs.Rules.{operand_there, global_there, initializer_right, class_right}
+use Rattle.typed_law.proofs.Rules.{operand_there, global_there, initializer_right, function_class}
 use Rattle.typed_law.proofs.Types.{pointee_shaped}
 use Rattle.typed_law.proofs.Used.{pointee_sized}
 use Rattle.typed_law.proofs.Values.{IsRow, inside, global_row, local_row, parameter_row, result_row, declared_by, IsDeclaredBy, HasType, one_type, same_type, own_type, own_local, variable_type_is, among_functions, function_id, function_need, function_least, type_suits, typed_is, global_typed_some}
@@ -159,8 +159,7 @@ module _ (s : Setting) (entry : Option (List ℕ)) (right : IsConforming s.of en
       let own : v.0.result ≡ id = ap (λ (y : Inst). y.result) (sym w.0) ∙ named (insts_of f) id i.0 i.1 in
       let type_is : type_in Gs f id ≡ Some v.0.ty = ap (type_in Gs f) (sym own) ∙ own_type s entry right f in_it v.0 there some in
       let target : target_shape s f id ≡ Some q.1 = ap (λ o. option_and_then (type_tree Gs) (option_and_then (pointee Gs) o)) type_is ∙ (ap (option_and_then (type_tree Gs)) q.2 ∙ q.3) in
-      let class = or_right (is_other_class Gs v.0) (not (word v.0 0 == class_number storage.Function)) (and_off (is_variable v.0) (is_other_class Gs v.0 || not (word v.0 0 == class_number storage.Function)) (class_right s.of entry right v.0 local) w.1) in
-      subst (λ o. HasShape o x) (sym target) (initial_fits v.0 (among_right v.0 Gs (local_insts s.of) local) w.1 (inl (same_count (word v.0 0) (class_number storage.Function) class)) q.0 q.1 q.2 q.3 x v.2)
+      subst (λ o. HasShape o x) (sym target) (initial_fits v.0 (among_right v.0 Gs (local_insts s.of) local) w.1 (inl (function_class s.of entry right v.0 local w.1)) q.0 q.1 q.2 q.3 x v.2)
 
   -- a variable of the module
   pub global_variable_is : (id : ℕ) (v : Inst) → global_variable s id ≡ Some v → (global Gs id ≡ Some v) × (is_variable v ≡ true)

@@ -1,13 +1,15 @@
 -- What the rules say of one global and of one instruction of a conforming module.
-use Rattle.std.proofs.Common.{◌≡◌, ◌<◌, ◌+◌, ◌||◌, ◌&&◌, not, ℕ, zero, suc, Bool, true, false, List, [], ◌∷◌, ◌++◌, length, Option, inl, inr, refl, sym, subst, arith}
+use Rattle.std.proofs.Common.{◌≡◌, ◌<◌, ◌+◌, ◌==◌, ◌||◌, ◌&&◌, not, ℕ, zero, suc, Bool, true, false, List, [], ◌∷◌, ◌++◌, length, Option, inl, inr, refl, sym, subst, arith}
 use Rattle.std.specs.Prelude.{flat_map, Contains, slice_index}
 use Rattle.std.specs.List.{list_any, enumerate_from}
 use Rattle.std.proofs.lemmas.List.Elements.{Contains-append_left, Contains-append_right}
 use Rattle.std.proofs.lemmas.Bool.{not-false}
 use Rattle.spv_words.specs.declared.rule.Rule.{Rule}
 use Rattle.spv_words.specs.declared.rule.Rule.TheVariants.{T1, T21, M4, A3}
+use Rattle.spv_ops.specs.Enumerants.{class_number}
 use Rattle.spv_ops.specs.Operands.{is_id}
 use Rattle.spv_ops.specs.OpGroups.{group_of}
+use Rattle.spv_ops.specs.declared.StorageClass.TheVariants as storage
 use Rattle.spv_module.specs.State.{ModuleState}
 use Rattle.spv_module.specs.Inst.{has_type}
 use Rattle.spv_module.specs.declared.inst.Inst.{Inst}
@@ -19,13 +21,15 @@ use Rattle.profile_rules.specs.Operands.{need, type_need, lacks_operand, lacks, 
 use Rattle.profile_rules.specs.FlowRules.{breaks_t21_of}
 use Rattle.profile_rules.specs.TypeRules.{broken_if, broken_as, broken_inside, broken_by_global, broken_by_local, broken_by_block, broken_by_function, is_broken_in, is_value_broken, is_number_broken, is_flow_broken, rule_of}
 use Rattle.profile_rules.specs.TypeForm.{is_misformed, is_misused, is_other_pointer, is_other_function}
-use Rattle.profile_rules.specs.Variables.{is_other_input, is_other_initializer, is_misclassed}
-use Rattle.profile_rules.specs.Places.{places, body_insts}
+use Rattle.profile_rules.specs.Variables.{is_other_input, is_other_initializer, is_other_class, is_misclassed}
+use Rattle.profile_rules.specs.Places.{is_variable, places, body_insts}
 use Rattle.spv_decor.specs.Decorations.{local_insts}
+use Rattle.spv_decor.specs.Rows.{word}
 use Rattle.profile_rules.specs.MemoryRules.{breaks_m4}
 use Rattle.profile_rules.specs.AtomicRules.{breaks_a3}
 use Rattle.profile_rules.specs.AccessRules.{breaks, broken_in}
 use Rattle.list_law.proofs.Lists.{none_left, none_right}
+use Rattle.list_law.proofs.Numbers.{same_count}
 use Rattle.list_law.proofs.Tests.{or_left, or_right, and_off}
 use Rattle.plan_law.specs.InOrder.{IsAmong}
 use Rattle.plan_law.proofs.Listed.{flat}
@@ -118,9 +122,14 @@ module _ (m : ModuleState) (entry : Option (List ℕ)) (right : IsConforming m e
     pub flow_right : (i : Inst) → IsAmong i (insts_of f) → (b : Block) × (is_flow_broken m f b i (group_of i.op) ≡ false)
     flow_right i there = let w = inst_right i there in (w.0, (three_off (is_value_broken m (type_in m.globals f) i (group_of i.op)) (is_number_broken m.globals (type_in m.globals f) i (group_of i.op)) (is_flow_broken m f w.0 i (group_of i.op)) w.1).2)
 
-  -- P13 of a variable in a function
-  pub class_right : (v : Inst) → IsAmong v (local_insts m) → is_misclassed true m.globals v ≡ false
+  -- P13 of a variable in a function: it is of class Function
+  class_right : (v : Inst) → IsAmong v (local_insts m) → is_misclassed true m.globals v ≡ false
   class_right v there = none_at_fault (is_misclassed true m.globals) (local_insts m) v (λ at has. right.declared.1.1.1.1.1.1.1.1.0 at (Contains-append_right (places (is_misclassed false m.globals) m.globals) (places (is_misclassed true m.globals) (local_insts m)) at has)) there
+
+  pub function_class : (v : Inst) → IsAmong v (local_insts m) → is_variable v ≡ true → word v 0 ≡ class_number storage.Function
+  function_class v there on =
+      same_count (word v 0) (class_number storage.Function)
+      (or_right (is_other_class m.globals v) (not (word v 0 == class_number storage.Function)) (and_off (is_variable v) (is_other_class m.globals v || not (word v 0 == class_number storage.Function)) (class_right v there) on))
 
   -- M4 of a call
   pub call_right : (f : Function) → Contains m.functions f → (i : Inst) → IsAmong i (insts_of f) → breaks_m4 m.globals f i ≡ false

@@ -1,8 +1,8 @@
 -- The chains of a conforming module are as the law of paths asks: they stand in order, lead from pointers, and what makes no pointer has none.
-use Rattle.std.proofs.Common.{◌≡◌, ◌≢◌, ◌==◌, ◌&&◌, ◌||◌, not, ℕ, true, false, List, Option, Some, refl, sym, ap, ◌∙◌, subst}
+use Rattle.std.proofs.Common.{◌≡◌, ◌≢◌, ◌==◌, ◌&&◌, ℕ, true, false, List, Option, Some, refl, sym, ap, ◌∙◌, subst}
 use Rattle.std.specs.Prelude.{is_some, Contains}
 use Rattle.std.specs.Option.{option_map_or}
-use Rattle.std.proofs.lemmas.Bool.{and_from, or_right as either_on, not-false}
+use Rattle.std.proofs.lemmas.Bool.{and_from, or_right as either_on}
 use Rattle.std.proofs.lemmas.Option.{same_Some}
 use Rattle.spv_words.specs.Words.{words}
 use Rattle.spv_ops.specs.Opcode.{is}
@@ -23,12 +23,11 @@ use Rattle.spv_index.specs.Locals.{insts_of, inst_in, parameter_in}
 use Rattle.profile_rules.specs.declared.given.Given.{Given}
 use Rattle.profile_rules.specs.Constants.{chosen_word}
 use Rattle.profile_rules.specs.MemoryRules.{is_own_memory}
-use Rattle.profile_rules.specs.Variables.{is_other_class}
 use Rattle.conformance.specs.Rules.{Options}
 use Rattle.module_check.specs.Judged.{IsFine}
 use Rattle.module_check.specs.ReadFrom.{IsReadFrom}
 use Rattle.traces.specs.Invocations.{Invocation}
-use Rattle.list_law.proofs.Tests.{or_right, and_off}
+use Rattle.list_law.proofs.Numbers.{number_same}
 use Rattle.plan_law.specs.InOrder.{IsAmong}
 use Rattle.plan_law.proofs.Order.{found}
 use Rattle.module_semantics.specs.Setting.{Setting, setting}
@@ -39,7 +38,7 @@ use Rattle.global_law.specs.Chains.{is_global, ChainsAreRight}
 use Rattle.global_law.proofs.Path.Based.{chain_op}
 use Rattle.global_law.proofs.Path.Order.{chains_rise}
 use Rattle.typed_law.specs.Conforms.{BreakNone, IsConformingIn, IsConforming}
-use Rattle.typed_law.proofs.Rules.{class_right}
+use Rattle.typed_law.proofs.Rules.{function_class}
 use Rattle.typed_law.proofs.Values.{inside, own_local, typed_result, among_functions}
 use Rattle.typed_law.proofs.Words.{conforms}
 use Rattle.accepted_law.proofs.Accepted.{break_none}
@@ -82,8 +81,7 @@ module _ (s : Setting) (entry : Option (List ℕ)) (right : IsConforming s.of en
     variable_own : (i : Inst) → IsAmong i (insts_of f) → step_kind i.op ≡ variable → is_own_memory f i.result ≡ true
     variable_own i there kind =
         let on = (variable_op i.op kind).0 in
-        let told = and_off (is i.op code.Variable) (is_other_class s.of.globals i || not (word i 0 == class_number storage.Function)) (class_right s.of entry right i (among_functions s.of.functions f i in_it there)) on in
-        let class = not-false (word i 0 == class_number storage.Function) (or_right (is_other_class s.of.globals i) (not (word i 0 == class_number storage.Function)) told) in
+        let class = number_same (word i 0) (class_number storage.Function) (function_class s.of entry right i (among_functions s.of.functions f i in_it there) on) in
         let at : inst_in f i.result ≡ Some i = found i (insts_of f) own.order.apart there (variable_some i there kind) in
         either_on (is_some (parameter_in f i.result)) (option_map_or (λ (x : Inst). (is x.op code.Variable) && (word x 0 == class_number storage.Function)) (inst_in f i.result) false)
         (ap (λ (o : Option Inst). option_map_or (λ (x : Inst). (is x.op code.Variable) && (word x 0 == class_number storage.Function)) o false) at ∙ and_from (is i.op code.Variable) (word i 0 == class_number storage.Function) on class)

@@ -36,7 +36,7 @@ use Rattle.profile_rules.specs.TypeForm.{parts_of, pointee_by, pointees, value_t
 use Rattle.profile_rules.specs.TypeRows.{is_type, if_type, is_int, fails, value_fails}
 use Rattle.profile_rules.specs.TypeRules.{is_value_broken}
 use Rattle.profile_rules.specs.ValueRules.{breaks_t6}
-use Rattle.profile_rules.specs.Variables.{is_other_class, is_of_other_type, is_other_value}
+use Rattle.profile_rules.specs.Variables.{is_of_other_type, is_other_value}
 use Rattle.conformance.specs.Rules.{Options}
 use Rattle.module_semantics.specs.Setting.{Setting}
 use Rattle.use_chains.specs.Slots.{is_value, is_taken, is_label_reached, is_slot, operands, mentions}
@@ -70,10 +70,10 @@ use Rattle.type_law.proofs.Vectors.{three_off}
 use Rattle.typed_law.specs.Conforms.{IsConforming}
 use Rattle.typed_law.specs.Words.{AreGivenWords}
 use Rattle.typed_law.proofs.Lists.{and_off, or_left, or_right}
-use Rattle.typed_law.proofs.Rules.{initializer_right, class_right, value_right}
+use Rattle.typed_law.proofs.Rules.{initializer_right, function_class, value_right}
 use Rattle.typed_law.proofs.Types.{pointee_shaped}
 use Rattle.typed_law.proofs.Used.{among_left, among_right as ids_right}
-use Rattle.typed_law.proofs.Values.{variable_type_is, among_functions, inside, local_row, same_count}
+use Rattle.typed_law.proofs.Values.{variable_type_is, among_functions, inside, local_row}
 use Rattle.typed_law.proofs.Others.{typed_some}
 use Rattle.claim_law.specs.Claimed.{IsIn, IsOf, HasName}
 use Rattle.claim_law.proofs.Claim.Listed.{in_flat, in_mapped, at_place, any_in}
@@ -218,9 +218,7 @@ module _ (s : Setting) (entry : Option (List ℕ)) (right : IsConforming s.of en
 
       -- its class is Function (P13)
       class_is : word i 0 ≡ class_number storage.Function
-      class_is =
-          same_count (word i 0) (class_number storage.Function)
-          (or_right (is_other_class Gs i) (not (word i 0 == class_number storage.Function)) (and_off (is i.op code.Variable) (is_other_class Gs i || not (word i 0 == class_number storage.Function)) (class_right s.of entry right i local) on))
+      class_is = function_class s.of entry right i local on
 
       no_block : is_some_block s.of.heads Gs i ≡ false
       no_block =

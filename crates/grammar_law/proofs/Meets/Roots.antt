@@ -3,7 +3,7 @@ use Rattle.std.proofs.Common.{◌≡◌, ◌+◌, ◌==◌, ◌&&◌, ◌||◌, 
 use Rattle.std.specs.Prelude.{option_and_then, slice_get, slice_index, slice_index_or, nat_lt}
 use Rattle.std.specs.Option.{option_map_or}
 use Rattle.std.specs.List.{cons_option}
-use Rattle.std.proofs.lemmas.Bool.{and_from, or_left, false_from_ne_true, not-false, or_right as second_on}
+use Rattle.std.proofs.lemmas.Bool.{and_from, or_left, false_from_ne_true, or_right as second_on}
 use Rattle.spv_ops.specs.Opcode.{is, number}
 use Rattle.spv_ops.specs.Shape.{shape, is_pure}
 use Rattle.spv_ops.specs.Enumerants.{class_number, decoration_number}
@@ -26,7 +26,6 @@ use Rattle.spv_index.specs.Pointers.{pointee}
 use Rattle.spv_index.specs.BlockStructs.{is_block_struct, is_some_block}
 use Rattle.profile_rules.specs.Places.{is_among, is_variable, body_insts}
 use Rattle.profile_rules.specs.TypeForm.{parts_of, pointee_by, pointees, value_types, signature_types, block_misuses}
-use Rattle.profile_rules.specs.Variables.{is_other_class}
 use Rattle.conformance.specs.Rules.{Options}
 use Rattle.list_law.proofs.Numbers.{same_number, number_same}
 use Rattle.list_law.proofs.Tests.{or_true}
@@ -47,8 +46,7 @@ use Rattle.unit_rules.specs.Unit.{source_of, IsUnitOf, claims_by}
 use Rattle.claim_law.specs.Uses.{Words}
 use Rattle.text_rules.specs.Constants.{is_constant, constant_expr}
 use Rattle.typed_law.specs.Conforms.{IsConforming}
-use Rattle.typed_law.proofs.Lists.{or_right, and_off}
-use Rattle.typed_law.proofs.Rules.{class_right}
+use Rattle.typed_law.proofs.Rules.{function_class}
 use Rattle.typed_law.proofs.Used.{among_left, among_right as ids_right}
 use Rattle.typed_law.proofs.Values.{inside, among_functions, typed_result}
 use Rattle.claim_law.specs.Claimed.{IsIn, IsOf}
@@ -178,9 +176,7 @@ module _ (s : Setting) (entry : Option (List ℕ)) (right : IsConforming s.of en
     local = among_functions s.of.functions Fn j (in_module s entry right kinds o unit u p among) (as_among (insts_of Fn) j stands)
 
     of_function : word j 0 ≡ class_number storage.Function
-    of_function =
-        let off = and_off (is_variable j) (is_other_class Gs j || not (word j 0 == class_number storage.Function)) (class_right s.of entry right j local) on in
-        same_number (word j 0) (class_number storage.Function) (not-false (word j 0 == class_number storage.Function) (or_right (is_other_class Gs j) (not (word j 0 == class_number storage.Function)) off))
+    of_function = function_class s.of entry right j local on
 
     of_it : IsOf (claims_by (S s entry right kinds o unit u p among) p) j
     of_it = record { number = c; block = holder; there = subst (λ (f : Function). slice_get f.blocks c ≡ Some holder) (sym (written_is s entry right kinds o unit u p among)) there; among = inside_it }

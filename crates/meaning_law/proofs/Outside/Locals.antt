@@ -30,7 +30,6 @@ use Rattle.module_check.specs.Judged.{IsFine}
 use Rattle.module_check.specs.ReadFrom.{IsReadFrom}
 use Rattle.profile_rules.specs.Places.{is_variable, body_insts}
 use Rattle.profile_rules.specs.TypeForm.{is_no_variable, is_workgroup}
-use Rattle.profile_rules.specs.Variables.{is_other_class}
 use Rattle.traces.specs.Invocations.{Invocation, IsInvocation}
 use Rattle.module_semantics.specs.Setting.{Setting}
 use Rattle.name_alloc.specs.declared.claims.Key.{Key}
@@ -49,12 +48,12 @@ use Rattle.plan_law.specs.InOrder.{IsAmong}
 use Rattle.plan_law.proofs.Order.{found as found_at, among_right as body_right}
 use Rattle.call_law.specs.Known.{IsFunctionOf}
 use Rattle.typed_law.specs.Conforms.{IsParameter, IsConforming}
-use Rattle.typed_law.proofs.Lists.{or_right, and_off}
-use Rattle.typed_law.proofs.Rules.{class_right}
+use Rattle.typed_law.proofs.Lists.{or_right}
+use Rattle.typed_law.proofs.Rules.{function_class}
 use Rattle.typed_law.proofs.Types.{pointee_shaped}
 use Rattle.typed_law.proofs.Sized.{value_type_is}
 use Rattle.typed_law.proofs.Used.{pointee_sized}
-use Rattle.typed_law.proofs.Values.{same_count, IsRow, parameter_row, among_functions, variable_type_is, inside, local_row, own_type, typed_result, parameter_right, value_type_has}
+use Rattle.typed_law.proofs.Values.{IsRow, parameter_row, among_functions, variable_type_is, inside, local_row, own_type, typed_result, parameter_right, value_type_has}
 use Rattle.typed_law.proofs.Others.{typed_some}
 use Rattle.places_law.proofs.Blocks.{type_found}
 use Rattle.accepted_law.proofs.Accepted.{accepted_conforming}
@@ -173,9 +172,7 @@ module _ (bytes : List ℕ) (m : ModuleState) (o : Options) (read : IsReadFrom b
     local = among_functions m.functions f i in_module among
 
     pub of_class : word i 0 ≡ class_number storage.Function
-    of_class =
-        let off = or_right (is_other_class Gs i) (not (word i 0 == class_number storage.Function)) (and_off (is_variable i) (is_other_class Gs i || not (word i 0 == class_number storage.Function)) (class_right m o.entry right i local) on) in
-        same_count (word i 0) (class_number storage.Function) off
+    of_class = function_class m o.entry right i local on
 
     -- What a Function variable points to.
     pub record IsLocalVariable : Type 0 where
