@@ -1,9 +1,11 @@
--- The functions of the text of a module are those of its planned functions, in the order of calls.
-use Rattle.std.proofs.Common.{◌≡◌, Bool, true, false, List, [], ◌∷◌, ◌++◌, map, Option, Some, None, refl, ap, ◌∙◌, if◌then◌else◌}
+-- The functions of the text of a module are those of its planned functions, in the order of calls, and these are the functions of the module that calls reach.
+use Rattle.std.proofs.Common.{◌≡◌, Bool, true, false, List, [], ◌∷◌, ◌++◌, map, Option, Some, None, refl, ap, ap₂, ◌∙◌, if◌then◌else◌}
 use Rattle.std.specs.Prelude.{flat_map}
+use Rattle.std.specs.List.{AllZip}
 use Rattle.std.proofs.lemmas.Grind.{flat_map-append}
 use Rattle.spv_module.specs.State.{ModuleState}
 use Rattle.spv_module.specs.declared.inst.Inst.{Inst}
+use Rattle.spv_module.specs.declared.inst.Function.{Function}
 use Rattle.layout_rules.specs.Blocks.{block_of}
 use Rattle.conformance.specs.Rules.{Options}
 use Rattle.name_alloc.specs.Naming.{name_of}
@@ -12,7 +14,8 @@ use Rattle.glsl_ast.specs.Tree.{Text, Stmts, TranslationUnit}
 use Rattle.text_rules.specs.Constants.{Source}
 use Rattle.text_rules.specs.Printed.{Reached, is_private, is_written_struct, is_declared_constant, is_written_variable}
 use Rattle.text_rules.specs.Declarations.{Names, type_at, pointee_at, initial, struct_decl, constant_decl, variable_decl, declaration, declarations}
-use Rattle.function_text.specs.Functions.{function_decl}
+use Rattle.function_text.specs.Functions.{FunctionPlan, written, function_decl}
+use Rattle.unit_rules.specs.Translation.{Naming, IsPlanOf}
 use Rattle.unit_rules.specs.Unit.{in_order, source_of, reached_of, item_names_of, IsUnitOf}
 use Rattle.claim_law.specs.Bodies.{function_in, functions_in}
 
@@ -40,6 +43,12 @@ no_items s r names (g ∷ gs) =
     flat_map-append function_in (declaration s r names g) (flat_map (declaration s r names) gs)
     ∙ (ap (λ (l : List (Text × Stmts)). l ++ flat_map function_in (flat_map (declaration s r names) gs)) (no_item s r names g)
     ∙ no_items s r names gs)
+
+pub written_are : (s : Source) (found : Naming) (fs : List Function) (ps : List FunctionPlan) → AllZip (IsPlanOf s found) fs ps → map written ps ≡ fs
+written_are s found [] [] all = refl
+written_are s found [] (p ∷ ps) all = absurd all
+written_are s found (f ∷ fs) [] all = absurd all
+written_are s found (f ∷ fs) (p ∷ ps) all = ap₂ (λ (g : Function) l. g ∷ l) (ap (λ w. w.setting.function) all.0.scope_is) (written_are s found fs ps all.1)
 
 module _ (m : ModuleState) (o : Options) (unit : TranslationUnit) (u : IsUnitOf m o unit) where
   abbrev src : Source

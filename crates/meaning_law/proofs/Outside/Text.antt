@@ -1,8 +1,7 @@
 -- The text of an accepted module: its functions are those that calls reach, and its variables those of the module that these mention.
-use Rattle.std.proofs.Common.{◌≡◌, ◌++◌, ℕ, true, false, List, [], ◌∷◌, map, Option, Some, inl, inr, refl, sym, ap, ap₂, ◌∙◌, subst}
+use Rattle.std.proofs.Common.{◌≡◌, ◌++◌, ℕ, true, false, List, [], ◌∷◌, map, Option, Some, inl, inr, refl, sym, ap, ◌∙◌, subst}
 use Rattle.std.specs.Prelude.{option_and_then, unwrap_or}
 use Rattle.std.specs.Option.{option_or}
-use Rattle.std.specs.List.{AllZip}
 use Rattle.spv_module.specs.Held.{global}
 use Rattle.spv_module.specs.State.{ModuleState}
 use Rattle.spv_module.specs.declared.inst.Inst.{Inst}
@@ -26,7 +25,7 @@ use Rattle.text_rules.specs.Constants.{Source, sizes}
 use Rattle.text_rules.specs.Printed.{Reached, is_operand_in}
 use Rattle.text_rules.specs.Declarations.{declarations, shape_at, pointee_at}
 use Rattle.function_text.specs.Functions.{FunctionPlan, written, function_decl}
-use Rattle.unit_rules.specs.Translation.{Naming as Names, IsPlanOf}
+use Rattle.unit_rules.specs.Translation.{IsPlanOf}
 use Rattle.unit_rules.specs.Unit.{item_names_of, source_of, called, is_called, in_order, IsUnitOf}
 use Rattle.plan_law.specs.InOrder.{IsAmong}
 use Rattle.fits_law.proofs.Steps.{named}
@@ -47,6 +46,7 @@ use Rattle.global_law.proofs.Global.Shared.{mentioned_same}
 use Rattle.global_law.specs.Items.{AreAsked}
 use Rattle.global_law.proofs.Constant.Constants.{AreFunctions, P as program_of}
 use Rattle.claim_law.specs.Claimed.{IsIn}
+use Rattle.claim_law.proofs.Claim.Bodies.{written_are}
 use Rattle.grammar_law.proofs.Unit.Lists.{of_filter, as_in, split_at}
 use Rattle.grammar_law.proofs.Unit.Ways.{planned_as}
 use Rattle.naming_law.specs.Names.{shape_of}
@@ -63,13 +63,6 @@ in_functions : (fs : List Function) (f : Function) → IsIn f fs → IsFunctionO
 in_functions [] f there = absurd there
 in_functions (g ∷ fs) f (inl same) = inl same
 in_functions (g ∷ fs) f (inr there) = inr (in_functions fs f there)
-
--- planned functions are those of the module that are called
-written_are : (s : Source) (found : Names) (fs : List Function) (ps : List FunctionPlan) → AllZip (IsPlanOf s found) fs ps → map written ps ≡ fs
-written_are s found [] [] all = refl
-written_are s found [] (p ∷ ps) all = absurd all
-written_are s found (f ∷ fs) [] all = absurd all
-written_are s found (f ∷ fs) (p ∷ ps) all = ap₂ (λ (g : Function) l. g ∷ l) (ap (λ w. w.setting.function) all.0.scope_is) (written_are s found fs ps all.1)
 
 module _ (bytes : List ℕ) (m : ModuleState) (o : Options) (read : IsReadFrom bytes m) (fine : IsFine m o) (unit : TranslationUnit) (u : IsUnitOf m o unit) (inv : Invocation) (told : IsInvocation inv) (left : IsLeftOfGlobals bytes m o) where
   abbrev s : Setting

@@ -1,7 +1,6 @@
 -- The text of a module has the interface of the module.
 use Rattle.std.proofs.Common.{◌≡◌, ◌++◌, append-nil, ◌&&◌, ◌||◌, ◌==◌, Bool, true, false, List, [], ◌∷◌, map, Option, Some, None, refl, sym, ap, ap₂, ◌∙◌, if◌then◌else◌}
 use Rattle.std.specs.Prelude.{filter, flat_map, is_some, slice_index, option_and_then}
-use Rattle.std.specs.List.{AllZip}
 use Rattle.std.proofs.lemmas.Bool.{and_parts}
 use Rattle.std.proofs.lemmas.List.Elements.{filter-append}
 use Rattle.spv_ops.specs.Opcode.{is, number}
@@ -23,9 +22,9 @@ use Rattle.glsl_ast.specs.Tree.{Decl, TranslationUnit}
 use Rattle.text_rules.specs.Constants.{Source, is_constant, reading, free_spec_id}
 use Rattle.text_rules.specs.Printed.{Reached, class, is_private, is_workgroup, is_block_variable, is_operand_in, is_written_variable, is_named, is_needed, is_declared_constant, is_written_struct}
 use Rattle.text_rules.specs.Declarations.{Names, type_at, pointee_at, initial, struct_decl, constant_decl, variable_decl, declaration, declarations}
-use Rattle.function_text.specs.Functions.{FunctionPlan, written, function_decl}
-use Rattle.unit_rules.specs.Translation.{Naming, IsPlanOf}
+use Rattle.function_text.specs.Functions.{FunctionPlan, function_decl}
 use Rattle.unit_rules.specs.Unit.{item_names_of, called, in_order, reached_of, source_of, IsUnitOf}
+use Rattle.claim_law.proofs.Claim.Bodies.{written_are}
 use Rattle.global_law.proofs.Constant.Within.{constant_no_variable}
 use Rattle.text_law.specs.Interface.{is_block_item, is_spec_item, items_in, sizes_in, is_seen, block_item, item_of, is_settable, HasInterface}
 
@@ -168,13 +167,6 @@ module _ (s : Source) (r : Reached) (names : Names) where
       joined true = refl
       joined false = refl
 
--- the functions that are written are those that calls reach
-functions_are : (s : Source) (found : Naming) (fs : List Function) (ps : List FunctionPlan) → AllZip (IsPlanOf s found) fs ps → map written ps ≡ fs
-functions_are s found [] [] all = refl
-functions_are s found [] (p ∷ ps) all = absurd all
-functions_are s found (f ∷ fs) [] all = absurd all
-functions_are s found (f ∷ fs) (p ∷ ps) all = ap₂ (λ (g : Function) l. g ∷ l) (ap (λ w. w.setting.function) all.0.scope_is) (functions_are s found fs ps all.1)
-
 -- functions are neither
 no_blocks : (ps : List FunctionPlan) → filter is_block_item (map function_decl ps) ≡ []
 no_blocks [] = refl
@@ -207,7 +199,7 @@ module _ (m : ModuleState) (o : Options) (unit : TranslationUnit) (u : IsUnitOf 
     blocks =
         ap (filter is_block_item) items_are ∙ filter-append is_block_item (declarations s r names) (map function_decl (in_order u.order u.plans))
         ∙ behind_none (filter is_block_item (declarations s r names)) (filter is_block_item (map function_decl (in_order u.order u.plans))) (no_blocks (in_order u.order u.plans)) ∙ blocks_among s r names m.globals
-        ∙ ap (λ (fs : List Function). flat_map (item_of s names) (filter (is_seen fs) m.globals)) (functions_are s (name_of u.claimed) (called u.order m.functions) u.plans u.planned);
+        ∙ ap (λ (fs : List Function). flat_map (item_of s names) (filter (is_seen fs) m.globals)) (written_are s (name_of u.claimed) (called u.order m.functions) u.plans u.planned);
     constants =
         ap (filter is_spec_item) items_are ∙ filter-append is_spec_item (declarations s r names) (map function_decl (in_order u.order u.plans))
         ∙ behind_none (filter is_spec_item (declarations s r names)) (filter is_spec_item (map function_decl (in_order u.order u.plans))) (no_constants (in_order u.order u.plans)) ∙ constants_among s r names m.globals;
