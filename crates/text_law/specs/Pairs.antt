@@ -12,7 +12,7 @@ use Rattle.glsl_ast.specs.Tree.{Text, Expr, name, not}
 use Rattle.text_law.specs.Deeds.{Deed, reads, assigns, calls}
 pub use Rattle.unit_rules.specs.Translation.{Naming}
 use Rattle.text_law.specs.Walks as walks
-use Rattle.text_law.specs.Walks.{Outer, is_in, atomics, Token}
+use Rattle.text_law.specs.Walks.{Outer, is_in, is_atomic, Token}
 
 -- what a statement is of the module: the `for` of a loop, the `if` of an OpBranchConditional, the `switch` of an OpSwitch; a load, a store, a call of a function, an atomic instruction; a barrier, which is written by this name
 pub data Act : Type 0 where
@@ -105,7 +105,7 @@ is_done o selects p = is_choice p
 is_done o loads p = is_one is_read (deeds_in p)
 is_done o stores p = is_one is_assigned (deeds_in p)
 is_done o enters p = begins (is_call (is_in o.functions)) (list_all is_read) (deeds_in p)
-is_done o updates p = begins (is_call (is_in atomics)) (is_one is_read) (deeds_in p)
+is_done o updates p = begins (is_call is_atomic) (is_one is_read) (deeds_in p)
 is_done o (bars f) p = is_one (is_call (bytes_eq f)) (deeds_in p)
 
 -- a statement, and what stands round it, from inside out

@@ -32,6 +32,7 @@ use Rattle.text_rules.specs.Printed.{is_variable}
 use Rattle.function_text.specs.Functions.{function_key}
 use Rattle.unit_rules.specs.Unit.{called, source_of}
 use Rattle.claim_law.specs.Bodies.{functions_in}
+use Rattle.claim_law.specs.Told.{built_in_variables}
 use Rattle.text_law.specs.Walks.{Outer, walk}
 use Rattle.text_law.specs.Pairs.{Act, repeats, exit_acts, with_round, loads, stores, enters, updates, bars, Pair, token_of, sites, is_of, Naming, is_flag, AreGuards, IsPlaced}
 
@@ -70,9 +71,6 @@ statements_of s f g b =
     (if heads_loop g b then (repeats, round g b) ∷ [] else []) ++ map (with_round (around g b)) (acts_at s f b ++ exit_acts (nth g b).exit)
 
 -- the names with which paths to memory begin: of variables of the module and of the function, of parameters that are pointers, and of what is built in
-abbrev pub built_ins : List Text
-built_ins = codes "gl_NumWorkGroups" ∷ codes "gl_WorkGroupID" ∷ codes "gl_LocalInvocationID" ∷ codes "gl_GlobalInvocationID" ∷ codes "gl_LocalInvocationIndex" ∷ []
-
 abbrev pub is_pointer : Source → Id × Id → Bool
 is_pointer s q = is_some (pointee s.of.globals q.1.0)
 
@@ -85,7 +83,7 @@ abbrev pub names_in : Naming → List ℕ → List Text
 names_in found ns = flat_map (λ (n : ℕ). option_to_list (found (IdOf (id n)))) ns
 
 abbrev pub outer_of : Source → Naming → TranslationUnit → Function → Outer
-outer_of s found unit f = record { memory = names_in found (memory_ids s f) ++ built_ins; functions = map (λ (d : Text × Stmts). d.0) (functions_in unit) }
+outer_of s found unit f = record { memory = names_in found (memory_ids s f) ++ built_in_variables; functions = map (λ (d : Text × Stmts). d.0) (functions_in unit) }
 
 -- A body has the shape of a function: besides `if`s that test flags, its `for`, `switch` and `if` statements and those that do what is seen are these of the reached blocks, each once, those of a block in this order, and each within what stands round it in the module.
 pub record IsShaped (s : Source) (found : Naming) (o : Outer) (f : Function) (body : Stmts) : Type 0 where

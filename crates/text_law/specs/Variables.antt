@@ -1,5 +1,5 @@
 -- The variables that a function has in a text: those of the module, the values that have one, and what its control flow needs.
-use Rattle.std.specs.Prelude.{ℕ, ◌≡◌, ◌≤◌, ◌==◌, ◌&&◌, Bool, true, false, List, [], ◌++◌, filter, flat_map, length, map, if◌then◌else◌}
+use Rattle.std.specs.Prelude.{ℕ, ◌≡◌, ◌≤◌, ◌&&◌, Bool, true, false, List, [], ◌++◌, filter, flat_map, length, map, if◌then◌else◌}
 use Rattle.std.specs.List.{enumerate_from}
 use Rattle.spv_ops.specs.Groups.{is_chain}
 use Rattle.spv_module.specs.State.{ModuleState}

@@ -1,5 +1,5 @@
 -- What memory is has a pointer type: it is no value with a shape, no constant, and no result of another instruction than OpVariable. So these have names with which no path to memory begins.
-use Rattle.std.proofs.Common.{◌≡◌, ◌++◌, ℕ, Bool, true, false, List, [], map, filter, Contains, Option, Some, None, unwrap_or, inl, inr, refl, sym, ap, ◌∙◌, subst, if◌then◌else◌}
+use Rattle.std.proofs.Common.{◌≡◌, ◌++◌, ℕ, Bool, true, false, List, map, filter, Contains, Option, Some, None, unwrap_or, inl, inr, refl, sym, ap, ◌∙◌, subst, if◌then◌else◌}
 use Rattle.std.specs.Prelude.{is_some, option_map, option_and_then, slice_index}
 use Rattle.std.specs.Option.{option_map_or, option_or}
 use Rattle.std.proofs.lemmas.Option.{same_Some}
@@ -32,13 +32,14 @@ use Rattle.typed_law.proofs.Used.{global_found}
 use Rattle.typed_law.proofs.Values.{typed_is, typed_result, variable_type_is, global_row, global_typed_some, inside, local_row, own_type}
 use Rattle.typed_law.proofs.Others.{typed_some}
 use Rattle.claim_law.specs.Claimed.{IsIn}
+use Rattle.claim_law.specs.Told.{built_in_variables}
 use Rattle.grammar_law.proofs.Unit.Lists.{in_either, of_filter, as_among, as_parameter}
 use Rattle.grammar_law.proofs.Unit.Shaped.{pointer_none}
 use Rattle.grammar_law.proofs.Unit.Ways.{HaveKinds, F, V, in_module}
 use Rattle.grammar_law.proofs.Meets.ArrayLengths.{variable_typed}
 use Rattle.grammar_law.proofs.Grammar.Listed.{of_mapped}
 use Rattle.text_law.specs.Walks.{is_in}
-use Rattle.text_law.specs.Shape.{built_ins, is_pointer, memory_ids, names_in}
+use Rattle.text_law.specs.Shape.{is_pointer, memory_ids, names_in}
 use Rattle.text_law.proofs.Shape.Named.{id_unseen}
 
 none_some : {A : Type 0} (x : A) → None ≡ Some x → ⊥
@@ -157,7 +158,7 @@ module _ (s : Setting) (entry : Option (List ℕ)) (right : IsConforming s.of en
 
   -- The laws: no path to memory begins with such a name.
   abbrev pub IsUnseenId : ℕ → Type 0
-  IsUnseenId n = is_in (names_in (name_of u.claimed) (memory_ids Src Fn) ++ built_ins) (text_of (name_of u.claimed) (IdOf (id n))) ≡ false
+  IsUnseenId n = is_in (names_in (name_of u.claimed) (memory_ids Src Fn) ++ built_in_variables) (text_of (name_of u.claimed) (IdOf (id n))) ≡ false
 
   pub value_unseen : (n : ℕ) (t : Tree) → type_tree s.of.globals (type_of Where n) ≡ Some t → IsUnseenId n
   value_unseen n t shaped = id_unseen Found u.lawful (memory_ids Src Fn) n (λ there. shaped_apart n t shaped (memory_of n there))

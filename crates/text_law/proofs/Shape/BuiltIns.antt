@@ -21,7 +21,7 @@ use Rattle.claim_law.proofs.Claim.Bodies.{bodies_are}
 use Rattle.grammar_law.proofs.Grammar.Held.{any_invocation}
 use Rattle.grammar_law.proofs.Grammar.UnitMade.{in_plans}
 use Rattle.naming_law.proofs.Unit.{named_so}
-use Rattle.text_law.specs.Walks.{is_in, atomics, barriers, is_seen}
+use Rattle.text_law.specs.Walks.{is_in, is_atomic, is_barrier, is_seen}
 use Rattle.text_law.specs.Deeds.{calls}
 use Rattle.text_law.specs.Shape.{outer_of}
 
@@ -34,7 +34,7 @@ unfolding built_in_name is_word has_prefix
 built_barred Min = refl
 built_barred f = refl
 
-built_apart : (f : BuiltIn) → (is_in atomics (built_in_name f) || is_in barriers (built_in_name f)) ≡ false
+built_apart : (f : BuiltIn) → (is_atomic (built_in_name f) || is_barrier (built_in_name f)) ≡ false
 unfolding built_in_name
 built_apart Min = refl
 built_apart f = refl
@@ -61,6 +61,6 @@ module _ (m : ModuleState) (o : Options) (unit : TranslationUnit) (u : IsUnitOf 
   -- The law.
   pub built_unseen : (g : Function) (f : BuiltIn) → is_seen (outer_of (source_of m o u.entry) (name_of u.claimed) unit g) (calls (built_in_name f)) ≡ false
   built_unseen g f =
-      or_from (is_in (outer_of (source_of m o u.entry) (name_of u.claimed) unit g).functions (built_in_name f)) (is_in atomics (built_in_name f) || is_in barriers (built_in_name f))
+      or_from (is_in (outer_of (source_of m o u.entry) (name_of u.claimed) unit g).functions (built_in_name f)) (is_atomic (built_in_name f) || is_barrier (built_in_name f))
       (ap (λ (ds : List (Text × Stmts)). is_in (map (λ (d : Text × Stmts). d.0) ds) (built_in_name f)) (bodies_are m o unit u) ∙ names_apart (built_in_name f) (built_barred f) (built_other f) (in_order u.order u.plans) (λ p p_in. in_plans u.order u.plans p p_in))
       (built_apart f)

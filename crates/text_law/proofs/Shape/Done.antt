@@ -32,7 +32,7 @@ use Rattle.list_law.proofs.Tests.{or_true}
 use Rattle.claim_law.specs.Uses.{UseEach}
 use Rattle.claim_law.specs.Statements.{EachStmt}
 use Rattle.text_law.specs.Deeds.{Deed, reads, assigns, calls, deeds, deeds_of, place_deeds}
-use Rattle.text_law.specs.Walks.{Outer, is_in, atomics, barriers, is_seen}
+use Rattle.text_law.specs.Walks.{Outer, is_in, is_atomic, is_barrier, is_seen}
 use Rattle.text_law.specs.Pairs.{Act, loads, stores, enters, updates, bars, does, is_read, is_done}
 use Rattle.text_law.specs.Shape.{bars_of, acts_in, acts_of}
 use Rattle.text_law.specs.Unseen.{unseen, AreLeaves, if_some, seen_in}
@@ -74,15 +74,15 @@ module _ (o : Outer) (h : ℕ) where
       by_test false p rest = cc
 
   seen-function : (f : Text) → is_in o.functions f ≡ true → is_seen o (calls f) ≡ true
-  seen-function f on = ap (λ (b : Bool). b || (is_in atomics f || is_in barriers f)) on
+  seen-function f on = ap (λ (b : Bool). b || (is_atomic f || is_barrier f)) on
 
-  seen-atomic : (f : Text) → is_in atomics f ≡ true → is_seen o (calls f) ≡ true
-  seen-atomic f on = ap (λ (b : Bool). is_in o.functions f || (b || is_in barriers f)) on ∙ or_true (is_in o.functions f)
+  seen-atomic : (f : Text) → is_atomic f ≡ true → is_seen o (calls f) ≡ true
+  seen-atomic f on = ap (λ (b : Bool). is_in o.functions f || (b || is_barrier f)) on ∙ or_true (is_in o.functions f)
 
-  seen-barrier : (f : Text) → (is_in atomics f || is_in barriers f) ≡ true → is_seen o (calls f) ≡ true
+  seen-barrier : (f : Text) → (is_atomic f || is_barrier f) ≡ true → is_seen o (calls f) ≡ true
   seen-barrier f on = ap (λ (b : Bool). is_in o.functions f || b) on ∙ or_true (is_in o.functions f)
 
-  atomic-in : (a : AtomicOp) → is_in atomics (atomic_name a) ≡ true
+  atomic-in : (a : AtomicOp) → is_atomic (atomic_name a) ≡ true
   atomic-in atomic.Load = refl
   atomic-in atomic.Store = refl
   atomic-in atomic.Exchange = refl
@@ -100,13 +100,13 @@ module _ (o : Outer) (h : ℕ) where
   atomic-in atomic.Xor = refl
 
   -- a barrier
-  bare-seen : (f : Text) → (is_in atomics f || is_in barriers f) ≡ true → seen_in o (bare_call f) ≡ (calls f ∷ []) ∷ []
+  bare-seen : (f : Text) → (is_atomic f || is_barrier f) ≡ true → seen_in o (bare_call f) ≡ (calls f ∷ []) ∷ []
   bare-seen f on = ap (λ l. if_some l []) (first-of (calls f) [] [] (seen-barrier f on) refl)
 
-  bar-done : (f : Text) → (is_in atomics f || is_in barriers f) ≡ true → is_done o (bars f) (does h (calls f ∷ [])) ≡ true → Done (bars f ∷ []) (seen_in o (bare_call f))
+  bar-done : (f : Text) → (is_atomic f || is_barrier f) ≡ true → is_done o (bars f) (does h (calls f ∷ [])) ≡ true → Done (bars f ∷ []) (seen_in o (bare_call f))
   bar-done f on same = subst (λ l. Done (bars f ∷ []) l) (sym (bare-seen f on)) (same, tt)
 
-  bit-done : (bits bit : ℕ) (e : Event) (f : Text) → flat_map bars_of (e ∷ []) ≡ bars f ∷ [] → (is_in atomics f || is_in barriers f) ≡ true → is_done o (bars f) (does h (calls f ∷ [])) ≡ true → Done (flat_map bars_of (steps.when_bit bits bit e)) (seen_in o (when_bit bits bit f))
+  bit-done : (bits bit : ℕ) (e : Event) (f : Text) → flat_map bars_of (e ∷ []) ≡ bars f ∷ [] → (is_atomic f || is_barrier f) ≡ true → is_done o (bars f) (does h (calls f ∷ [])) ≡ true → Done (flat_map bars_of (steps.when_bit bits bit e)) (seen_in o (when_bit bits bit f))
   bit-done bits bit e f named on same = by_test (bit_and bits bit == 0)
     where
       by_test : (b : Bool) → Done (flat_map bars_of (if b then [] else e ∷ [])) (seen_in o (if b then [] else bare_call f))

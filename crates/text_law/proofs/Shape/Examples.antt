@@ -1,5 +1,5 @@
--- The shape of a counting loop: what the walk through its text meets, and what its blocks ask for.
-use Rattle.std.proofs.Common.{◌≡◌, ℕ, true, false, List, [], ◌∷◌, Some, None, refl}
+-- The shape of a counting loop: what the walk through its text meets, and what its blocks ask for. And the variables that are built in.
+use Rattle.std.proofs.Common.{◌≡◌, ℕ, true, false, List, [], ◌∷◌, ◌++◌, map, Some, None, refl}
 use Rattle.std.specs.Prelude.{codes}
 use Rattle.spv_ops.specs.Opcode.{number}
 use Rattle.spv_ops.specs.declared.Op.{Op}
@@ -14,9 +14,14 @@ use Rattle.structure_rules.specs.Graph.{graph, reached, reach, nodes, grown}
 use Rattle.structure_rules.specs.Nesting.{outward, role, name_links, case_links, entry_links}
 use Rattle.structure_rules.specs.declared.graph.Part.TheVariants.{Loop, Cont}
 use Rattle.structure_recover.specs.Once.{Around, within, branch}
+use Rattle.traces.specs.Invocations.{Invocation}
+use Rattle.glsl_ast.specs.declared.items.Size.{Size}
 use Rattle.glsl_ast.specs.declared.expressions.Literal.TheVariants.{Uint, Truth}
 use Rattle.glsl_ast.specs.declared.expressions.BinOp.TheVariants.{Add, Less}
 use Rattle.glsl_ast.specs.Tree.{Text, type_name, uint, boolean, Expr, literal, name, binary, LStep, lvalue, Stmt, declare, assign, when, either, loop, leave, again, give, Stmts, stmts_in}
+use Rattle.glsl_semantics.specs.Shapes.{Typed}
+use Rattle.glsl_semantics.specs.Items.{built_ins}
+use Rattle.claim_law.specs.Told.{built_in_variables}
 use Rattle.text_law.specs.Deeds.{reads, assigns}
 use Rattle.text_law.specs.Walks.{Outer, turns, tests, closes, does, walk}
 use Rattle.text_law.specs.Pairs.{Act, repeats, branches, loads, stores}
@@ -125,3 +130,7 @@ module _ (m : ModuleState) where
   last : asked 5 ≡ []
   unfolding opened
   last = refl
+
+-- the variables that are built in are those that have values where the meaning of a text begins, but the constant among them
+built_in : (inv : Invocation) (sizes : List Size) → map (λ (v : Text × Typed). v.0) (built_ins inv sizes) ≡ built_in_variables ++ codes "gl_WorkGroupSize" ∷ []
+built_in inv sizes = refl

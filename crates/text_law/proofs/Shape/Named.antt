@@ -15,17 +15,18 @@ use Rattle.region_law.proofs.Flags.{other_text}
 use Rattle.typed_law.proofs.Lists.{clash}
 use Rattle.claim_law.specs.Claimed.{IsIn}
 use Rattle.claim_law.specs.Apart.{is_flow, IsFlow}
+use Rattle.claim_law.specs.Told.{built_in_variables}
 use Rattle.grammar_law.proofs.Grammar.FunctionsMade.{flow_own}
 use Rattle.text_law.specs.Walks.{is_in}
 use Rattle.text_law.specs.Pairs.{Naming}
-use Rattle.text_law.specs.Shape.{built_ins, names_in}
+use Rattle.text_law.specs.Shape.{names_in}
 
 -- what is built in has a name that GLSL reserves
 abbrev AreReserved : List Text → Type 0
 AreReserved [] = Unit {0}
 AreReserved (y ∷ ys) = (has_prefix y ≡ true) × AreReserved ys
 
-built_reserved : AreReserved built_ins
+built_reserved : AreReserved built_in_variables
 unfolding has_prefix
 built_reserved = (refl, (refl, (refl, (refl, (refl, tt)))))
 
@@ -55,7 +56,7 @@ abbrev is_id_key : Key → Bool
 is_id_key (IdOf n) = true
 is_id_key _ = false
 
-size_apart : is_in built_ins group_size_text ≡ false
+size_apart : is_in built_in_variables group_size_text ≡ false
 size_apart = refl
 
 module _ (found : Naming) (lawful : AreNames found) where
@@ -71,18 +72,18 @@ module _ (found : Naming) (lawful : AreNames found) where
       by_name (Some x) is = free_name key x is
 
   -- a text that none of these ids has as its name
-  other_names : (ns : List ℕ) (x : Text) → ((n : ℕ) → IsIn n ns → found (IdOf (id n)) ≡ Some x → ⊥) → is_in built_ins x ≡ false → is_in (names_in found ns ++ built_ins) x ≡ false
+  other_names : (ns : List ℕ) (x : Text) → ((n : ℕ) → IsIn n ns → found (IdOf (id n)) ≡ Some x → ⊥) → is_in built_in_variables x ≡ false → is_in (names_in found ns ++ built_in_variables) x ≡ false
   other_names [] x other off = off
   other_names (n ∷ ns) x other off = by_name (found (IdOf (id n))) refl (other_names ns x (λ k k_in. other k (inr k_in)) off)
     where
-      by_name : (q : Option Text) → found (IdOf (id n)) ≡ q → is_in (names_in found ns ++ built_ins) x ≡ false → is_in ((option_to_list q ++ names_in found ns) ++ built_ins) x ≡ false
+      by_name : (q : Option Text) → found (IdOf (id n)) ≡ q → is_in (names_in found ns ++ built_in_variables) x ≡ false → is_in ((option_to_list q ++ names_in found ns) ++ built_in_variables) x ≡ false
       by_name None is later = later
-      by_name (Some y) is later = or_from (bytes_eq x y) (is_in (names_in found ns ++ built_ins) x) (other_text x y (λ same. other n (inl refl) (is ∙ ap (λ (z : Text). Some z) (sym same)))) later
+      by_name (Some y) is later = or_from (bytes_eq x y) (is_in (names_in found ns ++ built_in_variables) x) (other_text x y (λ same. other n (inl refl) (is ∙ ap (λ (z : Text). Some z) (sym same)))) later
 
   -- The law, of a key that is none of what memory is; where it has no name, its text is empty.
   module _ (ns : List ℕ) (key : Key) (space : space_of key ≡ None) (other : (n : ℕ) → IsIn n ns → key ≡ IdOf (id n) → ⊥) where
-    pub key_unseen : is_in (names_in found ns ++ built_ins) (text_of found key) ≡ false
-    key_unseen = other_names ns (text_of found key) (λ n n_in is. by_name (found key) refl n n_in is) (none_reserved built_ins built_reserved (text_of found key) (free_text key))
+    pub key_unseen : is_in (names_in found ns ++ built_in_variables) (text_of found key) ≡ false
+    key_unseen = other_names ns (text_of found key) (λ n n_in is. by_name (found key) refl n n_in is) (none_reserved built_in_variables built_reserved (text_of found key) (free_text key))
       where
         none_empty : (n : ℕ) → found (IdOf (id n)) ≡ Some [] → ⊥
         none_empty n is = let some = (lawful.each (IdOf (id n)) [] is).word.some in omega (arith, some)
@@ -92,15 +93,15 @@ module _ (found : Naming) (lawful : AreNames found) where
         by_name (Some x) some n n_in is = other n n_in (lawful.apart key (IdOf (id n)) x space some is)
 
   -- of the size of workgroups
-  pub size_unseen : (ns : List ℕ) → is_in (names_in found ns ++ built_ins) group_size_text ≡ false
+  pub size_unseen : (ns : List ℕ) → is_in (names_in found ns ++ built_in_variables) group_size_text ≡ false
   size_unseen ns = other_names ns group_size_text (λ n n_in is. clash (sym size_reserved ∙ free_name (IdOf (id n)) group_size_text is)) size_apart
 
   -- of a key of no id
-  pub other_unseen : (ns : List ℕ) (key : Key) → space_of key ≡ None → is_id_key key ≡ false → is_in (names_in found ns ++ built_ins) (text_of found key) ≡ false
+  pub other_unseen : (ns : List ℕ) (key : Key) → space_of key ≡ None → is_id_key key ≡ false → is_in (names_in found ns ++ built_in_variables) (text_of found key) ≡ false
   other_unseen ns key space off = key_unseen ns key space (λ n n_in same. clash (ap is_id_key (sym same) ∙ off))
 
   -- and of an id that is none of these
-  pub id_unseen : (ns : List ℕ) (n : ℕ) → (IsIn n ns → ⊥) → is_in (names_in found ns ++ built_ins) (text_of found (IdOf (id n))) ≡ false
+  pub id_unseen : (ns : List ℕ) (n : ℕ) → (IsIn n ns → ⊥) → is_in (names_in found ns ++ built_in_variables) (text_of found (IdOf (id n))) ≡ false
   id_unseen ns n other = key_unseen ns (IdOf (id n)) refl (λ k k_in same. other (subst (λ (j : ℕ). IsIn j ns) (ap number_of (sym same)) k_in))
 
   no_id : (key : Key) → is_flow key ≡ true → is_id_key key ≡ false
@@ -108,7 +109,7 @@ module _ (found : Naming) (lawful : AreNames found) where
   no_id key flow = refl
 
   -- flags and spares
-  pub flow_unseen : (ns : List ℕ) (x : Text) → IsFlow found x → is_in (names_in found ns ++ built_ins) x ≡ false
+  pub flow_unseen : (ns : List ℕ) (x : Text) → IsFlow found x → is_in (names_in found ns ++ built_in_variables) x ≡ false
   flow_unseen ns x flow =
-      subst (λ (y : Text). is_in (names_in found ns ++ built_ins) y ≡ false) (ap (λ (q : Option Text). unwrap_or q []) flow.2)
+      subst (λ (y : Text). is_in (names_in found ns ++ built_in_variables) y ≡ false) (ap (λ (q : Option Text). unwrap_or q []) flow.2)
       (other_unseen ns flow.0 (flow_own [] flow.0 flow.1).0 (no_id flow.0 flow.1))

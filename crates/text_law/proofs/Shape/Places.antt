@@ -42,7 +42,7 @@ use Rattle.typed_law.specs.Conforms.{IsConforming}
 use Rattle.typed_law.specs.Words.{AreGivenWords}
 use Rattle.typed_law.proofs.Values.{inside, typed_result}
 use Rattle.claim_law.specs.Claimed.{IsIn}
-use Rattle.claim_law.specs.Told.{is_among, built_ins as all_built_ins}
+use Rattle.claim_law.specs.Told.{is_among, built_in_variables, built_ins}
 use Rattle.claim_law.proofs.Claim.Listed.{in_left, in_right, in_mapped}
 use Rattle.claim_law.proofs.Claim.Variables.{variable_no_constant}
 use Rattle.claim_law.specs.Blocks.{FitWords}
@@ -55,7 +55,7 @@ use Rattle.grammar_law.proofs.Unit.ResultShapes.{stands_inside}
 use Rattle.grammar_law.proofs.Unit.Ways.{HaveKinds, F, V, in_module, ordered}
 use Rattle.grammar_law.proofs.Meets.PointerStarts.{IsStart, outside, lent, own, pointer_start}
 use Rattle.text_law.specs.Walks.{Outer, is_in}
-use Rattle.text_law.specs.Shape.{built_ins, is_pointer, memory_ids, names_in, outer_of}
+use Rattle.text_law.specs.Shape.{is_pointer, memory_ids, names_in, outer_of}
 use Rattle.text_law.specs.Unseen.{unseen, IsPath}
 use Rattle.text_law.proofs.Shape.Named.{other_unseen}
 use Rattle.text_law.proofs.Shape.Apart.{value_unseen}
@@ -63,7 +63,7 @@ use Rattle.text_law.proofs.Shape.UnseenValues.{read_unseen}
 use Rattle.text_law.proofs.Shape.Traced.{IsIndex, IsPointer, traced, steps-unseen}
 
 -- what is built in
-is_built_in : (q : Option BuiltIn) → is_in built_ins (built_in_name q) ≡ true
+is_built_in : (q : Option BuiltIn) → is_in built_in_variables (built_in_name q) ≡ true
 is_built_in None = refl
 is_built_in (Some built.NumWorkgroups) = refl
 is_built_in (Some built.WorkgroupId) = refl
@@ -133,29 +133,29 @@ module _ (s : Setting) (entry : Option (List ℕ)) (right : IsConforming s.of en
       ((tt, tt), ((further-measured X (name (base_text Where.setting (path Gs Fn b n).base)) (steps_text Where.setting (unwrap_or (pointee_of Gs Fn (path Gs Fn b n).base) 0) (path Gs Fn b n).steps) tt (steps_unseen b n), tt), tt))
 
   -- the name of one of these ids
-  in_names : (ns : List ℕ) (n : ℕ) (x : Text) → IsIn n ns → Found (Id (id n)) ≡ Some x → is_in (names_in Found ns ++ built_ins) x ≡ true
+  in_names : (ns : List ℕ) (n : ℕ) (x : Text) → IsIn n ns → Found (Id (id n)) ≡ Some x → is_in (names_in Found ns ++ built_in_variables) x ≡ true
   in_names [] n x there is = absurd there
   in_names (k ∷ ns) n x there is = by_name (Found (Id (id k))) refl there (λ rest. in_names ns n x rest is)
     where
-      own_name : (q : Option Text) → Found (Id (id k)) ≡ q → k ≡ n → is_in ((option_to_list q ++ names_in Found ns) ++ built_ins) x ≡ true
+      own_name : (q : Option Text) → Found (Id (id k)) ≡ q → k ≡ n → is_in ((option_to_list q ++ names_in Found ns) ++ built_in_variables) x ≡ true
       own_name q at same =
-          subst (λ (y : Option Text). is_in ((option_to_list y ++ names_in Found ns) ++ built_ins) x ≡ true) (sym is ∙ (ap (λ (j : ℕ). Found (Id (id j))) (sym same) ∙ at))
-          (or_left (bytes_eq x x) (is_in (names_in Found ns ++ built_ins) x) (own_text x))
+          subst (λ (y : Option Text). is_in ((option_to_list y ++ names_in Found ns) ++ built_in_variables) x ≡ true) (sym is ∙ (ap (λ (j : ℕ). Found (Id (id j))) (sym same) ∙ at))
+          (or_left (bytes_eq x x) (is_in (names_in Found ns ++ built_in_variables) x) (own_text x))
 
-      by_name : (q : Option Text) → Found (Id (id k)) ≡ q → (k ≡ n) ⊎ IsIn n ns → (IsIn n ns → is_in (names_in Found ns ++ built_ins) x ≡ true) → is_in ((option_to_list q ++ names_in Found ns) ++ built_ins) x ≡ true
+      by_name : (q : Option Text) → Found (Id (id k)) ≡ q → (k ≡ n) ⊎ IsIn n ns → (IsIn n ns → is_in (names_in Found ns ++ built_in_variables) x ≡ true) → is_in ((option_to_list q ++ names_in Found ns) ++ built_in_variables) x ≡ true
       by_name q at (inl same) later = own_name q at same
       by_name None at (inr rest) later = later rest
-      by_name (Some y) at (inr rest) later = or_right (bytes_eq x y) (is_in (names_in Found ns ++ built_ins) x) (later rest)
+      by_name (Some y) at (inr rest) later = or_right (bytes_eq x y) (is_in (names_in Found ns ++ built_in_variables) x) (later rest)
 
   -- what is a word of the text is the name of its key
   named_some : (key : Key) → W.value (text_of Found key) → (x : Text) × (Found key ≡ Some x)
   named_some key has = by_name (Found key) refl has.0
     where
-      never : (IsOwnName Gs Found [] ⊎ (is_among all_built_ins [] ≡ true)) → ⊥
+      never : (IsOwnName Gs Found [] ⊎ (is_among built_ins [] ≡ true)) → ⊥
       never (inl own_name) = let some = (u.lawful.each own_name.key [] own_name.is).word.some in omega (arith, some)
       never (inr on) = cc
 
-      by_name : (q : Option Text) → Found key ≡ q → IsOwnName Gs Found (unwrap_or q []) ⊎ (is_among all_built_ins (unwrap_or q []) ≡ true) → (x : Text) × (Found key ≡ Some x)
+      by_name : (q : Option Text) → Found key ≡ q → IsOwnName Gs Found (unwrap_or q []) ⊎ (is_among built_ins (unwrap_or q []) ≡ true) → (x : Text) × (Found key ≡ Some x)
       by_name (Some x) at word = (x, at)
       by_name None at word = absurd (never word)
 
@@ -200,7 +200,7 @@ module _ (s : Setting) (entry : Option (List ℕ)) (right : IsConforming s.of en
           by_input : (b : Bool) → is_constant g ≡ false → is_input g ≡ b → IsMemory
           by_input true off input =
               subst (λ (q : Option Expr). is_in Out.memory (option_map_or name_in q (text_of Found (Id (id n)))) ≡ true) (sym (read false true off input))
-              (in_later (names_in Found (memory_ids Src Fn)) built_ins (built_in_text (unwrap_or (value_of s.of.heads g.result (decoration_number decoration.BuiltIn)) 0)) (is_built_in (built_in_of_number (unwrap_or (value_of s.of.heads g.result (decoration_number decoration.BuiltIn)) 0))))
+              (in_later (names_in Found (memory_ids Src Fn)) built_in_variables (built_in_text (unwrap_or (value_of s.of.heads g.result (decoration_number decoration.BuiltIn)) 0)) (is_built_in (built_in_of_number (unwrap_or (value_of s.of.heads g.result (decoration_number decoration.BuiltIn)) 0))))
           by_input false off input = by_own (read false false off input) (in_globals g g_in on same)
 
       memory_is : IsMemory
