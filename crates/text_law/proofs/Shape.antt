@@ -2,6 +2,7 @@
 pub mod Walked
 pub mod Sited
 pub mod Turned
+pub mod Together
 pub mod Placed
 pub mod Guarded
 pub mod Shaped

@@ -1,5 +1,5 @@
 -- The walk through a body, each token with what it is of the module; and what stands round a statement.
-use Rattle.std.specs.Prelude.{ℕ, ◌≡◌, ◌&&◌, Bool, true, false, List, [], ◌∷◌, bytes_eq, flat_map, map, Option, Some, None}
+use Rattle.std.specs.Prelude.{ℕ, ◌≡◌, ◌==◌, ◌&&◌, Bool, true, false, List, [], ◌∷◌, ◌++◌, bytes_eq, filter, flat_map, map, Option, Some, None}
 use Rattle.std.specs.List.{list_all}
 use Rattle.structure_rules.specs.declared.graph.Part.TheVariants.{If, Loop, Cont, Case}
 use Rattle.structure_rules.specs.declared.graph.Exit.{Exit}
@@ -125,6 +125,14 @@ sites round (p ∷ ps) = record { what = p; round = round } ∷ sites (p ∷ rou
 
 abbrev pub is_of : ℕ → Site → Bool
 is_of b s = is_value b (block_of s.what)
+
+-- a statement of an instruction of this block; those of a block stand directly after one another
+abbrev pub is_done_in : ℕ → Pair → Bool
+is_done_in b (does h ds) = h == b
+is_done_in b _ = false
+
+abbrev pub StandTogether : ℕ → List Pair → Type 0
+StandTogether b pairs = (before : List Pair) × (after : List Pair) × (pairs ≡ before ++ (filter (is_done_in b) pairs ++ after))
 
 -- a statement that stands round another, as the module has it
 pub data Frame : Type 0 where

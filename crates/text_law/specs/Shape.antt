@@ -34,7 +34,7 @@ use Rattle.unit_rules.specs.Unit.{called, source_of}
 use Rattle.claim_law.specs.Bodies.{functions_in}
 use Rattle.claim_law.specs.Told.{built_in_variables}
 use Rattle.text_law.specs.Walks.{Outer, walk}
-use Rattle.text_law.specs.Pairs.{Act, repeats, exit_acts, with_round, loads, stores, enters, updates, bars, Pair, token_of, sites, is_of, Naming, is_flag, AreGuards, IsPlaced}
+use Rattle.text_law.specs.Pairs.{Act, repeats, exit_acts, with_round, loads, stores, enters, updates, bars, Pair, token_of, sites, is_of, Naming, is_flag, AreGuards, StandTogether, IsPlaced}
 
 -- the word of a constant
 abbrev pub constant_word : Source → ℕ → ℕ
@@ -85,12 +85,13 @@ names_in found ns = flat_map (λ (n : ℕ). option_to_list (found (IdOf (id n)))
 abbrev pub outer_of : Source → Naming → TranslationUnit → Function → Outer
 outer_of s found unit f = record { memory = names_in found (memory_ids s f) ++ built_in_variables; functions = map (λ (d : Text × Stmts). d.0) (functions_in unit) }
 
--- A body has the shape of a function: besides `if`s that test flags, its `for`, `switch` and `if` statements and those that do what is seen are these of the reached blocks, each once, those of a block in this order, and each within what stands round it in the module.
+-- A body has the shape of a function: besides `if`s that test flags, its `for`, `switch` and `if` statements and those that do what is seen are these of the reached blocks, each once, those of a block in this order, and each within what stands round it in the module; those of a block's instructions stand directly after one another.
 pub record IsShaped (s : Source) (found : Naming) (o : Outer) (f : Function) (body : Stmts) : Type 0 where
   pub pairs : List Pair
   pub walked : map token_of pairs ≡ walk o body []
   pub guards : AreGuards found is_flag pairs
   pub statements : (b : ℕ) → AllZip (IsPlaced o found) (if (nth (graph f) b).reached then statements_of s f (graph f) b else []) (filter (is_of b) (sites [] pairs))
+  pub together : (b : ℕ) → StandTogether b pairs
 
 -- the name of a function: the entry point's is main
 abbrev pub name_of : ℕ → Naming → Function → Option Text

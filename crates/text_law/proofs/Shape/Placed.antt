@@ -29,6 +29,7 @@ use Rattle.text_law.specs.Pairs.{Act, repeats, branches, selects, exit_acts, wit
 use Rattle.text_law.specs.Quiet.{AreFlags}
 use Rattle.text_law.specs.Paired.{denied}
 use Rattle.text_law.proofs.Shape.Sited.{site, Sited, guard_sites, bare_sites, one_sites, arms_sites, done_sites, behind_sites, region_sites, item_sites, groups_sites}
+use Rattle.text_law.proofs.Shape.Together.{one_if, count, count-both}
 use Rattle.text_law.proofs.Shape.Turned.{told, in_turn, all_of, keys, AreEmpty, AtMostOne, turned}
 
 -- control goes on in no loop's body
@@ -90,10 +91,6 @@ plain-acts terminator.Branch on = refl
 plain-acts terminator.Leave on = refl
 plain-acts terminator.Conditional on = cc
 plain-acts terminator.Switch on = cc
-
-abbrev pub one_if : Bool → ℕ
-one_if true = 1
-one_if false = 0
 
 -- what stands round the first
 abbrev pub behind : List Around → List Around
@@ -174,25 +171,17 @@ module _ (o : Outer) (found : Naming) where
     told_of [] = []
     told_of (s ∷ ss) = (if s.0 == b then whole_of s.0 s.1 else []) ++ told_of ss
 
-    abbrev pub count : List (ℕ × List Around) → ℕ
-    count [] = 0
-    count (s ∷ ss) = one_if (s.0 == b) + count ss
-
     told-both : (xs ys : List (ℕ × List Around)) → told_of (xs ++ ys) ≡ told_of xs ++ told_of ys
     told-both [] ys = refl
     told-both (x ∷ xs) ys =
         ap (λ (l : List (Act × List Around)). (if x.0 == b then whole_of x.0 x.1 else []) ++ l) (told-both xs ys)
         ∙ sym (append_assoc (if x.0 == b then whole_of x.0 x.1 else []) (told_of xs) (told_of ys))
 
-    count-both : (xs ys : List (ℕ × List Around)) → count (xs ++ ys) ≡ count xs + count ys
-    count-both [] ys = omega arith
-    count-both (x ∷ xs) ys = let rest = count-both xs ys in omega (arith, rest)
-
-    told-none : (xs : List (ℕ × List Around)) → count xs ≡ 0 → told_of xs ≡ []
+    told-none : (xs : List (ℕ × List Around)) → count b xs ≡ 0 → told_of xs ≡ []
     told-none [] off = refl
     told-none (x ∷ xs) off = by_test (x.0 == b) off (told-none xs)
       where
-        by_test : (t : Bool) → one_if t + count xs ≡ 0 → (count xs ≡ 0 → told_of xs ≡ []) → (if t then whole_of x.0 x.1 else []) ++ told_of xs ≡ []
+        by_test : (t : Bool) → one_if t + count b xs ≡ 0 → (count b xs ≡ 0 → told_of xs ≡ []) → (if t then whole_of x.0 x.1 else []) ++ told_of xs ≡ []
         by_test true off rest = absurd (omega (arith, off))
         by_test false off rest = rest (omega (arith, off))
 
@@ -297,20 +286,20 @@ module _ (o : Outer) (found : Naming) where
     all-told rnd h (group t labels default x gs) =
         ap (λ (l : List (Act × List Around)). told_of (stands (within (Case h t) ∷ rnd) x) ++ l) (all-told rnd h gs) ∙ sym (told-both (stands (within (Case h t) ∷ rnd) x) (group_stands rnd h gs))
 
-    empty-told : (rnd : List Around) (h : ℕ) (gs : Groups) → count (group_stands rnd h gs) ≡ 0 → AreEmpty (Act × List Around) (groups_told rnd h gs)
+    empty-told : (rnd : List Around) (h : ℕ) (gs : Groups) → count b (group_stands rnd h gs) ≡ 0 → AreEmpty (Act × List Around) (groups_told rnd h gs)
     empty-told rnd h none off = tt
     empty-told rnd h (group t labels default x gs) off =
-        let both = count-both (stands (within (Case h t) ∷ rnd) x) (group_stands rnd h gs) in
+        let both = count-both b (stands (within (Case h t) ∷ rnd) x) (group_stands rnd h gs) in
         (told-none (stands (within (Case h t) ∷ rnd) x) (omega (arith, off, both)), empty-told rnd h gs (omega (arith, off, both)))
 
-    one-told : (rnd : List Around) (h : ℕ) (gs : Groups) → count (group_stands rnd h gs) ≤ 1 → AtMostOne (Act × List Around) (groups_told rnd h gs)
+    one-told : (rnd : List Around) (h : ℕ) (gs : Groups) → count b (group_stands rnd h gs) ≤ 1 → AtMostOne (Act × List Around) (groups_told rnd h gs)
     one-told rnd h none few = tt
     one-told rnd h (group t labels default x gs) few =
-        by_count (count (stands (within (Case h t) ∷ rnd) x)) refl (one-told rnd h gs (let both = count-both (stands (within (Case h t) ∷ rnd) x) (group_stands rnd h gs) in omega (arith, few, both)))
+        by_count (count b (stands (within (Case h t) ∷ rnd) x)) refl (one-told rnd h gs (let both = count-both b (stands (within (Case h t) ∷ rnd) x) (group_stands rnd h gs) in omega (arith, few, both)))
       where
-        by_count : (n : ℕ) → count (stands (within (Case h t) ∷ rnd) x) ≡ n → AtMostOne (Act × List Around) (groups_told rnd h gs) → AtMostOne (Act × List Around) (groups_told rnd h (group t labels default x gs))
+        by_count : (n : ℕ) → count b (stands (within (Case h t) ∷ rnd) x) ≡ n → AtMostOne (Act × List Around) (groups_told rnd h gs) → AtMostOne (Act × List Around) (groups_told rnd h (group t labels default x gs))
         by_count zero off rest = inl (told-none (stands (within (Case h t) ∷ rnd) x) off, rest)
-        by_count (suc n) on rest = inr (empty-told rnd h gs (let both = count-both (stands (within (Case h t) ∷ rnd) x) (group_stands rnd h gs) in omega (arith, few, both, on)))
+        by_count (suc n) on rest = inr (empty-told rnd h gs (let both = count-both b (stands (within (Case h t) ∷ rnd) x) (group_stands rnd h gs) in omega (arith, few, both, on)))
 
     module _ (round : List Pair) where
       abbrev IsHeldArm : Option (List (Act × List Around)) → Option Sited → Type 0
@@ -354,7 +343,7 @@ module _ (o : Outer) (found : Naming) where
     behind-held : (xs : List (Act × List Around)) (ss ts : List Site) → mine b ss ≡ [] → Zip xs (mine b ts) → Zip xs (mine b (ss ++ ts))
     behind-held xs ss ts off held = subst (λ l. Zip xs l) (sym (filter-append (is_of b) ss ts ∙ ap (λ (l : List Site). l ++ mine b ts) off)) held
 
-    switch-held : (p : Place) (h : ℕ) (gs : Groups) (rnd : List Around) (round : List Pair) → IsHere h → is_switch (nth g h).exit ≡ true → targets gs ≡ switch_targets g h → count (group_stands rnd h gs) ≤ 1
+    switch-held : (p : Place) (h : ℕ) (gs : Groups) (rnd : List Around) (round : List Pair) → IsHere h → is_switch (nth g h).exit ≡ true → targets gs ≡ switch_targets g h → count b (group_stands rnd h gs) ≤ 1
         → ((has : ℕ → Option (List (Act × List Around))) (sited : ℕ → Option Sited) → AreHeldArms (chooses h ∷ round) has sited → AreHeldArms (chooses h ∷ round) (update_all nat_eq has (groups_told rnd h gs)) (update_all nat_eq sited (groups_sites w seen (inside_switch p) h gs)))
         → Fits round rnd → Inside p (switch h gs) rnd round
     switch-held p h gs rnd round here is same few each fits =
@@ -390,19 +379,19 @@ module _ (o : Outer) (found : Naming) where
     again-tested h t is = let key = flags.again h t is in ((key.0, t, key.1, key.2, refl), tt)
 
     -- the header of a loop stands in its body alone
-    no-header : (h : ℕ) (i : Item) (r : Region) (zs : List (ℕ × List Around)) (rnd : List Around) → head i ≡ h → is_loop i ≡ false → count (zs ++ stands rnd (item i r)) ≤ 1 → (h == b) ≡ true → told_of zs ≡ []
+    no-header : (h : ℕ) (i : Item) (r : Region) (zs : List (ℕ × List Around)) (rnd : List Around) → head i ≡ h → is_loop i ≡ false → count b (zs ++ stands rnd (item i r)) ≤ 1 → (h == b) ≡ true → told_of zs ≡ []
     no-header h i r zs rnd same off few on = told-none zs (omega (arith, few, both, more, first))
       where
-        both : count (zs ++ stands rnd (item i r)) ≡ count zs + count (stands rnd (item i r))
-        both = count-both zs (stands rnd (item i r))
+        both : count b (zs ++ stands rnd (item i r)) ≡ count b zs + count b (stands rnd (item i r))
+        both = count-both b zs (stands rnd (item i r))
 
-        more : count (stands rnd (item i r)) ≡ one_if (head i == b) + count (kids rnd i ++ stands rnd r)
-        more = ap (λ xs. count (xs ++ stands rnd r)) (kids-are rnd i off)
+        more : count b (stands rnd (item i r)) ≡ one_if (head i == b) + count b (kids rnd i ++ stands rnd r)
+        more = ap (λ xs. count b (xs ++ stands rnd r)) (kids-are rnd i off)
 
         first : one_if (head i == b) ≡ 1
         first = ap (λ k. one_if (k == b)) same ∙ ap one_if on
 
-    on-held : (p : Place) (h : ℕ) (z : Region) (i : Item) (r : Region) (rnd : List Around) (round : List Pair) → head i ≡ h → is_loop i ≡ false → count (stands (within (Cont h) ∷ rnd) z ++ stands (within (Loop h) ∷ rnd) (item i r)) ≤ 1
+    on-held : (p : Place) (h : ℕ) (z : Region) (i : Item) (r : Region) (rnd : List Around) (round : List Pair) → head i ≡ h → is_loop i ≡ false → count b (stands (within (Cont h) ∷ rnd) z ++ stands (within (Loop h) ∷ rnd) (item i r)) ≤ 1
         → Holds (stands (within (Cont h) ∷ rnd) z) (guard_sites (w.again h) name (λ qs. region_sites w seen (inside_loop h true) z qs) (turns h ∷ round))
         → Holds (stands (within (Loop h) ∷ rnd) (item i r)) (site (turns h) round ∷ region_sites w seen (inside_loop h false) (item i r) (turns h ∷ round))
         → Holds (item_stands rnd (loop_on h z (item i r))) (item_sites w seen p (loop_on h z (item i r)) round)
@@ -418,36 +407,36 @@ module _ (o : Outer) (found : Naming) where
         After = region_sites w seen (inside_loop h false) (item i r) (turns h ∷ round)
 
     mutual
-      pub region-held : (p : Place) (r : Region) (n : Next) (rnd : List Around) (round : List Pair) → NotBody n → Follows f g r n → IsWhole w IsHere Chooses Leads r → count (stands rnd r) ≤ 1 → Fits round rnd
+      pub region-held : (p : Place) (r : Region) (n : Next) (rnd : List Around) (round : List Pair) → NotBody n → Follows f g r n → IsWhole w IsHere Chooses Leads r → count b (stands rnd r) ≤ 1 → Fits round rnd
           → Holds (stands rnd r) (region_sites w seen p r round)
       region-held p (ends e) n rnd round not_body follows whole few fits = tt
       region-held p (item i r) (Stop e) rnd round not_body follows whole few fits = absurd follows
       region-held p (item i r) (At (Body h)) rnd round not_body follows whole few fits = absurd not_body
       region-held p (item (plain h) r) (At (Block t)) rnd round not_body follows whole few fits =
-          let both = count-both (item_stands rnd (plain h)) (stands rnd r) in
+          let both = count-both b (item_stands rnd (plain h)) (stands rnd r) in
           joined (item_stands rnd (plain h)) (stands rnd r) (item_sites w seen p (plain h) round) (region_sites w seen p r round)
           (unlooped p (plain h) rnd round refl (heads-are (plain h) t follows.0) (item-held p (plain h) rnd round refl follows.1 whole.0 (omega arith) fits))
           (region-held p r follows.2.0 rnd round (behind-off f g (Block t) follows.2.0 follows.2.1) follows.2.2 whole.2 (omega (arith, few, both)) fits)
       region-held p (item (choose h x y) r) (At (Block t)) rnd round not_body follows whole few fits =
-          let both = count-both (item_stands rnd (choose h x y)) (stands rnd r) in
+          let both = count-both b (item_stands rnd (choose h x y)) (stands rnd r) in
           joined (item_stands rnd (choose h x y)) (stands rnd r) (item_sites w seen p (choose h x y) round) (region_sites w seen p r round)
           (unlooped p (choose h x y) rnd round refl (heads-are (choose h x y) t follows.0) (item-held p (choose h x y) rnd round refl follows.1 whole.0 (omega (arith, few, both)) fits))
           (region-held p r follows.2.0 rnd round (behind-off f g (Block t) follows.2.0 follows.2.1) follows.2.2 whole.2 (omega (arith, few, both)) fits)
       region-held p (item (loose h x y) r) (At (Block t)) rnd round not_body follows whole few fits =
-          let both = count-both (item_stands rnd (loose h x y)) (stands rnd r) in
+          let both = count-both b (item_stands rnd (loose h x y)) (stands rnd r) in
           joined (item_stands rnd (loose h x y)) (stands rnd r) (item_sites w seen p (loose h x y) round) (region_sites w seen p r round)
           (unlooped p (loose h x y) rnd round refl (heads-are (loose h x y) t follows.0) (item-held p (loose h x y) rnd round refl follows.1 whole.0 (omega (arith, few, both)) fits))
           (region-held p r follows.2.0 rnd round (behind-off f g (Block t) follows.2.0 follows.2.1) follows.2.2 whole.2 (omega (arith, few, both)) fits)
       region-held p (item (switch h gs) r) (At (Block t)) rnd round not_body follows whole few fits =
-          let both = count-both (item_stands rnd (switch h gs)) (stands rnd r) in
+          let both = count-both b (item_stands rnd (switch h gs)) (stands rnd r) in
           joined (item_stands rnd (switch h gs)) (stands rnd r) (item_sites w seen p (switch h gs) round) (region_sites w seen p r round)
           (unlooped p (switch h gs) rnd round refl (heads-are (switch h gs) t follows.0) (item-held p (switch h gs) rnd round refl follows.1 whole.0 (omega (arith, few, both)) fits))
           (region-held p r follows.2.0 rnd round (behind-off f g (Block t) follows.2.0 follows.2.1) follows.2.2 whole.2 (omega (arith, few, both)) fits)
       region-held p (item (loop h (ends e)) r) (At (Block t)) rnd round not_body follows whole few fits = (let never = follows.1.1 in cc)
       region-held p (item (loop h (item j q)) r) (At (Block t)) rnd round not_body follows whole few fits =
-          let both = count-both (item_stands rnd (loop h (item j q))) (stands rnd r) in
-          let parts = count-both (item_stands (within (Loop h) ∷ rnd) j) (stands (within (Loop h) ∷ rnd) q) in
-          let own_count = ap count (kids-are (within (Loop h) ∷ rnd) j follows.1.1.0.1) in
+          let both = count-both b (item_stands rnd (loop h (item j q))) (stands rnd r) in
+          let parts = count-both b (item_stands (within (Loop h) ∷ rnd) j) (stands (within (Loop h) ∷ rnd) q) in
+          let own_count = ap (count b) (kids-are (within (Loop h) ∷ rnd) j follows.1.1.0.1) in
           let body = follows.1.1 in
           joined (item_stands rnd (loop h (item j q))) (stands rnd r) (item_sites w seen p (loop h (item j q)) round) (region_sites w seen p r round)
           (looped (inside_loop h false) h j q rnd round body.0.0 body.0.1 (heads-are (loop h (item j q)) t follows.0) fits
@@ -456,10 +445,10 @@ module _ (o : Outer) (found : Naming) where
           (region-held p r follows.2.0 rnd round (behind-off f g (Block t) follows.2.0 follows.2.1) follows.2.2 whole.2 (omega (arith, few, both)) fits)
       region-held p (item (loop_on h z (ends e)) r) (At (Block t)) rnd round not_body follows whole few fits = (let never = follows.1.1 in cc)
       region-held p (item (loop_on h z (item j q)) r) (At (Block t)) rnd round not_body follows whole few fits =
-          let both = count-both (item_stands rnd (loop_on h z (item j q))) (stands rnd r) in
-          let halves = count-both (stands (within (Cont h) ∷ rnd) z) (stands (within (Loop h) ∷ rnd) (item j q)) in
-          let parts = count-both (item_stands (within (Loop h) ∷ rnd) j) (stands (within (Loop h) ∷ rnd) q) in
-          let own_count = ap count (kids-are (within (Loop h) ∷ rnd) j follows.1.1.0.1) in
+          let both = count-both b (item_stands rnd (loop_on h z (item j q))) (stands rnd r) in
+          let halves = count-both b (stands (within (Cont h) ∷ rnd) z) (stands (within (Loop h) ∷ rnd) (item j q)) in
+          let parts = count-both b (item_stands (within (Loop h) ∷ rnd) j) (stands (within (Loop h) ∷ rnd) q) in
+          let own_count = ap (count b) (kids-are (within (Loop h) ∷ rnd) j follows.1.1.0.1) in
           let body = follows.1.1 in
           let flag = again h follows.1.0.0 (subst IsHere body.0.0 (head-here j body.0.1 whole.0.1.0)) follows.1.0.1 in
           joined (item_stands rnd (loop_on h z (item j q))) (stands rnd r) (item_sites w seen p (loop_on h z (item j q)) round) (region_sites w seen p r round)
@@ -470,18 +459,18 @@ module _ (o : Outer) (found : Naming) where
           (region-held (inside_loop h false) q body.2.0 (within (Loop h) ∷ rnd) (turns h ∷ round) (behind-off f g (Body h) body.2.0 body.2.1) body.2.2 whole.0.1.2 (omega (arith, few, both, halves, parts)) (ap (λ (l : List Frame). turn h ∷ l) fits.0, (tt, fits.1)))))
           (region-held p r follows.2.0 rnd round (behind-off f g (Block t) follows.2.0 follows.2.1) follows.2.2 whole.2 (omega (arith, few, both)) fits)
 
-      item-held : (p : Place) (i : Item) (rnd : List Around) (round : List Pair) → is_loop i ≡ false → FollowsItem f g i → IsWholeItem w IsHere Chooses Leads i → count (kids rnd i) ≤ 1 → Fits round rnd → Inside p i rnd round
+      item-held : (p : Place) (i : Item) (rnd : List Around) (round : List Pair) → is_loop i ≡ false → FollowsItem f g i → IsWholeItem w IsHere Chooses Leads i → count b (kids rnd i) ≤ 1 → Fits round rnd → Inside p i rnd round
       item-held p (plain h) rnd round off follows whole few fits =
           subst (λ l. Zip l (mine b (done_sites w seen h round))) (sym (append-nil (if h == b then inner h rnd else [])))
           (subst (λ l. Zip (if h == b then inner h rnd else []) (mine b l)) (append-nil (done_sites w seen h round))
           (own h rnd round [] [] whole fits (plain-acts (nth g h).exit follows) tt (λ on. refl) (λ away. refl)))
       item-held p (choose h x y) rnd round off follows whole few fits =
-          let both = count-both (stands (within (If h) ∷ rnd) x) (stands (within (If h) ∷ rnd) y) in
+          let both = count-both b (stands (within (If h) ∷ rnd) x) (stands (within (If h) ∷ rnd) y) in
           two-held p h x y rnd (within (If h) ∷ rnd) round whole.0.0 follows.0 fits
           (region-held p x follows.2.0 (within (If h) ∷ rnd) (tests h (w.condition h) ∷ round) (carried f g h (target g h 0) follows.2.0 follows.2.1) follows.2.2 whole.2 (omega (arith, few, both)) (ap (λ (l : List Frame). test h ∷ l) fits.0, (tt, fits.1)))
           (region-held p y follows.3.0 (within (If h) ∷ rnd) (tests h (w.condition h) ∷ round) (carried f g h (target g h 1) follows.3.0 follows.3.1) follows.3.2 whole.3 (omega (arith, few, both)) (ap (λ (l : List Frame). test h ∷ l) fits.0, (tt, fits.1)))
       item-held p (loose h x y) rnd round off follows whole few fits =
-          let both = count-both (stands (branch h ∷ rnd) x) (stands (branch h ∷ rnd) y) in
+          let both = count-both b (stands (branch h ∷ rnd) x) (stands (branch h ∷ rnd) y) in
           two-held p h x y rnd (branch h ∷ rnd) round whole.0.0 follows.0 fits
           (region-held p x follows.2.0 (branch h ∷ rnd) (tests h (w.condition h) ∷ round) (carried f g h (target g h 0) follows.2.0 follows.2.1) follows.2.2 whole.2 (omega (arith, few, both)) (ap (λ (l : List Frame). test h ∷ l) fits.0, (tt, fits.1)))
           (region-held p y follows.3.0 (branch h ∷ rnd) (tests h (w.condition h) ∷ round) (carried f g h (target g h 1) follows.3.0 follows.3.1) follows.3.2 whole.3 (omega (arith, few, both)) (ap (λ (l : List Frame). test h ∷ l) fits.0, (tt, fits.1)))
@@ -490,12 +479,12 @@ module _ (o : Outer) (found : Naming) where
       item-held p (switch h gs) rnd round off follows whole few fits =
           switch-held p h gs rnd round whole.0.0 follows.0 follows.1 few (λ has sited each. groups-held (inside_switch p) h gs rnd round follows.2 whole.2 few fits has sited each) fits
 
-      groups-held : (p : Place) (h : ℕ) (gs : Groups) (rnd : List Around) (round : List Pair) → FollowsGroups f g gs h → AreWhole w IsHere Chooses Leads h gs → count (group_stands rnd h gs) ≤ 1 → Fits round rnd
+      groups-held : (p : Place) (h : ℕ) (gs : Groups) (rnd : List Around) (round : List Pair) → FollowsGroups f g gs h → AreWhole w IsHere Chooses Leads h gs → count b (group_stands rnd h gs) ≤ 1 → Fits round rnd
           → (has : ℕ → Option (List (Act × List Around))) (sited : ℕ → Option Sited) → AreHeldArms (chooses h ∷ round) has sited
           → AreHeldArms (chooses h ∷ round) (update_all nat_eq has (groups_told rnd h gs)) (update_all nat_eq sited (groups_sites w seen p h gs))
       groups-held p h none rnd round follows whole few fits has sited each = each
       groups-held p h (group t labels default x gs) rnd round follows whole few fits has sited each =
-          let both = count-both (stands (within (Case h t) ∷ rnd) x) (group_stands rnd h gs) in
+          let both = count-both b (stands (within (Case h t) ∷ rnd) x) (group_stands rnd h gs) in
           groups-held p h gs rnd round follows.3 whole.3 (omega (arith, few, both)) fits
           (update nat_eq has t (Some (told_of (stands (within (Case h t) ∷ rnd) x)))) (update nat_eq sited t (Some (λ within_it. guard_sites (w.fell t) denied bare_sites within_it ++ region_sites w seen p x within_it)))
           (updated-held (chooses h ∷ round) has sited t (Some (told_of (stands (within (Case h t) ∷ rnd) x))) (Some (λ within_it. guard_sites (w.fell t) denied bare_sites within_it ++ region_sites w seen p x within_it)) each

@@ -23,7 +23,8 @@ use Rattle.text_law.specs.Paired.{region_pairs}
 use Rattle.text_law.specs.Shape.{acts_at, statements_of, IsShaped}
 use Rattle.text_law.proofs.Shape.Walked.{walk-both, region-walked}
 use Rattle.text_law.proofs.Shape.Sited.{region_sites, region-sited}
-use Rattle.text_law.proofs.Shape.Placed.{NotBody, one_if, behind, whole_of, told_of, count, region-held}
+use Rattle.text_law.proofs.Shape.Together.{one_if, count, region-together}
+use Rattle.text_law.proofs.Shape.Placed.{NotBody, behind, whole_of, told_of, region-held}
 use Rattle.text_law.proofs.Shape.Guarded.{region-keeps}
 
 first-off : (g : List Node) → NotBody (first g)
@@ -50,9 +51,6 @@ module _ (s : Source) (found : Naming) (o : Outer) (f : Function) (w : Blocks) (
     abbrev Told : List (ℕ × List Around) → List (Act × List Around)
     Told xs = told_of o found f g w seen (acts_at s f) IsHere Chooses Leads done again flags orders b xs
 
-    abbrev Count : List (ℕ × List Around) → ℕ
-    Count xs = count o found f g w seen (acts_at s f) IsHere Chooses Leads done again flags orders b xs
-
     abbrev Whole : ℕ → List Around → List (Act × List Around)
     Whole h ps = whole_of o found f g w seen (acts_at s f) IsHere Chooses Leads done again flags orders b h ps
 
@@ -67,11 +65,11 @@ module _ (s : Source) (found : Naming) (o : Outer) (f : Function) (w : Blocks) (
         by_test true on rest = ap (λ (l : List (Act × List Around)). Whole x.0 x.1 ++ l) rest ∙ ap (λ (t : Bool). (if t then Whole x.0 x.1 else []) ++ Told (chosen xs)) (sym on)
         by_test false off rest = rest
 
-    count-chosen : (xs : List (ℕ × List Around)) → Count xs ≡ length (chosen xs)
+    count-chosen : (xs : List (ℕ × List Around)) → count b xs ≡ length (chosen xs)
     count-chosen [] = refl
     count-chosen (x ∷ xs) = by_test (x.0 == b) (count-chosen xs)
       where
-        by_test : (t : Bool) → Count xs ≡ length (chosen xs) → one_if t + Count xs ≡ length (if t then x ∷ chosen xs else chosen xs)
+        by_test : (t : Bool) → count b xs ≡ length (chosen xs) → one_if t + count b xs ≡ length (if t then x ∷ chosen xs else chosen xs)
         by_test true rest = omega (arith, rest)
         by_test false rest = omega (arith, rest)
 
@@ -93,10 +91,10 @@ module _ (s : Source) (found : Naming) (o : Outer) (f : Function) (w : Blocks) (
         by_test true on = append-nil (Whole b (around g b)) ∙ whole-is
         by_test false off = cc
 
-    few : Count (stands [] r) ≤ 1
+    few : count b (stands [] r) ≤ 1
     few = let size = count-chosen (stands [] r) ∙ ap length (once b) in by_test (nth g b).reached size
       where
-        by_test : (t : Bool) → Count (stands [] r) ≡ length (if t then entry ∷ [] else []) → Count (stands [] r) ≤ 1
+        by_test : (t : Bool) → count b (stands [] r) ≡ length (if t then entry ∷ [] else []) → count b (stands [] r) ≤ 1
         by_test true size = omega (arith, size)
         by_test false size = omega (arith, size)
 
@@ -113,4 +111,5 @@ module _ (s : Source) (found : Naming) (o : Outer) (f : Function) (w : Blocks) (
     walked = region-walked o w seen IsHere Chooses Leads are outside r whole [] ∙ sym (walk-both o top (function_text w r) [] ∙ quiet (walk o (stmts_in (function_text w r)) []));
     guards = region-keeps found w seen flags outside r [] tt;
     statements = placed;
+    together = λ b. region-together b w seen outside r (few b);
   }
