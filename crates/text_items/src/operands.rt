@@ -13,7 +13,7 @@ use spv_ops::{IdWords, id_words};
 use std::alloc::{AllocError, Global};
 
 /// Adds ids.
-#[inline(never)]
+#[inline(always)]
 pub fn add_ids(ids: &mut IdSet, words: &[u32]) -> Result<(), AllocError>
     ensures { OnOk result ((id : ℕ) → is_in ids.new id ≡ (is_in ids.old id || list_any (λ word. word == id) words.now)) }
 {
