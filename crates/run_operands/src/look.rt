@@ -7,6 +7,7 @@ ghost use Rattle.value_ops.specs.References.{plain_references};
 ghost use Rattle.memory_places.specs.Kernel.{plain};
 ghost use Rattle.run_state.specs.Ids.{ids_of, held_of, found_of};
 ghost use Rattle.run_operands.specs.Targets.{target_of};
+ghost use Rattle.run_operands.specs.Found.{WasFound};
 ghost use Rattle.run_operands.specs.Looks.{held_by, value_by, word_by, truth_by, pointer_by, values_by, words_by};
 
 use memory_places::MemoryMap;
@@ -127,6 +128,25 @@ pub fn pointer<'s>(map: &'s MemoryMap<'_>, ids: &'s Ids, id: u32) -> Option<(Roo
     }
 }
 
+/// What is found of each of these, up to one of which nothing is.
+fn each<T: Copy, F: Fn(u32) -> Option<T>>(
+    alloc: Global,
+    list: &[u32],
+    find: F,
+) -> Result<Option<Vec<T>>, Memory>
+    requires { F.IsAlwaysCallable find }
+    ensures { IfOk result (λ all. WasFound (F.post find) list.now (option_map (λ v. v.items) all)) }
+{
+    let mut all = Vec::with_capacity(alloc, list.len())?;
+    for id in list {
+        match find(*id) {
+            None => return Ok(None),
+            Some(found) => all.push(found)?,
+        }
+    }
+    Ok(Some(all))
+}
+
 /// The values of operands, where each has one.
 pub fn values<'s>(
     alloc: Global,
@@ -136,14 +156,7 @@ pub fn values<'s>(
 ) -> Result<Option<Vec<&'s Value>>, Memory>
     ensures { IfOk result (λ all. option_map plain_references all ≡ values_by map.now (ids_of ids.now) list.now) }
 {
-    let mut all = Vec::with_capacity(alloc, list.len())?;
-    for id in list {
-        match value(map, ids, *id) {
-            None => return Ok(None),
-            Some(value) => all.push(value)?,
-        }
-    }
-    Ok(Some(all))
+    each(alloc, list, |id| value(map, ids, id))
 }
 
 /// The words of operands, where each has one.
@@ -155,12 +168,5 @@ pub fn words(
 ) -> Result<Option<Vec<u32>>, Memory>
     ensures { IfOk result (λ all. option_map (λ v. v.items) all ≡ words_by map.now (ids_of ids.now) list.now) }
 {
-    let mut all = Vec::with_capacity(alloc, list.len())?;
-    for id in list {
-        match word(map, ids, *id) {
-            None => return Ok(None),
-            Some(word) => all.push(word)?,
-        }
-    }
-    Ok(Some(all))
+    each(alloc, list, |id| word(map, ids, id))
 }
