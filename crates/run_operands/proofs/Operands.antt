@@ -1,10 +1,11 @@
 -- What operands have, one after another.
-use Rattle.std.proofs.Common.{◌≡◌, ℕ, List, [], ◌∷◌, refl, ap, ◌∙◌, subst, length, arith}
+use Rattle.std.proofs.Common.{◌≡◌, ◌<◌, ◌+◌, ℕ, List, [], ◌∷◌, ◌++◌, refl, ap, sym, ◌∙◌, subst, append_assoc, add-one, length, drop, arith}
 use Rattle.std.specs.Prelude.{Option, Some, None, Result, IfOk, option_map, option_and_then, slice_index}
+use Rattle.std.proofs.Math.Seq.{drop-cons}
 use Rattle.spv_module.specs.declared.tree.Value.{Value}
 use Rattle.spv_types.specs.Tree.{ValueTree}
 use Rattle.spv_types.specs.View.{value_of}
-use Rattle.op_semantics.specs.Component.{before}
+use Rattle.op_semantics.specs.Component.{before, each_one}
 use Rattle.module_semantics.specs.State as state
 use Rattle.module_semantics.specs.Setting.{global_variable}
 use Rattle.module_semantics.specs.Operands.{of_module}
@@ -37,6 +38,25 @@ second_none f None y o h = refl
 second_none f (Some a) y o h = ap (λ y. option_and_then f (before (Some a) (before y o))) h
 
 pub ruleset two_rules = (first_none, second_none)
+
+module _ {B : Type 0} (f : ℕ → Option B) (ids : List ℕ) (i : ℕ) (inside : i < length ids) where
+  each_at : each_one f (drop i ids) ≡ before (f (slice_index ids i)) (each_one f (drop (i + 1) ids))
+  each_at = ap (each_one f) (drop-cons ids i 0 inside) ∙ ap (λ n. before (f (slice_index ids i)) (each_one f (drop n ids))) (sym (add-one i))
+
+  -- what was found so far, up to one that has none
+  pub none_here : (vs : List B) → None ≡ f (slice_index ids i) → option_map (λ (rest : List B). vs ++ rest) (each_one f (drop i ids)) ≡ each_one f ids → None ≡ each_one f ids
+  none_here vs none whole = sym (ap (option_map (λ (rest : List B). vs ++ rest)) (each_at ∙ ap (λ o. before o (each_one f (drop (i + 1) ids))) (sym none))) ∙ whole
+
+  pub one_more : (vs : List B) (v : B) → Some v ≡ f (slice_index ids i) → option_map (λ (rest : List B). vs ++ rest) (each_one f (drop i ids)) ≡ each_one f ids → option_map (λ (rest : List B). (vs ++ v ∷ []) ++ rest) (each_one f (drop (i + 1) ids)) ≡ each_one f ids
+  one_more vs v some whole =
+      pushed vs v (each_one f (drop (i + 1) ids))
+      ∙ ap (λ o. option_map (λ (rest : List B). vs ++ rest) (before o (each_one f (drop (i + 1) ids)))) some
+      ∙ ap (option_map (λ (rest : List B). vs ++ rest)) (sym each_at)
+      ∙ whole
+    where
+      pushed : (vs : List B) (v : B) (rest : Option (List B)) → option_map (λ (l : List B). (vs ++ v ∷ []) ++ l) rest ≡ option_map (λ (l : List B). vs ++ l) (before (Some v) rest)
+      pushed vs v None = refl
+      pushed vs v (Some l) = ap Some (append_assoc vs (v ∷ []) l)
 
 -- lists of one and of two
 pub one_list : (xs : List ℕ) → length xs ≡ 1 → slice_index xs 0 ∷ [] ≡ xs
