@@ -16,3 +16,4 @@ mod variables;
 
 pub use map::MemoryMap;
 pub use starts::{Start, as_variable, class_of};
+pub use types::word_in;

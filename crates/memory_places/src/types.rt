@@ -125,7 +125,8 @@ fn word_of(value: Option<&Value>) -> Option<u32>
     }
 }
 
-fn word_in(value: &Value) -> Option<u32>
+/// The word of a value that is one.
+pub fn word_in(value: &Value) -> Option<u32>
     ensures { result ≡ as_word (Some (tree_of_value value.now)) }
 {
     match value {

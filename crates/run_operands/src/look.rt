@@ -1,7 +1,7 @@
 // What operands have.
 ghost use Rattle.std.specs.Prelude.{◌≡◌, IfOk, Some, None, option_map, option_and_then};
 ghost use Rattle.module_semantics.specs.State as state;
-ghost use Rattle.module_semantics.specs.Operands.{of_module, as_value, as_word, as_truth};
+ghost use Rattle.module_semantics.specs.Operands.{of_module, as_truth};
 ghost use Rattle.spv_types.specs.View.{value_of};
 ghost use Rattle.value_ops.specs.References.{plain_references};
 ghost use Rattle.memory_places.specs.Kernel.{plain};
@@ -10,7 +10,7 @@ ghost use Rattle.run_operands.specs.Targets.{target_of};
 ghost use Rattle.run_operands.specs.Found.{WasFound};
 ghost use Rattle.run_operands.specs.Looks.{held_by, value_by, word_by, truth_by, pointer_by, values_by, words_by};
 
-use memory_places::MemoryMap;
+use memory_places::{MemoryMap, word_in};
 use run_state::{Found, Held, Ids, Root};
 use spv_module::Value;
 use spv_words::Memory;
@@ -76,17 +76,6 @@ pub fn value<'s>(map: &'s MemoryMap<'_>, ids: &'s Ids, id: u32) -> Option<&'s Va
     }
 }
 
-/// The word of a value that is one.
-#[tactic(auto, using(spv_types::proofs::Views::value_rows))]
-fn as_a_word(value: &Value) -> Option<u32>
-    ensures { result ≡ as_word (Some (value_of value.now)) }
-{
-    match value {
-        Value::Word(word) => Some(*word),
-        Value::Bool(_) | Value::Many(_) => None,
-    }
-}
-
 /// The truth value of a value that is one.
 #[tactic(auto, using(spv_types::proofs::Views::value_rows))]
 fn as_a_truth(value: &Value) -> Option<bool>
@@ -114,7 +103,7 @@ pub fn word(map: &MemoryMap<'_>, ids: &Ids, id: u32) -> Option<u32>
 {
     match value(map, ids, id) {
         None => None,
-        Some(value) => as_a_word(value),
+        Some(value) => word_in(value),
     }
 }
 
