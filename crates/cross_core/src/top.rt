@@ -7,7 +7,7 @@ ghost use Rattle.typed_law.specs.Words.{AreGivenWords};
 ghost use Rattle.command_line.specs.Commands.{command_of as command_named};
 ghost use Rattle.command_line.specs.Asked.{bytes_of};
 ghost use Rattle.cross_core.specs.Answers.{IsAnswer, above};
-ghost use Rattle.command_line.specs.Endings.{IsCause, HasCause, ReadFails, IsRead, IsReadBy, IsOutput};
+ghost use Rattle.command_line.specs.Endings.{IsCause, HasCause, ReadFails, IsRead, IsOutput};
 ghost use Rattle.command_line.specs.Carried.{Carried, IsComplete, IsTurnedAway};
 ghost use Rattle.command_line.specs.Wrote.{Said};
 
@@ -63,24 +63,6 @@ fn run_on_generated<K: Sink>(
     }
 }
 
-/// Carries out a command.
-fn run<S: Source, K: Sink>(
-    alloc: Global,
-    command: &Command,
-    input: &mut S,
-    output: &mut K,
-) -> Ending
-    requires { AreGivenWords command.now.options.overrides }
-    ensures cause { HasCause command.now.options (above command.now) (bytes_of command.now (S.left input.old)) (ReadFails command.now.pieces (S.faults input.old) (S.faults input.new)) result }
-    ensures read { IsReadBy command.now.pieces (input.new ≡ input.old) (S.left input.old) (S.left input.new) result }
-    ensures output { IsOutput K.written K.faults (IsAnswer command.now (bytes_of command.now (S.left input.old))) output.old output.new result }
-{
-    match command.pieces() {
-        None => run_on_input(alloc, command, input, output),
-        Some(pieces) => run_on_generated(alloc, command, pieces, output),
-    }
-}
-
 /// Carries out a command, and says how it ended.
 fn carry_out<S: Source, K: Sink, N: Sink>(
     alloc: Global,
@@ -97,7 +79,10 @@ fn carry_out<S: Source, K: Sink, N: Sink>(
         (λ ending. IsOutput K.written K.faults (IsAnswer command.now (bytes_of command.now (S.left input.old))) output.old output.new ending)
         (λ line. Said N.written N.faults N.wants notes.old notes.new line) (notes.new ≡ notes.old) result }
 {
-    let ending = run(alloc, command, input, output);
+    let ending = match command.pieces() {
+        None => run_on_input(alloc, command, input, output),
+        Some(pieces) => run_on_generated(alloc, command, pieces, output),
+    };
     say(ending, notes);
     ending.status()
 }
