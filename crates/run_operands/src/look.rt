@@ -1,9 +1,9 @@
 // What operands have.
 ghost use Rattle.std.specs.Prelude.{◌≡◌, IfOk, Some, None, option_map, option_and_then};
-ghost use Rattle.module_semantics.specs.State as state;
-ghost use Rattle.module_semantics.specs.Operands.{of_module, as_truth};
 ghost use Rattle.spv_types.specs.View.{value_of};
 ghost use Rattle.value_ops.specs.References.{plain_references};
+ghost use Rattle.module_semantics.specs.State as state;
+ghost use Rattle.module_semantics.specs.Operands.{of_module, as_truth};
 ghost use Rattle.memory_places.specs.Kernel.{plain};
 ghost use Rattle.run_state.specs.Ids.{ids_of, held_of, found_of};
 ghost use Rattle.run_operands.specs.Targets.{target_of};
