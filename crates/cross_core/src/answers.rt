@@ -130,13 +130,24 @@ fn written<K: Sink>(
     }
 }
 
-/// The module in these bytes, which are given back once it is read.
+/// The module in these bytes, which are octets, as their type says.
+fn read_octets(alloc: Global, bytes: &[u8]) -> Result<Module, Fault>
+    requires { length bytes.now ≤ limit_number Bytes }
+    ensures read { IfOk result (IsReadFrom bytes.now) }
+    ensures refused { IfErr result (IsUnread bytes.now) }
+    ensures octets { AreBytes bytes.now }
+{
+    read_module(alloc, bytes)
+}
+
+/// The module in these bytes, which are given back once it is read: its words hold all that is asked for.
 fn read_given(alloc: Global, bytes: Vec<u8>) -> Result<Module, Fault>
     requires { length bytes.items ≤ limit_number Bytes }
     ensures read { IfOk result (IsReadFrom bytes.items) }
     ensures refused { IfErr result (IsUnread bytes.items) }
+    ensures octets { AreBytes bytes.items }
 {
-    read_module(alloc, &bytes)
+    read_octets(alloc, &bytes)
 }
 
 /// Reads a module and writes the answer to a command on it; where it has a fault, nothing. The module is not given back.
@@ -147,7 +158,6 @@ fn answered<K: Sink>(
     output: &mut K,
 ) -> Result<Ending, Fault>
     requires short { length bytes.items ≤ limit_number Bytes }
-    requires octets { AreBytes bytes.items }
     requires given { AreGivenWords command.now.options.overrides }
     ensures end { IfOk result (IsEndOfTask (above command.now bytes.items)) }
     ensures passes { OnOk result (Conforms bytes.items command.now.options × IsWithinLimits bytes.items command.now.options) }
@@ -174,7 +184,6 @@ fn answered<K: Sink>(
 #[tactic(auto, using(command_line::proofs::Ends::met_cause, command_line::proofs::Ends::fault_cause))]
 pub fn answer<K: Sink>(alloc: Global, command: &Command, bytes: Vec<u8>, output: &mut K) -> Ending
     requires short { length bytes.items ≤ limit_number Bytes }
-    requires octets { AreBytes bytes.items }
     requires given { AreGivenWords command.now.options.overrides }
     ensures cause { IsCause command.now.options (above command.now bytes.items) bytes.items result }
     ensures output { IsOutput K.written K.faults (IsAnswer command.now (Some bytes.items)) output.old output.new result }

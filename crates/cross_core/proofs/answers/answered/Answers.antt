@@ -17,7 +17,7 @@ returns-in_err-module-clause-refused g c =
 pub written-requires-clause-given : goal.written-requires-clause-given
 written-requires-clause-given g c = record {
   read = record { bytes = c.args.bytes.items; is = c.in_ok-module.ensures.read };
-  octets = c.requires.octets;
+  octets = c.in_ok-module.ensures.octets;
   words = subst (λ (p : Options). AreGivenWords p.overrides) (sym c.options.ensures) c.requires.given;
 }
 

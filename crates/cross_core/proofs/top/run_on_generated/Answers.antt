@@ -1,11 +1,7 @@
 use Rattle.std.proofs.Common.{ℕ, List, subst}
 use Rattle.command_line.specs.Endings.{IsCause}
 use Rattle.cross_core.specs.Answers.{above}
-use Rattle.cross_core.proofs.Given.{are_bytes}
 use Rattle.cross_core.proofs.top.run_on_generated.Goals as goal
-
-pub answer-requires-clause-octets : goal.answer-requires-clause-octets
-answer-requires-clause-octets g c = are_bytes c.in-Ok.bytes.items c.type_inv.bytes
 
 pub returns-else-len-number-clause-cause : goal.returns-else-len-number-clause-cause
 returns-else-len-number-clause-cause g c = subst (λ (b : List ℕ). IsCause c.args.command.now.options (above c.args.command.now b) b c.answer.result) c.in-Ok.ensures c.answer.ensures.cause

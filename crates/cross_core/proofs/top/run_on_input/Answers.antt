@@ -2,12 +2,8 @@ use Rattle.std.proofs.Common.{inr, refl}
 use Rattle.cross_core.specs.Answers.{IsAnswer, above}
 use Rattle.std.specs.Prelude.{Some}
 use Rattle.command_line.proofs.Ends.{has_cause, read_to_end}
-use Rattle.cross_core.proofs.Given.{are_bytes}
 use Rattle.cross_core.proofs.Outputs.{output_of, answer_on_left}
 use Rattle.cross_core.proofs.top.run_on_input.Goals as goal
-
-pub answer-requires-clause-octets : goal.answer-requires-clause-octets
-answer-requires-clause-octets g c = are_bytes c.in-Ok.bytes.items c.type_inv.bytes
 
 pub returns-in-Ok-clause-cause : goal.returns-in-Ok-clause-cause
 returns-in-Ok-clause-cause g c = has_cause _ (above c.args.command.now) _ _ _ _ c.in-Ok.ensures.all c.answer.ensures.cause
