@@ -7,6 +7,7 @@ use spv_module::{Elem, Id, Inst, Module};
 use spv_ops::Op;
 
 /// The scalar type that an instruction declares.
+#[inline(always)]
 #[tactic(auto, unfolding(spv_types::specs::Types::kind))]
 pub(crate) fn scalar(inst: &Inst) -> Option<Elem>
     ensures { (gs : List InstOf) → result ≡ option_and_then elem_of (tree_at gs inst.now) }
@@ -20,6 +21,7 @@ pub(crate) fn scalar(inst: &Inst) -> Option<Elem>
 }
 
 /// The scalar type with this id: bool, or an integer of 32 bits (SPIR-V 1.6, OpTypeBool and OpTypeInt).
+#[inline(always)]
 pub fn scalar_type(module: &Module, ty: u32) -> Option<Elem>
     ensures { result ≡ option_and_then elem_of (type_tree «module».now.globals ty) }
 {
