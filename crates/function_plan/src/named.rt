@@ -1,5 +1,5 @@
 // Which results of a function have names, and which instructions are live.
-ghost use Rattle.std.specs.Prelude.{◌≡◌, ◌||◌, ◌==◌, ℕ, IfOk, OnOk};
+ghost use Rattle.std.specs.Prelude.{◌≡◌, ◌||◌, ℕ, IfOk, OnOk};
 ghost use Rattle.std.specs.List.{list_any};
 ghost use Rattle.id_map.specs.Entries.{is_in};
 ghost use Rattle.hoist_plan.specs.Kept.{form_in, is_carried_in};
@@ -8,7 +8,7 @@ ghost use Rattle.function_plan.specs.Planned.{has_name_by, has_name as has_name_
 use crate::moves::is_gone;
 use crate::nodes::is_reached;
 use hoist_plan::{Form, Naming};
-use id_map::IdSet;
+use id_map::{IdSet, Span};
 use spv_module::{Block, Function, Id, Inst};
 use spv_ops::Op;
 use spv_words::Memory;
@@ -34,18 +34,29 @@ fn has_name(naming: &Naming, reached: bool, inst: &Inst) -> bool
     has_name_of(naming.of(Id(inst.result)), reached, inst.op == Op::Variable)
 }
 
+/// The span of the results of blocks.
+fn results_of(blocks: &[Block]) -> Span {
+    let mut span = Span::new();
+    for block in blocks {
+        for inst in block.insts.as_slice() {
+            span.add(inst.result);
+        }
+    }
+    span
+}
+
 /// Adds the results of a block that have names.
 fn add_named(
-    ids: &mut Vec<u32>,
+    ids: &mut IdSet,
     naming: &Naming,
     reached: bool,
     block: &Block,
 ) -> Result<(), AllocError>
-    ensures { OnOk result ((id : ℕ) → list_any (λ n. n == id) ids.new.items ≡ (list_any (λ n. n == id) ids.old.items || list_any (names_id (form_in naming.now) reached id) block.now.insts)) }
+    ensures { OnOk result ((id : ℕ) → is_in ids.new id ≡ (is_in ids.old id || list_any (names_id (form_in naming.now) reached id) block.now.insts)) }
 {
     for inst in block.insts.as_slice() {
         if has_name(naming, reached, inst) {
-            ids.push(inst.result)?;
+            ids.insert(inst.result)?;
         }
     }
     Ok(())
@@ -57,25 +68,14 @@ fn named_in(
     blocks: &[Block],
     nodes: &[Node],
     naming: &Naming,
-) -> Result<Vec<u32>, AllocError>
-    ensures { IfOk result (λ ids. (id : ℕ) → list_any (λ n. n == id) ids.items ≡ is_named_in (form_in naming.now) nodes.now blocks.now id) }
+) -> Result<IdSet, AllocError>
+    ensures { IfOk result (λ ids. (id : ℕ) → is_in ids id ≡ is_named_in (form_in naming.now) nodes.now blocks.now id) }
 {
-    let mut ids = Vec::new(alloc);
+    let mut ids = IdSet::spanning(alloc, results_of(blocks))?;
     for (index, block) in blocks.iter().enumerate() {
         add_named(&mut ids, naming, is_reached(nodes, index), block)?;
     }
     Ok(ids)
-}
-
-/// Ids as a set.
-fn id_set(alloc: Global, ids: &[u32]) -> Result<IdSet, AllocError>
-    ensures { IfOk result (λ set. (id : ℕ) → is_in set id ≡ list_any (λ n. n == id) ids.now) }
-{
-    let mut set = IdSet::for_ids(alloc, ids)?;
-    for id in ids {
-        set.insert(*id)?;
-    }
-    Ok(set)
 }
 
 /// The results of a function that have names.
@@ -87,8 +87,7 @@ pub fn named(
 ) -> Result<IdSet, Memory>
     ensures { IfOk result (λ ids. (id : ℕ) → is_in ids id ≡ is_named_in (form_in naming.now) nodes.now function.now.blocks id) }
 {
-    let ids = named_in(alloc, function.blocks.as_slice(), nodes, naming)?;
-    Ok(id_set(alloc, ids.as_slice())?)
+    Ok(named_in(alloc, function.blocks.as_slice(), nodes, naming)?)
 }
 
 /// Whether an instruction is live: it has an effect, or a linked slot mentions its result.

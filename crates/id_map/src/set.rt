@@ -2,7 +2,7 @@
 ghost use Rattle.std.specs.Prelude.{◌≡◌, ◌==◌, ◌||◌, ℕ, IfOk, OnOk, false};
 ghost use Rattle.id_map.specs.Entries.{is_in};
 
-use crate::IdMap;
+use crate::{IdMap, Span};
 use std::alloc::{AllocError, Global};
 
 /// A set of ids.
@@ -12,12 +12,12 @@ pub struct IdSet {
 }
 
 impl IdSet {
-    /// The empty set, with slots for about these ids: at most some 16 for each. There is an error only for want of memory.
-    pub fn for_ids(alloc: Global, ids: &[u32]) -> Result<IdSet, AllocError>
+    /// The empty set, with slots for the ids of a span: at most some 16 for each. There is an error only for want of memory.
+    pub fn spanning(alloc: Global, span: Span) -> Result<IdSet, AllocError>
         ensures { IfOk result (λ set. (id : ℕ) → is_in set id ≡ false) }
     {
         Ok(IdSet {
-            marks: IdMap::for_ids(alloc, ids)?,
+            marks: IdMap::spanning(alloc, span)?,
         })
     }
 

@@ -9,7 +9,7 @@ ghost use Rattle.run_flow.specs.Chains.{is_chain_on, is_base_in, IsBasedList, Ar
 ghost use Rattle.run_flow.specs.Begun.{variables_among};
 
 use crate::starts::variable_ids;
-use id_map::IdSet;
+use id_map::{IdSet, Span};
 use run_state::based_on;
 use spv_index::Locals;
 use spv_module::{Function, Inst};
@@ -75,7 +75,7 @@ fn add_bases(bases: &mut IdSet, insts: &[Inst]) -> Result<(), AllocError>
 fn bases_of(alloc: Global, function: &Function) -> Result<IdSet, AllocError>
     ensures { IfOk result (λ bases. (id : ℕ) → is_in bases id ≡ is_base_in function.now id) }
 {
-    let mut bases = IdSet::for_ids(alloc, &[])?;
+    let mut bases = IdSet::spanning(alloc, Span::new())?;
     for block in function.blocks.as_slice() {
         add_bases(&mut bases, block.insts.as_slice())?;
     }
