@@ -15,7 +15,7 @@ use Rattle.dispatch_semantics.specs.Grid.{Grid, group_of, count, invocation}
 use Rattle.dispatch_semantics.specs.Dispatch.{DispatchRun}
 use Rattle.preservation.specs.Preserves.{module_side, text_side, IsGrid, first_state}
 use Rattle.preservation.proofs.Interleavings.{dispatches_agree}
-use Rattle.meaning_law.proofs.Filled.Filled.{accepted_preserves}
+use Rattle.text_law.proofs.Filled.Filled.{accepted_preserves}
 use Rattle.cross_core.specs.Keeps.{Keeps}
 
 pub keeps : (m : ModuleState) (o : Options) → IsGiven m o → NoRuleBroken (Broken m) (P11 ∷ P12 ∷ []) → IsFine m o → (unit : TranslationUnit) → IsTranslationOf m o unit → Keeps m o unit

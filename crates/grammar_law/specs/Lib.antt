@@ -1,3 +1,9 @@
+pub mod Formed
+pub mod Traced
+pub mod Declares
+pub mod Shallow
+pub mod Nest
+pub mod Written
 pub mod Mentioned
 pub mod Switches
 pub mod Words

@@ -1,3 +1,13 @@
+pub mod Naming
+pub mod Outside
+pub mod Texts
+pub mod Written
+pub mod Insts
+pub mod Moves
+pub mod Values
+pub mod Steps
+pub mod Whole
+pub mod Filled
 pub mod One
 pub mod Interface
 pub mod Variables

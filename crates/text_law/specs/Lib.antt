@@ -1,3 +1,8 @@
+pub mod Alone
+pub mod Names
+pub mod Types
+pub mod Ends
+pub mod Left
 pub mod Interface
 pub mod Declarations
 pub mod Variables

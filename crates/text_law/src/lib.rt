@@ -1,2 +1,2 @@
-// What the text of an accepted module has of it: it is the only one, and has the interface of the module, the variables of its functions and its shape. Each in its folder. Definitions and laws alone.
+// The text of an accepted module: the names of its functions; that it does what the module does, step by step (what stands outside of functions, blocks and edges, instructions, moves, values, and all of it together); and that it is the only one, and has the interface of the module, the variables of its functions and its shape. Each folder of laws is one of these. Definitions and laws alone.
 #![tactic(auto)]

@@ -26,7 +26,7 @@ use Rattle.global_law.proofs.Constant.Conforming.{sizes_conform}
 use Rattle.typed_law.specs.Conforms.{IsConforming}
 use Rattle.typed_law.specs.Words.{AreBytes, AreGivenWords}
 use Rattle.accepted_law.proofs.Small.{args_in, read_operands}
-use Rattle.height_law.proofs.Closed.{sound-of}
+use Rattle.grammar_law.proofs.Height.Closed.{sound-of}
 use Rattle.claim_law.specs.Claimed.{IsIn}
 use Rattle.grammar_law.specs.Words.{AreOfStructs}
 use Rattle.grammar_law.proofs.Unit.ArgWords.{args_words, global_words, head_words}

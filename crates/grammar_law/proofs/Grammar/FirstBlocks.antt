@@ -12,9 +12,9 @@ use Rattle.spv_module.specs.declared.inst.Function.{Function}
 use Rattle.structure_rules.specs.Graph.{graph, nth}
 use Rattle.profile_rules.specs.Places.{is_variable}
 use Rattle.module_check.specs.ReadFrom.{IsReadFrom}
-use Rattle.formed_law.specs.Declares.{HaveNoVariable, NoneDeclare, DeclaresFirst}
-use Rattle.formed_law.proofs.Formed.Declares.{declares_first}
-use Rattle.formed_law.proofs.Formed.Reach.{first_marked}
+use Rattle.grammar_law.specs.Declares.{HaveNoVariable, NoneDeclare, DeclaresFirst}
+use Rattle.grammar_law.proofs.Formed.Declares.{declares_first}
+use Rattle.grammar_law.proofs.Formed.Reach.{first_marked}
 use Rattle.call_law.specs.Known.{IsFunctionOf}
 use Rattle.claim_law.specs.Claimed.{IsIn}
 

@@ -9,7 +9,7 @@ use Rattle.spv_module.specs.declared.inst.Function.{Function}
 use Rattle.spv_index.specs.Locals.{insts_of}
 use Rattle.module_check.specs.ReadFrom.{IsReadFrom}
 use Rattle.claim_law.specs.Claimed.{IsIn}
-use Rattle.formed_law.proofs.Formed.Inner.{is_inner, accepted_inner}
+use Rattle.grammar_law.proofs.Formed.Inner.{is_inner, accepted_inner}
 use Rattle.grammar_law.proofs.Unit.Lists.{as_among}
 use Rattle.grammar_law.proofs.Unit.ResultShapes.{stands_inside}
 use Rattle.grammar_law.proofs.Grammar.FirstBlocks.{as_function}

@@ -19,7 +19,7 @@ use Rattle.switch_ladder.specs.Flags.{blocks_that, needs_fell}
 use Rattle.function_text.specs.Functions.{FunctionPlan, written}
 use Rattle.function_text.specs.Live.{Liveness, types_of, mentions_of, in_function}
 use Rattle.module_check.specs.Structure.{IsStructured}
-use Rattle.height_law.proofs.Closed.{sound-of}
+use Rattle.grammar_law.proofs.Height.Closed.{sound-of}
 use Rattle.unit_rules.specs.Translation.{Naming, plan_scope, scope_of, IsPlanOf}
 use Rattle.unit_rules.specs.Unit.{claims_by, liveness_of, reached_of}
 use Rattle.text_law.proofs.One.Links.{links_one}

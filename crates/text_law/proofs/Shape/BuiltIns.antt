@@ -20,7 +20,7 @@ use Rattle.claim_law.specs.Claimed.{IsIn}
 use Rattle.claim_law.proofs.Claim.Bodies.{bodies_are}
 use Rattle.grammar_law.proofs.Grammar.Held.{any_invocation}
 use Rattle.grammar_law.proofs.Grammar.UnitMade.{in_plans}
-use Rattle.naming_law.proofs.Unit.{named_so}
+use Rattle.text_law.proofs.Naming.Unit.{named_so}
 use Rattle.text_law.specs.Walks.{is_in, is_atomic, is_barrier, is_seen}
 use Rattle.text_law.specs.Deeds.{calls}
 use Rattle.text_law.specs.Shape.{outer_of}

@@ -33,8 +33,8 @@ use Rattle.grammar_law.proofs.Grammar.Held.{any_invocation, Run}
 use Rattle.grammar_law.proofs.Grammar.Called.{right, kinds}
 use Rattle.grammar_law.proofs.Grammar.Callees.{function, listed, other_entry, callee_named}
 use Rattle.grammar_law.proofs.Grammar.FirstBlocks.{as_function}
-use Rattle.naming_law.proofs.Functions.{has_plan}
-use Rattle.naming_law.proofs.Keys.{some_in, equal}
+use Rattle.text_law.proofs.Naming.Functions.{has_plan}
+use Rattle.text_law.proofs.Naming.Keys.{some_in, equal}
 use Rattle.text_law.specs.Walks.{is_in}
 use Rattle.text_law.specs.Shape.{name_of, has_name, body_of}
 use Rattle.text_law.proofs.Shape.Found.{in_numbers, body_found}

@@ -13,7 +13,7 @@ use Rattle.function_text.specs.Functions.{FunctionPlan, written, function_name, 
 use Rattle.unit_rules.specs.Unit.{has_id, in_order, IsUnitOf}
 use Rattle.region_law.proofs.Flags.{same_text, own_text}
 use Rattle.claim_law.specs.Claimed.{IsIn}
-use Rattle.naming_law.proofs.Unit.{named_so, names_differ, found_plan}
+use Rattle.text_law.proofs.Naming.Unit.{named_so, names_differ, found_plan}
 use Rattle.claim_law.specs.Bodies.{function_in}
 use Rattle.claim_law.proofs.Claim.Bodies.{bodies_are}
 use Rattle.text_law.specs.Shape.{has_name, name_of, body_of}

@@ -28,11 +28,11 @@ use Rattle.claim_law.specs.Blocks.{FitWords}
 use Rattle.call_law.specs.Known.{IsFunctionOf}
 use Rattle.typed_law.specs.Conforms.{IsConforming}
 use Rattle.typed_law.specs.Words.{AreBytes, AreGivenWords}
-use Rattle.formed_law.proofs.Ruled.Ruled.{contains_of}
+use Rattle.grammar_law.proofs.Ruled.Ruled.{contains_of}
 use Rattle.claim_law.specs.Claimed.{IsIn}
 use Rattle.claim_law.specs.Apart.{IsFlow}
 use Rattle.claim_law.proofs.Claim.Flags.{again_is_flow, leave_is_flow, fell_is_flow}
-use Rattle.height_law.proofs.Closed.{sound-of}
+use Rattle.grammar_law.proofs.Height.Closed.{sound-of}
 use Rattle.grammar_law.specs.Switches.{IsReached, Chooses, Leads}
 use Rattle.grammar_law.proofs.Unit.ArgWords.{args_words}
 use Rattle.grammar_law.proofs.Unit.Switching.{switch_at}
@@ -44,8 +44,8 @@ use Rattle.grammar_law.proofs.Grammar.Held.{any_invocation, Run, Written}
 use Rattle.grammar_law.proofs.Grammar.Called.{right, kinds}
 use Rattle.grammar_law.proofs.Grammar.Lives.{lives}
 use Rattle.grammar_law.proofs.Grammar.Accepted.{words, few, sound, all_known, made_function, Structs, of_structs, declared_structs}
-use Rattle.naming_law.proofs.Functions.{function_of_plan, planned_of, has_plan}
-use Rattle.naming_law.proofs.Keys.{some_in, equal}
+use Rattle.text_law.proofs.Naming.Functions.{function_of_plan, planned_of, has_plan}
+use Rattle.text_law.proofs.Naming.Keys.{some_in, equal}
 use Rattle.text_law.specs.Walks.{Outer, is_in}
 use Rattle.text_law.specs.Pairs.{Naming}
 use Rattle.text_law.specs.Unseen.{unseen}

@@ -22,8 +22,8 @@ use Rattle.unit_rules.specs.Translation.{Naming, text_of}
 use Rattle.claim_law.specs.Claimed.{IsIn, HasName}
 use Rattle.claim_law.proofs.Claim.Listed.{in_left, in_right}
 use Rattle.claim_law.proofs.Claim.Told.{named_is}
-use Rattle.naming_law.proofs.Tops.{of_filtered, of_mapped, of_either, of_flat}
-use Rattle.naming_law.proofs.Once.{have_not, one_inst, number_from}
+use Rattle.text_law.proofs.Naming.Tops.{of_filtered, of_mapped, of_either, of_flat}
+use Rattle.text_law.proofs.Naming.Once.{have_not, one_inst, number_from}
 use Rattle.text_law.specs.Declarations.{occurs}
 use Rattle.text_law.specs.Variables.{of_result, is_local_here, locals_of, index_key, kept_of, flag_key}
 use Rattle.text_law.proofs.Variables.Named.{AllKeys, as_in}

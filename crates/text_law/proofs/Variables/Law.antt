@@ -27,33 +27,33 @@ use Rattle.expr_forward.specs.Scope.{Scope, globals}
 use Rattle.function_text.specs.Functions.{FunctionPlan, written, function_name, function_decl, body_text}
 use Rattle.unit_rules.specs.Translation.{Naming, scope_of, IsPlanOf}
 use Rattle.unit_rules.specs.Unit.{source_of, called, is_called, in_order, has_id, IsUnitOf}
-use Rattle.height_law.proofs.Closed.{sound-of}
+use Rattle.grammar_law.proofs.Height.Closed.{sound-of}
 use Rattle.plan_law.specs.InOrder.{IsAmong}
-use Rattle.formed_law.specs.Formed.{IsFormedFunction}
+use Rattle.grammar_law.specs.Formed.{IsFormedFunction}
 use Rattle.agree_law.specs.Blocks.{IsOf}
 use Rattle.spv_words.specs.Words.{words}
 use Rattle.accepted_law.proofs.Accepted.{accepted_conforming}
 use Rattle.typed_law.proofs.Values.{inside}
 use Rattle.typed_law.specs.Conforms.{IsConforming, IsFormed}
-use Rattle.formed_law.proofs.Ruled.Ruled.{contains_of, among_of}
+use Rattle.grammar_law.proofs.Ruled.Ruled.{contains_of, among_of}
 use Rattle.call_law.specs.Known.{IsFunctionOf}
 use Rattle.claim_law.specs.Claimed.{IsIn, HasName}
-use Rattle.formed_law.proofs.Formed.Formed.{formed}
-use Rattle.formed_law.proofs.Formed.Inner.{accepted_inner}
-use Rattle.formed_law.proofs.Formed.Labelled.{accepted_labels}
+use Rattle.grammar_law.proofs.Formed.Formed.{formed}
+use Rattle.grammar_law.proofs.Formed.Inner.{accepted_inner}
+use Rattle.grammar_law.proofs.Formed.Labelled.{accepted_labels}
 use Rattle.grammar_law.proofs.Unit.Ways.{HaveKinds, planned, F, written_is}
 use Rattle.grammar_law.proofs.Unit.Lists.{of_filter, as_in}
 use Rattle.grammar_law.proofs.Unit.ResultShapes.{stands_inside}
 use Rattle.grammar_law.proofs.Grammar.Held.{any_invocation}
 use Rattle.grammar_law.proofs.Grammar.Inner.{stands_within}
 use Rattle.grammar_law.proofs.Grammar.Outside.{have_kinds}
-use Rattle.naming_law.specs.Ends.{term_of}
+use Rattle.text_law.specs.Ends.{term_of}
 use Rattle.function_law.proofs.TreeWays.{AreGroups}
-use Rattle.naming_law.proofs.Keys.{S}
-use Rattle.naming_law.proofs.Unit.{found_plan}
-use Rattle.naming_law.proofs.Planned.{same_block, leave_inside, flags_apart}
-use Rattle.naming_law.proofs.Functions.{planned_of, function_of_plan}
-use Rattle.naming_law.proofs.Tree.{tree_written}
+use Rattle.text_law.proofs.Naming.Keys.{S}
+use Rattle.text_law.proofs.Naming.Unit.{found_plan}
+use Rattle.text_law.proofs.Naming.Planned.{same_block, leave_inside, flags_apart}
+use Rattle.text_law.proofs.Naming.Functions.{planned_of, function_of_plan}
+use Rattle.text_law.proofs.Naming.Tree.{tree_written}
 use Rattle.claim_law.specs.Bodies.{function_in, functions_in}
 use Rattle.claim_law.proofs.Claim.Bodies.{bodies_are}
 use Rattle.text_law.specs.Declarations.{valued, unset, occurs, AreSame}

@@ -16,7 +16,7 @@ use Rattle.nest_place.proofs.Around.{IsLoopMerge, IsNested, inner_nested}
 use Rattle.nest_place.proofs.Falling.{edges_none}
 use Rattle.structure_recover.specs.Follows.{is_loop_merge, heads_loop, other_block, continue_block}
 use Rattle.switch_ladder.specs.Flags.{needs_again, left_loop, leaves, needs_leave}
-use Rattle.naming_law.proofs.Keys.{some_in, equal}
+use Rattle.text_law.proofs.Naming.Keys.{some_in, equal}
 
 -- the header of a loop, which is reached
 pub record IsHeader (g : List Node) (h : ℕ) : Type 0 where

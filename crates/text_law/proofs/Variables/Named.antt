@@ -40,8 +40,8 @@ use Rattle.region_law.specs.Leads.{In}
 use Rattle.claim_law.specs.Claimed.{IsIn, HasName, IsOf}
 use Rattle.claim_law.proofs.Claim.Flags.{at_inside}
 use Rattle.claim_law.proofs.Claim.Named.{result_named, again_named, leave_named, fell_named, captured_named}
-use Rattle.naming_law.proofs.Keys.{placed_in, hoisted_is, variable_has}
-use Rattle.naming_law.proofs.Tops.{of_filtered}
+use Rattle.text_law.proofs.Naming.Keys.{placed_in, hoisted_is, variable_has}
+use Rattle.text_law.proofs.Naming.Tops.{of_filtered}
 use Rattle.grammar_law.proofs.Unit.Lists.{of_numbered_first}
 use Rattle.text_law.specs.Variables.{of_result, is_spare, is_local, is_local_here, is_hoisted_here, variables, hoisted, locals_of, locals, index_key, kept_of, kept, flag_key, flags, all_flags, with_value, without_value}
 use Rattle.text_law.proofs.Variables.Plans.{IsKnown, spare_of_move, edge_spares, to_spares, exit_spares, block_spares, spares}

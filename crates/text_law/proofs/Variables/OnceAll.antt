@@ -40,10 +40,10 @@ use Rattle.plan_law.specs.InOrder.{AreApart}
 use Rattle.region_law.specs.Leads.{In}
 use Rattle.claim_law.specs.Claimed.{IsIn, HasName}
 use Rattle.grammar_law.proofs.Unit.Forms.{unmade_gone}
-use Rattle.naming_law.proofs.Keys.{placed_in}
-use Rattle.naming_law.proofs.Tops.{of_mapped, of_filtered, of_either}
-use Rattle.naming_law.proofs.Planned.{flow_number}
-use Rattle.naming_law.proofs.Once.{variable_result, chain_result, apart, some_result, no_value, a_value}
+use Rattle.text_law.proofs.Naming.Keys.{placed_in}
+use Rattle.text_law.proofs.Naming.Tops.{of_mapped, of_filtered, of_either}
+use Rattle.text_law.proofs.Naming.Planned.{flow_number}
+use Rattle.text_law.proofs.Naming.Once.{variable_result, chain_result, apart, some_result, no_value, a_value}
 use Rattle.text_law.specs.Declarations.{valued, unset, occurs}
 use Rattle.text_law.specs.Variables.{of_result, is_spare, is_local, is_local_here, is_hoisted_here, variables, hoisted, locals, index_key, kept_of, kept, flag_key, flags, all_flags, with_value, without_value}
 use Rattle.text_law.proofs.Variables.Texts.{occurs_both}

@@ -22,7 +22,7 @@ use Rattle.text_rules.specs.Claims.{label}
 use Rattle.function_text.specs.Functions.{FunctionPlan, written}
 use Rattle.region_law.specs.Leads.{In, AreApart as AreApartNumbers}
 use Rattle.claim_law.specs.Claimed.{IsIn}
-use Rattle.naming_law.proofs.Tops.{of_flat, of_filtered}
+use Rattle.text_law.proofs.Naming.Tops.{of_flat, of_filtered}
 use Rattle.grammar_law.proofs.Grammar.Moving.{save_number}
 use Rattle.tree_law.proofs.SwitchOrder.{range_apart}
 use Rattle.text_law.proofs.Variables.Plans.{IsKnown, spare_of_move, edge_spares, to_spares, exit_spares, block_spares, spares}

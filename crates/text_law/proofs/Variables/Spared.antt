@@ -26,7 +26,7 @@ use Rattle.claim_law.specs.Claimed.{IsIn, HasName}
 use Rattle.claim_law.proofs.Claim.Listed.{at_place}
 use Rattle.claim_law.proofs.Claim.Flags.{at_inside}
 use Rattle.claim_law.proofs.Claim.Named.{spare_named}
-use Rattle.naming_law.proofs.Tops.{of_filtered}
+use Rattle.text_law.proofs.Naming.Tops.{of_filtered}
 use Rattle.grammar_law.proofs.Grammar.Moving.{edge_moves}
 use Rattle.grammar_law.proofs.Grammar.PairsOf.{in_once}
 use Rattle.grammar_law.proofs.Grammar.Edges.{in_targets}

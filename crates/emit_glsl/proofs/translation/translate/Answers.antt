@@ -6,7 +6,7 @@ use Rattle.module_check.specs.Asked.{asked}
 use Rattle.module_check.specs.Judged.{IsRead, IsFine}
 use Rattle.unit_rules.specs.Unit.{IsUnitOf}
 use Rattle.accepted_law.proofs.Small.{read_small, read_few}
-use Rattle.height_law.proofs.Unit.{accepted-low}
+use Rattle.grammar_law.proofs.Height.Unit.{accepted-low}
 use Rattle.grammar_law.proofs.Grammar.Accepted.{accepted-in-grammar}
 use Rattle.emit_glsl.specs.Given.{IsGiven}
 use Rattle.emit_glsl.proofs.Made.{made_unit}

@@ -1,2 +1,0 @@
-pub mod Ruled
-pub mod Formed

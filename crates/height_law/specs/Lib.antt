@@ -1,3 +1,0 @@
-pub mod Shallow
-pub mod Nest
-pub mod Written

@@ -1,9 +1,0 @@
-pub mod Outside
-pub mod Texts
-pub mod Written
-pub mod Insts
-pub mod Moves
-pub mod Values
-pub mod Steps
-pub mod Whole
-pub mod Filled

@@ -1,4 +1,0 @@
-pub mod Alone
-pub mod Names
-pub mod Types
-pub mod Ends
