@@ -1,5 +1,0 @@
-use Rattle.hoist_plan.proofs.Rising.{live_rise}
-use Rattle.plan_tests.proofs.tests.plans.first_planned.Goals as goal
-
-pub plan-requires : goal.plan-requires
-plan-requires g c = live_rise _ _ _ c.in_ok-uses-in-Some.ensures.live

@@ -1,4 +1,0 @@
-use Rattle.plan_tests.proofs.tests.plans.forms_of_a_function.Given as goal
-
-abbrev pub ghosts-first_planned : goal.ghosts-first_planned
-ghosts-first_planned g a = record { name = a.blank.name; parts = a.blank.parts }

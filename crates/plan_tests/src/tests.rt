@@ -1,6 +1,0 @@
-// The tests, one module a subject.
-mod copies;
-mod first;
-mod paths;
-mod plans;
-mod uses;

@@ -1,6 +1,0 @@
-use Rattle.std.proofs.Common.{subst, sym, arith}
-use Rattle.few_law.specs.Few.{HasFewMembers}
-use Rattle.text_tests.proofs.tests.composites.lowered.Goals as goal
-
-pub lower_vector-requires : goal.lower_vector-requires
-lower_vector-requires c = subst HasFewMembers (sym c.in_ok-item-2.ensures) (omega arith, (tt, (tt, tt)))

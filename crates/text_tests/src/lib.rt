@@ -1,5 +1,0 @@
-// How values, statements, items and names are written.
-#![tactic(auto)]
-
-#[cfg(test)]
-mod tests;
