@@ -5,7 +5,7 @@ ghost use Rattle.id_map.specs.Entries.{entry_in};
 ghost use Rattle.expr_forward.specs.Globals.{global_in, place_in};
 
 use glsl_ast::Expr;
-use id_map::IdMap;
+use id_map::PlaceMap;
 use spv_module::Id;
 use spv_words::Memory;
 use std::alloc::Global;
@@ -18,14 +18,14 @@ pub struct Globals {
     bound: u32,
     count: usize,
     // the place of the expression that was last put for an id, from the first one on
-    places: Option<IdMap<usize>>,
+    places: Option<PlaceMap>,
     // the expressions in the order in which they were put, each with its id
     exprs: Vec<(u32, Expr)>,
 }
 
 /// The place that is noted for an id.
 #[inline(always)]
-fn place_of(places: &Option<IdMap<usize>>, id: u32) -> Option<usize>
+fn place_of(places: &Option<PlaceMap>, id: u32) -> Option<usize>
     ensures { result ≡ place_in places.now id }
 {
     match places {
@@ -49,14 +49,14 @@ impl Globals {
     }
 
     /// The places that are noted.
-    fn taken_places(&mut self) -> Result<IdMap<usize>, Memory>
+    fn taken_places(&mut self) -> Result<PlaceMap, Memory>
         ensures places { IfOk result (λ places. (id : ℕ) → entry_in places id ≡ place_in self.old.places id) }
         ensures exprs { self.new.exprs ≡ self.old.exprs }
     {
         match self.places.take() {
             Some(places) => Ok(places),
             // what is asked for is mostly an id of a function
-            None => Ok(IdMap::below(self.alloc, self.bound, self.count.saturating_mul(4))?),
+            None => Ok(PlaceMap::below(self.alloc, self.bound, self.count.saturating_mul(4))?),
         }
     }
 

@@ -10,7 +10,7 @@ some_is : {X : Type 0} (a b : X) → Some a ≡ Some b → a ≡ b
 some_is a b h = ap (λ (o : Option _). option_map_or (λ x. x) o a) h
 
 -- where a slot stands
-slot_is : (least count id k : ℕ) → slot_in least count id ≡ Some k → (id ≡ least + k) × (k < count)
+pub slot_is : (least count id k : ℕ) → slot_in least count id ≡ Some k → (id ≡ least + k) × (k < count)
 unfolding slot_in
 slot_is least count id k h =
     let by : (b c : Bool) → nat_lt id least ≡ b → nat_lt (id - least) count ≡ c → cond b None (cond c (Some (id - least)) None) ≡ Some k → (id ≡ least + k) × (k < count) =

@@ -2,9 +2,11 @@
 #![tactic(auto)]
 
 mod map;
+mod places;
 mod range;
 mod set;
 
 pub use map::IdMap;
+pub use places::PlaceMap;
 pub use range::Span;
 pub use set::IdSet;

@@ -6,7 +6,7 @@ ghost use Rattle.name_alloc.specs.Keys.{same_key};
 ghost use Rattle.name_alloc.specs.Places.{place_in};
 
 use crate::claims::{Claim, Key};
-use id_map::{IdMap, Span};
+use id_map::{PlaceMap, Span};
 use indexmap::IndexMap;
 use spv_module::Id;
 use spv_words::Memory;
@@ -15,7 +15,7 @@ use std::alloc::Global;
 /// The place of each key's name among the names of its space. Most keys are ids, whose places are found at once.
 #[derive(Drop)]
 pub struct Places {
-    ids: IdMap<usize>,
+    ids: PlaceMap,
     others: IndexMap<Key, usize>,
 }
 
@@ -36,7 +36,7 @@ impl Places {
         ensures { IfOk result (λ places. (key : Key) → place_in places key ≡ None) }
     {
         Ok(Places {
-            ids: IdMap::spanning(alloc, span(claims))?,
+            ids: PlaceMap::spanning(alloc, span(claims))?,
             others: IndexMap::new(alloc),
         })
     }
