@@ -1,9 +1,9 @@
 -- The functions that calls reach, by the plans that the code makes of them, and the unit that it makes.
 use Rattle.std.specs.Prelude.{ℕ, ◌≡◌, ◌==◌, Bool, List, ◌++◌, Option, Some, None, find, flat_map, if◌then◌else◌, map, option_map, option_to_list, ◌∷◌, []}
 use Rattle.std.specs.List.{AllZip, list_any, position_from}
-use Rattle.id_map.specs.declared.map.IdMap.{IdMap}
+use Rattle.id_map.specs.declared.places.PlaceMap.{PlaceMap}
 use Rattle.id_map.specs.declared.set.IdSet.{IdSet}
-use Rattle.id_map.specs.Entries.{entry_in, is_in}
+use Rattle.id_map.specs.Entries.{id_place, is_in}
 use Rattle.spv_module.specs.declared.inst.Id.{Id}
 use Rattle.spv_module.specs.declared.inst.Inst.{Inst}
 use Rattle.spv_module.specs.declared.inst.Function.{Function}
@@ -73,8 +73,8 @@ abbrev pub has_id : ℕ → Planned → Bool
 has_id n p = id_in p == n
 
 -- the first plan of a function with each id
-pub record ArePlaces (ps : List Planned) (places : IdMap ℕ) : Type 0 where
-  pub each : (n : ℕ) → entry_in places n ≡ position_from (has_id n) 0 ps
+pub record ArePlaces (ps : List Planned) (places : PlaceMap) : Type 0 where
+  pub each : (n : ℕ) → id_place places n ≡ position_from (has_id n) 0 ps
 
 abbrev pub planned_at : List Planned → ℕ → Option Planned
 planned_at ps n = find (has_id n) ps

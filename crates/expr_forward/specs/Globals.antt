@@ -1,7 +1,7 @@
 -- The expressions by which constants and built-in variables are read.
 use Rattle.std.specs.Prelude.{ℕ, ◌==◌, List, Option, Some, None, option_and_then, slice_get, if◌then◌else◌}
-use Rattle.id_map.specs.Entries.{entry_in}
-use Rattle.id_map.specs.declared.map.IdMap.{IdMap}
+use Rattle.id_map.specs.Entries.{id_place}
+use Rattle.id_map.specs.declared.places.PlaceMap.{PlaceMap}
 use Rattle.glsl_ast.specs.Tree as text
 use Rattle.glsl_ast.specs.View.{expr_of}
 use Rattle.glsl_ast.specs.declared.expressions.Expr.{Expr}
@@ -16,9 +16,9 @@ abbrev pub expr_at : List (ℕ × Expr) → ℕ → ℕ → Option text.Expr
 expr_at exprs id place = option_and_then (expr_for id) (slice_get exprs place)
 
 -- the place that is noted for an id; there is none before the first is noted
-abbrev pub place_in : Option (IdMap ℕ) → ℕ → Option ℕ
+abbrev pub place_in : Option (PlaceMap) → ℕ → Option ℕ
 place_in None id = None
-place_in (Some places) id = entry_in places id
+place_in (Some places) id = id_place places id
 
 -- the expression that is there for an id
 abbrev pub global_in : Globals → ℕ → Option text.Expr

@@ -1,7 +1,7 @@
 // The expressions of what is read by the same everywhere.
 ghost use Rattle.std.specs.Prelude.{◌≡◌, ◌==◌, ℕ, None, Some, IfOk, OnOk, option_map, if◌then◌else◌};
 ghost use Rattle.glsl_ast.specs.View.{expr_of};
-ghost use Rattle.id_map.specs.Entries.{entry_in};
+ghost use Rattle.id_map.specs.Entries.{id_place};
 ghost use Rattle.expr_forward.specs.Globals.{global_in, place_in};
 
 use glsl_ast::Expr;
@@ -50,7 +50,7 @@ impl Globals {
 
     /// The places that are noted.
     fn taken_places(&mut self) -> Result<PlaceMap, Memory>
-        ensures places { IfOk result (λ places. (id : ℕ) → entry_in places id ≡ place_in self.old.places id) }
+        ensures places { IfOk result (λ places. (id : ℕ) → id_place places id ≡ place_in self.old.places id) }
         ensures exprs { self.new.exprs ≡ self.old.exprs }
     {
         match self.places.take() {

@@ -26,8 +26,8 @@ held word other = if word == 4294967295 then other else Some word
 abbrev pub place_by : ℕ → List ℕ → (ℕ → Option ℕ) → ℕ → Option ℕ
 place_by least slots other id = option_map_or (λ k. held (slice_index_or slots k 4294967295) (other id)) (slot_in least (length slots) id) (other id)
 
-abbrev pub place_in : PlaceMap → ℕ → Option ℕ
-place_in m id = place_by m.least m.slots.items (get nat_cmp m.others) id
+abbrev pub id_place : PlaceMap → ℕ → Option ℕ
+id_place m id = place_by m.least m.slots.items (get nat_cmp m.others) id
 
 -- an id is in a set
 abbrev pub is_in : IdSet → ℕ → Bool

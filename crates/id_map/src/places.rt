@@ -2,7 +2,7 @@
 ghost use Rattle.std.specs.Prelude.{◌≡◌, ◌==◌, ℕ, IfOk, OnOk, is_some, Some, None, if◌then◌else◌};
 ghost use Rattle.std.specs.BTreeMap.{get};
 ghost use Rattle.std.specs.Ordering.{nat_cmp};
-ghost use Rattle.id_map.specs.Entries.{place_in};
+ghost use Rattle.id_map.specs.Entries.{id_place};
 
 use crate::range::{Span, most_slots, slot};
 use std::alloc::{AllocError, Global};
@@ -22,14 +22,14 @@ pub struct PlaceMap {
 impl PlaceMap {
     /// A map without entries, with slots for about these ids: at most some 16 for each. There is an error only for want of memory.
     pub fn for_ids(alloc: Global, ids: &[u32]) -> Result<PlaceMap, AllocError>
-        ensures { IfOk result (λ map. (id : ℕ) → place_in map id ≡ None) }
+        ensures { IfOk result (λ map. (id : ℕ) → id_place map id ≡ None) }
     {
         PlaceMap::spanning(alloc, Span::of(ids))
     }
 
     /// A map without entries, with slots for the ids of a span: at most some 16 for each. There is an error only for want of memory.
     pub fn spanning(alloc: Global, span: Span) -> Result<PlaceMap, AllocError>
-        ensures { IfOk result (λ map. (id : ℕ) → place_in map id ≡ None) }
+        ensures { IfOk result (λ map. (id : ℕ) → id_place map id ≡ None) }
     {
         let (least, count) = span.slots();
         PlaceMap::with_slots(alloc, least, count)
@@ -38,14 +38,14 @@ impl PlaceMap {
     /// A map without entries, with slots for the ids below a bound: at most some 16 for each of so many ids. There is an error only
     /// for want of memory.
     pub fn below(alloc: Global, bound: u32, count: usize) -> Result<PlaceMap, AllocError>
-        ensures { IfOk result (λ map. (id : ℕ) → place_in map id ≡ None) }
+        ensures { IfOk result (λ map. (id : ℕ) → id_place map id ≡ None) }
     {
         PlaceMap::with_slots(alloc, 0, most_slots(count).min(bound as usize))
     }
 
     /// A map without entries, with so many slots from an id on.
     fn with_slots(alloc: Global, least: u32, count: usize) -> Result<PlaceMap, AllocError>
-        ensures { IfOk result (λ map. (id : ℕ) → place_in map id ≡ None) }
+        ensures { IfOk result (λ map. (id : ℕ) → id_place map id ≡ None) }
     {
         Ok(PlaceMap {
             least,
@@ -64,7 +64,7 @@ impl PlaceMap {
     /// The place of an id.
     #[inline(always)]
     pub fn get(&self, id: u32) -> Option<usize>
-        ensures { result ≡ place_in self.now id }
+        ensures { result ≡ id_place self.now id }
     {
         match slot(self.least, self.slots.len(), id) {
             Some(k) if self.slots[k] != NONE => Some(self.slots[k] as usize),
@@ -75,7 +75,7 @@ impl PlaceMap {
     /// Whether an id has a place.
     #[inline(always)]
     pub fn has(&self, id: u32) -> bool
-        ensures { result ≡ is_some (place_in self.now id) }
+        ensures { result ≡ is_some (id_place self.now id) }
     {
         self.get(id).is_some()
     }
@@ -93,7 +93,7 @@ impl PlaceMap {
     /// Gives an id a place, instead of the one that it had. There is an error only for want of memory.
     #[inline(always)]
     pub fn insert(&mut self, id: u32, place: usize) -> Result<(), AllocError>
-        ensures { OnOk result ((other : ℕ) → place_in self.new other ≡ (if id == other then Some place else place_in self.old other)) }
+        ensures { OnOk result ((other : ℕ) → id_place self.new other ≡ (if id == other then Some place else id_place self.old other)) }
     {
         match slot(self.least, self.slots.len(), id) {
             Some(k) if place < NONE as usize => {
@@ -120,7 +120,7 @@ impl PlaceMap {
 
     /// Takes the place of an id away.
     pub fn remove(&mut self, id: u32)
-        ensures { (other : ℕ) → place_in self.new other ≡ (if id == other then None else place_in self.old other) }
+        ensures { (other : ℕ) → id_place self.new other ≡ (if id == other then None else id_place self.old other) }
     {
         match slot(self.least, self.slots.len(), id) {
             Some(k) => {

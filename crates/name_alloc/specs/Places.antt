@@ -1,6 +1,6 @@
 -- The places of names, as maps hold them.
 use Rattle.std.specs.Prelude.{ℕ, Option}
-use Rattle.id_map.specs.Entries.{entry_in}
+use Rattle.id_map.specs.Entries.{id_place}
 use Rattle.indexmap.specs.IndexMap.{get}
 use Rattle.name_alloc.specs.Keys.{same_key}
 use Rattle.name_alloc.specs.declared.claims.Key.{Key}
@@ -9,5 +9,5 @@ use Rattle.name_alloc.specs.declared.places.Places.{Places}
 
 -- the place of a key's name
 abbrev pub place_in : Places → Key → Option ℕ
-place_in places (Id id) = entry_in places.ids id.0
+place_in places (Id id) = id_place places.ids id.0
 place_in places key = get same_key places.others key
