@@ -64,9 +64,9 @@ impl BlockContext<'_, '_, '_> {
     fn negated(&self, inst: &Inst) -> Result<Expr, Memory>
         ensures { IfOk result (λ e. expr_of e ≡ binary Sub (word_at_place_of (scope_of self.now.context.now) inst.now 0) (atomic_value (scope_of self.now.context.now) self.now.block inst.now)) }
     {
-        let zero = Box::new(self.alloc, self.context.word_by(Id(inst.operand(0)), 0))?;
+        let zero = self.context.word_by(Id(inst.operand(0)), 0);
         let value = self.value(Id(inst.operand(3)))?;
-        Ok(Expr::Binary(BinOp::Sub, zero, Box::new(self.alloc, value)?))
+        Expr::binary(self.alloc, BinOp::Sub, zero, value)
     }
 
     /// What stands behind the place, and behind the comparator where there is one, in the call of an atomic function.

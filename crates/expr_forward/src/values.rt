@@ -265,13 +265,12 @@ impl BlockContext<'_, '_, '_> {
         ensures { IfOk result (λ e. expr_of e ≡ operated_on by known.basic (read_operand (scope_of self.now.context.now) (value_in_of (scope_of self.now.context.now) self.now.block deep) a.0) (read_operand (scope_of self.now.context.now) (value_in_of (scope_of self.now.context.now) self.now.block deep) b.0)) }
     {
         let left = self.operand_as(deep, by.elem, known, a)?;
-        let left = Box::new(self.alloc, left)?;
         let right = if by.shifts {
             self.amount(deep, known, b)?
         } else {
             self.operand_as(deep, by.elem, known, b)?
         };
-        by.over(self.alloc, known.basic, left, Box::new(self.alloc, right)?)
+        by.over(self.alloc, known.basic, left, right)
     }
 
     /// A shift amount: the literal of a constant below 32, else taken modulo 32.

@@ -31,8 +31,8 @@ expr-Not e = search (rules, expr_lemmas)
 pub expr-Flip : (e : Box Expr Global) → expr_of (expr.Flip e) ≡ tree.flip (expr_of e.value)
 expr-Flip e = search (rules, expr_lemmas)
 
-pub expr-Binary : (op : BinOp) (a b : Box Expr Global) → expr_of (expr.Binary op a b) ≡ tree.binary op (expr_of a.value) (expr_of b.value)
-expr-Binary op a b = search (rules, expr_lemmas)
+pub expr-Binary : (op : BinOp) (parts : Box (Expr × Expr) Global) → expr_of (expr.Binary op parts) ≡ tree.binary op (expr_of parts.value.0) (expr_of parts.value.1)
+expr-Binary op parts = search (rules, expr_lemmas)
 
 pub expr-Choose : (c : Box Expr Global) (parts : Box (Expr × Expr) Global) → expr_of (expr.Choose c parts) ≡ tree.choose (expr_of c.value) (expr_of parts.value.0) (expr_of parts.value.1)
 expr-Choose c parts = search (rules, expr_lemmas)

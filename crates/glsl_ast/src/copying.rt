@@ -68,9 +68,12 @@ impl Expr {
             }
             Expr::Not(of) => Expr::Not(of.boxed(alloc)?),
             Expr::Flip(of) => Expr::Flip(of.boxed(alloc)?),
-            Expr::Binary(op, left, right) => {
-                Expr::Binary(*op, left.boxed(alloc)?, right.boxed(alloc)?)
-            }
+            Expr::Binary(op, parts) => Expr::binary(
+                alloc,
+                *op,
+                parts.0.clone_in(alloc)?,
+                parts.1.clone_in(alloc)?,
+            )?,
             Expr::Choose(test, parts) => Expr::choose(
                 alloc,
                 test.clone_in(alloc)?,

@@ -42,8 +42,8 @@ pub enum BinOp {
 /// An expression (GLSL 4.60, chapter 5). `Build` is a constructor, `Not` is `!`, `Flip` is `~`, `Choose` is `?:` and
 /// `Length` is `.length()`.
 //
-// What takes more than two boxes is boxed whole: most expressions are names, literals and operations, and each takes the room of the
-// largest.
+// What takes more than two boxes is boxed whole, and so are the operands of an operator: most expressions are names, literals and
+// operations, and each takes the room of the largest.
 #[derive(Drop)]
 pub enum Expr {
     Literal(Literal),
@@ -52,7 +52,7 @@ pub enum Expr {
     Call(Box<(Name, Vec<Expr>)>),
     Not(Box<Expr>),
     Flip(Box<Expr>),
-    Binary(BinOp, Box<Expr>, Box<Expr>),
+    Binary(BinOp, Box<(Expr, Expr)>),
     Choose(Box<Expr>, Box<(Expr, Expr)>),
     Member(Box<(Expr, Name)>),
     Index(Box<Expr>, Box<Expr>),
@@ -75,6 +75,15 @@ impl Expr {
         ensures { IfOk result (λ e. expr_of e ≡ Rattle.glsl_ast.specs.Tree.Expr.call (name_text name) (exprs_of args.items)) }
     {
         Ok(Expr::Call(Box::new(alloc, (name, args))?))
+    }
+
+    /// An operator over two expressions (GLSL 4.60, section 5.1). There is an error only where there is no memory for it.
+    #[inline(always)]
+    #[tactic(auto, using(crate::proofs::Views::expr_rows))]
+    pub fn binary(alloc: Global, op: BinOp, left: Expr, right: Expr) -> Result<Expr, Memory>
+        ensures { IfOk result (λ e. expr_of e ≡ Rattle.glsl_ast.specs.Tree.binary op (expr_of left) (expr_of right)) }
+    {
+        Ok(Expr::Binary(op, Box::new(alloc, (left, right))?))
     }
 
     /// One of two expressions, by a test (GLSL 4.60, section 5.9). There is an error only where there is no memory for it.

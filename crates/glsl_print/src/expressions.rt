@@ -99,9 +99,9 @@ fn print_tree<K: Sink>(expr: &Expr, sink: &mut K, page: &mut Page)
         }
         Expr::Not(of) => print_signed(Mark::Not, of, sink, page),
         Expr::Flip(of) => print_signed(Mark::Flip, of, sink, page),
-        Expr::Binary(op, left, right) => {
-            print_left(left, op_level(*op), op_mark(*op), sink, page);
-            print_operand(right, right_level(*op), sink, page);
+        Expr::Binary(op, parts) => {
+            print_left(&parts.0, op_level(*op), op_mark(*op), sink, page);
+            print_operand(&parts.1, right_level(*op), sink, page);
         }
         Expr::Choose(test, parts) => {
             print_left(test, CONDITION, Mark::Question, sink, page);

@@ -84,17 +84,6 @@ impl Operand {
         }
     }
 
-    /// The same, for an operator over it.
-    #[inline(always)]
-    pub fn into_boxed(self, alloc: Global, elem: Elem) -> Result<Box<Expr>, Memory>
-        ensures { IfOk result (λ e. expr_of e.value ≡ as_elem elem (plain self)) }
-    {
-        if self.word.is_none() && same_elem(elem, self.ty.elem) {
-            return Ok(Box::new(alloc, self.expr)?);
-        }
-        Ok(Box::new(alloc, self.into_elem(alloc, elem)?)?)
-    }
-
     /// The same of an operand that is mentioned again.
     pub fn to_elem(&self, alloc: Global, elem: Elem) -> Result<Expr, Memory>
         ensures { IfOk result (λ e. expr_of e ≡ as_elem elem (plain self.now)) }
@@ -115,23 +104,12 @@ pub fn next_operand(args: &mut Args) -> Operand
     }
 }
 
-/// An operand that is not there, for an operator over it.
-#[inline(never)]
-fn missing_boxed(alloc: Global, elem: Elem) -> Result<Box<Expr>, Memory>
-    ensures { IfOk result (λ e. expr_of e.value ≡ as_elem elem absent) }
-{
-    Operand::missing().into_boxed(alloc, elem)
-}
-
-/// The next operand as components of a type, for an operator over it.
-pub fn next_boxed(alloc: Global, args: &mut Args, elem: Elem) -> Result<Box<Expr>, Memory>
-    ensures boxed { IfOk result (λ e. expr_of e.value ≡ as_elem elem (first (map operand_of (into_iter_items args.old)))) }
+/// The next operand as components of a type.
+pub fn next_elem(alloc: Global, args: &mut Args, elem: Elem) -> Result<Expr, Memory>
+    ensures operand { IfOk result (λ e. expr_of e ≡ as_elem elem (first (map operand_of (into_iter_items args.old)))) }
     ensures rest { map operand_of (into_iter_items args.new) ≡ rest (map operand_of (into_iter_items args.old)) }
 {
-    match args.next() {
-        Some(arg) => Operand::new(arg).into_boxed(alloc, elem),
-        None => missing_boxed(alloc, elem),
-    }
+    next_operand(args).into_elem(alloc, elem)
 }
 
 /// A shift amount: the literal of a constant below 32, else taken modulo 32.
@@ -146,10 +124,9 @@ fn shift_amount(alloc: Global, amount: Operand) -> Result<Expr, Memory>
 }
 
 /// The next operand as a shift amount.
-pub fn next_amount(alloc: Global, args: &mut Args) -> Result<Box<Expr>, Memory>
-    ensures boxed { IfOk result (λ e. expr_of e.value ≡ amount_of (first (map operand_of (into_iter_items args.old)))) }
+pub fn next_amount(alloc: Global, args: &mut Args) -> Result<Expr, Memory>
+    ensures operand { IfOk result (λ e. expr_of e ≡ amount_of (first (map operand_of (into_iter_items args.old)))) }
     ensures rest { map operand_of (into_iter_items args.new) ≡ rest (map operand_of (into_iter_items args.old)) }
 {
-    let amount = shift_amount(alloc, next_operand(args))?;
-    Ok(Box::new(alloc, amount)?)
+    shift_amount(alloc, next_operand(args))
 }

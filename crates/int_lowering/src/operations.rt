@@ -14,7 +14,7 @@ ghost use Rattle.int_lowering.specs.Lowered as lowered;
 use crate::basic::{BasicType, same_elem};
 use crate::built_ins::{BuiltIn, call_built_in};
 use crate::division::{magnitude, signed_modulo, signed_quotient, signed_remainder};
-use crate::operands::{Args, Operand, next_amount, next_boxed, next_operand};
+use crate::operands::{Args, Operand, next_amount, next_elem, next_operand};
 use crate::operators::{Operator, arithmetic_operator, comparison_operator};
 use crate::terms::{binary, call_one, call_two, choose, convert, flip, literal, not};
 use glsl_ast::{BinOp, Expr};
@@ -25,13 +25,13 @@ use std::alloc::Global;
 
 /// The next operand, as an operator reads its second one.
 #[inline(always)]
-fn next_second(alloc: Global, operator: Operator, args: &mut Args) -> Result<Box<Expr>, Memory>
-    ensures { IfOk result (λ e. expr_of e.value ≡ second_operand operator (first (map operand_of (into_iter_items args.old)))) }
+fn next_second(alloc: Global, operator: Operator, args: &mut Args) -> Result<Expr, Memory>
+    ensures { IfOk result (λ e. expr_of e ≡ second_operand operator (first (map operand_of (into_iter_items args.old)))) }
 {
     if operator.shifts {
         next_amount(alloc, args)
     } else {
-        next_boxed(alloc, args, operator.elem)
+        next_elem(alloc, args, operator.elem)
     }
 }
 
@@ -39,7 +39,7 @@ fn next_second(alloc: Global, operator: Operator, args: &mut Args) -> Result<Box
 fn operated(alloc: Global, by: Operator, ty: BasicType, args: &mut Args) -> Result<Expr, Memory>
     ensures { IfOk result (λ e. expr_of e ≡ operated_on by ty (first (map operand_of (into_iter_items args.old))) (second (map operand_of (into_iter_items args.old)))) }
 {
-    let left = next_boxed(alloc, args, by.elem)?;
+    let left = next_elem(alloc, args, by.elem)?;
     let right = next_second(alloc, by, args)?;
     by.over(alloc, ty, left, right)
 }

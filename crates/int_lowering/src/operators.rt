@@ -102,25 +102,17 @@ pub fn comparison_operator(op: Comparison) -> Option<Operator>
 pub fn modulo_32(alloc: Global, of: Expr) -> Result<Expr, Memory>
     ensures { IfOk result (λ e. expr_of e ≡ operator.masked (expr_of of)) }
 {
-    let of = Box::new(alloc, of)?;
-    let mask = Box::new(alloc, literal(Elem::Uint, 31))?;
-    Ok(Expr::Binary(BinOp::And, of, mask))
+    Expr::binary(alloc, BinOp::And, of, literal(Elem::Uint, 31))
 }
 
 impl Operator {
     /// The operator over expressions that are read as it reads its operands, as a value of this type.
     #[inline(always)]
     #[tactic(auto, using(glsl_ast::proofs::Views::expr_rows))]
-    pub fn over(
-        self,
-        alloc: Global,
-        ty: BasicType,
-        left: Box<Expr>,
-        right: Box<Expr>,
-    ) -> Result<Expr, Memory>
-        ensures { IfOk result (λ e. expr_of e ≡ operator.over self ty (expr_of left.value) (expr_of right.value)) }
+    pub fn over(self, alloc: Global, ty: BasicType, left: Expr, right: Expr) -> Result<Expr, Memory>
+        ensures { IfOk result (λ e. expr_of e ≡ operator.over self ty (expr_of left) (expr_of right)) }
     {
-        let of = Expr::Binary(self.op, left, right);
+        let of = Expr::binary(alloc, self.op, left, right)?;
         if self.converts {
             convert(alloc, ty, self.elem, of)
         } else {

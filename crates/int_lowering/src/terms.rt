@@ -30,8 +30,7 @@ pub fn literal(elem: Elem, word: u32) -> Expr
 pub fn binary(alloc: Global, op: BinOp, left: Expr, right: Expr) -> Result<Expr, Memory>
     ensures { IfOk result (λ e. expr_of e ≡ tree.binary op (expr_of left) (expr_of right)) }
 {
-    let left = Box::new(alloc, left)?;
-    Ok(Expr::Binary(op, left, Box::new(alloc, right)?))
+    Expr::binary(alloc, op, left, right)
 }
 
 #[tactic(auto, using(glsl_ast::proofs::Views::expr_rows))]

@@ -33,7 +33,7 @@ fn is_tree(structs: &Structs, expr: &Expr) -> bool
         Expr::Build(parts) => is_type(structs, &parts.0) && are_exprs(structs, &parts.1),
         Expr::Call(parts) => is_free(structs, &parts.0) && are_exprs(structs, &parts.1),
         Expr::Not(of) | Expr::Flip(of) | Expr::Length(of) => is_expr(structs, of),
-        Expr::Binary(_, left, right) => is_expr(structs, left) && is_expr(structs, right),
+        Expr::Binary(_, parts) => is_expr(structs, &parts.0) && is_expr(structs, &parts.1),
         Expr::Choose(test, parts) => {
             is_expr(structs, test) && is_expr(structs, &parts.0) && is_expr(structs, &parts.1)
         }
