@@ -102,7 +102,7 @@ impl Names {
     }
 
     /// The name of an id: most names that are asked for.
-    #[inline(never)]
+    #[inline(always)]
     #[tactic(auto, unfolding(crate::specs::Lookup::name_in))]
     fn of_id(&self, id: Id) -> Option<&Name>
         ensures { option_map (λ name. name_text name.now) result ≡ name_in self.now (IdOf id) }

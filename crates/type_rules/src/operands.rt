@@ -17,6 +17,7 @@ use spv_ops::{IdWords, Op, Takes, id_words};
 
 /// What the first operand id of an opcode has to be, and the others; of OpPhi values and labels
 /// alternate.
+#[inline(always)]
 #[tactic(auto, unfolding(crate::specs::Needed::needs_of))]
 fn needs_of(op: Op) -> Option<(Need, Need)>
     ensures { result ≡ needs_by op }
