@@ -76,6 +76,7 @@ fn exit_in(group: OpGroup) -> Exit
 }
 
 /// The kind of the terminator of a block.
+#[inline(always)]
 fn exit_of(inst: Option<&Inst>) -> Exit
     ensures { result ≡ exit_by (option_copied inst.entry) }
 {

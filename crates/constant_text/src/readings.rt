@@ -60,6 +60,7 @@ fn has_spec_ids(heads: &[Inst]) -> bool
 }
 
 /// Whether a constant gives the size of workgroups (SPIR-V 1.6, BuiltIn WorkgroupSize).
+#[inline(always)]
 fn is_size_composite(decor: &Decor, inst: &Inst) -> bool
     ensures { result ≡ is_size_composite_in decor.now inst.now }
 {

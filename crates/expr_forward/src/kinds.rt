@@ -40,6 +40,7 @@ pub enum InstKind {
 
 impl InstKind {
     /// The kind of instruction of an opcode (SPIR-V 1.6, section 3.49).
+    #[inline(always)]
     #[tactic(auto, unfolding(crate::specs::Kinds::kind_of))]
     pub(crate) fn of(op: Op) -> InstKind
         ensures { result ≡ kind_of op }

@@ -24,6 +24,7 @@ const SHORT: usize = 8;
 
 /// Makes room for so many statements behind those of a list, and for one with which a block ends. There is an error only where
 /// there is no memory for it.
+#[inline(always)]
 pub fn reserve(into: &mut Vec<Stmt>, count: usize) -> Result<(), Memory>
     ensures { into.new.items ≡ into.old.items }
 {

@@ -86,6 +86,7 @@ fn source_by(constant: bool, value: u32) -> Src
 }
 
 /// What a phi is given: the value of a variable, or that of a constant of the module.
+#[inline(always)]
 pub fn source(module: &Module, value: u32) -> Src
     ensures { result ≡ source_of «module».now.globals value }
 {

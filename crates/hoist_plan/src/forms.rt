@@ -35,6 +35,7 @@ impl Forms {
     }
 }
 
+#[inline(always)]
 fn is_live(row: &Row, mentions: &[SlotPlace]) -> bool
     ensures { result ≡ is_live_result (placed mentions.now row.now) }
 {

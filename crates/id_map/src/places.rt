@@ -110,6 +110,7 @@ impl PlaceMap {
     }
 
     /// Takes the place of an id out of the tree.
+    #[inline(always)]
     fn drop_other(&mut self, id: u32)
         ensures least { self.new.least ≡ self.old.least }
         ensures slots { self.new.slots ≡ self.old.slots }

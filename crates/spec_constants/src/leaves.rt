@@ -97,6 +97,7 @@ fn is_composite(module: &Module, ty: u32) -> bool
 }
 
 /// OpConstantComposite, OpConstantNull, OpSpecConstantComposite, OpSpecConstantOp, OpUndef.
+#[inline(always)]
 fn may_be_composite(op: Op) -> bool
     ensures { result ≡ may_be_composite_op op }
 {

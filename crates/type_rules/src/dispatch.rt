@@ -76,6 +76,7 @@ pub fn rule_of(group: OpGroup) -> Rule
 }
 
 /// T2 to T12.
+#[inline(always)]
 pub fn is_value_broken(
     known: &mut Known,
     scope: &Scope,

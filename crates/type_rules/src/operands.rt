@@ -89,6 +89,7 @@ fn suits(need: Need, inst: &Inst) -> bool
 }
 
 /// Whether a global before a word is what is needed.
+#[inline(always)]
 pub fn is_global(scope: &Scope, before: u32, need: Need, id: u32) -> bool
     ensures { result ≡ is_global_before scope.now.m.globals before need id }
 {
