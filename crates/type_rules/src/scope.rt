@@ -187,11 +187,12 @@ impl<'a, 'b> Scope<'a, 'b> {
         ensures { result ≡ scalars op self.now ty }
     {
         let row = self.type_row(ty)?;
-        if row.op != Op::TypeVector {
-            return Some(u32::from(row.op == op));
+        if row.op == Op::TypeVector {
+            let part = self.type_row(row.operand(0))?;
+            Some(if part.op == op { row.operand(1) } else { 0 })
+        } else {
+            Some(u32::from(row.op == op))
         }
-        let part = self.type_row(row.operand(0))?;
-        Some(if part.op == op { row.operand(1) } else { 0 })
     }
 
     /// The same of a value's type.
