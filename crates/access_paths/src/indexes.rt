@@ -13,6 +13,7 @@ use std::alloc::Global;
 
 /// Whether an index is a constant of the module, and so the same wherever it is read (SPIR-V 1.6,
 /// section 2.2.1): a constant, a specialization constant, or an OpUndef outside functions.
+#[inline(always)]
 pub fn is_constant_index(module: &Module, index: Id) -> bool
     ensures { result ≡ is_constant_index_of «module».now.globals index.0 }
 {

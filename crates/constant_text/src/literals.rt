@@ -54,6 +54,7 @@ fn chosen_truth(chosen: Option<u32>, default: bool) -> bool
 
 impl Readings<'_> {
     /// The word of a constant of an integer: its own, or that of its override; that of another is 0.
+    #[inline(always)]
     #[tactic(auto, using(crate::proofs::Shapes::zero_word))]
     pub fn word(&self, inst: &Inst) -> u32
         ensures { result ≡ word_of (plain_value self.now inst.now) }

@@ -204,6 +204,7 @@ impl<'a> Readings<'a> {
     }
 
     /// A constant of a scalar type that is not calculated has a literal.
+    #[inline(always)]
     #[tactic(auto, using(crate::proofs::Shapes::scalar_rules))]
     fn has_literal(&self, inst: &Inst) -> bool
         ensures { result ≡ has_literal_of self.now inst.now }

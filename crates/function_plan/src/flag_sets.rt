@@ -27,6 +27,7 @@ fn mark(marks: &mut Vec<bool>, block: usize) -> Result<(), AllocError>
 }
 
 /// A mark for each of these blocks.
+#[inline(always)]
 fn marks_of(alloc: Global, blocks: &[usize]) -> Result<Vec<bool>, AllocError>
     ensures { IfOk result (λ marks. (b : ℕ) → slice_index_or marks.items b false ≡ is_among blocks.now b) }
 {

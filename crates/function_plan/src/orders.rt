@@ -121,6 +121,7 @@ fn add_order(
 }
 
 /// The orders of the targets of the switches that are reached.
+#[inline(always)]
 #[tactic(auto, using(crate::proofs::Ordered::order_rules))]
 pub fn orders_of(alloc: Global, places: &Places) -> Result<Orders, Memory>
     ensures { IfOk result (λ orders. (h : ℕ) → order_in orders h ≡ order_by places.now h) }

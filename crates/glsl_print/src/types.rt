@@ -120,6 +120,7 @@ fn print_extent<K: Sink>(extent: &Extent, sink: &mut K, page: &mut Page)
 }
 
 /// Prints a type.
+#[inline(always)]
 pub fn print_type<K: Sink>(ty: &TypeName, sink: &mut K, page: &mut Page)
     ensures { Goes K.written K.faults K.wants sink.old page.old (type_text (type_of ty.now)) sink.new page.new }
 {

@@ -22,6 +22,7 @@ use spv_words::Memory;
 use std::alloc::Global;
 
 /// The operation of an opcode and, of OpExtInst, of its number in GLSL.std.450. There is none exactly where neither stands for one.
+#[inline(always)]
 #[tactic(auto, unfolding(op_semantics::specs::Value::operation_of))]
 pub fn operation(op: Op, ext: u32) -> Option<Operation>
     ensures { result ≡ operation_by op (ext ∷ []) }

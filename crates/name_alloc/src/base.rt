@@ -104,6 +104,7 @@ fn worded_number(alloc: Global, word: &str, number: u32) -> Result<Name, Memory>
 
 /// The given name cleaned, or the letter with the number where nothing is left of it. No word begins with a letter and a
 /// digit.
+#[inline(always)]
 fn named(alloc: Global, given: &Option<Vec<u8>>, letter: &str, number: u32) -> Result<Name, Memory>
     requires { IsLetter letter.now }
     ensures { IfOk result (λ base. name_text base ≡ given_base (option_map (λ v. v.items) given.now) letter.now number) }

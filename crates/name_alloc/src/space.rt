@@ -86,6 +86,7 @@ fn put(space: &mut Space, name: Name, number: usize) -> Result<(usize, Option<us
 }
 
 /// Takes the base, or the base with the first free number, and gives the name's place.
+#[inline(always)]
 pub fn claim(alloc: Global, space: &mut Space, base: Name) -> Result<usize, Memory>
     requires { IsSkipping space.old }
     ensures claimed { OnOk result (IsClaimed space.old space.new (name_text base) (claimed_name space.old (name_text base))) }

@@ -306,7 +306,7 @@ pub fn is_enter(nodes: &[Node], block: usize, to: usize, role: Role) -> bool
 }
 
 /// The kind of an edge that enters no block and merges no selection, where it has one.
-#[inline(never)]
+#[inline(always)]
 #[tactic(auto, using(crate::proofs::Origins::origin_rules, crate::proofs::Origins::outer_rules))]
 fn outer_kind(nodes: &[Node], origin: &Origin, to: usize, role: Role) -> Option<EdgeKind>
     requires origin { IsOrigin nodes.now origin.now.block origin.now }

@@ -50,6 +50,7 @@ fn step_type(module: &Module, index: u32, ty: u32) -> Option<u32>
 
 /// The type to which an index leads from a type, where there is one: that of a struct's member, of an
 /// array's element, of a vector's component (SPIR-V 1.6, "Memory Instructions", OpAccessChain).
+#[inline(always)]
 pub fn next_type(module: &Module, index: u32, ty: Option<u32>) -> Option<u32>
     ensures { result ≡ option_and_then (step_type_in «module».now.globals index) ty }
 {

@@ -75,6 +75,7 @@ fn is_typed(inst: &Inst) -> bool
 }
 
 /// Whether a global is what is needed.
+#[inline(always)]
 fn suits(need: Need, inst: &Inst) -> bool
     ensures { result ≡ suits_need need inst.now }
 {
@@ -172,6 +173,7 @@ fn lacks_operand(scope: &Scope, inst: &Inst, ids: IdWords, k: usize, id: u32) ->
 }
 
 /// Whether one of these operands is not there.
+#[inline(always)]
 fn lacks_some(scope: &Scope, inst: &Inst, ids: IdWords, args: &[u32]) -> bool
     requires { (j : ℕ) → has_id ids j ≡ is_id inst.now.op inst.now.args j }
     ensures { result ≡ list_any (lacks_operand_by (there scope.now inst.now.at) inst.now) (enumerate_from 0 args.now) }

@@ -183,6 +183,7 @@ impl<'a, 'b> Scope<'a, 'b> {
 
     /// How many scalars that this opcode declares a scalar or vector type is made of, and 0 of every
     /// other type.
+    #[inline(always)]
     pub fn count(&self, op: Op, ty: u32) -> Option<u32>
         ensures { result ≡ scalars op self.now ty }
     {

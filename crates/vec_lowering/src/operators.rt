@@ -25,6 +25,7 @@ fn operator_of(operation: Operation, ty: BasicType) -> Option<Operator>
 /// The operator that `lower_vector` writes an instruction on two operands with, by its opcode and the type of its result: that of
 /// OpIAdd to OpIMul, OpUDiv, OpUMod, a shift, a bitwise operation, or of scalars a comparison by order. There is none exactly of
 /// any other instruction.
+#[inline(always)]
 pub fn operator(op: Op, ty: BasicType) -> Option<Operator>
     ensures { result ≡ operators.operator_if_any (operation_by op (0 ∷ [])) ty }
 {
