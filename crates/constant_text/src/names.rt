@@ -9,7 +9,7 @@ use spv_words::Memory;
 use std::alloc::Global;
 
 /// The name of a key, to stand in the tree; that of one that was not claimed is empty. There is an error only for want of memory.
-#[inline(never)]
+#[inline(always)]
 pub fn name(alloc: Global, names: &Names, key: Key) -> Result<Name, Memory>
     ensures { IfOk result (λ w. name_text w ≡ unwrap_or (name_in names.now key) []) }
 {

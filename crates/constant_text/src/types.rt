@@ -106,6 +106,7 @@ impl Readings<'_> {
     }
 
     /// The name of the type that an instruction declares, and `uint` where it declares none.
+    #[inline(always)]
     #[tactic(auto, unfolding(spv_types::specs::Types::kind), using(crate::proofs::Bases::base_rules))]
     fn type_name_at(&self, alloc: Global, names: &Names, inst: &Inst) -> Result<TypeName, Memory>
         ensures { IfOk result (λ t. type_of t ≡ type_text (spelling self.now (id_names names.now)) (outline_at_of self.now.of.globals inst.now)) }

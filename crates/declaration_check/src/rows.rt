@@ -50,6 +50,7 @@ fn add_inst<'a>(rows: &mut Rows<'a>, inst: &'a Inst) -> Result<(), AllocError>
     }
 }
 
+#[inline(always)]
 fn add_insts<'a>(rows: &mut Rows<'a>, insts: &'a [Inst]) -> Result<(), AllocError>
     requires { AreKept rows.old }
     ensures { OnOk result (WithMore insts.now rows.old rows.new) }

@@ -74,6 +74,7 @@ impl Context<'_, '_> {
 
     /// A pointer as the left side of an assignment, in the block at a place (GLSL 4.60, section 5.8). There is an error only for
     /// want of memory.
+    #[inline(always)]
     pub fn place_text(&self, alloc: Global, block: usize, pointer: Id) -> Result<LValue, Memory>
         ensures { IfOk result (λ l. lvalue_of l ≡ place_text_of (setting_of self.now) block pointer.0) }
     {
@@ -85,6 +86,7 @@ impl Context<'_, '_> {
     }
 
     /// A pointer as an expression, in the block at a place. There is an error only for want of memory.
+    #[inline(always)]
     #[tactic(auto, using(glsl_ast::proofs::Views::expr_rows))]
     pub fn place_expr(&self, alloc: Global, block: usize, pointer: Id) -> Result<Expr, Memory>
         ensures { IfOk result (λ e. expr_of e ≡ place_expr_of (setting_of self.now) block pointer.0) }

@@ -75,7 +75,7 @@ fn is_number(ty: Option<Elem>) -> bool
 
 impl Context<'_, '_> {
     /// The word of an integer constant that is written as a literal.
-    #[inline(never)]
+    #[inline(always)]
     #[tactic(auto, unfolding(crate::specs::Paths::literal_word))]
     fn literal_word(&self, inst: &Inst) -> Option<u32>
         ensures { result ≡ literal_word_of (setting_of self.now) inst.now }

@@ -98,6 +98,7 @@ impl PlannedFunction<'_, '_> {
     }
 
     /// An assignment to the variable of a phi.
+    #[inline(always)]
     #[tactic(auto, using(glsl_ast::proofs::Views::stmt_rows))]
     fn set_variable(&self, alloc: Global, variable: Var, value: Expr) -> Result<Stmt, Memory>
         ensures { IfOk result (λ s. stmt_of s ≡ variable_set (scope_of self.now.context) variable (expr_of value)) }

@@ -182,6 +182,7 @@ impl<'a, 'b> PlannedFunction<'a, 'b> {
     }
 
     /// The declaration of a variable of a type.
+    #[inline(always)]
     #[tactic(auto, using(glsl_ast::proofs::Views::stmt_rows))]
     pub fn declared(
         &self,

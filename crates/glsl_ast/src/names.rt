@@ -38,6 +38,7 @@ impl Name {
     }
 
     /// The name of two texts, one behind the other. There is an error only where there is no memory for it.
+    #[inline(always)]
     pub fn joined(alloc: Global, front: &str, back: &str) -> Result<Name, Memory>
         ensures { IfOk result (λ name. name_text name ≡ front.now ++ back.now) }
     {

@@ -173,6 +173,7 @@ pub fn print_separator<K: Sink>(i: usize, sink: &mut K, page: &mut Page)
 }
 
 /// Prints a value behind a fixed piece, and the end of the line.
+#[inline(always)]
 pub fn print_value<K: Sink>(mark: Mark, value: &Expr, sink: &mut K, page: &mut Page)
     ensures { Goes K.written K.faults K.wants sink.old page.old (value_text mark (expr_of value.now)) sink.new page.new }
 {

@@ -13,6 +13,7 @@ use glsl_grammar::Mark;
 use itoa::Buffer;
 
 /// Prints a number in decimal. Many have one digit.
+#[inline(always)]
 pub fn print_number<K: Sink>(number: u32, sink: &mut K, page: &mut Page)
     ensures { Goes K.written K.faults K.wants sink.old page.old (decimal number) sink.new page.new }
 {

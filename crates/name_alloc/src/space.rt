@@ -76,6 +76,7 @@ fn free_number(
 
 /// Takes a name, with the number that is tried first behind it, and gives its place and the number that was there, if the
 /// name was taken.
+#[inline(always)]
 fn put(space: &mut Space, name: Name, number: usize) -> Result<(usize, Option<usize>), Memory>
     ensures was { IfOk result (λ r. r.1 ≡ number_at space.old (name_text name)) }
     ensures puts { OnOk result (IsPut space.old space.new (name_text name) number) }

@@ -10,6 +10,7 @@ use spv_module::Inst;
 use spv_ops::Op;
 
 /// Whether one of these values is not of this type.
+#[inline(always)]
 pub fn has_other(scope: &Scope, ty: u32, ids: &[u32]) -> bool
     ensures { result ≡ list_any (is_other scope.now.m.globals (types scope.now) ty) ids.now }
 {
@@ -31,6 +32,7 @@ fn has_misfit(scope: &Scope, tys: &[u32], ids: &[u32]) -> bool
 }
 
 /// Whether these are not values of these types, one of each.
+#[inline(always)]
 pub fn are_other_members(scope: &Scope, tys: &[u32], ids: &[u32]) -> bool
     ensures { result ≡ are_others_of scope.now.m.globals (types scope.now) tys.now ids.now }
 {

@@ -72,6 +72,7 @@ impl<'a, 'b> Judge<'a, 'b> {
     }
 
     /// T2 to T20, and T25.
+    #[inline(always)]
     pub fn is_broken(&mut self, inst: &Inst, group: OpGroup) -> Result<bool, Memory>
         ensures value { IfOk result (λ b. b ≡ (is_value_at_fault self.old.m (types self.old) inst.now group || is_number_at_fault self.old.m.globals (types self.old) inst.now group)) }
         ensures same { self.new ≡ self.old }
