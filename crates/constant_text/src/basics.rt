@@ -93,6 +93,7 @@ fn sized(elem: Elem, size: u32) -> Basic
     }
 }
 
+#[inline(always)]
 #[tactic(auto, using(crate::proofs::Basic::vector_rules))]
 fn vector_type(module: &Module, inst: &Inst) -> Basic
     ensures { basic_tree result ≡ basic_of (vector_tree (tree_before «module».now.globals inst.now.at (slice_index inst.now.args 0)) (slice_index inst.now.args 1)) }

@@ -39,6 +39,7 @@ fn add_type(types: &mut Vec<u32>, known: &mut IdSet, ty: u32) -> Result<(), Allo
     known.insert(ty)
 }
 
+#[inline(always)]
 fn add_inst<'a>(rows: &mut Rows<'a>, inst: &'a Inst) -> Result<(), AllocError>
     requires { AreKept rows.old }
     ensures { OnOk result (WithMore (inst.now ∷ []) rows.old rows.new) }

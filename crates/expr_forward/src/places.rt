@@ -53,6 +53,7 @@ pub(crate) fn walked(alloc: Global, from: Expr, steps: Vec<LStep>) -> Result<Exp
 
 impl Context<'_, '_> {
     /// The name of what a path leads from: that of what is built in, else its own.
+    #[inline(always)]
     fn base_name(&self, alloc: Global, id: Id) -> Result<Name, Memory>
         ensures { IfOk result (λ w. name_text w ≡ base_text (setting_of self.now) id.0) }
     {
@@ -63,6 +64,7 @@ impl Context<'_, '_> {
     }
 
     /// The steps of a path from what a value points to.
+    #[inline(always)]
     fn steps_from(&self, alloc: Global, base: Id, steps: &[Step]) -> Result<Vec<LStep>, Memory>
         ensures { IfOk result (λ list. map step_of list.items ≡ steps_text (setting_of self.now) (unwrap_or (pointee_of self.now.source.of.globals self.now.function base.0) 0) steps.now) }
     {

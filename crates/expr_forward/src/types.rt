@@ -39,6 +39,7 @@ impl Context<'_, '_> {
     /// The name of a type (GLSL 4.60, section 4.1), and `uint` of what is none. There is an error only for want of memory.
     ///
     /// The cost does not grow with the members of structs.
+    #[inline(always)]
     pub fn type_name_of(&self, alloc: Global, ty: u32) -> Result<TypeName, Memory>
         ensures { IfOk result (λ t. type_of t ≡ type_at self.now.source (all_names self.now.names) ty) }
     {

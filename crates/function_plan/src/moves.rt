@@ -66,6 +66,7 @@ pub fn phi_blocks(alloc: Global, function: &Function, naming: &Naming) -> Result
 }
 
 /// Whether an id is that of a constant of the module.
+#[inline(always)]
 fn is_constant_id(module: &Module, id: u32) -> bool
     ensures { result ≡ is_constant_id_in «module».now.globals id }
 {

@@ -74,6 +74,7 @@ fn case_literal(ty: Option<Elem>, word: u32) -> Literal
 
 impl PlannedFunction<'_, '_> {
     /// The variable of a phi, or of what a phi is given.
+    #[inline(always)]
     fn variable(&self, alloc: Global, variable: Var) -> Result<Name, Memory>
         ensures { IfOk result (λ n. name_text n ≡ key_text self.now.context.names (IdKey (id_of variable.0))) }
     {
@@ -160,6 +161,7 @@ impl PlannedFunction<'_, '_> {
     }
 
     /// The name of a flag, where it is needed.
+    #[inline(always)]
     fn flag(&self, needed: bool, key: Key) -> Option<&str>
         ensures { option_map (λ s. s.now) result ≡ when needed (key_text self.now.context.names key) }
     {

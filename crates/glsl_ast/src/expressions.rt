@@ -96,6 +96,7 @@ impl Expr {
 
     /// A member or a component of an expression (GLSL 4.60, sections 5.5 and 5.7). There is an error only where there is no memory for
     /// it.
+    #[inline(always)]
     #[tactic(auto, using(crate::proofs::Views::expr_rows))]
     pub fn member(alloc: Global, of: Expr, name: Name) -> Result<Expr, Memory>
         ensures { IfOk result (λ e. expr_of e ≡ Rattle.glsl_ast.specs.Tree.Expr.member (expr_of of) (name_text name)) }

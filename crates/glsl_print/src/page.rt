@@ -134,7 +134,7 @@ impl Page {
     }
 
     // Prints so many blanks.
-    #[inline(never)]
+    #[inline(always)]
     fn put_blanks<K: Sink>(&mut self, count: usize, sink: &mut K)
         requires { count ≤ 4096 }
         ensures { Goes K.written K.faults K.wants sink.old self.old (replicate count 32) sink.new self.new }

@@ -24,6 +24,7 @@ pub fn print_number<K: Sink>(number: u32, sink: &mut K, page: &mut Page)
     }
 }
 
+#[inline(always)]
 fn print_digits<K: Sink>(number: u32, sink: &mut K, page: &mut Page)
     ensures { Goes K.written K.faults K.wants sink.old page.old (decimal number) sink.new page.new }
 {
@@ -83,6 +84,7 @@ fn print_vector<K: Sink>(word: Mark, size: u8, sink: &mut K, page: &mut Page)
     print_number(u32::from(size), sink, page);
 }
 
+#[inline(always)]
 fn print_base<K: Sink>(base: &Base, sink: &mut K, page: &mut Page)
     ensures { Goes K.written K.faults K.wants sink.old page.old (base_text (base_of base.now)) sink.new page.new }
 {
@@ -129,6 +131,7 @@ pub fn print_type<K: Sink>(ty: &TypeName, sink: &mut K, page: &mut Page)
     print_extents(&ty.extents, sink, page);
 }
 
+#[inline(always)]
 fn print_extents<K: Sink>(extents: &[Extent], sink: &mut K, page: &mut Page)
     ensures { Goes K.written K.faults K.wants sink.old page.old (extents_text (map extent_of extents.now)) sink.new page.new }
 {

@@ -55,6 +55,7 @@ fn shifting(op: BinOp, elem: Elem, converts: bool) -> Operator
 
 /// The operator of an operation on two operands with a result of such components. There is none exactly where the operation is
 /// a division with a sign, a minimum or a maximum.
+#[inline(always)]
 pub fn arithmetic_operator(op: Binary, elem: Elem) -> Option<Operator>
     ensures { result ≡ operator.arithmetic_operator op elem }
 {

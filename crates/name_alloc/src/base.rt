@@ -95,6 +95,7 @@ fn guarded(alloc: Global, text: String) -> Result<Name, Memory>
 }
 
 /// The word with the number behind it.
+#[inline(always)]
 fn worded_number(alloc: Global, word: &str, number: u32) -> Result<Name, Memory>
     ensures { IfOk result (λ name. name_text name ≡ word.now ++ decimal number) }
 {

@@ -34,6 +34,7 @@ pub fn is_struct(module: &Module, ty: u32) -> bool
 }
 
 /// The type to which an index into a type leads.
+#[inline(always)]
 fn step_type(module: &Module, index: u32, ty: u32) -> Option<u32>
     ensures { result ≡ step_type_in «module».now.globals index ty }
 {

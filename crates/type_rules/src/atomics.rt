@@ -9,6 +9,7 @@ use spv_module::Inst;
 use spv_ops::Op;
 
 /// Whether a value does not point to this type.
+#[inline(always)]
 pub fn points_to_other(scope: &Scope, pointer: u32, ty: u32) -> bool
     ensures { result ≡ points_elsewhere scope.now.m.globals (types scope.now) pointer ty }
 {

@@ -133,6 +133,7 @@ fn is_atomic_broken(scope: &Scope, inst: &Inst, op: AtomicOp) -> bool
 }
 
 /// T13 to T20, and T25.
+#[inline(always)]
 pub fn is_number_broken(scope: &Scope, inst: &Inst, group: OpGroup) -> bool
     ensures { result ≡ is_number_at_fault scope.now.m.globals (types scope.now) inst.now group }
 {

@@ -134,6 +134,7 @@ fn has_repeat_among_many(alloc: Global, words: &[u32]) -> Result<bool, AllocErro
 }
 
 /// Whether a word stands twice in a list.
+#[inline(always)]
 fn has_repeat(alloc: Global, words: &[u32]) -> Result<bool, AllocError>
     ensures { IfOk result (λ b. b ≡ has_a_repeat words.now) }
 {

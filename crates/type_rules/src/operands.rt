@@ -250,6 +250,7 @@ fn lacks_operands(scope: &Scope, inst: &Inst) -> bool
 }
 
 /// T1: whether the result type or an operand of an instruction is not there.
+#[inline(always)]
 pub fn is_lacking(scope: &Scope, inst: &Inst) -> bool
     ensures { result ≡ lacks (there scope.now inst.now.at) inst.now }
 {
