@@ -16,7 +16,7 @@ abbrev pub expr_at : List (ℕ × Expr) → ℕ → ℕ → Option text.Expr
 expr_at exprs id place = option_and_then (expr_for id) (slice_get exprs place)
 
 -- the place that is noted for an id; there is none before the first is noted
-abbrev pub place_in : Option (PlaceMap) → ℕ → Option ℕ
+abbrev pub place_in : Option PlaceMap → ℕ → Option ℕ
 place_in None id = None
 place_in (Some places) id = id_place places id
 

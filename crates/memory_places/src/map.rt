@@ -56,7 +56,7 @@ pub struct MemoryMap<'a> {
 impl<'a> Model for MemoryMap<'a> {
     ghost use Rattle.memory_places.specs.Kernel.{Kernel, kernel};
     ghost use Rattle.memory_places.specs.Held.{IsHeld};
-    ghost use Rattle.id_map.specs.Entries.{entry_in};
+    ghost use Rattle.id_map.specs.Entries.{id_place};
     ghost use Rattle.std.specs.Coded.{codes};
     ghost use Rattle.spv_module.specs.contracts.tree.Value as value_type;
 
@@ -66,7 +66,7 @@ impl<'a> Model for MemoryMap<'a> {
 
     ghost view = { λ m. kernel m.source.now m.entry.0 m.constants.now };
 
-    ghost invariant = { λ m. IsHeld (kernel m.source.now m.entry.0 m.constants.now) m.decor.now (entry_in m.shared) m.fine };
+    ghost invariant = { λ m. IsHeld (kernel m.source.now m.entry.0 m.constants.now) m.decor.now (id_place m.shared) m.fine };
 }
 
 impl<'a> MemoryMap<'a> {

@@ -1,7 +1,7 @@
 // The numbers of the Workgroup variables that are mentioned.
 ghost use Rattle.std.specs.Prelude.{◌≡◌, ℕ, filter, map, min, IfOk};
 ghost use Rattle.std.specs.Option.{option_map_or};
-ghost use Rattle.id_map.specs.Entries.{entry_in, is_in};
+ghost use Rattle.id_map.specs.Entries.{id_place, is_in};
 ghost use Rattle.module_semantics.specs.Setting.{is_in_class as is_in_class_of, shared_number};
 ghost use Rattle.spv_module.specs.State.{ModuleState};
 ghost use Rattle.memory_places.specs.Kernel.{bare_from};
@@ -49,7 +49,7 @@ pub fn shared_places(
     entry: u32,
 ) -> Result<Places, Memory>
     requires { AreMentioned «module».now entry (is_in mentioned.now) }
-    ensures { IfOk result (λ places. AreNumbers «module».now entry (entry_in places)) }
+    ensures { IfOk result (λ places. AreNumbers «module».now entry (id_place places)) }
 {
     let ids = shared_ids(alloc, module.globals(), mentioned)?;
     Ok(places_of(alloc, &ids)?)
@@ -77,7 +77,7 @@ fn place_or_none(place: Option<usize>) -> u32
 /// The number of a variable by its place, 0 where it has none, and at most the greatest of 32 bits.
 #[tactic(auto, using(crate::proofs::Numbers::number_is))]
 pub fn number(places: &Places, id: u32) -> u32
-    ensures { (m : ModuleState) (entry : ℕ) → AreNumbers m entry (entry_in places.now) → result ≡ min most_variables (shared_number (bare_from m entry) id) }
+    ensures { (m : ModuleState) (entry : ℕ) → AreNumbers m entry (id_place places.now) → result ≡ min most_variables (shared_number (bare_from m entry) id) }
 {
     place_or_none(places.get(id))
 }
