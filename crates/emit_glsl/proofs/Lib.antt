@@ -1,4 +1,0 @@
-mod Unasked
-pub mod Expressed
-pub mod Placing
-pub mod Made

@@ -2,4 +2,3 @@ pub use Rattle.unit_rules.specs.Translation
 pub use Rattle.unit_rules.specs.Unit
 pub use Rattle.unit_rules.specs.Text
 pub mod Given
-pub mod Reached

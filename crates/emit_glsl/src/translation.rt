@@ -6,13 +6,13 @@ ghost use Rattle.module_check.specs.Judged.{IsFine, IsFault};
 ghost use Rattle.unit_rules.specs.Text.{IsTranslationOf};
 ghost use Rattle.emit_glsl.specs.Given.{IsGiven};
 
-use crate::unit::{Translation, text_of};
 use module_check::check_module;
 use profile_check::Options;
 use spv_decor::Decor;
 use spv_module::Module;
 use spv_words::Fault;
 use std::alloc::Global;
+use unit_text::{Translation, text_of};
 
 /// The text of a module that was read, for the entry point and with the overrides of the options (GLSL 4.60, with the layout
 /// qualifiers of Vulkan).

@@ -21,7 +21,7 @@ use phi_copies::Move;
 use spv_module::{Function, Id, Inst, Module};
 use spv_words::Memory;
 use std::alloc::{AllocError, Global};
-use text_items::FunctionClaims;
+use text_rules::FunctionClaims;
 
 fn is_save(step: &Move) -> bool
     ensures { result ≡ is_save_move step.now }

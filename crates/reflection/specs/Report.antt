@@ -1,39 +1,11 @@
 -- The report on a module and its text.
-use Rattle.std.specs.Prelude.{◌≡◌, Bool, List, [], Option, Some, None, codes, drop, find}
-use Rattle.std.specs.Option.{option_map_or}
-use Rattle.std.specs.List.{filter_map}
-use Rattle.std.specs.Str.Lossy.{utf8_lossy}
-use Rattle.spv_ops.specs.Opcode.{is}
-use Rattle.spv_ops.specs.declared.Op.TheVariants as code
+use Rattle.std.specs.Prelude.{◌≡◌}
 use Rattle.spv_module.specs.State.{ModuleState}
-use Rattle.spv_module.specs.declared.inst.Inst.{Inst}
-use Rattle.spv_decor.specs.Rows.{text_of}
-use Rattle.glsl_ast.specs.Tree.{Text, TranslationUnit, translation_unit}
+use Rattle.glsl_ast.specs.Tree.{TranslationUnit}
 use Rattle.conformance.specs.Rules.{Options}
 use Rattle.emit_glsl.specs.Text.{IsTranslationOf}
-use Rattle.serde_json.specs.Data.{Data, string, object, member, no_members}
-use Rattle.reflection.specs.Sizes.{array_of, size_data, size_ids_data}
-use Rattle.reflection.specs.Blocks.{block_data, shared_data}
-use Rattle.reflection.specs.Constants.{spec}
-
--- OpEntryPoint
-abbrev pub is_entry_point : Inst → Bool
-is_entry_point i = is i.op code.EntryPoint
-
--- the name in it, which is UTF-8 where the module was read from words
-abbrev pub name_in : Inst → Text
-name_in i = utf8_lossy (text_of (drop 2 i.args))
-
--- the name of the entry point: the one that is asked for, else that of the only one
-abbrev pub entry_name : Option Text → List Inst → Text
-entry_name (Some name) heads = name
-entry_name None heads = option_map_or name_in (find is_entry_point heads) []
-
-abbrev pub report_data : ModuleState → Option Text → TranslationUnit → Data
-report_data m name (translation_unit ss ds) =
-    object (member (codes "blocks") (array_of (filter_map block_data ds)) (member (codes "entry") (string (entry_name name m.heads))
-    (member (codes "shared") (array_of (filter_map shared_data ds)) (member (codes "size") (size_data ss) (member (codes "size_ids") (size_ids_data ss)
-    (member (codes "spec") (array_of (spec m (translation_unit ss ds))) no_members))))))
+use Rattle.serde_json.specs.Data.{Data}
+use Rattle.text_report.specs.Report.{report_data}
 
 -- the data are the report on a module by its text, for an entry point and with overrides
 pub record IsReport (m : ModuleState) (o : Options) (data' : Data) : Type 0 where

@@ -1,10 +1,6 @@
-// The report on the text of a module: its blocks, shared variables, workgroup size and specialization constants.
+// The report on a module, which is judged and translated first.
 #![tactic(auto)]
 
-mod blocks;
-mod constants;
 mod reports;
-mod sizes;
-mod types;
 
 pub use reports::report;

@@ -7,12 +7,13 @@ ghost use Rattle.few_law.specs.Short.{HasFewArgs, IsShortBlock, IsShort};
 ghost use Rattle.text_items.specs.View.{claims_of};
 
 use crate::Written;
-use crate::functions::{Claimant, FunctionClaims};
+use crate::functions::Claimant;
 use crate::list::ClaimList;
 use name_alloc::{Claim, Key};
 use spv_module::{Block, Function, Id, Inst};
 use spv_words::Memory;
 use std::alloc::Global;
+use text_rules::FunctionClaims;
 
 /// The label of the block with an index, 0 where there is none.
 fn label(function: &Function, block: usize) -> Id

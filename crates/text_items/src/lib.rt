@@ -25,7 +25,6 @@ mod written;
 
 pub use asked::asks_live;
 pub use flow::claims;
-pub use functions::FunctionClaims;
 pub use globals::global_expr;
 pub use items::declarations;
 pub use live::Live;

@@ -2,6 +2,8 @@
 // definitions, and the plain types that they speak of.
 #![tactic(auto)]
 
+mod claims;
 mod readings;
 
+pub use claims::FunctionClaims;
 pub use readings::Reading;

@@ -9,7 +9,7 @@ use Rattle.accepted_law.proofs.Small.{read_small, read_few}
 use Rattle.grammar_law.proofs.Height.Unit.{accepted-low}
 use Rattle.grammar_law.proofs.Grammar.Accepted.{accepted-in-grammar}
 use Rattle.emit_glsl.specs.Given.{IsGiven}
-use Rattle.emit_glsl.proofs.Made.{made_unit}
+use Rattle.unit_text.proofs.Made.{made_unit}
 use Rattle.emit_glsl.proofs.translation.translate.Goals as goal
 
 pub check_module-requires-clause-read : goal.check_module-requires-clause-read

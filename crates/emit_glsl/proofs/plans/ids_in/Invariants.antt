@@ -1,6 +1,0 @@
-use Rattle.std.proofs.Common.{◌≡◌, map, take}
-use Rattle.emit_glsl.specs.Reached.{id_in}
-use Rattle.emit_glsl.proofs.plans.ids_in.Given as goal
-
-abbrev pub invariant-loop-plan : goal.invariant-loop-plan
-invariant-loop-plan l = l.ids.items ≡ map id_in (take l.plan-index l.plans)

@@ -1,0 +1,5 @@
+pub mod Blocks
+pub mod Sizes
+pub mod Constants
+pub mod Places
+pub mod Report

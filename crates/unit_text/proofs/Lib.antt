@@ -1,0 +1,4 @@
+mod Unasked
+pub mod Expressed
+pub mod Placing
+pub mod Made
