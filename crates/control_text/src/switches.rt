@@ -78,11 +78,9 @@ pub fn in_order(
     ensures { IfOk result (λ arms. map arm_of arms.items ≡ arms_in_order order.now (by_target (map group_written groups.items))) }
 {
     if stand_in_order(order, &groups) {
-        let arms = as_they_stand(alloc, groups)?;
-        return Ok(arms);
+        return Ok(as_they_stand(alloc, groups)?);
     }
-    let arms = reordered(alloc, order, groups)?;
-    Ok(arms)
+    Ok(reordered(alloc, order, groups)?)
 }
 
 impl<'w, B: BlockText> Writer<'w, B> {

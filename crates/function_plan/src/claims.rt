@@ -101,8 +101,7 @@ fn has_saves(plan: &FunctionPlan, block: usize) -> bool
 fn has_spares(plan: &FunctionPlan, block: usize) -> bool
     ensures { result ≡ false → flat_map (claim_spares (claimed_by plan.now) block) ((claimed_by plan.now).targets block) ≡ [] }
 {
-    let found = has_saves(plan, block);
-    found
+    has_saves(plan, block)
 }
 
 impl FunctionClaims for FunctionPlan<'_> {

@@ -82,8 +82,7 @@ fn put(space: &mut Space, name: Name, number: usize) -> Result<(usize, Option<us
     ensures puts { OnOk result (IsPut space.old space.new (name_text name) number) }
     ensures stands { IfOk result (λ r. text_at space.new r.0 ≡ Some (name_text name)) }
 {
-    let put = space.insert_full(name, number)?;
-    Ok(put)
+    Ok(space.insert_full(name, number)?)
 }
 
 /// Takes the base, or the base with the first free number, and gives the name's place.

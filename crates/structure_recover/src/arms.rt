@@ -157,8 +157,7 @@ pub fn targets_of(alloc: Global, places: &Places, head: usize) -> Result<Vec<usi
     requires { (nth places.now head).reached ≡ true }
     ensures { IfOk result (λ targets. AreTargets places.now head targets.items) }
 {
-    let order = in_function(alloc, node(places, head).targets.as_slice())?;
-    Ok(order)
+    Ok(in_function(alloc, node(places, head).targets.as_slice())?)
 }
 
 /// The targets of a switch with their literals, in the order in which they stand in the function.

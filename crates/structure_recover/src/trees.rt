@@ -173,6 +173,5 @@ pub fn recover(alloc: Global, f: &Function, places: &Places) -> Result<Region, M
     ensures once { IfOk result (λ r. StandsOnce (graph f.now) (region_of r)) }
 {
     let _nodes = places.nodes();
-    let tree = region(alloc, f, places, first(f, places))?;
-    Ok(tree)
+    region(alloc, f, places, first(f, places))
 }

@@ -133,8 +133,7 @@ pub fn places_in(alloc: Global, plans: &[FunctionPlan]) -> Result<Places, Memory
     ensures { IfOk result (λ places. ArePlaces plans.now places) }
 {
     let ids = ids_in(alloc, plans)?;
-    let places = places_of(alloc, ids.as_slice())?;
-    Ok(places)
+    places_of(alloc, ids.as_slice())
 }
 
 /// The plan of the function with an id.

@@ -3,4 +3,4 @@ use Rattle.function_plan.proofs.Spared.{no_spares}
 use Rattle.function_plan.proofs.claims.has_spares.Goals as goal
 
 pub returns : goal.returns
-returns c = λ none. no_spares c.args.plan.now c.args.block (sym c.has_saves-found.ensures ∙ none)
+returns c = λ none. no_spares c.args.plan.now c.args.block (sym c.has_saves.ensures ∙ none)
