@@ -37,7 +37,9 @@ fn entry_name(alloc: Global, name: Option<&str>, heads: &[Inst]) -> Result<Strin
     }
 }
 
-/// The report by a text of the module.
+/// The report on a module by the tree of its text, as one object of JSON (RFC 8259): its blocks, the name of its entry point, its shared
+/// variables, the size of workgroups, and the constants with a SpecId. `name` is the entry point that is asked for. There is an error only
+/// for want of memory.
 pub fn report_of(
     alloc: Global,
     unit: &Unit,
