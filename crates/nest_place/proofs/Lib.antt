@@ -4,6 +4,8 @@ pub mod Reading
 pub mod Naming
 pub mod Parenthood
 pub mod Outward
+pub mod Ringed
+pub mod Sharing
 pub mod Placing
 pub mod Origins
 pub mod Nested

@@ -3,5 +3,7 @@ pub mod Links
 pub mod Checks
 pub mod Steps
 pub mod Spots
+pub mod Rings
+pub mod Shared
 pub mod Nests
 pub mod Cycles

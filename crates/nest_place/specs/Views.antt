@@ -7,6 +7,6 @@ use Rattle.structure_rules.specs.declared.graph.Part.{Part}
 abbrev pub Graph : Type 0
 Graph = List Node
 
--- constructs, from inside out
-abbrev pub Parts : Type 0
-Parts = List Part
+-- lists of constructs, each from inside out
+abbrev pub Lists : Type 0
+Lists = List (List Part)

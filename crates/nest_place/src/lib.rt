@@ -15,6 +15,7 @@ mod nest;
 mod outer;
 mod parents;
 mod refusal;
+mod rings;
 mod spots;
 
 pub use found::Places;

@@ -32,7 +32,7 @@ impl Model for Nest {
 
     ghost view = { λ n. n.nodes.items };
 
-    ghost invariant = { λ n. IsNest n.nodes.items n.roles.items n.spots.spots.items n.spots.lists.items };
+    ghost invariant = { λ n. IsNest n.nodes.items n.roles.items n.spots.spots.items n.spots.lists };
 }
 
 impl Nest {
@@ -82,7 +82,7 @@ impl Nest {
         ensures { result.now ≡ place_of self.now block }
     {
         let spot = self.spots.spots[block];
-        self.spots.lists[spot.place].as_slice()
+        self.spots.lists.at(spot.place)
     }
 
     /// The constructs round the blocks inside a reached block.
@@ -93,7 +93,7 @@ impl Nest {
         ensures { result.now ≡ inner_of self.now block }
     {
         let spot = self.spots.spots[block];
-        self.spots.lists[spot.inner].as_slice()
+        self.spots.lists.at(spot.inner)
     }
 
     /// The nearest loop round the edges of a reached block.

@@ -1,5 +1,5 @@
 // The constructs round each block, and its nesting.
-ghost use Rattle.std.specs.Prelude.{◌≡◌, ◌<◌, ◌++◌, ◌∷◌, [], length, vec_len, true, IfOk, OnOk, IfErr, if◌then◌else◌};
+ghost use Rattle.std.specs.Prelude.{◌≡◌, ◌<◌, [], length, true, IfOk, OnOk, IfErr, if◌then◌else◌};
 ghost use Rattle.structure_rules.specs.Graph.{nth, is_conditional as is_conditional_exit};
 ghost use Rattle.structure_rules.specs.Nesting.{opened, is_loose as is_loose_node, role as role_of};
 ghost use Rattle.nest_place.specs.Steps.{AreRoles};
@@ -8,6 +8,7 @@ ghost use Rattle.nest_place.specs.Spots.{list_at, part_list, Extends, IsSpot, Ar
 use crate::forms::{is_conditional, is_selection};
 use crate::outer::Constructs;
 use crate::parents::parent;
+use crate::rings::Rings;
 use spv_words::{Fault, Limit};
 use std::alloc::{AllocError, Global};
 use structure_rules::{Merge, Node, Part, Role};
@@ -34,24 +35,7 @@ const NOWHERE: Spot = Spot {
 #[derive(Drop)]
 pub struct Spots {
     pub spots: Vec<Spot>,
-    pub lists: Vec<Constructs>,
-}
-
-/// Adds the list at a place with one more construct inside.
-fn add(
-    alloc: Global,
-    lists: &mut Vec<Constructs>,
-    part: Part,
-    around: usize,
-) -> Result<usize, AllocError>
-    requires { around < vec_len lists.old }
-    ensures place { IfOk result (λ place. place ≡ length lists.old.items) }
-    ensures lists { OnOk result (lists.new.items ≡ lists.old.items ++ (part ∷ list_at lists.old.items around) ∷ []) }
-{
-    let list = Constructs::within(alloc, part, lists[around].as_slice())?;
-    let place = lists.len();
-    lists.push(list)?;
-    Ok(place)
+    pub lists: Constructs,
 }
 
 /// The construct that a block opens.
@@ -93,28 +77,27 @@ fn parent_spot(role: Role, spots: &[Spot]) -> Spot
 /// Where a block with this role stands, and its nesting.
 #[tactic(auto, using(crate::proofs::Placing::place_rules))]
 fn place_of(
-    alloc: Global,
     nodes: &[Node],
     role: Role,
     block: usize,
     spot: Spot,
-    lists: &mut Vec<Constructs>,
+    lists: &mut Rings,
 ) -> Result<(usize, usize), AllocError>
-    requires known { IsParentSpot nodes.now role lists.old.items spot }
-    requires some { 0 < vec_len lists.old }
-    requires empty { list_at lists.old.items 0 ≡ [] }
-    ensures placed { IfOk result (IsPlaced nodes.now block role lists.new.items) }
-    ensures kept { OnOk result (Extends lists.old.items lists.new.items) }
+    requires known { IsParentSpot nodes.now role lists.old spot }
+    requires some { 0 < length lists.old }
+    requires empty { list_at lists.old 0 ≡ [] }
+    ensures placed { IfOk result (IsPlaced nodes.now block role lists.new) }
+    ensures kept { OnOk result (Extends lists.old lists.new) }
 {
     match role {
         Role::First => Ok((0, 0)),
         Role::Merge(_) => Ok((spot.place, spot.nesting)),
         Role::Continue(header) => {
-            let place = add(alloc, lists, Part::Cont(header), spot.place)?;
+            let place = lists.add(Part::Cont(header), spot.place)?;
             Ok((place, 1 + spot.nesting))
         }
         Role::Case(switch) => {
-            let place = add(alloc, lists, Part::Case(switch, block), spot.place)?;
+            let place = lists.add(Part::Case(switch, block), spot.place)?;
             Ok((place, 1 + spot.nesting))
         }
         Role::Inside(_) => Ok((spot.inner, spot.inside)),
@@ -124,24 +107,23 @@ fn place_of(
 /// The spot of a reached block, where it is not nested too deep.
 #[tactic(auto, using(crate::proofs::Placing::spot_rules))]
 fn spot_of(
-    alloc: Global,
     nodes: &[Node],
     role: Role,
     block: usize,
     spots: &[Spot],
-    lists: &mut Vec<Constructs>,
+    lists: &mut Rings,
 ) -> Result<Spot, Fault>
     requires inside { block < length nodes.now }
     requires reached { (nth nodes.now block).reached ≡ true }
     requires role { role ≡ role_of nodes.now block }
     requires grounded { IsGrounded nodes.now }
-    requires spots { AreSpots nodes.now block spots.now lists.old.items }
-    ensures spot { IfOk result (IsSpot nodes.now lists.new.items block) }
-    ensures kept { OnOk result (Extends lists.old.items lists.new.items) }
+    requires spots { AreSpots nodes.now block spots.now lists.old }
+    ensures spot { IfOk result (IsSpot nodes.now lists.new block) }
+    ensures kept { OnOk result (Extends lists.old lists.new) }
     ensures limit { IfErr result (IsDeepFault nodes.now) }
 {
     let outer = parent_spot(role, spots);
-    let (place, nesting) = place_of(alloc, nodes, role, block, outer, lists)?;
+    let (place, nesting) = place_of(nodes, role, block, outer, lists)?;
     if nesting > 127 {
         return Err(Fault::Limit(Limit::Depth));
     }
@@ -155,7 +137,7 @@ fn spot_of(
         }),
         Some(part) => Ok(Spot {
             place,
-            inner: add(alloc, lists, part, place)?,
+            inner: lists.add(part, place)?,
             nesting,
             inside: 1 + looseness(node) + nesting,
         }),
@@ -168,20 +150,20 @@ fn spot_of(
 pub fn place_blocks(alloc: Global, nodes: &[Node], roles: &[Role]) -> Result<Spots, Fault>
     requires roles { AreRoles nodes.now roles.now }
     requires grounded { IsGrounded nodes.now }
-    ensures spots { IfOk result (λ s. AreSpots nodes.now (length nodes.now) s.spots.items s.lists.items) }
+    ensures spots { IfOk result (λ s. AreSpots nodes.now (length nodes.now) s.spots.items s.lists) }
     ensures shallow { OnOk result (IsShallow nodes.now) }
     ensures limit { IfErr result (IsDeepFault nodes.now) }
 {
-    let mut lists = Vec::new(alloc);
-    lists.push(Constructs::none(alloc))?;
+    let mut lists = Rings::none(alloc);
     let mut spots = Vec::with_capacity(alloc, nodes.len())?;
     for (block, node) in nodes.iter().enumerate() {
         let spot = if node.reached {
-            spot_of(alloc, nodes, roles[block], block, &spots, &mut lists)?
+            spot_of(nodes, roles[block], block, &spots, &mut lists)?
         } else {
             NOWHERE
         };
         spots.push(spot)?;
     }
+    let lists = Constructs::of(alloc, &lists)?;
     Ok(Spots { spots, lists })
 }
