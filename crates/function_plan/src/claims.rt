@@ -1,5 +1,5 @@
 // The names that a function claims.
-ghost use Rattle.std.specs.Prelude.{◌≡◌, [], IfOk, false, flat_map, map, min};
+ghost use Rattle.std.specs.Prelude.{◌≡◌, IfOk, map, min};
 ghost use Rattle.std.specs.List.{list_any};
 ghost use Rattle.few_law.specs.Short.{HasFewArgs};
 ghost use Rattle.hoist_plan.specs.Kept.{is_carried_in};
@@ -8,7 +8,6 @@ ghost use Rattle.function_plan.specs.Planned.{spares_in, captured_numbers, numbe
 ghost use Rattle.function_plan.specs.Spares.{saves_any as saves_any_of, has_saves_to};
 ghost use Rattle.function_plan.specs.Claimed.{claimed_by};
 ghost use Rattle.function_plan.specs.Targets.{targets_in};
-ghost use Rattle.text_rules.specs.Claims.{claim_spares};
 
 use crate::flag_sets::{again_at, fell_at, leave_at};
 use crate::named::is_captured;
@@ -97,13 +96,6 @@ fn has_saves(plan: &FunctionPlan, block: usize) -> bool
     targets.iter().any(|target| saves_to(plan, block, *target))
 }
 
-/// Whether a block claims spares.
-fn has_spares(plan: &FunctionPlan, block: usize) -> bool
-    ensures { result ≡ false → flat_map (claim_spares (claimed_by plan.now) block) ((claimed_by plan.now).targets block) ≡ [] }
-{
-    has_saves(plan, block)
-}
-
 impl FunctionClaims for FunctionPlan<'_> {
     ghost plan = { claimed_by };
 
@@ -140,7 +132,7 @@ impl FunctionClaims for FunctionPlan<'_> {
     }
 
     fn has_spares(&self, block: usize) -> bool {
-        has_spares(self, block)
+        has_saves(self, block)
     }
 
     fn spares(&self, from: usize, to: usize) -> u32 {
