@@ -9,7 +9,7 @@ ghost use Rattle.spv_words.specs.declared.rule.Rule.TheVariants.{P10};
 ghost use Rattle.profile_rules.specs.declared.size.SizePart.TheVariants.{Fixed};
 ghost use Rattle.profile_rules.specs.TypeRows.{type_row};
 ghost use Rattle.profile_rules.specs.Places.{is_defined_elsewhere};
-ghost use Rattle.profile_rules.specs.Entry.{is_same_spec as is_same_spec_in, is_uint as is_uint_row, is_no_uint as is_no_uint_in, is_no_uvec3 as is_no_uvec3_in, is_no_size as is_no_size_in, is_no_part as is_no_part_in, are_no_sizes as are_no_sizes_in, is_bad_composite as is_bad_composite_in, is_bad_size as is_bad_size_in, is_bad_size_id as is_bad_size_id_in, is_size_composite as is_size_composite_row, size_part as size_part_in, size_by_literals, size_by_ids, group_size as group_size_in, p10_of, composite_faults};
+ghost use Rattle.profile_rules.specs.Entry.{is_same_spec as is_same_spec_in, is_no_uint as is_no_uint_in, is_no_uvec3 as is_no_uvec3_in, is_no_size as is_no_size_in, is_no_part as is_no_part_in, are_no_sizes as are_no_sizes_in, is_bad_composite as is_bad_composite_in, is_bad_size as is_bad_size_in, is_bad_size_id as is_bad_size_id_in, is_size_composite as is_size_composite_row, size_part as size_part_in, size_by_literals, size_by_ids, group_size as group_size_in, p10_of, composite_faults};
 ghost use Rattle.declaration_check.specs.Checked.{IsChecked};
 
 use crate::context::Context;
@@ -38,18 +38,11 @@ fn is_same_spec(context: &Context, a: u32, b: u32) -> bool
     }
 }
 
-/// OpTypeInt of 32 bits without a sign.
-pub fn is_uint(inst: &Inst) -> bool
-    ensures { result ≡ is_uint_row inst.now }
-{
-    inst.op == Op::TypeInt && inst.operand(0) == 32 && inst.operand(1) == 0
-}
-
 /// Whether an id is that of another type than uint.
 fn is_no_uint(context: &Context, id: u32) -> bool
     ensures { result ≡ is_no_uint_in context.now.globals id }
 {
-    context.type_row(id).map_or(false, |inst| !is_uint(inst))
+    context.type_row(id).map_or(false, |inst| !inst.is_uint())
 }
 
 /// Whether a type is no vector of three uints.

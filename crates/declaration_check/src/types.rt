@@ -54,7 +54,7 @@ pub fn check_uses(alloc: Global, context: &Context) -> Result<(), Fault>
 fn is_other_int(inst: &Inst) -> bool
     ensures { result ≡ is_other_int_row inst.now }
 {
-    inst.op == Op::TypeInt && !(inst.operand(0) == 32 && inst.operand(1) <= 1)
+    inst.op == Op::TypeInt && !(inst.is_uint() || inst.is_sint())
 }
 
 /// Whether an id is that of something else than OpTypeBool or OpTypeInt.

@@ -15,7 +15,7 @@ ghost use Rattle.declaration_check.specs.Flaws.{has_flaw as has_flaw_in};
 
 use crate::context::Context;
 use crate::refusal::refuse_at;
-use crate::size::{is_no_uvec3, is_uint};
+use crate::size::is_no_uvec3;
 use spv_module::Inst;
 use spv_ops::{BuiltIn, Decoration, Op, StorageClass};
 use spv_words::{Fault, Rule};
@@ -98,7 +98,7 @@ fn is_other_input_type(context: &Context, built_in: u32, inst: &Inst) -> bool
     ensures { result ≡ is_other_input_type_in context.now.globals built_in inst.now }
 {
     if built_in == BuiltIn::LocalInvocationIndex.number() {
-        !is_uint(inst)
+        !inst.is_uint()
     } else {
         is_no_uvec3(context, inst)
     }

@@ -6,12 +6,13 @@ use Rattle.spv_ops.specs.Opcode.{is, number}
 use Rattle.spv_ops.specs.declared.Op.{Op}
 use Rattle.spv_ops.specs.declared.Op.TheVariants as code
 use Rattle.spv_module.specs.Held.{global}
+use Rattle.spv_module.specs.Ints.{is_sint}
 use Rattle.spv_module.specs.declared.inst.Inst.{Inst}
 use Rattle.spv_module.specs.declared.tree.Elem.{Elem}
 use Rattle.spv_module.specs.declared.tree.Length.{Length}
 use Rattle.spv_types.specs.Tree.{Tree, Trees, int, uint, vector, runtime, struct}
 use Rattle.spv_types.specs.Types.{kind, tree_by_kind, int_tree, vector_tree, sized_vector, elem_of, array_tree, all_trees, length_by, tree_at, tree_before}
-use Rattle.memory_places.specs.Types.{is_signed_tree, is_signed_inst}
+use Rattle.memory_places.specs.Types.{is_signed_tree}
 
 pick : (a z o : Bool) → (z ≡ true → o ≡ true → ⊥) → is_signed_tree (if a then (if z then Some uint else (if o then Some int else None)) else None) ≡ (a && o)
 pick false z o apart = refl
@@ -57,5 +58,5 @@ signed_by gs f g code.TypeRuntimeArray = no_runtime (f (slice_index g.args 0))
 signed_by gs f g code.TypeStruct = no_struct g.result (all_trees f g.args)
 signed_by gs f g _ = refl
 
-pub signed_type : (gs : List Inst) (g : Inst) → is_signed_tree (tree_at gs g) ≡ is_signed_inst g
+pub signed_type : (gs : List Inst) (g : Inst) → is_signed_tree (tree_at gs g) ≡ is_sint g
 signed_type gs g = signed_by gs (tree_before gs g.at) g g.op

@@ -1,16 +1,10 @@
 -- Integers of 32 bits with a sign.
-use Rattle.std.specs.Prelude.{ℕ, ◌==◌, ◌&&◌, ◌^◌, nat_lt, if◌then◌else◌, Bool, true, false, Option, Some, None, slice_index}
-use Rattle.spv_ops.specs.Opcode.{is}
-use Rattle.spv_ops.specs.declared.Op.TheVariants as code
-use Rattle.spv_module.specs.declared.inst.Inst.{Inst}
+use Rattle.std.specs.Prelude.{ℕ, ◌^◌, nat_lt, if◌then◌else◌, Bool, true, false, Option, Some, None}
 use Rattle.spv_types.specs.Tree.{Tree, int}
 
 abbrev pub is_signed_tree : Option Tree → Bool
 is_signed_tree (Some int) = true
 is_signed_tree _ = false
-
-abbrev pub is_signed_inst : Inst → Bool
-is_signed_inst g = (is g.op code.TypeInt) && (slice_index g.args 0 == 32) && (slice_index g.args 1 == 1)
 
 -- the word, unless it is below zero as a number with a sign
 abbrev pub length_if : Bool → ℕ → Option ℕ

@@ -12,7 +12,7 @@ ghost use Rattle.module_semantics.specs.Setting.{Setting};
 ghost use Rattle.module_semantics.specs.Memory as memory;
 ghost use Rattle.memory_places.specs.Capped.{most_bytes};
 ghost use Rattle.memory_places.specs.Kernel.{bare, bare_with};
-ghost use Rattle.memory_places.specs.Types.{is_signed_tree, is_signed_inst, length_if};
+ghost use Rattle.memory_places.specs.Types.{is_signed_tree, length_if};
 
 use constant_values::Constants;
 use spv_decor::Decor;
@@ -106,14 +106,8 @@ fn is_signed(module: &Module, ty: u32) -> bool
 {
     match module.global(Id(ty)) {
         None => false,
-        Some(inst) => is_signed_type(inst),
+        Some(inst) => inst.is_sint(),
     }
-}
-
-fn is_signed_type(inst: &Inst) -> bool
-    ensures { result ≡ is_signed_inst inst.now }
-{
-    inst.op == Op::TypeInt && inst.operand(0) == 32 && inst.operand(1) == 1
 }
 
 fn word_of(value: Option<&Value>) -> Option<u32>

@@ -131,10 +131,7 @@ impl<'a, 'b> Scope<'a, 'b> {
     pub fn is_no_uint(&self, ty: u32) -> bool
         ensures { result ≡ fails is_uint self.now.m.globals ty }
     {
-        match self.type_row(ty) {
-            Some(row) => row.op != Op::TypeInt || row.operand(0) != 32 || row.operand(1) != 0,
-            None => false,
-        }
+        self.type_row(ty).map_or(false, |row| !row.is_uint())
     }
 
     /// Whether these are two types, and not the same. Most ids that are asked about are the same.

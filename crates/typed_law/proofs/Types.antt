@@ -14,6 +14,7 @@ use Rattle.spv_ops.specs.declared.Op.{Op}
 use Rattle.spv_ops.specs.declared.Op.TheVariants as code
 use Rattle.spv_module.specs.State.{ModuleState}
 use Rattle.spv_module.specs.Held.{global}
+use Rattle.spv_module.specs.Ints.{is_uint, is_sint}
 use Rattle.spv_module.specs.Inst.{has_type, has_result}
 use Rattle.spv_module.specs.declared.inst.Inst.{Inst}
 use Rattle.spv_module.specs.declared.tree.Elem.{Elem}
@@ -115,6 +116,16 @@ unfolding number
 scalar_shaped code.TypeBool e = refl
 scalar_shaped code.TypeInt e = refl
 scalar_shaped o e = cc
+
+-- the words of a type of integers without a sign, or with one
+int_words : (on wide : Bool) (s : ℕ) → ((on && wide && (s == 0)) || (on && wide && (s == 1))) ≡ true → (wide && nat_le s 1) ≡ true
+int_words false wide s h = cc
+int_words true false s h = cc
+int_words true true s h = by_sign (s == 0) refl h
+  where
+    by_sign : (plain : Bool) → (s == 0) ≡ plain → (plain || (s == 1)) ≡ true → nat_le s 1 ≡ true
+    by_sign true at some = grind (arith, nat_tests, at)
+    by_sign false at some = grind (arith, nat_tests, some)
 
 int_shape : (w s : ℕ) → ((w == 32) && nat_le s 1) ≡ true → (t : Tree) × (int_tree w s ≡ Some t)
 int_shape w s e = by_width (w == 32) refl e
@@ -259,7 +270,7 @@ module _ (m : ModuleState) (entry : Option (List ℕ)) (right : IsConforming m e
 
     by_op : ShapedOp g.op → (t : Tree) × (tree_at Gs g ≡ Some t)
     by_op (of_bool k) = by_kind BoolKind k (boolean, refl)
-    by_op (of_int k on) = by_kind Int k (int_shape (word g 0) (word g 1) (not-false ((word g 0 == 32) && nat_le (word g 1) 1) (and_off (is g.op code.TypeInt) (not ((word g 0 == 32) && nat_le (word g 1) 1)) (of_form g there).0 on)))
+    by_op (of_int k on) = by_kind Int k (int_shape (word g 0) (word g 1) (int_words (is g.op code.TypeInt) (word g 0 == 32) (word g 1) (not-false (is_uint g || is_sint g) (and_off (is g.op code.TypeInt) (not (is_uint g || is_sint g)) (of_form g there).0 on))))
     by_op (of_vector k on three ids needed) = by_kind Vector k (vector_of on ids needed (vector_least g.op (length g.args) k least))
     by_op (of_array k on ids needed constant) = by_kind Array k (array_of k on ids needed constant (operands_least g.op (length g.args) (inl k) least))
     by_op (of_runtime k ids needed) = by_kind Runtime k (runtime_of k ids needed (runtime_least g.op (length g.args) k least))
