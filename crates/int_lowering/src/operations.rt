@@ -117,9 +117,9 @@ fn called(alloc: Global, op: Binary, ty: BasicType, a: Operand, b: Operand) -> R
     ensures { IfOk result (λ e. expr_of e ≡ lowered.called op ty (plain a) (plain b)) }
 {
     match op {
-        Binary::SDiv => convert(alloc, ty, Elem::Uint, signed_quotient(alloc, &a, &b)?),
-        Binary::SRem => convert(alloc, ty, Elem::Uint, signed_remainder(alloc, &a, &b)?),
-        Binary::SMod => convert(alloc, ty, Elem::Uint, signed_modulo(alloc, &a, &b)?),
+        Binary::SDiv => signed_quotient(alloc, ty, &a, &b),
+        Binary::SRem => signed_remainder(alloc, ty, &a, &b),
+        Binary::SMod => signed_modulo(alloc, ty, &a, &b),
         Binary::UMin => lesser(alloc, ty, Elem::Uint, a, b),
         Binary::SMin => lesser(alloc, ty, Elem::Int, a, b),
         Binary::UMax => greater(alloc, ty, Elem::Uint, a, b),
@@ -249,10 +249,9 @@ pub fn clamp(alloc: Global, op: Clamp, ty: BasicType, args: &mut Args) -> Result
 pub fn extract(alloc: Global, elem: Elem, ty: BasicType, args: &mut Args) -> Result<Expr, Memory>
     ensures { IfOk result (λ e. expr_of e ≡ lowered.extracted elem ty (first (map operand_of (into_iter_items args.old))) (second (map operand_of (into_iter_items args.old))) (third (map operand_of (into_iter_items args.old)))) }
 {
-    let x = next_operand(args).into_elem(alloc, elem)?;
-    let offset = next_operand(args).into_elem(alloc, Elem::Int)?;
-    let count = next_operand(args).into_elem(alloc, Elem::Int)?;
-    let parts = vec![in alloc; x, offset, count]?;
+    let x = next_elem(alloc, args, elem)?;
+    let offset = next_elem(alloc, args, Elem::Int)?;
+    let parts = vec![in alloc; x, offset, next_elem(alloc, args, Elem::Int)?]?;
     let of = call_built_in(alloc, BuiltIn::BitfieldExtract, parts)?;
     convert(alloc, ty, elem, of)
 }
@@ -260,11 +259,10 @@ pub fn extract(alloc: Global, elem: Elem, ty: BasicType, args: &mut Args) -> Res
 pub fn insert(alloc: Global, elem: Elem, args: &mut Args) -> Result<Expr, Memory>
     ensures { IfOk result (λ e. expr_of e ≡ lowered.inserted elem (first (map operand_of (into_iter_items args.old))) (second (map operand_of (into_iter_items args.old))) (third (map operand_of (into_iter_items args.old))) (fourth (map operand_of (into_iter_items args.old)))) }
 {
-    let base = next_operand(args).into_elem(alloc, elem)?;
-    let insert = next_operand(args).into_elem(alloc, elem)?;
-    let offset = next_operand(args).into_elem(alloc, Elem::Int)?;
-    let count = next_operand(args).into_elem(alloc, Elem::Int)?;
-    let parts = vec![in alloc; base, insert, offset, count]?;
+    let base = next_elem(alloc, args, elem)?;
+    let insert = next_elem(alloc, args, elem)?;
+    let offset = next_elem(alloc, args, Elem::Int)?;
+    let parts = vec![in alloc; base, insert, offset, next_elem(alloc, args, Elem::Int)?]?;
     call_built_in(alloc, BuiltIn::BitfieldInsert, parts)
 }
 
