@@ -1,3 +1,4 @@
+pub mod Opcodes
 pub mod Words
 pub mod Lists
 pub mod Rules

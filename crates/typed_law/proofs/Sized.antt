@@ -26,6 +26,7 @@ use Rattle.plan_law.specs.InOrder.{IsAmong, AreRising}
 use Rattle.fits_law.proofs.Steps.{named}
 use Rattle.typed_law.specs.Conforms.{IsConforming}
 use Rattle.typed_law.proofs.Lists.{found_in, earlier_some}
+use Rattle.typed_law.proofs.Opcodes.{of_number}
 
 -- what stands behind
 pub rising_low : (n : ℕ) (is : List Inst) (i : Inst) → AreRising n is → IsAmong i is → n ≤ i.at
@@ -35,8 +36,7 @@ rising_low n (j ∷ is) i rise (inr there) = let first = rise.0 in let later = r
 
 constant_fixed : (o : Op) (id w : ℕ) → is o code.Constant ≡ true → length_of o id w ≡ Some (Fixed w)
 unfolding number
-constant_fixed code.Constant id w e = refl
-constant_fixed o id w e = cc
+constant_fixed o id w = of_number code.Constant (λ (p : Op). length_of p id w ≡ Some (Fixed w)) refl o
 
 -- the shape of a type has values where its parts' shapes have, and the length of an array is an OpConstant
 module _ (gs : List Inst) (before : ℕ → Option Tree) (g : Inst) (fine : ℕ → Type 0) (sized : (p : ℕ) (u : Tree) → before p ≡ Some u → fine p → IsSized u) where

@@ -42,6 +42,7 @@ use Rattle.type_law.proofs.Vectors.{five_off}
 use Rattle.typed_law.specs.Conforms.{size_of, IsConforming}
 use Rattle.typed_law.proofs.Lists.{any_none, found_in, earlier_some}
 use Rattle.typed_law.proofs.Rules.{operand_there, global_there, formed_type, pointed_type}
+use Rattle.typed_law.proofs.Opcodes.{of_number}
 
 -- the opcodes of types that have shapes, and what T1 asks of their operands
 data ShapedOp (o : Op) : Type 0 where
@@ -83,13 +84,11 @@ vector_least o n e le = cc
 -- a pointer's second operand is a type
 pub pointer_id : (o : Op) (args : List ℕ) → is o code.TypePointer ≡ true → is_id o args 1 ≡ true
 unfolding number is_id
-pointer_id code.TypePointer args e = refl
-pointer_id o args e = cc
+pointer_id o args = of_number code.TypePointer (λ (p : Op). is_id p args 1 ≡ true) refl o
 
 pointer_need : (o : Op) → is o code.TypePointer ≡ true → need o 1 ≡ AnyType
 unfolding number need takes_of group_of
-pointer_need code.TypePointer e = refl
-pointer_need o e = cc
+pointer_need = of_number code.TypePointer (λ (p : Op). need p 1 ≡ AnyType) refl
 
 -- opcodes of lengths
 constant_length : (o : Op) (id w : ℕ) → (is o code.Constant ≡ true) ⊎ (is_specialization o ≡ true) → (l : Length) × (length_of o id w ≡ Some l)

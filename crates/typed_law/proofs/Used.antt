@@ -38,6 +38,7 @@ use Rattle.typed_law.proofs.Lists.{found_in, earlier_some}
 use Rattle.typed_law.proofs.Rules.{operand_there, global_there, used_type}
 use Rattle.typed_law.proofs.Types.{type_before, of_form}
 use Rattle.typed_law.proofs.Sized.{rising_low, sized_by}
+use Rattle.typed_law.proofs.Opcodes.{of_number}
 
 among_append : (xs ys : List ℕ) (id : ℕ) → is_among (xs ++ ys) id ≡ (is_among xs id || is_among ys id)
 among_append [] ys id = refl
@@ -99,8 +100,8 @@ array_part o args e inside = cc
 
 pub struct_part : (o : Op) (args : List ℕ) (p : ℕ) → is o code.TypeStruct ≡ true → is_among args p ≡ true → is_among (option_map_or (λ (ids : List ℕ). ids) (ids_by_kind (kind o) args) []) p ≡ true
 unfolding kind number
-struct_part code.TypeStruct args p e there = there
-struct_part o args p e there = cc
+struct_part o args p =
+    of_number code.TypeStruct (λ (q : Op). is_among args p ≡ true → is_among (option_map_or (λ (ids : List ℕ). ids) (ids_by_kind (kind q) args) []) p ≡ true) (λ there. there) o
 
 array_least : (o : Op) (n : ℕ) → is o code.TypeArray ≡ true → (shape o).least ≤ 1 + count_of (has_type o) + count_of (has_result o) + n → 2 ≤ n
 unfolding number shape

@@ -48,6 +48,7 @@ use Rattle.typed_law.proofs.Rules.{type_there, operand_there, global_there, poin
 use Rattle.typed_law.proofs.Types.{type_shaped, row_is}
 use Rattle.typed_law.proofs.Sized.{value_type_is}
 use Rattle.typed_law.proofs.Used.{used_sized}
+use Rattle.typed_law.proofs.Opcodes.{of_number}
 
 -- opcodes
 pointer_is_type : (o : Op) → is o code.TypePointer ≡ true → is_type_op o ≡ true
@@ -66,8 +67,7 @@ type_suits o g e = e
 
 pub variable_type_is : (o : Op) (g : Inst) → is o code.Variable ≡ true → suits (type_need o) g ≡ true → is g.op code.TypePointer ≡ true
 unfolding number
-variable_type_is code.Variable g on e = e
-variable_type_is o g on e = cc
+variable_type_is o g = of_number code.Variable (λ (p : Op). suits (type_need p) g ≡ true → is g.op code.TypePointer ≡ true) (λ e. e) o
 
 pub type_outside : (m : ModuleState) (f : Function) (n id : ℕ) (o : Op) → is_in_function m f n (type_need o) id ≡ false
 type_outside m f n id code.Variable = refl
@@ -167,13 +167,13 @@ zip_none test (ty ∷ tys) (q ∷ ps) p many e (inr there) =
 -- operands of a function type
 pub function_id : (o : Op) (args : List ℕ) (k : ℕ) → is o code.TypeFunction ≡ true → is_id o args k ≡ true
 unfolding number is_id
-function_id code.TypeFunction args k e = grind (arith, nat_tests)
-function_id o args k e = cc
+function_id o args k =
+    let each : is_id code.TypeFunction args k ≡ true = grind (arith, nat_tests) in
+    of_number code.TypeFunction (λ (p : Op). is_id p args k ≡ true) each o
 
 pub function_need : (o : Op) (k : ℕ) → is o code.TypeFunction ≡ true → need o k ≡ AnyType
 unfolding number need takes_of group_of
-function_need code.TypeFunction k e = refl
-function_need o k e = cc
+function_need o k = of_number code.TypeFunction (λ (p : Op). need p k ≡ AnyType) refl o
 
 pub function_least : (o : Op) (n : ℕ) → is o code.TypeFunction ≡ true → (shape o).least ≤ 1 + count_of (has_type o) + count_of (has_result o) + n → 0 < n
 unfolding number shape

@@ -1,5 +1,5 @@
 -- A module of words that break no rule is conforming: its instructions are formed, and have results apart.
-use Rattle.std.proofs.Common.{◌≡◌, ◌<◌, ◌≤◌, ◌+◌, ◌==◌, ◌&&◌, ℕ, suc, Bool, true, false, List, [], ◌∷◌, ◌++◌, length, map, take, drop, min, Option, Some, None, inl, inr, refl, sym, ap, subst, ◌∙◌, if◌then◌else◌, length-take, length-drop, arith}
+use Rattle.std.proofs.Common.{◌≡◌, ◌<◌, ◌≤◌, ◌+◌, ◌==◌, ◌&&◌, ℕ, suc, Bool, true, false, List, [], ◌∷◌, ◌++◌, length, map, drop, min, Option, Some, None, inl, inr, refl, sym, ap, subst, ◌∙◌, if◌then◌else◌, length-take, length-drop, arith}
 use Rattle.std.specs.Prelude.{◌⊎◌, ◌-◌, find, nat_le, nat_lt, unwrap_or, option_map, Contains, slice_index, slice_index_or}
 use Rattle.std.specs.Option.{option_map_or}
 use Rattle.std.proofs.lemmas.Bool.Decides.{eqb_tells, nat_tests}
@@ -97,11 +97,15 @@ own_result None e = cc
 own_result (Some op.Undef) e = refl
 own_result (Some o) e = cc
 
-of_function : (o : Option Op) (w : ℕ → ℕ) → option_map_or kind_of_op o Other ≡ Opening_of → (if has_result (unwrap_or o op.Nop) then w (1 + count_of (has_type (unwrap_or o op.Nop))) else 0) ≡ w 2
+is_function : (o : Op) → kind_of_op o ≡ Opening_of → o ≡ op.Function
 unfolding kind_of_op shape
+is_function op.Function e = refl
+is_function o e = cc
+
+of_function : (o : Option Op) (w : ℕ → ℕ) → option_map_or kind_of_op o Other ≡ Opening_of → (if has_result (unwrap_or o op.Nop) then w (1 + count_of (has_type (unwrap_or o op.Nop))) else 0) ≡ w 2
+unfolding shape
 of_function None w e = cc
-of_function (Some op.Function) w e = refl
-of_function (Some o) w e = cc
+of_function (Some o) w e = subst (λ (p : Op). (if has_result p then w (1 + count_of (has_type p)) else 0) ≡ w 2) (sym (is_function o e)) refl
 
 result_by_other : (k : Kind) (i : Inst) → (k ≡ Debug → ⊥) → result_by k i ≡ i.result
 result_by_other Debug i far = absurd (far refl)

@@ -9,7 +9,6 @@ use Rattle.spv_ops.specs.Shape.{shape}
 use Rattle.spv_ops.specs.declared.Op.{Op}
 use Rattle.spv_ops.specs.declared.Op.TheVariants as code
 use Rattle.spv_ops.specs.declared.OpGroup.TheVariants as groups
-use Rattle.spv_ops.specs.declared.AtomicOp.{AtomicOp}
 use Rattle.spv_module.specs.Held.{global}
 use Rattle.spv_module.specs.Inst.{has_type}
 use Rattle.spv_module.specs.Lists.{id}
@@ -83,40 +82,44 @@ use Rattle.grammar_law.proofs.Meets.PlaceMeets.{Way, load_asks, store_asks, atom
 use Rattle.grammar_law.proofs.Meets.CompositeMeets.{insert_asks, put_asks, value_asks}
 
 -- what kinds are of
-load_op : (o : Op) → kind_of o ≡ inst_kind.Load → is o code.Load ≡ true
+abbrev IsOfKind : InstKind → Op → Type 0
+IsOfKind inst_kind.Load o = is o code.Load ≡ true
+IsOfKind inst_kind.Store o = is o code.Store ≡ true
+IsOfKind inst_kind.Call o = is o code.FunctionCall ≡ true
+IsOfKind inst_kind.Chain o = is_chain o ≡ true
+IsOfKind inst_kind.CompositeInsert o = is o code.CompositeInsert ≡ true
+IsOfKind inst_kind.VectorInsertDynamic o = is o code.VectorInsertDynamic ≡ true
+IsOfKind (inst_kind.Atomic a) o = group_of o ≡ groups.Atomic a
+IsOfKind _ o = Unit {0}
+
+told : (o : Op) → IsOfKind (kind_of o) o
 unfolding kind_of group_of number
-load_op code.Load on = refl
-load_op o on = cc
+told code.Load = refl
+told code.Store = refl
+told code.FunctionCall = refl
+told code.AccessChain = refl
+told code.InBoundsAccessChain = refl
+told code.CompositeInsert = refl
+told code.VectorInsertDynamic = refl
+told code.AtomicLoad = refl
+told code.AtomicStore = refl
+told code.AtomicExchange = refl
+told code.AtomicCompareExchange = refl
+told code.AtomicIIncrement = refl
+told code.AtomicIDecrement = refl
+told code.AtomicIAdd = refl
+told code.AtomicISub = refl
+told code.AtomicSMin = refl
+told code.AtomicUMin = refl
+told code.AtomicSMax = refl
+told code.AtomicUMax = refl
+told code.AtomicAnd = refl
+told code.AtomicOr = refl
+told code.AtomicXor = refl
+told o = tt
 
-store_op : (o : Op) → kind_of o ≡ inst_kind.Store → is o code.Store ≡ true
-unfolding kind_of group_of number
-store_op code.Store on = refl
-store_op o on = cc
-
-call_op : (o : Op) → kind_of o ≡ inst_kind.Call → is o code.FunctionCall ≡ true
-unfolding kind_of group_of number
-call_op code.FunctionCall on = refl
-call_op o on = cc
-
-chain_op : (o : Op) → kind_of o ≡ inst_kind.Chain → is_chain o ≡ true
-unfolding kind_of group_of
-chain_op code.AccessChain on = refl
-chain_op o on = cc
-
-insert_op : (o : Op) → kind_of o ≡ inst_kind.CompositeInsert → is o code.CompositeInsert ≡ true
-unfolding kind_of group_of number
-insert_op code.CompositeInsert on = refl
-insert_op o on = cc
-
-put_op : (o : Op) → kind_of o ≡ inst_kind.VectorInsertDynamic → is o code.VectorInsertDynamic ≡ true
-unfolding kind_of group_of number
-put_op code.VectorInsertDynamic on = refl
-put_op o on = cc
-
-atomic_op : (o : Op) (a : AtomicOp) → kind_of o ≡ inst_kind.Atomic a → group_of o ≡ groups.Atomic a
-unfolding kind_of group_of
-atomic_op code.AtomicStore a on = cc
-atomic_op o a on = cc
+of_kind : (o : Op) (k : InstKind) → kind_of o ≡ k → IsOfKind k o
+of_kind o k on = subst (λ (q : InstKind). IsOfKind q o) on (told o)
 
 -- kinds of instructions whose results have shapes
 abbrev pub is_shaped_kind : InstKind → Bool
@@ -259,17 +262,17 @@ module _ (s : Setting) (entry : Option (List ℕ)) (right : IsConforming s.of en
 
       -- each instruction
       pub inst_meets : (q : InstKind) → kind_of i.op ≡ q → MeetsInst W Found Where (Usable b) b i q
-      inst_meets inst_kind.Load on = load_asks s entry right kinds o unit u p among names structs b r.place r.holder i r.there r.within r.at r.here r.live k.pointer k.declared k.lengths (load_op i.op on)
-      inst_meets inst_kind.Store on = store_asks s entry right kinds o unit u p among names structs b r.place r.holder i r.there r.within r.at r.here r.live k.pointer k.declared k.lengths (store_op i.op on)
-      inst_meets inst_kind.Call on = k.call b i r (call_op i.op on)
-      inst_meets (inst_kind.Atomic a) on = atomic_asks s entry right kinds o unit u p among names structs b r.place r.holder i r.there r.within r.at r.here r.live k.pointer k.declared k.lengths a (atomic_op i.op a on) (k.words i listed).none
-      inst_meets inst_kind.Chain on = chain_meets s entry right kinds o unit u p among names structs b r.holder i r.there r.within (chain_op i.op on) (k.index b i r (chain_op i.op on))
+      inst_meets inst_kind.Load on = load_asks s entry right kinds o unit u p among names structs b r.place r.holder i r.there r.within r.at r.here r.live k.pointer k.declared k.lengths (of_kind i.op inst_kind.Load on)
+      inst_meets inst_kind.Store on = store_asks s entry right kinds o unit u p among names structs b r.place r.holder i r.there r.within r.at r.here r.live k.pointer k.declared k.lengths (of_kind i.op inst_kind.Store on)
+      inst_meets inst_kind.Call on = k.call b i r (of_kind i.op inst_kind.Call on)
+      inst_meets (inst_kind.Atomic a) on = atomic_asks s entry right kinds o unit u p among names structs b r.place r.holder i r.there r.within r.at r.here r.live k.pointer k.declared k.lengths a (of_kind i.op (inst_kind.Atomic a) on) (k.words i listed).none
+      inst_meets inst_kind.Chain on = chain_meets s entry right kinds o unit u p among names structs b r.holder i r.there r.within (of_kind i.op inst_kind.Chain on) (k.index b i r (of_kind i.op inst_kind.Chain on))
       inst_meets inst_kind.CompositeInsert on =
           let shaped_kind : is_shaped_kind (kind_of i.op) ≡ true = ap is_shaped_kind on in
-          insert_asks s entry right kinds o unit u p among names structs b r.place r.holder i r.there r.within r.at r.here r.live (t shaped_kind).0 (t shaped_kind).1 (has shaped_kind) (r.kept (made (has shaped_kind))) (k.words i listed).args k.declared k.lengths (insert_op i.op on)
+          insert_asks s entry right kinds o unit u p among names structs b r.place r.holder i r.there r.within r.at r.here r.live (t shaped_kind).0 (t shaped_kind).1 (has shaped_kind) (r.kept (made (has shaped_kind))) (k.words i listed).args k.declared k.lengths (of_kind i.op inst_kind.CompositeInsert on)
       inst_meets inst_kind.VectorInsertDynamic on =
           let shaped_kind : is_shaped_kind (kind_of i.op) ≡ true = ap is_shaped_kind on in
-          put_asks s entry right kinds o unit u p among names structs b r.place r.holder i r.there r.within r.at r.here r.live (t shaped_kind).0 (t shaped_kind).1 (has shaped_kind) (r.kept (made (has shaped_kind))) (k.words i listed).args k.declared k.lengths (put_op i.op on)
+          put_asks s entry right kinds o unit u p among names structs b r.place r.holder i r.there r.within r.at r.here r.live (t shaped_kind).0 (t shaped_kind).1 (has shaped_kind) (r.kept (made (has shaped_kind))) (k.words i listed).args k.declared k.lengths (of_kind i.op inst_kind.VectorInsertDynamic on)
       inst_meets (inst_kind.Value q) on =
           let shaped_kind : is_shaped_kind (kind_of i.op) ≡ true = ap is_shaped_kind on in
           (set shaped_kind, value_meets shaped_kind (operation_kind_of i.op) refl (λ other. no_other i.op q on (sym (value_kind i.op q on) ∙ other)))
