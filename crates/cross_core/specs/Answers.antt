@@ -41,10 +41,6 @@ IsAnswerBy reports o told text = (d : Data) × (text ≡ compact_text d ++ codes
 IsAnswerBy sums o told text = (listing : List ℕ) × IsTextOf o told listing × IfSome told (λ m. text ≡ summary m listing)
 IsAnswerBy (runs c) o told text = IsRunText c o told text
 
--- the summary of a module and the tree of its text
-abbrev pub IsSummaryOf : ModuleState → TranslationUnit → List ℕ → Type 0
-IsSummaryOf m unit line = (o : Options) → IsOfModule m o unit → IsAnswerBy sums o (Some m) line
-
 -- what a command puts out, where the bytes of the module are told
 abbrev pub IsAnswer : CommandState → Option (List ℕ) → List ℕ → Type 0
 IsAnswer command bytes text = IsAnswerBy command.task command.options (option_map module_in bytes) text

@@ -1,7 +1,5 @@
 // The answer of each action, written to the output.
-ghost use Rattle.std.specs.Prelude.{◌≡◌, ◌≤◌, ◌++◌, [], ◌∷◌, codes, false, Some, IfOk, IfErr, OnOk, OnErr, IsTrue, length, string_bytes};
-ghost use Rattle.serde_json.specs.View.{view};
-ghost use Rattle.serde_json.specs.Written.{compact_text, has_float};
+ghost use Rattle.std.specs.Prelude.{◌≡◌, ◌≤◌, [], ◌∷◌, Some, IfOk, IfErr, OnOk, OnErr, IsTrue, length};
 ghost use Rattle.spv_words.specs.Limit.{limit_number};
 ghost use Rattle.spv_words.specs.Breaks.{NoRuleBroken};
 ghost use Rattle.spv_words.specs.declared.rule.Limit.TheVariants.{Bytes};
@@ -23,21 +21,18 @@ ghost use Rattle.command_line.specs.State.{task_of, is_allowed, runs};
 ghost use Rattle.command_line.specs.Endings.{IsCause, IsEndOfWriting, IsEndOfTask, IsOutput};
 ghost use Rattle.cross_core.specs.Answers.{IsAnswer, IsAnswerBy, above_by, above};
 
-use crate::summaries::summarized;
+use crate::texts::{report_line, summary_line, tree_of};
 use cc_outside::Sink;
 use command_line::{Action, Command, Ending, ending_of, put};
-use emit_glsl::{Translation, translate};
 use glsl_ast::Unit;
 use glsl_print::{PrintEnd, print};
-use module_check::{check_module, read_module};
+use module_check::{judge, read_module};
 use profile_check::Options;
-use reflection::report;
 use run_module::{CaseRun, run_case};
-use serde_json::Value;
 use spv_decor::Decor;
 use spv_module::Module;
 use spv_words::Fault;
-use std::alloc::{AllocError, Global};
+use std::alloc::Global;
 use std::mem::forget;
 
 /// Prints a text.
@@ -51,24 +46,6 @@ fn put_text<K: Sink>(unit: &Unit, output: &mut K) -> Ending
         Err(PrintEnd::Fault) => Ending::WriteFault,
         Err(PrintEnd::Memory) => Ending::Memory,
     }
-}
-
-/// The line of a report.
-fn line_of(alloc: Global, report: &Value) -> Result<String, AllocError>
-    ensures { IfOk result (λ line. has_float (view report.now) ≡ false → string_bytes line ≡ compact_text (view report.now) ++ codes "\n") }
-{
-    let mut line = report.to_string(alloc)?;
-    line.push_str("\n")?;
-    Ok(line)
-}
-
-/// The tree of a text. What it was made by is not given back part by part, since the process ends.
-fn tree_of(text: Translation) -> Unit
-    ensures { result ≡ text.entry.unit }
-{
-    let Translation { unit, parts } = text;
-    forget(parts);
-    unit
 }
 
 /// Writes what a run of a case says, if it is not too much.
@@ -103,24 +80,22 @@ fn written<K: Sink>(
 {
     match action {
         Action::Glsl => {
-            let unit = tree_of(translate(alloc, module, decor, options)?);
+            let unit = tree_of(alloc, module, decor, options)?;
             let ending = put_text(&unit, output);
             // its many parts are not given back one by one, since the process ends
             forget(unit);
             Ok(ending)
         }
         Action::Check => {
-            let _ = check_module(alloc, module, decor, options)?;
+            judge(alloc, module, decor, options)?;
             Ok(put(b"ok\n", output))
         }
         Action::Report => {
-            let report = report(alloc, module, decor, options)?;
-            let line = line_of(alloc, &report)?;
+            let line = report_line(alloc, module, decor, options)?;
             Ok(put(line.as_bytes(), output))
         }
         Action::Summary => {
-            let translation = translate(alloc, module, decor, options)?;
-            let line = summarized(alloc, module, &translation.unit)?;
+            let line = summary_line(alloc, module, decor, options)?;
             Ok(put(line.as_bytes(), output))
         }
         Action::Run(case) => {

@@ -2,7 +2,7 @@
 #![tactic(auto)]
 
 mod answers;
-mod summaries;
+mod texts;
 mod top;
 
 pub use top::cross;

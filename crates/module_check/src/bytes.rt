@@ -6,7 +6,7 @@ ghost use Rattle.conformance.specs.Rules.{Conforms, IsRight, IsWithinLimits};
 ghost use Rattle.module_check.specs.Asked.{asked};
 ghost use Rattle.module_check.specs.ReadFrom.{IsReadFrom, IsUnread};
 
-use crate::judges::check_module;
+use crate::judges::judge;
 use profile_check::Options;
 use spv_decor::Decor;
 use spv_module::Module;
@@ -39,6 +39,5 @@ pub fn check_bytes(alloc: Global, bytes: &[u8], options: &Options) -> Result<(),
 {
     let module = read_module(alloc, bytes)?;
     let decor = Decor::read(alloc, &module)?;
-    let _ = check_module(alloc, &module, &decor, options)?;
-    Ok(())
+    judge(alloc, &module, &decor, options)
 }

@@ -86,3 +86,14 @@ pub fn check_module<'m>(
     check_types(alloc, module, locals.as_slice())?;
     check_later(alloc, module, decor, &options.overrides, locals, entry)
 }
+
+/// Judges a module that was read, as `check_module` does, where nothing else is asked of it.
+pub fn judge(alloc: Global, module: &Module, decor: &Decor, options: &Options) -> Result<(), Fault>
+    requires heads { decor.now ≡ «module».now.heads }
+    requires read { IsRead «module».now }
+    ensures passes { OnOk result (IsFine «module».now (asked options.now)) }
+    ensures refused { IfErr result (IsFault «module».now (asked options.now)) }
+{
+    let _ = check_module(alloc, module, decor, options)?;
+    Ok(())
+}

@@ -6,4 +6,4 @@ mod judges;
 mod structure;
 
 pub use bytes::{check_bytes, read_module};
-pub use judges::{Conforming, check_module};
+pub use judges::{Conforming, check_module, judge};

@@ -38,7 +38,6 @@ pub fn report(
     ensures report { IfOk result (λ v. IsReport «module».now (asked options.now) (view v)) }
     ensures refused { IfErr result (IsFault «module».now (asked options.now)) }
 {
-    let translation = translate(alloc, module, decor, options)?;
-    let unit = &translation.unit;
-    Ok(report_of(alloc, unit, module, decor, options.entry_name())?)
+    let unit = translate(alloc, module, decor, options)?.into_unit();
+    Ok(report_of(alloc, &unit, module, decor, options.entry_name())?)
 }

@@ -90,6 +90,12 @@ has_result n g = g.result == n
 abbrev pub expr_among : Source → Given → List Inst → ℕ → Option Expr
 expr_among s names gs n = if list_any (has_result n) gs then global_expr s (id_names names) n else None
 
+-- functions by their plans, in this order, behind what there was
+pub record AreAdded (s : Source) (names : Given) (ps : List Planned) (order : List Id) (old new : List Decl) : Type 0 where
+  pub globals : Globals
+  pub globals_are : AreGlobals s names globals
+  pub items_are : new ≡ old ++ flat_map (decls_at s names globals ps) order
+
 -- the tree of a text with planned functions, in this order
 pub record IsWritten (s : Source) (size : List SizePart) (order : List Id) (ps : List Planned) (unit : TranslationUnit) : Type 0 where
   pub names : Given

@@ -5,7 +5,7 @@ ghost use Rattle.structure_rules.specs.Graph.{graph};
 ghost use Rattle.use_chains.specs.Small.{IsSmall};
 ghost use Rattle.few_law.specs.Short.{HasFewArgs};
 ghost use Rattle.glsl_ast.specs.View.{decl_of, unit_of as tree_of_unit};
-ghost use Rattle.unit_text.specs.Reached.{ArePlaces, decls_at, IsWritten, IsMade};
+ghost use Rattle.unit_text.specs.Reached.{AreAdded, ArePlaces, decls_at, IsWritten, IsMade};
 ghost use Rattle.function_text.specs.State.{decl_with};
 
 use crate::globals::globals_of;
@@ -26,6 +26,7 @@ use spv_module::{Id, Module};
 use spv_words::Memory;
 use std::alloc::Global;
 use std::marker::Brand;
+use std::mem::forget;
 use std::sync::ledger::Blank;
 
 /// What the tree of a text was made by.
@@ -40,6 +41,24 @@ pub struct Parts<'a> {
 pub struct Translation<'a> {
     pub unit: Unit,
     pub parts: Parts<'a>,
+}
+
+impl<'a> Translation<'a> {
+    /// The tree alone: what it was made by is given back.
+    pub fn into_unit(self) -> Unit
+        ensures { result ≡ self.entry.unit }
+    {
+        self.unit
+    }
+
+    /// The tree alone, where the process ends next: what it was made by is not given back part by part.
+    pub fn forget_parts(self) -> Unit
+        ensures { result ≡ self.entry.unit }
+    {
+        let Translation { unit, parts } = self;
+        forget(parts);
+        unit
+    }
 }
 
 /// What the functions of a text are written by.
@@ -97,6 +116,29 @@ impl<'a, 'b> Writer<'a, 'b> {
     }
 }
 
+/// Appends the functions with these ids, in this order, by their plans.
+fn add_planned<'a, 'b>(
+    alloc: Global,
+    items: &mut Vec<Decl>,
+    readings: &'b Readings<'a>,
+    names: &'b Names,
+    plans: &'b [FunctionPlan<'a>],
+    order: &[Id],
+) -> Result<(), Memory>
+    requires { All HasFewArgs readings.now.of.globals }
+    ensures { OnOk result (AreAdded readings.now names.now plans.now order.now (map decl_of items.old.items) (map decl_of items.new.items)) }
+{
+    let globals = globals_of(alloc, readings, names)?;
+    let places = places_in(alloc, plans)?;
+    let plans = &*plans;
+    let writer = Writer {
+        readings,
+        names,
+        globals: &globals,
+    };
+    writer.add_functions(alloc, items, plans, &places, order)
+}
+
 /// A text with planned functions.
 fn text_by<'a>(
     alloc: Global,
@@ -108,21 +150,14 @@ fn text_by<'a>(
     requires { All HasFewArgs readings.now.of.globals }
     ensures { IfOk result (λ text. IsWritten readings.now entry.now.size.items order.now plans.entry.items (tree_of_unit text.unit)) }
 {
-    let planned = plans.as_slice();
-    let head = head_of(alloc, readings, planned)?;
-    let Head { names, mut items } = head;
-    let globals = globals_of(alloc, readings, &names)?;
-    let places = places_in(alloc, planned)?;
-    let writer = Writer {
-        readings,
-        names: &names,
-        globals: &globals,
-    };
-    writer.add_functions(alloc, &mut items, planned, &places, order)?;
     let sizes = readings.sizes(alloc, entry.size.as_slice())?;
-    let unit = Unit { sizes, items };
-    let parts = Parts { plans, names };
-    Ok(Translation { unit, parts })
+    let planned = plans.as_slice();
+    let Head { names, mut items } = head_of(alloc, readings, planned)?;
+    add_planned(alloc, &mut items, readings, &names, planned, order)?;
+    Ok(Translation {
+        unit: Unit { sizes, items },
+        parts: Parts { plans, names },
+    })
 }
 
 /// A text, by how its constants are read.

@@ -12,20 +12,20 @@ pub returns : goal.returns
 returns c =
     let s = c.args.readings.now in
     let plans = c.as_slice-planned.result.now in
-    let names = c.in_ok-head.head.names in
-    let globals = c.in_ok-globals.globals in
+    let names = c.in_ok-names.field-0.names in
+    let added = c.in_ok-add_planned.ensures in
     let order = c.args.order.now in
     let size = c.args.entry.now.size.items in
-    let unit = translation_unit c.in_ok-sizes.sizes.items (map decl_of c.add_functions.new.items.items) in
-    let items_are = c.in_ok-add_functions.ensures ∙ ap (λ (ds : List Decl). ds ++ flat_map (decls_at s names globals plans) order) c.in_ok-head.ensures.items_are in
+    let unit = translation_unit c.in_ok-sizes.sizes.items (map decl_of c.add_planned.new.items.items) in
+    let items_are = added.items_are ∙ ap (λ (ds : List Decl). ds ++ flat_map (decls_at s names added.globals plans) order) c.in_ok-names.ensures.items_are in
     let sizes_are = c.in_ok-sizes.ensures ∙ ap (sizes_by s.overrides) c.as_slice.ensures.value in
     let written : IsWritten s size order plans unit = record {
       names = names;
-      globals = globals;
-      named = c.in_ok-head.ensures.named;
-      globals_are = c.in_ok-globals.ensures;
+      globals = added.globals;
+      named = c.in_ok-names.ensures.named;
+      globals_are = added.globals_are;
       unit_is =
-          ap (λ (zs : List Size). translation_unit zs (map decl_of c.add_functions.new.items.items)) sizes_are
+          ap (λ (zs : List Size). translation_unit zs (map decl_of c.add_planned.new.items.items)) sizes_are
           ∙ ap (translation_unit (sizes_by s.overrides size)) items_are;
     } in
     subst (λ (ps : List FunctionPlan). IsWritten s size order ps unit) c.as_slice-planned.ensures.value written
