@@ -1,5 +1,5 @@
 // The nodes of a function's blocks.
-ghost use Rattle.std.specs.Prelude.{◌≡◌, IfOk, find, map};
+ghost use Rattle.std.specs.Prelude.{◌≡◌, IfOk, map};
 ghost use Rattle.std.specs.Option.{option_copied};
 ghost use Rattle.structure_rules.specs.declared.graph.Exit.TheVariants.{Branch, Conditional};
 ghost use Rattle.structure_rules.specs.Graph.{merge_inst as merge_inst_of, terminator as terminator_of, word_of as word_of_inst, index_of, seconds, exit_by, exit_in as exit_in_of, exit_at_end as exit_at_end_of, labels_by, target_labels, merge_by, node_by, nodes as nodes_of};

@@ -2,7 +2,6 @@
 ghost use Rattle.std.specs.Prelude.{◌≡◌, ◌+◌, ◌≤◌, ℕ, IfOk, map, min, nat_lt, option_map, false};
 ghost use Rattle.std.specs.List.{list_any};
 ghost use Rattle.std.specs.Option.{option_map_or};
-ghost use Rattle.layout_rules.specs.Sizes.{size_of};
 ghost use Rattle.layout_rules.specs.Rules.{is_past};
 ghost use Rattle.layout_rules.specs.Blocks.{members_of as members_in, is_misaligned as is_misaligned_in, end_of, begins_below as begins_below_in, any_overlap as any_overlap_in, member_breaks as member_breaks_in, members_break as members_break_in, first_broken as first_broken_in};
 ghost use Rattle.buffer_layout.specs.Members.{member_of};

@@ -1,6 +1,5 @@
 // The calls of a module, in text order, and who calls each function.
-ghost use Rattle.std.specs.Prelude.{◌≡◌, ◌<◌, ◌++◌, List, [], ◌∷◌, IfOk, OnOk, map, filter, length};
-ghost use Rattle.spv_index.specs.Locals.{insts_of};
+ghost use Rattle.std.specs.Prelude.{◌≡◌, ◌<◌, ◌++◌, [], ◌∷◌, IfOk, OnOk, map, filter, length};
 ghost use Rattle.profile_rules.specs.Calls.{is_call as is_call_of, callee as callee_of, calls_in, place};
 ghost use Rattle.call_order.specs.Graph.{AreBelow, AreCallersOf, call_at, calls_of as calls_of_all, HasOneMore};
 

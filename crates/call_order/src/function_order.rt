@@ -1,8 +1,7 @@
 // The order of a module's functions.
-ghost use Rattle.std.specs.Prelude.{◌≡◌, ◌<◌, ◌≤◌, ℕ, IfOk, IfErr, OnOk, Contains, length, map, filter, slice_index, true};
+ghost use Rattle.std.specs.Prelude.{◌≡◌, ◌<◌, ◌≤◌, ℕ, IfOk, IfErr, OnOk, Contains, length, map, filter, slice_index};
 ghost use Rattle.profile_rules.specs.Calls.{HaveOwnIds, AreCalleesFunctions, ids_of, numbers, IsCallOrder, IsAcyclic, IsWithinCalls, IsRight};
 ghost use Rattle.call_order.specs.Graph.{AreBelow, AreCallers, number};
-ghost use Rattle.call_order.specs.Listing.{IsListing};
 ghost use Rattle.call_order.specs.Checked.{IsWhole, IsCycleFault};
 ghost use Rattle.call_order.specs.Depths.{is_reached};
 

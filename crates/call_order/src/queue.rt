@@ -1,5 +1,5 @@
 // All functions in order: one comes when all that it calls is listed, and of those the earliest.
-ghost use Rattle.std.specs.Prelude.{◌≡◌, ◌<◌, ◌≤◌, ℕ, OnOk, IfOk, All, length, slice_index, slice_index_or, Vec};
+ghost use Rattle.std.specs.Prelude.{◌<◌, ◌≤◌, ℕ, OnOk, IfOk, All, length, slice_index, Vec};
 ghost use Rattle.std.specs.BTreeSet.{contains};
 ghost use Rattle.std.specs.Ordering.{nat_cmp};
 ghost use Rattle.call_order.specs.Graph.{AreBelow, AreCallers};

@@ -1,9 +1,9 @@
 // The zeros of types.
 ghost use Rattle.std.specs.Prelude.{◌≡◌, IfOk, map, replicate};
 ghost use Rattle.glsl_ast.specs.Tree.{build};
-ghost use Rattle.glsl_ast.specs.View.{expr_of, exprs_of, type_of};
+ghost use Rattle.glsl_ast.specs.View.{expr_of, exprs_of};
 ghost use Rattle.spv_types.specs.View.{tree_of, trees_of};
-ghost use Rattle.text_rules.specs.Types.{type_text, zero_elem as zero_elem_of, zero_text, zero_texts};
+ghost use Rattle.text_rules.specs.Types.{zero_elem as zero_elem_of, zero_text, zero_texts};
 ghost use Rattle.text_rules.specs.Declarations.{spelling};
 ghost use Rattle.constant_text.specs.Named.{id_names};
 ghost use Rattle.constant_text.specs.Zeros.{array_zeros};

@@ -1,8 +1,7 @@
 // Composites made of parts that stand elsewhere.
-ghost use Rattle.std.specs.Prelude.{◌≡◌, IfOk, option_map, option_and_then, map};
+ghost use Rattle.std.specs.Prelude.{◌≡◌, IfOk, option_map, option_and_then};
 ghost use Rattle.spv_types.specs.View.{tree_of, trees_of, value_of};
 ghost use Rattle.op_semantics.specs.Component.{composite};
-ghost use Rattle.op_semantics.specs.Fits.{fits as fits_tree, elem_tree};
 ghost use Rattle.profile_rules.specs.Constants.{if_fits};
 ghost use Rattle.constant_values.specs.Parts.{part_fits as part_fits_tree, array_part_fits as array_part_fits_tree, member_fits as member_fits_tree};
 ghost use Rattle.value_ops.specs.References.{referred, plain_references};

@@ -1,6 +1,5 @@
 // The value of an OpSpecConstantOp.
 ghost use Rattle.std.specs.Prelude.{◌≡◌, IfOk, option_map, option_and_then};
-ghost use Rattle.std.specs.Option.{option_map_or};
 ghost use Rattle.spv_ops.specs.Opcode.{op_of};
 ghost use Rattle.spv_types.specs.View.{tree_of, value_of};
 ghost use Rattle.op_semantics.specs.Component.{each_one, composite};

@@ -1,7 +1,7 @@
 // The zeros of shapes that have one.
 ghost use Rattle.std.specs.Prelude.{◌≡◌, IfOk, option_map, map, Vec};
 ghost use Rattle.spv_module.specs.declared.tree.Value.{Value};
-ghost use Rattle.spv_types.specs.Tree.{array, struct as struct_tree, values_in};
+ghost use Rattle.spv_types.specs.Tree.{array, values_in};
 ghost use Rattle.spv_types.specs.View.{tree_of, trees_of, value_of};
 ghost use Rattle.spv_types.specs.Leaves.{zero_of};
 ghost use Rattle.profile_rules.specs.Constants.{if_fits};

@@ -1,5 +1,5 @@
 // From a region to its statements.
-ghost use Rattle.std.specs.Prelude.{◌≡◌, ◌++◌, [], ◌∷◌, ◌||◌, IfOk, OnOk, map, true, false, None, Some};
+ghost use Rattle.std.specs.Prelude.{◌≡◌, ◌++◌, ◌||◌, IfOk, OnOk, map, true, false, None, Some};
 ghost use Rattle.structure_recover.specs.Tree.{before, ends, choose, switch as switch_item};
 ghost use Rattle.structure_recover.specs.View.{region_of, item_of, group_of, groups_of};
 ghost use Rattle.glsl_ast.specs.View.{stmt_of, expr_of};

@@ -1,5 +1,5 @@
 // The parts of a switch.
-ghost use Rattle.std.specs.Prelude.{◌≡◌, ◌++◌, [], ◌∷◌, IfOk, OnOk, map, true, None};
+ghost use Rattle.std.specs.Prelude.{◌≡◌, ◌++◌, IfOk, OnOk, map, true, None};
 ghost use Rattle.structure_recover.specs.View.{region_of, group_of, groups_of};
 ghost use Rattle.glsl_ast.specs.View.{stmt_of, arm_of};
 ghost use Rattle.control_text.specs.Statements.{labels_text as text_of_labels, entering_case as text_of_entering_case, fell_flags as text_of_fell_flags, behind_switch as text_of_behind_switch, in_order as arms_in_order, by_target};

@@ -1,5 +1,5 @@
 // The entry point that is chosen.
-ghost use Rattle.std.specs.Prelude.{◌≡◌, ◌++◌, map, option_map, Some, IfOk, IfErr, OnOk, []};
+ghost use Rattle.std.specs.Prelude.{◌≡◌, map, option_map, Some, IfOk, IfErr, OnOk, []};
 ghost use Rattle.profile_rules.specs.Entry.{is_meant as is_meant_row, meant, chosen, x1, x2};
 ghost use Rattle.profile_rules.specs.DataRules.{IsRight};
 

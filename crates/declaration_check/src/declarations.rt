@@ -1,5 +1,5 @@
 // The rules on what a module declares.
-ghost use Rattle.std.specs.Prelude.{◌≡◌, ◌∷◌, ◌++◌, [], option_map, Some, IfOk, IfErr, OnOk, IsSomeAnd};
+ghost use Rattle.std.specs.Prelude.{◌≡◌, ◌∷◌, [], option_map, IfOk, IfErr, OnOk, IsSomeAnd};
 ghost use Rattle.spv_words.specs.Breaks.{NoRuleBroken};
 ghost use Rattle.spv_words.specs.declared.rule.Rule.TheVariants.{P5, P6, P7, P8, P9, P10, P13, P14, P15, P16, P17, P18, P19, P20};
 ghost use Rattle.spv_decor.specs.Rows.{word as word_of};

@@ -1,5 +1,5 @@
 // The rules on capabilities, imports and the memory model.
-ghost use Rattle.std.specs.Prelude.{◌≡◌, ◌==◌, not, count_by, find, IfOk};
+ghost use Rattle.std.specs.Prelude.{◌≡◌, ◌==◌, not, find, IfOk};
 ghost use Rattle.std.specs.Option.{option_copied};
 ghost use Rattle.spv_words.specs.declared.rule.Rule.TheVariants.{P5, P6, P7};
 ghost use Rattle.profile_rules.specs.Heads.{is_other_capability as is_other_capability_row, is_known_set as is_known_name, is_other_import as is_other_import_row, is_memory_model as is_memory_model_row, is_other_model as is_other_model_row, has_memory_model as has_one, p5, p6, p7};

@@ -1,5 +1,5 @@
 // The size of the workgroups, and the rule on what gives it.
-ghost use Rattle.std.specs.Prelude.{◌≡◌, ◌||◌, not, true, false, find, map, count_by, option_map, IfOk};
+ghost use Rattle.std.specs.Prelude.{◌≡◌, ◌||◌, not, true, false, find, map, count_by, IfOk};
 ghost use Rattle.std.specs.Option.{option_copied, option_map_or};
 ghost use Rattle.spv_module.specs.Held.{global};
 ghost use Rattle.spv_ops.specs.Enumerants.{decoration_number};
@@ -9,7 +9,7 @@ ghost use Rattle.spv_words.specs.declared.rule.Rule.TheVariants.{P10};
 ghost use Rattle.profile_rules.specs.declared.size.SizePart.TheVariants.{Fixed};
 ghost use Rattle.profile_rules.specs.TypeRows.{type_row};
 ghost use Rattle.profile_rules.specs.Places.{is_defined_elsewhere};
-ghost use Rattle.profile_rules.specs.Entry.{is_same_spec as is_same_spec_in, is_no_uint as is_no_uint_in, is_no_uvec3 as is_no_uvec3_in, is_no_size as is_no_size_in, is_no_part as is_no_part_in, are_no_sizes as are_no_sizes_in, is_bad_composite as is_bad_composite_in, is_bad_size as is_bad_size_in, is_bad_size_id as is_bad_size_id_in, is_size_composite as is_size_composite_row, size_part as size_part_in, size_by_literals, size_by_ids, group_size as group_size_in, p10_of, composite_faults};
+ghost use Rattle.profile_rules.specs.Entry.{is_same_spec as is_same_spec_in, is_no_uint as is_no_uint_in, is_no_uvec3 as is_no_uvec3_in, is_no_size as is_no_size_in, is_no_part as is_no_part_in, are_no_sizes as are_no_sizes_in, is_bad_composite as is_bad_composite_in, is_bad_size as is_bad_size_in, is_bad_size_id as is_bad_size_id_in, is_size_composite as is_size_composite_row, size_part as size_part_in, group_size as group_size_in, p10_of};
 ghost use Rattle.declaration_check.specs.Checked.{IsChecked};
 
 use crate::context::Context;
@@ -49,7 +49,7 @@ fn is_no_uint(context: &Context, id: u32) -> bool
 pub fn is_no_uvec3(context: &Context, inst: &Inst) -> bool
     ensures { result ≡ is_no_uvec3_in context.now.globals inst.now }
 {
-    !(inst.op == Op::TypeVector && inst.operand(1) == 3) || is_no_uint(context, inst.operand(0))
+    !inst.is_vector_of(3) || is_no_uint(context, inst.operand(0))
 }
 
 /// Whether a global instruction is no OpConstant or OpSpecConstant of a uint above 0.

@@ -80,7 +80,7 @@ fn is_other_vector(context: &Context, inst: &Inst) -> bool
 fn is_signed(context: &Context, id: u32) -> bool
     ensures { result ≡ is_signed_in context.now.globals id }
 {
-    context.global(id).map_or(false, |inst| inst.op == Op::TypeInt && inst.operand(1) == 1)
+    context.global(id).map_or(false, |inst| inst.has_sign())
 }
 
 /// Whether OpConstant is above 0.

@@ -1,7 +1,6 @@
 // The rules on variables.
 ghost use Rattle.std.specs.Prelude.{◌≡◌, ◌==◌, ◌||◌, not, false, true, is_some, find, map, count_by};
 ghost use Rattle.std.specs.Option.{option_copied, option_map_or};
-ghost use Rattle.spv_module.specs.Held.{global};
 ghost use Rattle.spv_index.specs.Pointers.{storage_class};
 ghost use Rattle.spv_decor.specs.Rows.{value_of, word};
 ghost use Rattle.spv_ops.specs.Enumerants.{decoration_number};

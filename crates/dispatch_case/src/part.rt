@@ -3,7 +3,7 @@ ghost use Rattle.std.specs.Prelude.{◌≡◌, ◌<◌, ◌==◌, map, option_ma
 ghost use Rattle.op_semantics.specs.Component.{each_one};
 ghost use Rattle.dispatch_case.specs.Three.{triple_of};
 ghost use Rattle.dispatch_case.specs.Cases.{buffer_view};
-ghost use Rattle.dispatch_case.specs.Written.{said_by, pieces as pieces_of, number_of, numbers_of, three_of, groups_of, buffer_with, buffer_by, buffer_among, buffer_of, key_of as key_named, said_behind, said_among, said_of};
+ghost use Rattle.dispatch_case.specs.Written.{said_by, pieces as pieces_of, number_of, numbers_of, three_of, buffer_with, buffer_by, buffer_among, key_of as key_named, said_behind, said_among, said_of};
 
 use spec_constants::decimal;
 use spv_words::Memory;

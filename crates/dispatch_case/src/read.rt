@@ -1,7 +1,7 @@
 // The parts of a case, one after another.
-ghost use Rattle.std.specs.Prelude.{◌≡◌, map, option_map, option_and_then, Some, IfOk, OnOk, MatchResult};
+ghost use Rattle.std.specs.Prelude.{◌≡◌, map, option_map, option_and_then, Some, IfOk, OnOk};
 ghost use Rattle.dispatch_case.specs.Cases.{parts_of};
-ghost use Rattle.dispatch_case.specs.Written.{said_by, said_of, stage_with, with_said, after_said, after_parts, at_end, unsaid};
+ghost use Rattle.dispatch_case.specs.Written.{said_by, said_of, stage_with, with_said, after_said, after_parts, unsaid};
 
 use crate::case::Case;
 use crate::part::{Part, part_of};

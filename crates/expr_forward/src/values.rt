@@ -7,7 +7,7 @@ ghost use Rattle.int_lowering.specs.Operand.{as_elem};
 ghost use Rattle.int_lowering.specs.Operator.{operated as operated_on, shift_amount};
 ghost use Rattle.vec_lowering.specs.Composite.{argument_of};
 ghost use Rattle.expr_forward.specs.Context.{basic_in, operand, read_operand, scope_of};
-ghost use Rattle.expr_forward.specs.Values.{argument as argument_in, by_form, construction_text, deepest, expression as expression_of, extraction_text, forwarded as forwarded_of, length_text, logical_copy_text, operation_text, value as value_of, value_in as value_in_of, variable as variable_of, whole_argument as whole_argument_in};
+ghost use Rattle.expr_forward.specs.Values.{argument as argument_in, by_form, construction_text, expression as expression_of, extraction_text, forwarded as forwarded_of, length_text, logical_copy_text, operation_text, value as value_of, value_in as value_in_of, variable as variable_of, whole_argument as whole_argument_in};
 
 use crate::block::BlockContext;
 use crate::operands::{after_one, after_two, literal_words, value_words};

@@ -3,7 +3,7 @@ ghost use Rattle.std.specs.Prelude.{◌≡◌, ◌||◌, ℕ, IfOk, OnOk};
 ghost use Rattle.std.specs.List.{list_any};
 ghost use Rattle.id_map.specs.Entries.{is_in};
 ghost use Rattle.hoist_plan.specs.Kept.{form_in, is_carried_in};
-ghost use Rattle.function_plan.specs.Planned.{has_name_by, has_name as has_name_in, names_id, block_names, is_named_in, is_live as is_live_in, is_captured as is_captured_in};
+ghost use Rattle.function_plan.specs.Planned.{has_name_by, has_name as has_name_in, names_id, is_named_in, is_live as is_live_in, is_captured as is_captured_in};
 
 use crate::moves::is_gone;
 use crate::nodes::is_reached;

@@ -1,5 +1,5 @@
 // The blocks of a function's control-flow graph.
-ghost use Rattle.std.specs.Prelude.{◌≡◌, true, slice_index};
+ghost use Rattle.std.specs.Prelude.{◌≡◌, true};
 ghost use Rattle.structure_rules.specs.Graph.{nth};
 ghost use Rattle.function_plan.specs.Targets.{targets_in, target_of};
 

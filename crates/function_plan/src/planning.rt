@@ -1,5 +1,5 @@
 // How a function is planned.
-ghost use Rattle.std.specs.Prelude.{◌≡◌, ℕ, IfOk, map};
+ghost use Rattle.std.specs.Prelude.{◌≡◌, IfOk, map};
 ghost use Rattle.structure_rules.specs.Graph.{graph};
 ghost use Rattle.use_chains.specs.Small.{IsSmall};
 ghost use Rattle.few_law.specs.Short.{IsShort};

@@ -1,5 +1,5 @@
 // The moves of the edges into a block with one live phi (SPIR-V 1.6, section 2.11).
-ghost use Rattle.std.specs.Prelude.{◌≡◌, ◌∷◌, ◌++◌, ◌==◌, [], ℕ, IfOk, IfSome, OnOk, find, length, List, if◌then◌else◌};
+ghost use Rattle.std.specs.Prelude.{◌≡◌, ◌∷◌, ◌++◌, ◌==◌, [], ℕ, IfOk, OnOk, find, length, List, if◌then◌else◌};
 ghost use Rattle.std.specs.Option.{option_copied};
 ghost use Rattle.hoist_plan.specs.Kept.{form_in};
 ghost use Rattle.phi_copies.specs.Sequence.{IsSequence, Pair};

@@ -1,16 +1,13 @@
 // What is written of a function's blocks and edges.
-ghost use Rattle.std.specs.Prelude.{◌≡◌, ◌∷◌, [], IfOk, option_map};
+ghost use Rattle.std.specs.Prelude.{◌≡◌, IfOk, option_map};
 ghost use Rattle.std.specs.Option.{option_copied};
 ghost use Rattle.glsl_ast.specs.Tree.{name as name_tree};
 ghost use Rattle.glsl_ast.specs.View.{name_text, expr_of, stmt_of};
-ghost use Rattle.structure_rules.specs.Graph.{nth};
-ghost use Rattle.name_alloc.specs.declared.claims.Key.{Key as KeyOf};
 ghost use Rattle.name_alloc.specs.declared.claims.Key.TheVariants.{Id as IdKey, Spare as SpareKey};
 ghost use Rattle.text_rules.specs.Claims.{label as label_at};
 ghost use Rattle.spv_module.specs.Lists.{id as id_of};
 ghost use Rattle.expr_forward.specs.Context.{key_text, scope_of};
-ghost use Rattle.function_text.specs.Functions.{name_expr, source_expr, set_variable as variable_set, terminator_at, operand_in, first_operand as operand_of, returned as returned_in, case_by, when, saved_text, move_text as text_of_move};
-ghost use Rattle.function_plan.specs.Targets.{target_of};
+ghost use Rattle.function_text.specs.Functions.{name_expr, source_expr, set_variable as variable_set, terminator_at, first_operand as operand_of, returned as returned_in, case_by, when, saved_text, move_text as text_of_move};
 ghost use Rattle.function_text.specs.State.{plan_in};
 
 use crate::scope::PlannedFunction;

@@ -4,7 +4,7 @@ ghost use Rattle.glsl_ast.specs.View.{decl_of, param_of, stmt_of, type_of as typ
 ghost use Rattle.few_law.specs.Short.{IsShort};
 ghost use Rattle.structure_recover.specs.View.{region_of};
 ghost use Rattle.control_text.specs.Statements.{function_text as text_of_function};
-ghost use Rattle.expr_forward.specs.Context.{key_text, scope_of};
+ghost use Rattle.expr_forward.specs.Context.{scope_of};
 ghost use Rattle.function_text.specs.Functions.{function_key as key_of_function, param_text as text_of_param, result_type_at, blocks_of, body_text as text_of_body, function_decl};
 ghost use Rattle.function_text.specs.State.{plan_in};
 

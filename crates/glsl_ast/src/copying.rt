@@ -1,6 +1,6 @@
 // Copies of expressions.
 ghost use Rattle.std.specs.Prelude.{◌≡◌, IfOk, map};
-ghost use Rattle.glsl_ast.specs.View.{base_of, extent_of, type_of, expr_of, exprs_of};
+ghost use Rattle.glsl_ast.specs.View.{base_of, extent_of, type_of, expr_of};
 
 use crate::{Base, Expr, Extent, TypeName};
 use spv_words::Memory;

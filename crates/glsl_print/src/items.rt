@@ -1,6 +1,5 @@
 // Items.
 ghost use Rattle.std.specs.Prelude.{◌≡◌, ◌++◌, map, option_map};
-ghost use Rattle.std.specs.Fmt.{decimal};
 ghost use Rattle.glsl_ast.specs.Tree as tree;
 ghost use Rattle.glsl_ast.specs.View.{name_text, type_of, expr_of, field_of, member_of, param_of, stmts_of, decl_of};
 ghost use Rattle.glsl_grammar.specs.Layout.{rules_mark as mark_of_rules, kind_mark as mark_of_kind, inout_text, qual_mark as mark_of_qual, place_text, quals_text, field_text, fields_text, member_text, members_text, param_text, params_text, more_params_text, result_type_text, const_text, body_text, decl_text, decls_text};

@@ -1,7 +1,7 @@
 // Statements.
-ghost use Rattle.std.specs.Prelude.{◌≡◌, ◌++◌, suc, map, option_map};
+ghost use Rattle.std.specs.Prelude.{◌++◌, suc, map, option_map};
 ghost use Rattle.glsl_ast.specs.Tree as tree;
-ghost use Rattle.glsl_ast.specs.View.{name_text, type_of, expr_of, step_of, lvalue_of, stmt_of, stmts_of, arm_of, arms_of};
+ghost use Rattle.glsl_ast.specs.View.{name_text, type_of, expr_of, step_of, lvalue_of, stmt_of, stmts_of, arms_of};
 ghost use Rattle.glsl_grammar.specs.Layout.{expr_text, indent_text, type_text, steps_text, lvalue_text, start_text, result_text, label_text, labels_text, stmt_text, body_text, arms_text};
 ghost use Rattle.glsl_grammar.specs.Marks.{mark_text};
 ghost use Rattle.glsl_print.specs.Level.{level_of};

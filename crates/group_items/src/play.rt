@@ -1,8 +1,8 @@
 // One item of a schedule.
-ghost use Rattle.std.specs.Prelude.{ℕ, ◌≡◌, ◌<◌, ◌≤◌, ◌+◌, ◌-◌, ◌*◌, ◌/◌, ◌++◌, ◌∷◌, [], ◌==◌, ◌^◌, length, map, slice_index, MatchBool, MatchOption, IfOk, OnOk, IsErrOf, None, IsSome};
+ghost use Rattle.std.specs.Prelude.{ℕ, ◌≡◌, ◌<◌, ◌≤◌, ◌+◌, ◌-◌, ◌*◌, ◌/◌, ◌∷◌, [], ◌==◌, ◌^◌, length, map, slice_index, MatchBool, MatchOption, IfOk, OnOk, IsErrOf, None};
 ghost use Rattle.dispatch_semantics.specs.Store.{found_at, after, combined as combined_words, updated as updated_word, updated_by, put_all, AreWords};
 ghost use Rattle.dispatch_semantics.specs.Dispatch.{controls};
-ghost use Rattle.group_items.specs.Events.{location_of, operation_of, locations_of, event_of, access_of, filled, events_of, place_count};
+ghost use Rattle.group_items.specs.Events.{operation_of, locations_of, event_of, filled, events_of, place_count};
 ghost use Rattle.group_items.specs.Memory.{stored};
 ghost use Rattle.group_items.specs.Sides.{with_at};
 ghost use Rattle.group_items.specs.Schedule.{Setup, most_weight};

@@ -1,5 +1,5 @@
 // Items of a schedule, one after another.
-ghost use Rattle.std.specs.Prelude.{ℕ, ◌≡◌, ◌<◌, ◌≤◌, ◌+◌, ◌*◌, ◌/◌, ◌++◌, ◌∷◌, [], length, slice_index, IfOk, OnOk, IsErrOf};
+ghost use Rattle.std.specs.Prelude.{ℕ, ◌≡◌, ◌<◌, ◌≤◌, ◌*◌, ◌/◌, ◌∷◌, [], length, slice_index, IfOk, OnOk, IsErrOf};
 ghost use Rattle.group_items.specs.Events.{events_of};
 ghost use Rattle.group_items.specs.Memory.{stored};
 ghost use Rattle.group_items.specs.Schedule.{Setup, Comes, IsTooMuch};

@@ -1,5 +1,5 @@
 // The memory of a dispatch.
-ghost use Rattle.std.specs.Prelude.{ℕ, ◌≡◌, ◌<◌, ◌^◌, [], length, IfOk, OnOk};
+ghost use Rattle.std.specs.Prelude.{ℕ, ◌≡◌, ◌<◌, [], length, IfOk, OnOk};
 ghost use Rattle.dispatch_semantics.specs.Store.{found_at, put as put_by, home as home_of};
 ghost use Rattle.traces.specs.Events.{Location};
 ghost use Rattle.group_items.specs.Events.{location_of};

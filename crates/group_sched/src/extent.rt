@@ -1,5 +1,5 @@
 // How many invocations there are, and where each stands.
-ghost use Rattle.std.specs.Prelude.{◌≡◌, ℕ, ◌<◌, ◌≤◌, ◌*◌, MatchOption};
+ghost use Rattle.std.specs.Prelude.{◌≡◌, ◌<◌, ◌≤◌, ◌*◌, MatchOption};
 ghost use Rattle.dispatch_semantics.specs.Grid.{product, along as along_of, global_id};
 ghost use Rattle.dispatch_case.specs.Three.{triple_of};
 ghost use Rattle.group_sched.specs.Sides.{AreAbove, AreSmall, IsExtent, global_of};

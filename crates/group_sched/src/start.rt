@@ -1,5 +1,5 @@
 // The start of a dispatch: its invocations, what each is told, and the first memory.
-ghost use Rattle.std.specs.Prelude.{◌≡◌, ℕ, ◌<◌, ◌≤◌, ◌+◌, ◌*◌, ◌/◌, ◌%◌, [], length, map, false, Option, IfOk, OnOk, IsTrue, replicate};
+ghost use Rattle.std.specs.Prelude.{◌≡◌, ℕ, ◌<◌, ◌≤◌, ◌+◌, ◌*◌, ◌/◌, ◌%◌, [], length, map, false, IfOk, OnOk, IsTrue, replicate};
 ghost use Rattle.std.specs.List.{list_all};
 ghost use Rattle.std.specs.BTreeMap.{get};
 ghost use Rattle.std.specs.Ordering.{nat_cmp};
@@ -13,7 +13,7 @@ ghost use Rattle.dispatch_case.specs.Three.{triple_of};
 ghost use Rattle.group_sched.specs.Sides.{IsGridOf, IsExtent, CanStart};
 ghost use Rattle.dispatch_case.specs.Cases.{parts_of, buffer_view, is_short, most_numbers};
 ghost use Rattle.group_sched.specs.Stores.{words_in, rooms_in, location_in};
-ghost use Rattle.group_sched.specs.Start.{size_of, spread, with_buffers, nowhere, first_store, setup_of};
+ghost use Rattle.group_sched.specs.Start.{size_of, spread, with_buffers, first_store, setup_of};
 
 use crate::extent::{Extent, along, global};
 use dispatch_case::Case;

@@ -1,5 +1,5 @@
 // The form of each result.
-ghost use Rattle.std.specs.Prelude.{◌≡◌, ◌==◌, ◌&&◌, not, ℕ, IfOk, OnOk, [], None, fold, length, max, unwrap_or};
+ghost use Rattle.std.specs.Prelude.{◌≡◌, ◌==◌, ◌&&◌, not, ℕ, IfOk, OnOk, [], None, fold, length};
 ghost use Rattle.std.specs.List.{list_any};
 ghost use Rattle.id_map.specs.Entries.{entry_in};
 ghost use Rattle.hoist_plan.specs.Plan.{is_elsewhere as is_elsewhere_in, wants_variable as wants_variable_in, is_live as is_live_result, is_named_by_use as is_named_by_use_in, is_named as is_named_in, is_hoisted as is_hoisted_in, own_height as own_height_of, form_by, form_with as form_with_of, with_told, with_operand, raised, operand_if, is_value as is_value_in};

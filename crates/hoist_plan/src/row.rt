@@ -1,5 +1,4 @@
 // The results of instructions.
-ghost use Rattle.hoist_plan.specs.Kept.{places_in};
 
 use crate::mentioned::Mentioned;
 use spv_ops::Op;

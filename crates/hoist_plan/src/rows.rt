@@ -1,7 +1,7 @@
 // A walk over the results of a function, with where they are mentioned.
 ghost use Rattle.std.specs.Prelude.{◌≡◌, ◌==◌, not, ◌+◌, ◌*◌, ◌++◌, [], ◌∷◌, IfOk, OnOk, fold, length, map, sum_by};
 ghost use Rattle.hoist_plan.specs.Plan.{mentions_of, nothing, results_of_block, results as results_in, with_result};
-ghost use Rattle.hoist_plan.specs.Kept.{chains_among, chains_of, chains_of_block, chains_of_inst, known_in, placed, placed_chain, result_in, steps_of, AreRising};
+ghost use Rattle.hoist_plan.specs.Kept.{chains_among, chains_of, chains_of_block, known_in, placed, placed_chain, result_in, steps_of, AreRising};
 
 use crate::forms::{Forms, add_form};
 use crate::mentioned::Mentioned;

@@ -1,7 +1,6 @@
 // A map from ids to values: a slot for each id of a range, and a tree for all others.
-ghost use Rattle.std.specs.Prelude.{◌≡◌, ◌==◌, ◌<◌, ℕ, IfOk, OnOk, IfSome, IfNone, Some, None, length, is_some, if◌then◌else◌};
+ghost use Rattle.std.specs.Prelude.{◌≡◌, ◌==◌, ◌<◌, ℕ, IfOk, OnOk, Some, None, is_some, if◌then◌else◌};
 ghost use Rattle.std.specs.BTreeMap.{get};
-ghost use Rattle.std.specs.Ordering.{nat_cmp};
 ghost use Rattle.id_map.specs.Entries.{entry_in};
 
 use crate::range::{Span, most_slots, slot};

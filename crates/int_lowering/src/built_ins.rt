@@ -1,5 +1,5 @@
 // The functions that GLSL has.
-ghost use Rattle.std.specs.Prelude.{◌≡◌, IfOk, List};
+ghost use Rattle.std.specs.Prelude.{◌≡◌, IfOk};
 ghost use Rattle.glsl_ast.specs.View.{expr_of, exprs_of};
 ghost use Rattle.glsl_ast.specs.Tree.{Expr as Tree, call};
 ghost use Rattle.int_lowering.specs.Term.{built_in_name};

@@ -1,7 +1,6 @@
 // Where the scalars of a part of a variable lie.
-ghost use Rattle.std.specs.Prelude.{◌≡◌, ◌<◌, ◌^◌, ℕ, List, [], ◌∷◌, flat_map, length, map, IfOk, OnOk};
+ghost use Rattle.std.specs.Prelude.{◌≡◌, ◌<◌, ◌^◌, [], ◌∷◌, flat_map, length, map, IfOk, OnOk};
 ghost use Rattle.std.specs.List.{range_with_len};
-ghost use Rattle.spv_types.specs.Tree.{array};
 ghost use Rattle.spv_types.specs.View.{tree_of, trees_of};
 ghost use Rattle.few_law.specs.Few.{HasFewMembers, HaveFewMembers};
 ghost use Rattle.value_words.specs.Words.{behind, scalar_paths, member_paths};

@@ -4,7 +4,7 @@ ghost use Rattle.module_semantics.specs.Setting.{as_variable as as_variable_of};
 ghost use Rattle.module_semantics.specs.Accesses.{initial as initial_value};
 ghost use Rattle.module_semantics.specs.Run.{have_values};
 ghost use Rattle.memory_places.specs.Kernel.{bare_with, kernel, plain};
-ghost use Rattle.memory_places.specs.Mentions.{AreMentioned, is_asked_by, is_fine_by};
+ghost use Rattle.memory_places.specs.Mentions.{AreMentioned, is_asked_by};
 ghost use Rattle.memory_places.specs.Starts.{start_of};
 ghost use Rattle.id_map.specs.Entries.{is_in};
 ghost use Rattle.spv_types.specs.Leaves.{zero_of};
@@ -12,7 +12,6 @@ ghost use Rattle.spv_types.specs.Limits.{AreWithin};
 ghost use Rattle.spv_types.specs.Types.{type_tree};
 ghost use Rattle.spv_types.specs.View.{tree_of, value_of};
 ghost use Rattle.std.specs.Prelude.{◌≡◌, IfOk, option_map, is_some};
-ghost use Rattle.std.specs.List.{list_all};
 ghost use Rattle.std.specs.Option.{option_copied};
 
 use crate::faults::want_of_memory;

@@ -3,7 +3,7 @@ ghost use Rattle.std.specs.Prelude.{◌≡◌, ◌*◌, false, min, unwrap_or, o
 ghost use Rattle.std.specs.Option.{option_map_or};
 ghost use Rattle.spv_ops.specs.Enumerants.{decoration_number};
 ghost use Rattle.spv_module.specs.Held.{global};
-ghost use Rattle.spv_decor.specs.Rows.{value_of, member_value_of};
+ghost use Rattle.spv_decor.specs.Rows.{value_of};
 ghost use Rattle.spv_types.specs.Types.{type_tree};
 ghost use Rattle.spv_types.specs.View.{value_of as tree_of_value};
 ghost use Rattle.spv_index.specs.Pointers.{pointee};

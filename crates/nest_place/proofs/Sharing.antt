@@ -6,16 +6,16 @@ use Rattle.std.proofs.lemmas.Slice.{between_is}
 use Rattle.std.specs.List.{between}
 use Rattle.structure_rules.specs.declared.graph.Part.{Part}
 use Rattle.nest_place.specs.declared.rings.Ring.{Ring}
-use Rattle.nest_place.specs.declared.outer.Span.{Span}
+use Rattle.nest_place.specs.declared.outer.Bounds.{Bounds}
 use Rattle.nest_place.specs.Spots.{list_at}
 use Rattle.nest_place.specs.Rings.{IsRing}
-use Rattle.nest_place.specs.Shared.{list_in, IsInside, empty_span, span_at, IsLonger, IsWhole, IsSpan, AreSpans}
+use Rattle.nest_place.specs.Shared.{list_in, IsInside, no_bounds, bounds_at, IsLonger, IsWhole, IsBounds, AreBounds}
 
 pub longer_self : (parts : List Part) → IsLonger parts parts
 longer_self parts = ([], sym (append-nil parts))
 
 -- a list that is not empty is whole
-pub whole_before : (lists : List (List Part)) (n : ℕ) (parts : List Part) (k : ℕ) (s : Span) → IsSpan lists n parts k s → s.start < s.end → IsWhole lists parts k s
+pub whole_before : (lists : List (List Part)) (n : ℕ) (parts : List Part) (k : ℕ) (s : Bounds) → IsBounds lists n parts k s → s.start < s.end → IsWhole lists parts k s
 whole_before lists n parts k s is some = record {
   inside = is.inside;
   list = elim is.list [
@@ -34,7 +34,7 @@ whole_added lists old new k start end more first last =
     }
 
 -- the list round the first construct of a list
-rest_whole : (lists : List (List Part)) (parts : List Part) (place : ℕ) (s : Span) (r : Ring) → IsWhole lists parts place s → IsRing lists place r → IsWhole lists parts r.around (record { start = s.start + 1; end = s.end })
+rest_whole : (lists : List (List Part)) (parts : List Part) (place : ℕ) (s : Bounds) (r : Ring) → IsWhole lists parts place s → IsRing lists place r → IsWhole lists parts r.around (record { start = s.start + 1; end = s.end })
 rest_whole lists parts place s r is ring =
     let here : list_in parts s ≡ r.part ∷ list_at lists r.around = is.list ∙ ring.list in
     let long : length (list_in parts s) ≡ s.end - s.start = length-drop s.start (take s.end parts) ∙ ap (λ n. n - s.start) (length-take-le s.end parts is.inside.ended) in
@@ -45,54 +45,54 @@ rest_whole lists parts place s r is ring =
     }
 
 -- what lies inside stays as more is added
-inside_more : (old new : List Part) (s : Span) → IsLonger old new → IsInside old s → IsInside new s
+inside_more : (old new : List Part) (s : Bounds) → IsLonger old new → IsInside old s → IsInside new s
 inside_more old new s more is = record {
   rising = is.rising;
   ended = (let all = ap length more.1 in let sum = length-append old more.0 in let e = is.ended in omega (arith, all, sum, e));
 }
 
-same_more : (old new : List Part) (s : Span) → IsLonger old new → IsInside old s → list_in new s ≡ list_in old s
+same_more : (old new : List Part) (s : Bounds) → IsLonger old new → IsInside old s → list_in new s ≡ list_in old s
 same_more old new s more is =
     ap (λ ps. drop s.start (take s.end ps)) more.1 ∙ ap (drop s.start) (take-append-le s.end old more.0 is.ended)
 
-spans_longer : (lists : List (List Part)) (n : ℕ) (old new : List Part) (spans : List Span) → IsLonger old new → AreSpans lists n old spans → AreSpans lists n new spans
-spans_longer lists n old new spans more are = record {
+bounds_longer : (lists : List (List Part)) (n : ℕ) (old new : List Part) (bounds : List Bounds) → IsLonger old new → AreBounds lists n old bounds → AreBounds lists n new bounds
+bounds_longer lists n old new bounds more are = record {
   sized = are.sized;
   each = λ k h.
       let was = are.each k h in
       record {
-        inside = inside_more old new (span_at spans k) more was.inside;
+        inside = inside_more old new (bounds_at bounds k) more was.inside;
         list = elim was.list [
           | inl none ↦ inl none
-          | inr here ↦ inr (same_more old new (span_at spans k) more was.inside ∙ here)
+          | inr here ↦ inr (same_more old new (bounds_at bounds k) more was.inside ∙ here)
         ];
       };
 }
 
 -- a list is written down
-spans_set : (lists : List (List Part)) (n : ℕ) (parts : List Part) (spans : List Span) (place : ℕ) (s : Span) → AreSpans lists n parts spans → IsWhole lists parts place s → AreSpans lists n parts (set spans place s)
-spans_set lists n parts spans place s are is = record {
-  sized = length-set spans place s ∙ are.sized;
+bounds_set : (lists : List (List Part)) (n : ℕ) (parts : List Part) (bounds : List Bounds) (place : ℕ) (s : Bounds) → AreBounds lists n parts bounds → IsWhole lists parts place s → AreBounds lists n parts (set bounds place s)
+bounds_set lists n parts bounds place s are is = record {
+  sized = length-set bounds place s ∙ are.sized;
   each = λ k h. elim (cases_eq place k) [
     | inl same ↦
-        let here : span_at (set spans place s) place ≡ s = get_or-set_same spans place s empty_span (let size = are.sized in omega (arith, size, same, h)) in
-        subst (λ j. IsSpan lists n parts j (span_at (set spans place s) j)) same (subst (λ x. IsSpan lists n parts place x) (sym here) (record { inside = is.inside; list = inr is.list }))
+        let here : bounds_at (set bounds place s) place ≡ s = get_or-set_same bounds place s no_bounds (let size = are.sized in omega (arith, size, same, h)) in
+        subst (λ j. IsBounds lists n parts j (bounds_at (set bounds place s) j)) same (subst (λ x. IsBounds lists n parts place x) (sym here) (record { inside = is.inside; list = inr is.list }))
     | inr apart ↦
-        let there : span_at (set spans place s) k ≡ span_at spans k = get_or-set_other spans place k s empty_span (λ e. apart (sym e)) in
-        subst (λ x. IsSpan lists n parts k x) (sym there) (are.each k h)
+        let there : bounds_at (set bounds place s) k ≡ bounds_at bounds k = get_or-set_other bounds place k s no_bounds (λ e. apart (sym e)) in
+        subst (λ x. IsBounds lists n parts k x) (sym there) (are.each k h)
   ];
 }
 
 -- one more list is made
-spans_below : (lists : List (List Part)) (n : ℕ) (parts : List Part) (spans : List Span) → list_in parts (span_at spans n) ≡ list_at lists n → AreSpans lists (n + 1) parts spans → AreSpans lists n parts spans
-spans_below lists n parts spans made are = record {
+bounds_below : (lists : List (List Part)) (n : ℕ) (parts : List Part) (bounds : List Bounds) → list_in parts (bounds_at bounds n) ≡ list_at lists n → AreBounds lists (n + 1) parts bounds → AreBounds lists n parts bounds
+bounds_below lists n parts bounds made are = record {
   sized = are.sized;
   each = λ k h.
       let was = are.each k h in
       record {
         inside = was.inside;
         list = elim (cases_eq k n) [
-          | inl same ↦ inr (subst (λ j. list_in parts (span_at spans j) ≡ list_at lists j) (sym same) made)
+          | inl same ↦ inr (subst (λ j. list_in parts (bounds_at bounds j) ≡ list_at lists j) (sym same) made)
           | inr apart ↦ elim was.list [
             | inl none ↦ inl ((let low = none.0 in omega (arith, low, apart)), none.1)
             | inr here ↦ inr here
@@ -101,20 +101,20 @@ spans_below lists n parts spans made are = record {
       };
 }
 
-pub spans_none : (lists : List (List Part)) (n : ℕ) (parts : List Part) (spans : List Span) → n ≡ length lists → parts ≡ [] → spans ≡ replicate n empty_span → AreSpans lists n parts spans
-spans_none lists n parts spans all empty are = record {
-  sized = ap length are ∙ (length-replicate n empty_span ∙ all);
+pub bounds_none : (lists : List (List Part)) (n : ℕ) (parts : List Part) (bounds : List Bounds) → n ≡ length lists → parts ≡ [] → bounds ≡ replicate n no_bounds → AreBounds lists n parts bounds
+bounds_none lists n parts bounds all empty are = record {
+  sized = ap length are ∙ (length-replicate n no_bounds ∙ all);
   each = λ k h.
-      let here : span_at spans k ≡ empty_span = ap (λ ss. span_at ss k) are ∙ get_or-replicate n k empty_span empty_span (omega (arith, all, h)) in
-      subst (λ s. IsSpan lists n parts k s) (sym here) (record { inside = record { rising = omega arith; ended = omega arith }; list = inl (omega (arith, all, h), refl) });
+      let here : bounds_at bounds k ≡ no_bounds = ap (λ ss. bounds_at ss k) are ∙ get_or-replicate n k no_bounds no_bounds (omega (arith, all, h)) in
+      subst (λ s. IsBounds lists n parts k s) (sym here) (record { inside = record { rising = omega arith; ended = omega arith }; list = inl (omega (arith, all, h), refl) });
 }
 
 -- where there is no ring, the list is empty
-pub spans_empty : (lists : List (List Part)) (n : ℕ) (parts : List Part) (spans : List Span) → n < length lists → list_at lists n ≡ [] → AreSpans lists (n + 1) parts spans → AreSpans lists n parts spans
-spans_empty lists n parts spans inside empty are =
-    let s = span_at spans n in
+pub bounds_empty : (lists : List (List Part)) (n : ℕ) (parts : List Part) (bounds : List Bounds) → n < length lists → list_at lists n ≡ [] → AreBounds lists (n + 1) parts bounds → AreBounds lists n parts bounds
+bounds_empty lists n parts bounds inside empty are =
+    let s = bounds_at bounds n in
     let was = are.each n inside in
-    spans_below lists n parts spans (elim was.list [
+    bounds_below lists n parts bounds (elim was.list [
       | inl none ↦
           let few : length (take s.end parts) ≡ s.end = length-take-le s.end parts was.inside.ended in
           let e = none.1 in
@@ -123,31 +123,31 @@ spans_empty lists n parts spans inside empty are =
     ]) are
 
 -- a list with its ring, and the one round it
-pub spans_more : (lists : List (List Part)) (n : ℕ) (old new : List Part) (spans : List Span) (s : Span) (r : Ring) → n < length lists → AreSpans lists (n + 1) old spans → IsLonger old new → IsWhole lists new n s → IsRing lists n r → AreSpans lists n new (set (set spans n s) r.around (record { start = s.start + 1; end = s.end }))
-spans_more lists n old new spans s r inside are more is ring =
-    let here : span_at (set spans n s) n ≡ s = get_or-set_same spans n s empty_span (let size = are.sized in omega (arith, size, inside)) in
-    let with_it = spans_set lists (n + 1) new spans n s (spans_longer lists (n + 1) old new spans more are) is in
-    spans_set lists n new (set spans n s) r.around (record { start = s.start + 1; end = s.end }) (spans_below lists n new (set spans n s) (ap (list_in new) here ∙ is.list) with_it) (rest_whole lists new n s r is ring)
+pub bounds_more : (lists : List (List Part)) (n : ℕ) (old new : List Part) (bounds : List Bounds) (s : Bounds) (r : Ring) → n < length lists → AreBounds lists (n + 1) old bounds → IsLonger old new → IsWhole lists new n s → IsRing lists n r → AreBounds lists n new (set (set bounds n s) r.around (record { start = s.start + 1; end = s.end }))
+bounds_more lists n old new bounds s r inside are more is ring =
+    let here : bounds_at (set bounds n s) n ≡ s = get_or-set_same bounds n s no_bounds (let size = are.sized in omega (arith, size, inside)) in
+    let with_it = bounds_set lists (n + 1) new bounds n s (bounds_longer lists (n + 1) old new bounds more are) is in
+    bounds_set lists n new (set bounds n s) r.around (record { start = s.start + 1; end = s.end }) (bounds_below lists n new (set bounds n s) (ap (list_in new) here ∙ is.list) with_it) (rest_whole lists new n s r is ring)
 
 -- at the end all lists are whole
-pub spans_all : (lists : List (List Part)) (parts : List Part) (spans : List Span) → AreSpans lists 0 parts spans → map (list_in parts) spans ≡ lists
-spans_all lists parts spans are =
-    ext_get_or [] (map (list_in parts) spans) lists (length-map spans (list_in parts) ∙ are.sized) (λ k h.
+pub bounds_all : (lists : List (List Part)) (parts : List Part) (bounds : List Bounds) → AreBounds lists 0 parts bounds → map (list_in parts) bounds ≡ lists
+bounds_all lists parts bounds are =
+    ext_get_or [] (map (list_in parts) bounds) lists (length-map bounds (list_in parts) ∙ are.sized) (λ k h.
     let size = are.sized in
-    let long : length (map (list_in parts) spans) ≡ length spans = length-map spans (list_in parts) in
-    let room : k < length spans = omega (arith, long, h) in
+    let long : length (map (list_in parts) bounds) ≡ length bounds = length-map bounds (list_in parts) in
+    let room : k < length bounds = omega (arith, long, h) in
     let each = are.each k (omega (arith, size, room)) in
-    get_or-map (list_in parts) spans k empty_span [] room ∙ elim each.list [
+    get_or-map (list_in parts) bounds k no_bounds [] room ∙ elim each.list [
       | inl none ↦ absurd (let low = none.0 in omega (arith, low))
       | inr here ↦ here
     ])
 
 -- the list that is read is the one at the place
-pub list_read : (parts : List Part) (spans : List Span) (place : ℕ) (s : Span) → place < length (map (list_in parts) spans) → s ≡ get_or spans place s → between s.start s.end parts ≡ list_at (map (list_in parts) spans) place
-list_read parts spans place s inside read =
-    let room : place < length spans = (let long = length-map spans (list_in parts) in omega (arith, long, inside)) in
-    between_is parts s.start s.end ∙ (ap (list_in parts) read ∙ sym (get_or-map (list_in parts) spans place s [] room))
+pub list_read : (parts : List Part) (bounds : List Bounds) (place : ℕ) (s : Bounds) → place < length (map (list_in parts) bounds) → s ≡ get_or bounds place s → between s.start s.end parts ≡ list_at (map (list_in parts) bounds) place
+list_read parts bounds place s inside read =
+    let room : place < length bounds = (let long = length-map bounds (list_in parts) in omega (arith, long, inside)) in
+    between_is parts s.start s.end ∙ (ap (list_in parts) read ∙ sym (get_or-map (list_in parts) bounds place s [] room))
 
 pub ruleset whole_rules = (longer_self, whole_before, whole_added)
 
-pub ruleset lists_rules = (spans_none, spans_all)
+pub ruleset lists_rules = (bounds_none, bounds_all)

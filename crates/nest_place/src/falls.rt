@@ -1,5 +1,5 @@
 // Falls from one case construct into another.
-ghost use Rattle.std.specs.Prelude.{◌≡◌, ◌<◌, ◌++◌, length, true, Some, IfOk, OnOk, IfErr, map};
+ghost use Rattle.std.specs.Prelude.{◌≡◌, ◌<◌, ◌++◌, length, true, Some, IfOk, OnOk, IfErr};
 ghost use Rattle.std.specs.List.{filter_map};
 ghost use Rattle.spv_words.specs.declared.rule.Rule.TheVariants.{K9, K10, K11};
 ghost use Rattle.structure_rules.specs.Graph.{edges, nth};

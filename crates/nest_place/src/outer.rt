@@ -1,7 +1,7 @@
 // The lists of constructs round blocks.
 ghost use Rattle.std.specs.Prelude.{◌≡◌, ◌<◌, ◌+◌, ◌++◌, length, IfOk, OnOk};
 ghost use Rattle.nest_place.specs.Spots.{list_at};
-ghost use Rattle.nest_place.specs.Shared.{IsLonger, IsSpan, IsWhole, AreSpans};
+ghost use Rattle.nest_place.specs.Shared.{IsLonger, IsBounds, IsWhole, AreBounds};
 
 use crate::rings::Rings;
 use std::alloc::{AllocError, Global};
@@ -10,20 +10,20 @@ use structure_rules::Part;
 
 /// Where the constructs of a list lie.
 #[derive(Clone, Copy, Debug)]
-struct Span {
+struct Bounds {
     start: usize,
     end: usize,
 }
 
 /// Where nothing lies.
-const EMPTY: Span = Span { start: 0, end: 0 };
+const EMPTY: Bounds = Bounds { start: 0, end: 0 };
 
 /// Lists of constructs, from inside out. Where a list is the end of another, they share its constructs.
 /// Contracts see the lists.
 #[derive(Drop)]
 pub struct Constructs {
     parts: Vec<Part>,
-    spans: Vec<Span>,
+    bounds: Vec<Bounds>,
 }
 
 impl Model for Constructs {
@@ -33,9 +33,9 @@ impl Model for Constructs {
 
     ghost Value = { Lists };
 
-    ghost view = { λ c. map (list_in c.parts.items) c.spans.items };
+    ghost view = { λ c. map (list_in c.parts.items) c.bounds.items };
 
-    ghost invariant = { λ c. AreInside c.parts.items c.spans.items };
+    ghost invariant = { λ c. AreInside c.parts.items c.bounds.items };
 }
 
 /// Adds the constructs of the list at a place.
@@ -55,44 +55,44 @@ fn add_list(parts: &mut Vec<Part>, rings: &Rings, place: usize) -> Result<(), Al
 #[tactic(auto, using(crate::proofs::Sharing::whole_rules))]
 fn whole_list(
     parts: &mut Vec<Part>,
-    span: Span,
+    own: Bounds,
     rings: &Rings,
     place: usize,
-) -> Result<Span, AllocError>
+) -> Result<Bounds, AllocError>
     requires place { place < length rings.now }
-    requires span { IsSpan rings.now (place + 1) parts.old.items place span }
+    requires own { IsBounds rings.now (place + 1) parts.old.items place own }
     ensures kept { OnOk result (IsLonger parts.old.items parts.new.items) }
-    ensures span { IfOk result (IsWhole rings.now parts.new.items place) }
+    ensures own { IfOk result (IsWhole rings.now parts.new.items place) }
 {
-    if span.start < span.end {
-        return Ok(span);
+    if own.start < own.end {
+        return Ok(own);
     }
     let start = parts.len();
     add_list(parts, rings, place)?;
     let end = parts.len();
-    Ok(Span { start, end })
+    Ok(Bounds { start, end })
 }
 
 /// Makes the list at a place, and with it the list round its first construct, which is its end.
-#[tactic(auto, using(crate::proofs::Sharing::spans_empty))]
+#[tactic(auto, using(crate::proofs::Sharing::bounds_empty))]
 fn make_list(
     parts: &mut Vec<Part>,
-    spans: &mut Vec<Span>,
+    bounds: &mut Vec<Bounds>,
     rings: &Rings,
     place: usize,
 ) -> Result<(), AllocError>
     requires place { place < length rings.now }
-    requires spans { AreSpans rings.now (place + 1) parts.old.items spans.old.items }
-    ensures { OnOk result (AreSpans rings.now place parts.new.items spans.new.items) }
+    requires bounds { AreBounds rings.now (place + 1) parts.old.items bounds.old.items }
+    ensures { OnOk result (AreBounds rings.now place parts.new.items bounds.new.items) }
 {
     match rings.ring(place) {
         None => Ok(()),
         Some(ring) => {
-            let span = whole_list(parts, spans[place], rings, place)?;
-            spans[place] = span;
-            spans[ring.around] = Span {
-                start: span.start + 1,
-                end: span.end,
+            let own = whole_list(parts, bounds[place], rings, place)?;
+            bounds[place] = own;
+            bounds[ring.around] = Bounds {
+                start: own.start + 1,
+                end: own.end,
             };
             Ok(())
         }
@@ -107,12 +107,12 @@ impl Constructs {
     {
         // There is at least one for each ring.
         let mut parts = Vec::with_capacity(alloc, rings.len())?;
-        let mut spans = vec![in alloc; EMPTY; rings.len()]?;
+        let mut bounds = vec![in alloc; EMPTY; rings.len()]?;
         // From the last one back, as a ring names an earlier list.
         for place in (0..rings.len()).rev() {
-            make_list(&mut parts, &mut spans, rings, place)?;
+            make_list(&mut parts, &mut bounds, rings, place)?;
         }
-        Ok(Constructs { parts, spans })
+        Ok(Constructs { parts, bounds })
     }
 
     /// The list at a place.
@@ -121,7 +121,7 @@ impl Constructs {
         requires { place < length self.now }
         ensures { result.now ≡ list_at self.now place }
     {
-        let span = self.spans[place];
-        &self.parts[span.start..span.end]
+        let own = self.bounds[place];
+        &self.parts[own.start..own.end]
     }
 }

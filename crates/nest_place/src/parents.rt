@@ -1,5 +1,5 @@
 // The parents of blocks: their headers, switches and predecessors.
-ghost use Rattle.std.specs.Prelude.{◌≡◌, filter, is_none, OnOk, IfOk, IfErr};
+ghost use Rattle.std.specs.Prelude.{◌≡◌, OnOk, IfOk, IfErr};
 ghost use Rattle.spv_words.specs.declared.rule.Rule.TheVariants.{K4, K5};
 ghost use Rattle.structure_rules.specs.Graph.{edges as edges_of};
 ghost use Rattle.structure_rules.specs.Nesting.{linked, header_of, switch_of, case_targets as case_targets_of, case_links as case_links_of, later_targets as later_targets_of, entry_links as entry_links_of, role as role_of, named_role as named_role_of, parent_of};

@@ -1,5 +1,5 @@
 // The moves, while they are listed.
-ghost use Rattle.std.specs.Prelude.{◌≡◌, ◌<◌, ◌+◌, ℕ, true, IfOk, OnOk};
+ghost use Rattle.std.specs.Prelude.{◌≡◌, ◌<◌, ◌+◌, true, IfOk, OnOk};
 ghost use Rattle.std.specs.BTreeSet.{contains, btree_set_len, IsLowerBound};
 ghost use Rattle.std.specs.Ordering.{nat_cmp};
 ghost use Rattle.phi_copies.specs.Sequence.{HaveOwnTargets};

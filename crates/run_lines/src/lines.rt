@@ -6,7 +6,7 @@ ghost use Rattle.traces.specs.Events.{buffer};
 ghost use Rattle.group_items.specs.Events.{location_of, events_of};
 ghost use Rattle.group_sched.specs.Stores.{words_in};
 ghost use Rattle.dispatch_case.specs.Cases.{buffer_view, is_short};
-ghost use Rattle.run_lines.specs.Lines.{word_text, words_text, row_name, row_line, end_line as line_of_end, last_lines as lines_of_end, AreLines};
+ghost use Rattle.run_lines.specs.Lines.{words_text, row_name, row_line, end_line as line_of_end, last_lines as lines_of_end, AreLines};
 
 use crate::rows::{Row, rows_in_order};
 use group_sched::{End, Event, LeafPlace, Store};

@@ -1,5 +1,5 @@
 // What operands have.
-ghost use Rattle.std.specs.Prelude.{◌≡◌, IfOk, Some, None, option_map, option_and_then};
+ghost use Rattle.std.specs.Prelude.{◌≡◌, IfOk, Some, None, option_map};
 ghost use Rattle.spv_types.specs.View.{value_of};
 ghost use Rattle.value_ops.specs.References.{plain_references};
 ghost use Rattle.module_semantics.specs.State as state;

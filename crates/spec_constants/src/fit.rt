@@ -5,7 +5,7 @@ ghost use Rattle.std.specs.List.{list_any};
 ghost use Rattle.std.specs.BTreeMap.{get};
 ghost use Rattle.std.specs.BTreeSet.{contains};
 ghost use Rattle.std.specs.Ordering.{nat_cmp};
-ghost use Rattle.profile_rules.specs.Constants.{spec_id as spec_id_in, is_scalar_specialization, has_spec_id, given_to, breaks_x3, breaks_x4, is_size_part, is_size_composite as is_size_composite_in, is_local_size_id as is_local_size_id_in, misfits_number as misfits_number_of, misfits_type as misfits_type_of, is_misfit as is_misfit_in, takes_misfit as takes_misfit_in};
+ghost use Rattle.profile_rules.specs.Constants.{spec_id as spec_id_in, is_scalar_specialization, has_spec_id, breaks_x3, breaks_x4, is_size_part, is_size_composite as is_size_composite_in, is_local_size_id as is_local_size_id_in, misfits_number as misfits_number_of, misfits_type as misfits_type_of, is_misfit as is_misfit_in};
 ghost use Rattle.spec_constants.specs.Fit.{IsCause, IsRefusal};
 
 use crate::given_words::{givens, word_given};

@@ -1,5 +1,5 @@
 // How many scalars the types of a module's values have, up to one past the limit.
-ghost use Rattle.std.specs.Prelude.{◌≡◌, ◌≤◌, ◌+◌, ◌*◌, ◌==◌, ◌||◌, ◌&&◌, ℕ, min, IfOk, IfErr, OnOk, sum_by, slice_index};
+ghost use Rattle.std.specs.Prelude.{◌≡◌, ◌≤◌, ◌+◌, ◌*◌, ◌==◌, ◌||◌, ◌&&◌, min, IfOk, IfErr, OnOk, sum_by};
 ghost use Rattle.std.specs.Option.{option_map_or};
 ghost use Rattle.spv_module.specs.Held.{global};
 ghost use Rattle.spv_words.specs.Limit.{limit_number};

@@ -1,5 +1,5 @@
 // The overrides on a command line.
-ghost use Rattle.std.specs.Prelude.{◌≡◌, ◌==◌, Some, IfOk, IfErr, map, IsSome};
+ghost use Rattle.std.specs.Prelude.{◌≡◌, Some, IfOk, IfErr, map};
 ghost use Rattle.op_semantics.specs.Component.{each_one};
 ghost use Rattle.profile_rules.specs.Overrides.{override_of, repeats as has_repeat, overrides_of};
 ghost use Rattle.spec_constants.specs.Unparsed.{IsUnread, IsCause};

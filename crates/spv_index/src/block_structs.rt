@@ -1,6 +1,5 @@
 // Which structs make blocks of the variables that point to them.
 ghost use Rattle.std.specs.Prelude.{◌≡◌, ◌&&◌, ◌==◌};
-ghost use Rattle.spv_ops.specs.Enumerants.{class_number};
 ghost use Rattle.spv_ops.specs.declared.StorageClass.TheVariants as storage;
 ghost use Rattle.spv_index.specs.BlockStructs.{has as has_by, is_block as is_block_by, is_storage_struct as is_storage_struct_by, is_uniform_struct as is_uniform_struct_by, is_push_struct as is_push_struct_by, is_block_struct as is_block_struct_by};
 

@@ -1,5 +1,5 @@
 // The instruction that is next.
-ghost use Rattle.std.specs.Prelude.{◌≡◌, ◌+◌, ◌∷◌, ◌<◌, ◌^◌, [], drop, MatchOption};
+ghost use Rattle.std.specs.Prelude.{◌≡◌, ◌∷◌, ◌<◌, [], drop, MatchOption};
 ghost use Rattle.run_state.specs.Confs.{left_at, frame_of};
 ghost use Rattle.spv_run.specs.Fetched.{IsFirst, IsFirstAt, IsNext};
 

@@ -1,7 +1,5 @@
 // Copies of events.
 ghost use Rattle.std.specs.Prelude.{◌≡◌, IfOk, IsSome, length};
-ghost use Rattle.std.specs.Option.{is_some};
-ghost use Rattle.traces.specs.Events.{event_of as made_of};
 ghost use Rattle.group_items.specs.Events.{event_of, access_of, filled, locations_of};
 ghost use Rattle.step_run.specs.Room.{HasRoom, IsReady, Fits};
 

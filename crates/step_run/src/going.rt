@@ -1,5 +1,5 @@
 // An invocation under way, to its next event.
-ghost use Rattle.std.specs.Prelude.{◌≡◌, ◌<◌, ◌+◌, ◌^◌, ℕ, [], None, IfOk, OnOk, OnErr, IfSome, IsSome, MatchOption};
+ghost use Rattle.std.specs.Prelude.{◌≡◌, ◌<◌, ◌+◌, ◌^◌, [], None, IfOk, OnOk, OnErr, IfSome, IsSome, MatchOption};
 ghost use Rattle.group_items.specs.Sides.{IsNext, behind_pause};
 ghost use Rattle.group_items.specs.Events.{access_of, event_of};
 ghost use Rattle.step_run.specs.Kept.{Course, IsGoing, IsSame, untold_events, begun_of, behind_step, runs_of};

@@ -1,5 +1,5 @@
 // What is run step by step.
-ghost use Rattle.std.specs.Prelude.{◌≡◌, ◌≢◌, ◌++◌, ℕ, List, [], Option, None, IfOk, OnErr, IsSome};
+ghost use Rattle.std.specs.Prelude.{◌≡◌, ◌≢◌, ◌++◌, ℕ, List, [], Option, IfOk, OnErr, IsSome};
 ghost use Rattle.traces.specs.Events.{Access};
 ghost use Rattle.traces.specs.Invocations.{Invocation as Told};
 ghost use Rattle.traces.specs.Runs.{waiting, running, made};

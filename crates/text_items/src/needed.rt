@@ -2,7 +2,7 @@
 ghost use Rattle.std.specs.Prelude.{◌≡◌, ◌&&◌, ◌||◌, ℕ, IfOk, OnOk};
 ghost use Rattle.std.specs.List.{list_any};
 ghost use Rattle.id_map.specs.Entries.{is_in};
-ghost use Rattle.text_rules.specs.Printed.{has_operand, is_private as is_private_variable, is_length_of, is_named, declares as declares_constant, needed_with, needed_from};
+ghost use Rattle.text_rules.specs.Printed.{has_operand, is_private as is_private_variable, is_length_of, declares as declares_constant, needed_with, needed_from};
 ghost use Rattle.text_items.specs.State.{is_written_class as is_written_class_number, is_written_by, needed_first};
 
 use crate::operands::{add_ids, add_ids_of, no_ids};

@@ -1,5 +1,5 @@
 // Blocks and shared variables.
-ghost use Rattle.std.specs.Prelude.{◌≡◌, codes, map, option_map, IfOk};
+ghost use Rattle.std.specs.Prelude.{◌≡◌, map, option_map, IfOk};
 ghost use Rattle.std.specs.List.{filter_map};
 ghost use Rattle.glsl_ast.specs.View.{decl_of, member_of};
 ghost use Rattle.text_report.specs.Blocks.{set_number, binding_number, kind_text, rules_text, qualifier_text, member_data, qualifier_data, block_data, shared_data, item_data};

@@ -1,8 +1,7 @@
 // The names of types, as they are printed.
-ghost use Rattle.std.specs.Prelude.{◌≡◌, ◌++◌, codes, string_bytes, map, IfOk, OnOk};
-ghost use Rattle.std.specs.Fmt.{decimal};
+ghost use Rattle.std.specs.Prelude.{◌≡◌, ◌++◌, string_bytes, IfOk, OnOk};
 ghost use Rattle.glsl_ast.specs.View.{base_of, extent_of, type_of};
-ghost use Rattle.glsl_grammar.specs.Layout.{base_text as text_of_base, extent_text, extents_text, type_text};
+ghost use Rattle.glsl_grammar.specs.Layout.{base_text as text_of_base, extent_text, type_text};
 ghost use Rattle.glsl_grammar.specs.Marks.{mark_text};
 
 use glsl_ast::{Base, Extent, TypeName};

@@ -1,5 +1,5 @@
 // Whether two types match part by part.
-ghost use Rattle.std.specs.Prelude.{◌≡◌, ◌==◌, length, IfOk, OnOk};
+ghost use Rattle.std.specs.Prelude.{◌≡◌, ◌==◌, length, IfOk};
 ghost use Rattle.std.specs.Option.{option_copied};
 ghost use Rattle.std.specs.List.{list_all, zip};
 ghost use Rattle.spv_types.specs.Types.{earlier};

@@ -6,9 +6,9 @@ use Rattle.nest_place.proofs.outer.Constructs.at.Goals as goal
 
 pub returns : goal.returns
 returns c =
-    let s = c.index-span.result.now in
+    let s = c.index-own.result.now in
     let seen = ap length c.self.view_is in
     let h = c.requires in
     ap (λ (ps : List Part). take (s.end - s.start) (drop s.start ps)) c.deref.ensures.value
-    ∙ (list_read c.self.inside.parts.items c.self.inside.spans.items c.args.place s (omega (arith, seen, h)) c.index-span.ensures
+    ∙ (list_read c.self.inside.parts.items c.self.inside.bounds.items c.args.place s (omega (arith, seen, h)) c.index-own.ensures
     ∙ ap (λ (ls : List (List Part)). list_at ls c.args.place) c.self.view_is)

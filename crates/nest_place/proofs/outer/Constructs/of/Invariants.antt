@@ -1,5 +1,5 @@
-use Rattle.nest_place.specs.Shared.{AreSpans}
+use Rattle.nest_place.specs.Shared.{AreBounds}
 use Rattle.nest_place.proofs.outer.Constructs.of.Given as goal
 
 abbrev pub invariant-loop-place : goal.invariant-loop-place
-invariant-loop-place l = AreSpans l.rings l.place l.parts.items l.spans.items
+invariant-loop-place l = AreBounds l.rings l.place l.parts.items l.bounds.items
