@@ -1,14 +1,11 @@
 // The answer of each action, written to the output.
-ghost use Rattle.std.specs.Prelude.{◌≡◌, ◌≤◌, [], ◌∷◌, Some, IfOk, IfErr, OnOk, OnErr, IsTrue, length};
+ghost use Rattle.std.specs.Prelude.{◌≡◌, ◌≤◌, Some, IfOk, IfErr, OnOk, OnErr, IsTrue, length};
 ghost use Rattle.spv_words.specs.Limit.{limit_number};
-ghost use Rattle.spv_words.specs.Breaks.{NoRuleBroken};
 ghost use Rattle.spv_words.specs.declared.rule.Limit.TheVariants.{Bytes};
-ghost use Rattle.spv_words.specs.declared.rule.Rule.TheVariants.{P11, P12};
 ghost use Rattle.glsl_ast.specs.View.{unit_of};
 ghost use Rattle.glsl_grammar.specs.InGrammar.{IsInGrammar};
 ghost use Rattle.glsl_grammar.specs.Layout.{unit_text};
 ghost use Rattle.spv_module.specs.State.{ModuleState};
-ghost use Rattle.spv_decor.specs.Broken.{Broken};
 ghost use Rattle.conformance.specs.Rules.{Conforms, IsRight, IsWithinLimits, Options as Asked};
 ghost use Rattle.module_check.specs.Asked.{asked};
 ghost use Rattle.module_check.specs.Judged.{IsFault, IsFine};
@@ -21,7 +18,7 @@ ghost use Rattle.command_line.specs.State.{task_of, is_allowed, runs};
 ghost use Rattle.command_line.specs.Endings.{IsCause, IsEndOfWriting, IsEndOfTask, IsOutput};
 ghost use Rattle.cross_core.specs.Answers.{IsAnswer, IsAnswerBy, above_by, above};
 
-use crate::texts::{report_line, summary_line, tree_of};
+use crate::texts::Subject;
 use cc_outside::Sink;
 use command_line::{Action, Command, Ending, ending_of, put};
 use glsl_ast::Unit;
@@ -60,46 +57,48 @@ fn put_run<K: Sink>(run: CaseRun, output: &mut K) -> Ending
 }
 
 /// Writes the answer to an action on a module; where this has a fault, nothing.
-fn written<K: Sink>(
-    alloc: Global,
-    action: &Action,
-    module: &Module,
-    decor: &Decor,
-    options: &Options,
-    output: &mut K,
-) -> Result<Ending, Fault>
-    requires heads { decor.now ≡ «module».now.heads }
-    requires given { IsGiven «module».now (asked options.now) }
-    requires decorated { NoRuleBroken (Broken «module».now) (P11 ∷ P12 ∷ []) }
+fn written<K: Sink>(subject: &Subject, action: &Action, output: &mut K) -> Result<Ending, Fault>
+    requires given { IsGiven subject.now.«module».now (asked subject.now.options.now) }
     requires allowed { IsTrue (is_allowed (task_of action.now)) }
-    ensures end { IfOk result (IsEndOfTask (above_by (task_of action.now) (asked options.now) «module».now)) }
-    ensures passes { OnOk result (IsFine «module».now (asked options.now)) }
-    ensures output { IfOk result (IsOutput K.written K.faults (IsAnswerBy (task_of action.now) (asked options.now) (Some «module».now)) output.old output.new) }
-    ensures refused { IfErr result (IsFault «module».now (asked options.now)) }
+    ensures end { IfOk result (IsEndOfTask (above_by (task_of action.now) (asked subject.now.options.now) subject.now.«module».now)) }
+    ensures passes { OnOk result (IsFine subject.now.«module».now (asked subject.now.options.now)) }
+    ensures output { IfOk result (IsOutput K.written K.faults (IsAnswerBy (task_of action.now) (asked subject.now.options.now) (Some subject.now.«module».now)) output.old output.new) }
+    ensures refused { IfErr result (IsFault subject.now.«module».now (asked subject.now.options.now)) }
     ensures unwritten { OnErr result (output.new ≡ output.old) }
 {
     match action {
         Action::Glsl => {
-            let unit = tree_of(alloc, module, decor, options)?;
+            let unit = subject.tree()?;
             let ending = put_text(&unit, output);
             // its many parts are not given back one by one, since the process ends
             forget(unit);
             Ok(ending)
         }
         Action::Check => {
-            judge(alloc, module, decor, options)?;
+            judge(
+                subject.alloc,
+                subject.module,
+                subject.decor,
+                subject.options,
+            )?;
             Ok(put(b"ok\n", output))
         }
         Action::Report => {
-            let line = report_line(alloc, module, decor, options)?;
+            let line = subject.report_line()?;
             Ok(put(line.as_bytes(), output))
         }
         Action::Summary => {
-            let line = summary_line(alloc, module, decor, options)?;
+            let line = subject.summary_line()?;
             Ok(put(line.as_bytes(), output))
         }
         Action::Run(case) => {
-            let run = run_case(alloc, module, decor, options, case)?;
+            let run = run_case(
+                subject.alloc,
+                subject.module,
+                subject.decor,
+                subject.options,
+                case,
+            )?;
             Ok(put_run(run, output))
         }
     }
@@ -142,14 +141,13 @@ fn answered<K: Sink>(
 {
     let module = read_given(alloc, bytes)?;
     let decor = Decor::read(alloc, &module)?;
-    let ending = written(
+    let subject = Subject {
         alloc,
-        command.action(),
-        &module,
-        &decor,
-        command.options(),
-        output,
-    )?;
+        module: &module,
+        decor: &decor,
+        options: command.options(),
+    };
+    let ending = written(&subject, command.action(), output)?;
     forget(decor);
     forget(module);
     Ok(ending)

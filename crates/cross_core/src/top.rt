@@ -2,12 +2,12 @@
 ghost use Rattle.std.specs.Prelude.{◌≡◌, ◌≤◌, map, None, Some, IfSome};
 ghost use Rattle.cc_outside.specs.Causes.{Rose};
 ghost use Rattle.spv_words.specs.Words.{octets_of};
+ghost use Rattle.command_line.specs.Endings.{IsCause, HasCause, ReadFails, IsRead, IsOutput};
 ghost use Rattle.module_gen.specs.Generated.{generated};
 ghost use Rattle.typed_law.specs.Words.{AreGivenWords};
 ghost use Rattle.command_line.specs.Commands.{command_of as command_named};
 ghost use Rattle.command_line.specs.Asked.{bytes_of};
 ghost use Rattle.cross_core.specs.Answers.{IsAnswer, above};
-ghost use Rattle.command_line.specs.Endings.{IsCause, HasCause, ReadFails, IsRead, IsOutput};
 ghost use Rattle.command_line.specs.Carried.{Carried, IsComplete, IsTurnedAway};
 ghost use Rattle.command_line.specs.Wrote.{Said};
 

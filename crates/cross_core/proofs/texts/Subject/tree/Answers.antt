@@ -6,11 +6,11 @@ use Rattle.conformance.specs.Rules.{Options}
 use Rattle.module_check.specs.Asked.{asked}
 use Rattle.emit_glsl.specs.Text.{IsTranslationOf}
 use Rattle.cross_core.proofs.Trees.{of_module}
-use Rattle.cross_core.proofs.texts.tree_of.Goals as goal
+use Rattle.cross_core.proofs.texts.Subject.tree.Goals as goal
 
 pub returns-clause-tree : goal.returns-clause-tree
 returns-clause-tree c =
-    let o : Options = asked c.args.options.now in
-    let m : ModuleState = c.args.«module».now in
+    let o : Options = asked c.args.self.now.options.now in
+    let m : ModuleState = c.args.self.now.«module».now in
     let translation = subst (λ (u : Tree). IsTranslationOf m o (unit_of u)) (sym c.forget_parts.ensures) c.in_ok-translate.ensures.translation in
-    of_module m o c.requires.given c.requires.decorated c.in_ok-translate.ensures.passes (unit_of c.forget_parts.result) translation
+    of_module m o c.requires c.args.self.now.decorated c.in_ok-translate.ensures.passes (unit_of c.forget_parts.result) translation
