@@ -1,11 +1,14 @@
 // The instructions of a module with their opcodes and kinds.
-ghost use Rattle.std.specs.Prelude.{◌≡◌, ◌<◌, ◌≤◌, ◌+◌, IfOk, length, slice_index};
+ghost use Rattle.std.specs.Prelude.{◌≡◌, ◌<◌, ◌≤◌, ◌+◌, IfOk, IfErr, OnOk, length, slice_index};
+ghost use Rattle.spv_words.specs.declared.rule.Rule.TheVariants.{P1, P2};
 ghost use Rattle.spv_words.specs.Words.{insts, nth_inst, slice};
-ghost use Rattle.spv_module.specs.Inst.{word as word_of, AreOpcodes, inst_of, known};
+ghost use Rattle.spv_module.specs.Inst.{word as word_of, inst_of, known};
 ghost use Rattle.spv_module.specs.Kinds.{kinds as kinds_in, kind_of};
+ghost use Rattle.spv_module.specs.Broken.{IsCause, IsUnbroken};
 
+use crate::counts::checked_opcode;
 use crate::decode::{op_at, operands_in, outcome_of, refused, result_in, type_in, word};
-use crate::kind::Kind;
+use crate::kind::{Kind, imports, kind_among};
 use crate::{Args, Inst};
 use spv_ops::Op;
 use spv_words::{Fault, Inst1, Rule, Words};
@@ -34,13 +37,22 @@ impl<'a> Model for Rows<'a> {
 }
 
 impl<'a> Rows<'a> {
-    /// The instructions of these words.
-    pub fn new(words: &'a Words, ops: Vec<Op>, kinds: Vec<Kind>) -> Rows<'a>
-        requires opcodes { AreOpcodes (insts words.now) ops.items }
-        requires kinds { kinds.items ≡ kinds_in words.now }
-        ensures { result ≡ words.now }
+    /// The instructions of these words, where none breaks a rule on opcodes and numbers of words.
+    pub fn of(alloc: Global, words: &'a Words) -> Result<Rows<'a>, Fault>
+        ensures rows { IfOk result (λ rows. rows ≡ words.now) }
+        ensures known { OnOk result (IsUnbroken words.now P1) }
+        ensures fitting { OnOk result (IsUnbroken words.now P2) }
+        ensures refused { IfErr result (IsCause words.now) }
     {
-        Rows { words, ops, kinds }
+        let imports = imports(alloc, words)?;
+        let mut ops = Vec::with_capacity(alloc, words.count())?;
+        let mut kinds = Vec::with_capacity(alloc, words.count())?;
+        for i in 0..words.count() {
+            let op = checked_opcode(words, i)?;
+            ops.push(op)?;
+            kinds.push(kind_among(words, i, op, &imports))?;
+        }
+        Ok(Rows { words, ops, kinds })
     }
 
     /// The bound of the ids.
