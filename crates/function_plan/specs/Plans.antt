@@ -11,7 +11,9 @@ use Rattle.structure_recover.specs.View.{region_of}
 use Rattle.use_chains.specs.Links.{Link, AreLiveLinks}
 use Rattle.hoist_plan.specs.Plan as plan
 use Rattle.hoist_plan.specs.Kept.{NamingState, form_in, is_carried_in}
+use Rattle.hoist_plan.specs.declared.form.Form.{Form}
 use Rattle.phi_copies.specs.Sequence.{IsSequence}
+use Rattle.function_plan.specs.declared.flag_sets.FlagSets.{FlagSets}
 use Rattle.function_plan.specs.declared.plan.FunctionPlan.{FunctionPlan as Planned}
 use Rattle.switch_ladder.specs.Flags.{blocks_that, needs_again, needs_leave, needs_fell}
 use Rattle.function_plan.specs.Phis.{pairs, firsts, phi_blocks}
@@ -27,6 +29,12 @@ pub record IsNamed (gs : List Inst) (f : Function) (g : List Node) (naming : Nam
   pub forms : (n : ℕ) → form_in naming n ≡ plan.form (record { globals = gs; function = f; links = links }) n
   pub carried : (n : ℕ) → is_carried_in naming n ≡ plan.is_carried (record { globals = gs; function = f; links = links }) n
 
+-- the flags that the text of a function needs, by the forms of its values
+pub record AreFlags (f : Function) (form : ℕ → Form) (flags : FlagSets) : Type 0 where
+  pub again : (b : ℕ) → has_again flags b ≡ is_among (blocks_that (needs_again (graph f)) (graph f)) b
+  pub leave : (b : ℕ) → has_leave flags b ≡ is_among (blocks_that (needs_leave (graph f)) (graph f)) b
+  pub fell : (b : ℕ) → has_fell flags b ≡ is_among (blocks_that (needs_fell (graph f) (phi_blocks form f)) (graph f)) b
+
 pub record IsPlanned (m : ModuleState) (f : Function) (p : Planned) : Type 0 where
   pub of_module : p.source.now ≡ m
   pub of_function : p.locals ≡ f
@@ -36,7 +44,5 @@ pub record IsPlanned (m : ModuleState) (f : Function) (p : Planned) : Type 0 whe
   pub named : (n : ℕ) → is_in p.named n ≡ is_named_in (form_in p.naming) (graph f) f.blocks n
   pub tree : IsTree f (region_of p.region)
   pub moves : (b t : ℕ) → IsSequence (firsts (pairs m.globals (form_in p.naming) f b t)) (moves_in p.moves.items b t)
-  pub again : (b : ℕ) → has_again p.flags b ≡ is_among (blocks_that (needs_again (graph f)) (graph f)) b
-  pub leave : (b : ℕ) → has_leave p.flags b ≡ is_among (blocks_that (needs_leave (graph f)) (graph f)) b
-  pub fell : (b : ℕ) → has_fell p.flags b ≡ is_among (blocks_that (needs_fell (graph f) (phi_blocks (form_in p.naming) f)) (graph f)) b
+  pub flags : AreFlags f (form_in p.naming) p.flags
   pub orders : (h : ℕ) → order_in p.orders h ≡ order_by (graph f) h

@@ -127,9 +127,9 @@ module _ (s : Source) (names : Given) (globals : Globals) (found : Naming) where
         graph_is = is.graph_is;
         tree = is.tree;
         moves_are = is.moves;
-        again_is = is.again;
-        leave_is = is.leave;
-        fell_is = is.fell;
+        again_is = is.flags.again;
+        leave_is = is.flags.leave;
+        fell_is = is.flags.fell;
         order_is = is.orders;
       }
 
