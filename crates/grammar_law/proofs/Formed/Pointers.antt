@@ -485,15 +485,12 @@ module _ (s : Setting) (entry : Option (List ℕ)) (right : IsConforming s.of en
       by_atomic atomics.Store off typed = clash off
       by_atomic o off typed = no_words typed.0
 
-      call_right : group_of i.op ≡ groups.Call → breaks_t21 s.of.functions Gs V i ≡ false
-      call_right at = let b = flow_right s.of entry right f in_it i there in ap (is_flow_broken s.of f b.0 i) (sym at) ∙ b.1
-
       by_step : is_frame (group_of i.op) ≡ false → (k : StepKind) → step_in (group_of i.op) ≡ k → has_none k ≡ false → makes_pointer k ≡ false → IsTyped s f i k → ⊥
       by_step free operation at some off typed = by_group (group_of i.op) refl (operation_group (group_of i.op) (typed_group i.op has) free at) (value_right s.of entry right f in_it i there) (number_right s.of entry right f in_it i there)
       by_step free array_length at some off typed = no_words typed.0
       by_step free load at some off typed = no_shape typed.shape (sym value_shape_is ∙ typed.result)
       by_step free (atomic o) at some off typed = by_atomic o some typed
-      by_step free call at some off typed = let is_call = call_group (group_of i.op) at in no_result (call_op i.op is_call) (call_right is_call)
+      by_step free call at some off typed = let is_call = call_group (group_of i.op) at in let b = flow_right s.of entry right f in_it i there in no_result (call_op i.op is_call) (ap (is_flow_broken s.of f b.0 i) (sym is_call) ∙ b.1)
       by_step free chain at some off typed = clash off
       by_step free variable at some off typed = clash off
       by_step free k at some off typed = clash some

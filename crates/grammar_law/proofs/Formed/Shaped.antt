@@ -1,8 +1,7 @@
 -- In a conforming module the result of an instruction whose type is neither void nor a pointer has a shape: no value has the type of a function, since each would have it of one that stands before it.
-use Rattle.std.proofs.Common.{◌≡◌, ◌<◌, ◌==◌, ◌||◌, ◌&&◌, not, ℕ, zero, suc, Bool, true, false, List, [], ◌∷◌, ◌++◌, Option, Some, None, inl, inr, refl, sym, ap, subst, ◌∙◌, if◌then◌else◌, arith}
+use Rattle.std.proofs.Common.{◌≡◌, ◌<◌, ◌||◌, ◌&&◌, not, ℕ, zero, suc, Bool, true, false, List, [], ◌∷◌, ◌++◌, Option, Some, None, inl, inr, refl, sym, ap, subst, ◌∙◌, if◌then◌else◌, arith}
 use Rattle.std.specs.Prelude.{◌⊎◌, nat_lt, is_some, option_and_then, flat_map, Contains, slice_index}
 use Rattle.std.specs.Option.{option_map_or, option_or}
-use Rattle.std.proofs.lemmas.Bool.Decides.{eqb_tells}
 use Rattle.std.proofs.lemmas.Option.{same_Some, none-some}
 use Rattle.spv_words.specs.declared.rule.Rule.TheVariants.{T1}
 use Rattle.spv_ops.specs.Opcode.{is}
@@ -55,6 +54,7 @@ use Rattle.typed_law.proofs.Values.{IsRow, global_row, shape_of_row, value_type_
 use Rattle.typed_law.proofs.Others.{typed_some}
 use Rattle.accepted_law.proofs.Accepted.{accepted_conforming}
 use Rattle.grammar_law.proofs.Ruled.Ruled.{contains_of, parameter_of, lends_whole}
+use Rattle.grammar_law.proofs.Unit.Ways.{own_type_of}
 use Rattle.grammar_law.proofs.Formed.Inner.{is_frame, accepted_free}
 use Rattle.grammar_law.proofs.Formed.Pointers.{NoSame, row, function_shapeless, shapeless_is, no_tree, no_class, shapeless_none}
 
@@ -66,14 +66,6 @@ of_among (j ∷ is) i (inr there) = inr (of_among is i there)
 neither : (a b : Bool) → not (a || b) ≡ true → (a ≡ false) × (b ≡ false)
 neither false false e = (refl, refl)
 neither a b e = cc
-
-typed_type : (i : Inst) (ty : ℕ) → typed i ≡ Some ty → (i.ty ≡ ty) × (i.ty ≡ 0 → ⊥)
-typed_type i ty e = by_test (i.ty == 0) (eqb_tells i.ty 0) e
-  where
-    by_test : (b : Bool) → ((b ≡ true) × (i.ty ≡ 0)) ⊎ ((b ≡ false) × (i.ty ≡ 0 → ⊥)) → (if b then None else Some i.ty) ≡ Some ty → (i.ty ≡ ty) × (i.ty ≡ 0 → ⊥)
-    by_test true w e = cc
-    by_test false (inl w) e = cc
-    by_test false (inr w) e = (same_Some i.ty ty e, w.1)
 
 -- constants, by their groups
 abbrev is_constant_group : OpGroup → Bool
@@ -163,7 +155,7 @@ module _ (s : Setting) (entry : Option (List ℕ)) (right : IsConforming s.of en
         by_inst : (o : Option Inst) → inst_in f x ≡ o → parameter_in f x ≡ None → global_type Gs x ≡ None → option_and_then typed o ≡ Some ty → ⊥
         by_inst None at none outside e = absurd (none-some ty e)
         by_inst (Some j) at none outside e =
-            let own = typed_type j ty e in
+            let own = own_type_of j ty e in
             earlier_none j (found_in (insts_of f) x j at) (less_of j.at i.at (and_right (is_some (typed j)) (nat_lt j.at i.at) before)) own.0 own.1
           where
             no_outer : (o : Option Inst) → earlier Gs i.at x ≡ o → option_map_or (suits Value) o false ≡ false
@@ -183,7 +175,7 @@ module _ (s : Setting) (entry : Option (List ℕ)) (right : IsConforming s.of en
         by_outer None at e = by_parameter (parameter_in f x) refl at e
         by_outer (Some y) at e =
             let h = some_part typed (global Gs x) y at in
-            let own = typed_type h.0 y h.2 in
+            let own = own_type_of h.0 y h.2 in
             no_global h.0 (found_in Gs x h.0 h.1) (own.0 ∙ same_Some y ty e) own.1
 
         none_before : type_in Gs f x ≡ Some ty → ⊥

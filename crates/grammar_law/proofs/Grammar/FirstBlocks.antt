@@ -18,7 +18,7 @@ use Rattle.grammar_law.proofs.Formed.Reach.{first_marked}
 use Rattle.call_law.specs.Known.{IsFunctionOf}
 use Rattle.claim_law.specs.Claimed.{IsIn}
 
-none_in : (is : List Inst) (i : Inst) → HaveNoVariable is → IsIn i is → is_variable i ≡ true → ⊥
+pub none_in : (is : List Inst) (i : Inst) → HaveNoVariable is → IsIn i is → is_variable i ≡ true → ⊥
 none_in [] i none there on = absurd there
 none_in (x ∷ is) i none (inl same) on = clash (sym on ∙ (ap is_variable (sym same) ∙ none.0))
   where

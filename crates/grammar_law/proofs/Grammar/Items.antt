@@ -54,7 +54,7 @@ use_joined W names [] es first second = second
 use_joined W names (d ∷ ds) es first second = (first.0, use_joined W (names_after names d) ds es first.1 second)
 
 -- what rises
-rising_least : (n : ℕ) (gs : List Inst) (h : Inst) → AreRising n gs → IsIn h gs → n ≤ h.at
+pub rising_least : (n : ℕ) (gs : List Inst) (h : Inst) → AreRising n gs → IsIn h gs → n ≤ h.at
 rising_least n [] h rise among = absurd among
 rising_least n (g ∷ gs) h rise (inl same) = subst (λ (x : Inst). n ≤ x.at) same rise.0
 rising_least n (g ∷ gs) h rise (inr among) = let far = rising_least (g.at + 1) gs h rise.1 among in let low = rise.0 in omega (arith, far, low)

@@ -13,7 +13,6 @@ use Rattle.spv_ops.specs.Groups.{is_chain}
 use Rattle.spv_ops.specs.Enumerants.{class_number, decoration_number}
 use Rattle.spv_ops.specs.declared.Op.{Op}
 use Rattle.spv_ops.specs.declared.Op.TheVariants as code
-use Rattle.spv_ops.specs.declared.OpGroup.TheVariants as groups
 use Rattle.spv_ops.specs.declared.Decoration.TheVariants as decoration
 use Rattle.spv_ops.specs.declared.StorageClass.TheVariants as storage
 use Rattle.spv_module.specs.Held.{global}
@@ -22,7 +21,6 @@ use Rattle.spv_module.specs.Lists.{id}
 use Rattle.spv_module.specs.declared.inst.Inst.{Inst}
 use Rattle.spv_module.specs.declared.inst.Block.{Block}
 use Rattle.spv_module.specs.declared.inst.Function.{Function}
-use Rattle.spv_module.specs.declared.tree.Length.{Length}
 use Rattle.spv_types.specs.Tree.{Tree}
 use Rattle.spv_types.specs.Types.{tree_at, type_tree}
 use Rattle.spv_types.specs.Leaves.{IsSized}
@@ -48,7 +46,7 @@ use Rattle.name_alloc.specs.Naming.{name_of}
 use Rattle.glsl_ast.specs.Tree.{Expr, name, TranslationUnit}
 use Rattle.glsl_grammar.specs.Read.{is_declared}
 use Rattle.text_rules.specs.Constants.{Source, is_constant, constant_expr}
-use Rattle.text_rules.specs.Declarations.{length_extent, type_at}
+use Rattle.text_rules.specs.Declarations.{type_at}
 use Rattle.text_rules.specs.Printed.{is_named, is_written_struct}
 use Rattle.text_items.specs.Globals.{built_in_text, is_input, global_by}
 use Rattle.expr_forward.specs.Scope.{Scope, type_of}
@@ -57,7 +55,7 @@ use Rattle.function_text.specs.Functions.{FunctionPlan, written, name_expr, cons
 use Rattle.unit_rules.specs.Translation.{Naming, text_of, id_text, names_of}
 use Rattle.unit_rules.specs.Unit as unit_rules
 use Rattle.unit_rules.specs.Unit.{claims_by, liveness_of, IsUnitOf}
-use Rattle.claim_law.specs.Uses.{Words, UsesExtent, UsesType, UsesExpr}
+use Rattle.claim_law.specs.Uses.{Words, UsesType, UsesExpr}
 use Rattle.claim_law.specs.Blocks.{FitWords}
 use Rattle.plan_law.specs.InOrder.{IsAmong}
 use Rattle.type_law.proofs.Vectors.{three_off}
@@ -73,7 +71,6 @@ use Rattle.claim_law.specs.Claimed.{IsIn, IsOf, HasName}
 use Rattle.claim_law.proofs.Claim.Listed.{in_flat, in_mapped, at_place, any_in}
 use Rattle.claim_law.proofs.Claim.Constants.{found_in, mention_in, constant_named}
 use Rattle.grammar_law.specs.Mentioned.{IsMentioned}
-use Rattle.grammar_law.specs.Types.{IsLengthOf}
 use Rattle.grammar_law.specs.Words.{words_of, AreOfStructs}
 use Rattle.grammar_law.proofs.Unit.Lists.{in_filter, none_passes, numbered_first, as_among}
 use Rattle.grammar_law.proofs.Unit.Links.{placed_in, mention_at}
@@ -89,17 +86,17 @@ use Rattle.grammar_law.proofs.Grammar.Readings.{constant_uses}
 use Rattle.grammar_law.proofs.Grammar.Lengths.{lengths_use}
 
 -- opcodes
-phi_typed : (o : Op) → is o code.Phi ≡ true → (has_type o ≡ true) × (has_result o ≡ true)
+pub phi_typed : (o : Op) → is o code.Phi ≡ true → (has_type o ≡ true) × (has_result o ≡ true)
 unfolding number shape
 phi_typed code.Phi on = (refl, refl)
 phi_typed o on = cc
 
-phi_always : (o : Op) → is o code.Phi ≡ true → is_always_named o ≡ true
+pub phi_always : (o : Op) → is o code.Phi ≡ true → is_always_named o ≡ true
 unfolding number group_of
 phi_always code.Phi on = refl
 phi_always o on = cc
 
-phi_slot : (o : Op) (args : List ℕ) (k : ℕ) → is o code.Phi ≡ true → (k % 2 == 0) ≡ true → (is_id o args k ≡ true) × (is_value o k ≡ true) × (need o k ≡ PhiValue)
+pub phi_slot : (o : Op) (args : List ℕ) (k : ℕ) → is o code.Phi ≡ true → (k % 2 == 0) ≡ true → (is_id o args k ≡ true) × (is_value o k ≡ true) × (need o k ≡ PhiValue)
 unfolding number is_id need takes_of group_of
 phi_slot code.Phi args k on even = (from_zero k, even, ap (λ (b : Bool). if b then PhiValue else Label) even)
 phi_slot o args k on even = cc
@@ -136,10 +133,7 @@ module _ (s : Setting) (entry : Option (List ℕ)) (right : IsConforming s.of en
   in_it : Contains s.of.functions Fn
   in_it = in_module s entry right kinds o unit u p among
 
-  lengths : (l : Length) → IsLengthOf Gs l → UsesExtent W (length_extent Src (id_text Found) l)
-  lengths = lengths_use s.of entry right o unit u words given names structs
-
-  marked : (c : ℕ) → (nth (graph Fn) c).reached ≡ true → slice_index_or Marks c false ≡ true
+  pub marked : (c : ℕ) → (nth (graph Fn) c).reached ≡ true → slice_index_or Marks c false ≡ true
   marked c reached = reached_nth (graph Fn) c ∙ reached
 
   -- a live phi of a reached block
@@ -186,7 +180,7 @@ module _ (s : Setting) (entry : Option (List ℕ)) (right : IsConforming s.of en
     pub target_type : UsesType W (type_at Src (names_of Found) (type_of Where i.result))
     target_type =
         subst (λ (ty : ℕ). UsesType W (type_at Src (names_of Found) ty)) (sym own_type_is)
-        (named_type_uses s.of o unit u names declared lengths i.ty shaped.0 shaped.1
+        (named_type_uses s.of o unit u names declared (lengths_use s.of entry right o unit u words given names structs) i.ty shaped.0 shaped.1
         (result_names s entry right kinds o unit u p among i i_in some_type shaped.0 shaped.1 (live_type_written s.of o unit u p among i of_it told_reached scoped)))
 
     -- what it takes from a reached block
@@ -194,14 +188,14 @@ module _ (s : Setting) (entry : Option (List ℕ)) (right : IsConforming s.of en
       below : (k < length i.args) × (slice_index i.args k ≡ n)
       below = place_of i.args k n at
 
-      slot_in : (f : Function) (marks : List Bool) → block_in f (slice_index i.args (k + 1)) ≡ Some b → slice_index_or marks b false ≡ true → is_slot f marks i k ≡ true
+      pub slot_in : (f : Function) (marks : List Bool) → block_in f (slice_index i.args (k + 1)) ≡ Some b → slice_index_or marks b false ≡ true → is_slot f marks i k ≡ true
       slot_in f marks found on =
           let parts = phi_slot i.op i.args k phi even in
           and_from (is_id i.op i.args k) (is_value i.op k && is_taken f marks i k) parts.0
           (and_from (is_value i.op k) (is_taken f marks i k) parts.1
           (or_right (not (is i.op code.Phi)) (is_label_reached f marks (slice_index i.args (k + 1))) (ap (λ (q : Option ℕ). option_map_or (λ (c : ℕ). slice_index_or marks c false) q false) found ∙ on)))
 
-      place : (j : ℕ) × (inst_at Fn t j ≡ Some i)
+      pub place : (j : ℕ) × (inst_at Fn t j ≡ Some i)
       place = placed_in Fn t holder i there inside_it
 
       abbrev mentioned : IsMentioned Fn Marks t i n
@@ -222,7 +216,7 @@ module _ (s : Setting) (entry : Option (List ℕ)) (right : IsConforming s.of en
       value_is : value_shape s Fn n ≡ Some shaped.0
       value_is = shaped_type s entry right Fn in_it i.ty n shaped.0 shaped.1 type_has same_type
 
-      type_is : (ty : ℕ) × (type_in Gs Fn n ≡ Some ty) × (type_tree Gs ty ≡ Some shaped.0)
+      pub type_is : (ty : ℕ) × (type_in Gs Fn n ≡ Some ty) × (type_tree Gs ty ≡ Some shaped.0)
       type_is = by_type (type_in Gs Fn n) refl value_is
         where
           by_type : (q : Option ℕ) → type_in Gs Fn n ≡ q → option_and_then (type_tree Gs) q ≡ Some shaped.0 → (ty : ℕ) × (type_in Gs Fn n ≡ Some ty) × (type_tree Gs ty ≡ Some shaped.0)
@@ -233,7 +227,7 @@ module _ (s : Setting) (entry : Option (List ℕ)) (right : IsConforming s.of en
       whole = ap (λ (q : Option ℕ). type_tree Gs (unwrap_or q 0)) type_is.1 ∙ type_is.2
 
       -- it is no variable outside of functions
-      no_variable : (g : Inst) → global Gs n ≡ Some g → is g.op code.Variable ≡ true → ⊥
+      pub no_variable : (g : Inst) → global Gs n ≡ Some g → is g.op code.Variable ≡ true → ⊥
       no_variable g found on =
           let g_in = (found_in Gs n g found).0 in
           let typed_is : g.ty ≡ 0 → ⊥ = (λ lacks. global_typed_some s entry right g (as_among Gs g g_in) (variable_typed g.op on) lacks) in
@@ -247,7 +241,7 @@ module _ (s : Setting) (entry : Option (List ℕ)) (right : IsConforming s.of en
       abbrev input_expr : Inst → Expr
       input_expr g = name (built_in_text (unwrap_or (value_of s.of.heads g.result (decoration_number decoration.BuiltIn)) 0))
 
-      reads_none : is_constant_id Gs n ≡ false → Where.setting.global n ≡ None
+      pub reads_none : is_constant_id Gs n ≡ false → Where.setting.global n ≡ None
       reads_none other = by_global (global Gs n) refl
         where
           by_input : (g : Inst) → global Gs n ≡ Some g → (b : Bool) → is_input g ≡ b → (if b then Some (input_expr g) else None) ≡ None
@@ -267,7 +261,7 @@ module _ (s : Setting) (entry : Option (List ℕ)) (right : IsConforming s.of en
         marked b here,
       )
 
-      wants : (c : ℕ) → wants_by Gs Fn c (mention_at Fn Marks t i n mentioned) i ≡ true
+      pub wants : (c : ℕ) → wants_by Gs Fn c (mention_at Fn Marks t i n mentioned) i ≡ true
       wants c =
           or_right (is_elsewhere_by Fn c (mention_at Fn Marks t i n mentioned) i) (is i.op code.Phi || ((is_chain i.op && not (k == 0)) || repeats_operands Gs Fn i))
           (or_left (is i.op code.Phi) ((is_chain i.op && not (k == 0)) || repeats_operands Gs Fn i) phi)

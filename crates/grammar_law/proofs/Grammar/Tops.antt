@@ -1,9 +1,8 @@
 -- What is declared at the top of a function's text, its parameters and its result have names, and types of declared words.
-use Rattle.std.proofs.Common.{◌≡◌, ◌<◌, ◌==◌, ◌&&◌, ◌||◌, not, ℕ, Bool, true, false, List, [], ◌∷◌, ◌++◌, drop, length, map, filter, Option, Some, None, Contains, inl, inr, refl, sym, ap, ◌∙◌, subst, if◌then◌else◌, arith}
+use Rattle.std.proofs.Common.{◌≡◌, ◌<◌, ◌==◌, ◌&&◌, ◌||◌, not, ℕ, Bool, true, false, List, [], ◌∷◌, ◌++◌, drop, length, map, filter, Option, Some, None, Contains, inl, inr, refl, sym, ap, ◌∙◌, subst, if◌then◌else◌}
 use Rattle.std.specs.Prelude.{◌⊎◌, ◌+◌, flat_map, nat_lt, option_and_then, unwrap_or, slice_get, slice_index, slice_index_or}
 use Rattle.std.specs.Option.{option_map_or}
 use Rattle.std.specs.List.{enumerate_from, list_any, filter_map, cons_option}
-use Rattle.std.proofs.lemmas.Bool.Decides.{nat_tests}
 use Rattle.std.proofs.lemmas.Bool.{or_right as by_second, and_from, not-false}
 use Rattle.spv_ops.specs.Opcode.{is, number}
 use Rattle.spv_ops.specs.OpGroups.{group_of, takes_of}
@@ -59,7 +58,7 @@ use Rattle.function_text.specs.Functions.{FunctionPlan, written, is_variable, va
 use Rattle.function_text.specs.Live.{is_composite_type, is_composite, is_wanted}
 use Rattle.unit_rules.specs.Translation.{Naming, text_of, id_text, names_of}
 use Rattle.unit_rules.specs.Unit.{claims_by, liveness_of, source_of, IsUnitOf}
-use Rattle.list_law.proofs.Numbers.{number_same}
+use Rattle.list_law.proofs.Numbers.{number_same, less_is}
 use Rattle.list_law.proofs.Lists.{second_at}
 use Rattle.claim_law.specs.Uses.{Words, UsesExtent, UsesType, UsesExpr}
 use Rattle.claim_law.specs.Statements.{UsesStmt, EachStmt}
@@ -107,7 +106,7 @@ unfolding is_id number takes_of group_of
 variable_slot code.Variable args on = (refl, refl, refl)
 variable_slot o args on = cc
 
-chain_right : (m : ModuleState) (t : ℕ → Option ℕ) (i : Inst) (o : Op) → is_chain o ≡ true → is_value_broken m t i (group_of o) ≡ false → breaks_t6 m.globals t i ≡ false
+pub chain_right : (m : ModuleState) (t : ℕ → Option ℕ) (i : Inst) (o : Op) → is_chain o ≡ true → is_value_broken m t i (group_of o) ≡ false → breaks_t6 m.globals t i ≡ false
 unfolding group_of
 chain_right m t i code.AccessChain on off = off
 chain_right m t i code.InBoundsAccessChain on off = off
@@ -264,12 +263,9 @@ module _ (s : Setting) (entry : Option (List ℕ)) (right : IsConforming s.of en
         pub first_constant : (h : Inst) → global Gs n ≡ Some h → is_constant_op h.op ≡ true
         first_constant h at =
             let off = or_right (not ((word i 0 == class_number storage.Function) || (word i 0 == class_number storage.Private))) (is_other_value s.of i (word i 1))
-            (and_off (is i.op code.Variable && nat_lt 1 (length i.args)) (not ((word i 0 == class_number storage.Function) || (word i 0 == class_number storage.Private)) || is_other_value s.of i (word i 1)) (initializer_right s.of entry right i body) (and_from (is i.op code.Variable) (nat_lt 1 (length i.args)) on (above (length i.args) place.0))) in
+            (and_off (is i.op code.Variable && nat_lt 1 (length i.args)) (not ((word i 0 == class_number storage.Function) || (word i 0 == class_number storage.Private)) || is_other_value s.of i (word i 1)) (initializer_right s.of entry right i body) (and_from (is i.op code.Variable) (nat_lt 1 (length i.args)) on (less_is 1 (length i.args) place.0))) in
             let there_is : global Gs (word i 1) ≡ Some h = ap (global Gs) place.1 ∙ at in
             not-false (is_constant_op h.op) (or_left (not (is_constant_op h.op)) (is_of_other_type Gs i h) (ap (λ (x : Option Inst). option_map_or (λ (g : Inst). not (is_constant_op g.op) || is_of_other_type Gs i g) x (is_defined_elsewhere s.of (word i 1))) (sym there_is) ∙ off))
-          where
-            above : (k : ℕ) → 1 < k → nat_lt 1 k ≡ true
-            above k less = grind (arith, nat_tests, less)
 
         mentioned : list_any (λ (k : ℕ). k == n) (mentions (written p) (liveness_of Src p).reached i) ≡ true
         mentioned =

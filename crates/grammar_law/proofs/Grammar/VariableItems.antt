@@ -3,7 +3,6 @@ use Rattle.std.proofs.Common.{◌≡◌, ◌≤◌, ◌<◌, ◌==◌, ◌&&◌,
 use Rattle.std.specs.Prelude.{nat_le, nat_lt, option_map, option_and_then, unwrap_or, slice_get, slice_index}
 use Rattle.std.specs.Option.{option_map_or}
 use Rattle.std.specs.List.{count_by, list_any}
-use Rattle.std.proofs.lemmas.Bool.Decides.{nat_tests}
 use Rattle.std.proofs.lemmas.Bool.{and_from, not-false, or_left as or_on_left, or_right as or_on_right}
 use Rattle.std.proofs.lemmas.Option.{same_Some, none-some}
 use Rattle.spv_ops.specs.Opcode.{is, number}
@@ -40,7 +39,7 @@ use Rattle.text_rules.specs.Constants.{constant_expr}
 use Rattle.text_rules.specs.Declarations.{Names, members, pointee_at, zero_at, type_at, expr_at, initial, place_of, block_decl, variable_decl}
 use Rattle.text_rules.specs.Printed.{class, is_variable, is_private, is_workgroup, is_block_variable, is_operand_in, is_written_variable, is_declared_constant, is_length_of, needs_constant, has_operand, has_struct, have_struct}
 use Rattle.unit_rules.specs.Unit.{source_of, IsUnitOf}
-use Rattle.list_law.proofs.Numbers.{same_number}
+use Rattle.list_law.proofs.Numbers.{same_number, less_is}
 use Rattle.list_law.proofs.Lists.{second_at}
 use Rattle.list_law.proofs.Tests.{common}
 use Rattle.claim_law.specs.Uses.{Words, UsesType, UsesExpr}
@@ -68,6 +67,7 @@ use Rattle.claim_law.proofs.Claim.Variables.{variable_no_struct, undeclared}
 use Rattle.grammar_law.specs.Words.{words_of, AreOfStructs}
 use Rattle.grammar_law.proofs.Unit.Lists.{as_among}
 use Rattle.grammar_law.proofs.Unit.Structs.{block_member_named}
+use Rattle.grammar_law.proofs.Meets.OuterRoots.{buffer_on}
 use Rattle.grammar_law.proofs.Grammar.Readings.{none_fits, constant_uses}
 use Rattle.grammar_law.proofs.Grammar.Lengths.{lengths_use, declared_named, needed_declared, first_needed}
 use Rattle.grammar_law.proofs.Grammar.Held.{Written, Run, Held, AreDeclaredBefore, type_stands, zero_stands}
@@ -101,14 +101,6 @@ other_off : (heads gs : List Inst) (pushes : ℕ) (v : Inst) → is_other_block 
 unfolding is_other_block
 other_off heads gs pushes v off one on =
     block_off (is_variable v) (rules.is_buffer v || rules.is_push v) (is_pointee gs (is_no_block heads (word v 0)) v) (rules.is_buffer v && is_unbound heads v) (rules.is_push v && nat_le 2 pushes) off one on
-
-buffer_on : (v a b c : Bool) → (v && (a || b || c)) ≡ true → ((a || c) || (v && b)) ≡ true
-buffer_on true true b c on = refl
-buffer_on true false true true on = refl
-buffer_on true false true false on = refl
-buffer_on true false false true on = refl
-buffer_on true false false false on = cc
-buffer_on false a b c on = cc
 
 class_of_block : (v a b c : Bool) → (v && (a || b || c)) ≡ true → (v && (a || (b || c))) ≡ true
 class_of_block true true b c on = refl
@@ -222,13 +214,10 @@ module _ (m : ModuleState) (entry : Option (List ℕ)) (right : IsConforming m e
             own : IsIn h Gs × (h.result ≡ n)
             own = found_in Gs n h at
 
-            above : (k : ℕ) → 1 < k → nat_lt 1 k ≡ true
-            above k less = grind (arith, nat_tests, less)
-
             constant : is_constant_op h.op ≡ true
             constant =
                 let off = or_right (not ((word v 0 == class_number storage.Function) || (word v 0 == class_number storage.Private))) (is_other_value m v (word v 1))
-                (and_off (is_variable v && nat_lt 1 (length v.args)) (not ((word v 0 == class_number storage.Function) || (word v 0 == class_number storage.Private)) || is_other_value m v (word v 1)) (initializer_right m entry right v (inst_left v Gs (local_insts m) (as_among Gs v there))) (and_from (is_variable v) (nat_lt 1 (length v.args)) one (above (length v.args) place.0))) in
+                (and_off (is_variable v && nat_lt 1 (length v.args)) (not ((word v 0 == class_number storage.Function) || (word v 0 == class_number storage.Private)) || is_other_value m v (word v 1)) (initializer_right m entry right v (inst_left v Gs (local_insts m) (as_among Gs v there))) (and_from (is_variable v) (nat_lt 1 (length v.args)) one (less_is 1 (length v.args) place.0))) in
                 let there_is : global Gs (word v 1) ≡ Some h = ap (global Gs) place.1 ∙ at in
                 not-false (is_constant_op h.op) (or_left (not (is_constant_op h.op)) (is_of_other_type Gs v h) (ap (λ (x : Option Inst). option_map_or (λ (g : Inst). not (is_constant_op g.op) || is_of_other_type Gs v g) x (is_defined_elsewhere m (word v 1))) (sym there_is) ∙ off))
 

@@ -7,10 +7,8 @@ use Rattle.std.proofs.lemmas.Bool.{not-false}
 use Rattle.std.proofs.lemmas.Option.{same_Some}
 use Rattle.spv_ops.specs.Opcode.{is as is_op}
 use Rattle.spv_ops.specs.Groups.{is_chain}
-use Rattle.spv_ops.specs.Operands.{is_id}
 use Rattle.spv_ops.specs.OpGroups.{group_of, takes_of}
 use Rattle.spv_ops.specs.Shape.{shape, count_of}
-use Rattle.spv_ops.specs.declared.OpGroup.TheVariants as groups
 use Rattle.spv_ops.specs.declared.Op.{Op}
 use Rattle.spv_ops.specs.declared.Op.TheVariants as code
 use Rattle.spv_module.specs.Inst.{has_type, has_result}
@@ -35,7 +33,6 @@ use Rattle.profile_rules.specs.ValueRules.{walk, nth_member, member_by, chain_pa
 use Rattle.profile_rules.specs.TypeRules.{is_value_broken}
 use Rattle.access_paths.specs.Ways.{base, indexes, path}
 use Rattle.module_semantics.specs.Setting.{Setting}
-use Rattle.list_law.proofs.Numbers.{from_zero}
 use Rattle.plan_law.specs.InOrder.{IsAmong}
 use Rattle.fits_law.specs.Takes.{nth_of}
 use Rattle.type_law.proofs.Rows.{by_kind, vector_parts}
@@ -48,6 +45,8 @@ use Rattle.typed_law.proofs.Values.{HasType, inside, typed_value, own_type, loca
 use Rattle.typed_law.proofs.Others.{target_of, typed_some}
 use Rattle.vec_lowering.specs.Depth.{depth, deepest}
 use Rattle.grammar_law.specs.Shallow.{AreDescending}
+use Rattle.grammar_law.proofs.Unit.Chains.{nothing_left}
+use Rattle.grammar_law.proofs.Unit.Sets.{chain_group, chain_id, chain_typed}
 use Rattle.grammar_law.proofs.Height.Shapes.{shapes-le}
 use Rattle.grammar_law.proofs.Height.Paths.{path-le}
 
@@ -88,29 +87,11 @@ nth-depth (tree t ts) zero u e = subst (λ x. depth x ≤ deepest (tree t ts)) (
 nth-depth (tree t ts) (suc k) u e = let rest = nth-depth ts k u e in omega (arith, rest)
 
 -- chains, by their opcodes
-chain_group : (o : Op) → is_chain o ≡ true → group_of o ≡ groups.Chain
-unfolding group_of
-chain_group code.AccessChain on = refl
-chain_group code.InBoundsAccessChain on = refl
-chain_group o on = cc
-
 pub chain_need : (o : Op) (k : ℕ) → is_chain o ≡ true → need o k ≡ Value
 unfolding need takes_of group_of
 chain_need code.AccessChain k on = refl
 chain_need code.InBoundsAccessChain k on = refl
 chain_need o k on = cc
-
-chain_id : (o : Op) (args : List ℕ) (k : ℕ) → is_chain o ≡ true → is_id o args k ≡ true
-unfolding is_id shape
-chain_id code.AccessChain args k on = from_zero k
-chain_id code.InBoundsAccessChain args k on = from_zero k
-chain_id o args k on = cc
-
-chain_typed_op : (o : Op) → is_chain o ≡ true → has_type o ≡ true
-unfolding shape
-chain_typed_op code.AccessChain on = refl
-chain_typed_op code.InBoundsAccessChain on = refl
-chain_typed_op o on = cc
 
 chain_least : (o : Op) (n : ℕ) → is_chain o ≡ true → (shape o).least ≤ 1 + count_of (has_type o) + count_of (has_result o) + n → 0 < n
 unfolding shape
@@ -214,10 +195,6 @@ module _ (s : Setting) (f : Function) where
       by_opcode g false false e = cc
 
   -- all indexes
-  nothing-on : (ids : List ℕ) → walk (chain_step Gs V) Nothing ids ≡ Nothing
-  nothing-on [] = refl
-  nothing-on (id ∷ ids) = nothing-on ids
-
   unknown-on : (ids : List ℕ) → walk (chain_step Gs V) Unknown ids ≡ Unknown
   unknown-on [] = refl
   unknown-on (id ∷ ids) = unknown-on ids
@@ -233,7 +210,7 @@ module _ (s : Setting) (f : Function) where
           let less = one.2 in
           let more = rest.2 in
           (rest.0, rest.1, (omega (arith, less, more)))
-      by_step Nothing is e later = let none : Nothing ≡ Part c = sym (nothing-on ids) ∙ e in absurd cc
+      by_step Nothing is e later = let none : Nothing ≡ Part c = sym (nothing_left (chain_step Gs V) ids) ∙ e in absurd cc
       by_step Unknown is e later = let none : Unknown ≡ Part c = sym (unknown-on ids) ∙ e in absurd cc
 
   abbrev AllTyped : List ℕ → Type 0
@@ -246,7 +223,7 @@ module _ (s : Setting) (f : Function) where
     where
       by_step : (r : Reached) → chain_step Gs V ty id ≡ r → walk (chain_step Gs V) r ids ≡ Unknown → ((d : ℕ) (w : Tree) → type_tree Gs d ≡ Some w → walk (chain_step Gs V) (Part d) ids ≡ Unknown → ⊥) → ⊥
       by_step (Part d) is e later = let one = step-down ty id t whole d is in later d one.0 one.1 e
-      by_step Nothing is e later = let none : Nothing ≡ Unknown = sym (nothing-on ids) ∙ e in absurd cc
+      by_step Nothing is e later = let none : Nothing ≡ Unknown = sym (nothing_left (chain_step Gs V) ids) ∙ e in absurd cc
       by_step Unknown is e later = step-known ty id t whole typed.0 is
 
 module _ (s : Setting) (entry : Option (List ℕ)) (right : IsConforming s.of entry) (within : AreWithin s.of.globals) (f : Function) (in_it : Contains s.of.functions f) where
@@ -303,7 +280,7 @@ module _ (s : Setting) (entry : Option (List ℕ)) (right : IsConforming s.of en
       let t : Tree = target.1 in
       let from : option_and_then (pointee R) (T (word i 0)) ≡ Some q = target.2 in
       let reached : chain_end R T i ≡ walk (chain_step R T) (Part q) (drop 1 i.args) = ap (λ o. walk (chain_step R T) (option_map_or Part o Unknown) (drop 1 i.args)) from in
-      let has = chain_typed_op i.op on in
+      let has = chain_typed i.op on in
       let own = own_type s entry right f in_it i there (typed_some s entry right f in_it i there has) in
       let g = local_row s entry right f in_it i there (typed_some s entry right f in_it i there has) in
       by_end q t from target.3 own g (chain_end R T i) refl reached parts.2 (all_typed i.args (typed_ids i there on))

@@ -1,5 +1,5 @@
 -- Heights of lists, types and zeros.
-use Rattle.std.proofs.Common.{◌≤◌, ◌+◌, ℕ, zero, suc, List, [], ◌∷◌, ◌++◌, map, max, arith}
+use Rattle.std.proofs.Common.{◌≤◌, ◌+◌, ℕ, zero, suc, List, [], ◌∷◌, ◌++◌, map, arith}
 use Rattle.std.specs.Prelude.{flat_map}
 use Rattle.spv_module.specs.declared.tree.Elem.{Elem}
 use Rattle.spv_module.specs.declared.tree.Elem.TheVariants as elem
@@ -12,9 +12,6 @@ use Rattle.glsl_ast.specs.Height.{highest, height, heights, base_height, extent_
 use Rattle.text_rules.specs.Types.{Spelling, type_text, zero_elem, times, zero_text, zero_texts}
 use Rattle.vec_lowering.specs.Depth.{depth, deepest}
 use Rattle.list_law.proofs.Numbers.{le_on}
-
-pub both-le : (a b n : ℕ) → a ≤ n → b ≤ n → max a b ≤ n
-both-le a b n p q = omega (arith, p, q)
 
 pub append-le : {A : Type 0} (f : A → ℕ) (xs ys : List A) (n : ℕ) → highest f xs ≤ n → highest f ys ≤ n → highest f (xs ++ ys) ≤ n
 append-le f [] ys n p q = q

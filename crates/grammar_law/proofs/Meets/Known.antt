@@ -6,12 +6,10 @@ use Rattle.std.specs.List.{list_any}
 use Rattle.spv_ops.specs.Opcode.{is, number}
 use Rattle.spv_ops.specs.OpGroups.{group_of}
 use Rattle.spv_ops.specs.Groups.{is_chain}
-use Rattle.spv_ops.specs.Shape.{shape}
 use Rattle.spv_ops.specs.declared.Op.{Op}
 use Rattle.spv_ops.specs.declared.Op.TheVariants as code
 use Rattle.spv_ops.specs.declared.OpGroup.TheVariants as groups
 use Rattle.spv_module.specs.Held.{global}
-use Rattle.spv_module.specs.Inst.{has_type}
 use Rattle.spv_module.specs.Lists.{id}
 use Rattle.spv_module.specs.declared.inst.Inst.{Inst}
 use Rattle.spv_module.specs.declared.inst.Block.{Block}
@@ -53,6 +51,7 @@ use Rattle.grammar_law.proofs.Unit.Lists.{as_in, as_among}
 use Rattle.grammar_law.proofs.Unit.Shaped.{pointer_none}
 use Rattle.grammar_law.proofs.Unit.Ways.{HaveKinds, F, R, V, in_module}
 use Rattle.grammar_law.proofs.Unit.Structs.{Written}
+use Rattle.grammar_law.proofs.Unit.Sets.{chain_group, chain_typed}
 use Rattle.grammar_law.proofs.Unit.Ruled.{pointer_way}
 use Rattle.grammar_law.proofs.Unit.ArgWords.{IsOfWords}
 use Rattle.grammar_law.proofs.Unit.ResultShapes.{stands_inside, IsShaped}
@@ -81,20 +80,10 @@ unfolding group_of kind_of
 call_kind code.FunctionCall e = refl
 call_kind o e = cc
 
-chain_group : (o : Op) → is_chain o ≡ true → group_of o ≡ groups.Chain
-unfolding group_of
-chain_group code.AccessChain on = refl
-chain_group o on = cc
-
 variable_group : (o : Op) → is o code.Variable ≡ true → group_of o ≡ groups.Variable
 unfolding group_of number
 variable_group code.Variable on = refl
 variable_group o on = cc
-
-chain_typed : (o : Op) → is_chain o ≡ true → has_type o ≡ true
-unfolding shape
-chain_typed code.AccessChain on = refl
-chain_typed o on = cc
 
 module _ (s : Setting) (entry : Option (List ℕ)) (right : IsConforming s.of entry) (kinds : HaveKinds s.of.globals) (o : Options) (unit : TranslationUnit) (u : IsUnitOf s.of o unit) (p : FunctionPlan) (among : IsIn p u.plans) (names : List (List ℕ)) (structs : AreOfStructs s.of.globals (name_of u.claimed) names)
     (words : (i : Inst) → IsIn i (insts_of (F s entry right kinds o unit u p among)) → IsOfWords i)

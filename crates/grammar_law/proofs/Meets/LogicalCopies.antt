@@ -1,5 +1,5 @@
 -- What OpCopyLogical asks for: the names of structs and members of both types, part by part (T12).
-use Rattle.std.proofs.Common.{◌≡◌, ◌+◌, ◌==◌, ◌||◌, ℕ, zero, suc, Bool, true, List, [], Option, Some, None, unwrap_or, inl, refl, sym, ap, ◌∙◌, subst, arith}
+use Rattle.std.proofs.Common.{◌≡◌, ◌+◌, ◌==◌, ℕ, zero, suc, true, List, [], Option, Some, None, unwrap_or, inl, refl, sym, ap, ◌∙◌, subst, arith}
 use Rattle.std.specs.Prelude.{slice_get, slice_index}
 use Rattle.std.proofs.lemmas.Bool.{or_left, or_right}
 use Rattle.std.proofs.lemmas.Option.{same_Some}
@@ -23,7 +23,6 @@ use Rattle.vec_lowering.specs.Named.{text_or_none, id_name, member_name}
 use Rattle.vec_lowering.specs.Composite.{nth_or}
 use Rattle.unit_rules.specs.Translation.{Naming, id_text}
 use Rattle.unit_rules.specs.Unit.{source_of, IsUnitOf}
-use Rattle.list_law.proofs.Numbers.{number_same}
 use Rattle.fits_law.specs.Takes.{nth_of, Alike, AllAlike}
 use Rattle.claim_law.specs.Uses.{Words, UsesExtent}
 use Rattle.claim_law.specs.Named.{IsNamedType, CanCopy, CanCopyParts}
@@ -35,6 +34,7 @@ use Rattle.grammar_law.specs.Words.{words_of}
 use Rattle.grammar_law.specs.Types.{IsLengthOf, IsStructOf, IsOfTypes, AreOfTypes}
 use Rattle.grammar_law.proofs.Unit.Lists.{as_among}
 use Rattle.grammar_law.proofs.Unit.Structs.{Written, IsWrittenStruct, HasNames, structs_named, part_named}
+use Rattle.grammar_law.proofs.Unit.Types.{own_struct}
 use Rattle.grammar_law.proofs.Unit.Parts.{nth_arg}
 
 same_text : (q : Option Text) → text_or_none q ≡ unwrap_or q []
@@ -64,9 +64,6 @@ module _ (s : Setting) (entry : Option (List ℕ)) (right : IsConforming s.of en
   -- each struct in one of these is written
   abbrev AllHere : Trees → Type 0
   AllHere ts = (n : ℕ) → have_struct n ts ≡ true → IsWrittenStruct s.of o unit u n
-
-  own_struct : (n : ℕ) (ts : Trees) → ((n == n) || have_struct n ts) ≡ true
-  own_struct n ts = ap (λ (b : Bool). b || have_struct n ts) (number_same n n refl)
 
   struct_name : (n : ℕ) (ts : Trees) → Here (struct n ts) → W.struct (id_name Found n)
   struct_name n ts has = subst W.struct (sym (same_text (Found (Id (id n))))) (structs_named s.of o unit u names declared lengths (struct n ts) has n (own_struct n ts))

@@ -4,7 +4,7 @@ use Rattle.std.specs.Prelude.{◌⊎◌, flat_map, nat_le, slice_get, slice_inde
 use Rattle.std.specs.Option.{option_map_or, option_or}
 use Rattle.std.proofs.lemmas.Bool.{or_left, or_right}
 use Rattle.std.proofs.lemmas.Option.{same_Some}
-use Rattle.spv_ops.specs.Opcode.{is, number}
+use Rattle.spv_ops.specs.Opcode.{is}
 use Rattle.spv_ops.specs.Groups.{is_constant as is_constant_op}
 use Rattle.spv_ops.specs.declared.Op.{Op}
 use Rattle.spv_ops.specs.declared.Op.TheVariants as code
@@ -22,7 +22,7 @@ use Rattle.spv_types.specs.Types.{kind, elem_of, sized_vector, vector_tree, tree
 use Rattle.spv_decor.specs.Decorations.{local_insts}
 use Rattle.spv_index.specs.Locals.{insts_of, inst_in, parameter_in, typed, global_type, local_type, type_in}
 use Rattle.spv_index.specs.BlockStructs.{is_some_block}
-use Rattle.profile_rules.specs.Places.{is_among, body_insts}
+use Rattle.profile_rules.specs.Places.{is_among}
 use Rattle.profile_rules.specs.TypeForm.{parts_of, pointees, signature, value_types, signature_types, block_misuses}
 use Rattle.conformance.specs.Rules.{Options}
 use Rattle.list_law.proofs.Numbers.{number_same}
@@ -46,18 +46,19 @@ use Rattle.typed_law.specs.Conforms.{IsConforming}
 use Rattle.typed_law.proofs.Lists.{some_part}
 use Rattle.typed_law.proofs.Used.{among_left, among_right as ids_right}
 use Rattle.typed_law.proofs.Values.{inside, typed_result, has_a_type, global_row, variable_type_is}
+use Rattle.global_law.proofs.Constant.Within.{constant_no_variable, value_misused}
 use Rattle.claim_law.specs.Claimed.{IsIn, IsOf}
 use Rattle.claim_law.proofs.Claim.Constants.{found_in}
 use Rattle.grammar_law.specs.Mentioned.{IsMentioned, Stands, IsValueIn}
 use Rattle.grammar_law.specs.Words.{words_of, AreOfStructs}
 use Rattle.grammar_law.specs.Types.{IsLengthOf}
-use Rattle.grammar_law.proofs.Unit.Lists.{as_in, found_by, of_contained, as_among}
+use Rattle.grammar_law.proofs.Unit.Lists.{found_by, of_contained, as_among}
 use Rattle.grammar_law.proofs.Unit.Shaped.{pointer_none, shaped_value}
 use Rattle.grammar_law.proofs.Unit.Ways.{HaveKinds, S, F, R, V, plan_is, written_is, in_module, own_type_of, mapped_some, stands, home, counts_here}
 use Rattle.grammar_law.proofs.Unit.Free.{misused_free}
 use Rattle.grammar_law.proofs.Unit.Structs.{Written, HasNames, written_names}
 use Rattle.grammar_law.proofs.Unit.TypesWritten.{global_type_written, parameter_type_written, top_type_written}
-use Rattle.grammar_law.proofs.Unit.ValueNames.{no_pointer, value_type_in, result_names}
+use Rattle.grammar_law.proofs.Unit.ValueNames.{no_pointer, result_names}
 use Rattle.grammar_law.proofs.Unit.Sets.{names_there}
 
 -- a type that has a struct in it is a composite
@@ -123,11 +124,6 @@ parameter_type [] q there = absurd there
 parameter_type (r ∷ ps) q (inl same) = or_left (r.1.0 == q.1.0) (is_among (map (λ (x : IdOf × IdOf). x.1.0) ps) q.1.0) (number_same r.1.0 q.1.0 (ap (λ (x : IdOf × IdOf). x.1.0) same))
 parameter_type (r ∷ ps) q (inr there) = or_right (r.1.0 == q.1.0) (is_among (map (λ (x : IdOf × IdOf). x.1.0) ps) q.1.0) (parameter_type ps q there)
 
-no_variable : (o : Op) → is_constant_op o ≡ true → is o code.Variable ≡ false
-unfolding number
-no_variable code.Variable on = cc
-no_variable o on = refl
-
 module _ (s : Setting) (entry : Option (List ℕ)) (right : IsConforming s.of entry) (kinds_of : HaveKinds s.of.globals) (o : Options) (unit : TranslationUnit) (u : IsUnitOf s.of o unit) (p : FunctionPlan) (among : IsIn p u.plans) (names : List (List ℕ)) (structs : AreOfStructs s.of.globals (name_of u.claimed) names)
     (declared : (g : Inst) → IsIn g s.of.globals → is_written_struct (source_of s.of o u.entry) (Written s.of o unit u) g ≡ true → is_declared names (id_text (name_of u.claimed) g.result) ≡ true)
     (lengths : (l : Length) → IsLengthOf s.of.globals l → UsesExtent (words_of s.of.globals (name_of u.claimed) names) (length_extent (source_of s.of o u.entry) (id_text (name_of u.claimed)) l)) where
@@ -160,9 +156,7 @@ module _ (s : Setting) (entry : Option (List ℕ)) (right : IsConforming s.of en
   constant_names : (g : Inst) → IsIn g Gs → is_constant_op g.op ≡ true → is_declared_constant (source_of s.of o u.entry) (Written s.of o unit u) g ≡ true → (v : Tree) → type_tree Gs g.ty ≡ Some v → Here v
   constant_names g there constant written_so v shaped =
       let body = insts_left g Gs (local_insts s.of) (as_among Gs g there) in
-      let misused : is_among (block_misuses s.of) g.ty ≡ true =
-      among_left (flat_map parts_of Gs ++ pointees s.of (λ v. not (is_some_block s.of.heads Gs v)) ++ value_types s.of) (signature_types s.of) g.ty
-      (ids_right (flat_map parts_of Gs ++ pointees s.of (λ v. not (is_some_block s.of.heads Gs v))) (value_types s.of) g.ty (value_type_in (body_insts s.of) g (as_in (body_insts s.of) g body) (no_variable g.op constant))) in
+      let misused = value_misused s.of entry right g body (constant_no_variable g.op constant) in
       written_names s.of o unit u entry right g.ty g.ty v
       (global_type_written s.of o unit u g there (or_right (is_written_variable (Written s.of o unit u) g) (is_declared_constant (source_of s.of o u.entry) (Written s.of o unit u) g) written_so))
       (no_pointer Gs g.ty v shaped) shaped (misused_free s.of entry right g.ty v misused shaped)

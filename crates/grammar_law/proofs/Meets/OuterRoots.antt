@@ -2,7 +2,6 @@
 use Rattle.std.proofs.Common.{◌≡◌, ◌==◌, ◌&&◌, ◌||◌, not, ℕ, Bool, true, false, List, [], ◌∷◌, fold, Contains, Option, Some, None, unwrap_or, inl, inr, refl, sym, ap, ◌∙◌, subst, if◌then◌else◌}
 use Rattle.std.specs.Prelude.{◌⊎◌, count_by, nat_le, option_map, option_and_then, slice_get, slice_index}
 use Rattle.std.specs.Option.{option_map_or}
-use Rattle.std.specs.List.{list_any}
 use Rattle.std.proofs.lemmas.Bool.{and_from, or_left as first_on, false_from_ne_true, not-false, or_right as second_on}
 use Rattle.std.proofs.lemmas.Option.{same_Some}
 use Rattle.spv_ops.specs.Opcode.{is, number}
@@ -25,7 +24,7 @@ use Rattle.spv_decor.specs.Decorations.{local_insts}
 use Rattle.spv_index.specs.Locals.{insts_of, type_in}
 use Rattle.spv_index.specs.Pointers.{pointee, as_pointer}
 use Rattle.spv_index.specs.BlockStructs.{is_block, is_block_struct}
-use Rattle.spv_index.specs.ValueTypes.{is_no_value_type, other_by, other_step, with_other}
+use Rattle.spv_index.specs.ValueTypes.{is_no_value_type, other_step, with_other}
 use Rattle.layout_rules.specs.Blocks.{is_block_class, as_struct, block_of}
 use Rattle.profile_rules.specs.TypeRows.{is_uint, type_row}
 use Rattle.profile_rules.specs.Places.{is_among, is_variable, body_insts}
@@ -51,7 +50,6 @@ use Rattle.expr_forward.specs.Paths.{name_in}
 use Rattle.unit_rules.specs.Translation.{Naming, text_of, id_text}
 use Rattle.unit_rules.specs.Unit.{source_of, IsUnitOf}
 use Rattle.fits_law.specs.State.{element_shape}
-use Rattle.fits_law.proofs.Steps.{named}
 use Rattle.claim_law.specs.Uses.{Words}
 use Rattle.type_law.proofs.Rows.{by_kind as tree_kind}
 use Rattle.type_law.proofs.Parts.{struct_kind}
@@ -62,6 +60,7 @@ use Rattle.typed_law.proofs.Rules.{input_right}
 use Rattle.typed_law.proofs.Types.{row_is}
 use Rattle.typed_law.proofs.Values.{IsRow, inside, parameter_right, parameter_row}
 use Rattle.typed_law.proofs.Shapes.{row_of_shape}
+use Rattle.global_law.proofs.Constant.Within.{other_struct}
 use Rattle.claim_law.specs.Claimed.{IsIn, HasName}
 use Rattle.claim_law.proofs.Claim.Constants.{found_in}
 use Rattle.claim_law.proofs.Claim.Variables.{variable_no_constant, written_in, variable_named}
@@ -87,11 +86,6 @@ fold_off : (heads gs list : List Inst) (others : ℕ → Bool) (n : ℕ) → fol
 fold_off heads gs [] others n off = off
 fold_off heads gs (h ∷ list) others n off = or_left (others n) ((h.result == n) && other_step heads gs others h) (fold_off heads gs list (with_other heads gs others h) n off)
 
-block_off : (heads gs : List Inst) (f : ℕ → Bool) (g : Inst) (c : Op) → is c code.TypeStruct ≡ true → other_by heads gs f g c ≡ false → is_block heads g.result ≡ false
-unfolding number
-block_off heads gs f g code.TypeStruct on off = or_left (is_block heads g.result) (list_any f g.args) off
-block_off heads gs f g c on off = cc
-
 no_block_by : (heads gs list : List Inst) (others : ℕ → Bool) (g : Inst) → IsIn g list → is g.op code.TypeStruct ≡ true → fold (with_other heads gs) others list g.result ≡ false → is_block heads g.result ≡ false
 no_block_by heads gs [] others g there on off = absurd there
 no_block_by heads gs (h ∷ list) others g (inl same) on off =
@@ -99,8 +93,17 @@ no_block_by heads gs (h ∷ list) others g (inl same) on off =
     (own (or_right (others h.result) ((h.result == h.result) && other_step heads gs others h) (fold_off heads gs list (with_other heads gs others h) h.result (subst (λ (x : Inst). fold (with_other heads gs) (with_other heads gs others h) list x.result ≡ false) (sym same) off))))
   where
     own : ((h.result == h.result) && other_step heads gs others h) ≡ false → is_block heads h.result ≡ false
-    own e = block_off heads gs others h h.op (subst (λ (x : Inst). is x.op code.TypeStruct ≡ true) (sym same) on) (and_off (h.result == h.result) (other_step heads gs others h) e (number_same h.result h.result refl))
+    own e = other_struct heads gs others h h.op (subst (λ (x : Inst). is x.op code.TypeStruct ≡ true) (sym same) on) (and_off (h.result == h.result) (other_step heads gs others h) e (number_same h.result h.result refl))
 no_block_by heads gs (h ∷ list) others g (inr there) on off = no_block_by heads gs list (with_other heads gs others h) g there on off
+
+-- what is of a class of blocks is a buffer, or is pushed
+pub buffer_on : (v a b c : Bool) → (v && (a || b || c)) ≡ true → ((a || c) || (v && b)) ≡ true
+buffer_on true true b c on = refl
+buffer_on true false true true on = refl
+buffer_on true false true false on = refl
+buffer_on true false false true on = refl
+buffer_on true false false false on = cc
+buffer_on false a b c on = cc
 
 -- P15: what a block variable points to is a struct
 block_struct : (s : Setting) (entry : Option (List ℕ)) (right : IsConforming s.of entry) (v : Inst) → IsAmong v s.of.globals → is_variable v ≡ true → is_block_variable v ≡ true → (t : Inst) → pointed_type s.of.globals v.ty ≡ Some t → is t.op code.TypeStruct ≡ true
@@ -111,17 +114,9 @@ block_struct s entry right v there on class t at =
     none_at_fault (is_other_block s.of.heads s.of.globals pushes) (body_insts s.of) v right.declared.1.1.1.1.1.1.1.1.1.1.0 (insts_left v s.of.globals (local_insts s.of) there) in
     let parts = three_off ((is_buffer v || is_push v) && is_pointee s.of.globals (is_no_block s.of.heads (word v 0)) v) (is_buffer v && is_unbound s.of.heads v) (is_push v && nat_le 2 pushes)
     (and_off (is_variable v) (((is_buffer v || is_push v) && is_pointee s.of.globals (is_no_block s.of.heads (word v 0)) v) || (is_buffer v && is_unbound s.of.heads v) || (is_push v && nat_le 2 pushes)) right_block on) in
-    let none = and_off (is_buffer v || is_push v) (is_pointee s.of.globals (is_no_block s.of.heads (word v 0)) v) parts.0 (of_block (is_variable v) (word v 0 == class_number storage.Uniform) (word v 0 == class_number storage.PushConstant) (word v 0 == class_number storage.StorageBuffer) class) in
+    let none = and_off (is_buffer v || is_push v) (is_pointee s.of.globals (is_no_block s.of.heads (word v 0)) v) parts.0 (buffer_on (is_variable v) (word v 0 == class_number storage.Uniform) (word v 0 == class_number storage.PushConstant) (word v 0 == class_number storage.StorageBuffer) class) in
     let fit : is_no_block s.of.heads (word v 0) t ≡ false = ap (λ q. option_map_or (is_no_block s.of.heads (word v 0)) q false) (sym at) ∙ none in
     and_left (is t.op code.TypeStruct) (is_block_struct s.of.heads (word v 0) t.result) (not-false ((is t.op code.TypeStruct) && is_block_struct s.of.heads (word v 0) t.result) fit)
-  where
-    of_block : (v a b c : Bool) → (v && (a || b || c)) ≡ true → ((a || c) || (v && b)) ≡ true
-    of_block true true b c e = refl
-    of_block true false true true e = refl
-    of_block true false true false e = refl
-    of_block true false false true e = refl
-    of_block true false false false e = cc
-    of_block false a b c e = cc
 
 classed : (v a b c : Bool) → (v && (a || b || c)) ≡ true → (a || (b || c)) ≡ true
 classed true true b c e = refl

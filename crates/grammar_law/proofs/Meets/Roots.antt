@@ -1,5 +1,5 @@
 -- Pointers that no chain makes are variables and parameters: they have names, and so have the members of what they lead to.
-use Rattle.std.proofs.Common.{◌≡◌, ◌+◌, ◌==◌, ◌&&◌, ◌||◌, not, ℕ, Bool, true, false, List, [], ◌∷◌, ◌++◌, flat_map, filter_map, length, map, Option, Some, None, unwrap_or, inl, inr, refl, sym, ap, ◌∙◌, subst, if◌then◌else◌}
+use Rattle.std.proofs.Common.{◌≡◌, ◌==◌, ◌&&◌, ◌||◌, not, ℕ, Bool, true, false, List, [], ◌∷◌, ◌++◌, flat_map, filter_map, length, map, Option, Some, None, unwrap_or, inl, inr, refl, sym, ap, ◌∙◌, subst, if◌then◌else◌}
 use Rattle.std.specs.Prelude.{option_and_then, slice_get, slice_index, slice_index_or, nat_lt}
 use Rattle.std.specs.Option.{option_map_or}
 use Rattle.std.specs.List.{cons_option}
@@ -99,7 +99,7 @@ pointee_in gs test (x ∷ is) v ty (inr there) e = by_option (pointee_by gs test
     by_option None e = e
     by_option (Some x) e = second_on (x == ty) (is_among (filter_map (pointee_by gs test) is) ty) e
 
-named_variable : (x : Form) (reached : Bool) → has_name_by x reached true ≡ true
+pub named_variable : (x : Form) (reached : Bool) → has_name_by x reached true ≡ true
 named_variable Hoisted reached = refl
 named_variable Local reached = or_true reached
 named_variable x reached = refl

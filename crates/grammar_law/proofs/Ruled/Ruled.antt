@@ -71,6 +71,7 @@ use Rattle.typed_law.proofs.Whole.{is_typed, behind_callee}
 use Rattle.typed_law.proofs.Inputs.{conforming_fits}
 use Rattle.accepted_law.proofs.Accepted.{accepted_conforming}
 use Rattle.typed_law.proofs.Words.{conforms}
+use Rattle.grammar_law.proofs.Unit.Lists.{each_behind}
 
 -- the same lists by other words
 pub contains_of : (fs : List Function) (f : Function) → IsFunctionOf f fs → Contains fs f
@@ -222,15 +223,11 @@ module _ (s : Setting) (entry : Option (List ℕ)) (right : IsConforming s.of en
           let off = chain_right kind in
           let q = base_target kind in
           let target : target_shape s f (base i) ≡ Some q.1 = ap (option_and_then (type_tree Gs)) q.2 ∙ q.3 in
-          let points = chain_pointer s f i q.1 off (chain_types s entry right f in_it i there (drop 1 i.args) (dropped i.args each)) target in
+          let points = chain_pointer s f i q.1 off (chain_types s entry right f in_it i there (drop 1 i.args) (each_behind (HasType s entry right f in_it) i.args each)) target in
           let g = local_row s entry right f in_it i there (typed_some s entry right f in_it i there o.1) in
           let on = not-false (is_pointer_type g.0) (ap (λ r. option_map_or (λ (x : Inst). not (is_pointer_type x)) r false) (sym (row_is s.of entry right i.ty g.0 g.1 (type_suits i.op g.0 g.2))) ∙ points) in
           (own_off o.1 o.2, own_class o.1 (class_there Gs i.ty g.0 g.1 on))
         where
-          dropped : (args : List ℕ) → ((k : ℕ) → k < length args → HasType s entry right f in_it (slice_index args k)) → (k : ℕ) → k < length (drop 1 args) → HasType s entry right f in_it (slice_index (drop 1 args) k)
-          dropped [] each k less = absurd (omega (arith, less))
-          dropped (a ∷ args) each k less = each (suc k) (let more : suc k < suc (length args) = omega (arith, less) in more)
-
           own_off : has_type i.op ≡ true → is i.op code.Variable ≡ false → is_own_memory f i.result ≡ false
           own_off has off =
               let some = ((inside s entry right f in_it).formed i there).result (typed_result i.op has) in

@@ -1,5 +1,5 @@
 -- The base of a chain that is carried is carried.
-use Rattle.std.proofs.Common.{◌≡◌, ◌==◌, ◌&&◌, ◌||◌, ◌++◌, ℕ, Bool, true, false, List, [], ◌∷◌, Option, Some, inl, inr, refl, sym, ap, ◌∙◌, subst}
+use Rattle.std.proofs.Common.{◌≡◌, ◌==◌, ◌&&◌, ◌||◌, ◌++◌, ℕ, Bool, true, false, List, [], ◌∷◌, append_assoc, Option, Some, inl, inr, refl, sym, ap, ◌∙◌, subst}
 use Rattle.std.specs.Prelude.{◌⊎◌, IfSome}
 use Rattle.std.specs.Option.{option_map_or}
 use Rattle.std.specs.List.{list_any}
@@ -11,14 +11,14 @@ use Rattle.spv_module.specs.declared.inst.Inst.{Inst}
 use Rattle.spv_module.specs.declared.inst.Function.{Function}
 use Rattle.use_chains.specs.declared.slot.SlotPlace.{SlotPlace}
 use Rattle.hoist_plan.specs.Plan.{Placed, user, is_elsewhere_by, carries_by, carries, is_carried_with, carried_from}
-use Rattle.list_law.proofs.Numbers.{same_number, number_same}
+use Rattle.list_law.proofs.Numbers.{same_number}
 use Rattle.plan_law.specs.Ordered.{NoOperand, NoneMentioned, AreOrdered}
 use Rattle.claim_law.specs.Claimed.{IsIn}
 use Rattle.claim_law.proofs.Claim.Listed.{any_in}
 use Rattle.grammar_law.proofs.Unit.Lists.{split_at}
-use Rattle.grammar_law.proofs.Unit.Carried.{carried_on}
+use Rattle.grammar_law.proofs.Unit.Carried.{carried_on, own_carried}
 
-none_at : (f : Function) (n : ℕ) (places : List SlotPlace) (at : SlotPlace) (i : Inst) → NoOperand f n places → IsIn at places → user f at ≡ Some i → i.result ≡ n → ⊥
+pub none_at : (f : Function) (n : ℕ) (places : List SlotPlace) (at : SlotPlace) (i : Inst) → NoOperand f n places → IsIn at places → user f at ≡ Some i → i.result ≡ n → ⊥
 none_at f n [] at i none among there = absurd among
 none_at f n (x ∷ xs) at i none (inl same) there = subst (λ (q : Option Inst). IfSome q (λ (j : Inst). j.result ≡ n → ⊥)) (ap (user f) same ∙ there) none.0
 none_at f n (x ∷ xs) at i none (inr among) there = none_at f n xs at i none.1 among there
@@ -32,10 +32,6 @@ of_either : (front back : List Placed) (p : Placed) → IsIn p (front ++ back) �
 of_either [] back p among = inr among
 of_either (x ∷ xs) back p (inl same) = inl (inl same)
 of_either (x ∷ xs) back p (inr among) = elim (of_either xs back p among) [ inl here ↦ inl (inr here) | inr later ↦ inr later ]
-
-more_back : (front mid back : List Placed) → (front ++ mid) ++ back ≡ front ++ (mid ++ back)
-more_back [] mid back = refl
-more_back (x ∷ xs) mid back = ap (λ l. x ∷ l) (more_back xs mid back)
 
 module _ (f : Function) where
   -- what is carried is carried from its own chain on
@@ -81,18 +77,14 @@ module _ (f : Function) where
     pub base_carried : (w : IsCarriedAt ps i.result) → is w.by.op code.Phi ≡ false → carried_from f ps p.result ≡ true
     base_carried w no_phi =
         let x = split_at w.front p (at_front w no_phi) in
-        subst (λ (l : List Placed). carried_from f l p.result ≡ true) (sym (w.whole ∙ (ap (λ l. l ++ w.by ∷ w.back) x.2 ∙ more_back x.0 (p ∷ x.1) (w.by ∷ w.back))))
+        subst (λ (l : List Placed). carried_from f l p.result ≡ true) (sym (w.whole ∙ (ap (λ l. l ++ w.by ∷ w.back) x.2 ∙ append_assoc x.0 (p ∷ x.1) (w.by ∷ w.back))))
         (carried_on f x.0 (p ∷ (x.1 ++ w.by ∷ w.back)) p.result (own (x.1 ++ w.by ∷ w.back) (carried_on f x.1 (w.by ∷ w.back) i.result w.carried)))
       where
-        by_test : (back : List Placed) (b : Bool) → b ≡ true → elim b as (λ b. Bool) [ true ↦ carried_from f back p.result || (p.result == p.result) | false ↦ carried_from f back p.result ] ≡ true
-        by_test back true on = or_right (carried_from f back p.result) (p.result == p.result) (number_same p.result p.result refl)
-        by_test back false on = cc
-
         own : (back : List Placed) → carried_from f back i.result ≡ true → carried_from f (p ∷ back) p.result ≡ true
         own back on =
             let carried : carries f (carried_from f back) p.block at ≡ true
             = ap (λ (x : Option Inst). option_map_or (carries_by f (carried_from f back) p.block at) x false) there
             ∙ or_right (is_elsewhere_by f p.block at i) ((at.arg == 0) && (is_chain i.op && carried_from f back i.result)) (and_from (at.arg == 0) (is_chain i.op && carried_from f back i.result) first (and_from (is_chain i.op) (carried_from f back i.result) chain on)) in
-            by_test back (is_carried_with f (carried_from f back) p)
+            own_carried f back p
             (and_from (is_chain p.op) (carried_from f back p.result || list_any (carries f (carried_from f back) p.block) p.mentions) is_it
             (or_right (carried_from f back p.result) (list_any (carries f (carried_from f back) p.block) p.mentions) (any_in (carries f (carried_from f back) p.block) p.mentions at mentioned carried)))

@@ -51,22 +51,26 @@ module _ (f : Function) where
       by_test true on = or_left (carried_from f (ps ++ back) n) (n == p.result) on
       by_test false on = on
 
+  -- and a chain that is to be carried is
+  pub own_carried : (back : List Placed) (p : Placed) → is_carried_with f (carried_from f back) p ≡ true → carried_from f (p ∷ back) p.result ≡ true
+  own_carried back p = by_test (is_carried_with f (carried_from f back) p)
+    where
+      by_test : (b : Bool) → b ≡ true → elim b as (λ b. Bool) [ true ↦ carried_from f back p.result || (p.result == p.result) | false ↦ carried_from f back p.result ] ≡ true
+      by_test true on = or_right (carried_from f back p.result) (p.result == p.result) (number_same p.result p.result refl)
+      by_test false on = cc
+
   -- a chain that is mentioned in another block than its own
   carried_elsewhere : (ps : List Placed) (p : Placed) (at : SlotPlace) (i : Inst) → IsIn p ps → is_chain p.op ≡ true → IsIn at p.mentions → user f at ≡ Some i → is_elsewhere_by f p.block at i ≡ true → carried_from f ps p.result ≡ true
   carried_elsewhere ps p at i among chain mentioned there elsewhere =
       let w = split_at ps p among in
       subst (λ (qs : List Placed). carried_from f qs p.result ≡ true) (sym w.2) (carried_on w.0 (p ∷ w.1) p.result (own w.1))
     where
-      by_test : (back : List Placed) (b : Bool) → b ≡ true → elim b as (λ b. Bool) [ true ↦ carried_from f back p.result || (p.result == p.result) | false ↦ carried_from f back p.result ] ≡ true
-      by_test back true on = or_right (carried_from f back p.result) (p.result == p.result) (number_same p.result p.result refl)
-      by_test back false on = cc
-
       own : (back : List Placed) → carried_from f (p ∷ back) p.result ≡ true
       own back =
           let carried : carries f (carried_from f back) p.block at ≡ true
           = ap (λ (q : Option Inst). option_map_or (carries_by f (carried_from f back) p.block at) q false) there
           ∙ or_left (is_elsewhere_by f p.block at i) ((at.arg == 0) && (is_chain i.op && carried_from f back i.result)) elsewhere in
-          by_test back (is_carried_with f (carried_from f back) p)
+          own_carried back p
           (and_from (is_chain p.op) (carried_from f back p.result || list_any (carries f (carried_from f back) p.block) p.mentions) chain
           (or_right (carried_from f back p.result) (list_any (carries f (carried_from f back) p.block) p.mentions) (any_in (carries f (carried_from f back) p.block) p.mentions at mentioned carried)))
 

@@ -42,7 +42,7 @@ use Rattle.grammar_law.specs.Words.{words_of}
 use Rattle.grammar_law.proofs.Unit.Parts.{Here}
 use Rattle.grammar_law.proofs.Unit.Steps.{HasMembers, IsWritable, one_step}
 
-nothing_left : (f : ℕ → ℕ → Reached) (ids : List ℕ) → walk f Nothing ids ≡ Nothing
+pub nothing_left : (f : ℕ → ℕ → Reached) (ids : List ℕ) → walk f Nothing ids ≡ Nothing
 nothing_left f [] = refl
 nothing_left f (id ∷ ids) = nothing_left f ids
 

@@ -1,6 +1,6 @@
 -- The indexes of a conforming module's chains have shapes, and are no structs; no value of a function is.
 use Rattle.std.proofs.Common.{◌≡◌, ℕ, Bool, true, false, List, [], ◌∷◌, drop, Option, Some, None, Contains, unwrap_or, inl, inr, refl, sym, ap, ◌∙◌, subst, if◌then◌else◌}
-use Rattle.std.specs.Prelude.{is_some, option_and_then}
+use Rattle.std.specs.Prelude.{option_and_then}
 use Rattle.std.specs.Option.{option_map_or, option_or}
 use Rattle.std.specs.List.{list_any}
 use Rattle.spv_ops.specs.Opcode.{is, number}
@@ -33,7 +33,7 @@ use Rattle.type_law.proofs.Vectors.{three_off}
 use Rattle.type_law.proofs.Chains.{HaveTypes}
 use Rattle.claim_law.specs.Uses.{Words, UsesExpr}
 use Rattle.typed_law.specs.Conforms.{IsConforming}
-use Rattle.typed_law.proofs.Lists.{or_left, or_right}
+use Rattle.typed_law.proofs.Lists.{or_left, or_right, some_of}
 use Rattle.typed_law.proofs.Values.{passing, int_shaped}
 use Rattle.claim_law.specs.Claimed.{IsIn}
 use Rattle.claim_law.proofs.Claim.Constants.{found_in}
@@ -47,10 +47,6 @@ struct_untyped : (o : Op) → is o code.TypeStruct ≡ true → has_type o ≡ f
 unfolding shape number
 struct_untyped code.TypeStruct on = refl
 struct_untyped o on = cc
-
-some_of : (x : Option ℕ) → is_some x ≡ true → (y : ℕ) × (x ≡ Some y)
-some_of None e = cc
-some_of (Some y) e = (y, refl)
 
 module _ (s : Setting) (entry : Option (List ℕ)) (right : IsConforming s.of entry) (kinds : HaveKinds s.of.globals) (o : Options) (unit : TranslationUnit) (u : IsUnitOf s.of o unit) (p : FunctionPlan) (among : IsIn p u.plans) (names : List (List ℕ)) (structs : AreOfStructs s.of.globals (name_of u.claimed) names) where
   abbrev Gs : List Inst

@@ -1,6 +1,6 @@
 -- What stands in lists.
-use Rattle.std.proofs.Common.{◌≡◌, ◌<◌, ◌+◌, ℕ, zero, suc, Bool, true, false, List, [], ◌∷◌, ◌++◌, filter, length, cond, nat_lt, find, is_some, Some, Contains, flat_map, inl, inr, refl, sym, ap, ◌∙◌, subst, arith}
-use Rattle.std.specs.Prelude.{◌⊎◌, slice_get}
+use Rattle.std.proofs.Common.{◌≡◌, ◌<◌, ◌+◌, ℕ, zero, suc, Bool, true, false, List, [], ◌∷◌, ◌++◌, filter, length, drop, cond, nat_lt, find, is_some, Some, Contains, flat_map, inl, inr, refl, sym, ap, ◌∙◌, subst, arith}
+use Rattle.std.specs.Prelude.{◌⊎◌, slice_get, slice_index}
 use Rattle.std.specs.List.{enumerate_from, list_any}
 use Rattle.std.proofs.lemmas.Bool.Decides.{nat_tests}
 use Rattle.std.proofs.lemmas.Bool.{false_from_ne_true}
@@ -120,6 +120,11 @@ some_length (y ∷ xs) x among = longer (length xs)
   where
     longer : (n : ℕ) → nat_lt 0 (suc n) ≡ true
     longer n = grind (arith, nat_tests)
+
+-- what holds of each word holds of each behind the first
+pub each_behind : (P : ℕ → Type 0) (xs : List ℕ) → ((k : ℕ) → k < length xs → P (slice_index xs k)) → (k : ℕ) → k < length (drop 1 xs) → P (slice_index (drop 1 xs) k)
+each_behind P [] each k less = absurd (omega (arith, less))
+each_behind P (x ∷ xs) each k less = each (suc k) (let more : suc k < suc (length xs) = omega (arith, less) in more)
 
 -- lists that are put together
 pub in_either : {A : Type 0} (x : A) (xs ys : List A) → IsIn x (xs ++ ys) → IsIn x xs ⊎ IsIn x ys

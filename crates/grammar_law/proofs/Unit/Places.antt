@@ -1,5 +1,5 @@
 -- The pointers that live instructions of a reached block mention are written of words that are declared.
-use Rattle.std.proofs.Common.{◌≡◌, ◌+◌, ◌<◌, ◌++◌, ◌==◌, ◌&&◌, ◌||◌, not, ℕ, zero, suc, Bool, true, false, List, [], ◌∷◌, length, Option, Some, None, unwrap_or, inl, inr, refl, sym, ap, ◌∙◌, subst, arith, if◌then◌else◌}
+use Rattle.std.proofs.Common.{◌≡◌, ◌+◌, ◌<◌, ◌++◌, ◌==◌, ◌&&◌, ◌||◌, not, ℕ, zero, suc, Bool, true, false, List, [], ◌∷◌, append-nil, append_assoc, length, Option, Some, None, unwrap_or, inl, inr, refl, sym, ap, ◌∙◌, subst, arith, if◌then◌else◌}
 use Rattle.std.specs.Prelude.{◌⊎◌, slice_get, slice_index, slice_index_or, option_and_then}
 use Rattle.std.specs.Option.{option_map_or}
 use Rattle.std.proofs.lemmas.Bool.Decides.{eqb_tells}
@@ -89,15 +89,7 @@ rise_at : (xs : List Inst) (i : Inst) (ys : List Inst) → ChainsRise (xs ++ i �
 rise_at [] i ys rise on = (rise.0 on).0
 rise_at (x ∷ xs) i ys rise on = rise_at xs i ys rise.1 on
 
-more_back : (front mid back : List Inst) → (front ++ mid) ++ back ≡ front ++ (mid ++ back)
-more_back [] mid back = refl
-more_back (x ∷ xs) mid back = ap (λ l. x ∷ l) (more_back xs mid back)
-
-no_more : (xs : List Inst) → xs ++ [] ≡ xs
-no_more [] = refl
-no_more (x ∷ xs) = ap (λ l. x ∷ l) (no_more xs)
-
-in_middle : (xs : List Inst) (i : Inst) (ys : List Inst) → IsIn i (xs ++ i ∷ ys)
+pub in_middle : (xs : List Inst) (i : Inst) (ys : List Inst) → IsIn i (xs ++ i ∷ ys)
 in_middle [] i ys = inl refl
 in_middle (x ∷ xs) i ys = inr (in_middle xs i ys)
 
@@ -288,7 +280,7 @@ module _ (s : Setting) (entry : Option (List ℕ)) (right : IsConforming s.of en
 
             by_split : (j : Inst) (xs ys : List Inst) → front ≡ xs ++ j ∷ ys → is_chain j.op ≡ true → (v : IsLinked Fn Marks c i j.result) → IsSeen b c j.result i v → Way b j.result
             by_split j xs ys is_it chain v v_seen =
-                let joined : insts_of Fn ≡ xs ++ (j ∷ (ys ++ back)) = whole ∙ (ap (λ (l : List Inst). l ++ back) is_it ∙ more_back xs (j ∷ ys) back) in
+                let joined : insts_of Fn ≡ xs ++ (j ∷ (ys ++ back)) = whole ∙ (ap (λ (l : List Inst). l ++ back) is_it ∙ append_assoc xs (j ∷ ys) back) in
                 let j_in : IsIn j (insts_of Fn) = subst (IsIn j) (sym joined) (in_middle xs j (ys ++ back)) in
                 let leads = (chains j j_in chain).leads in
                 chain_way c i j v no_phi v_seen chain j_in
@@ -309,4 +301,4 @@ module _ (s : Setting) (entry : Option (List ℕ)) (right : IsConforming s.of en
       -- so is each pointer that a live instruction mentions, in its block
       pub mentioned_way : (b n : ℕ) (i : Inst) (m : IsMentioned Fn Marks b i n) → is i.op code.Phi ≡ false → (ty : ℕ) (t : Tree) → pointee_of Gs Fn n ≡ Some ty → type_tree Gs ty ≡ Some t → Way b n
       mentioned_way b n i m no_phi ty t points shaped =
-          seen_way b m.here (suc (length (insts_of Fn))) (insts_of Fn) [] (sym (no_more (insts_of Fn))) (let less : length (insts_of Fn) < suc (length (insts_of Fn)) = omega arith in less) b n i (as_linked Fn Marks b i n m) no_phi (inl refl) ty t points shaped tt
+          seen_way b m.here (suc (length (insts_of Fn))) (insts_of Fn) [] (sym (append-nil (insts_of Fn))) (let less : length (insts_of Fn) < suc (length (insts_of Fn)) = omega arith in less) b n i (as_linked Fn Marks b i n m) no_phi (inl refl) ty t points shaped tt

@@ -1,5 +1,5 @@
 -- The rank of a value: the height of its expression, where it has no variable. What stands in the expression of another is lower, and none is above 16.
-use Rattle.std.proofs.Common.{◌≡◌, ◌<◌, ◌≤◌, ◌+◌, ◌==◌, ◌&&◌, ◌||◌, ℕ, Bool, true, false, List, [], ◌∷◌, Option, Some, None, IfSome, IsSomeAnd, find, min, unwrap_or, nat_le, length, inl, inr, refl, sym, ap, ◌∙◌, subst, arith, if◌then◌else◌}
+use Rattle.std.proofs.Common.{◌≡◌, ◌<◌, ◌≤◌, ◌+◌, ◌==◌, ◌&&◌, ◌||◌, ℕ, Bool, true, false, List, [], ◌∷◌, Option, Some, None, IsSomeAnd, find, min, unwrap_or, nat_le, length, inl, inr, refl, sym, ap, ◌∙◌, subst, arith, if◌then◌else◌}
 use Rattle.std.specs.Option.{option_map_or}
 use Rattle.std.specs.List.{list_any}
 use Rattle.std.proofs.lemmas.Bool.{and_from, or_left, or_right}
@@ -20,7 +20,7 @@ use Rattle.hoist_plan.specs.declared.form.Form.TheVariants.{Gone, Forwarded, Loc
 use Rattle.hoist_plan.specs.Plan.{Placed, user, is_live, is_value, is_always_named, is_named_other, wants_variable, is_named_by_use, own_height, is_named, is_hoisted, form_with, known, mentions_of, results, Scope, form}
 use Rattle.list_law.proofs.Numbers.{same_number, number_same}
 use Rattle.list_law.proofs.Tests.{and_left, and_right}
-use Rattle.plan_law.specs.Ordered.{NoOperand, AreOrdered, IsOperand}
+use Rattle.plan_law.specs.Ordered.{AreOrdered, IsOperand}
 use Rattle.plan_law.specs.InOrder.{AreInOrder}
 use Rattle.plan_law.proofs.Order.{found, in_order}
 use Rattle.plan_law.proofs.Heights.{forms_fall, form_low}
@@ -32,7 +32,7 @@ use Rattle.grammar_law.specs.Mentioned.{IsMentioned}
 use Rattle.grammar_law.proofs.Unit.Lists.{split_at, found_by, found_some, two_split, as_among}
 use Rattle.grammar_law.proofs.Unit.Links.{mention_at, user_is, mention_stands}
 use Rattle.grammar_law.proofs.Unit.Forms.{IsMadeBy, made_by, formed_result, form_at}
-use Rattle.grammar_law.proofs.Unit.Bases.{none_of}
+use Rattle.grammar_law.proofs.Unit.Bases.{none_at, none_of}
 
 phi_named : (o : Op) → is o code.Phi ≡ true → is_named_other o ≡ true
 unfolding number
@@ -67,11 +67,6 @@ operand_in : (f : Function) (n : ℕ) (places : List SlotPlace) (at : SlotPlace)
 operand_in f n [] at i among there same = absurd among
 operand_in f n (x ∷ places) at i (inl here) there same = inl (subst (λ (o : Option Inst). IsSomeAnd o (λ (j : Inst). j.result ≡ n)) (sym (ap (user f) here ∙ there)) same)
 operand_in f n (x ∷ places) at i (inr among) there same = inr (operand_in f n places at i among there same)
-
-operand_clash : (f : Function) (n : ℕ) (places : List SlotPlace) (at : SlotPlace) (i : Inst) → NoOperand f n places → IsIn at places → user f at ≡ Some i → i.result ≡ n → ⊥
-operand_clash f n [] at i none among there same = among
-operand_clash f n (x ∷ places) at i none (inl here) there same = (subst (λ (o : Option Inst). IfSome o (λ (j : Inst). j.result ≡ n → ⊥)) (ap (user f) here ∙ there) none.0) same
-operand_clash f n (x ∷ places) at i none (inr among) there same = operand_clash f n places at i none.1 among there same
 
 abbrev is_forwarded : Form → Bool
 is_forwarded Forwarded = true
@@ -192,7 +187,7 @@ module _ (m : ModuleState) (f : Function) (order : AreInOrder m f) (reached : Li
         lower : own_height H P < own_height H Q
         lower = elim (two_split P Q Ps among q_in.0) [
           | inl b ↦ forms_fall S ordered b.0 b.1 b.2 P Q b.3 (counted_phi P among p_value p_form) q_phi q_undef p_value q_value p_form q_form (operand_in f Q.result P.mentions (mention_at f reached block i id w) i p_mentions (user_is f reached block i id w) user_result)
-          | inr b ↦ absurd (operand_clash f Q.result P.mentions (mention_at f reached block i id w) i (none_of f Q.result (Q ∷ b.1) P (ordered.before b.0 b.1 Q b.2 q_phi) b.3) p_mentions (user_is f reached block i id w) user_result)
+          | inr b ↦ absurd (none_at f Q.result P.mentions (mention_at f reached block i id w) i (none_of f Q.result (Q ∷ b.1) P (ordered.before b.0 b.1 Q b.2 q_phi) b.3) p_mentions (user_is f reached block i id w) user_result)
         ]
 
       by_count : (P : Placed) → IsIn P Ps → P.result ≡ id → (b : Bool) → counts P ≡ b → (if b then own_height H P else 0) < rank n

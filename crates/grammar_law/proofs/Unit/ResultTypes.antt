@@ -31,7 +31,7 @@ use Rattle.spv_index.specs.Pointers.{storage_class, as_pointer, pointee}
 use Rattle.spv_index.specs.ValueTypes.{is_no_value_type}
 use Rattle.profile_rules.specs.declared.needs.Need.TheVariants.{Value}
 use Rattle.profile_rules.specs.Operands.{need, suits, is_there_in}
-use Rattle.profile_rules.specs.TypeRows.{is_void, is_pointer, is_vector, is_runtime_array, is_int, type_row, fails, differ, value_fails, is_other, is_not, constant_word}
+use Rattle.profile_rules.specs.TypeRows.{is_void, is_pointer, is_vector, is_runtime_array, is_int, fails, differ, value_fails, is_other, is_not, constant_word}
 use Rattle.profile_rules.specs.TypeForm.{is_no_variable, is_other_parameter}
 use Rattle.profile_rules.specs.declared.needs.Reached.{Reached}
 use Rattle.profile_rules.specs.declared.needs.Reached.TheVariants.{Part, Nothing, Unknown}
@@ -58,9 +58,10 @@ use Rattle.type_law.proofs.Rows.{by_kind as tree_kind, vector_parts}
 use Rattle.type_law.proofs.Parts.{array_kind, runtime_kind, struct_kind, all_nth, row as type_row_at, earlier_is}
 use Rattle.grammar_law.proofs.Unit.CallTypes.{given_value}
 use Rattle.claim_law.proofs.Claim.Constants.{found_in}
-use Rattle.grammar_law.proofs.Unit.Lists.{found_by, as_among, as_parameter}
+use Rattle.grammar_law.proofs.Unit.Lists.{found_by, as_among, as_parameter, each_behind}
 use Rattle.grammar_law.proofs.Unit.Shaped.{other_none}
 use Rattle.grammar_law.proofs.Unit.Ways.{HaveKinds, own_type_of, mapped_some}
+use Rattle.grammar_law.proofs.Unit.Chains.{nothing_left}
 use Rattle.grammar_law.proofs.Unit.ResultShapes.{stands_inside, makes, reads_first, reads_second, IsReadAt, first_read, second_read, IsShaped, constant_shaped, row, typed_read, by_value, made_shaped}
 
 abbrev pub IsNoFunction : List Inst → ℕ → Type 0
@@ -111,7 +112,7 @@ unfolding group_of number
 variable_op code.Variable e = refl
 variable_op o e = cc
 
-call_op : (o : Op) → group_of o ≡ groups.Call → is o code.FunctionCall ≡ true
+pub call_op : (o : Op) → group_of o ≡ groups.Call → is o code.FunctionCall ≡ true
 unfolding group_of number
 call_op code.FunctionCall e = refl
 call_op o e = cc
@@ -237,13 +238,10 @@ module _ (s : Setting) (entry : Option (List ℕ)) (right : IsConforming s.of en
   -- where a chain's indexes lead is known
   step_known : (ty id : ℕ) (t : Tree) → type_tree Gs ty ≡ Some t → is_some (V id) ≡ true → (chain_step Gs V ty id ≡ Nothing) ⊎ ((c : ℕ) × (u : Tree) × (chain_step Gs V ty id ≡ Part c) × (type_tree Gs c ≡ Some u))
   step_known ty id t shaped typed_index =
-      let g = row_of ty t shaped in
+      let g = type_row_at s f ty t shaped in
       subst (λ q. (option_map_or (λ x. chain_part Gs V x id) q Unknown ≡ Nothing) ⊎ ((c : ℕ) × (u : Tree) × (option_map_or (λ x. chain_part Gs V x id) q Unknown ≡ Part c) × (type_tree Gs c ≡ Some u))) (sym g.1)
       (by_opcode g.0 g.2 (is g.0.op code.TypeStruct) refl (is_vector g.0) refl (is g.0.op code.TypeArray) refl (is_runtime_array g.0) refl)
     where
-      row_of : (ty : ℕ) (t : Tree) → type_tree Gs ty ≡ Some t → (g : Inst) × (type_row Gs ty ≡ Some g) × (tree_at Gs g ≡ Some t)
-      row_of ty t shaped = type_row_at s f ty t shaped
-
       Leads : Reached → Type 0
       Leads r = (r ≡ Nothing) ⊎ ((c : ℕ) × (u : Tree) × (r ≡ Part c) × (type_tree Gs c ≡ Some u))
 
@@ -289,17 +287,13 @@ module _ (s : Setting) (entry : Option (List ℕ)) (right : IsConforming s.of en
       by_opcode g at false on false vn false an true rn = runtime_known g at rn
       by_opcode g at false on false vn false an false rn = inl refl
 
-  nothing_left : (ids : List ℕ) → walk (chain_step Gs V) Nothing ids ≡ Nothing
-  nothing_left [] = refl
-  nothing_left (id ∷ ids) = nothing_left ids
-
   chain_known : (ids : List ℕ) (ty : ℕ) (t : Tree) → type_tree Gs ty ≡ Some t → HaveTypes s f ids → (walk (chain_step Gs V) (Part ty) ids ≡ Nothing) ⊎ ((c : ℕ) × (u : Tree) × (walk (chain_step Gs V) (Part ty) ids ≡ Part c) × (type_tree Gs c ≡ Some u))
   chain_known [] ty t shaped have = inr (ty, t, refl, shaped)
   chain_known (id ∷ ids) ty t shaped have = by_step (step_known ty id t shaped have.0) (λ c u at. chain_known ids c u at have.1)
     where
       by_step : (chain_step Gs V ty id ≡ Nothing) ⊎ ((c : ℕ) × (u : Tree) × (chain_step Gs V ty id ≡ Part c) × (type_tree Gs c ≡ Some u)) → ((c : ℕ) (u : Tree) → type_tree Gs c ≡ Some u → (walk (chain_step Gs V) (Part c) ids ≡ Nothing) ⊎ ((d : ℕ) × (w : Tree) × (walk (chain_step Gs V) (Part c) ids ≡ Part d) × (type_tree Gs d ≡ Some w)))
           → (walk (chain_step Gs V) (chain_step Gs V ty id) ids ≡ Nothing) ⊎ ((c : ℕ) × (u : Tree) × (walk (chain_step Gs V) (chain_step Gs V ty id) ids ≡ Part c) × (type_tree Gs c ≡ Some u))
-      by_step (inl none) later = inl (ap (λ r. walk (chain_step Gs V) r ids) none ∙ nothing_left ids)
+      by_step (inl none) later = inl (ap (λ r. walk (chain_step Gs V) r ids) none ∙ nothing_left (chain_step Gs V) ids)
       by_step (inr w) later = elim (later w.0 w.1 w.3) [
         | inl none ↦ inl (ap (λ r. walk (chain_step Gs V) r ids) w.2 ∙ none)
         | inr q ↦ inr (q.0, q.1, ap (λ r. walk (chain_step Gs V) r ids) w.2 ∙ q.2, q.3)
@@ -425,7 +419,7 @@ module _ (s : Setting) (entry : Option (List ℕ)) (right : IsConforming s.of en
           let q = target_of s entry right f in_it (word i 0) (typed_arg is_it 0 many) parts.0 in
           let reached : leads_elsewhere Gs i.ty (option_and_then (storage_class Gs) (V (word i 0))) (walk (chain_step Gs V) (Part q.0) (drop 1 i.args)) ≡ false =
           ap (λ x. leads_elsewhere Gs i.ty (option_and_then (storage_class Gs) (V (word i 0))) (walk (chain_step Gs V) (option_map_or Part x Unknown) (drop 1 i.args))) (sym q.2) ∙ parts.2 in
-          elim (chain_known (drop 1 i.args) q.0 q.1 q.3 (chain_types s entry right f in_it i there (drop 1 i.args) (behind i.args (λ k less. typed_arg is_it k less)))) [
+          elim (chain_known (drop 1 i.args) q.0 q.1 q.3 (chain_types s entry right f in_it i there (drop 1 i.args) (each_behind (HasType s entry right f in_it) i.args (λ k less. typed_arg is_it k less)))) [
             | inl none ↦ absurd (clash (ap (leads_elsewhere Gs i.ty (option_and_then (storage_class Gs) (V (word i 0)))) (sym none) ∙ reached))
             | inr w ↦ by_part w.0 (ap (leads_elsewhere Gs i.ty (option_and_then (storage_class Gs) (V (word i 0)))) (sym w.2) ∙ reached)
           ]
@@ -434,10 +428,6 @@ module _ (s : Setting) (entry : Option (List ℕ)) (right : IsConforming s.of en
           typed_arg is_it k less =
               let r = chain_read i.op i.args k is_it in
               typed_value s entry right f in_it i.at (slice_index i.args k) (subst (λ q. is_there_in s.of f i.at q (slice_index i.args k) ≡ true) r.1 (operand_there (is_there_in s.of f i.at) i ((inside s entry right f in_it).order.there i there) k less r.0))
-
-          behind : (args : List ℕ) → ((k : ℕ) → k < length args → HasType s entry right f in_it (slice_index args k)) → (k : ℕ) → k < length (drop 1 args) → HasType s entry right f in_it (slice_index (drop 1 args) k)
-          behind [] each k less = absurd (omega (arith, less))
-          behind (a ∷ args) each k less = each (suc k) (let more : suc k < suc (length args) = omega (arith, less) in more)
 
           by_part : (c : ℕ) → is_other_pointer Gs i.ty (option_and_then (storage_class Gs) (V (word i 0))) c ≡ false → is own_row.0.op code.TypePointer ≡ true
           by_part c off =

@@ -8,8 +8,11 @@ use Rattle.spv_ops.specs.Opcode.{is, number}
 use Rattle.spv_ops.specs.OpGroups.{takes_of, group_of}
 use Rattle.spv_ops.specs.Operands.{is_id}
 use Rattle.spv_ops.specs.Groups.{is_chain}
+use Rattle.spv_ops.specs.Shape.{shape}
+use Rattle.spv_ops.specs.declared.OpGroup.TheVariants as groups
 use Rattle.spv_ops.specs.declared.Op.{Op}
 use Rattle.spv_ops.specs.declared.Op.TheVariants as code
+use Rattle.spv_module.specs.Inst.{has_type}
 use Rattle.spv_module.specs.Lists.{id}
 use Rattle.spv_module.specs.declared.inst.Inst.{Inst}
 use Rattle.spv_module.specs.declared.inst.Block.{Block}
@@ -60,6 +63,19 @@ use Rattle.grammar_law.proofs.Unit.Structs.{Written, HasNames, named_type_uses}
 use Rattle.grammar_law.proofs.Unit.TypesWritten.{live_type_written}
 use Rattle.grammar_law.proofs.Unit.ValueNames.{result_names}
 use Rattle.grammar_law.proofs.Unit.Chains.{HasWay, place_uses}
+
+-- chains, by their opcodes
+pub chain_group : (o : Op) → is_chain o ≡ true → group_of o ≡ groups.Chain
+unfolding group_of
+chain_group code.AccessChain on = refl
+chain_group code.InBoundsAccessChain on = refl
+chain_group o on = cc
+
+pub chain_typed : (o : Op) → is_chain o ≡ true → has_type o ≡ true
+unfolding shape
+chain_typed code.AccessChain on = refl
+chain_typed code.InBoundsAccessChain on = refl
+chain_typed o on = cc
 
 -- each operand of a chain is a value that it mentions
 pub chain_id : (o : Op) (args : List ℕ) (k : ℕ) → is_chain o ≡ true → is_id o args k ≡ true

@@ -27,7 +27,7 @@ use Rattle.claim_law.proofs.Claim.Flags.{at_inside}
 use Rattle.grammar_law.specs.Switches.{IsSwitchAt}
 use Rattle.grammar_law.proofs.Unit.Lists.{found_by, as_among}
 
-switch_exit : (x : Exit) → is_switch x ≡ true → x ≡ Switch
+pub switch_exit : (x : Exit) → is_switch x ≡ true → x ≡ Switch
 switch_exit Switch on = refl
 switch_exit x on = cc
 

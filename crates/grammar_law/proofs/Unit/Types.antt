@@ -44,6 +44,10 @@ unfolding kind number
 struct_op code.TypeStruct e = refl
 struct_op o e = cc
 
+-- a struct is one of its own
+pub own_struct : (n : ℕ) (ts : Trees) → ((n == n) || have_struct n ts) ≡ true
+own_struct n ts = ap (λ (b : Bool). b || have_struct n ts) (number_same n n refl)
+
 -- the shape of a type is made of types of the module
 module _ (gs : List Inst) where
   module _ (g : Inst) (among : IsIn g gs) (parts : (p : ℕ) (u : Tree) → tree_before gs g.at p ≡ Some u → IsOfTypes gs u) where
@@ -136,9 +140,6 @@ module _ (W : Words) (gs : List Inst) (s : Source) (ids : ℕ → Text) (lengths
 
   abbrev pub AreNamedInAll : Trees → Type 0
   AreNamedInAll ts = (n : ℕ) → have_struct n ts ≡ true → W.struct (ids n)
-
-  own_struct : (n : ℕ) (ts : Trees) → ((n == n) || have_struct n ts) ≡ true
-  own_struct n ts = ap (λ (b : Bool). b || have_struct n ts) (number_same n n refl)
 
   pub shape_uses : (t : Tree) → IsOfTypes gs t → AreNamedIn t → UsesType W (type_text Spelled t)
   shape_uses boolean of_it named = (tt, tt)

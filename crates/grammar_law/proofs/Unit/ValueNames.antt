@@ -1,9 +1,7 @@
 -- The structs in the types of live results and of values of a block are written.
-use Rattle.std.proofs.Common.{◌≡◌, ◌||◌, ◌==◌, not, ℕ, Bool, true, false, List, [], ◌∷◌, ◌++◌, flat_map, filter_map, Option, Some, None, option_map, inl, inr, refl, sym, ap, ◌∙◌, subst, if◌then◌else◌}
+use Rattle.std.proofs.Common.{◌≡◌, ℕ, Bool, true, false, List, Option, Some, None, option_map, refl, sym, ap, ◌∙◌, if◌then◌else◌}
 use Rattle.std.specs.Prelude.{slice_index, option_and_then}
-use Rattle.std.specs.List.{cons_option}
 use Rattle.std.specs.Option.{option_map_or}
-use Rattle.std.proofs.lemmas.Bool.{or_right}
 use Rattle.spv_ops.specs.Opcode.{is}
 use Rattle.spv_ops.specs.declared.Op.TheVariants as code
 use Rattle.spv_module.specs.Held.{global}
@@ -13,23 +11,21 @@ use Rattle.spv_types.specs.Tree.{Tree}
 use Rattle.spv_types.specs.Types.{tree_at, type_tree}
 use Rattle.spv_index.specs.Locals.{insts_of}
 use Rattle.spv_index.specs.Pointers.{as_pointer}
-use Rattle.spv_index.specs.BlockStructs.{is_some_block}
 use Rattle.conformance.specs.Rules.{Options}
-use Rattle.profile_rules.specs.Places.{is_among, is_variable, body_insts}
-use Rattle.profile_rules.specs.TypeForm.{parts_of, pointees, value_type, value_types, signature_types, block_misuses}
+use Rattle.profile_rules.specs.Places.{is_among, is_variable}
+use Rattle.profile_rules.specs.TypeForm.{block_misuses}
 use Rattle.module_semantics.specs.Setting.{Setting}
 use Rattle.spv_decor.specs.Decorations.{local_insts}
 use Rattle.glsl_ast.specs.Tree.{TranslationUnit}
 use Rattle.text_rules.specs.Printed.{pointee_or_self, written_types}
 use Rattle.function_text.specs.Functions.{FunctionPlan}
 use Rattle.unit_rules.specs.Unit.{source_of, IsUnitOf}
-use Rattle.list_law.proofs.Numbers.{number_same}
 use Rattle.plan_law.proofs.Order.{among_right}
 use Rattle.typed_law.specs.Conforms.{IsConforming}
-use Rattle.typed_law.proofs.Used.{among_left, among_right as ids_right}
 use Rattle.typed_law.proofs.Values.{among_functions, local_row, variable_type_is}
+use Rattle.global_law.proofs.Constant.Within.{value_misused}
 use Rattle.claim_law.specs.Claimed.{IsIn}
-use Rattle.grammar_law.proofs.Unit.Lists.{as_among, as_in}
+use Rattle.grammar_law.proofs.Unit.Lists.{as_among}
 use Rattle.grammar_law.proofs.Unit.Shaped.{pointer_none}
 use Rattle.grammar_law.proofs.Unit.Ways.{HaveKinds, F, in_module}
 use Rattle.grammar_law.proofs.Unit.Free.{misused_free}
@@ -47,20 +43,6 @@ no_pointer gs ty t shaped = by_global (global gs ty) shaped
     by_global None shaped = cc
     by_global (Some g) at = by_test g at (is g.op code.TypePointer) refl
 
--- the types of instructions that are no variables
-pub value_type_in : (is : List Inst) (i : Inst) → IsIn i is → is_variable i ≡ false → is_among (filter_map value_type is) i.ty ≡ true
-value_type_in [] i there off = absurd there
-value_type_in (j ∷ is) i (inl same) off = subst (λ (x : Inst). is_among (filter_map value_type (x ∷ is)) i.ty ≡ true) (sym same) (by_test (is_variable i) off)
-  where
-    by_test : (b : Bool) → b ≡ false → is_among (cons_option (if b then None else Some i.ty) (filter_map value_type is)) i.ty ≡ true
-    by_test true e = cc
-    by_test false e = ap (λ (b : Bool). b || is_among (filter_map value_type is) i.ty) (number_same i.ty i.ty refl)
-value_type_in (j ∷ is) i (inr there) off = by_option (value_type j) (value_type_in is i there off)
-  where
-    by_option : (o : Option ℕ) → is_among (filter_map value_type is) i.ty ≡ true → is_among (cons_option o (filter_map value_type is)) i.ty ≡ true
-    by_option None e = e
-    by_option (Some x) e = or_right (x == i.ty) (is_among (filter_map value_type is) i.ty) e
-
 module _ (s : Setting) (entry : Option (List ℕ)) (right : IsConforming s.of entry) (kinds : HaveKinds s.of.globals) (o : Options) (unit : TranslationUnit) (u : IsUnitOf s.of o unit) (p : FunctionPlan) (among : IsIn p u.plans) where
   abbrev Fn : Function
   Fn = F s entry right kinds o unit u p among
@@ -69,9 +51,7 @@ module _ (s : Setting) (entry : Option (List ℕ)) (right : IsConforming s.of en
   result_misused : (i : Inst) → IsIn i (insts_of Fn) → (i.ty ≡ 0 → ⊥) → (t : Tree) → type_tree s.of.globals i.ty ≡ Some t → is_among (block_misuses s.of) i.ty ≡ true
   result_misused i there some t shaped =
       let body = among_right i s.of.globals (local_insts s.of) (among_functions s.of.functions Fn i (in_module s entry right kinds o unit u p among) (as_among (insts_of Fn) i there)) in
-      among_left (flat_map parts_of s.of.globals ++ pointees s.of (λ v. not (is_some_block s.of.heads s.of.globals v)) ++ value_types s.of) (signature_types s.of) i.ty
-      (ids_right (flat_map parts_of s.of.globals ++ pointees s.of (λ v. not (is_some_block s.of.heads s.of.globals v))) (value_types s.of) i.ty
-      (value_type_in (body_insts s.of) i (as_in (body_insts s.of) i body) no_variable))
+      value_misused s.of entry right i body no_variable
     where
       by_test : (b : Bool) → is_variable i ≡ b → b ≡ false
       by_test false off = refl
