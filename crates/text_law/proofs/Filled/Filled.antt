@@ -42,7 +42,7 @@ use Rattle.text_law.proofs.Naming.Fine.{each_found}
 use Rattle.text_law.proofs.Naming.Functions.{planned_of}
 use Rattle.grammar_law.proofs.Formed.Inner.{accepted_inner}
 use Rattle.text_law.proofs.Naming.Keys.{S, keys_are}
-use Rattle.text_law.proofs.Naming.Once.{a_value, among_in}
+use Rattle.text_law.proofs.Naming.Once.{a_value}
 use Rattle.grammar_law.proofs.Formed.Shaped.{AreGlobals, accepted_shaped}
 use Rattle.text_law.proofs.Naming.Unit.{items, ordered, text}
 use Rattle.text_law.proofs.Naming.Whole.{stands_reached}
@@ -177,7 +177,7 @@ module _ (bytes : List ℕ) (m : ModuleState) (o : Options) (read : IsReadFrom b
     shaped : (p : FunctionPlan) (among : IsIn p u.plans) (i : Inst) → IsIn i (insts_of (written p)) → is_hoisted (p.scope.form i.result) ≡ true → (t : Tree) × (type_tree m.globals i.ty ≡ Some t)
     shaped p among i there on =
         let one = is_one bytes m o read fine unit u inv p among in
-        let stands = among_in (insts_of (written p)) i there in
+        let stands = as_among (insts_of (written p)) i there in
         let value = a_value m o unit u inv p among o.entry (right bytes m o read fine unit u inv) one i there on in
         let w = accepted_shaped bytes m o read fine kinds_so (written p) one i stands (true_from_ne_false (has_type i.op) (λ off. value.0 ((accepted_inner bytes m read (written p) one i stands).1 off))) value.1 in
         (w.0, w.1)

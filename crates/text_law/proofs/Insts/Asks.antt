@@ -4,7 +4,7 @@ use Rattle.std.specs.Prelude.{◌⊎◌, option_and_then}
 use Rattle.std.specs.Option.{option_map_or}
 use Rattle.std.specs.List.{list_any}
 use Rattle.std.proofs.lemmas.Bool.Decides.{eqb_tells}
-use Rattle.std.proofs.lemmas.Bool.{true_from_ne_false, false_from_ne_true}
+use Rattle.std.proofs.lemmas.Bool.{true_from_ne_false, false_from_ne_true, or_right}
 use Rattle.spv_ops.specs.Opcode.{is}
 use Rattle.spv_ops.specs.Groups.{is_chain}
 use Rattle.spv_ops.specs.OpGroups.{group_of}
@@ -85,10 +85,6 @@ use Rattle.text_law.proofs.Written.Shapes.{has_shape}
 use Rattle.text_law.proofs.Insts.KindSteps.{load_step, store_step, atomic_step, control_step, memory_step, chain_step, composite_step, vector_step, value_step, silent_step, gives, gives_result, effects, no_type, variable_gives, merge_no_type, accesses, always_named, variable_no_chain}
 use Rattle.text_law.proofs.Insts.New.{stands_in, stands_among, no_phi, no_terminator, is_new, based_later, is_free}
 use Rattle.text_law.proofs.Insts.Sets.{zero_local, no_lent, pointer_unset, form_unset, named_so, value_so, always_so, other_so, same_so, hoisted_so, local_so}
-
-chain_other : (a b : Bool) → b ≡ true → not (a || b) ≡ false
-chain_other true b on = refl
-chain_other false b on = ap not on
 
 variable_other : (a b : Bool) → a ≡ true → not (a || b) ≡ false
 variable_other true b on = refl
@@ -291,7 +287,7 @@ module _ (m : ModuleState) (opts : Options) (right : IsConforming m opts.entry) 
       none_so : is_chain i.op ≡ true → (i.result ≡ 0 → ⊥) → HaveNone program calls k N apart s Holds f b keeps done i R f
       none_so on result n based =
           let q = based_later m f inside_it.order inside_it.formed inner_of chains i there result n based in
-          let off : is_other q.0 ≡ false = chain_other (is q.0.op code.Variable) (is_chain q.0.op) q.2 in
+          let off : is_other q.0 ≡ false = ap not (or_right (is q.0.op code.Variable) (is_chain q.0.op) q.2) in
           subst (λ (n : ℕ). (N.is_outer n ≡ false) × (N.is_local n ≡ false)) q.3 (pointer_unset m opts right kinds unit u inv p among lends is_one q.0 (as_in (insts_of f) q.0 q.1) (chains q.0 q.1 q.2).0 off)
 
       numbers : (j : ℕ) (xs : List (ℕ × ℕ)) → list_any (λ (n : ℕ × ℕ). n.0 == j) xs ≡ true → IsNumber program calls k N apart (have_result done) i.result j (kept_exprs program calls k N apart s Holds f b keeps w done i R xs)
@@ -352,7 +348,7 @@ module _ (m : ModuleState) (opts : Options) (right : IsConforming m opts.entry) 
             new = new on;
             free = is_free m f inside_it.order inside_it.formed inner_of b o block befores i rest split (some on) done only chains;
             none = none_so chain (some on);
-            unset = pointer_so (some on) (chain_other (is_variable_op i) (is_chain i.op) chain);
+            unset = pointer_so (some on) (ap not (or_right (is_variable_op i) (is_chain i.op) chain));
             named = index_named;
             all = all_kept (some on);
             says = left;

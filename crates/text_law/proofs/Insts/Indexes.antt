@@ -64,12 +64,12 @@ in_at (x ∷ xs) (suc k) n at = inr (in_at xs k n at)
 same_word : (a b : ℕ) (xs ys : List ℕ) → a ∷ xs ≡ b ∷ ys → (a ≡ b) × (xs ≡ ys)
 same_word a b xs ys e = let first : a ≡ b = cc in let rest : xs ≡ ys = cc in (first, rest)
 
+no_words : (y : ℕ) (ys : List ℕ) → [] ≡ y ∷ ys → ⊥
+no_words y ys e = cc
+
 each_at : (g : ℕ → Option ℕ) (ns js : List ℕ) (k n : ℕ) → each_one g ns ≡ Some js → slice_get ns k ≡ Some n → g n ≡ Some (slice_index js k)
 each_at g [] js k n each at = cc
-each_at g (x ∷ ns) [] k n each at = let w = before_some (g x) (each_one g ns) [] each in absurd (none w.0 w.1 w.4)
-  where
-    none : (y : ℕ) (ys : List ℕ) → [] ≡ y ∷ ys → ⊥
-    none y ys e = cc
+each_at g (x ∷ ns) [] k n each at = let w = before_some (g x) (each_one g ns) [] each in absurd (no_words w.0 w.1 w.4)
 each_at g (x ∷ ns) (j ∷ js) zero n each at =
     let w = before_some (g x) (each_one g ns) (j ∷ js) each in
     let same : x ≡ n = cc in
@@ -80,10 +80,7 @@ each_at g (x ∷ ns) (j ∷ js) (suc k) n each at =
 
 each_count : (g : ℕ → Option ℕ) (ns js : List ℕ) → each_one g ns ≡ Some js → length js ≡ length ns
 each_count g [] js each = let same : js ≡ [] = cc in ap length same
-each_count g (x ∷ ns) [] each = let w = before_some (g x) (each_one g ns) [] each in absurd (none w.0 w.1 w.4)
-  where
-    none : (y : ℕ) (ys : List ℕ) → [] ≡ y ∷ ys → ⊥
-    none y ys e = cc
+each_count g (x ∷ ns) [] each = let w = before_some (g x) (each_one g ns) [] each in absurd (no_words w.0 w.1 w.4)
 each_count g (x ∷ ns) (j ∷ js) each =
     let w = before_some (g x) (each_one g ns) (j ∷ js) each in
     ap suc (each_count g ns js (w.3 ∙ ap (λ (ys : List ℕ). Some ys) (sym (same_word j w.0 js w.1 w.4).1)))

@@ -20,22 +20,22 @@ use Rattle.plan_law.specs.InOrder.{IsAmong, AreRising, AreInOrder}
 use Rattle.plan_law.proofs.Order.{found}
 use Rattle.global_law.proofs.Path.Based.{op_chain}
 use Rattle.typed_law.specs.Conforms.{IsFormed}
+use Rattle.typed_law.proofs.Sized.{rising_low}
 use Rattle.claim_law.specs.Claimed.{IsIn}
-use Rattle.claim_law.proofs.Claim.Listed.{in_flat, at_place}
+use Rattle.claim_law.proofs.Claim.Listed.{in_right, in_flat, at_place}
 use Rattle.grammar_law.proofs.Unit.Lists.{as_among}
 use Rattle.grammar_law.specs.Formed.{ArePlain, IsFormedBlock}
 use Rattle.grammar_law.proofs.Formed.Blocks.{behind_is}
 use Rattle.grammar_law.proofs.Formed.Inner.{is_inner}
 use Rattle.text_law.proofs.Naming.Firsts.{of_in as in_of}
-use Rattle.text_law.proofs.Written.Done.{rising_in, rising_low}
-use Rattle.text_law.proofs.Written.EndsSay.{in_middle}
+use Rattle.text_law.proofs.Written.Done.{rising_in}
 use Rattle.text_law.proofs.Insts.Slots.{reads_before}
 
 -- what stands before an instruction of a rising list stands at a lower word
 before_low : (n : ℕ) (befores : List Inst) (i : Inst) (rest : List Inst) (j : Inst) → AreRising n (befores ++ i ∷ rest) → IsOf j befores → j.at < i.at
 before_low n [] i rest j rising one = absurd one
 before_low n (x ∷ befores) i rest j rising (inl here) =
-    let low = rising_low (x.at + 1) (befores ++ i ∷ rest) i rising.1 (in_middle befores i rest) in
+    let low = rising_low (x.at + 1) (befores ++ i ∷ rest) i rising.1 (as_among (befores ++ i ∷ rest) i (in_right i befores (i ∷ rest) (inl refl))) in
     subst (λ (y : Inst). y.at < i.at) here (let less : x.at < i.at = omega (arith, low) in less)
 before_low n (x ∷ befores) i rest j rising (inr later) = before_low (x.at + 1) befores i rest j rising.1 later
 
@@ -43,10 +43,6 @@ pub in_left : (xs ys : List Inst) (j : Inst) → IsOf j xs → IsIn j (xs ++ ys)
 in_left [] ys j one = absurd one
 in_left (x ∷ xs) ys j (inl same) = inl same
 in_left (x ∷ xs) ys j (inr later) = inr (in_left xs ys j later)
-
-in_right : (xs ys : List Inst) (j : Inst) → IsIn j ys → IsIn j (xs ++ ys)
-in_right [] ys j one = one
-in_right (x ∷ xs) ys j one = inr (in_right xs ys j one)
 
 -- lists with a last element
 no_end : (xs : List Inst) (b : Inst) → [] ≡ xs ++ b ∷ [] → ⊥
@@ -135,13 +131,13 @@ module _ (m : ModuleState) (f : Function) (order : AreInOrder m f) (formed : (j 
     in_function j j_in = as_among (insts_of f) j (in_flat (λ (x : Block). x.insts) f.blocks o.block j (at_place f.blocks b o.block o.there) j_in)
 
     pub stands_in : IsIn i o.block.insts
-    stands_in = subst (IsIn i) (sym whole) (in_middle (block.heads ++ befores) i (rest ++ o.last ∷ []))
+    stands_in = subst (IsIn i) (sym whole) (in_right i (block.heads ++ befores) (i ∷ (rest ++ o.last ∷ [])) (inl refl))
 
     pub stands_among : IsAmong i (insts_of f)
     stands_among = in_function i stands_in
 
     before_in : (j : Inst) → IsOf j befores → IsIn j (block.heads ++ befores)
-    before_in j one = in_right block.heads befores j (of_in befores j one)
+    before_in j one = in_right j block.heads befores (of_in befores j one)
       where
         of_in : (xs : List Inst) (j : Inst) → IsOf j xs → IsIn j xs
         of_in [] j one = absurd one

@@ -13,7 +13,6 @@ use Rattle.spv_ops.specs.Groups.{is_chain, is_terminator}
 use Rattle.spv_ops.specs.Enumerants.{class_number, decoration_number}
 use Rattle.spv_ops.specs.declared.Op.{Op}
 use Rattle.spv_ops.specs.declared.Op.TheVariants as code
-use Rattle.spv_ops.specs.declared.OpGroup.TheVariants as groups
 use Rattle.spv_ops.specs.declared.Decoration.TheVariants as decoration
 use Rattle.spv_ops.specs.declared.StorageClass.TheVariants as storage
 use Rattle.spv_module.specs.Held.{global}
@@ -64,7 +63,7 @@ use Rattle.claim_law.specs.Claimed.{IsIn, IsOf as IsPlacedIn}
 use Rattle.claim_law.proofs.Claim.Listed.{in_flat, in_mapped, at_place, any_in}
 use Rattle.claim_law.proofs.Claim.Constants.{found_in, mention_in}
 use Rattle.grammar_law.specs.Mentioned.{IsMentioned}
-use Rattle.grammar_law.proofs.Unit.Lists.{same_test, other_test, in_filter, none_passes, numbered_first, as_among}
+use Rattle.grammar_law.proofs.Unit.Lists.{same_test, other_test, in_filter, in_either, none_passes, numbered_first, as_among}
 use Rattle.grammar_law.proofs.Unit.Links.{placed_in, mention_at, user_is, mention_stands}
 use Rattle.grammar_law.proofs.Unit.Shaped.{pointer_none, shaped_value}
 use Rattle.grammar_law.proofs.Unit.TypesWritten.{kept_live}
@@ -114,11 +113,6 @@ unfolding shape
 end_untyped o on = by_end (λ (p : Op). has_type p ≡ false) refl refl refl refl refl refl o on
 
 -- parts of lists
-left_or_right : (j : Inst) (xs ys : List Inst) → IsIn j (xs ++ ys) → IsIn j xs ⊎ IsIn j ys
-left_or_right j [] ys there = inr there
-left_or_right j (x ∷ xs) ys (inl same) = inl (inl same)
-left_or_right j (x ∷ xs) ys (inr there) = elim (left_or_right j xs ys there) [ inl w ↦ inl (inr w) | inr w ↦ inr w ]
-
 all_phi : (j : Inst) (hs : List Inst) → ArePhis hs → IsIn j hs → is_phi j ≡ true
 all_phi j [] are there = absurd there
 all_phi j (h ∷ hs) are (inl same) = subst (λ (x : Inst). is_phi x ≡ true) same are.0
@@ -340,7 +334,7 @@ module _ (s : Setting) (entry : Option (List ℕ)) (right : IsConforming s.of en
           module _ (body : Body Fn b) (formed : IsFormedBlock body.block.insts) where
             -- what is no phi of the block and has a type is one of those behind the phis
             of_body : IsIn j body.block.insts → is_phi j ≡ false → IsOf j body.insts
-            of_body there off = by_part (left_or_right j formed.heads formed.behind (subst (IsIn j) formed.whole there))
+            of_body there off = by_part (in_either j formed.heads formed.behind (subst (IsIn j) formed.whole there))
               where
                 split : formed.behind ≡ body.insts ++ body.last ∷ []
                 split = sym (behind_is body.block formed) ∙ body.whole
@@ -358,7 +352,7 @@ module _ (s : Setting) (entry : Option (List ℕ)) (right : IsConforming s.of en
 
                 by_part : IsIn j formed.heads ⊎ IsIn j formed.behind → IsOf j body.insts
                 by_part (inl w) = off_on (sym off ∙ all_phi j formed.heads formed.are_phis w)
-                by_part (inr w) = by_end_part (left_or_right j body.insts (body.last ∷ []) (subst (IsIn j) split w))
+                by_part (inr w) = by_end_part (in_either j body.insts (body.last ∷ []) (subst (IsIn j) split w))
 
             module _ (N : Names) (names : AreNamesOf s entry right kinds o unit u p among lends b N) where
               abbrev There : Type 0

@@ -3,7 +3,7 @@ use Rattle.std.proofs.Common.{◌≡◌, ◌==◌, ◌&&◌, ◌||◌, not, ℕ,
 use Rattle.std.specs.Prelude.{is_some, Contains}
 use Rattle.std.specs.Option.{option_map_or}
 use Rattle.std.specs.List.{list_any}
-use Rattle.std.proofs.lemmas.Bool.{and_parts, or_cases, not-true}
+use Rattle.std.proofs.lemmas.Bool.{and_parts, or_cases, or_right, not-true}
 use Rattle.spv_ops.specs.Opcode.{is}
 use Rattle.spv_ops.specs.Groups.{is_chain}
 use Rattle.access_paths.specs.Ways.{captured_indexes}
@@ -81,6 +81,14 @@ variable_inst f n on =
     let w = some_by (λ (i : Inst). (is i.op code.Variable) && (word i 0 == class_number storage.Function)) (inst_in f n) (second_by (is_some (parameter_in f n)) _ parts.1 off) in
     (w.0, w.1, (and_parts (is w.0.op code.Variable) _ w.2).0, off)
 
+-- what an instruction makes is no parameter
+pub made_no_parameter : (gs : List Inst) (f : Function) → AreAlone gs f → (n : ℕ) (i : Inst) → inst_in f n ≡ Some i → is_parameter f n ≡ false
+made_no_parameter gs f alone n i at = by_test (is_parameter f n) refl
+  where
+    by_test : (b : Bool) → is_parameter f n ≡ b → b ≡ false
+    by_test false e = refl
+    by_test true e = let never : None ≡ Some i = sym (alone.parameters n e).0 ∙ at in cc
+
 module _ (s : Setting) (overrides : List (ℕ × Given)) (r : Reached) (key : Key → Text) (f : Function) (g : List Node) (form : ℕ → Form) (carried : ℕ → Bool) where
   abbrev N : Naming
   N = names_by s overrides r key f g form carried
@@ -136,21 +144,13 @@ module _ (s : Setting) (overrides : List (ℕ × Given)) (r : Reached) (key : Ke
     pub kept_once : (q k : ℕ) → N.is_kept q k ≡ true → (N.is_outer q ≡ false) × (N.is_local q ≡ false) × (N.is_lent q ≡ false)
     kept_once q k on =
         let i = some_by (keeps s overrides r key f g form carried k) (inst_in f q) on in
-        let none : is_result f q ≡ false = ap (λ o. option_map_or is_other o false) i.1 ∙ (ap (λ (t : Bool). not (is i.0.op code.Variable || t)) (is_one i.0 (is_chain i.0.op && carried i.0.result) refl i.2) ∙ no_either (is i.0.op code.Variable)) in
-        let off = no_parameter i.0 i.1 (is_parameter f q) refl in
+        let none : is_result f q ≡ false = ap (λ o. option_map_or is_other o false) i.1 ∙ (ap (λ (t : Bool). not (is i.0.op code.Variable || t)) (is_one i.0 (is_chain i.0.op && carried i.0.result) refl i.2) ∙ ap not (or_right (is i.0.op code.Variable) true refl)) in
+        let off = made_no_parameter s.of.globals f alone q i.0 i.1 in
         (no_outer q (no_value q off) none, no_local q none, ap (λ (t : Bool). t && is_pointer s.of.globals f q) off)
       where
-        no_either : (a : Bool) → not (a || true) ≡ false
-        no_either true = refl
-        no_either false = refl
-
         is_one : (i : Inst) (b : Bool) → (is_chain i.op && carried i.result) ≡ b → list_any (λ (n : ℕ × ℕ). n.0 == k) (if b then captured_indexes s.of.globals i else []) ≡ true → is_chain i.op ≡ true
         is_one i true at e = (and_parts (is_chain i.op) (carried i.result) at).0
         is_one i false at e = cc
-
-        no_parameter : (i : Inst) → inst_in f q ≡ Some i → (b : Bool) → is_parameter f q ≡ b → b ≡ false
-        no_parameter i at false e = refl
-        no_parameter i at true e = let never : None ≡ Some i = sym (alone.parameters q e).0 ∙ at in cc
 
     -- what is the module's is nothing of the function
     pub global_apart : (n : ℕ) (x : Inst) → global s.of.globals n ≡ Some x → (is_parameter f n ≡ false) × (is_result f n ≡ false) × (N.is_outer n ≡ false) × (N.is_local n ≡ false) × (N.is_variable n ≡ false) × (N.is_lent n ≡ false)

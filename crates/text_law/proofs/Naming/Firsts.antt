@@ -29,7 +29,9 @@ use Rattle.claim_law.specs.Claimed.{IsIn}
 use Rattle.text_law.specs.Alone.{AreAlone}
 use Rattle.grammar_law.specs.Declares.{AreVariables, HaveNoVariable, NoneDeclare, DeclaresFirst}
 use Rattle.text_law.proofs.Naming.Keys.{S, names}
-use Rattle.text_law.proofs.Naming.Tops.{of_filtered, of_mapped, of_either, of_flat, tops as tops_in}
+use Rattle.grammar_law.proofs.Unit.Lists.{in_either, of_filter, of_flat}
+use Rattle.grammar_law.proofs.Meets.LiveOrGone.{of_mapped}
+use Rattle.text_law.proofs.Naming.Tops.{tops as tops_in}
 
 pub no_phi : (o : Op) → is o code.Variable ≡ true → is o code.Phi ≡ false
 unfolding number
@@ -75,7 +77,7 @@ one_in (x ∷ ts) t (inr one) = inr (one_in ts t one)
 -- a variable of the function stands among them
 among_first : (bs : List Block) (w : DeclaresFirst bs) (b : Block) (i : Inst) → IsIn b bs → IsIn i b.insts → is_variable i ≡ true → IsIn i w.split.variables
 among_first bs w b i block there on = elim (subst (λ (l : List Block). IsIn b l) w.whole block) [
-  | inl first ↦ elim (of_either i w.split.variables w.split.rest (subst (λ (l : List Inst). IsIn i l) w.split.whole (subst (λ (x : Block). IsIn i x.insts) (sym first) there))) [
+  | inl first ↦ elim (in_either i w.split.variables w.split.rest (subst (λ (l : List Inst). IsIn i l) w.split.whole (subst (λ (x : Block). IsIn i x.insts) (sym first) there))) [
     | inl here ↦ here
     | inr later ↦ absurd (none_in w.split.rest i w.split.none_behind later on)
   ]
@@ -107,7 +109,7 @@ module _ (m : ModuleState) (o : Options) (unit : TranslationUnit) (u : IsUnitOf 
   variable_is t there =
       let b = of_flat (variable_tops p.scope N s) f.blocks t there in
       let i = of_mapped (variable_top p.scope N s) (filter is_variable b.0.insts) t b.2 in
-      let w = of_filtered is_variable b.0.insts i.0 i.1 in
+      let w = of_filter is_variable b.0.insts i.0 i.1 in
       (i.0, of_in declares.split.variables i.0 (among_first f.blocks declares b.0 i.0 b.1 w.0 w.1), ap (λ (x : Top). x.value) i.2)
 
   hoisted_first : (t : Top) (e : Expr) → IsIn t (flat_map (hoisted_tops p.scope N s) f.blocks) → t.first ≡ Some e → ⊥
@@ -129,9 +131,9 @@ module _ (m : ModuleState) (o : Options) (unit : TranslationUnit) (u : IsUnitOf 
     rest = begins.0;
     first = begins.1;
     kinds = kind_in declares.split.variables declares.split.are_variables;
-    all = λ t one e some. elim (of_either t (flat_map (variable_tops p.scope N s) f.blocks) (flat_map (hoisted_tops p.scope N s) f.blocks ++ flat_map (index_tops p.scope N s) f.blocks) (one_in tops t one)) [
+    all = λ t one e some. elim (in_either t (flat_map (variable_tops p.scope N s) f.blocks) (flat_map (hoisted_tops p.scope N s) f.blocks ++ flat_map (index_tops p.scope N s) f.blocks) (one_in tops t one)) [
       | inl one ↦ variable_is t one
-      | inr more ↦ elim (of_either t (flat_map (hoisted_tops p.scope N s) f.blocks) (flat_map (index_tops p.scope N s) f.blocks) more) [
+      | inr more ↦ elim (in_either t (flat_map (hoisted_tops p.scope N s) f.blocks) (flat_map (index_tops p.scope N s) f.blocks) more) [
         | inl hoisted ↦ absurd (hoisted_first t e hoisted some)
         | inr index ↦ absurd (index_first t e index some)
       ]

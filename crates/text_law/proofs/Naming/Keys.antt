@@ -1,6 +1,6 @@
 -- In the text of a module the names of a planned function are those of keys that are claimed, so they are apart.
-use Rattle.std.proofs.Common.{◌≡◌, ◌==◌, ◌&&◌, ◌||◌, not, ℕ, suc, Bool, true, false, List, [], ◌∷◌, ◌++◌, map, Option, Some, inl, inr, refl, sym, ap, ◌∙◌, subst, if◌then◌else◌}
-use Rattle.std.specs.Prelude.{◌⊎◌, flat_map, slice_get, bytes_eq}
+use Rattle.std.proofs.Common.{◌≡◌, ◌==◌, ◌&&◌, ◌||◌, not, ℕ, Bool, true, false, List, [], ◌∷◌, map, Option, Some, inl, inr, refl, sym, ap, ◌∙◌, subst, if◌then◌else◌}
+use Rattle.std.specs.Prelude.{bytes_eq}
 use Rattle.std.specs.Option.{option_map_or}
 use Rattle.std.specs.List.{list_any}
 use Rattle.std.proofs.lemmas.Bool.{and_parts, or_cases, and_left, not-true}
@@ -12,7 +12,6 @@ use Rattle.spv_module.specs.Held.{global}
 use Rattle.spv_module.specs.Lists.{id}
 use Rattle.spv_module.specs.declared.inst.Id.{Id as IdOf}
 use Rattle.spv_module.specs.declared.inst.Inst.{Inst}
-use Rattle.spv_module.specs.declared.inst.Block.{Block}
 use Rattle.spv_index.specs.Locals.{insts_of, inst_in}
 use Rattle.structure_rules.specs.Graph.{nth}
 use Rattle.conformance.specs.Rules.{Options}
@@ -50,22 +49,14 @@ use Rattle.claim_law.proofs.Claim.Constants.{found_in, no_struct}
 use Rattle.claim_law.proofs.Claim.Variables.{variable_no_struct, variable_no_constant, undeclared}
 use Rattle.claim_law.proofs.Claim.Told.{named_is}
 use Rattle.claim_law.proofs.Claim.Apart.{names_apart}
+use Rattle.grammar_law.proofs.Unit.Lists.{in_block}
 use Rattle.text_law.specs.Alone.{AreAlone}
 use Rattle.text_law.specs.Names.{is_other, is_result, is_value_parameter, is_variable_name, is_local_form, is_written_private, is_outer_global, has_text, keeps, names_of}
 use Rattle.text_law.proofs.Naming.Alone.{variable_inst, outer_once, variable_once, lent_once, global_apart, private_once}
 
--- an instruction of a function stands in a block of it
-pub placed_in : (bs : List Block) (i : Inst) → IsIn i (flat_map (λ (b : Block). b.insts) bs) → (k : ℕ) × (b : Block) × (slice_get bs k ≡ Some b) × IsIn i b.insts
-placed_in [] i among = absurd among
-placed_in (b ∷ bs) i among = elim (either_in b.insts (flat_map (λ (b : Block). b.insts) bs) among) [
-  | inl here ↦ (0, b, refl, here)
-  | inr later ↦ let w = placed_in bs i later in (suc w.0, w.1, w.2, w.3)
-]
-  where
-    either_in : (xs ys : List Inst) → IsIn i (xs ++ ys) → IsIn i xs ⊎ IsIn i ys
-    either_in [] ys among = inr among
-    either_in (x ∷ xs) ys (inl same) = inl (inl same)
-    either_in (x ∷ xs) ys (inr among) = elim (either_in xs ys among) [ inl left ↦ inl (inr left) | inr right ↦ inr right ]
+-- an instruction of a planned function stands in a block of it
+pub placed : (m : ModuleState) (o : Options) (unit : TranslationUnit) (u : IsUnitOf m o unit) (p : FunctionPlan) (i : Inst) → IsIn i (insts_of (written p)) → IsOf (claims_by (source_of m o u.entry) p) i
+placed m o unit u p i there = let b = in_block (written p).blocks i there in record { number = b.0; block = b.1; there = b.2; among = b.3 }
 
 -- what passes a test is one of them
 pub some_in : {A : Type 0} (test : A → Bool) (xs : List A) → list_any test xs ≡ true → (x : A) × IsIn x xs × (test x ≡ true)
@@ -138,8 +129,7 @@ module _ (m : ModuleState) (o : Options) (unit : TranslationUnit) (u : IsUnitOf 
     pub stands : (n : ℕ) (i : Inst) → inst_in (written p) n ≡ Some i → IsOf (claims_by src p) i × (i.result ≡ n)
     stands n i at =
         let w = found_in (insts_of (written p)) n i at in
-        let b = placed_in (written p).blocks i w.0 in
-        (record { number = b.0; block = b.1; there = b.2; among = b.3 }, w.1)
+        (placed m o unit u p i w.0, w.1)
 
     pub parameter_has : (n : ℕ) → is_parameter (written p) n ≡ true → HasName found (Id (id n))
     parameter_has n on =

@@ -28,7 +28,7 @@ use Rattle.grammar_law.proofs.Ruled.Ruled.{contains_of}
 use Rattle.claim_law.specs.Claimed.{IsIn}
 use Rattle.claim_law.proofs.Claim.Listed.{in_flat, at_place}
 use Rattle.text_law.specs.Ends.{HasLabels}
-use Rattle.text_law.proofs.Naming.Once.{among_in}
+use Rattle.grammar_law.proofs.Unit.Lists.{as_among}
 
 -- the label is an operand, and T1 asks that it is one of a block
 abbrev IsLabelOf : Op → List ℕ → ℕ → Type 0
@@ -104,7 +104,7 @@ module _ (s : Setting) (entry : Option (List ℕ)) (right : IsConforming s.of en
   pub labels_there : HasLabels f
   labels_there = record {
     there = λ b block i at has label among.
-        let inside_it = among_in (insts_of f) i (in_flat (λ (x : Block). x.insts) f.blocks block i (at_place f.blocks b block at) (found_among _ block.insts i has)) in
+        let inside_it = as_among (insts_of f) i (in_flat (λ (x : Block). x.insts) f.blocks block i (at_place f.blocks b block at) (found_among _ block.insts i has)) in
         let p = label_of i.op i.args label among in
         let on = operand_there (is_there_in s.of f i.at) i ((inside s entry right f in_it).order.there i inside_it) p.0 p.1 p.3 in
         let its : is_there_in s.of f i.at Label label ≡ true = subst (λ (n : ℕ). is_there_in s.of f i.at Label n ≡ true) p.2 (subst (λ (q : Need). is_there_in s.of f i.at q (slice_index i.args p.0) ≡ true) p.4 on) in

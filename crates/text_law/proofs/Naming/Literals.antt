@@ -29,7 +29,7 @@ use Rattle.typed_law.proofs.Lists.{or_left, or_right}
 use Rattle.typed_law.proofs.Rules.{flow_right}
 use Rattle.grammar_law.proofs.Ruled.Ruled.{contains_of}
 use Rattle.claim_law.proofs.Claim.Listed.{in_flat, at_place}
-use Rattle.text_law.proofs.Naming.Once.{among_in}
+use Rattle.grammar_law.proofs.Unit.Lists.{as_among}
 use Rattle.text_law.proofs.Naming.Labels.{found_among}
 
 -- how often a word stands among these
@@ -107,7 +107,7 @@ module _ (s : Setting) (entry : Option (List ℕ)) (right : IsConforming s.of en
 
   pub literals_once : (b : ℕ) (block : Block) (i : Inst) → slice_get f.blocks b ≡ Some block → terminator block ≡ Some i → exit_of i.op ≡ Switch → AreOnceWords (firsts (drop 2 i.args))
   literals_once b block i at has exit =
-      let there = among_in (insts_of f) i (in_flat (λ (x : Block). x.insts) f.blocks block i (at_place f.blocks b block at) (found_among _ block.insts i has)) in
+      let there = as_among (insts_of f) i (in_flat (λ (x : Block). x.insts) f.blocks block i (at_place f.blocks b block at) (found_among _ block.insts i has)) in
       let flow = flow_right s.of entry right f in_it i there in
       let told : breaks_t23_switch s.of.globals (type_in s.of.globals f) i ≡ false = ap (is_flow_broken s.of f flow.0 i) (sym (switch_group i.op exit)) ∙ flow.1 in
       once_firsts 0 (drop 2 i.args) refl (once_words (every_second 0 (drop 2 i.args)) (or_right (value_fails is_int s.of.globals (type_in s.of.globals f) (word i 0)) (has_repeat (every_second 0 (drop 2 i.args))) told))

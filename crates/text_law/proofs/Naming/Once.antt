@@ -3,7 +3,7 @@ use Rattle.std.proofs.Common.{◌≡◌, ◌≤◌, ◌+◌, ◌==◌, ◌&&◌,
 use Rattle.std.specs.Prelude.{◌⊎◌, flat_map, Contains}
 use Rattle.std.specs.Option.{option_map_or}
 use Rattle.std.specs.List.{enumerate_from}
-use Rattle.std.proofs.lemmas.Bool.{and_parts}
+use Rattle.std.proofs.lemmas.Bool.{and_parts, or_right}
 use Rattle.std.proofs.lemmas.Bool.Decides.{eqb_tells}
 use Rattle.std.proofs.lemmas.Option.{same_Some}
 use Rattle.spv_ops.specs.Opcode.{is}
@@ -39,7 +39,7 @@ use Rattle.agree_law.specs.Agree.{Naming}
 use Rattle.call_law.specs.Known.{IsFunctionOf}
 use Rattle.function_law.specs.Tops.{Top, IsNoTop, AreOnceTops, AreTops}
 use Rattle.function_law.proofs.PlannedText.{variable_top, hoisted_top, index_top, variable_tops, hoisted_tops, index_tops}
-use Rattle.plan_law.specs.InOrder.{IsAmong, HaveNot, AreApart}
+use Rattle.plan_law.specs.InOrder.{HaveNot, AreApart}
 use Rattle.typed_law.specs.Conforms.{IsConforming}
 use Rattle.typed_law.proofs.Values.{inside, local_row, variable_type_is, typed_result}
 use Rattle.typed_law.proofs.Others.{typed_some}
@@ -47,10 +47,12 @@ use Rattle.grammar_law.proofs.Ruled.Ruled.{contains_of, variable_has}
 use Rattle.claim_law.specs.Claimed.{IsIn}
 use Rattle.claim_law.proofs.Claim.Listed.{in_flat}
 use Rattle.claim_law.proofs.Claim.Apart.{same_number}
+use Rattle.grammar_law.proofs.Unit.Lists.{in_either, of_filter, of_flat, as_among}
+use Rattle.grammar_law.proofs.Meets.LiveOrGone.{of_mapped}
 use Rattle.text_law.specs.Alone.{AreAlone}
 use Rattle.text_law.proofs.Naming.Alone.{are_alone}
 use Rattle.text_law.proofs.Naming.Keys.{S, found as names_found, names, hoisted_is}
-use Rattle.text_law.proofs.Naming.Tops.{no_top, of_filtered, of_mapped, of_either, of_flat, no_chain_key, tops as tops_in, planned as planned_in, variable_name, hoisted_name, index_name, variable_of, hoisted_of, index_of, tops_are}
+use Rattle.text_law.proofs.Naming.Tops.{no_top, no_chain_key, tops as tops_in, planned as planned_in, variable_name, hoisted_name, index_name, variable_of, hoisted_of, index_of, tops_are}
 
 -- what has a variable at the top is a value, and a result of the function
 module _ (gs : List Inst) (f : Function) where
@@ -126,10 +128,18 @@ one_inst (x ∷ is) i j apart (inr a) (inl b) same some =
     absurd (have_not x.result is i (apart.0 (λ z. some (same ∙ (ap (λ (y : Inst). y.result) (sym b) ∙ z)))) a (same ∙ ap (λ (y : Inst). y.result) (sym b)))
 one_inst (x ∷ is) i j apart (inr a) (inr b) same some = one_inst is i j apart.1 a b same some
 
-pub among_in : (is : List Inst) (i : Inst) → IsIn i is → IsAmong i is
-among_in [] i there = absurd there
-among_in (x ∷ is) i (inl same) = inl same
-among_in (x ∷ is) i (inr there) = inr (among_in is i there)
+-- parts of a list whose results are apart
+have_left : (n : ℕ) (xs ys : List Inst) → HaveNot n (xs ++ ys) → HaveNot n xs
+have_left n [] ys none = tt
+have_left n (x ∷ xs) ys none = (none.0, have_left n xs ys none.1)
+
+pub apart_left : (xs ys : List Inst) → AreApart (xs ++ ys) → AreApart xs
+apart_left [] ys apart = tt
+apart_left (x ∷ xs) ys apart = ((λ some. have_left x.result xs ys (apart.0 some)), apart_left xs ys apart.1)
+
+pub apart_right : (xs ys : List Inst) → AreApart (xs ++ ys) → AreApart ys
+apart_right [] ys apart = apart
+apart_right (x ∷ xs) ys apart = apart_right xs ys apart.1
 
 -- lists of declarations that are put together
 none_joined : (x : Text) (ts us : List Top) → IsNoTop x ts → IsNoTop x us → IsNoTop x (ts ++ us)
@@ -230,19 +240,15 @@ module _ (m : ModuleState) (o : Options) (unit : TranslationUnit) (u : IsUnitOf 
   apart = (inside s entry right f in_it).order.apart
 
   pub some_result : (i : Inst) → IsIn i (insts_of f) → has_result i.op ≡ true → i.result ≡ 0 → ⊥
-  some_result i there has = ((inside s entry right f in_it).formed i (among_in (insts_of f) i there)).result has
+  some_result i there has = ((inside s entry right f in_it).formed i (as_among (insts_of f) i there)).result has
 
   -- a variable is no value, and what is declared without a value is one
   pub no_value : (i : Inst) → IsIn i (insts_of f) → is_variable i ≡ true → is_value m.globals i.ty ≡ false
   no_value i there on =
-      let here = among_in (insts_of f) i there in
+      let here = as_among (insts_of f) i there in
       let g = local_row s entry right f in_it i here (typed_some s entry right f in_it i here (variable_has i.op on)) in
       let pointer : has_type_by m.globals code.TypePointer i.ty ≡ true = ap (λ (x : Option Inst). option_map_or (λ (y : Inst). is y.op code.TypePointer) x false) g.1 ∙ variable_type_is i.op g.0 on g.2 in
-      ap (λ (t : Bool). not (has_type_by m.globals code.TypeVoid i.ty || t)) pointer ∙ none (has_type_by m.globals code.TypeVoid i.ty)
-    where
-      none : (a : Bool) → not (a || true) ≡ false
-      none true = refl
-      none false = refl
+      ap (λ (t : Bool). not (has_type_by m.globals code.TypeVoid i.ty || t)) pointer ∙ ap not (or_right (has_type_by m.globals code.TypeVoid i.ty) true refl)
 
   pub a_value : (i : Inst) → IsIn i (insts_of f) → is_hoisted_in p.scope i ≡ true → (i.result ≡ 0 → ⊥) × (is_value m.globals i.ty ≡ true)
   a_value i there on =
@@ -300,7 +306,7 @@ module _ (m : ModuleState) (o : Options) (unit : TranslationUnit) (u : IsUnitOf 
       by_test true named rest = (
         no_top (p.scope.setting.key (Captured (id i.result) from)) (map (index_top p.scope N s i) (filter test (enumerate_from (from + 1) xs))) (λ t there same.
             let n = of_mapped (index_top p.scope N s i) (filter test (enumerate_from (from + 1) xs)) t there in
-            let later = number_from xs (from + 1) n.0 (of_filtered test (enumerate_from (from + 1) xs) n.0 n.1).0 in
+            let later = number_from xs (from + 1) n.0 (of_filter test (enumerate_from (from + 1) xs) n.0 n.1).0 in
             let its : found (Captured (id i.result) n.0.0) ≡ Some (p.scope.setting.key (Captured (id i.result) from)) = named n.0 (inr n.1) ∙ ap (λ (y : Text). Some y) (ap (λ (y : Top). y.name) n.2 ∙ same) in
             let number : n.0.0 ≡ from = ap captured_number (u.lawful.apart (Captured (id i.result) n.0.0) (Captured (id i.result) from) (p.scope.setting.key (Captured (id i.result) from)) refl its (named (from, x) (inl refl))) in
             omega (arith, later, number)),
@@ -343,7 +349,7 @@ module _ (m : ModuleState) (o : Options) (unit : TranslationUnit) (u : IsUnitOf 
   tops_once =
       once_joined (flat_map (variable_tops p.scope N s) f.blocks) (flat_map (hoisted_tops p.scope N s) f.blocks ++ flat_map (index_tops p.scope N s) f.blocks) variables_once
       (once_joined (flat_map (hoisted_tops p.scope N s) f.blocks) (flat_map (index_tops p.scope N s) f.blocks) hoisted_once indexes_once (λ t v a b same. let i = hoisted_of m o unit u inv p among alone t a in index_far i.0.result t v i.3 b same))
-      (λ t v a b same. elim (of_either v (flat_map (hoisted_tops p.scope N s) f.blocks) (flat_map (index_tops p.scope N s) f.blocks) b) [
+      (λ t v a b same. elim (in_either v (flat_map (hoisted_tops p.scope N s) f.blocks) (flat_map (index_tops p.scope N s) f.blocks) b) [
         | inl hoisted ↦ hoisted_far t v a hoisted same
         | inr index ↦ let i = variable_of m o unit u inv p among alone t a in index_far i.0.result t v i.3 index same
       ])

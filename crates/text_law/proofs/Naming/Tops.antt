@@ -26,7 +26,7 @@ use Rattle.expr_forward.specs.Statements.{captured_of}
 use Rattle.function_plan.specs.Planned.{has_name_by, has_name}
 use Rattle.function_text.specs.Functions.{FunctionPlan, written, is_variable, is_hoisted, is_hoisted_in}
 use Rattle.unit_rules.specs.Translation.{IsPlanOf}
-use Rattle.unit_rules.specs.Unit.{claims_by, called, source_of, IsUnitOf}
+use Rattle.unit_rules.specs.Unit.{called, source_of, IsUnitOf}
 use Rattle.module_semantics.specs.Setting.{Setting}
 use Rattle.module_semantics.specs.Accesses.{initial_in}
 use Rattle.list_law.proofs.Numbers.{number_same, same_number as equal}
@@ -35,17 +35,19 @@ use Rattle.call_law.specs.Known.{is_parameter}
 use Rattle.function_law.specs.Tops.{Top, IsTop, IsNoTop, AreOnceTops, AreTops}
 use Rattle.function_law.proofs.PlannedText.{variable_top, hoisted_top, index_top, variable_tops, hoisted_tops, index_tops, tops_of}
 use Rattle.typed_law.proofs.Lists.{some_by}
-use Rattle.claim_law.specs.Claimed.{IsIn, HasName, IsOf}
+use Rattle.claim_law.specs.Claimed.{IsIn, HasName}
 use Rattle.claim_law.proofs.Claim.Listed.{in_left, in_right, in_flat, in_mapped, at_place}
 use Rattle.claim_law.proofs.Claim.Named.{result_named, captured_named}
 use Rattle.claim_law.proofs.Claim.Told.{named_is}
 use Rattle.claim_law.proofs.Claim.Flags.{planned_as}
 use Rattle.claim_law.proofs.Claim.Apart.{same_number}
 pub use Rattle.claim_law.proofs.Claim.Apart.{same_number as key_id}
+use Rattle.grammar_law.proofs.Unit.Lists.{in_filter, of_filter, in_either, of_flat}
+use Rattle.grammar_law.proofs.Meets.LiveOrGone.{of_mapped}
 use Rattle.text_law.specs.Alone.{AreAlone}
 use Rattle.text_law.specs.Names.{is_other, is_result, is_value_parameter, is_written_private, keeps, kept_of}
-use Rattle.text_law.proofs.Naming.Alone.{variable_inst}
-use Rattle.text_law.proofs.Naming.Keys.{S, found as names_found, key as key_of, R, names, placed_in, some_in, hoisted_is, variable_has, stands, parameter_has, private_has}
+use Rattle.text_law.proofs.Naming.Alone.{variable_inst, made_no_parameter}
+use Rattle.text_law.proofs.Naming.Keys.{S, found as names_found, key as key_of, R, names, placed, some_in, hoisted_is, variable_has, stands, parameter_has, private_has}
 
 -- one of these is one of them by its name, its type and its value
 is_top : (ts : List Top) (t : Top) → IsIn t ts → IsTop t.name t.shape t.value ts
@@ -57,45 +59,9 @@ pub no_top : (x : Text) (ts : List Top) → ((t : Top) → IsIn t ts → t.name 
 no_top x [] far = tt
 no_top x (t ∷ ts) far = (far t (inl refl), no_top x ts (λ u among. far u (inr among)))
 
-in_filtered : {A : Type 0} (test : A → Bool) (xs : List A) (x : A) → IsIn x xs → test x ≡ true → IsIn x (filter test xs)
-in_filtered {A = A} test [] x among on = absurd among
-in_filtered {A = A} test (y ∷ xs) x (inl same) on = by_test (test y) (ap test same ∙ on)
-  where
-    by_test : (b : Bool) → b ≡ true → IsIn x (if b then y ∷ filter test xs else filter test xs)
-    by_test true e = inl same
-    by_test false e = cc
-in_filtered {A = A} test (y ∷ xs) x (inr among) on = by_test (test y) (in_filtered test xs x among on)
-  where
-    by_test : (b : Bool) → IsIn x (filter test xs) → IsIn x (if b then y ∷ filter test xs else filter test xs)
-    by_test true later = inr later
-    by_test false later = later
-
--- what stands in such lists
-pub of_filtered : {A : Type 0} (test : A → Bool) (xs : List A) (x : A) → IsIn x (filter test xs) → IsIn x xs × (test x ≡ true)
-of_filtered {A = A} test [] x among = absurd among
-of_filtered {A = A} test (y ∷ xs) x among = by_test (test y) refl among (of_filtered test xs x)
-  where
-    by_test : (b : Bool) → test y ≡ b → IsIn x (if b then y ∷ filter test xs else filter test xs) → (IsIn x (filter test xs) → IsIn x xs × (test x ≡ true)) → IsIn x (y ∷ xs) × (test x ≡ true)
-    by_test true on (inl same) later = (inl same, subst (λ z. test z ≡ true) same on)
-    by_test true on (inr rest) later = let w = later rest in (inr w.0, w.1)
-    by_test false on rest later = let w = later rest in (inr w.0, w.1)
-
-pub of_mapped : {A B : Type 0} (f : A → B) (xs : List A) (y : B) → IsIn y (map f xs) → (x : A) × IsIn x xs × (f x ≡ y)
-of_mapped f [] y among = absurd among
-of_mapped f (x ∷ xs) y (inl same) = (x, inl refl, same)
-of_mapped f (x ∷ xs) y (inr among) = let w = of_mapped f xs y among in (w.0, inr w.1, w.2)
-
-pub of_either : {A : Type 0} (x : A) (xs ys : List A) → IsIn x (xs ++ ys) → IsIn x xs ⊎ IsIn x ys
-of_either x [] ys among = inr among
-of_either x (z ∷ xs) ys (inl same) = inl (inl same)
-of_either x (z ∷ xs) ys (inr among) = elim (of_either x xs ys among) [ inl left ↦ inl (inr left) | inr right ↦ inr right ]
-
-pub of_flat : {A B : Type 0} (f : A → List B) (xs : List A) (y : B) → IsIn y (flat_map f xs) → (x : A) × IsIn x xs × IsIn y (f x)
-of_flat f [] y among = absurd among
-of_flat f (x ∷ xs) y among = elim (of_either y (f x) (flat_map f xs) among) [
-  | inl here ↦ (x, inl refl, here)
-  | inr later ↦ let w = of_flat f xs y later in (w.0, inr w.1, w.2)
-]
+-- what stands in a block of a function stands in the function
+pub in_function : (f : Function) (b : Block) (i : Inst) → IsIn b f.blocks → IsIn i b.insts → IsIn i (insts_of f)
+in_function f b i block there = in_flat (λ (x : Block). x.insts) f.blocks b i block there
 
 -- an instruction's result is that of one
 result_there : (is : List Inst) (i : Inst) → IsIn i is → find (λ (j : Inst). j.result == i.result) is ≡ None → ⊥
@@ -150,13 +116,13 @@ module _ (m : ModuleState) (o : Options) (unit : TranslationUnit) (u : IsUnitOf 
   variable_in : (k : ℕ) (b : Block) (i : Inst) → slice_get f.blocks k ≡ Some b → IsIn i b.insts → is_variable i ≡ true → IsIn (variable_top p.scope N s i) tops
   variable_in k b i at there on =
       in_left (variable_top p.scope N s i) (flat_map (variable_tops p.scope N s) f.blocks) (flat_map (hoisted_tops p.scope N s) f.blocks ++ flat_map (index_tops p.scope N s) f.blocks)
-      (in_flat (variable_tops p.scope N s) f.blocks b (variable_top p.scope N s i) (at_place f.blocks k b at) (in_mapped (variable_top p.scope N s) (filter is_variable b.insts) i (in_filtered is_variable b.insts i there on)))
+      (in_flat (variable_tops p.scope N s) f.blocks b (variable_top p.scope N s i) (at_place f.blocks k b at) (in_mapped (variable_top p.scope N s) (filter is_variable b.insts) i (in_filter is_variable b.insts i there on)))
 
   hoisted_in : (k : ℕ) (b : Block) (i : Inst) → slice_get f.blocks k ≡ Some b → IsIn i b.insts → is_hoisted_in p.scope i ≡ true → IsIn (hoisted_top p.scope N s i) tops
   hoisted_in k b i at there on =
       in_right (hoisted_top p.scope N s i) (flat_map (variable_tops p.scope N s) f.blocks) (flat_map (hoisted_tops p.scope N s) f.blocks ++ flat_map (index_tops p.scope N s) f.blocks)
       (in_left (hoisted_top p.scope N s i) (flat_map (hoisted_tops p.scope N s) f.blocks) (flat_map (index_tops p.scope N s) f.blocks)
-      (in_flat (hoisted_tops p.scope N s) f.blocks b (hoisted_top p.scope N s i) (at_place f.blocks k b at) (in_mapped (hoisted_top p.scope N s) (filter (is_hoisted_in p.scope) b.insts) i (in_filtered (is_hoisted_in p.scope) b.insts i there on))))
+      (in_flat (hoisted_tops p.scope N s) f.blocks b (hoisted_top p.scope N s i) (at_place f.blocks k b at) (in_mapped (hoisted_top p.scope N s) (filter (is_hoisted_in p.scope) b.insts) i (in_filter (is_hoisted_in p.scope) b.insts i there on))))
 
   index_in : (k : ℕ) (b : Block) (i : Inst) (n : ℕ × ℕ) → slice_get f.blocks k ≡ Some b → IsIn i b.insts → IsIn n (captured_of p.scope i) → IsIn (index_top p.scope N s i n) tops
   index_in k b i n at there one =
@@ -173,12 +139,8 @@ module _ (m : ModuleState) (o : Options) (unit : TranslationUnit) (u : IsUnitOf 
         let i = some_by is_other (inst_in f n) parts.1 in
         let w = stands m o unit u inv p among n i.0 i.1 in
         let top = is_top tops (hoisted_top p.scope N s i.0) (hoisted_in w.0.number w.0.block i.0 w.0.there w.0.among (ap (λ (x : ℕ). is_hoisted (p.scope.form x)) w.1 ∙ parts.0)) in
-        inr (no_parameter n i.0 i.1 (is_parameter f n) refl, subst (λ (x : Text). IsTop x (N.shape n) None tops) (key_is (Id (id n))) (subst (λ (x : ℕ). IsTop (p.scope.setting.key (Id (id x))) (N.shape x) None tops) w.1 top))
+        inr (made_no_parameter m.globals f alone n i.0 i.1, subst (λ (x : Text). IsTop x (N.shape n) None tops) (key_is (Id (id n))) (subst (λ (x : ℕ). IsTop (p.scope.setting.key (Id (id x))) (N.shape x) None tops) w.1 top))
   ]
-    where
-      no_parameter : (n : ℕ) (i : Inst) → inst_in f n ≡ Some i → (b : Bool) → is_parameter f n ≡ b → b ≡ false
-      no_parameter n i at false e = refl
-      no_parameter n i at true e = let never : None ≡ Some i = sym (alone.parameters n e).0 ∙ at in cc
 
   variable_is_top : (n : ℕ) → N.is_variable n ≡ true → IsTop (N.name n) (N.shape n) (initial_in s f n) tops
   variable_is_top n on =
@@ -193,34 +155,24 @@ module _ (m : ModuleState) (o : Options) (unit : TranslationUnit) (u : IsUnitOf 
       let w = stands m o unit u inv p among q i.0 i.1 in
       let x = some_in (λ (n : ℕ × ℕ). n.0 == k) (kept_of s o.overrides (R m o unit u inv) key f p.graph p.scope.form p.scope.carried i.0) i.2 in
       let top = is_top tops (index_top p.scope N s i.0 x.0) (index_in w.0.number w.0.block i.0 x.0 w.0.there w.0.among (subst (λ (l : List (ℕ × ℕ)). IsIn x.0 l) (sym (kept_is i.0)) x.1)) in (
-        no_parameter i.0 i.1 (is_parameter f q) refl,
+        made_no_parameter m.globals f alone q i.0 i.1,
         subst (λ (y : Text). IsTop y (N.index_shape q k) None tops) (key_is (Captured (id q) k))
             (subst (λ (j : ℕ). IsTop (p.scope.setting.key (Captured (id q) j)) (N.index_shape q j) None tops) (equal x.0.0 k x.2)
             (subst (λ (r : ℕ). IsTop (p.scope.setting.key (Captured (id r) x.0.0)) (N.index_shape r x.0.0) None tops) w.1 top)),
       )
-    where
-      no_parameter : (i : Inst) → inst_in f q ≡ Some i → (b : Bool) → is_parameter f q ≡ b → b ≡ false
-      no_parameter i at false e = refl
-      no_parameter i at true e = let never : None ≡ Some i = sym (alone.parameters q e).0 ∙ at in cc
 
   -- each declaration has the name of a key: of a result of the function, or of an index that is kept
   abbrev IsOfKey : Text → Type 0
   IsOfKey x = ((i : Inst) × IsIn i (insts_of f) × (found (Id (id i.result)) ≡ Some x)) ⊎ ((q : ℕ) × (k : ℕ) × (found (Captured (id q) k) ≡ Some x))
 
-  placed : (i : Inst) → IsIn i (insts_of f) → IsOf (claims_by (source_of m o u.entry) p) i
-  placed i there = let b = placed_in f.blocks i there in record { number = b.0; block = b.1; there = b.2; among = b.3 }
-
-  in_function : (b : Block) (i : Inst) → IsIn b f.blocks → IsIn i b.insts → IsIn i (insts_of f)
-  in_function b i block there = in_flat (λ (x : Block). x.insts) f.blocks b i block there
-
   result_name : (i : Inst) → IsIn i (insts_of f) → ((reached : Bool) → has_name p.scope.form reached i ≡ true) → found (Id (id i.result)) ≡ Some (p.scope.setting.key (Id (id i.result)))
   result_name i there has =
-      let at = placed i there in
+      let at = placed m o unit u p i there in
       named_is found (Id (id i.result)) (result_named m o unit u p i among at (has (nth p.graph at.number).reached)) ∙ ap (λ (x : Text). Some x) (sym (key_is (Id (id i.result))))
 
   pub index_name : (i : Inst) (n : ℕ × ℕ) → IsIn i (insts_of f) → IsIn n (captured_of p.scope i) → found (Captured (id i.result) n.0) ≡ Some (p.scope.setting.key (Captured (id i.result) n.0))
   index_name i n there one =
-      named_is found (Captured (id i.result) n.0) (captured_named m o unit u p i n.0 among (placed i there) (by_test (is_chain i.op && p.scope.carried i.result) (subst (λ (l : List (ℕ × ℕ)). IsIn n l) (kept_is i) one))) ∙ ap (λ (x : Text). Some x) (sym (key_is (Captured (id i.result) n.0)))
+      named_is found (Captured (id i.result) n.0) (captured_named m o unit u p i n.0 among (placed m o unit u p i there) (by_test (is_chain i.op && p.scope.carried i.result) (subst (λ (l : List (ℕ × ℕ)). IsIn n l) (kept_is i) one))) ∙ ap (λ (x : Text). Some x) (sym (key_is (Captured (id i.result) n.0)))
     where
       by_test : (b : Bool) → IsIn n (if b then captured_indexes m.globals i else []) → IsIn n.0 (if b then map (λ (x : ℕ × ℕ). x.0) (captured_indexes m.globals i) else [])
       by_test true one = in_mapped (λ (x : ℕ × ℕ). x.0) (captured_indexes m.globals i) n one
@@ -237,16 +189,16 @@ module _ (m : ModuleState) (o : Options) (unit : TranslationUnit) (u : IsUnitOf 
   variable_of t among =
       let b = of_flat (variable_tops p.scope N s) f.blocks t among in
       let i = of_mapped (variable_top p.scope N s) (filter is_variable b.0.insts) t b.2 in
-      let w = of_filtered is_variable b.0.insts i.0 i.1 in
-      let there = in_function b.0 i.0 b.1 w.0 in
+      let w = of_filter is_variable b.0.insts i.0 i.1 in
+      let there = in_function f b.0 i.0 b.1 w.0 in
       (i.0, there, w.1, subst (λ (x : Top). found (Id (id i.0.result)) ≡ Some x.name) i.2 (variable_name i.0 there w.1))
 
   pub hoisted_of : (t : Top) → IsIn t (flat_map (hoisted_tops p.scope N s) f.blocks) → (i : Inst) × IsIn i (insts_of f) × (is_hoisted_in p.scope i ≡ true) × (found (Id (id i.result)) ≡ Some t.name)
   hoisted_of t among =
       let b = of_flat (hoisted_tops p.scope N s) f.blocks t among in
       let i = of_mapped (hoisted_top p.scope N s) (filter (is_hoisted_in p.scope) b.0.insts) t b.2 in
-      let w = of_filtered (is_hoisted_in p.scope) b.0.insts i.0 i.1 in
-      let there = in_function b.0 i.0 b.1 w.0 in
+      let w = of_filter (is_hoisted_in p.scope) b.0.insts i.0 i.1 in
+      let there = in_function f b.0 i.0 b.1 w.0 in
       (i.0, there, w.1, subst (λ (x : Top). found (Id (id i.0.result)) ≡ Some x.name) i.2 (hoisted_name i.0 there w.1))
 
   pub index_of : (t : Top) → IsIn t (flat_map (index_tops p.scope N s) f.blocks) → (q : ℕ) × (k : ℕ) × (found (Captured (id q) k) ≡ Some t.name)
@@ -254,12 +206,12 @@ module _ (m : ModuleState) (o : Options) (unit : TranslationUnit) (u : IsUnitOf 
       let b = of_flat (index_tops p.scope N s) f.blocks t among in
       let i = of_flat (λ (j : Inst). map (index_top p.scope N s j) (captured_of p.scope j)) b.0.insts t b.2 in
       let n = of_mapped (index_top p.scope N s i.0) (captured_of p.scope i.0) t i.2 in
-      (i.0.result, n.0.0, subst (λ (x : Top). found (Captured (id i.0.result) n.0.0) ≡ Some x.name) n.2 (index_name i.0 n.0 (in_function b.0 i.0 b.1 i.1) n.1))
+      (i.0.result, n.0.0, subst (λ (x : Top). found (Captured (id i.0.result) n.0.0) ≡ Some x.name) n.2 (index_name i.0 n.0 (in_function f b.0 i.0 b.1 i.1) n.1))
 
   of_key : (t : Top) → IsIn t tops → IsOfKey t.name
-  of_key t there = elim (of_either t (flat_map (variable_tops p.scope N s) f.blocks) (flat_map (hoisted_tops p.scope N s) f.blocks ++ flat_map (index_tops p.scope N s) f.blocks) there) [
+  of_key t there = elim (in_either t (flat_map (variable_tops p.scope N s) f.blocks) (flat_map (hoisted_tops p.scope N s) f.blocks ++ flat_map (index_tops p.scope N s) f.blocks) there) [
     | inl variable ↦ let i = variable_of t variable in inl (i.0, i.1, i.3)
-    | inr more ↦ elim (of_either t (flat_map (hoisted_tops p.scope N s) f.blocks) (flat_map (index_tops p.scope N s) f.blocks) more) [
+    | inr more ↦ elim (in_either t (flat_map (hoisted_tops p.scope N s) f.blocks) (flat_map (index_tops p.scope N s) f.blocks) more) [
       | inl hoisted ↦ let i = hoisted_of t hoisted in inl (i.0, i.1, i.3)
       | inr index ↦ inr (index_of t index)
     ]

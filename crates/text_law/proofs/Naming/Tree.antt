@@ -17,6 +17,7 @@ use Rattle.structure_rules.specs.Graph.{graph, nth, is_switch}
 use Rattle.structure_recover.specs.declared.region.Exit.TheVariants.{Return, Lost}
 use Rattle.structure_recover.specs.Follows.{target, left, left_by, last_inst}
 use Rattle.block_graph.proofs.Within.{graph_sized}
+use Rattle.nest_place.proofs.Outward.{reached_inside}
 use Rattle.switch_ladder.specs.Ladder.{fallen_from}
 use Rattle.switch_ladder.specs.Flags.{needs_again, needs_leave, needs_fell}
 use Rattle.function_plan.specs.Phis.{phi_blocks}
@@ -77,13 +78,6 @@ passes_that test xs b on = by_test (test b) refl
     by_test : (t : Bool) → test b ≡ t → test b ≡ true
     by_test true at = at
     by_test false at = let never : true ≡ false = sym on ∙ none_that test xs b at in cc
-
--- a reached block is one of the function's
-reached_inside : (g : List Node) (b : ℕ) → (nth g b).reached ≡ true → b < length g
-reached_inside [] zero e = cc
-reached_inside [] (suc b) e = cc
-reached_inside (n ∷ g) zero e = omega arith
-reached_inside (n ∷ g) (suc b) e = let less = reached_inside g b e in omega (arith, less)
 
 pub switch_exit : (e : Exit) → is_switch e ≡ true → e ≡ Switch
 switch_exit Switch on = refl

@@ -54,9 +54,10 @@ use Rattle.claim_law.specs.Claimed.{IsIn}
 use Rattle.grammar_law.proofs.Unit.Lists.{as_among}
 use Rattle.text_law.specs.Names.{is_written_private}
 use Rattle.text_law.proofs.Naming.Alone.{are_alone}
+use Rattle.text_law.proofs.Naming.Functions.{function_of_plan}
 use Rattle.text_law.proofs.Naming.Keys.{S, found as names_found, key as key_of, R, names as names_in, are_apart}
 use Rattle.text_law.specs.Left.{IsLeftOfGlobals}
-use Rattle.text_law.proofs.Outside.Text.{fs as function_items, are_functions, asked as asked_of, D as declared_in, function_of_plan, mentions, there, itself, points, own, split, shape_is}
+use Rattle.text_law.proofs.Outside.Text.{fs as function_items, are_functions, asked as asked_of, D as declared_in, mentions, there, itself, points, own, split, shape_is}
 
 -- a function leaves what does not stick
 function_fine : (d : Declared) (i : Decl) → IsFunction i → d.is_stuck ≡ false → (with_item d i).is_stuck ≡ false
@@ -214,7 +215,7 @@ module _ (bytes : List ℕ) (m : ModuleState) (o : Options) (read : IsReadFrom b
 
     apart : AreApart N
     apart =
-        are_apart m o unit u inv p planned (are_alone s o.entry right (written p) (function_of_plan bytes m o read fine unit u inv told left p planned))
+        are_apart m o unit u inv p planned (are_alone s o.entry right (written p) (function_of_plan bytes m o read fine unit u p planned))
         (λ g there. global_found m o.entry right g (as_among Gs g there))
 
     -- What stands outside of functions is hidden by no variable of the text.

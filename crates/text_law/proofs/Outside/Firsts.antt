@@ -38,8 +38,8 @@ use Rattle.name_alloc.specs.declared.claims.Key.{Key}
 use Rattle.glsl_ast.specs.Tree.{Text, literal, Decl, TranslationUnit}
 use Rattle.glsl_ast.specs.declared.expressions.Literal.TheVariants.{Uint}
 use Rattle.glsl_semantics.specs.Shapes.{Typed, same_shape, typed as typed_value}
-use Rattle.glsl_semantics.specs.States.{State, Thing}
-use Rattle.glsl_semantics.specs.Expressions.{Program, Argument, then_fetch, type_of, evaluate}
+use Rattle.glsl_semantics.specs.States.{State}
+use Rattle.glsl_semantics.specs.Expressions.{Program, Argument, type_of, evaluate}
 use Rattle.text_rules.specs.Constants.{Source, constant_expr}
 use Rattle.text_rules.specs.Printed.{Reached}
 use Rattle.text_rules.specs.Types.{zero_text}
@@ -55,6 +55,7 @@ use Rattle.typed_law.proofs.Lists.{or_right, and_off}
 use Rattle.typed_law.proofs.Rules.{initializer_right}
 use Rattle.typed_law.proofs.Values.{same_count}
 use Rattle.accepted_law.proofs.Accepted.{accepted_conforming}
+use Rattle.lowering_law.proofs.Saying.{read as fetched}
 use Rattle.global_law.specs.Parts.{shape_in}
 use Rattle.global_law.specs.Walks.{struct_names}
 use Rattle.global_law.proofs.Global.Blocks.{type_declared}
@@ -82,10 +83,6 @@ takes_value : (o : Op) → is o code.Variable ≡ true → is_value o 1 ≡ true
 unfolding number group_of takes_of
 takes_value code.Variable on = refl
 takes_value o on = cc
-
--- the value of what an expression stands for
-abbrev fetched : Result (Thing × State) → Result (Typed × State)
-fetched g = then_fetch g (λ v q. got [] (v, q))
 
 some_place : (args : List ℕ) (n : ℕ) → slice_get args 1 ≡ Some n → nat_lt 1 (length args) ≡ true
 some_place [] n e = cc

@@ -4,8 +4,7 @@ use Rattle.std.specs.Prelude.{Contains, flat_map, option_map, option_and_then, s
 use Rattle.std.specs.Option.{option_map_or, option_or}
 use Rattle.std.specs.List.{enumerate_from}
 use Rattle.std.proofs.lemmas.Option.{same_Some}
-use Rattle.spv_words.specs.Words.{words}
-use Rattle.spv_ops.specs.Opcode.{is, number}
+use Rattle.spv_ops.specs.Opcode.{is}
 use Rattle.spv_ops.specs.Shape.{shape}
 use Rattle.spv_ops.specs.Enumerants.{class_number}
 use Rattle.spv_ops.specs.declared.Op.TheVariants as code
@@ -68,11 +67,11 @@ use Rattle.grammar_law.proofs.Unit.Ways.{planned_as, reached_nth}
 use Rattle.grammar_law.proofs.Unit.TypesWritten.{parameter_type_written}
 use Rattle.grammar_law.proofs.Meets.Roots.{variable_impure}
 use Rattle.grammar_law.specs.Declares.{HaveNoVariable, NoneDeclare, DeclaresFirst}
-use Rattle.grammar_law.proofs.Formed.Declares.{declares_first}
-use Rattle.text_law.proofs.Naming.Keys.{placed_in, S, found as names_found, R}
+use Rattle.text_law.proofs.Naming.Keys.{placed, S, found as names_found, R}
 use Rattle.grammar_law.proofs.Formed.Reach.{first_marked}
 use Rattle.text_law.specs.Left.{IsLeftOfGlobals}
-use Rattle.text_law.proofs.Outside.Text.{function_of_plan}
+use Rattle.text_law.proofs.Naming.Functions.{function_of_plan}
+use Rattle.text_law.proofs.Whole.Accepted.{declares_so}
 
 -- variables stand in the first block alone
 none_in : (is : List Inst) (i : Inst) → HaveNoVariable is → IsIn i is → is_variable i ≡ false
@@ -115,7 +114,7 @@ module _ (bytes : List ℕ) (m : ModuleState) (o : Options) (read : IsReadFrom b
   right = accepted_conforming bytes m o read fine
 
   is_one : IsFunctionOf f m.functions
-  is_one = function_of_plan bytes m o read fine unit u inv told left p planned
+  is_one = function_of_plan bytes m o read fine unit u p planned
 
   pub in_module : Contains m.functions f
   in_module = contains_of m.functions f is_one
@@ -128,23 +127,16 @@ module _ (bytes : List ℕ) (m : ModuleState) (o : Options) (read : IsReadFrom b
   graph_is : p.graph ≡ graph f
   graph_is = let w = planned_as (IsPlanOf src found) (called u.order m.functions) u.plans p u.planned planned in w.2.graph_is ∙ ap graph (sym (ap (λ (x : Scope). x.setting.function) w.2.scope_is))
 
-  -- where a variable of the function stands
-  pub placed : (i : Inst) → IsIn i (insts_of f) → IsOf (claims_by src p) i
-  placed i there = let b = placed_in f.blocks i there in record { number = b.0; block = b.1; there = b.2; among = b.3 }
-
-  declares : DeclaresFirst f.blocks
-  declares =
-      subst (λ (n : ModuleState). (g : Function) → IsFunctionOf g n.functions → DeclaresFirst g.blocks) (sym read.made) (λ g one. declares_first (words bytes) read.form.1.1.1.1.0 g one) f is_one
-
   module _ (i : Inst) (there : IsIn i (insts_of f)) (on : is_variable i ≡ true) where
+    -- where a variable of the function stands
     pub of_it : IsOf (claims_by src p) i
-    of_it = placed i there
+    of_it = placed m o unit u p i there
 
     among : IsAmong i (insts_of f)
     among = as_among (insts_of f) i there
 
     first : of_it.number ≡ 0
-    first = first_place f.blocks declares of_it.number of_it.block i of_it.there of_it.among on
+    first = first_place f.blocks (declares_so bytes m o read fine unit u inv f is_one) of_it.number of_it.block i of_it.there of_it.among on
 
     -- in the first block, which is reached
     pub variable_reached : slice_index_or (liveness_of src p).reached of_it.number false ≡ true

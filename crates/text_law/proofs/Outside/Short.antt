@@ -134,16 +134,13 @@ module _ (m : ModuleState) (entry : Option (List ℕ)) (right : IsConforming m e
     is : L g.result ≡ leaves_by_kind Gs from g.args (kind g.op)
     same : (p : ℕ) (h : Inst) → global Gs p ≡ Some h → h.at < g.at → from p ≡ L p
 
-  own : (h : Inst) → IsAmong h Gs → global Gs h.result ≡ Some h
-  own h there = global_found m entry right h there
-
   counted : (g : Inst) → IsAmong g Gs → IsCounted g
   counted g there =
-      let w = said_at (leaves_step Gs) Gs 0 (λ id. 0) g right.rising (λ h h_in same. ap (λ (x : Inst). x.at) (same_Some h g (sym (own h h_in) ∙ ap (global Gs) same ∙ own g there))) there in
+      let w = said_at (leaves_step Gs) Gs 0 (λ id. 0) g right.rising (λ h h_in same. ap (λ (x : Inst). x.at) (same_Some h g (sym (global_found m entry right h h_in) ∙ ap (global Gs) same ∙ global_found m entry right g there))) there in
       record {
         from = w.from;
         is = w.is;
-        same = λ p h at less. w.same p (λ k k_in le same. let one : k.at ≡ h.at = ap (λ (x : Inst). x.at) (same_Some k h (sym (own k k_in) ∙ ap (global Gs) same ∙ at)) in omega (arith, less, le, one));
+        same = λ p h at less. w.same p (λ k k_in le same. let one : k.at ≡ h.at = ap (λ (x : Inst). x.at) (same_Some k h (sym (global_found m entry right k k_in) ∙ ap (global Gs) same ∙ at)) in omega (arith, less, le, one));
       }
 
   -- what is known of a type with so few scalars: it is short, and it has some

@@ -64,10 +64,11 @@ use Rattle.claim_law.proofs.Claim.Named.{Plans}
 use Rattle.item_law.proofs.Named.{members_apart}
 use Rattle.grammar_law.proofs.Unit.Lists.{as_in}
 use Rattle.text_law.proofs.Naming.Alone.{are_alone, variable_inst}
+use Rattle.text_law.proofs.Naming.Functions.{function_of_plan}
 use Rattle.text_law.proofs.Naming.Keys.{S, found as names_found, key as key_of, R, names as names_in}
 use Rattle.text_law.specs.Left.{IsLeftOfGlobals}
 use Rattle.text_law.proofs.Outside.Asked.{claimed}
-use Rattle.text_law.proofs.Outside.Text.{P as program_in, function_of_plan, itself, there as global_there, own, type_is}
+use Rattle.text_law.proofs.Outside.Text.{P as program_in, itself, there as global_there, own, type_is}
 use Rattle.text_law.proofs.Outside.Globals.{begins_paths}
 use Rattle.text_law.proofs.Outside.Locals.{in_module, local_variable, param_type, typed_parameter}
 
@@ -137,7 +138,7 @@ module _ (bytes : List ℕ) (m : ModuleState) (o : Options) (read : IsReadFrom b
   have = λ k. refl
 
   is_one : IsFunctionOf f m.functions
-  is_one = function_of_plan bytes m o read fine unit u inv told left p planned
+  is_one = function_of_plan bytes m o read fine unit u p planned
 
   in_it : Contains m.functions f
   in_it = in_module bytes m o read fine unit u inv told left p planned

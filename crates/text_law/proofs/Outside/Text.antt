@@ -1,5 +1,5 @@
 -- The text of an accepted module: its functions are those that calls reach, and its variables those of the module that these mention.
-use Rattle.std.proofs.Common.{◌≡◌, ◌++◌, ℕ, true, false, List, [], ◌∷◌, map, Option, Some, inl, inr, refl, sym, ap, ◌∙◌, subst}
+use Rattle.std.proofs.Common.{◌≡◌, ◌++◌, ℕ, true, false, List, [], ◌∷◌, map, Option, Some, refl, sym, ap, ◌∙◌, subst}
 use Rattle.std.specs.Prelude.{option_and_then, unwrap_or}
 use Rattle.std.specs.Option.{option_or}
 use Rattle.spv_module.specs.Held.{global}
@@ -24,12 +24,10 @@ use Rattle.glsl_semantics.specs.Items.{Declared, declared_by}
 use Rattle.text_rules.specs.Constants.{Source, sizes}
 use Rattle.text_rules.specs.Printed.{Reached, is_operand_in}
 use Rattle.text_rules.specs.Declarations.{declarations, shape_at, pointee_at}
-use Rattle.function_text.specs.Functions.{FunctionPlan, written, function_decl}
-use Rattle.unit_rules.specs.Translation.{IsPlanOf}
-use Rattle.unit_rules.specs.Unit.{item_names_of, source_of, called, is_called, in_order, IsUnitOf}
+use Rattle.function_text.specs.Functions.{FunctionPlan, function_decl}
+use Rattle.unit_rules.specs.Unit.{item_names_of, source_of, called, in_order, IsUnitOf}
 use Rattle.plan_law.specs.InOrder.{IsAmong}
 use Rattle.fits_law.proofs.Steps.{named}
-use Rattle.call_law.specs.Known.{IsFunctionOf}
 use Rattle.typed_law.proofs.Lists.{found_in}
 use Rattle.typed_law.proofs.Values.{typed_is, global_typed_some}
 use Rattle.typed_law.proofs.Calls.{global_variable_is, global_points}
@@ -45,10 +43,8 @@ use Rattle.global_law.specs.Sources.{chosen}
 use Rattle.global_law.proofs.Global.Shared.{mentioned_same}
 use Rattle.global_law.specs.Items.{AreAsked}
 use Rattle.global_law.proofs.Constant.Constants.{AreFunctions, P as program_of}
-use Rattle.claim_law.specs.Claimed.{IsIn}
 use Rattle.claim_law.proofs.Claim.Bodies.{written_are}
-use Rattle.grammar_law.proofs.Unit.Lists.{of_filter, as_in, split_at}
-use Rattle.grammar_law.proofs.Unit.Ways.{planned_as}
+use Rattle.grammar_law.proofs.Unit.Lists.{as_in, split_at}
 use Rattle.text_law.specs.Names.{shape_of}
 use Rattle.text_law.proofs.Naming.Keys.{S, found as names_found, key as key_of, R}
 use Rattle.text_law.specs.Left.{IsLeftOfGlobals}
@@ -58,11 +54,6 @@ use Rattle.text_law.proofs.Outside.Asked.{are_asked}
 functions_of : (ps : List FunctionPlan) → AreFunctions (map function_decl ps)
 functions_of [] = tt
 functions_of (p ∷ ps) = (tt, functions_of ps)
-
-in_functions : (fs : List Function) (f : Function) → IsIn f fs → IsFunctionOf f fs
-in_functions [] f there = absurd there
-in_functions (g ∷ fs) f (inl same) = inl same
-in_functions (g ∷ fs) f (inr there) = inr (in_functions fs f there)
 
 module _ (bytes : List ℕ) (m : ModuleState) (o : Options) (read : IsReadFrom bytes m) (fine : IsFine m o) (unit : TranslationUnit) (u : IsUnitOf m o unit) (inv : Invocation) (told : IsInvocation inv) (left : IsLeftOfGlobals bytes m o) where
   abbrev s : Setting
@@ -107,13 +98,6 @@ module _ (bytes : List ℕ) (m : ModuleState) (o : Options) (read : IsReadFrom b
 
   program_is : P ≡ program_of s o.entry o.overrides found r asked fs are_functions
   program_is = refl
-
-  -- a planned function is one of the module's
-  pub function_of_plan : (p : FunctionPlan) → IsIn p u.plans → IsFunctionOf (written p) m.functions
-  function_of_plan p among =
-      let w = planned_as (IsPlanOf src found) (called u.order m.functions) u.plans p u.planned among in
-      let same : written p ≡ w.0 = ap (λ x. x.setting.function) w.2.scope_is in
-      subst (λ (f : Function). IsFunctionOf f m.functions) (sym same) (in_functions m.functions w.0 (of_filter (is_called u.order) m.functions w.0 w.1).0)
 
   -- what these mention is what functions mention that calls reach
   pub mentions : (n : ℕ) → is_operand_in r.functions n ≡ is_mentioned s n

@@ -12,7 +12,6 @@ use Rattle.spv_ops.specs.declared.Op.{Op}
 use Rattle.spv_ops.specs.declared.Op.TheVariants as code
 use Rattle.spv_module.specs.Held.{global as global_inst}
 use Rattle.spv_module.specs.Lists.{id}
-use Rattle.spv_module.specs.declared.inst.Block.{Block}
 use Rattle.spv_module.specs.State.{ModuleState}
 use Rattle.spv_module.specs.declared.inst.Inst.{Inst}
 use Rattle.spv_module.specs.declared.inst.Function.{Function}
@@ -75,11 +74,11 @@ use Rattle.global_law.specs.Items.{is_item}
 use Rattle.global_law.proofs.Constant.Within.{value_misused}
 use Rattle.global_law.proofs.Constant.Written.{no_pointee}
 use Rattle.claim_law.specs.Claimed.{IsIn}
-use Rattle.claim_law.proofs.Claim.Listed.{in_flat}
 use Rattle.claim_law.proofs.Claim.Named.{Plans}
 use Rattle.claim_law.proofs.Claim.Told.{named_is}
 use Rattle.item_law.proofs.Named.{item_named}
-use Rattle.grammar_law.proofs.Unit.Lists.{as_among, of_numbered_first}
+use Rattle.grammar_law.proofs.Unit.Lists.{in_either, of_filter, of_flat, as_among, of_numbered_first}
+use Rattle.grammar_law.proofs.Meets.LiveOrGone.{of_mapped}
 use Rattle.grammar_law.proofs.Unit.TypesWritten.{top_type_written}
 use Rattle.grammar_law.proofs.Unit.Ways.{planned_as}
 use Rattle.function_law.specs.Tops.{Top, SaysFirst, SaysTop, AllSay}
@@ -89,12 +88,13 @@ use Rattle.grammar_law.proofs.Formed.Pointing.{chain_result}
 use Rattle.text_law.specs.Alone.{AreAlone}
 use Rattle.text_law.specs.Names.{is_outer_global, has_text}
 use Rattle.text_law.proofs.Naming.Alone.{are_alone}
-use Rattle.text_law.proofs.Naming.Keys.{S, found as names_found, key as key_of, R, names as names_in, some_in, hoisted_is}
-use Rattle.text_law.proofs.Naming.Tops.{of_filtered, of_mapped, of_either, of_flat, key_id, no_chain_key, variable_name, hoisted_name, index_name}
+use Rattle.text_law.proofs.Naming.Keys.{S, found as names_found, key as key_of, R, names as names_in, placed, some_in, hoisted_is}
+use Rattle.text_law.proofs.Naming.Tops.{in_function, key_id, no_chain_key, variable_name, hoisted_name, index_name}
 use Rattle.text_law.specs.Left.{IsLeftOfGlobals}
 use Rattle.text_law.proofs.Outside.Asked.{claimed}
-use Rattle.text_law.proofs.Outside.Text.{P as program_in, function_of_plan}
-use Rattle.text_law.proofs.Outside.Locals.{in_module, placed, IsLocalVariable, local_variable}
+use Rattle.text_law.proofs.Naming.Functions.{function_of_plan}
+use Rattle.text_law.proofs.Outside.Text.{P as program_in}
+use Rattle.text_law.proofs.Outside.Locals.{in_module, IsLocalVariable, local_variable}
 use Rattle.text_law.proofs.Outside.Typed.{value_declared}
 use Rattle.text_law.proofs.Outside.Indexed.{IsIntId, index_int}
 use Rattle.text_law.proofs.Outside.Firsts.{variable_declared, firsts}
@@ -188,7 +188,7 @@ module _ (bytes : List ℕ) (m : ModuleState) (o : Options) (read : IsReadFrom b
   in_it = in_module bytes m o read fine unit u inv told left p planned
 
   alone : AreAlone Gs f
-  alone = are_alone s o.entry right f (function_of_plan bytes m o read fine unit u inv told left p planned)
+  alone = are_alone s o.entry right f (function_of_plan bytes m o read fine unit u p planned)
 
   -- where the declarations are written
   planned_is : (g : Function) × IsIn g (called u.order m.functions) × IsPlanOf src found g p
@@ -271,7 +271,7 @@ module _ (bytes : List ℕ) (m : ModuleState) (o : Options) (read : IsReadFrom b
 
         declared : IsDeclared P s src key t
         declared = value_declared bytes m o read fine unit u inv told left p planned i.ty t shape misused
-            (λ j has. top_type_written m o unit u p planned i (placed bytes m o read fine unit u inv told left p planned i there) (hoisted_is (p.scope.form i.result) on) (composite_of Gs i.ty t j shape has))
+            (λ j has. top_type_written m o unit u p planned i (placed m o unit u p i there) (hoisted_is (p.scope.form i.result) on) (composite_of Gs i.ty t j shape has))
 
         shape_is : N.shape i.result ≡ shape_in s (struct_names key) t
         shape_is =
@@ -290,7 +290,7 @@ module _ (bytes : List ℕ) (m : ModuleState) (o : Options) (read : IsReadFrom b
         by_test : (b : Bool) → (is_chain i.op && p.scope.carried i.result) ≡ b → IsIn n (if b then captured_indexes Gs i else []) → IsKept i n
         by_test true on here = record {
           chain = (and_parts (is_chain i.op) (p.scope.carried i.result) on).0;
-          index = of_numbered_first (drop 1 i.args) n.0 n.1 (of_filtered (λ (x : ℕ × ℕ). not (is_constant_index Gs x.1)) (enumerate_from 0 (drop 1 i.args)) n here).0;
+          index = of_numbered_first (drop 1 i.args) n.0 n.1 (of_filter (λ (x : ℕ × ℕ). not (is_constant_index Gs x.1)) (enumerate_from 0 (drop 1 i.args)) n here).0;
         }
         by_test false on here = absurd here
 
@@ -333,27 +333,24 @@ module _ (bytes : List ℕ) (m : ModuleState) (o : Options) (read : IsReadFrom b
 
     -- Where the types of what is declared for its value have shapes, so do all.
     pub tops_say : ((i : Inst) → IsIn i (insts_of f) → is_hoisted (p.scope.form i.result) ≡ true → (t : Tree) × (type_tree Gs i.ty ≡ Some t)) → AllSay P calls N (tops_of p.scope N s f.blocks)
-    tops_say results = all_say P calls N (tops_of p.scope N s f.blocks) (λ t among. elim (of_either t (flat_map (variable_tops p.scope N s) f.blocks) (flat_map (hoisted_tops p.scope N s) f.blocks ++ flat_map (index_tops p.scope N s) f.blocks) among) [
+    tops_say results = all_say P calls N (tops_of p.scope N s f.blocks) (λ t among. elim (in_either t (flat_map (variable_tops p.scope N s) f.blocks) (flat_map (hoisted_tops p.scope N s) f.blocks ++ flat_map (index_tops p.scope N s) f.blocks) among) [
       | inl variable ↦
           let b = of_flat (variable_tops p.scope N s) f.blocks t variable in
           let i = of_mapped (variable_top p.scope N s) (filter is_variable b.0.insts) t b.2 in
-          let w = of_filtered is_variable b.0.insts i.0 i.1 in
-          subst Says i.2 (variable_says i.0 (in_function b.0 i.0 b.1 w.0) w.1)
-      | inr more ↦ elim (of_either t (flat_map (hoisted_tops p.scope N s) f.blocks) (flat_map (index_tops p.scope N s) f.blocks) more) [
+          let w = of_filter is_variable b.0.insts i.0 i.1 in
+          subst Says i.2 (variable_says i.0 (in_function f b.0 i.0 b.1 w.0) w.1)
+      | inr more ↦ elim (in_either t (flat_map (hoisted_tops p.scope N s) f.blocks) (flat_map (index_tops p.scope N s) f.blocks) more) [
         | inl hoisted ↦
             let b = of_flat (hoisted_tops p.scope N s) f.blocks t hoisted in
             let i = of_mapped (hoisted_top p.scope N s) (filter (is_hoisted_in p.scope) b.0.insts) t b.2 in
-            let w = of_filtered (is_hoisted_in p.scope) b.0.insts i.0 i.1 in
-            let there = in_function b.0 i.0 b.1 w.0 in
+            let w = of_filter (is_hoisted_in p.scope) b.0.insts i.0 i.1 in
+            let there = in_function f b.0 i.0 b.1 w.0 in
             let q = results i.0 there w.1 in
             subst Says i.2 (hoisted_says i.0 q.0 there w.1 q.1)
         | inr index ↦
             let b = of_flat (index_tops p.scope N s) f.blocks t index in
             let i = of_flat (λ (j : Inst). map (index_top p.scope N s j) (captured_of p.scope j)) b.0.insts t b.2 in
             let n = of_mapped (index_top p.scope N s i.0) (captured_of p.scope i.0) t i.2 in
-            subst Says n.2 (index_says i.0 n.0 (in_function b.0 i.0 b.1 i.1) n.1)
+            subst Says n.2 (index_says i.0 n.0 (in_function f b.0 i.0 b.1 i.1) n.1)
       ]
     ])
-      where
-        in_function : (b : Block) (i : Inst) → IsIn b f.blocks → IsIn i b.insts → IsIn i (insts_of f)
-        in_function b i block there = in_flat (λ (x : Block). x.insts) f.blocks b i block there

@@ -25,6 +25,7 @@ use Rattle.expr_forward.specs.Scope.{Scope, type_of}
 use Rattle.function_text.specs.Functions.{FunctionPlan}
 use Rattle.unit_rules.specs.Translation.{Naming, text_of}
 use Rattle.unit_rules.specs.Unit.{source_of, IsUnitOf}
+use Rattle.list_law.proofs.Options.{no_some}
 use Rattle.plan_law.proofs.Order.{found}
 use Rattle.typed_law.specs.Conforms.{IsConforming}
 use Rattle.typed_law.proofs.Lists.{clash}
@@ -41,9 +42,6 @@ use Rattle.grammar_law.proofs.Grammar.Listed.{of_mapped}
 use Rattle.text_law.specs.Walks.{is_in}
 use Rattle.text_law.specs.Shape.{is_pointer, memory_ids, names_in}
 use Rattle.text_law.proofs.Shape.Named.{id_unseen}
-
-none_some : {A : Type 0} (x : A) → None ≡ Some x → ⊥
-none_some x e = cc
 
 module _ (s : Setting) (entry : Option (List ℕ)) (right : IsConforming s.of entry) (kinds : HaveKinds s.of.globals) (o : Options) (unit : TranslationUnit) (u : IsUnitOf s.of o unit) (p : FunctionPlan) (among : IsIn p u.plans) where
   abbrev Gs : List Inst
@@ -130,10 +128,10 @@ module _ (s : Setting) (entry : Option (List ℕ)) (right : IsConforming s.of en
   result_apart : (i : Inst) → IsIn i (insts_of Fn) → (i.result ≡ 0 → ⊥) → is i.op code.Variable ≡ false → IsMemory i.result → ⊥
   result_apart i i_in some other (outside g g_in on same) =
       let alone = ((inside s entry right Fn in_it).order.own i (as_among (insts_of Fn) i i_in) some).inside in
-      none_some g (sym alone ∙ (ap (global Gs) (sym same) ∙ global_found s.of entry right g (as_among Gs g g_in)))
+      no_some g (sym alone ∙ (ap (global Gs) (sym same) ∙ global_found s.of entry right g (as_among Gs g g_in)))
   result_apart i i_in some other (lent q q_in on same) =
       let alone = ((inside s entry right Fn in_it).order.own i (as_among (insts_of Fn) i i_in) some).made in
-      none_some q.1.0 (sym alone ∙ (ap (parameter_in Fn) (sym same) ∙ (inside s entry right Fn in_it).found q (as_parameter q Fn.params q_in)))
+      no_some q.1.0 (sym alone ∙ (ap (parameter_in Fn) (sym same) ∙ (inside s entry right Fn in_it).found q (as_parameter q Fn.params q_in)))
   result_apart i i_in some other (own j j_in on same) =
       let apart = (inside s entry right Fn in_it).order.apart in
       let first : inst_in Fn i.result ≡ Some i = found i (insts_of Fn) apart (as_among (insts_of Fn) i i_in) some in
@@ -147,11 +145,11 @@ module _ (s : Setting) (entry : Option (List ℕ)) (right : IsConforming s.of en
       let one : h ≡ g = same_Some h g (sym (global_found s.of entry right h (as_among Gs h h_in)) ∙ (ap (global Gs) same ∙ global_found s.of entry right g (as_among Gs g g_in))) in
       clash (sym on ∙ (ap (λ (x : Inst). is x.op code.Variable) one ∙ other))
   global_apart g g_in other (lent q q_in on same) =
-      none_some g (sym ((inside s entry right Fn in_it).outside q (as_parameter q Fn.params q_in)) ∙ (ap (global Gs) same ∙ global_found s.of entry right g (as_among Gs g g_in)))
+      no_some g (sym ((inside s entry right Fn in_it).outside q (as_parameter q Fn.params q_in)) ∙ (ap (global Gs) same ∙ global_found s.of entry right g (as_among Gs g g_in)))
   global_apart g g_in other (own j j_in on same) =
       let there = as_among (insts_of Fn) j j_in in
       let some = ((inside s entry right Fn in_it).formed j there).result (typed_result j.op (variable_typed j.op on)) in
-      none_some g (sym ((inside s entry right Fn in_it).order.own j there some).inside ∙ (ap (global Gs) same ∙ global_found s.of entry right g (as_among Gs g g_in)))
+      no_some g (sym ((inside s entry right Fn in_it).order.own j there some).inside ∙ (ap (global Gs) same ∙ global_found s.of entry right g (as_among Gs g g_in)))
 
   pub variable_apart : (g : Inst) → IsIn g s.of.globals → is g.op code.Variable ≡ true → (n : ℕ) → g.result ≡ n → (t : Tree) → type_tree s.of.globals (type_of Where n) ≡ Some t → ⊥
   variable_apart g g_in on n same t shaped = shaped_apart n t shaped (outside g g_in on same)

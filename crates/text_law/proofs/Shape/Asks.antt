@@ -21,6 +21,7 @@ use Rattle.spv_module.specs.declared.inst.Function.{Function}
 use Rattle.spv_index.specs.Locals.{insts_of}
 use Rattle.spv_index.specs.Pointers.{pointee_of}
 use Rattle.conformance.specs.Rules.{Options}
+use Rattle.list_law.proofs.Options.{some_of}
 use Rattle.plan_law.specs.InOrder.{IsAmong}
 use Rattle.module_semantics.specs.Setting.{Setting}
 use Rattle.access_paths.specs.Ways.{indexes, is_constant_index, captured_indexes}
@@ -64,6 +65,7 @@ use Rattle.text_law.specs.Walks.{Outer, is_in}
 use Rattle.text_law.specs.Shape.{outer_of}
 use Rattle.text_law.specs.Unseen.{unseen, IsPath}
 use Rattle.text_law.specs.Asked.{HasVariable, AreArguments, AsksSeen, AllAskSeen}
+use Rattle.text_law.proofs.Steps.Atomics.{atomic_group}
 use Rattle.text_law.proofs.Shape.Apart.{result_unseen}
 use Rattle.text_law.proofs.Shape.Barriers.{control_read, memory_read}
 use Rattle.text_law.proofs.Shape.Traced.{IsPointer}
@@ -97,11 +99,6 @@ unfolding kind_of group_of
 chain_op code.AccessChain on = refl
 chain_op o on = cc
 
-atomic_group : (o : Op) (a : AtomicOp) → kind_of o ≡ kind.Atomic a → group_of o ≡ groups.Atomic a
-unfolding kind_of group_of
-atomic_group code.AtomicStore a on = cc
-atomic_group o a on = cc
-
 atomic_always : (o : Op) (a : AtomicOp) → group_of o ≡ groups.Atomic a → is_always_named o ≡ true
 unfolding group_of
 atomic_always code.AtomicStore a on = refl
@@ -126,10 +123,6 @@ loud o q on off = by_pure (is_pure o) refl
     by_pure : (b : Bool) → is_pure o ≡ b → b ≡ false
     by_pure false e = refl
     by_pure true e = clash (sym (pure_quiet o e) ∙ (ap is_quiet on ∙ off))
-
-some_pointee : (q : Option ℕ) → is_some q ≡ true → (x : ℕ) × (q ≡ Some x)
-some_pointee None on = cc
-some_pointee (Some x) on = (x, refl)
 
 -- literals are the same by whatever names
 word_same : (A B : Words) (w : Scope) (pointer n : ℕ) → UsesExpr A (word_by w pointer n) → UsesExpr B (word_by w pointer n)
@@ -184,7 +177,7 @@ module _ (s : Setting) (entry : Option (List ℕ)) (right : IsConforming s.of en
     arguments (n ∷ ns) asks = (by_pointee (is_some (pointee_of Gs Fn n)) refl asks.0, arguments ns asks.1)
       where
         by_pointee : (t : Bool) → is_some (pointee_of Gs Fn n) ≡ t → elim t as (λ t. Type 0) [ true ↦ UsesLValue W (place_text Where.setting b n) | false ↦ Usable n ] → elim t as (λ t. Type 0) [ true ↦ IsPath Out (place_text Where.setting b n) | false ↦ UsesExpr X (value Where b n) ]
-        by_pointee true points uses = place n (some_pointee (pointee_of Gs Fn n) points) uses
+        by_pointee true points uses = place n (some_of (pointee_of Gs Fn n) points) uses
         by_pointee false none usable = says n usable
 
     word : (pointer n : ℕ) → UsesExpr W (word_by Where pointer n) → UsesExpr X (word_by Where pointer n)

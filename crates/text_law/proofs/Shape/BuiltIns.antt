@@ -26,10 +26,10 @@ use Rattle.text_law.specs.Deeds.{calls}
 use Rattle.text_law.specs.Shape.{outer_of}
 
 -- a word, or what begins with a prefix, that GLSL reserves
-abbrev is_barred : Text → Bool
+abbrev pub is_barred : Text → Bool
 is_barred x = is_word x || has_prefix x
 
-built_barred : (f : BuiltIn) → is_barred (built_in_name f) ≡ true
+pub built_barred : (f : BuiltIn) → is_barred (built_in_name f) ≡ true
 unfolding built_in_name is_word has_prefix
 built_barred Min = refl
 built_barred f = refl
@@ -39,7 +39,7 @@ unfolding built_in_name
 built_apart Min = refl
 built_apart f = refl
 
-built_other : (f : BuiltIn) → bytes_eq (built_in_name f) (codes "main") ≡ false
+pub built_other : (f : BuiltIn) → bytes_eq (built_in_name f) (codes "main") ≡ false
 unfolding built_in_name
 built_other Min = refl
 built_other f = refl

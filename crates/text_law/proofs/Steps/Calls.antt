@@ -3,6 +3,7 @@ use Rattle.std.proofs.Common.{◌≡◌, ◌⊎◌, ◌==◌, ◌≤◌, ◌<◌
 use Rattle.std.specs.Prelude.{option_and_then, slice_get, slice_index}
 use Rattle.std.specs.Option.{option_map_or}
 use Rattle.std.specs.List.{list_any, zip}
+use Rattle.std.proofs.lemmas.Bool.{not-true}
 use Rattle.std.proofs.lemmas.Bool.Decides.{eqb_tells}
 use Rattle.std.proofs.lemmas.Option.{same_Some}
 use Rattle.spv_ops.specs.Opcode.{is, number}
@@ -134,11 +135,9 @@ call_code o e = cc
 
 -- a type of values is not void
 no_void : (gs : List Inst) (ty : ℕ) → is_value gs ty ≡ true → is_void_in gs ty ≡ false
-no_void gs ty on = by_tests (is_void_in gs ty) (option_map_or (λ (g : Inst). is g.op code.TypePointer) (global gs ty) false) on
-  where
-    by_tests : (a b : Bool) → not (a || b) ≡ true → a ≡ false
-    by_tests false b on = refl
-    by_tests true b on = cc
+no_void gs ty on =
+    let points = option_map_or (λ (g : Inst). is g.op code.TypePointer) (global gs ty) false in
+    or_left (is_void_in gs ty) points (not-true (is_void_in gs ty || points) on)
 
 module _ (bytes : List ℕ) (m : ModuleState) (o : Options) (read : IsReadFrom bytes m) (fine : IsAccepted m o) (unit : TranslationUnit) (u : IsUnitOf m o unit) (inv : Invocation) (told : IsInvocation inv) (left : IsLeftOfGlobals bytes m o)
     (right : IsConforming m o.entry) (kinds : HaveKinds m.globals) (p : FunctionPlan) (among : IsIn p u.plans) where

@@ -72,6 +72,7 @@ use Rattle.text_law.specs.Left.{IsLeftOfGlobals}
 use Rattle.text_law.proofs.Outside.Indexed.{IsIntId, index_int}
 use Rattle.text_law.proofs.Outside.Starts.{no_module}
 use Rattle.text_law.proofs.Written.NamesOf.{names_are}
+use Rattle.text_law.proofs.Written.Outside.{none_where}
 use Rattle.text_law.proofs.Written.Says.{IsReady, variable_there}
 use Rattle.text_law.proofs.Written.Shapes.{shape_of_type}
 use Rattle.text_law.proofs.Insts.Indexes.{at_end}
@@ -148,7 +149,7 @@ module _ (bytes : List ℕ) (m : ModuleState) (o : Options) (read : IsReadFrom b
 
   -- what has a shape and is no constant is nothing of the module
   not_of_module : (n ty : ℕ) (t : Tree) → type_in gs Fn n ≡ Some ty → type_tree gs ty ≡ Some t → is_constant_index gs n ≡ false → global gs n ≡ None
-  not_of_module n ty t typed_as shaped off = by_global (global gs n) refl
+  not_of_module n ty t typed_as shaped off = none_where (global gs n) (λ g at. by_typed g at (typed g) refl (ap (λ (h : Option Inst). option_or (option_and_then typed h) (local_type Fn n)) at))
     where
       by_typed : (g : Inst) → global gs n ≡ Some g → (x : Option ℕ) → typed g ≡ x → type_in gs Fn n ≡ option_or x (local_type Fn n) → ⊥
       by_typed g at None typed_is type_is = no_some g (sym (local_outside s o.entry right kinds o unit u p among n ty (sym type_is ∙ typed_as)) ∙ at)
@@ -168,10 +169,6 @@ module _ (bytes : List ℕ) (m : ModuleState) (o : Options) (read : IsReadFrom b
           by_kind (inr variable) =
               let row = global_row s o.entry right g (as_among gs g there.0) own.1 in
               pointer_none gs row.0 t (variable_type_is g.op row.0 variable row.2) (ap (λ x. option_map_or (tree_at gs) x None) (sym row.1) ∙ shape_is)
-
-      by_global : (x : Option Inst) → global gs n ≡ x → x ≡ None
-      by_global None at = refl
-      by_global (Some g) at = absurd (by_typed g at (typed g) refl (ap (λ (h : Option Inst). option_or (option_and_then typed h) (local_type Fn n)) at))
 
   -- an index of a chain of the function
   module _ (q : Inst) (q_in : IsIn q (insts_of Fn)) (on : is_chain q.op ≡ true) (k n : ℕ) (at : slice_get (drop 1 q.args) k ≡ Some n) where

@@ -32,7 +32,7 @@ use Rattle.profile_rules.specs.Variables.{classes, is_other_class, is_misclassed
 use Rattle.traces.specs.Runs.{Supplied}
 use Rattle.traces.specs.Outcomes.{Result}
 use Rattle.module_semantics.specs.Setting.{Setting, global_variable}
-use Rattle.module_semantics.specs.State.{Root, global as of_global, own, Held, value, pointer, Conf}
+use Rattle.module_semantics.specs.State.{Root, global as of_global, Held, value, pointer, Conf}
 use Rattle.module_semantics.specs.Operands.{of_module, as_pointer, pointer_at, Target, arg}
 use Rattle.module_semantics.specs.Steps.{base}
 use Rattle.name_alloc.specs.declared.claims.Key.{Key}
@@ -41,6 +41,7 @@ use Rattle.glsl_semantics.specs.Shapes.{Typed}
 use Rattle.glsl_semantics.specs.States.{State}
 use Rattle.glsl_semantics.specs.Expressions.{Program, Argument}
 use Rattle.list_law.proofs.Lists.{none_within, empty_of}
+use Rattle.list_law.proofs.Options.{none_some}
 use Rattle.type_law.specs.Shaped.{AreConstants, HasConstants}
 use Rattle.type_law.proofs.Chains.{chain_pointer, HaveTypes}
 use Rattle.type_law.proofs.Parts.{row}
@@ -67,9 +68,6 @@ use Rattle.typed_law.proofs.Lists.{or_left, or_right, and_off, clash, none_by, n
 use Rattle.typed_law.proofs.Values.{same_count, typed_is, global_typed_some}
 use Rattle.grammar_law.proofs.Unit.Shaped.{pointer_none}
 use Rattle.grammar_law.proofs.Meets.ArrayLengths.{variable_typed}
-
-no_some : {A : Type 0} {a : A} → None ≡ Some a → ⊥
-no_some e = cc
 
 -- the class of a pointer type that has one, where no other is allowed
 class_so : (x : Option Inst) (q n : ℕ) → option_map (λ (g : Inst). word g 1) x ≡ Some q → option_map_or (λ (c : ℕ). not (c == n)) (option_map (λ (g : Inst). word g 0) x) false ≡ false → option_map (λ (g : Inst). word g 0) x ≡ Some n
@@ -186,7 +184,7 @@ module _ (s : Setting) (entry : Option (List ℕ)) (right : IsConforming s.of en
     base_leads q local led r at is = by_own (c.at.top.ids q.result) led is
       where
         by_own : (o : Option Held) → IfPointer o (IsLed s c.at.top q) → as_pointer (elim o as (λ o. Option Held) [ Some h ↦ Some h | None ↦ of_module s q.result ]) ≡ Some (r, at) → Leads (base q) r × ((ty : ℕ) × (pointee_of Gs c.at.top.function (base q) ≡ Some ty))
-        by_own None led e = absurd (no_some (sym (ap as_pointer local) ∙ e))
+        by_own None led e = none_some (sym (ap as_pointer local) ∙ e)
         by_own (Some (value v)) led e = cc
         by_own (Some (pointer y way)) led e = ((led.from, led.base_is ∙ ap (λ (x : Root). Some (x, led.from)) (same_root y r way at e)), (led.type, led.points_to))
 

@@ -32,51 +32,14 @@ use Rattle.claim_law.specs.Claimed.{IsIn}
 use Rattle.grammar_law.proofs.Unit.Ways.{planned_as}
 use Rattle.grammar_law.proofs.Grammar.UnitMade.{in_plans}
 use Rattle.text_law.proofs.Naming.Keys.{S, found as names_found, R}
+use Rattle.text_law.proofs.Shape.BuiltIns.{built_barred, built_other}
 use Rattle.text_law.specs.Left.{IsLeftOfGlobals}
 use Rattle.text_law.proofs.Outside.Text.{fs as function_items, are_functions, asked as asked_of, P as program_in}
-
--- they are reserved
-built_reserved : (f : BuiltIn) → (is_word (built_in_name f) || has_prefix (built_in_name f)) ≡ true
-unfolding is_word has_prefix built_in_name
-built_reserved built_in.Min = refl
-built_reserved built_in.Max = refl
-built_reserved built_in.Sign = refl
-built_reserved built_in.BitCount = refl
-built_reserved built_in.FindLsb = refl
-built_reserved built_in.FindMsb = refl
-built_reserved built_in.BitfieldInsert = refl
-built_reserved built_in.BitfieldExtract = refl
-built_reserved built_in.BitfieldReverse = refl
-built_reserved built_in.Any = refl
-built_reserved built_in.All = refl
-
-main_other : (f : BuiltIn) → bytes_eq (built_in_name f) (codes "main") ≡ false
-unfolding built_in_name
-main_other built_in.Min = refl
-main_other built_in.Max = refl
-main_other built_in.Sign = refl
-main_other built_in.BitCount = refl
-main_other built_in.FindLsb = refl
-main_other built_in.FindMsb = refl
-main_other built_in.BitfieldInsert = refl
-main_other built_in.BitfieldExtract = refl
-main_other built_in.BitfieldReverse = refl
-main_other built_in.Any = refl
-main_other built_in.All = refl
 
 none_other : (f : BuiltIn) → bytes_eq (built_in_name f) [] ≡ false
 unfolding built_in_name
 none_other built_in.Min = refl
-none_other built_in.Max = refl
-none_other built_in.Sign = refl
-none_other built_in.BitCount = refl
-none_other built_in.FindLsb = refl
-none_other built_in.FindMsb = refl
-none_other built_in.BitfieldInsert = refl
-none_other built_in.BitfieldExtract = refl
-none_other built_in.BitfieldReverse = refl
-none_other built_in.Any = refl
-none_other built_in.All = refl
+none_other f = refl
 
 -- a name that no function of a text has: it is reserved, and is neither that of the entry point nor none at all
 pub record IsReserved (v : Text) : Type 0 where
@@ -151,4 +114,4 @@ module _ (bytes : List ℕ) (m : ModuleState) (o : Options) (read : IsReadFrom b
 
   -- so none is called as a built-in function
   pub none_declared : NoneDeclared (program_in bytes m o read fine unit u inv told left)
-  none_declared f = no_function (built_in_name f) (record { reserved = built_reserved f; no_main = main_other f; no_none = none_other f })
+  none_declared f = no_function (built_in_name f) (record { reserved = built_barred f; no_main = built_other f; no_none = none_other f })

@@ -1,7 +1,6 @@
 -- What the law of edges leaves of an edge that is taken, of an accepted module: the types of phis are declared in the text, constants say their values, and pairs are few.
-use Rattle.std.proofs.Common.{length, ◌≡◌, ◌<◌, ◌^◌, ℕ, true, false, List, [], map, Contains, Option, Some, unwrap_or, refl, sym, ap, ◌∙◌, subst}
+use Rattle.std.proofs.Common.{◌≡◌, ℕ, true, false, List, [], map, Contains, Option, Some, unwrap_or, refl, sym, ap, ◌∙◌, subst}
 use Rattle.std.specs.Prelude.{slice_get, slice_index_or}
-use Rattle.std.proofs.lemmas.List.Elements.{All-contains}
 use Rattle.spv_ops.specs.Opcode.{is, number}
 use Rattle.spv_ops.specs.declared.Op.{Op}
 use Rattle.spv_ops.specs.declared.Op.TheVariants as code
@@ -30,7 +29,7 @@ use Rattle.glsl_semantics.specs.Shapes.{Typed, typed}
 use Rattle.glsl_semantics.specs.States.{State}
 use Rattle.glsl_semantics.specs.Expressions.{Program, Argument, evaluate}
 use Rattle.expr_forward.specs.Scope.{Scope}
-use Rattle.function_plan.specs.Phis.{is_gone, pairs}
+use Rattle.function_plan.specs.Phis.{is_gone}
 use Rattle.function_plan.specs.Planned.{is_reached_node}
 use Rattle.function_text.specs.Functions.{FunctionPlan, written, constant_text, name_expr}
 use Rattle.unit_rules.specs.Unit.{source_of, claims_by, liveness_of, IsUnitOf}
@@ -42,16 +41,15 @@ use Rattle.call_law.specs.Known.{IsFunctionOf, LendsWhole}
 use Rattle.typed_law.specs.Conforms.{IsConforming}
 use Rattle.typed_law.proofs.Values.{among_functions}
 use Rattle.global_law.proofs.Constant.Within.{value_misused}
-use Rattle.accepted_law.proofs.Small.{args_in, read_operands}
 use Rattle.claim_law.specs.Apart.{AreOfKeys}
 use Rattle.claim_law.specs.Claimed.{IsIn, IsOf}
 use Rattle.claim_law.proofs.Claim.Listed.{in_flat, at_place}
 use Rattle.grammar_law.proofs.Unit.Lists.{as_among}
 use Rattle.grammar_law.proofs.Unit.TypesWritten.{live_type_written}
 use Rattle.grammar_law.proofs.Unit.Ways.{HaveKinds, F, R, V, plan_is, written_is, in_module, reached_nth}
-use Rattle.grammar_law.proofs.Grammar.FewPairs.{few_pairs}
 use Rattle.grammar_law.specs.Formed.{IsFormedFunction}
 use Rattle.text_law.proofs.Naming.Keys.{S, names}
+use Rattle.text_law.proofs.Whole.Accepted.{few_pairs_so}
 use Rattle.text_law.specs.Left.{IsLeftOfGlobals}
 use Rattle.text_law.proofs.Outside.Constants.{IsMentioned, constant_says}
 use Rattle.text_law.proofs.Outside.Text.{P as program_in}
@@ -91,10 +89,6 @@ module _ (bytes : List ℕ) (m : ModuleState) (o : Options) (read : IsReadFrom b
       ap (λ (x : Scope). evaluate P calls (constant_text x n) z) (plan_is s o.entry right kinds o unit u p among).scope_is
       ∙ (ap (λ (q : Option Expr). evaluate P calls (unwrap_or q (name_expr Where n)) z) w.1 ∙ w.2)
 
-  few : (b t : ℕ) → length (pairs m.globals p.scope.form (written p) b t) < 2 ^ 32
-  few = subst (λ (f : Function). (b t : ℕ) → length (pairs m.globals p.scope.form f b t) < 2 ^ 32) (sym (written_is s o.entry right kinds o unit u p among))
-      (few_pairs m.globals p.scope.form Fn (All-contains (λ (f : Function). args_in (insts_of f) < 2 ^ 32) m.functions Fn (read_operands bytes m read) in_it))
-
   module _ (lives : (c place : ℕ) (i : Inst) → inst_at Fn c place ≡ Some i → is_gone (Where.form i.result) ≡ false → IsLive Fn (R s o.entry right kinds o unit u p among) c place) where
     declared : (t : ℕ) → AreDeclaredAt m o right kinds unit u inv p among lives P t
     declared t holder held reached i within phi kept v shape =
@@ -112,4 +106,4 @@ module _ (bytes : List ℕ) (m : ModuleState) (o : Options) (read : IsReadFrom b
         (Holds : Conf → Type 0) (fits : (c : Conf) → Holds c → ConfFits s c) where
       -- the law
       pub edge_left : (b t : ℕ) → IsLeftOfEdge m o right kinds unit u inv p among lives lends one keys form places shaped P calls k apart chains Holds fits b t
-      edge_left b t = record { declared = declared t; constants = constant_text_says calls; few = few b t }
+      edge_left b t = record { declared = declared t; constants = constant_text_says calls; few = few_pairs_so bytes m o read fine unit u inv p among b t }

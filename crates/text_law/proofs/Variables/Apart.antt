@@ -15,15 +15,16 @@ use Rattle.name_alloc.specs.declared.claims.Key.TheVariants.{Main, Id, Block as 
 use Rattle.name_alloc.specs.Law.{AreNames}
 use Rattle.name_alloc.specs.Naming.{space_of}
 use Rattle.glsl_ast.specs.Tree.{Text}
-use Rattle.plan_law.specs.InOrder.{HaveNot, AreApart}
+use Rattle.plan_law.specs.InOrder.{AreApart}
 use Rattle.region_law.specs.Leads.{In, AreApart as AreApartNumbers}
 use Rattle.region_law.proofs.Flags.{same_text}
 use Rattle.unit_rules.specs.Translation.{Naming, text_of}
 use Rattle.claim_law.specs.Claimed.{IsIn, HasName}
 use Rattle.claim_law.proofs.Claim.Listed.{in_left, in_right}
 use Rattle.claim_law.proofs.Claim.Told.{named_is}
-use Rattle.text_law.proofs.Naming.Tops.{of_filtered, of_mapped, of_either, of_flat}
-use Rattle.text_law.proofs.Naming.Once.{have_not, one_inst, number_from}
+use Rattle.grammar_law.proofs.Unit.Lists.{in_either, of_filter, of_flat}
+use Rattle.grammar_law.proofs.Meets.LiveOrGone.{of_mapped}
+use Rattle.text_law.proofs.Naming.Once.{have_not, one_inst, apart_left, apart_right, number_from}
 use Rattle.text_law.specs.Declarations.{occurs}
 use Rattle.text_law.specs.Variables.{of_result, is_local_here, locals_of, index_key, kept_of, flag_key}
 use Rattle.text_law.proofs.Variables.Named.{AllKeys, as_in}
@@ -34,7 +35,7 @@ KeysApart (k ∷ ks) = (IsIn k ks → ⊥) × KeysApart ks
 
 pub keys_joined : (a b : List Key) → KeysApart a → KeysApart b → ((k : Key) → IsIn k a → IsIn k b → ⊥) → KeysApart (a ++ b)
 keys_joined [] b x y far = y
-keys_joined (k ∷ a) b x y far = ((λ there. elim (of_either k a b there) [ inl l ↦ x.0 l | inr r ↦ far k (inl refl) r ]), keys_joined a b x.1 y (λ j l r. far j (inr l) r))
+keys_joined (k ∷ a) b x y far = ((λ there. elim (in_either k a b there) [ inl l ↦ x.0 l | inr r ↦ far k (inl refl) r ]), keys_joined a b x.1 y (λ j l r. far j (inr l) r))
 
 -- the kind of a key
 abbrev pub class : Key → ℕ
@@ -111,7 +112,7 @@ ids_apart test (i ∷ is) apart some = by_test (test i) refl (ids_apart test is 
     by_test true on rest = (
       (λ there.
           let j = of_mapped of_result (filter test is) (of_result i) there in
-          have_not i.result is j.0 (apart.0 (some i (inl refl) on)) (of_filtered test is j.0 j.1).0 (ap number_of j.2)),
+          have_not i.result is j.0 (apart.0 (some i (inl refl) on)) (of_filter test is j.0 j.1).0 (ap number_of j.2)),
       rest,
     )
 
@@ -128,18 +129,6 @@ apart_split (x ∷ xs) ys i j apart (inl a) b same some =
     have_not x.result (xs ++ ys) j (apart.0 (λ z. some (sym one ∙ z))) (in_right j xs ys b) (same ∙ sym one)
 apart_split (x ∷ xs) ys i j apart (inr a) b same some = apart_split xs ys i j apart.1 a b same some
 
-have_left : (n : ℕ) (xs ys : List Inst) → HaveNot n (xs ++ ys) → HaveNot n xs
-have_left n [] ys h = tt
-have_left n (x ∷ xs) ys h = (h.0, have_left n xs ys h.1)
-
-apart_left : (xs ys : List Inst) → AreApart (xs ++ ys) → AreApart xs
-apart_left [] ys a = tt
-apart_left (x ∷ xs) ys a = ((λ some. have_left x.result xs ys (a.0 some)), apart_left xs ys a.1)
-
-apart_right : (xs ys : List Inst) → AreApart (xs ++ ys) → AreApart ys
-apart_right [] ys a = a
-apart_right (x ∷ xs) ys a = apart_right xs ys a.1
-
 module _ (gs : List Inst) (f : Function) (form : ℕ → Form) (carried : ℕ → Bool) where
   abbrev here : Inst → Bool
   here = is_local_here gs f form carried
@@ -150,14 +139,14 @@ module _ (gs : List Inst) (f : Function) (form : ℕ → Form) (carried : ℕ �
   -- a local result is that of an instruction
   pub local_of : (bs : List Block) (from : ℕ) (k : Key) → IsIn k (flat_map (locals_of gs f form carried) (enumerate_from from bs)) → (i : Inst) × IsIn i (whole bs) × (here i ≡ true) × (of_result i ≡ k)
   local_of [] from k there = absurd there
-  local_of (b ∷ bs) from k there = elim (of_either k (locals_of gs f form carried (from, b)) (flat_map (locals_of gs f form carried) (enumerate_from (from + 1) bs)) there) [
+  local_of (b ∷ bs) from k there = elim (in_either k (locals_of gs f form carried (from, b)) (flat_map (locals_of gs f form carried) (enumerate_from (from + 1) bs)) there) [
     | inl l ↦ by_reached (nth (graph f) from).reached l
     | inr r ↦ let w = local_of bs (from + 1) k r in (w.0, in_right w.0 b.insts (whole bs) w.1, w.2, w.3)
   ]
     where
       by_reached : (q : Bool) → IsIn k (if q then map of_result (filter here b.insts) else []) → (i : Inst) × IsIn i (whole (b ∷ bs)) × (here i ≡ true) × (of_result i ≡ k)
       by_reached false none = absurd none
-      by_reached true l = let j = of_mapped of_result (filter here b.insts) k l in let w = of_filtered here b.insts j.0 j.1 in (j.0, in_left j.0 b.insts (whole bs) w.0, w.1, j.2)
+      by_reached true l = let j = of_mapped of_result (filter here b.insts) k l in let w = of_filter here b.insts j.0 j.1 in (j.0, in_left j.0 b.insts (whole bs) w.0, w.1, j.2)
 
   pub locals_apart : (bs : List Block) (from : ℕ) → AreApart (whole bs) → ((i : Inst) → here i ≡ true → i.result ≡ 0 → ⊥) → KeysApart (flat_map (locals_of gs f form carried) (enumerate_from from bs))
   locals_apart [] from apart some = tt
@@ -173,7 +162,7 @@ module _ (gs : List Inst) (f : Function) (form : ℕ → Form) (carried : ℕ �
       far false k none w = none
       far true k l w =
           let j = of_mapped of_result (filter here b.insts) k l in
-          let own = of_filtered here b.insts j.0 j.1 in
+          let own = of_filter here b.insts j.0 j.1 in
           apart_split b.insts (whole bs) j.0 w.0 apart own.0 w.1 (ap number_of (w.3 ∙ sym j.2)) (some j.0 own.1)
 
   -- flags
@@ -186,7 +175,7 @@ module _ (gs : List Inst) (f : Function) (form : ℕ → Form) (carried : ℕ �
       by_test true rest = (
         (λ there.
             let u = of_mapped (flag_key gs f form carried key) (filter needs ts) (flag_key gs f form carried key t) there in
-            let u_in = as_in ts u.0 (of_filtered needs ts u.0 u.1).0 in
+            let u_in = as_in ts u.0 (of_filter needs ts u.0 u.1).0 in
             apart.0 (subst (λ (n : ℕ). In n ts) (own u.0 t (inr u_in) (inl refl) u.2) u_in)),
         rest,
       )
@@ -201,7 +190,7 @@ module _ (gs : List Inst) (f : Function) (form : ℕ → Form) (carried : ℕ �
       by_test true rest = (
         (λ there.
             let n = of_mapped (index_key gs f form carried i) (filter test (enumerate_from (from + 1) xs)) (index_key gs f form carried i (from, x)) there in
-            let later = number_from xs (from + 1) n.0 (of_filtered test (enumerate_from (from + 1) xs) n.0 n.1).0 in
+            let later = number_from xs (from + 1) n.0 (of_filter test (enumerate_from (from + 1) xs) n.0 n.1).0 in
             let same : n.0.0 ≡ from = ap index_of n.2 in
             absurd (omega (arith, later, same))),
         rest,

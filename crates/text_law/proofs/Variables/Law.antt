@@ -1,10 +1,9 @@
 -- The functions of a text of an accepted module declare the variables of the module's functions.
-use Rattle.std.proofs.Common.{◌≡◌, ◌<◌, ◌≤◌, ◌^◌, ℕ, true, false, List, [], ◌∷◌, ◌++◌, length, map, Option, Some, None, inl, inr, refl, sym, ap, subst}
+use Rattle.std.proofs.Common.{◌≡◌, ◌<◌, ◌≤◌, ℕ, true, false, List, [], ◌∷◌, ◌++◌, length, map, Option, Some, None, inl, inr, refl, sym, ap, subst}
 use Rattle.std.specs.Prelude.{flat_map, find}
 use Rattle.std.specs.Option.{option_to_list}
 use Rattle.std.proofs.lemmas.List.Elements.{All-contains}
 use Rattle.spv_ops.specs.OpGroups.{group_of}
-use Rattle.spv_ops.specs.declared.Op.TheVariants as code
 use Rattle.spv_module.specs.Inst.{has_type}
 use Rattle.spv_module.specs.State.{ModuleState}
 use Rattle.spv_module.specs.declared.inst.Id.{Id as IdOf}
@@ -29,16 +28,11 @@ use Rattle.unit_rules.specs.Translation.{Naming, scope_of, IsPlanOf}
 use Rattle.unit_rules.specs.Unit.{source_of, called, is_called, in_order, has_id, IsUnitOf}
 use Rattle.grammar_law.proofs.Height.Closed.{sound-of}
 use Rattle.plan_law.specs.InOrder.{IsAmong}
-use Rattle.grammar_law.specs.Formed.{IsFormedFunction}
-use Rattle.agree_law.specs.Blocks.{IsOf}
-use Rattle.spv_words.specs.Words.{words}
 use Rattle.accepted_law.proofs.Accepted.{accepted_conforming}
-use Rattle.typed_law.proofs.Values.{inside}
-use Rattle.typed_law.specs.Conforms.{IsConforming, IsFormed}
-use Rattle.grammar_law.proofs.Ruled.Ruled.{contains_of, among_of}
+use Rattle.typed_law.specs.Conforms.{IsConforming}
+use Rattle.grammar_law.proofs.Ruled.Ruled.{contains_of}
 use Rattle.call_law.specs.Known.{IsFunctionOf}
 use Rattle.claim_law.specs.Claimed.{IsIn, HasName}
-use Rattle.grammar_law.proofs.Formed.Formed.{formed}
 use Rattle.grammar_law.proofs.Formed.Inner.{accepted_inner}
 use Rattle.grammar_law.proofs.Formed.Labelled.{accepted_labels}
 use Rattle.grammar_law.proofs.Unit.Ways.{HaveKinds, planned, F, written_is}
@@ -54,6 +48,7 @@ use Rattle.text_law.proofs.Naming.Unit.{found_plan}
 use Rattle.text_law.proofs.Naming.Planned.{same_block, leave_inside, flags_apart}
 use Rattle.text_law.proofs.Naming.Functions.{planned_of, function_of_plan}
 use Rattle.text_law.proofs.Naming.Tree.{tree_written}
+use Rattle.text_law.proofs.Whole.Accepted.{formed_so, few_so, few_pairs_so}
 use Rattle.claim_law.specs.Bodies.{function_in, functions_in}
 use Rattle.claim_law.proofs.Claim.Bodies.{bodies_are}
 use Rattle.text_law.specs.Declarations.{valued, unset, occurs, AreSame}
@@ -66,9 +61,6 @@ use Rattle.text_law.proofs.Variables.Few.{few_spares}
 use Rattle.text_law.proofs.Variables.Named.{are_spares, all_named}
 use Rattle.text_law.proofs.Variables.Spared.{spares_named}
 use Rattle.text_law.proofs.Variables.OnceAll.{declared_once}
-use Rattle.function_plan.specs.Phis.{pairs}
-use Rattle.accepted_law.proofs.Small.{args_in, read_operands}
-use Rattle.grammar_law.proofs.Grammar.FewPairs.{few_pairs}
 
 abbrev function_of : FunctionPlan → Text × Stmts
 function_of p = (function_name p.scope, stmts_in (body_text p))
@@ -98,12 +90,6 @@ module _ (bytes : List ℕ) (m : ModuleState) (o : Options) (read : IsReadFrom b
     abbrev one : IsFunctionOf (written p) m.functions
     one = function_of_plan bytes m o read fine unit u p among
 
-    form : IsFormedFunction (written p)
-    form = formed (words bytes) read.form.1.1.1.1.0 (written p) (subst (λ (n : ModuleState). IsFunctionOf (written p) n.functions) read.made one)
-
-    each_formed : (i : Inst) → IsOf i (insts_of (written p)) → IsFormed i
-    each_formed i there = (inside s o.entry r (written p) (contains_of m.functions (written p) one)).formed i (among_of (insts_of (written p)) i there)
-
     sound : IsSound (graph (written p))
     sound = sound-of (written p) (All-contains IsStructured m.functions (written p) fine.later.structure (contains_of m.functions (written p) one)).unbroken
 
@@ -127,11 +113,8 @@ module _ (bytes : List ℕ) (m : ModuleState) (o : Options) (read : IsReadFrom b
 
     known_so : IsKnown p
     known_so =
-        let is_written = tree_written src found (written p) form each_formed p plan_so (flags_apart m o unit u p among (accepted_labels bytes m o read fine (written p) one)) (leave_inside (graph (written p))) in
+        let is_written = tree_written src found (written p) (formed_so bytes m o read fine unit u any_invocation (written p) one) (few_so bytes m o read fine unit u any_invocation (written p) one) p plan_so (flags_apart m o unit u p among (accepted_labels bytes m o read fine (written p) one)) (leave_inside (graph (written p))) in
         known src found p plan_so sound (term_of (written p)) (AreGroups (written p)) is_written sets
-
-    few_so_pairs : (b t : ℕ) → length (pairs m.globals p.scope.form (written p) b t) < 2 ^ 32
-    few_so_pairs = few_pairs m.globals p.scope.form (written p) (All-contains (λ (f : Function). args_in (insts_of f) < 2 ^ 32) m.functions (written p) (read_operands bytes m read) (contains_of m.functions (written p) one))
 
     globals_are : globals p.scope ≡ m.globals
     globals_are = ap globals plan_so.scope_is
@@ -141,7 +124,7 @@ module _ (bytes : List ℕ) (m : ModuleState) (o : Options) (read : IsReadFrom b
     labels a b a_in b_in same = same_block m o unit u p among (accepted_labels bytes m o read fine (written p) one) a b a_in b_in same
 
     all_have : (key : Key) → IsIn key (without_value (globals p.scope) (written p) p.scope.form p.scope.carried ++ with_value (globals p.scope) (written p) p.scope.form p.scope.carried (spares p)) → HasName found key
-    all_have = all_named m o unit u p among known_so plan_so.graph_is (globals p.scope) globals_are (spares_named m o unit u p among plan_so.graph_is few_so_pairs plan_so.moves_are)
+    all_have = all_named m o unit u p among known_so plan_so.graph_is (globals p.scope) globals_are (spares_named m o unit u p among plan_so.graph_is (few_pairs_so bytes m o read fine unit u any_invocation p among) plan_so.moves_are)
 
     -- The body of a planned function.
     pub declares : (f : Function) → (plan : IsPlanOf src found f p) → Declares m.globals f (scope_of src found f plan.links).form (scope_of src found f plan.links).carried found (stmts_in (body_text p))

@@ -30,19 +30,17 @@ use Rattle.name_alloc.specs.declared.claims.Key.{Key}
 use Rattle.name_alloc.specs.declared.claims.Key.TheVariants.{Again, Leave, Fell}
 use Rattle.name_alloc.specs.Naming.{name_of}
 use Rattle.glsl_ast.specs.Tree.{TranslationUnit}
-use Rattle.text_rules.specs.Claims.{label}
 use Rattle.function_plan.specs.Phis.{phi_blocks}
 use Rattle.function_plan.specs.Planned.{has_name_by}
 use Rattle.function_text.specs.Functions.{FunctionPlan, written, is_variable}
 use Rattle.unit_rules.specs.Translation.{Naming}
-use Rattle.unit_rules.specs.Unit.{claims_by, source_of, IsUnitOf}
+use Rattle.unit_rules.specs.Unit.{IsUnitOf}
 use Rattle.region_law.specs.Leads.{In}
-use Rattle.claim_law.specs.Claimed.{IsIn, HasName, IsOf}
+use Rattle.claim_law.specs.Claimed.{IsIn, HasName}
 use Rattle.claim_law.proofs.Claim.Flags.{at_inside}
 use Rattle.claim_law.proofs.Claim.Named.{result_named, again_named, leave_named, fell_named, captured_named}
-use Rattle.text_law.proofs.Naming.Keys.{placed_in, hoisted_is, variable_has}
-use Rattle.text_law.proofs.Naming.Tops.{of_filtered}
-use Rattle.grammar_law.proofs.Unit.Lists.{of_numbered_first}
+use Rattle.text_law.proofs.Naming.Keys.{placed, hoisted_is, variable_has}
+use Rattle.grammar_law.proofs.Unit.Lists.{of_filter, of_numbered_first}
 use Rattle.text_law.specs.Variables.{of_result, is_spare, is_local, is_local_here, is_hoisted_here, variables, hoisted, locals_of, locals, index_key, kept_of, kept, flag_key, flags, all_flags, with_value, without_value}
 use Rattle.text_law.proofs.Variables.Plans.{IsKnown, spare_of_move, edge_spares, to_spares, exit_spares, block_spares, spares}
 
@@ -64,7 +62,7 @@ all_mapped P h (a ∷ as') each = λ key there. elim there [ inl same ↦ subst 
 
 -- what passes a test
 pub all_passing : {A : Type 0} (test : A → Bool) (P : A → Type 0) (as' : List A) → ((a : A) → IsIn a as' → test a ≡ true → P a) → (a : A) → IsIn a (filter test as') → P a
-all_passing test P as' each a there = let w = of_filtered test as' a there in each a w.0 w.1
+all_passing test P as' each a there = let w = of_filter test as' a there in each a w.0 w.1
 
 -- the spares of a function are spares
 module _ (p : FunctionPlan) where
@@ -120,19 +118,16 @@ module _ (m : ModuleState) (o : Options) (unit : TranslationUnit) (u : IsUnitOf 
   abbrev Named : Key → Type 0
   Named key = HasName found key
 
-  placed : (i : Inst) → IsIn i (insts_of f) → IsOf (claims_by (source_of m o u.entry) p) i
-  placed i there = let b = placed_in f.blocks i there in record { number = b.0; block = b.1; there = b.2; among = b.3 }
-
   variables_named : AllKeys Named (variables gs f p.scope.form p.scope.carried)
   variables_named =
       all_mapped Named of_result (filter is_variable (insts_of f)) (all_passing is_variable (λ i. Named (of_result i)) (insts_of f) (λ i there on.
-      let at = placed i there in
+      let at = placed m o unit u p i there in
       result_named m o unit u p i among at (ap (has_name_by (p.scope.form i.result) (nth p.graph at.number).reached) on ∙ variable_has (p.scope.form i.result) (nth p.graph at.number).reached)))
 
   hoisted_named : AllKeys Named (hoisted gs f p.scope.form p.scope.carried)
   hoisted_named =
       all_mapped Named of_result (filter (is_hoisted_here gs f p.scope.form p.scope.carried) (insts_of f)) (all_passing (is_hoisted_here gs f p.scope.form p.scope.carried) (λ i. Named (of_result i)) (insts_of f) (λ i there on.
-      let at = placed i there in
+      let at = placed m o unit u p i there in
       result_named m o unit u p i among at (ap (λ (x : Form). has_name_by x (nth p.graph at.number).reached (is i.op code.Variable)) (hoisted_is (p.scope.form i.result) on))))
 
   kept_named : AllKeys Named (kept gs f p.scope.form p.scope.carried)
@@ -146,7 +141,7 @@ module _ (m : ModuleState) (o : Options) (unit : TranslationUnit) (u : IsUnitOf 
       by_test : (i : Inst) → IsIn i (insts_of f) → (q : Bool) → (is_chain i.op && p.scope.carried i.result) ≡ q → AllKeys Named (if q then map (index_key gs f p.scope.form p.scope.carried i) (captured_indexes gs i) else [])
       by_test i there false off = λ key none. absurd none
       by_test i there true on = all_mapped Named (index_key gs f p.scope.form p.scope.carried i) (captured_indexes gs i) (λ n one.
-          captured_named m o unit u p i n.0 among (placed i there)
+          captured_named m o unit u p i n.0 among (placed m o unit u p i there)
           (subst (λ (b : Bool). IsIn n.0 (if b then map (λ (x : ℕ × ℕ). x.0) (captured_indexes m.globals i) else [])) (sym on)
           (subst (λ (hs : List Inst). IsIn n.0 (map (λ (x : ℕ × ℕ). x.0) (captured_indexes hs i))) globals_are (numbers (captured_indexes gs i) n one))))
 

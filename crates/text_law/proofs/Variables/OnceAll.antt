@@ -40,8 +40,8 @@ use Rattle.plan_law.specs.InOrder.{AreApart}
 use Rattle.region_law.specs.Leads.{In}
 use Rattle.claim_law.specs.Claimed.{IsIn, HasName}
 use Rattle.grammar_law.proofs.Unit.Forms.{unmade_gone}
-use Rattle.text_law.proofs.Naming.Keys.{placed_in}
-use Rattle.text_law.proofs.Naming.Tops.{of_mapped, of_filtered, of_either}
+use Rattle.grammar_law.proofs.Unit.Lists.{in_block, in_either, of_filter}
+use Rattle.grammar_law.proofs.Meets.LiveOrGone.{of_mapped}
 use Rattle.text_law.proofs.Naming.Planned.{flow_number}
 use Rattle.text_law.proofs.Naming.Once.{variable_result, chain_result, apart, some_result, no_value, a_value}
 use Rattle.text_law.specs.Declarations.{valued, unset, occurs}
@@ -206,7 +206,7 @@ module _ (m : ModuleState) (o : Options) (unit : TranslationUnit) (u : IsUnitOf 
   -- a result is of one sort
   variable_local : (i : Inst) → IsIn i (insts_of F) → is_variable i ≡ true → is_local_here Gs F Fm Cd i ≡ true → ⊥
   variable_local i there on local =
-      let b = placed_in F.blocks i there in
+      let b = in_block F.blocks i there in
       not_both (is_local (Fm i.result)) local (by_kind (kind_of i.op) (variable_silent i.op on) (known.sets b.0 b.1 b.2 i b.3))
     where
       by_kind : (k : InstKind) → k ≡ kind.Silent → IsSet p.scope i k → is_local (Fm i.result) ≡ false
@@ -220,16 +220,16 @@ module _ (m : ModuleState) (o : Options) (unit : TranslationUnit) (u : IsUnitOf 
   locals_far : (test : Inst → Bool) → ((i : Inst) → IsIn i (insts_of F) → test i ≡ true → i.result ≡ 0 → ⊥) → ((i : Inst) → IsIn i (insts_of F) → test i ≡ true → is_local_here Gs F Fm Cd i ≡ true → ⊥) → (k : Key) → IsIn k (map of_result (filter test (insts_of F))) → IsIn k Ls → ⊥
   locals_far test some far k l r =
       let i = of_mapped of_result (filter test (insts_of F)) k l in
-      let own = of_filtered test (insts_of F) i.0 i.1 in
+      let own = of_filter test (insts_of F) i.0 i.1 in
       let j = local_of Gs F Fm Cd F.blocks 0 k r in
       ids_far test (is_local_here Gs F Fm Cd) (insts_of F) insts_apart some far i.0 j.0 own.0 own.1 j.1 j.2 (i.2 ∙ sym j.3)
 
   hoisted_far : (k : Key) → IsIn k Hs → IsIn k Vs → ⊥
   hoisted_far k l r =
       let i = of_mapped of_result (filter (is_hoisted_here Gs F Fm Cd) (insts_of F)) k l in
-      let own = of_filtered (is_hoisted_here Gs F Fm Cd) (insts_of F) i.0 i.1 in
+      let own = of_filter (is_hoisted_here Gs F Fm Cd) (insts_of F) i.0 i.1 in
       let j = of_mapped of_result (filter is_variable (insts_of F)) k r in
-      let other = of_filtered is_variable (insts_of F) j.0 j.1 in
+      let other = of_filter is_variable (insts_of F) j.0 j.1 in
       ids_far (is_hoisted_here Gs F Fm Cd) is_variable (insts_of F) insts_apart hoisted_some hoisted_variable i.0 j.0 own.0 own.1 other.0 other.1 (i.2 ∙ sym j.2)
 
   -- flags and spares
@@ -260,7 +260,7 @@ module _ (m : ModuleState) (o : Options) (unit : TranslationUnit) (u : IsUnitOf 
   with_apart =
       keys_joined Vs (Ls ++ flow p) (ids_apart is_variable (insts_of F) insts_apart variable_some)
       (keys_joined Ls (flow p) (locals_apart Gs F Fm Cd F.blocks 0 insts_apart local_some) flow_apart (λ k l r. result_flow k (local_results p k l) (flow_are p k r)))
-      (λ k l r. elim (of_either k Ls (flow p) r) [
+      (λ k l r. elim (in_either k Ls (flow p) r) [
         | inl here ↦ locals_far is_variable variable_some variable_local k l here
         | inr there ↦ result_flow k (variable_results p k l) (flow_are p k there)
       ])
@@ -272,17 +272,17 @@ module _ (m : ModuleState) (o : Options) (unit : TranslationUnit) (u : IsUnitOf 
       (λ k l r. result_kept k (hoisted_results p k l) (kept_are p k r))
 
   all_apart : KeysApart (without_value Gs F Fm Cd ++ with_value Gs F Fm Cd (spares p))
-  all_apart = keys_joined (without_value Gs F Fm Cd) (with_value Gs F Fm Cd (spares p)) without_apart with_apart (λ k l r. elim (of_either k Hs Ks l) [
-    | inl one ↦ elim (of_either k Vs (Ls ++ flow p) r) [
+  all_apart = keys_joined (without_value Gs F Fm Cd) (with_value Gs F Fm Cd (spares p)) without_apart with_apart (λ k l r. elim (in_either k Hs Ks l) [
+    | inl one ↦ elim (in_either k Vs (Ls ++ flow p) r) [
       | inl here ↦ hoisted_far k one here
-      | inr later ↦ elim (of_either k Ls (flow p) later) [
+      | inr later ↦ elim (in_either k Ls (flow p) later) [
         | inl here ↦ locals_far (is_hoisted_here Gs F Fm Cd) hoisted_some (λ i there a b. one_form (Fm i.result) a b) k one here
         | inr there ↦ result_flow k (hoisted_results p k one) (flow_are p k there)
       ]
     ]
-    | inr two ↦ elim (of_either k Vs (Ls ++ flow p) r) [
+    | inr two ↦ elim (in_either k Vs (Ls ++ flow p) r) [
       | inl here ↦ result_kept k (variable_results p k here) (kept_are p k two)
-      | inr later ↦ elim (of_either k Ls (flow p) later) [
+      | inr later ↦ elim (in_either k Ls (flow p) later) [
         | inl here ↦ result_kept k (local_results p k here) (kept_are p k two)
         | inr there ↦ (flow_are p k there).1 (kept_are p k two)
       ]

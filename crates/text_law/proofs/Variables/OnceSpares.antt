@@ -22,7 +22,7 @@ use Rattle.text_rules.specs.Claims.{label}
 use Rattle.function_text.specs.Functions.{FunctionPlan, written}
 use Rattle.region_law.specs.Leads.{In, AreApart as AreApartNumbers}
 use Rattle.claim_law.specs.Claimed.{IsIn}
-use Rattle.text_law.proofs.Naming.Tops.{of_flat, of_filtered}
+use Rattle.grammar_law.proofs.Unit.Lists.{of_filter, of_flat}
 use Rattle.grammar_law.proofs.Grammar.Moving.{save_number}
 use Rattle.tree_law.proofs.SwitchOrder.{range_apart}
 use Rattle.text_law.proofs.Variables.Plans.{IsKnown, spare_of_move, edge_spares, to_spares, exit_spares, block_spares, spares}
@@ -143,7 +143,7 @@ module _ (p : FunctionPlan) (known : IsKnown p) (gs : List Inst) (moves_are : (b
   to_apart b (Some t) = edge_apart b t
 
   in_range_of : (b t : ℕ) → In t (switch_targets g b) → In t all
-  in_range_of b t there = as_in all t (of_filtered (λ u. leads_to u (nth g b)) all t (in_list (switch_targets g b) t there)).0
+  in_range_of b t there = as_in all t (of_filter (λ u. leads_to u (nth g b)) all t (in_list (switch_targets g b) t there)).0
     where
       in_list : (ts : List ℕ) (u : ℕ) → In u ts → IsIn u ts
       in_list [] u there = absurd there

@@ -3,6 +3,7 @@ use Rattle.std.proofs.Common.{◌≡◌, ◌&&◌, ◌||◌, ◌==◌, not, ◌�
 use Rattle.std.specs.Prelude.{slice_get}
 use Rattle.std.specs.List.{list_any}
 use Rattle.std.specs.Option.{option_map_or}
+use Rattle.std.proofs.lemmas.Bool.{or_right}
 use Rattle.spv_ops.specs.Opcode.{is, number}
 use Rattle.spv_ops.specs.OpGroups.{group_of}
 use Rattle.spv_ops.specs.Shape.{shape}
@@ -132,11 +133,7 @@ module _ (s : Setting) (entry : Option (List ℕ)) (right : IsConforming s.of en
             ap is_local w.2 ∙ unnamed (is_live w.0) (is_named gs Fn w.1 w.0) (is_hoisted Fn w.0) (ap (λ (v : Bool). v && (is_live w.0 && (is_named_by_use gs Fn w.0 || (own_height w.1 w.0 == 17)))) (ap (is_value gs) w.3 ∙ off))
 
     pointer_no_value : (g : Inst) → global gs i.ty ≡ Some g → is g.op code.TypePointer ≡ true → is_value gs i.ty ≡ false
-    pointer_no_value g at on = ap (λ (x : Option Inst). not (option_map_or (λ (y : Inst). is y.op code.TypeVoid) x false || option_map_or (λ (y : Inst). is y.op code.TypePointer) x false)) at ∙ by_tests (is g.op code.TypeVoid) (is g.op code.TypePointer) on
-      where
-        by_tests : (a b : Bool) → b ≡ true → not (a || b) ≡ false
-        by_tests true b on = refl
-        by_tests false b on = ap not on
+    pointer_no_value g at on = ap (λ (x : Option Inst). not (option_map_or (λ (y : Inst). is y.op code.TypeVoid) x false || option_map_or (λ (y : Inst). is y.op code.TypePointer) x false)) at ∙ ap not (or_right (is g.op code.TypeVoid) (is g.op code.TypePointer) on)
 
     void_no_value : is_void Where i.ty ≡ true → is_value gs i.ty ≡ false
     void_no_value on = ap (λ (a : Bool). not (a || option_map_or (λ (y : Inst). is y.op code.TypePointer) (global gs i.ty) false)) on

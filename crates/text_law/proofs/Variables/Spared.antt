@@ -26,7 +26,7 @@ use Rattle.claim_law.specs.Claimed.{IsIn, HasName}
 use Rattle.claim_law.proofs.Claim.Listed.{at_place}
 use Rattle.claim_law.proofs.Claim.Flags.{at_inside}
 use Rattle.claim_law.proofs.Claim.Named.{spare_named}
-use Rattle.text_law.proofs.Naming.Tops.{of_filtered}
+use Rattle.grammar_law.proofs.Unit.Lists.{of_filter}
 use Rattle.grammar_law.proofs.Grammar.Moving.{edge_moves}
 use Rattle.grammar_law.proofs.Grammar.PairsOf.{in_once}
 use Rattle.grammar_law.proofs.Grammar.Edges.{in_targets}
@@ -77,7 +77,7 @@ module _ (m : ModuleState) (o : Options) (unit : TranslationUnit) (u : IsUnitOf 
     exit_named terminator.Branch = to_named 0 (target g b 0) refl
     exit_named terminator.Conditional = all_both Named (to_spares p b (target g b 0)) (to_spares p b (target g b 1)) (to_named 0 (target g b 0) refl) (to_named 1 (target g b 1) refl)
     exit_named terminator.Switch = all_flat Named (edge_spares p b) (switch_targets g b) (λ t there.
-        edge_named t (in_targets (nth g b).targets t (of_filtered (λ t. leads_to t (nth g b)) (range_with_len 0 (length g)) t there).1))
+        edge_named t (in_targets (nth g b).targets t (of_filter (λ t. leads_to t (nth g b)) (range_with_len 0 (length g)) t there).1))
     exit_named terminator.Leave = λ key none. absurd none
 
   pub spares_named : AllKeys Named (spares p)

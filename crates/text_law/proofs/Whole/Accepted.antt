@@ -1,5 +1,6 @@
 -- What the law of functions asks of the planned functions of an accepted module, but of what their blocks and edges do: how they are formed, and how their names are given.
-use Rattle.std.proofs.Common.{◌≡◌, ℕ, true, false, List, subst}
+use Rattle.std.proofs.Common.{◌≡◌, ◌<◌, ◌^◌, ℕ, true, false, List, length, subst}
+use Rattle.std.proofs.lemmas.List.Elements.{All-contains}
 use Rattle.spv_words.specs.Words.{words}
 use Rattle.spv_module.specs.Lists.{module_of}
 use Rattle.spv_module.specs.State.{ModuleState}
@@ -11,6 +12,7 @@ use Rattle.module_check.specs.Judged.{IsFine}
 use Rattle.module_check.specs.ReadFrom.{IsReadFrom}
 use Rattle.traces.specs.Invocations.{Invocation}
 use Rattle.glsl_ast.specs.Tree.{TranslationUnit}
+use Rattle.function_plan.specs.Phis.{pairs}
 use Rattle.function_text.specs.Functions.{FunctionPlan, written}
 use Rattle.unit_rules.specs.Unit.{IsUnitOf}
 use Rattle.agree_law.specs.Agree.{Naming, AreApart}
@@ -22,6 +24,7 @@ use Rattle.typed_law.specs.Conforms.{IsFormed, IsConforming}
 use Rattle.typed_law.specs.Words.{IsSettingOfWords}
 use Rattle.typed_law.proofs.Values.{inside}
 use Rattle.accepted_law.proofs.Accepted.{accepted_conforming}
+use Rattle.accepted_law.proofs.Small.{args_in, read_operands}
 use Rattle.grammar_law.proofs.Ruled.Ruled.{contains_of, among_of}
 use Rattle.claim_law.specs.Claimed.{IsIn}
 use Rattle.text_law.specs.Alone.{AreAlone}
@@ -37,6 +40,7 @@ use Rattle.text_law.proofs.Naming.Keys.{S, key, R, names, are_apart}
 use Rattle.text_law.proofs.Naming.Labels.{labels_there}
 use Rattle.grammar_law.proofs.Formed.Parameters.{parameters_once}
 use Rattle.grammar_law.proofs.Formed.Traced.{accepted_traced}
+use Rattle.grammar_law.proofs.Grammar.FewPairs.{few_pairs}
 use Rattle.text_law.proofs.Naming.Functions.{function_of_plan}
 
 module _ (bytes : List ℕ) (m : ModuleState) (o : Options) (read : IsReadFrom bytes m) (fine : IsFine m o) (unit : TranslationUnit) (u : IsUnitOf m o unit) (inv : Invocation) where
@@ -76,6 +80,9 @@ module _ (bytes : List ℕ) (m : ModuleState) (o : Options) (read : IsReadFrom b
 
     pub is_one : IsFunctionOf (written p) m.functions
     is_one = function_of_plan bytes m o read fine unit u p among
+
+    pub few_pairs_so : (b t : ℕ) → length (pairs m.globals p.scope.form (written p) b t) < 2 ^ 32
+    few_pairs_so = few_pairs m.globals p.scope.form (written p) (All-contains (λ (f : Function). args_in (insts_of f) < 2 ^ 32) m.functions (written p) (read_operands bytes m read) (contains_of m.functions (written p) is_one))
 
     pub apart_so : AreApart N
     apart_so = are_apart m o unit u inv p among (alone_so (written p) is_one) (each_found m.globals m.globals right.results.each)

@@ -23,7 +23,8 @@ use Rattle.function_law.specs.Texts.{FunctionText, IsText}
 use Rattle.grammar_law.proofs.Ruled.Ruled.{contains_of}
 use Rattle.claim_law.specs.Claimed.{IsIn}
 use Rattle.claim_law.proofs.Claim.Listed.{in_left, in_right, in_flat, in_mapped}
-use Rattle.text_law.proofs.Naming.Tops.{of_mapped, of_either, of_flat}
+use Rattle.grammar_law.proofs.Unit.Lists.{in_either, of_flat}
+use Rattle.grammar_law.proofs.Meets.LiveOrGone.{of_mapped}
 use Rattle.list_law.proofs.Lists.{map_joined}
 use Rattle.text_law.proofs.Naming.Unit.{text, found_plan}
 use Rattle.text_law.proofs.Naming.Functions.{contains_call, HasPlan, has_plan, reached_function, called_function, function_found}
@@ -36,7 +37,7 @@ in_turned x (y ∷ xs) (inr among) = subst (IsIn x) (sym (reverse-append (y ∷ 
 
 of_turned : {A : Type 0} (x : A) (xs : List A) → IsIn x (reverse xs) → IsIn x xs
 of_turned x [] among = among
-of_turned x (y ∷ xs) among = elim (of_either x (reverse xs) (y ∷ []) (subst (IsIn x) (reverse-append (y ∷ []) xs) among)) [
+of_turned x (y ∷ xs) among = elim (in_either x (reverse xs) (y ∷ []) (subst (IsIn x) (reverse-append (y ∷ []) xs) among)) [
   | inl behind ↦ inr (of_turned x xs behind)
   | inr first ↦ elim first [ inl same ↦ inl same | inr none ↦ absurd none ]
 ]

@@ -20,6 +20,7 @@ use Rattle.agree_law.specs.Points.{Body, behind}
 use Rattle.plan_law.specs.InOrder.{AreRising, IsOwn, AreInOrder}
 use Rattle.plan_law.proofs.Order.{before_of}
 use Rattle.typed_law.proofs.Rules.{operand_there}
+use Rattle.typed_law.proofs.Sized.{rising_low}
 use Rattle.claim_law.specs.Claimed.{IsIn}
 use Rattle.claim_law.proofs.Claim.Constants.{found_in}
 use Rattle.grammar_law.specs.Mentioned.{IsMentioned, IsLinked}
@@ -45,15 +46,10 @@ rising_in n (x ∷ bs) (suc b) block rising at =
     let later = rising_right n x.insts (flat_map (λ (y : Block). y.insts) bs) rising in
     rising_in later.0 bs b block later.1 at
 
-pub rising_low : (n : ℕ) (is : List Inst) (j : Inst) → AreRising n is → IsIn j is → n ≤ j.at
-rising_low n [] j rising at = absurd at
-rising_low n (i ∷ is) j rising (inl same) = subst (λ (x : Inst). n ≤ x.at) same rising.0
-rising_low n (i ∷ is) j rising (inr at) = let more = rising_low (i.at + 1) is j rising.1 at in let first = rising.0 in omega (arith, more, first)
-
 -- what stands at a lower word than an instruction of a rising list stands before it there
 before_it : (n : ℕ) (befores : List Inst) (i : Inst) (rest : List Inst) (j : Inst) → AreRising n (befores ++ i ∷ rest) → IsIn j (befores ++ i ∷ rest) → j.at < i.at → IsOf j befores
 before_it n [] i rest j rising (inl here) less = absurd (no_less j.at i.at less (subst (λ (x : Inst). i.at ≤ x.at) here (let itself : i.at ≤ i.at = omega arith in itself)))
-before_it n [] i rest j rising (inr there) less = let low = rising_low (i.at + 1) rest j rising.1 there in absurd (no_less j.at i.at less (omega (arith, low)))
+before_it n [] i rest j rising (inr there) less = let low = rising_low (i.at + 1) rest j rising.1 (as_among rest j there) in absurd (no_less j.at i.at less (omega (arith, low)))
 before_it n (x ∷ befores) i rest j rising (inl here) less = inl here
 before_it n (x ∷ befores) i rest j rising (inr there) less = inr (before_it (x.at + 1) befores i rest j rising.1 there less)
 

@@ -1,5 +1,5 @@
 -- The phis of the block to which a taken edge leads are as the law of edges asks: live ones have variables at the top of the function, and each takes one source from the block where the edge begins.
-use Rattle.std.proofs.Common.{◌≡◌, ◌≢◌, ◌&&◌, ◌||◌, not, ℕ, zero, suc, Bool, true, false, List, [], ◌∷◌, ◌++◌, ◌+◌, take, cond, Option, Some, is_some, inl, inr, refl, sym, ap, ◌∙◌, subst, arith}
+use Rattle.std.proofs.Common.{◌≡◌, ◌≢◌, ◌&&◌, ◌||◌, not, ℕ, zero, suc, Bool, true, false, List, [], ◌∷◌, ◌+◌, take, cond, Option, Some, is_some, inl, inr, refl, sym, ap, ◌∙◌, subst, arith}
 use Rattle.std.specs.Prelude.{flat_map, slice_get, take_while}
 use Rattle.std.specs.Option.{option_map_or}
 use Rattle.std.specs.List.{list_any, prefix_len}
@@ -7,7 +7,6 @@ use Rattle.spv_ops.specs.Opcode.{is, number}
 use Rattle.spv_ops.specs.Groups.{is_chain}
 use Rattle.spv_ops.specs.declared.Op.{Op}
 use Rattle.spv_ops.specs.declared.Op.TheVariants as code
-use Rattle.spv_ops.specs.declared.OpGroup.TheVariants as groups
 use Rattle.spv_module.specs.declared.inst.Inst.{Inst}
 use Rattle.spv_module.specs.declared.inst.Block.{Block}
 use Rattle.spv_module.specs.declared.inst.Function.{Function}
@@ -49,6 +48,7 @@ use Rattle.grammar_law.proofs.Unit.Ways.{HaveKinds, F, V, in_module, ordered}
 use Rattle.grammar_law.specs.Formed.{IsFormedFunction}
 use Rattle.grammar_law.proofs.Formed.Blocks.{phis_come_first}
 use Rattle.text_law.specs.Names.{is_result, is_value_parameter}
+use Rattle.text_law.proofs.Naming.Once.{apart_left, apart_right}
 use Rattle.text_law.proofs.Written.EdgeSource.{one_source}
 use Rattle.text_law.proofs.Written.PhiLabels.{phi_labels}
 use Rattle.text_law.proofs.Written.Expressed.{phi_result, local_no_phi, unnamed_so}
@@ -90,19 +90,7 @@ phi_of (x ∷ is) i one = by_test (is_phi x) refl (subst (IsOf i) (first_phis x 
     by_test true on (inr later) rest = let w = rest later in (w.0, inr w.1)
     by_test false off one rest = absurd one
 
--- parts of a list whose results are apart
-apart_right : (xs ys : List Inst) → AreApart (xs ++ ys) → AreApart ys
-apart_right [] ys apart = apart
-apart_right (x ∷ xs) ys apart = apart_right xs ys apart.1
-
-not_left : (id : ℕ) (xs ys : List Inst) → HaveNot id (xs ++ ys) → HaveNot id xs
-not_left id [] ys none = tt
-not_left id (x ∷ xs) ys none = (none.0, not_left id xs ys none.1)
-
-apart_left : (xs ys : List Inst) → AreApart (xs ++ ys) → AreApart xs
-apart_left [] ys apart = tt
-apart_left (x ∷ xs) ys apart = (λ some. not_left x.result xs ys (apart.0 some), apart_left xs ys apart.1)
-
+-- the results of a block are apart
 apart_in : (bs : List Block) (t : ℕ) (block : Block) → AreApart (flat_map (λ (x : Block). x.insts) bs) → slice_get bs t ≡ Some block → AreApart block.insts
 apart_in [] t block apart at = cc
 apart_in (x ∷ bs) zero block apart at =

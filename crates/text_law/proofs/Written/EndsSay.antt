@@ -1,5 +1,5 @@
 -- Where a block ends, the first operand that its terminator reads is ready; so its expression says its value.
-use Rattle.std.proofs.Common.{◌≡◌, ◌≤◌, ℕ, Bool, true, false, List, [], ◌∷◌, ◌++◌, append_assoc, Option, Some, None, unwrap_or, inl, inr, refl, sym, ap, ◌∙◌, subst, arith}
+use Rattle.std.proofs.Common.{◌≡◌, ◌≤◌, ℕ, Bool, true, false, List, [], ◌∷◌, ◌++◌, append_assoc, Option, Some, None, unwrap_or, inl, refl, sym, ap, ◌∙◌, subst, arith}
 use Rattle.std.specs.Prelude.{option_and_then, slice_index_or}
 use Rattle.spv_module.specs.declared.inst.Inst.{Inst}
 use Rattle.spv_module.specs.declared.inst.Block.{Block}
@@ -27,7 +27,7 @@ use Rattle.call_law.specs.Known.{IsFunctionOf, LendsWhole}
 use Rattle.typed_law.specs.Conforms.{IsConforming}
 use Rattle.typed_law.proofs.Values.{inside}
 use Rattle.claim_law.specs.Claimed.{IsIn}
-use Rattle.claim_law.proofs.Claim.Listed.{in_flat, at_place}
+use Rattle.claim_law.proofs.Claim.Listed.{in_right, in_flat, at_place}
 use Rattle.grammar_law.proofs.Unit.Lists.{as_among}
 use Rattle.grammar_law.proofs.Unit.Links.{placed_in}
 use Rattle.grammar_law.proofs.Unit.Ways.{HaveKinds, F, R, V, in_module}
@@ -36,10 +36,6 @@ use Rattle.grammar_law.proofs.Formed.Blocks.{behind_is, reached_body}
 use Rattle.text_law.proofs.Written.Done.{all_behind}
 use Rattle.text_law.proofs.Written.Mentions.{reads_first, first_no_phi, terminator_mentions}
 use Rattle.text_law.proofs.Written.Says.{IsReady, AreNamesOf, SaysSo, IsLeftOfValues, ready_says}
-
-pub in_middle : (xs : List Inst) (i : Inst) (ys : List Inst) → IsIn i (xs ++ i ∷ ys)
-in_middle [] i ys = inl refl
-in_middle (x ∷ xs) i ys = inr (in_middle xs i ys)
 
 module _ (s : Setting) (entry : Option (List ℕ)) (right : IsConforming s.of entry) (kinds : HaveKinds s.of.globals) (o : Options) (unit : TranslationUnit) (u : IsUnitOf s.of o unit) (p : FunctionPlan) (among : IsIn p u.plans) (lends : LendsWhole s) (b : ℕ) where
   abbrev gs : List Inst
@@ -66,7 +62,7 @@ module _ (s : Setting) (entry : Option (List ℕ)) (right : IsConforming s.of en
     in_it : IsIn body.last body.block.insts
     in_it =
         subst (IsIn body.last) (sym (formed.whole ∙ (ap (λ (xs : List Inst). formed.heads ++ xs) split ∙ sym (append_assoc formed.heads body.insts (body.last ∷ [])))))
-        (in_middle (formed.heads ++ body.insts) body.last [])
+        (in_right body.last (formed.heads ++ body.insts) (body.last ∷ []) (inl refl))
 
     pub end_ready : slice_index_or Marks b false ≡ true → reads_first body.last.op ≡ true → (t : Tree) → option_and_then (type_tree gs) (type_in gs Fn (arg body.last 0)) ≡ Some t → IsReady s entry right kinds o unit u p among lends b body.last.at (arg body.last 0)
     end_ready here on t shaped =

@@ -21,6 +21,11 @@ use Rattle.claim_law.proofs.Claim.Constants.{found_in}
 use Rattle.grammar_law.proofs.Unit.Ways.{HaveKinds, F, V, own_type_of, local_outside, never_global}
 use Rattle.text_law.proofs.Written.Expressed.{no_zero}
 
+-- what is nothing that it could be is none
+pub none_where : {A : Type 0} (x : Option A) → ((a : A) → x ≡ Some a → ⊥) → x ≡ None
+none_where None never = refl
+none_where (Some a) never = absurd (never a refl)
+
 module _ (s : Setting) (entry : Option (List ℕ)) (right : IsConforming s.of entry) (kinds : HaveKinds s.of.globals) (o : Options) (unit : TranslationUnit) (u : IsUnitOf s.of o unit) (p : FunctionPlan) (among : IsIn p u.plans) where
   abbrev gs : List Inst
   gs = s.of.globals
@@ -55,8 +60,4 @@ module _ (s : Setting) (entry : Option (List ℕ)) (right : IsConforming s.of en
 
     -- the law
     pub no_global : global gs n ≡ None
-    no_global = by_global (global gs n) refl
-      where
-        by_global : (x : Option Inst) → global gs n ≡ x → x ≡ None
-        by_global None at = refl
-        by_global (Some g) at = absurd (never g at)
+    no_global = none_where (global gs n) never
