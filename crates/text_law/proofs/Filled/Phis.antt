@@ -15,7 +15,7 @@ use Rattle.typed_law.proofs.Others.{phi_group}
 use Rattle.grammar_law.proofs.Unit.Ways.{HaveKinds}
 use Rattle.grammar_law.proofs.Unit.ResultShapes.{stands_inside, IsShaped}
 use Rattle.grammar_law.proofs.Unit.ResultTypes.{Gives, of_shape, of_pointer, of_call, gives}
-use Rattle.text_law.proofs.Moves.PhiOperands.{phi_typed}
+use Rattle.grammar_law.proofs.Grammar.PhiNames.{phi_typed}
 
 no_chain : groups.Phi ≡ groups.Chain → ⊥
 no_chain e = cc

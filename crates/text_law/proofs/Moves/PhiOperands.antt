@@ -6,7 +6,6 @@ use Rattle.std.specs.List.{enumerate_from, list_any}
 use Rattle.std.proofs.lemmas.Bool.{or_left, or_right, and_from}
 use Rattle.std.proofs.lemmas.Option.{same_Some}
 use Rattle.spv_ops.specs.Opcode.{is, number}
-use Rattle.spv_ops.specs.OpGroups.{group_of, takes_of}
 use Rattle.spv_ops.specs.Operands.{is_id}
 use Rattle.spv_ops.specs.Shape.{shape}
 use Rattle.spv_ops.specs.Groups.{is_chain, is_terminator}
@@ -16,7 +15,7 @@ use Rattle.spv_ops.specs.declared.Op.TheVariants as code
 use Rattle.spv_ops.specs.declared.Decoration.TheVariants as decoration
 use Rattle.spv_ops.specs.declared.StorageClass.TheVariants as storage
 use Rattle.spv_module.specs.Held.{global}
-use Rattle.spv_module.specs.Inst.{has_type, has_result}
+use Rattle.spv_module.specs.Inst.{has_type}
 use Rattle.spv_module.specs.declared.inst.Inst.{Inst}
 use Rattle.spv_module.specs.declared.inst.Block.{Block}
 use Rattle.spv_module.specs.declared.inst.Function.{Function}
@@ -27,8 +26,8 @@ use Rattle.spv_decor.specs.Rows.{value_of}
 use Rattle.spv_index.specs.Locals.{insts_of, block_in, typed, local_type, type_in}
 use Rattle.structure_rules.specs.declared.graph.Node.{Node}
 use Rattle.structure_rules.specs.Graph.{graph, nth}
-use Rattle.profile_rules.specs.Operands.{need, is_there_in}
-use Rattle.profile_rules.specs.declared.needs.Need.TheVariants.{PhiValue, Label}
+use Rattle.profile_rules.specs.Operands.{is_there_in}
+use Rattle.profile_rules.specs.declared.needs.Need.TheVariants.{PhiValue}
 use Rattle.profile_rules.specs.FlowRules.{every_second, is_from_elsewhere, breaks_t22}
 use Rattle.profile_rules.specs.TypeRows.{is_other}
 use Rattle.profile_rules.specs.TypeRules.{is_flow_broken}
@@ -54,7 +53,7 @@ use Rattle.unit_rules.specs.Unit.{claims_by, liveness_of, IsUnitOf}
 use Rattle.plan_law.specs.InOrder.{IsAmong}
 use Rattle.type_law.proofs.Vectors.{three_off}
 use Rattle.typed_law.specs.Conforms.{IsConforming}
-use Rattle.typed_law.proofs.Lists.{and_left, from_zero}
+use Rattle.typed_law.proofs.Lists.{and_left}
 use Rattle.typed_law.proofs.Rules.{operand_there, flow_right}
 use Rattle.typed_law.proofs.Values.{HasType, global_row, global_typed_some, variable_type_is, value_type_has, inside, local_row, typed_source, own_type, type_suits, typed_result, has_a_type}
 use Rattle.typed_law.proofs.Shapes.{shaped_type}
@@ -86,17 +85,7 @@ use Rattle.plan_law.proofs.Order.{in_order}
 use Rattle.typed_law.proofs.Calls.{variable_typed}
 use Rattle.text_law.proofs.Naming.Firsts.{of_in}
 use Rattle.grammar_law.proofs.Unit.Forms.{is_placed, form_at, wanted_form, placed as placed_result}
-
--- opcodes
-pub phi_typed : (o : Op) → is o code.Phi ≡ true → (has_type o ≡ true) × (has_result o ≡ true)
-unfolding number shape
-phi_typed code.Phi on = (refl, refl)
-phi_typed o on = cc
-
-phi_slot : (o : Op) (args : List ℕ) (k : ℕ) → is o code.Phi ≡ true → (k % 2 == 0) ≡ true → (is_id o args k ≡ true) × (is_value o k ≡ true) × (need o k ≡ PhiValue)
-unfolding number is_id need takes_of group_of
-phi_slot code.Phi args k on even = (from_zero k, even, ap (λ (b : Bool). if b then PhiValue else Label) even)
-phi_slot o args k on even = cc
+use Rattle.grammar_law.proofs.Grammar.PhiNames.{phi_typed, phi_slot}
 
 -- what ends a block has no type
 by_end : (P : Op → Type 0) → P code.Branch → P code.BranchConditional → P code.Switch → P code.Return → P code.ReturnValue → P code.Unreachable → (o : Op) → is_terminator o ≡ true → P o

@@ -20,17 +20,17 @@ use Rattle.unit_rules.specs.Unit.{IsUnitOf}
 use Rattle.module_semantics.specs.Setting.{Setting}
 use Rattle.module_semantics.specs.Accesses.{initial_in}
 use Rattle.module_semantics.specs.Steps.{variable, step_kind, is_phi, behind_phis, first_insts}
-use Rattle.list_law.proofs.Tests.{no_flip}
 use Rattle.agree_law.specs.Agree.{Naming}
 use Rattle.agree_law.specs.Blocks.{IsOf}
 use Rattle.function_law.specs.Tops.{Top, IsOneOf, AreFirst}
 use Rattle.function_law.proofs.PlannedText.{variable_top, hoisted_top, index_top, variable_tops, hoisted_tops, index_tops}
 use Rattle.claim_law.specs.Claimed.{IsIn}
 use Rattle.text_law.specs.Alone.{AreAlone}
-use Rattle.grammar_law.specs.Declares.{AreVariables, HaveNoVariable, NoneDeclare, DeclaresFirst}
+use Rattle.grammar_law.specs.Declares.{AreVariables, NoneDeclare, DeclaresFirst}
 use Rattle.text_law.proofs.Naming.Keys.{S, names}
 use Rattle.grammar_law.proofs.Unit.Lists.{in_either, of_filter, of_flat}
 use Rattle.grammar_law.proofs.Meets.LiveOrGone.{of_mapped}
+use Rattle.grammar_law.proofs.Grammar.FirstBlocks.{none_in}
 use Rattle.text_law.proofs.Naming.Tops.{tops as tops_in}
 
 pub no_phi : (o : Op) → is o code.Variable ≡ true → is o code.Phi ≡ false
@@ -53,11 +53,6 @@ behind : (vs rest : List Inst) (b : Block) → b.insts ≡ vs ++ rest → AreVar
 behind [] rest b split are = (behind_phis b, refl)
 behind (v ∷ vs) rest b split are =
     (rest, ap (λ n. drop n b.insts) (length-prefix_len is_phi b.insts ∙ (ap (prefix_len is_phi) split ∙ ap (λ (t : Bool). cond t (1 + prefix_len is_phi (vs ++ rest)) 0) (no_phi v.op are.0))) ∙ split)
-
-none_in : (is : List Inst) (i : Inst) → HaveNoVariable is → IsIn i is → is_variable i ≡ true → ⊥
-none_in [] i none there on = there
-none_in (x ∷ is) i none (inl same) on = no_flip (is_variable i) on (ap is_variable (sym same) ∙ none.0)
-none_in (x ∷ is) i none (inr there) on = none_in is i none.1 there on
 
 none_there : (bs : List Block) (b : Block) (i : Inst) → NoneDeclare bs → IsIn b bs → IsIn i b.insts → is_variable i ≡ true → ⊥
 none_there [] b i none block there on = block

@@ -50,6 +50,7 @@ use Rattle.claim_law.proofs.Claim.Variables.{variable_no_struct, variable_no_con
 use Rattle.claim_law.proofs.Claim.Told.{named_is}
 use Rattle.claim_law.proofs.Claim.Apart.{names_apart}
 use Rattle.grammar_law.proofs.Unit.Lists.{in_block}
+use Rattle.grammar_law.proofs.Meets.Roots.{named_variable}
 use Rattle.text_law.specs.Alone.{AreAlone}
 use Rattle.text_law.specs.Names.{is_other, is_result, is_value_parameter, is_variable_name, is_local_form, is_written_private, is_outer_global, has_text, keeps, names_of}
 use Rattle.text_law.proofs.Naming.Alone.{variable_inst, outer_once, variable_once, lent_once, global_apart, private_once}
@@ -77,14 +78,6 @@ hoisted_is Hoisted on = refl
 hoisted_is Gone on = cc
 hoisted_is Forwarded on = cc
 hoisted_is Local on = cc
-
--- a variable has a name, and so has a result that is declared at the top
-pub variable_has : (x : Form) (reached : Bool) → has_name_by x reached true ≡ true
-variable_has Hoisted reached = refl
-variable_has Local true = refl
-variable_has Local false = refl
-variable_has Gone reached = refl
-variable_has Forwarded reached = refl
 
 as_in : (ps : List (IdOf × IdOf)) (p : IdOf × IdOf) → IsParameter p ps → IsIn p ps
 as_in [] p one = absurd one
@@ -156,7 +149,7 @@ module _ (m : ModuleState) (o : Options) (unit : TranslationUnit) (u : IsUnitOf 
         let v = variable_inst (written p) n on in
         let w = stands n v.0 v.1 in
         let named_by : has_name p.scope.form (nth p.graph w.0.number).reached v.0 ≡ true
-        = ap (has_name_by (p.scope.form v.0.result) (nth p.graph w.0.number).reached) v.2 ∙ variable_has (p.scope.form v.0.result) (nth p.graph w.0.number).reached in
+        = ap (has_name_by (p.scope.form v.0.result) (nth p.graph w.0.number).reached) v.2 ∙ named_variable (p.scope.form v.0.result) (nth p.graph w.0.number).reached in
         subst (λ (k : ℕ). HasName found (Id (id k))) w.1 (result_named m o unit u p v.0 among w.0 named_by)
 
     pub private_has : (n : ℕ) → N.is_private n ≡ true → HasName found (Id (id n))

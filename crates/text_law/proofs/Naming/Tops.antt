@@ -44,10 +44,11 @@ use Rattle.claim_law.proofs.Claim.Apart.{same_number}
 pub use Rattle.claim_law.proofs.Claim.Apart.{same_number as key_id}
 use Rattle.grammar_law.proofs.Unit.Lists.{in_filter, of_filter, in_either, of_flat}
 use Rattle.grammar_law.proofs.Meets.LiveOrGone.{of_mapped}
+use Rattle.grammar_law.proofs.Meets.Roots.{named_variable}
 use Rattle.text_law.specs.Alone.{AreAlone}
 use Rattle.text_law.specs.Names.{is_other, is_result, is_value_parameter, is_written_private, keeps, kept_of}
 use Rattle.text_law.proofs.Naming.Alone.{variable_inst, made_no_parameter}
-use Rattle.text_law.proofs.Naming.Keys.{S, found as names_found, key as key_of, R, names, placed, some_in, hoisted_is, variable_has, stands, parameter_has, private_has}
+use Rattle.text_law.proofs.Naming.Keys.{S, found as names_found, key as key_of, R, names, placed, some_in, hoisted_is, stands, parameter_has, private_has}
 
 -- one of these is one of them by its name, its type and its value
 is_top : (ts : List Top) (t : Top) → IsIn t ts → IsTop t.name t.shape t.value ts
@@ -179,7 +180,7 @@ module _ (m : ModuleState) (o : Options) (unit : TranslationUnit) (u : IsUnitOf 
       by_test false one = absurd one
 
   pub variable_name : (i : Inst) → IsIn i (insts_of f) → is_variable i ≡ true → found (Id (id i.result)) ≡ Some (p.scope.setting.key (Id (id i.result)))
-  variable_name i there on = result_name i there (λ reached. ap (has_name_by (p.scope.form i.result) reached) on ∙ variable_has (p.scope.form i.result) reached)
+  variable_name i there on = result_name i there (λ reached. ap (has_name_by (p.scope.form i.result) reached) on ∙ named_variable (p.scope.form i.result) reached)
 
   pub hoisted_name : (i : Inst) → IsIn i (insts_of f) → is_hoisted_in p.scope i ≡ true → found (Id (id i.result)) ≡ Some (p.scope.setting.key (Id (id i.result)))
   hoisted_name i there on = result_name i there (λ reached. ap (λ (x : Form). has_name_by x reached (is i.op code.Variable)) (hoisted_is (p.scope.form i.result) on))

@@ -13,7 +13,7 @@ use Rattle.spv_index.specs.Locals.{insts_of}
 use Rattle.structure_rules.specs.declared.graph.Node.{Node}
 use Rattle.structure_rules.specs.declared.graph.Exit.{Exit}
 use Rattle.structure_rules.specs.declared.graph.Exit.TheVariants.{Branch, Conditional, Switch, Leave}
-use Rattle.structure_rules.specs.Graph.{graph, nth, is_switch}
+use Rattle.structure_rules.specs.Graph.{graph, nth}
 use Rattle.structure_recover.specs.declared.region.Exit.TheVariants.{Return, Lost}
 use Rattle.structure_recover.specs.Follows.{target, left, left_by, last_inst}
 use Rattle.block_graph.proofs.Within.{graph_sized}
@@ -37,6 +37,7 @@ use Rattle.grammar_law.specs.Formed.{IsFormedFunction}
 use Rattle.text_law.specs.Ends.{term_by, is_lost_block, term_of}
 use Rattle.claim_law.proofs.Claim.Flags.{at_inside}
 use Rattle.grammar_law.proofs.Formed.Blocks.{has_body}
+use Rattle.grammar_law.proofs.Unit.Switching.{switch_exit}
 use Rattle.text_law.proofs.Naming.Ends.{least_of, targets_of}
 
 pub among_that : (test : ℕ → Bool) (n from b : ℕ) → test b ≡ true → from ≤ b → b < from + n → is_among (filter test (range_with_len from n)) b ≡ true
@@ -78,12 +79,6 @@ passes_that test xs b on = by_test (test b) refl
     by_test : (t : Bool) → test b ≡ t → test b ≡ true
     by_test true at = at
     by_test false at = let never : true ≡ false = sym on ∙ none_that test xs b at in cc
-
-pub switch_exit : (e : Exit) → is_switch e ≡ true → e ≡ Switch
-switch_exit Switch on = refl
-switch_exit Branch on = cc
-switch_exit Conditional on = cc
-switch_exit Leave on = cc
 
 module _ (src : Source) (found : Naming) (f : Function) (form : IsFormedFunction f) (few : (i : Inst) → IsOf i (insts_of f) → IsFormed i) (plan : FunctionPlan) (planned : IsPlanOf src found f plan) where
   abbrev g : List Node

@@ -55,7 +55,8 @@ use Rattle.text_law.specs.Ends.{term_of, HasLabels}
 use Rattle.grammar_law.proofs.Formed.Blocks.{reached_body, has_body}
 use Rattle.text_law.proofs.Naming.Ends.{ends_by}
 use Rattle.grammar_law.proofs.Formed.Reach.{first_marked}
-use Rattle.text_law.proofs.Naming.Tree.{switch_exit, tree_written}
+use Rattle.grammar_law.proofs.Unit.Switching.{switch_exit}
+use Rattle.text_law.proofs.Naming.Tree.{tree_written}
 use Rattle.text_law.proofs.Naming.Written.{AreAsked, are_written}
 
 switch_least : (p : Op) → exit_of p ≡ Switch → (n : ℕ) → (shape p).least ≤ 1 + count_of (has_type p) + count_of (has_result p) + n → 2 ≤ n

@@ -6,11 +6,9 @@ use Rattle.std.specs.List.{list_any}
 use Rattle.std.proofs.lemmas.Bool.{not-false}
 use Rattle.std.proofs.lemmas.Option.{same_Some}
 use Rattle.spv_ops.specs.Opcode.{is, number}
-use Rattle.spv_ops.specs.OpGroups.{group_of}
 use Rattle.spv_ops.specs.Groups.{is_chain}
 use Rattle.spv_ops.specs.declared.Op.{Op}
 use Rattle.spv_ops.specs.declared.Op.TheVariants as code
-use Rattle.spv_module.specs.State.{ModuleState}
 use Rattle.spv_module.specs.declared.inst.Inst.{Inst}
 use Rattle.spv_module.specs.declared.inst.Function.{Function}
 use Rattle.spv_types.specs.Tree as plain
@@ -23,8 +21,7 @@ use Rattle.spv_index.specs.Pointers.{storage_class}
 use Rattle.profile_rules.specs.declared.needs.Need.TheVariants.{Value}
 use Rattle.profile_rules.specs.Operands.{need, is_there_in}
 use Rattle.profile_rules.specs.TypeRows.{fails, value_fails, is_int, is_pointer}
-use Rattle.profile_rules.specs.TypeRules.{is_value_broken}
-use Rattle.profile_rules.specs.ValueRules.{chain_end, leads_elsewhere, breaks_t6}
+use Rattle.profile_rules.specs.ValueRules.{chain_end, leads_elsewhere}
 use Rattle.module_semantics.specs.Setting.{Setting}
 use Rattle.list_law.proofs.Lists.{place_of}
 use Rattle.plan_law.specs.InOrder.{IsAmong}
@@ -36,13 +33,7 @@ use Rattle.typed_law.proofs.Types.{row_is}
 use Rattle.typed_law.proofs.Values.{IsRow, shape_of_row, inside, type_row_of, typed_value, int_shaped}
 use Rattle.grammar_law.proofs.Unit.Sets.{chain_id}
 use Rattle.grammar_law.proofs.Height.Chains.{chain_need}
-
--- T6
-chain_rule : (m : ModuleState) (t : ℕ → Option ℕ) (i : Inst) (o : Op) → is_chain o ≡ true → is_value_broken m t i (group_of o) ≡ false → breaks_t6 m.globals t i ≡ false
-unfolding group_of
-chain_rule m t i code.AccessChain on off = off
-chain_rule m t i code.InBoundsAccessChain on off = off
-chain_rule m t i o on off = cc
+use Rattle.grammar_law.proofs.Grammar.Tops.{chain_right}
 
 none_fails : (test : ℕ → Bool) (xs : List ℕ) (k x : ℕ) → list_any test xs ≡ false → slice_get xs k ≡ Some x → test x ≡ false
 none_fails test [] k x off at = cc
@@ -77,7 +68,7 @@ module _ (s : Setting) (entry : Option (List ℕ)) (right : IsConforming s.of en
 
   ints : list_any (value_fails is_int Gs V) (drop 1 i.args) ≡ false
   ints =
-      (three_off (value_fails is_pointer Gs V (word i 0)) (list_any (value_fails is_int Gs V) (drop 1 i.args)) (leads_elsewhere Gs i.ty (option_and_then (storage_class Gs) (V (word i 0))) (chain_end Gs V i)) (chain_rule s.of V i i.op on (value_right s.of entry right f in_it i there))).1
+      (three_off (value_fails is_pointer Gs V (word i 0)) (list_any (value_fails is_int Gs V) (drop 1 i.args)) (leads_elsewhere Gs i.ty (option_and_then (storage_class Gs) (V (word i 0))) (chain_end Gs V i)) (chain_right s.of V i i.op on (value_right s.of entry right f in_it i there))).1
 
   -- The type of an index.
   pub record IsIntId (id : ℕ) : Type 0 where

@@ -31,7 +31,8 @@ use Rattle.claim_law.specs.Claimed.{IsIn}
 use Rattle.claim_law.proofs.Claim.Flags.{again_key, leave_key, fell_key}
 use Rattle.grammar_law.specs.Switches.{IsSwitchAt, IsReached, Chooses, Leads}
 use Rattle.grammar_law.proofs.Unit.Whole.{tree-whole}
-use Rattle.text_law.proofs.Naming.Tree.{among_that, switch_exit}
+use Rattle.grammar_law.proofs.Unit.Switching.{switch_exit}
+use Rattle.text_law.proofs.Naming.Tree.{among_that}
 use Rattle.text_law.specs.Quiet.{AreFlags}
 
 -- flags have the names of their keys

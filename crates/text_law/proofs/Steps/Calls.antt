@@ -6,7 +6,7 @@ use Rattle.std.specs.List.{list_any, zip}
 use Rattle.std.proofs.lemmas.Bool.{not-true}
 use Rattle.std.proofs.lemmas.Bool.Decides.{eqb_tells}
 use Rattle.std.proofs.lemmas.Option.{same_Some}
-use Rattle.spv_ops.specs.Opcode.{is, number}
+use Rattle.spv_ops.specs.Opcode.{is}
 use Rattle.spv_ops.specs.OpGroups.{group_of}
 use Rattle.spv_ops.specs.Operands.{is_id}
 use Rattle.spv_ops.specs.declared.Op.{Op}
@@ -96,6 +96,7 @@ use Rattle.grammar_law.proofs.Meets.CallMeets.{call_need, call_value}
 use Rattle.grammar_law.specs.Formed.{IsFormedFunction}
 use Rattle.grammar_law.specs.Traced.{IsTraced}
 use Rattle.grammar_law.proofs.Formed.Inner.{is_inner, accepted_inner}
+use Rattle.grammar_law.proofs.Unit.ResultTypes.{call_op}
 use Rattle.text_law.specs.Names.{shape_of}
 use Rattle.text_law.proofs.Naming.Alone.{names_memory, variable_inst}
 use Rattle.text_law.proofs.Naming.Functions.{found_by}
@@ -127,11 +128,6 @@ call_step o e = (call_in (group_of o) e).1
 call_groups : (o : Op) → kind_of o ≡ kind.Call → group_of o ≡ groups.Call
 unfolding kind_of
 call_groups o e = (call_in (group_of o) e).0
-
-call_code : (o : Op) → group_of o ≡ groups.Call → is o code.FunctionCall ≡ true
-unfolding group_of number
-call_code code.FunctionCall e = refl
-call_code o e = cc
 
 -- a type of values is not void
 no_void : (gs : List Inst) (ty : ℕ) → is_value gs ty ≡ true → is_void_in gs ty ≡ false
@@ -230,7 +226,7 @@ module _ (bytes : List ℕ) (m : ModuleState) (o : Options) (read : IsReadFrom b
       step = call_step i.op e
 
       on : is i.op code.FunctionCall ≡ true
-      on = call_code i.op (call_groups i.op e)
+      on = call_op i.op (call_groups i.op e)
 
       there_in : IsIn i (insts_of f)
       there_in = as_in (insts_of f) i there

@@ -39,8 +39,9 @@ use Rattle.region_law.specs.Leads.{In}
 use Rattle.claim_law.specs.Claimed.{IsIn, HasName}
 use Rattle.claim_law.proofs.Claim.Flags.{at_inside}
 use Rattle.claim_law.proofs.Claim.Named.{result_named, again_named, leave_named, fell_named, captured_named}
-use Rattle.text_law.proofs.Naming.Keys.{placed, hoisted_is, variable_has}
+use Rattle.text_law.proofs.Naming.Keys.{placed, hoisted_is}
 use Rattle.grammar_law.proofs.Unit.Lists.{of_filter, of_numbered_first}
+use Rattle.grammar_law.proofs.Meets.Roots.{named_variable}
 use Rattle.text_law.specs.Variables.{of_result, is_spare, is_local, is_local_here, is_hoisted_here, variables, hoisted, locals_of, locals, index_key, kept_of, kept, flag_key, flags, all_flags, with_value, without_value}
 use Rattle.text_law.proofs.Variables.Plans.{IsKnown, spare_of_move, edge_spares, to_spares, exit_spares, block_spares, spares}
 
@@ -122,7 +123,7 @@ module _ (m : ModuleState) (o : Options) (unit : TranslationUnit) (u : IsUnitOf 
   variables_named =
       all_mapped Named of_result (filter is_variable (insts_of f)) (all_passing is_variable (λ i. Named (of_result i)) (insts_of f) (λ i there on.
       let at = placed m o unit u p i there in
-      result_named m o unit u p i among at (ap (has_name_by (p.scope.form i.result) (nth p.graph at.number).reached) on ∙ variable_has (p.scope.form i.result) (nth p.graph at.number).reached)))
+      result_named m o unit u p i among at (ap (has_name_by (p.scope.form i.result) (nth p.graph at.number).reached) on ∙ named_variable (p.scope.form i.result) (nth p.graph at.number).reached)))
 
   hoisted_named : AllKeys Named (hoisted gs f p.scope.form p.scope.carried)
   hoisted_named =

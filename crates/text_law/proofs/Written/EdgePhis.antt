@@ -23,7 +23,6 @@ use Rattle.module_semantics.specs.Setting.{Setting}
 use Rattle.module_semantics.specs.Steps.{is_phi, phis, source_from}
 use Rattle.hoist_plan.specs.declared.form.Form.{Form}
 use Rattle.hoist_plan.specs.declared.form.Form.TheVariants.{Gone, Forwarded, Local, Hoisted}
-use Rattle.hoist_plan.specs.Plan.{is_always_named}
 use Rattle.glsl_ast.specs.Tree.{TranslationUnit}
 use Rattle.expr_forward.specs.Scope.{Scope}
 use Rattle.function_plan.specs.Phis.{is_gone}
@@ -47,16 +46,12 @@ use Rattle.grammar_law.proofs.Unit.Lists.{as_among}
 use Rattle.grammar_law.proofs.Unit.Ways.{HaveKinds, F, V, in_module, ordered}
 use Rattle.grammar_law.specs.Formed.{IsFormedFunction}
 use Rattle.grammar_law.proofs.Formed.Blocks.{phis_come_first}
+use Rattle.grammar_law.proofs.Grammar.PhiNames.{phi_always}
 use Rattle.text_law.specs.Names.{is_result, is_value_parameter}
 use Rattle.text_law.proofs.Naming.Once.{apart_left, apart_right}
 use Rattle.text_law.proofs.Written.EdgeSource.{one_source}
 use Rattle.text_law.proofs.Written.PhiLabels.{phi_labels}
 use Rattle.text_law.proofs.Written.Expressed.{phi_result, local_no_phi, unnamed_so}
-
-phi_always : (o : Op) → is o code.Phi ≡ true → is_always_named o ≡ true
-unfolding number
-phi_always code.Phi on = refl
-phi_always o on = cc
 
 phi_other : (o : Op) → is o code.Phi ≡ true → not (is o code.Variable || is_chain o) ≡ true
 unfolding number
