@@ -2,14 +2,14 @@
 ghost use Rattle.std.specs.Prelude.{◌≡◌, ℕ, IfOk, map};
 ghost use Rattle.structure_rules.specs.Graph.{graph};
 ghost use Rattle.use_chains.specs.Small.{IsSmall};
+ghost use Rattle.function_plan.specs.Plans.{AreFlags, IsNamed, IsPlanned};
 ghost use Rattle.few_law.specs.Short.{IsShort};
-ghost use Rattle.structure_recover.specs.Follows.{IsTree};
-ghost use Rattle.structure_recover.specs.View.{region_of};
 ghost use Rattle.hoist_plan.specs.Kept.{form_in};
-ghost use Rattle.function_plan.specs.Orders.{order_by};
 ghost use Rattle.function_plan.specs.Planned.{is_reached_node, order_in};
 ghost use Rattle.function_plan.specs.Moved.{moves_in};
-ghost use Rattle.function_plan.specs.Plans.{AreFlags, IsNamed, IsPlanned};
+ghost use Rattle.structure_recover.specs.Follows.{IsTree};
+ghost use Rattle.structure_recover.specs.View.{region_of};
+ghost use Rattle.function_plan.specs.Orders.{order_by};
 
 use crate::flag_sets::FlagSets;
 use crate::moves::{moves_of, phi_blocks};
