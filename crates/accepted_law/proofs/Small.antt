@@ -264,7 +264,7 @@ functions_counted ws n (x ∷ is) few short = by_kind (kind_of ws x) (functions_
     by_kind k rest = rest
 
 -- operands that mention values are operands
-filtered : {A : Type 0} (test : A → Bool) (xs : List A) → length (filter test xs) ≤ length xs
+pub filtered : {A : Type 0} (test : A → Bool) (xs : List A) → length (filter test xs) ≤ length xs
 filtered test [] = le_zero 0
 filtered test (x ∷ xs) = by_test (test x) (filtered test xs)
   where

@@ -1,9 +1,10 @@
 -- The path of a chain is that of its base and the chain's own steps; any other pointer is where its path begins.
-use Rattle.std.proofs.Common.{◌≡◌, ◌==◌, ◌&&◌, ◌||◌, ◌++◌, ℕ, List, [], ◌∷◌, Bool, true, false, map, refl, ap, sym, ◌∙◌, arith}
+use Rattle.std.proofs.Common.{◌≡◌, ◌==◌, ◌&&◌, ◌++◌, ℕ, List, [], ◌∷◌, Bool, true, false, map, refl, ap, sym, ◌∙◌, arith}
 use Rattle.std.specs.List.{fold, list_any, enumerate_from}
 use Rattle.std.proofs.lemmas.Bool.Decides.{nat_tests}
 use Rattle.std.proofs.lemmas.List.Sums.{fold-append}
 use Rattle.std.proofs.lemmas.List.Concat.{flat_map-cons}
+use Rattle.list_law.proofs.Tests.{or_left, or_right}
 use Rattle.spv_module.specs.declared.inst.Inst.{Inst}
 use Rattle.spv_module.specs.declared.inst.Block.{Block}
 use Rattle.spv_module.specs.declared.inst.Function.{Function}
@@ -34,14 +35,6 @@ placed_path gs f printed pointer = ap (λ (h : ℕ → Way). h pointer) (blocks_
 abbrev chosen : List Inst → Function → ℕ → (ℕ → Way) → ℕ × Inst → ℕ → Bool → Way
 chosen gs f printed ways c pointer made =
     elim made [ true ↦ further (ways (base c.1)) (chain_steps gs f (spot_of printed c) c.1) | false ↦ ways pointer ]
-
-or_left : (a b : Bool) → (a || b) ≡ false → a ≡ false
-or_left true b h = h
-or_left false b h = refl
-
-or_right : (a b : Bool) → (a || b) ≡ false → b ≡ false
-or_right true b h = cc
-or_right false b h = h
 
 -- what does not make a pointer leaves it
 unmade : (gs : List Inst) (f : Function) (printed pointer : ℕ) (cs : List (ℕ × Inst)) (ways : ℕ → Way) → list_any (makes pointer) cs ≡ false → fold (with_placed gs f printed) ways cs pointer ≡ ways pointer

@@ -25,7 +25,7 @@ use Rattle.agree_law.specs.Answers.{answered}
 use Rattle.agree_law.specs.Agree.{Naming, AreApart}
 use Rattle.agree_law.specs.Blocks.{has_outcome, IsNew, Stands, At, have_result}
 use Rattle.agree_law.specs.Evaluates.{Evaluates, IsKept, Gets}
-use Rattle.agree_law.proofs.Steps.{on_known}
+use Rattle.agree_law.proofs.Steps.{on_known, before_none}
 use Rattle.agree_law.proofs.Changes.{forgets}
 use Rattle.agree_law.proofs.InBlocks.{answers_in, passes_in}
 use Rattle.agree_law.proofs.Settling.{settled_put, settled_pass}
@@ -153,12 +153,6 @@ module _ (p : Program) (calls : Text → List Argument → State → Result (Opt
     where
       E : Result (Thing × State) → Type 0
       E = Evaluates (Supplied Conf) step (Thing × State) P k c
-
-      before_none : (g : Result (Thing × State)) → with_before [] g ≡ g
-      before_none (got e x) = refl
-      before_none (cut e) = refl
-      before_none (waits e) = refl
-      before_none (stuck e) = refl
 
       by_kind : CallKind → Result (Thing × State)
       by_kind kind = elim kind as (λ kind. Result (Thing × State)) [

@@ -25,7 +25,7 @@ use Rattle.agree_law.specs.Agree.{Naming, AreApart, variable_with, AgreeIn}
 use Rattle.agree_law.specs.Blocks.{has_outcome, have_result, IsNew, Stands, At}
 use Rattle.agree_law.specs.Evaluates.{Evaluates, IsKept, Gets}
 use Rattle.agree_law.specs.Outs.{Outs, IsOut, puts, AreOuts}
-use Rattle.agree_law.proofs.Steps.{on_known}
+use Rattle.agree_law.proofs.Steps.{on_known, before_none}
 use Rattle.agree_law.proofs.InBlocks.{answers_in, before_it}
 use Rattle.agree_law.proofs.Changes.{is_not}
 use Rattle.agree_law.proofs.Settling.{settled_put, settled_pass}
@@ -63,12 +63,6 @@ module _ (p : Program) (calls : Text → List Argument → State → Result (Opt
   with_value c (waits e) (inl l) = inl l
   with_value c (stuck e) (inl l) = absurd l
   with_value c g (inr b) = inr (fails_then C (machine s) c (then_get g (λ r. expressions.done r.0 r.1)) (λ x. then_get (fetch x.0 x.1) (λ (y : Typed × State). got [] (y.0, y.1))) (fails_then C (machine s) c g (λ r. expressions.done r.0 r.1) b))
-
-  before_none : {A : Type 0} (g : Result A) → with_before [] g ≡ g
-  before_none (got e x) = refl
-  before_none (cut e) = refl
-  before_none (waits e) = refl
-  before_none (stuck e) = refl
 
   -- As an expression: the arguments stand for what they stand for and have values, without events.
   pub call_evaluates : (c : C) (z : State) (w : Text) (args : Exprs) (as' : List Argument) → call_kind p w ≡ user → arguments p calls args z ≡ got [] (as', z) → Evaluates C (machine s) (Option Typed × State) GivesValue k c (calls w as' z)

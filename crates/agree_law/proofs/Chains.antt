@@ -12,7 +12,7 @@ use Rattle.traces.specs.Simulation.{Follows}
 use Rattle.traces.proofs.Moves.{Never, NeverGives, one_step, fewer, fails_now}
 use Rattle.module_semantics.specs.Setting.{Setting}
 use Rattle.module_semantics.specs.Memory.{are_allowed}
-use Rattle.module_semantics.specs.State.{Held, pointer, Frame, Conf, put}
+use Rattle.module_semantics.specs.State.{Held, pointer, Conf, put}
 use Rattle.module_semantics.specs.Operands.{of_module, held, pointer_at, words_at, Target}
 use Rattle.module_semantics.specs.Steps.{chain, step_kind, with_some, base, is_based_on, without_based, lead, lead_if, chain_step}
 use Rattle.glsl_ast.specs.Tree.{Text, Expr, assign, lvalue, Stmts, stmts_in}
@@ -31,7 +31,7 @@ use Rattle.agree_law.proofs.Owned.{own_found, own_put, own_put_other}
 use Rattle.agree_law.proofs.Braces.{local_named}
 use Rattle.agree_law.proofs.Changes.{with_id, is_not, put_same, put_other, forgets, keeps_index, leads}
 use Rattle.agree_law.proofs.InBlocks.{before_it}
-use Rattle.agree_law.proofs.Settling.{settled_more}
+use Rattle.agree_law.proofs.Settling.{settled_more, held_same}
 use Rattle.agree_law.proofs.Steps.{assign_runs}
 use Rattle.agree_law.proofs.Machine.{machine, kind_is}
 
@@ -141,9 +141,6 @@ lead_other s c rest i t indexes n other free =
     put_other (without_based c.top.function i.result c.top.ids) i.result n (pointer t.0 (t.1 ++ indexes)) other
     ∙ ap (λ (b : Bool). elim b as (λ b. Option Held) [ true ↦ None | false ↦ c.top.ids n ]) free
 
-held_alike : (s : Setting) (f g : Frame) (n : ℕ) → g.ids n ≡ f.ids n → held s g n ≡ held s f n
-held_alike s f g n is = ap (λ (o : Option Held). elim o as (λ q. Option Held) [ Some h ↦ Some h | None ↦ of_module s n ]) is
-
 -- none of these is based on the chain, nor reads what is
 pub record IsFree (f : Function) (i : Inst) (done : List Inst) : Type 0 where
   pub result : (j : Inst) → IsOf j done → is_based_on f i.result j.result ≡ false
@@ -223,7 +220,7 @@ module _ (p : Program) (calls : Text → List Argument → State → Result (Opt
       a
     where
       same : (n : ℕ) → n ≢ q → is_based_on c.at.top.function q n ≡ false → held s (lead c.at rest i g.from g.indexes).top n ≡ held s c.at.top n
-      same n other off = held_alike s c.at.top (lead c.at rest i g.from g.indexes).top n (lead_other s c.at rest i g.from g.indexes n other off)
+      same n other off = held_same s c.at.top (lead c.at rest i g.from g.indexes).top n (lead_other s c.at rest i g.from g.indexes n other off)
 
       held_now : held s (lead c.at rest i g.from g.indexes).top q ≡ Some (pointer g.from.0 (g.from.1 ++ g.indexes))
       held_now = ap (λ (o : Option Held). elim o as (λ q. Option Held) [ Some h ↦ Some h | None ↦ of_module s q ]) (put_same (without_based c.at.top.function q c.at.top.ids) q (pointer g.from.0 (g.from.1 ++ g.indexes)))

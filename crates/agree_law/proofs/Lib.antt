@@ -22,3 +22,4 @@ pub mod Bodies
 pub mod Inserts
 pub mod Returning
 pub mod Called
+pub mod Along

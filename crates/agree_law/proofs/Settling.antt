@@ -69,12 +69,12 @@ module _ (s : Setting) (f g : Frame) where
       by_place j (inl same) on = this j same (ap (λ (j : Inst). has_outcome (step_kind j.op)) same ∙ on)
       by_place j (inr is) on = (settled_still done kept a).still j is on
 
+pub held_same : (s : Setting) (f g : Frame) (n : ℕ) → g.ids n ≡ f.ids n → held s g n ≡ held s f n
+held_same s f g n is = ap (λ (o : Option Held). elim o as (λ q. Option Held) [ Some h ↦ Some h | None ↦ of_module s n ]) is
+
 -- where nothing is set that these have or read
 pub kept_same : (s : Setting) (f g : Frame) (done : List Inst) → ((n : ℕ) → g.ids n ≡ f.ids n) → AreKept s f g done
 kept_same s f g done same = record { result = λ i is. held_same s f g i.result (same i.result); read = λ i is n k. held_same s f g n (same n) }
-  where
-    held_same : (s : Setting) (f g : Frame) (n : ℕ) → g.ids n ≡ f.ids n → held s g n ≡ held s f n
-    held_same s f g n is = ap (λ (o : Option Held). elim o as (λ q. Option Held) [ Some h ↦ Some h | None ↦ of_module s n ]) is
 
 -- what a frame with another entry has of other ids, and of this one
 pub held_other : (s : Setting) (f g : Frame) (r n : ℕ) (h : Held) → g.ids ≡ put f.ids r h → n ≢ r → held s g n ≡ held s f n

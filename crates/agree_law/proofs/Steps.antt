@@ -3,7 +3,7 @@ use Rattle.std.proofs.Common.{◌≡◌, ℕ, Bool, true, false, List, [], Optio
 use Rattle.spv_module.specs.declared.inst.Inst.{Inst}
 use Rattle.spv_types.specs.Tree.{ValueTree}
 use Rattle.traces.specs.Runs.{Move, go, Supplied, supplied}
-use Rattle.traces.specs.Outcomes.{normal, stuck, Result, got, or_stuck, on_got}
+use Rattle.traces.specs.Outcomes.{normal, stuck, Result, got, or_stuck, on_got, with_before, cut, waits}
 use Rattle.traces.specs.Simulation.{Follows}
 use Rattle.traces.proofs.Moves.{Never, NeverGives, begun_none, one_step, fewer}
 use Rattle.module_semantics.specs.State.{Conf, put, with_top}
@@ -25,6 +25,13 @@ pub record Both (m : Naming) (c : Supplied Conf) (s : State) : Type 0 where
 -- what goes on from what is known
 pub on_known : {A : Type 0} (g : Result A) (a : A) (f : A → Run) → g ≡ got [] a → on_got g f ≡ f a
 on_known {A} g a f is = ap (λ (g : Result A). on_got g f) is ∙ begun_none (f a)
+
+-- no events before what is got
+pub before_none : {A : Type 0} (g : Result A) → with_before [] g ≡ g
+before_none (got e x) = refl
+before_none (cut e) = refl
+before_none (waits e) = refl
+before_none (stuck e) = refl
 
 module _ (p : Program) (calls : Text → List Argument → State → Result (Option Typed × State)) (k : ℕ) (s : State) where
   -- an assignment and a declaration, of a value of the variable's type

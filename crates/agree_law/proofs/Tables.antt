@@ -1,11 +1,11 @@
 -- A switch is entered at the group of the module's target, whatever the order in which its groups are written.
-use Rattle.std.proofs.Common.{◌≡◌, ◌⊎◌, ◌==◌, ◌++◌, ℕ, Bool, true, false, List, [], ◌∷◌, cond, Option, Some, None, inl, inr, refl, sym, ap, ◌∙◌, subst}
+use Rattle.std.proofs.Common.{◌≡◌, ◌⊎◌, ◌==◌, ◌++◌, ℕ, Bool, true, false, List, [], ◌∷◌, Option, Some, None, inl, inr, refl, sym, ap, ◌∙◌, subst}
 use Rattle.std.specs.Prelude.{nat_eq}
 use Rattle.std.specs.Option.{option_to_list}
 use Rattle.std.specs.Map.{update, update_all}
 use Rattle.std.proofs.lemmas.Bool.Decides.{eqb_tells}
 use Rattle.glsl_ast.specs.Tree as tree
-use Rattle.glsl_ast.specs.Tree.{Text, Expr, Stmts, stmts_in}
+use Rattle.glsl_ast.specs.Tree.{Text, stmts_in}
 use Rattle.glsl_ast.specs.declared.statements.Label.{Label}
 use Rattle.structure_recover.specs.Tree.{Region, Groups, none, group, targets}
 use Rattle.control_text.specs.declared.place.Place.{Place}
@@ -16,14 +16,9 @@ use Rattle.glsl_semantics.specs.States.{State}
 use Rattle.glsl_semantics.specs.Expressions.{Program, Argument, literal_value, evaluate}
 use Rattle.glsl_semantics.specs.Statements.{Run, is_case, has_case, has_default, any_case, entered, is_selector, stmt_run, arms_run}
 use Rattle.region_law.specs.Leads.{In, AreApart}
+use Rattle.region_law.proofs.Regions.{update_own, update_apart}
 use Rattle.agree_law.specs.Tables.{has_word, CasesAre, DefaultIs, IsPicked, Picks, arms}
 use Rattle.agree_law.proofs.Steps.{on_known}
-
-own_entry : {X : Type 0} (f : ℕ → Option X) (j u : ℕ) (x : Option X) → j ≡ u → update nat_eq f j x u ≡ x
-own_entry f j u x same = elim (eqb_tells j u) [ inl e ↦ ap (λ b. cond b x (f u)) e.0 | inr e ↦ absurd (e.1 same) ]
-
-other_entry : {X : Type 0} (f : ℕ → Option X) (j u : ℕ) (x : Option X) → (j ≡ u → ⊥) → update nat_eq f j x u ≡ f u
-other_entry f j u x ne = elim (eqb_tells j u) [ inl e ↦ absurd (ne e.1) | inr e ↦ ap (λ b. cond b x (f u)) e.0 ]
 
 module _ (w : Blocks) (h : ℕ) (v : Typed) (x : ℕ) (cases : (l : ℕ) → is_case v (literal_value (w.case h l)) ≡ (l == x)) where
   -- the labels of a group have the word, or the default
@@ -46,8 +41,8 @@ module _ (w : Blocks) (h : ℕ) (v : Typed) (x : ℕ) (cases : (l : ℕ) → is_
 
   none_updated : (fa : ℕ → Option tree.Arm) (j : ℕ) (o : Option tree.Arm) → ((a : tree.Arm) → o ≡ Some a → has_case v (labels_of a) ≡ false) → NoneHas fa → NoneHas (update nat_eq fa j o)
   none_updated fa j o new old u a is = elim (eqb_tells j u) [
-    | inl e ↦ new a (sym (own_entry fa j u o e.1) ∙ is)
-    | inr e ↦ old u a (sym (other_entry fa j u o e.1) ∙ is)
+    | inl e ↦ new a (sym (update_own fa j u o e.1) ∙ is)
+    | inr e ↦ old u a (sym (update_apart fa j u o e.1) ∙ is)
   ]
 
   none_in_arms : (ts : List ℕ) (fa : ℕ → Option tree.Arm) → NoneHas fa → any_case v (tree.arms_in (in_order ts fa)) ≡ false
@@ -85,7 +80,7 @@ module _ (w : Blocks) (h : ℕ) (v : Typed) (x : ℕ) (cases : (l : ℕ) → is_
 
       by_place : (((t == u) ≡ true) × (t ≡ u)) ⊎ (((t == u) ≡ false) × (t ≡ u → ⊥)) → (In u ts → update nat_eq fa t None u ≡ Some a → any_case v (tree.arms_in (in_order ts (update nat_eq fa t None))) ≡ true) → any_case v (tree.arms_in (in_order (t ∷ ts) fa)) ≡ true
       by_place (inl e) rest = first (fa t) (ap fa e.1 ∙ is)
-      by_place (inr e) rest = behind (fa t) (rest (later e.1 i) (other_entry fa t u None e.1 ∙ is))
+      by_place (inr e) rest = behind (fa t) (rest (later e.1 i) (update_apart fa t u None e.1 ∙ is))
 
   module _ (pl : Place) where
     abbrev written : Groups → List (ℕ × tree.Arm)
@@ -106,14 +101,14 @@ module _ (w : Blocks) (h : ℕ) (v : Typed) (x : ℕ) (cases : (l : ℕ) → is_
     not_among : (gs : Groups) (fa : ℕ → Option tree.Arm) (u : ℕ) → (In u (targets gs) → ⊥) → update_all nat_eq fa (written gs) u ≡ fa u
     not_among none fa u ne = refl
     not_among (group j labels default r gs) fa u ne =
-        not_among gs (update nat_eq fa j (Some (arm_of j labels default r))) u (λ i. ne (inr i)) ∙ other_entry fa j u (Some (arm_of j labels default r)) (λ e. ne (inl (sym e)))
+        not_among gs (update nat_eq fa j (Some (arm_of j labels default r))) u (λ i. ne (inr i)) ∙ update_apart fa j u (Some (arm_of j labels default r)) (λ e. ne (inl (sym e)))
 
     -- the arm of a target that has the word
     has_written : (t : ℕ) (gs : Groups) (fa : ℕ → Option tree.Arm) → AreApart (targets gs) → In t (targets gs) → CasesAre x (nat_eq t) gs → (a : tree.Arm) × (update_all nat_eq fa (written gs) t ≡ Some a) × (has_case v (labels_of a) ≡ true)
     has_written t none fa apart i are = absurd i
     has_written t (group j labels default r gs) fa apart (inl same) are = (
       arm_of j labels default r,
-      not_among gs (update nat_eq fa j (Some (arm_of j labels default r))) t (λ i. apart.0 (subst (λ z. In z (targets gs)) same i)) ∙ own_entry fa j t (Some (arm_of j labels default r)) (sym same),
+      not_among gs (update nat_eq fa j (Some (arm_of j labels default r))) t (λ i. apart.0 (subst (λ z. In z (targets gs)) same i)) ∙ update_own fa j t (Some (arm_of j labels default r)) (sym same),
       case_is labels default ∙ (are.0 ∙ elim (eqb_tells t j) [ inl e ↦ e.0 | inr e ↦ absurd (e.1 same) ]),
     )
     has_written t (group j labels default r gs) fa apart (inr i) are = has_written t gs (update nat_eq fa j (Some (arm_of j labels default r))) apart.1 i are.1

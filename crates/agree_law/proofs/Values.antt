@@ -13,6 +13,7 @@ use Rattle.glsl_ast.specs.Tree.{Text, Expr, name}
 use Rattle.glsl_semantics.specs.Shapes.{Shape, Typed, typed}
 use Rattle.glsl_semantics.specs.States.{State, Thing, found_in}
 use Rattle.glsl_semantics.specs.Expressions.{Program, Argument, named, then_fetch, evaluate}
+use Rattle.list_law.proofs.Numbers.{none_below}
 use Rattle.region_law.specs.Leads.{In}
 use Rattle.agree_law.specs.Agree as agree
 use Rattle.agree_law.specs.Agree.{Naming, variable_with, value_of}
@@ -74,10 +75,7 @@ module _ (p : Program) (calls : Text → List Argument → State → Result (Opt
     Way n = IsNamed n ⊎ (((v : ValueTree) → value_at s c.at.top n ≡ Some v → Says n v) ⊎ IsForwarded n)
 
     says_below : ((n : ℕ) → IsUsable n → Way n) → (h n : ℕ) → height n < h → IsUsable n → (v : ValueTree) → value_at s c.at.top n ≡ Some v → Says n v
-    says_below ways zero n lt is v has = absurd (none_below lt)
-      where
-        none_below : {j : ℕ} → j < 0 → ⊥
-        none_below lt = omega (arith, lt)
+    says_below ways zero n lt is v has = absurd (none_below _ lt)
     says_below ways (suc h) n lt is v has = by_way (ways n is) (λ j usable lower u had. says_below ways h j lower usable u had)
       where
         by_way : Way n → ((j : ℕ) → IsUsable j → height j < h → (u : ValueTree) → value_at s c.at.top j ≡ Some u → Says j u) → Says n v

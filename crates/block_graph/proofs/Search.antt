@@ -4,25 +4,16 @@ use Rattle.std.specs.List.{count_by, slice_index, list_any}
 use Rattle.std.proofs.Math.ListN.{set}
 use Rattle.std.proofs.lemmas.List.{get_or-set_same, get_or-set_other, get_or_append_left, get_or_push, length-set, length_push, ext_get_or, get_or-replicate, length-replicate, get_or_default}
 use Rattle.std.proofs.lemmas.List.Sums.{count_by-le-length, sum_by-set}
-use Rattle.std.proofs.lemmas.Bool.{or_right}
-use Rattle.std.proofs.lemmas.Bool.Decides.{eqb_tells, nat_tests}
+use Rattle.std.proofs.lemmas.Bool.Decides.{eqb_tells}
+use Rattle.list_law.proofs.Lists.{mark_kept, marked_within, any_itself}
+use Rattle.list_law.proofs.Tests.{same_tests}
 use Rattle.structure_rules.specs.declared.graph.Node.{Node}
 use Rattle.structure_rules.specs.Graph.{nth, is_marked, leads_to, reach, reached, no_node}
 use Rattle.block_graph.specs.Search.{IsSearch, IsVisited}
 use Rattle.block_graph.specs.Within.{IsClosed}
-use Rattle.block_graph.proofs.Walks.{marked_within, length-reach, reach_start, reach_more, reach_edge, reach_le, reach_marked}
-
-same_nat : (x : ℕ) → (x == x) ≡ true
-same_nat x = grind (arith, nat_tests)
+use Rattle.block_graph.proofs.Walks.{length-reach, reach_start, reach_more, reach_edge, reach_le, reach_marked}
 
 -- a mark more
-mark_kept : (marks : List Bool) (t q : ℕ) → t < length marks → is_marked marks q ≡ true → is_marked (set marks t true) q ≡ true
-mark_kept marks t q inside e =
-    elim (eqb_tells q t) [
-      | inl w ↦ ap (is_marked (set marks t true)) w.1 ∙ get_or-set_same marks t true false inside
-      | inr w ↦ get_or-set_other marks t q true false w.1 ∙ e
-    ]
-
 mark_before : (marks : List Bool) (t q : ℕ) → q ≢ t → is_marked (set marks t true) q ≡ true → is_marked marks q ≡ true
 mark_before marks t q apart e = sym (get_or-set_other marks t q true false apart) ∙ e
 
@@ -103,12 +94,7 @@ unfolding reached
 search_end ns marks order place s past =
     let forth : (t : ℕ) → is_marked marks t ≡ true → is_marked (reach ns (length ns)) t ≡ true = λ t e. reach_le ns (length order) (length ns) t (search_length ns marks order place s) (s.sound t e) in
     let back : (t : ℕ) → is_marked (reach ns (length ns)) t ≡ true → is_marked marks t ≡ true = reach_marked ns marks (length ns) s.from_first (closed_end ns marks order place s past) in
-    ext_get_or false marks (reach ns (length ns)) (s.sized ∙ sym (length-reach ns (length ns))) (λ t h. same (is_marked marks t) (is_marked (reach ns (length ns)) t) (forth t) (back t))
-  where
-    same : (a b : Bool) → (a ≡ true → b ≡ true) → (b ≡ true → a ≡ true) → a ≡ b
-    same true b f g = sym (f refl)
-    same false true f g = g refl
-    same false false f g = refl
+    ext_get_or false marks (reach ns (length ns)) (s.sized ∙ sym (length-reach ns (length ns))) (λ t h. same_tests (is_marked marks t) (is_marked (reach ns (length ns)) t) (forth t) (back t))
 
 pub closed_none : (ns : List Node) (marks : List Bool) → length marks ≡ 0 → IsClosed ns marks
 closed_none ns marks none = λ p t e edge within. let inside : p < length marks = marked_within marks p e in absurd (omega (arith, inside, none))
@@ -157,11 +143,6 @@ pub record IsVisit (ns : List Node) (marks : List Bool) (order : List ℕ) (plac
   pub same : slice_index order place ≡ block
   pub seen : (k : ℕ) → k < i → slice_index targets k < length ns → is_marked marks (slice_index targets k) ≡ true
 
-leads : (targets : List ℕ) (i : ℕ) → i < length targets → list_any (λ x. x == slice_index targets i) targets ≡ true
-leads [] i h = absurd (omega arith)
-leads (t ∷ targets) zero h = rw (same_nat t) refl
-leads (t ∷ targets) (suc i) h = or_right (t == slice_index targets i) (list_any (λ x. x == slice_index targets i) targets) (leads targets i (omega arith))
-
 pub found_target : (targets : List ℕ) (t : ℕ) → list_any (λ x. x == t) targets ≡ true → (k : ℕ) × (k < length targets) × (slice_index targets k ≡ t)
 found_target [] t e = cc
 found_target (x ∷ targets) t e =
@@ -184,7 +165,7 @@ pub visit_push : (ns : List Node) (marks : List Bool) (order : List ℕ) (place 
 visit_push ns marks order place block targets i v inside own within free =
     let t : ℕ = slice_index targets i in
     let below : t < length ns = omega (arith, within, v.search.sized) in
-    let edge : leads_to t (nth ns (slice_index order place)) ≡ true = subst (λ b. leads_to t (nth ns b) ≡ true) (sym v.same) (subst (λ ts. list_any (λ x. x == t) ts ≡ true) own (leads targets i inside)) in
+    let edge : leads_to t (nth ns (slice_index order place)) ≡ true = subst (λ b. leads_to t (nth ns b) ≡ true) (sym v.same) (subst (λ ts. list_any (λ x. x == t) ts ≡ true) own (any_itself targets i inside)) in
     record {
       search = search_push ns marks order place t v.search v.there below free edge;
       there = (let longer = length_push order t in let h : place < length (order ++ t ∷ []) = omega (arith, longer, v.there) in h);

@@ -2,6 +2,7 @@
 use Rattle.std.proofs.Common.{◌≡◌, ◌<◌, ◌≤◌, ◌+◌, ◌-◌, ◌==◌, ◌&&◌, ◌||◌, ℕ, zero, suc, Bool, true, false, List, [], ◌∷◌, length, sym, ◌∙◌, subst, inl, inr, arith}
 use Rattle.std.proofs.lemmas.Bool.{or_cases, and_parts, or_left, or_right, and_from}
 use Rattle.std.proofs.lemmas.List.FromFn.{get_or-map-range_with_len, length-map-range_with_len}
+use Rattle.list_law.proofs.Lists.{marked_within}
 use Rattle.structure_rules.specs.declared.graph.Node.{Node}
 use Rattle.structure_rules.specs.Graph.{nth, is_marked, is_entered, leads_to, grown, reach}
 
@@ -20,12 +21,6 @@ entry (m ∷ marks) (n ∷ ns) t e =
       | inl here ↦ let parts = and_parts m (leads_to t n) here in (0, parts.0, parts.1)
       | inr there ↦ let later = entry marks ns t there in (suc later.0, later.1, later.2)
     ]
-
--- only a block is marked
-pub marked_within : (marks : List Bool) (t : ℕ) → is_marked marks t ≡ true → t < length marks
-marked_within [] t e = cc
-marked_within (m ∷ marks) zero e = omega arith
-marked_within (m ∷ marks) (suc t) e = let later : t < length marks = marked_within marks t e in omega (arith, later)
 
 pub length-reach : (ns : List Node) (n : ℕ) → length (reach ns n) ≡ length ns
 unfolding reach grown

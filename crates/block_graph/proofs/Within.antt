@@ -2,6 +2,7 @@
 use Rattle.std.proofs.Common.{◌≡◌, ◌<◌, ◌+◌, ◌==◌, ℕ, zero, suc, Bool, true, false, List, [], ◌∷◌, length, map, unwrap_or, Option, Some, None, refl, ap, sym, ◌∙◌, subst, arith, cond, if◌then◌else◌}
 use Rattle.std.specs.List.{position_from, slice_index}
 use Rattle.std.proofs.lemmas.List.{length-map}
+use Rattle.list_law.proofs.Lists.{marked_within}
 use Rattle.spv_ops.specs.Opcode.{is}
 use Rattle.spv_ops.specs.declared.Op.TheVariants as code
 use Rattle.spv_module.specs.declared.inst.Inst.{Inst}
@@ -11,7 +12,7 @@ use Rattle.structure_rules.specs.declared.graph.Merge.TheVariants.{Loop, Selecti
 use Rattle.structure_rules.specs.declared.graph.Node.{Node}
 use Rattle.structure_rules.specs.Graph.{nth, named, index_of, node_by, merge_by, nodes, reached, told, graph, is_marked, target_labels, terminator, merge_inst, leads_to}
 use Rattle.block_graph.specs.Within.{IsNodeWithin, AreWithin, IsClosed, AreReached}
-use Rattle.block_graph.proofs.Walks.{length-reach, marked_within}
+use Rattle.block_graph.proofs.Walks.{length-reach}
 use Rattle.block_graph.proofs.Search.{found_target}
 
 found_within : {X : Type 0} (p : X → Bool) (n : ℕ) (xs : List X) (k : ℕ) → position_from p n xs ≡ Some k → k < n + length xs

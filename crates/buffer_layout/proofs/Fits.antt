@@ -1,8 +1,9 @@
 -- Where no end is past the last byte, each number of a layout fits.
-use Rattle.std.proofs.Common.{◌≡◌, ◌≤◌, ◌<◌, ◌||◌, ℕ, ◌+◌, Bool, true, false, List, ◌∷◌, [], refl, ap, arith, drop, length, get_or, map, unwrap_or}
+use Rattle.std.proofs.Common.{◌≡◌, ◌≤◌, ◌<◌, ℕ, ◌+◌, false, List, ◌∷◌, [], ap, arith, drop, length, get_or, map, unwrap_or}
 use Rattle.std.specs.Option.{option_map_or}
 use Rattle.std.specs.List.{list_any}
 use Rattle.std.proofs.lemmas.Bool.Decides.{nat_tests}
+use Rattle.list_law.proofs.Tests.{or_left, or_right}
 use Rattle.spv_module.specs.declared.tree.Length.{Length}
 use Rattle.spv_module.specs.declared.tree.Shape.{Shape}
 use Rattle.spv_types.specs.Tree.{Tree, array, runtime, struct, Trees}
@@ -18,25 +19,17 @@ use Rattle.buffer_layout.specs.Plan.{is_too_large, layouts_of}
 use Rattle.buffer_layout.proofs.Bytes.{aligned_above, end_above, end_next, end_last}
 use Rattle.buffer_layout.proofs.Rows.{rest_next, rest_end}
 
-pub first_false : (a b : Bool) → (a || b) ≡ false → a ≡ false
-first_false false b e = refl
-first_false true b e = e
-
-pub second_false : (a b : Bool) → (a || b) ≡ false → b ≡ false
-second_false false b e = e
-second_false true b e = cc
-
 not_past : (n : ℕ) → is_past n ≡ false → n ≤ 4294967295
 not_past n e = grind (arith, nat_tests)
 
 pub size_fits : (kind : Kind) (t : Tree) → ends_past kind t ≡ false → size_of kind t ≤ 4294967295
-size_fits kind t e = not_past (size_of kind t) (first_false (is_past (size_of kind t)) (option_map_or is_past (stride_of kind t) false) e)
+size_fits kind t e = not_past (size_of kind t) (or_left (is_past (size_of kind t)) (option_map_or is_past (stride_of kind t) false) e)
 
 pub array_fits : (kind : Kind) (t : Tree) (l : Length) → ends_past kind (array t l) ≡ false → stride_over kind t ≤ 4294967295
-array_fits kind t l e = not_past (stride_over kind t) (second_false (is_past (size_of kind (array t l))) (is_past (stride_over kind t)) e)
+array_fits kind t l e = not_past (stride_over kind t) (or_right (is_past (size_of kind (array t l))) (is_past (stride_over kind t)) e)
 
 pub runtime_fits : (kind : Kind) (t : Tree) → ends_past kind (runtime t) ≡ false → stride_over kind t ≤ 4294967295
-runtime_fits kind t e = not_past (stride_over kind t) (second_false (is_past 0) (is_past (stride_over kind t)) e)
+runtime_fits kind t e = not_past (stride_over kind t) (or_right (is_past 0) (is_past (stride_over kind t)) e)
 
 pub ruleset stride_fits = (array_fits, runtime_fits)
 
@@ -56,10 +49,10 @@ offsets_end kind end l i past = ap (offsets_from kind end) (shapes_end l i past)
 pub ruleset offset_rules = (next_fits, end_next, offsets_next, offsets_end)
 
 pub member_fits : (kind : Kind) (l : List Member) (i : ℕ) (d : Member) → i < length l → list_any (is_too_large kind) (map member_of (drop i l)) ≡ false → is_too_large kind (member_of (get_or l i d)) ≡ false
-member_fits kind l i d inside e = first_false (is_too_large kind (member_of (get_or l i d))) (list_any (is_too_large kind) (map member_of (drop (i + 1) l))) (rw (rest_next l i d inside) at e)
+member_fits kind l i d inside e = or_left (is_too_large kind (member_of (get_or l i d))) (list_any (is_too_large kind) (map member_of (drop (i + 1) l))) (rw (rest_next l i d inside) at e)
 
 pub rest_fits : (kind : Kind) (l : List Member) (i : ℕ) (d : Member) → i < length l → list_any (is_too_large kind) (map member_of (drop i l)) ≡ false → list_any (is_too_large kind) (map member_of (drop (i + 1) l)) ≡ false
-rest_fits kind l i d inside e = second_false (is_too_large kind (member_of (get_or l i d))) (list_any (is_too_large kind) (map member_of (drop (i + 1) l))) (rw (rest_next l i d inside) at e)
+rest_fits kind l i d inside e = or_right (is_too_large kind (member_of (get_or l i d))) (list_any (is_too_large kind) (map member_of (drop (i + 1) l))) (rw (rest_next l i d inside) at e)
 
 pub layouts_next : (kind : Kind) (l : List Member) (i : ℕ) (d : Member) → i < length l → layouts_of kind (map member_of (drop i l)) ≡ layout_or_zeros kind (member_of (get_or l i d)).shape ∷ layouts_of kind (map member_of (drop (i + 1) l))
 layouts_next kind l i d inside = ap (layouts_of kind) (rest_next l i d inside)

@@ -1,5 +1,6 @@
 -- The measures of arrays and structs from those of their parts.
 use Rattle.std.proofs.Common.{◌≡◌, ◌≤◌, ◌<◌, ◌||◌, ℕ, Bool, true, false, List, refl, ap, sym, ◌∙◌, min, nat_lt}
+use Rattle.std.proofs.Math.Bool.{or_assoc}
 use Rattle.spv_words.specs.declared.rule.Rule.TheVariants.{L7}
 use Rattle.spv_module.specs.declared.inst.Inst.{Inst}
 use Rattle.spv_module.specs.declared.tree.Length.{Length}
@@ -12,10 +13,6 @@ use Rattle.buffer_layout.specs.declared.measure.Measured.{Measured}
 use Rattle.buffer_layout.specs.Measures.{IsWhole, IsMeasure, IsMeasureOfStride, IsMeasureOfMembers}
 use Rattle.buffer_layout.proofs.Bytes.{capped_aligned}
 use Rattle.buffer_layout.proofs.Steps.{capped_past}
-
-either_of : (a b c : Bool) → (a || (b || c)) ≡ ((a || b) || c)
-either_of true b c = refl
-either_of false b c = refl
 
 or_none : (a c : Bool) → (a || c) ≡ ((a || false) || c)
 or_none true c = refl
@@ -36,7 +33,7 @@ array_measure heads gs kind id t l e m size h w s = record {
   l2 = w.l2 ∙ h.l2;
   l3 = w.l3 ∙ h.l3;
   l6 = w.l6 ∙ h.l6;
-  l7 = w.l7 ∙ (rw (past size (size_of kind (array t l)) s, h.l7) (either_of (is_past (size_of kind (array t l))) (is_past (stride_over kind t)) (any_part (breaks heads kind L7) gs (part_id gs id 0) t)));
+  l7 = w.l7 ∙ (rw (past size (size_of kind (array t l)) s, h.l7) (sym (or_assoc (is_past (size_of kind (array t l))) (is_past (stride_over kind t)) (any_part (breaks heads kind L7) gs (part_id gs id 0) t))));
 }
 
 pub runtime_measure : (heads gs : List Inst) (kind : Kind) (id : ℕ) (t : Tree) (e m : Measured) → IsMeasureOfStride heads gs kind id t e → IsWhole e 0 e.alignment m → IsMeasure heads gs kind id (runtime t) m

@@ -52,10 +52,6 @@ end_step offset end cut alignment size cap here behind =
 pub member_next : (test : ℕ → Tree → Bool) (gs : List Inst) (id k : ℕ) (l : List Shape) (i : ℕ) (d : Shape) → i < length l → any_member test gs id k (trees_of (drop i l)) ≡ (any_part test gs (part_id gs id k) (tree_of (get_or l i d)) || any_member test gs id (k + 1) (trees_of (drop (i + 1) l)))
 member_next test gs id k l i d inside = ap (any_member test gs id k) (rest_next l i d inside)
 
-pub one_more : (a f r : Bool) → ((a || f) || r) ≡ (a || (f || r))
-one_more true f r = refl
-one_more false f r = refl
-
 pub two_more : (a o f s r : Bool) → ((a || (o || f)) || (s || r)) ≡ (a || ((o || s) || (f || r)))
 two_more true o f s r = refl
 two_more false true f s r = refl

@@ -1,8 +1,10 @@
 -- The layout that a block takes.
-use Rattle.std.proofs.Common.{◌≡◌, ℕ, Bool, true, false, List, [], ◌∷◌, Option, Some, None, find, refl, sym, subst, ◌∙◌, if◌then◌else◌}
+use Rattle.std.proofs.Common.{◌≡◌, ℕ, Bool, true, false, List, [], ◌∷◌, Option, Some, None, find, refl, sym, ◌∙◌, if◌then◌else◌}
 use Rattle.std.specs.Prelude.{IsSomeAnd}
 use Rattle.std.specs.Option.{option_map_or}
 use Rattle.std.specs.List.{list_any}
+use Rattle.list_law.proofs.Tests.{or_left, or_right}
+use Rattle.list_law.proofs.Lists.{found_passes}
 use Rattle.spv_words.specs.declared.rule.Rule.{Rule}
 use Rattle.spv_words.specs.declared.rule.Rule.TheVariants.{L1, L2, L3, L4, L5, L6, L7}
 use Rattle.spv_words.specs.declared.rule.Fault.{Fault}
@@ -17,17 +19,7 @@ use Rattle.layout_rules.specs.Rules.{is_past, breaks, ends_past}
 use Rattle.layout_rules.specs.Blocks.{Member, end_of, breaks_inside, member_breaks, members_break, block_rules, type_rules, first_broken, block_of, IsLimit, IsRightAt, IsBrokenBy, BreaksAt}
 use Rattle.buffer_layout.specs.declared.plan.BlockPlan.{BlockPlan}
 use Rattle.buffer_layout.specs.Plan.{is_too_large, AllFit, IsPlanAt, IsPlanOf, IsUnbroken}
-use Rattle.buffer_layout.proofs.Fits.{first_false, second_false}
 use Rattle.buffer_layout.proofs.Rows.{some_limit}
-
-by_test : {A : Type 0} (p : A → Bool) (x y : A) (xs : List A) (b : Bool) → p x ≡ b → (find p xs ≡ Some y → p y ≡ true) → (if b then Some x else find p xs) ≡ Some y → p y ≡ true
-by_test p x y xs true e rest found = (let same : x ≡ y = cc in subst (λ z. p z ≡ true) same e)
-by_test p x y xs false e rest found = rest found
-
--- what is found passes the test
-pub found_passes : {A : Type 0} (p : A → Bool) (xs : List A) (y : A) → find p xs ≡ Some y → p y ≡ true
-found_passes p [] y found = cc
-found_passes p (x ∷ xs) y found = by_test p x y xs (p x) refl (found_passes p xs y) found
 
 pub broken_passes : (heads gs : List Inst) (kind : Kind) (ms : List Member) (rule : Rule) → first_broken heads gs kind ms ≡ Some rule → members_break heads gs kind ms rule ≡ true
 broken_passes heads gs kind ms rule found = found_passes (members_break heads gs kind ms) block_rules rule found
@@ -56,9 +48,9 @@ itself test gs id boolean e = e
 itself test gs id int e = e
 itself test gs id uint e = e
 itself test gs id (vector x n) e = e
-itself test gs id (array t l) e = first_false (test id (array t l)) (any_part test gs (part_id gs id 0) t) e
-itself test gs id (runtime t) e = first_false (test id (runtime t)) (any_part test gs (part_id gs id 0) t) e
-itself test gs id (struct s ts) e = first_false (test id (struct s ts)) (any_member test gs id 0 ts) e
+itself test gs id (array t l) e = or_left (test id (array t l)) (any_part test gs (part_id gs id 0) t) e
+itself test gs id (runtime t) e = or_left (test id (runtime t)) (any_part test gs (part_id gs id 0) t) e
+itself test gs id (struct s ts) e = or_left (test id (struct s ts)) (any_member test gs id 0 ts) e
 
 end_breaks : (heads : List Inst) (kind : Kind) (id : ℕ) (t : Tree) → breaks heads kind L7 id t ≡ ends_past kind t
 unfolding breaks
@@ -70,13 +62,13 @@ shape_fits heads gs kind id (Some t) e = sym (end_breaks heads kind id t) ∙ it
 
 member_fits : (heads gs : List Inst) (kind : Kind) (m : Member) → member_breaks heads gs kind L7 m ≡ false → is_too_large kind m ≡ false
 unfolding member_breaks
-member_fits heads gs kind m e = shape_fits heads gs kind m.id m.shape (second_false (is_past (end_of kind m)) (breaks_inside heads gs kind L7 m) e)
+member_fits heads gs kind m e = shape_fits heads gs kind m.id m.shape (or_right (is_past (end_of kind m)) (breaks_inside heads gs kind L7 m) e)
 
 all_fit : (heads gs : List Inst) (kind : Kind) (ms : List Member) → list_any (member_breaks heads gs kind L7) ms ≡ false → AllFit kind ms
 all_fit heads gs kind [] e = refl
 all_fit heads gs kind (m ∷ ms) e =
-    let here : is_too_large kind m ≡ false = member_fits heads gs kind m (first_false (member_breaks heads gs kind L7 m) (list_any (member_breaks heads gs kind L7) ms) e) in
-    rw here (all_fit heads gs kind ms (second_false (member_breaks heads gs kind L7 m) (list_any (member_breaks heads gs kind L7) ms) e))
+    let here : is_too_large kind m ≡ false = member_fits heads gs kind m (or_left (member_breaks heads gs kind L7 m) (list_any (member_breaks heads gs kind L7) ms) e) in
+    rw here (all_fit heads gs kind ms (or_right (member_breaks heads gs kind L7 m) (list_any (member_breaks heads gs kind L7) ms) e))
 
 last_rule : (heads gs : List Inst) (kind : Kind) (ms : List Member) → members_break heads gs kind ms L7 ≡ list_any (member_breaks heads gs kind L7) ms
 unfolding members_break

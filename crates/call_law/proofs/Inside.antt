@@ -6,7 +6,6 @@ use Rattle.std.proofs.lemmas.Option.{same_Some}
 use Rattle.spv_ops.specs.declared.AtomicOp.{AtomicOp}
 use Rattle.spv_ops.specs.declared.AtomicOp.TheVariants as atomics
 use Rattle.spv_ops.specs.declared.Terminator.{Terminator}
-use Rattle.spv_module.specs.declared.inst.Id.{Id}
 use Rattle.spv_module.specs.declared.inst.Inst.{Inst}
 use Rattle.spv_types.specs.Tree.{ValueTree, word}
 use Rattle.spv_index.specs.Locals.{block_in}
@@ -18,15 +17,16 @@ use Rattle.traces.specs.Events.{Event, event_of, control_barrier}
 use Rattle.traces.specs.Runs.{go, told, Act, goes, asks, stops, fails, Supplied, supplied}
 use Rattle.module_semantics.specs.Setting.{Setting, global_variable}
 use Rattle.module_semantics.specs.Memory.{shape_along, are_allowed, elements}
-use Rattle.module_semantics.specs.State.{Root, global, own, lent, Held, value, pointer, Frame, Conf, put, call_at, with_call, with_variable}
+use Rattle.module_semantics.specs.State.{Root, global, own, lent, Held, value, pointer, Frame, Conf, call_at, with_call, with_variable}
 use Rattle.module_semantics.specs.Operands.{of_module, held, as_pointer, value_at, pointer_at, Target, arg, word_at, words_at}
 use Rattle.module_semantics.specs.Accesses.{seen, kept, keeping, with_lent}
 use Rattle.module_semantics.specs.Steps as the
-use Rattle.module_semantics.specs.Steps.{with_some, advanced, set, set_value, computed, operation_step, base, without_based, is_based_on, lead_if, chain_step, length_step, variable_step, read_shape, load_from, load_step, store_to, store_step, atomic_operands, set_found, atomic_step, memory_barriers, memory_barrier_step, control_barrier_step, phis, passed, argument_of, entered, called, call_step, return_step, given_to, return_value_step, target_label, phi_value, with_phis, present_label, edge_step, branch_step, StepKind, step_kind, step_by, act_on, act}
+use Rattle.module_semantics.specs.Steps.{with_some, advanced, set, set_value, computed, operation_step, base, without_based, lead_if, chain_step, length_step, variable_step, read_shape, load_from, load_step, store_to, store_step, atomic_operands, set_found, atomic_step, memory_barriers, memory_barrier_step, control_barrier_step, phis, passed, entered, call_step, return_step, given_to, return_value_step, target_label, phi_value, present_label, edge_step, branch_step, StepKind, step_kind, step_by, act_on, act}
 use Rattle.fits_law.proofs.Operations.{before_some}
 use Rattle.agree_law.specs.Answers.{are_words, told_words, move}
 use Rattle.agree_law.specs.Agree.{IfPointer}
 use Rattle.agree_law.proofs.Machine.{machine}
+use Rattle.agree_law.proofs.Along.{put_along, without_along, phis_along, AllHeld, arguments_along}
 use Rattle.call_law.specs.Waits.{IsAsBefore, Wait, IsWithin, FrameWithin, Within, IsInside, ActInside}
 
 -- a call that is not there is not changed
@@ -63,13 +63,6 @@ module _ (s : Setting) (IsLent : ℕ → ℕ → Type 0) (start : List (Frame ×
   some_inside (Some a) f on = on a refl
 
   -- what ids have
-  put_within : (ids : ℕ → Option Held) (n : ℕ) (h : Held) → ((k : ℕ) → IfPointer (ids k) P) → IfPointer (Some h) P → (k : ℕ) → IfPointer (put ids n h k) P
-  put_within ids n h all mine k = by_test (k == n) (all k)
-    where
-      by_test : (t : Bool) → IfPointer (ids k) P → IfPointer (elim t [ true ↦ Some h | false ↦ ids k ]) P
-      by_test true a = mine
-      by_test false a = a
-
   held_within : (c : Frame) (n : ℕ) → FrameWithin IsLent start c → IfPointer (held s c n) P
   held_within c n all = by_own (c.ids n) (all n)
     where
@@ -94,7 +87,7 @@ module _ (s : Setting) (IsLent : ℕ → ℕ → Type 0) (start : List (Frame ×
       by_held (Some (pointer r path)) a e = subst (λ (q : Target). IsWithin IsLent start q.0) (same_Some (r, path) p e) a
 
   set_inside : (c : Conf) (rest : List Inst) (i : Inst) (h : Held) → IsInside IsLent start c → IfPointer (Some h) P → IsInside IsLent start (set c rest i h)
-  set_inside c rest i h at mine = record { top = put_within c.top.ids i.result h at.top mine; below = at.below }
+  set_inside c rest i h at mine = record { top = put_along P c.top.ids i.result h at.top mine; below = at.below }
 
   advanced_inside : (c : Conf) (rest : List Inst) → IsInside IsLent start c → IsInside IsLent start (advanced c rest)
   advanced_inside c rest at = record { top = at.top; below = at.below }
@@ -104,16 +97,9 @@ module _ (s : Setting) (IsLent : ℕ → ℕ → Type 0) (start : List (Frame ×
   operation_inside c rest i at = some_inside (computed s c.top i) (λ v. goes [] (set_value c rest i v)) (λ v e. inl (set_inside c rest i (value v) at tt))
 
   -- chains
-  without_within : (c : Frame) (chain : ℕ) → FrameWithin IsLent start c → (n : ℕ) → IfPointer (without_based c.function chain c.ids n) P
-  without_within c chain all n = by_test (is_based_on c.function chain n) (all n)
-    where
-      by_test : (t : Bool) → IfPointer (c.ids n) P → IfPointer (elim t [ true ↦ None | false ↦ c.ids n ]) P
-      by_test true a = tt
-      by_test false a = a
-
   led_inside : (c : Conf) (rest : List Inst) (i : Inst) (p : Target) (indexes : List ℕ) (t : Bool) → IsInside IsLent start c → IsWithin IsLent start p.0 → ActInside IsLent start (lead_if t c rest i p indexes)
   led_inside c rest i p indexes false at in_it = tt
-  led_inside c rest i p indexes true at in_it = inl (record { top = put_within (without_based c.top.function i.result c.top.ids) i.result (pointer p.0 (p.1 ++ indexes)) (without_within c.top i.result at.top) in_it; below = at.below })
+  led_inside c rest i p indexes true at in_it = inl (record { top = put_along P (without_based c.top.function i.result c.top.ids) i.result (pointer p.0 (p.1 ++ indexes)) (without_along P c.top i.result at.top) in_it; below = at.below })
 
   chain_inside : (c : Conf) (rest : List Inst) (i : Inst) → IsInside IsLent start c → ActInside IsLent start (chain_step s c rest i)
   unfolding chain_step
@@ -210,23 +196,13 @@ module _ (s : Setting) (IsLent : ℕ → ℕ → Type 0) (start : List (Frame ×
 
   -- calls
   abbrev pub AllWithin : List Held → Type 0
-  AllWithin [] = Unit {0}
-  AllWithin (h ∷ hs) = IfPointer (Some h) P × AllWithin hs
+  AllWithin hs = AllHeld P hs
 
   passed_within : (depth : ℕ) (h : Held) → length start ≤ depth → IfPointer (Some h) P → IfPointer (Some (passed depth h)) P
   passed_within depth (value v) le a = tt
   passed_within depth (pointer (global n) path) le a = tt
   passed_within depth (pointer (own n) path) le a = inl le
   passed_within depth (pointer (lent d n) path) le a = a
-
-  pub arguments_within : (ps : List (Id × Id)) (hs : List Held) → AllWithin hs → (n : ℕ) → IfPointer (argument_of ps hs n) P
-  arguments_within [] hs all n = tt
-  arguments_within (p ∷ ps) [] all n = tt
-  arguments_within (p ∷ ps) (h ∷ hs) all n = by_test (p.0.0 == n) (arguments_within ps hs all.1 n)
-    where
-      by_test : (t : Bool) → IfPointer (argument_of ps hs n) P → IfPointer (elim t [ true ↦ Some h | false ↦ argument_of ps hs n ]) P
-      by_test true later = all.0
-      by_test false later = later
 
   all_passed : (depth : ℕ) (hs : List Held) → length start ≤ depth → AllWithin hs → AllWithin (map (passed depth) hs)
   all_passed depth [] le all = tt
@@ -245,7 +221,7 @@ module _ (s : Setting) (IsLent : ℕ → ℕ → Type 0) (start : List (Frame ×
       some_inside (function_of s.of.functions (arg i 0)) _ (λ f is.
       some_inside (each_one (held s c.top) (drop 1 i.args)) _ (λ arguments have.
       inl (record {
-        top = arguments_within f.params (map (passed (length c.below)) arguments) (all_passed (length c.below) arguments (within_length c.below at.below) (all_held c.top at.top (drop 1 i.args) arguments have));
+        top = arguments_along P f.params (map (passed (length c.below)) arguments) (all_passed (length c.below) arguments (within_length c.below at.below) (all_held c.top at.top (drop 1 i.args) arguments have));
         below = inr (at.top, at.below);
       })))
 
@@ -262,25 +238,20 @@ module _ (s : Setting) (IsLent : ℕ → ℕ → Type 0) (start : List (Frame ×
   given_inside : (c : Conf) (v : ValueTree) (ds : List (Frame × ℕ)) → Within IsLent start ds → ActInside IsLent start (given_to v c ds)
   given_inside c v [] w = tt
   given_inside c v (d ∷ ds) (inl w) = inr (out_length d ds w)
-  given_inside c v (d ∷ ds) (inr w) = inl (record { top = put_within d.0.ids d.1 (value v) w.0 tt; below = w.1 })
+  given_inside c v (d ∷ ds) (inr w) = inl (record { top = put_along P d.0.ids d.1 (value v) w.0 tt; below = w.1 })
 
   return_value_inside : (c : Conf) (i : Inst) → IsInside IsLent start c → ActInside IsLent start (return_value_step s c i)
   unfolding return_value_step
   return_value_inside c i at = some_inside (value_at s c.top (arg i 0)) _ (λ v e. given_inside c v c.below at.below)
 
   -- edges
-  phis_within : (ids : ℕ → Option Held) (is : List Inst) (vs : List ValueTree) → ((n : ℕ) → IfPointer (ids n) P) → (n : ℕ) → IfPointer (with_phis is vs ids n) P
-  phis_within ids [] vs all = all
-  phis_within ids (i ∷ is) [] all = all
-  phis_within ids (i ∷ is) (v ∷ vs) all = put_within (with_phis is vs ids) i.result (value v) (phis_within ids is vs all) tt
-
   edge_inside : (c : Conf) (label : ℕ) → IsInside IsLent start c → ActInside IsLent start (edge_step s c label)
   unfolding edge_step
   edge_inside c label at =
       some_inside (block_in c.top.function label) _ (λ t to.
       some_inside (slice_get c.top.function.blocks t) _ (λ b is.
       some_inside (each_one (phi_value s c.top (present_label c.top)) (phis b)) _ (λ values have.
-      inl (record { top = phis_within c.top.ids (phis b) values at.top; below = at.below }))))
+      inl (record { top = phis_along P (phis b) values c.top.ids at.top; below = at.below }))))
 
   branch_inside : (o : Terminator) (c : Conf) (i : Inst) → IsInside IsLent start c → ActInside IsLent start (branch_step o s c i)
   unfolding branch_step

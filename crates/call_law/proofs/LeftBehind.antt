@@ -12,8 +12,9 @@ use Rattle.module_semantics.specs.Steps.{passed, entered, called}
 use Rattle.agree_law.specs.Agree.{Naming, AreApart, IfPointer, variable_in, target_value}
 use Rattle.agree_law.specs.Outs.{Outs, IsOut, NotOut, AreOnce, AreLent}
 use Rattle.agree_law.proofs.Returning.{IsLeft}
-use Rattle.call_law.specs.Waits.{Wait, IsInside, LentBy, IsUnlent}
-use Rattle.call_law.proofs.Inside.{wait_length, AllWithin, arguments_within, waits_there}
+use Rattle.agree_law.proofs.Along.{arguments_along}
+use Rattle.call_law.specs.Waits.{Wait, IsInside, LentBy, IsUnlent, IsWithin}
+use Rattle.call_law.proofs.Inside.{wait_length, AllWithin, waits_there}
 
 -- the caller, which waits behind the call, and those below it
 abbrev pub waiting : Conf → List Inst → Inst → List (Frame × ℕ)
@@ -38,7 +39,7 @@ unfolding entered
 call_begins s c rest i f arguments =
     let hs : List Held = map (passed (length c.below)) arguments in
     record {
-      top = arguments_within s (LentBy hs) (waiting c rest i) f.params hs (all_lent s (waiting c rest i) hs hs (λ d n is. is));
+      top = arguments_along (λ r path. IsWithin (LentBy hs) (waiting c rest i) r) f.params hs (all_lent s (waiting c rest i) hs hs (λ d n is. is));
       below = inl (wait_self (LentBy hs) (waiting c rest i));
     }
 

@@ -1,11 +1,12 @@
 -- How many calls of a function are of functions that are not listed.
-use Rattle.std.proofs.Common.{◌≡◌, ◌≢◌, ◌<◌, ◌≤◌, ◌+◌, ◌==◌, ◌&&◌, ◌||◌, not, ◌⊎◌, ℕ, suc, Bool, true, false, cond, List, [], ◌∷◌, ◌++◌, length, take, get_or, refl, ap, sym, ◌∙◌, inl, inr, arith, map, filter, count_by, Contains}
+use Rattle.std.proofs.Common.{◌≡◌, ◌≢◌, ◌<◌, ◌≤◌, ◌+◌, ◌==◌, ◌&&◌, ◌||◌, not, ◌⊎◌, ℕ, suc, Bool, true, false, cond, List, [], ◌∷◌, ◌++◌, length, take, get_or, refl, ap, sym, ◌∙◌, inl, inr, arith, map, filter, Contains}
 use Rattle.std.proofs.lemmas.List.{take_more}
 use Rattle.std.proofs.lemmas.List.Elements.{Contains-push_cases, Contains-append_left, Contains-push}
-use Rattle.std.proofs.lemmas.List.Sums.{sum_by-cons, get_or-le-sum_by}
+use Rattle.std.proofs.lemmas.List.Sums.{get_or-le-sum_by}
 use Rattle.std.proofs.lemmas.List.Folds.{list_any-append}
 use Rattle.std.proofs.lemmas.Bool.Decides.{nat_tests, eqb_tells}
 use Rattle.std.proofs.lemmas.Bool.{and_parts}
+use Rattle.list_law.proofs.Lists.{count_by-cons}
 use Rattle.call_order.specs.declared.graph.Call.{Call}
 use Rattle.call_order.specs.Graph.{is_in, is_to, is_open, open_calls, callers}
 use Rattle.call_order.specs.Released.{times}
@@ -32,9 +33,6 @@ in_push_other order q y e = let h = in_push order q y in grind (arith, nat_tests
 
 pub in_push_cases : (order : List ℕ) (q y : ℕ) → is_in (order ++ q ∷ []) y ≡ true → (is_in order y ≡ true) ⊎ (q ≡ y)
 in_push_cases order q y e = let h = in_push order q y in grind (arith, nat_tests, h, e)
-
-count_by-cons : {X : Type 0} (p : X → Bool) (x : X) (xs : List X) → count_by p (x ∷ xs) ≡ cond (p x) 1 0 + count_by p xs
-count_by-cons p x xs = sum_by-cons (λ y. cond (p y) 1 0) x xs
 
 abbrev as_number : Bool → ℕ
 as_number b = cond b 1 0

@@ -1,7 +1,7 @@
 -- One more function is listed.
 use Rattle.std.proofs.Common.{◌≡◌, ◌≢◌, ◌<◌, ◌≤◌, ◌+◌, ◌++◌, ◌==◌, ℕ, zero, suc, Bool, true, false, cond, List, [], ◌∷◌, filter, Contains, length, take, get_or, refl, ap, sym, ◌∙◌, inl, inr, arith}
 use Rattle.std.specs.List.{All}
-use Rattle.std.specs.Ordering.{nat_cmp, is_eq, is_gt}
+use Rattle.std.specs.Ordering.{nat_cmp, is_eq}
 use Rattle.std.proofs.lemmas.List.{get_or_append_left, get_or_push, take-append-le, take_all, length_push, get_or_past}
 use Rattle.std.proofs.lemmas.List.Sums.{sum_by-cons}
 use Rattle.std.proofs.lemmas.List.Elements.{All-map, All-filter, All-contains}
@@ -50,10 +50,6 @@ rest_stays c p is now e h apart =
     let other : is_eq (nat_cmp c p) ≡ false = grind (arith, nat_tests, apart) in
     let same : now ≡ is = rw other at e in
     same ∙ h
-
--- what a lower bound says of a number
-pub least_is : (q p : ℕ) → is_gt (nat_cmp q p) ≡ false → q ≤ p
-least_is q p h = grind (arith, nat_tests, h)
 
 abbrev as_number : Bool → ℕ
 as_number b = cond b 1 0

@@ -1,22 +1,10 @@
 -- Calls that write, one after the other.
-use Rattle.std.proofs.Common.{subst, ◌+◌, ◌++◌, ℕ, List, length, take, Option, Result, Ok, Err, refl, sym, ◌∙◌, arith}
-use Rattle.std.specs.Io.KnownBytes.{Appends}
+use Rattle.std.proofs.Common.{subst, ◌++◌, ℕ, List, Option, Result, Ok, Err, refl, sym, ◌∙◌, arith}
 use Rattle.std.proofs.KnownBytes.{Appends-trans}
-use Rattle.std.proofs.lemmas.List.{take-append-le, length-append}
-use Rattle.std.proofs.Math.Seq.{take-append-add}
-use Rattle.cc_outside.specs.Causes.{AppendsPrefix}
 use Rattle.cc_outside.specs.declared.all.WriteEnd.{WriteEnd}
 use Rattle.cc_outside.specs.declared.all.WriteEnd.TheVariants.{Fault, Memory}
+use Rattle.cc_outside.proofs.Fronts.{front_of, front_after}
 use Rattle.command_line.specs.Wrote.{Wrote, Goes, Said}
-
--- the front of a front
-front_of : (a b : Option (List ℕ)) (xs zs : List ℕ) → AppendsPrefix a b xs → AppendsPrefix a b (xs ++ zs)
-front_of a b xs zs (n, fits, wrote) = (n, omega (arith, length-append xs zs), rw (take-append-le n xs zs fits) wrote)
-
--- all of some bytes, and then the front of others
-front_after : (a b c : Option (List ℕ)) (xs ys : List ℕ) → Appends a b xs → AppendsPrefix b c ys → AppendsPrefix a c (xs ++ ys)
-front_after a b c xs ys all (n, fits, wrote) =
-    (length xs + n, omega (arith, length-append xs ys), rw take-append-add (Appends-trans a b c xs (take n ys) all wrote))
 
 module _ {K : Type 0} (written : K → Option (List ℕ)) (faults wants : K → ℕ) where
   -- what comes after is not written

@@ -7,6 +7,7 @@ use Rattle.std.proofs.lemmas.List.Concat.{flat_map-cons}
 use Rattle.std.proofs.lemmas.List.Elements.{All-nil, All-cons, All-head, All-tail, All-append, All-contains, All-filter, All-weaker, All-from_get_or, filter_passes}
 use Rattle.std.proofs.lemmas.Bool.Decides.{eqb_tells, nat_tests}
 use Rattle.std.proofs.lemmas.Bool.{false_from_ne_true, or_parts}
+use Rattle.list_law.proofs.Tests.{but_not}
 use Rattle.spv_words.specs.Words.{words, insts, slice, first_fault}
 use Rattle.spv_words.specs.Breaks.{AreWords}
 use Rattle.spv_words.specs.declared.words.Inst1.{Inst1}
@@ -168,11 +169,6 @@ unbroken_if : (b : Bool) (rule : Rule) (at : ℕ) → broken_if b rule at ≡ []
 unbroken_if true rule at h = cc
 unbroken_if false rule at h = refl
 
-and_not_false : (a b : Bool) → a ≡ true → (a && not b) ≡ false → b ≡ true
-and_not_false true true e h = refl
-and_not_false true false e h = cc
-and_not_false false b e h = cc
-
 call_id : (args : List ℕ) → is_id code.FunctionCall args 0 ≡ true
 unfolding is_id
 call_id args = refl
@@ -188,7 +184,7 @@ operand_there there i (a ∷ others) op full fine =
     let first = (or_parts (lacks_operand there i (0, a)) (list_any (lacks_operand there i) (enumerate_from 1 others)) fine).0 in
     let id : is_id i.op i.args 0 ≡ true = ap (λ o. is_id o i.args 0) op ∙ call_id i.args in
     let needed : need i.op 0 ≡ Callee = ap (λ o. need o 0) op ∙ call_need in
-    ap (λ n. there n a) (sym needed) ∙ and_not_false (is_id i.op i.args 0) (there (need i.op 0) a) id first
+    ap (λ n. there n a) (sym needed) ∙ but_not (is_id i.op i.args 0) (there (need i.op 0) a) id first
 
 no_global : (o : Option Inst) → option_map_or (suits Callee) o false ≡ false
 no_global None = refl

@@ -62,9 +62,7 @@ impl Readings<'_> {
             }
             Shape::Struct(_, members) => {
                 let parts = self.zero_members(alloc, names, members)?;
-                let ty = self.type_name(alloc, names, shape)?;
-                let zero = Expr::build(alloc, ty, parts)?;
-                Ok(zero)
+                Expr::build(alloc, self.type_name(alloc, names, shape)?, parts)
             }
         }
     }

@@ -11,6 +11,7 @@ use Rattle.std.proofs.lemmas.List.Sums.{fold_more}
 use Rattle.std.proofs.lemmas.List.Folds.{find_at}
 use Rattle.std.proofs.lemmas.List.{take_all, map_push, get_or-map}
 use Rattle.std.proofs.lemmas.Option.{slice_get_within, get_or_from_slice_get}
+use Rattle.list_law.proofs.Numbers.{order_at}
 use Rattle.spv_words.specs.Limit.{limit_number}
 use Rattle.spv_words.specs.declared.rule.Fault.{Fault}
 use Rattle.spv_words.specs.declared.rule.Fault.TheVariants.{Refused, Limit, Memory}
@@ -29,7 +30,6 @@ use Rattle.profile_rules.specs.Constants.{with_value, value_step, shaped_value, 
 use Rattle.profile_rules.specs.TypeRules.{is_sound}
 use Rattle.spec_constants.specs.Fit.{IsCause as IsFitCause}
 use Rattle.spec_constants.specs.Counted.{IsOver}
-use Rattle.spec_constants.proofs.Counts.{at_is}
 use Rattle.op_semantics.specs.Component.{before, each_one}
 use Rattle.value_ops.specs.References.{referred}
 use Rattle.constant_values.specs.Held.{value_in, put_value, chosen_by}
@@ -47,7 +47,7 @@ put_none f id q o none =
 pub put_some : (old new : BTreeMap ℕ Value) (id q : ℕ) (v : Value) → get nat_cmp new q ≡ cond (is_at (nat_cmp id) q) (Some v) (get nat_cmp old q) → value_in new q ≡ put_value (value_in old) id (Some (value_of v)) q
 put_some old new id q v set =
     ap (option_map value_of) set
-    ∙ ap (λ b. option_map value_of (cond b (Some v) (get nat_cmp old q))) (at_is id q)
+    ∙ ap (λ b. option_map value_of (cond b (Some v) (get nat_cmp old q))) (order_at id q)
     ∙ (elim (id == q) as (λ b. option_map value_of (cond b (Some v) (get nat_cmp old q)) ≡ (elim b as (λ x. Option ValueTree) [ true ↦ Some (value_of v) | false ↦ value_in old q ])) [ true ↦ refl | false ↦ refl ])
 
 each_at : (f : ℕ → Option ValueTree) (ids : List ℕ) (i : ℕ) → i < length ids → each_one f (drop i ids) ≡ before (f (slice_index ids i)) (each_one f (drop (i + 1) ids))

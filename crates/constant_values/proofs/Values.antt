@@ -1,7 +1,8 @@
 -- The values of a list, one by one.
-use Rattle.std.proofs.Common.{◌≡◌, ◌<◌, ◌≤◌, ◌+◌, ◌&&◌, ℕ, suc, Bool, true, false, List, [], ◌∷◌, refl, ap, sym, ◌∙◌, arith, add-one, drop, get_or, length}
+use Rattle.std.proofs.Common.{◌≡◌, ◌<◌, ◌≤◌, ◌+◌, ◌&&◌, ℕ, suc, true, false, List, [], ◌∷◌, refl, ap, sym, ◌∙◌, arith, add-one, drop, get_or, length}
 use Rattle.std.proofs.Math.Seq.{drop-cons}
 use Rattle.std.proofs.Math.ListN.{drop_of_length-le}
+use Rattle.std.proofs.lemmas.Bool.{and_right}
 use Rattle.spv_module.specs.declared.tree.Shape.{Shape}
 use Rattle.spv_module.specs.declared.tree.Value.{Value}
 use Rattle.spv_types.specs.Tree.{Tree, ValueTree, ValueTrees, value}
@@ -34,16 +35,11 @@ members_next ms vs i m v h k = ap (fits_parts (trees_of (drop i ms))) (plain_nex
 pub members_end : (ms : List Shape) (vs : List Value) (i : ℕ) → length ms ≤ i → length ms ≡ length vs → fits_parts (trees_of (drop i ms)) (plain (drop i vs)) ≡ true
 members_end ms vs i past same = let over : length vs ≤ i = omega arith in ap (λ m. fits_parts (trees_of m) (plain (drop i vs))) (drop_of_length-le ms past) ∙ ap (λ w. fits_parts (trees_of []) (plain w)) (drop_of_length-le vs over)
 
--- no two are, where the second is not
-pub and_false : (a b : Bool) → b ≡ false → (a && b) ≡ false
-and_false true b e = e
-and_false false b e = refl
-
 -- lists of other lengths do not fit
 pub members_short : (ms : List Shape) (vs : List Value) → (length ms ≡ length vs → ⊥) → fits_parts (trees_of ms) (plain vs) ≡ false
 members_short [] [] h = absurd (h refl)
 members_short [] (v ∷ vs) h = refl
 members_short (m ∷ ms) [] h = refl
-members_short (m ∷ ms) (v ∷ vs) h = and_false (fits (tree_of m) (value_of v)) (fits_parts (trees_of ms) (plain vs)) (members_short ms vs (λ e. h (ap suc e)))
+members_short (m ∷ ms) (v ∷ vs) h = and_right (fits (tree_of m) (value_of v)) (fits_parts (trees_of ms) (plain vs)) (members_short ms vs (λ e. h (ap suc e)))
 
 pub ruleset member_rules = (members_next, members_end, members_short)

@@ -1,28 +1,17 @@
 -- Groups that stand in the order of their targets are written as they stand.
-use Rattle.std.proofs.Common.{◌≡◌, ◌≢◌, ◌<◌, ◌≤◌, ◌==◌, ◌&&◌, ℕ, Bool, true, false, cond, List, [], ◌∷◌, ◌++◌, map, refl, ap, sym, ◌∙◌, arith, inl, inr}
-use Rattle.std.specs.Prelude.{nat_eq, nat_lt, Option, Some, None}
+use Rattle.std.proofs.Common.{◌≡◌, ◌≢◌, ◌<◌, ◌≤◌, ◌==◌, ◌&&◌, ℕ, true, false, cond, List, [], ◌∷◌, ◌++◌, map, refl, ap, sym, ◌∙◌, arith, inl, inr}
+use Rattle.std.specs.Prelude.{nat_eq, Option, Some, None}
 use Rattle.std.specs.Option.{option_to_list}
 use Rattle.std.specs.Map.{update, update_all}
-use Rattle.std.proofs.lemmas.Bool.Decides.{eqb_tells, nat_tests}
+use Rattle.std.proofs.lemmas.Bool.Decides.{eqb_tells}
+use Rattle.std.proofs.lemmas.Bool.{and_parts}
+use Rattle.list_law.proofs.Numbers.{less_of, same_number, number_same}
 use Rattle.glsl_ast.specs.Tree as text
 use Rattle.glsl_ast.specs.View.{arm_of}
 use Rattle.glsl_ast.specs.declared.statements.Arm.{Arm}
 use Rattle.control_text.specs.Statements.{in_order, by_target}
 use Rattle.control_text.specs.Written.{group_written}
 use Rattle.control_text.specs.Rising.{target_of, is_behind, stand_so}
-
-both : (a b : Bool) → (a && b) ≡ true → (a ≡ true) × (b ≡ true)
-both true b e = (refl, e)
-both false b e = cc
-
-below : (a b : ℕ) → nat_lt a b ≡ true → a < b
-below a b e = grind (arith, nat_tests, e)
-
-equal : (a b : ℕ) → (a == b) ≡ true → a ≡ b
-equal a b e = elim (eqb_tells a b) [ inl w ↦ w.1 | inr w ↦ (let never : true ≡ false = sym e ∙ w.0 in cc) ]
-
-same : (a b : ℕ) → a ≡ b → nat_eq a b ≡ true
-same a b e = elim (eqb_tells a b) [ inl w ↦ w.0 | inr w ↦ absurd (w.1 e) ]
 
 apart : (a b : ℕ) → a ≢ b → nat_eq a b ≡ false
 apart a b ne = elim (eqb_tells a b) [ inl w ↦ absurd (ne w.1) | inr w ↦ w.0 ]
@@ -32,10 +21,10 @@ past : (gs : List (ℕ × text.Arm)) (f : ℕ → Option text.Arm) (before : Opt
 past [] f before ts p q is le so = refl
 past (g ∷ gs) f before [] p q is le so = cc
 past (g ∷ gs) f before (t ∷ ts) p q is le so =
-    let one = both (g.0 == t) (is_behind before t && stand_so (Some t) ts (map (λ (g : ℕ × text.Arm). g.0) gs)) so in
-    let two = both (is_behind before t) (stand_so (Some t) ts (map (λ (g : ℕ × text.Arm). g.0) gs)) one.1 in
-    let up : p < t = below p t (sym (ap (λ b. is_behind b t) is) ∙ two.0) in
-    let key : g.0 ≡ t = equal g.0 t one.0 in
+    let one = and_parts (g.0 == t) (is_behind before t && stand_so (Some t) ts (map (λ (g : ℕ × text.Arm). g.0) gs)) so in
+    let two = and_parts (is_behind before t) (stand_so (Some t) ts (map (λ (g : ℕ × text.Arm). g.0) gs)) one.1 in
+    let up : p < t = less_of p t (sym (ap (λ b. is_behind b t) is) ∙ two.0) in
+    let key : g.0 ≡ t = same_number g.0 t one.0 in
     past gs (update nat_eq f g.0 (Some g.1)) (Some t) ts t q refl (omega (arith, le, up)) two.1 ∙ ap (λ b. cond b (Some g.1) (f q)) (apart g.0 q (λ e. omega (arith, e, key, le, up)))
 
 agree : (gs : List (ℕ × text.Arm)) (f h : ℕ → Option text.Arm) (q : ℕ) → f q ≡ h q → update_all nat_eq f gs q ≡ update_all nat_eq h gs q
@@ -47,10 +36,10 @@ written [] f before [] so = refl
 written [] f before (t ∷ ts) so = cc
 written (g ∷ gs) f before [] so = cc
 written (g ∷ gs) f before (t ∷ ts) so =
-    let one = both (g.0 == t) (is_behind before t && stand_so (Some t) ts (map (λ (g : ℕ × text.Arm). g.0) gs)) so in
-    let rest = (both (is_behind before t) (stand_so (Some t) ts (map (λ (g : ℕ × text.Arm). g.0) gs)) one.1).1 in
-    let key : g.0 ≡ t = equal g.0 t one.0 in
-    let first : update_all nat_eq (update nat_eq f g.0 (Some g.1)) gs t ≡ Some g.1 = past gs (update nat_eq f g.0 (Some g.1)) (Some t) ts t t refl (omega arith) rest ∙ ap (λ b. cond b (Some g.1) (f t)) (same g.0 t key) in
+    let one = and_parts (g.0 == t) (is_behind before t && stand_so (Some t) ts (map (λ (g : ℕ × text.Arm). g.0) gs)) so in
+    let rest = (and_parts (is_behind before t) (stand_so (Some t) ts (map (λ (g : ℕ × text.Arm). g.0) gs)) one.1).1 in
+    let key : g.0 ≡ t = same_number g.0 t one.0 in
+    let first : update_all nat_eq (update nat_eq f g.0 (Some g.1)) gs t ≡ Some g.1 = past gs (update nat_eq f g.0 (Some g.1)) (Some t) ts t t refl (omega arith) rest ∙ ap (λ b. cond b (Some g.1) (f t)) (number_same g.0 t key) in
     ap (λ o. option_to_list o ++ in_order ts (update nat_eq (update_all nat_eq (update nat_eq f g.0 (Some g.1)) gs) t None)) first
     ∙ (ap (λ h. g.1 ∷ in_order ts h) (λ i q. left gs f g t ts key rest q i)
     ∙ ap (λ xs. g.1 ∷ xs) (written gs (update nat_eq f t None) (Some t) ts rest))

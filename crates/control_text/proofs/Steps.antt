@@ -1,7 +1,8 @@
 -- One step of the loops over the items of a region and over the groups of a switch, and their ends.
-use Rattle.std.proofs.Common.{◌≡◌, ◌≤◌, ◌<◌, ◌+◌, ◌++◌, ◌||◌, ℕ, zero, suc, Bool, true, false, List, [], ◌∷◌, map, length, get_or, drop, refl, ap, sym, subst, ◌∙◌, arith, append_assoc}
+use Rattle.std.proofs.Common.{◌≡◌, ◌≤◌, ◌<◌, ◌+◌, ◌++◌, ◌||◌, ℕ, zero, suc, Bool, List, [], ◌∷◌, map, length, get_or, drop, refl, ap, sym, subst, ◌∙◌, arith, append_assoc}
 use Rattle.std.specs.Prelude.{Option, Some, None}
 use Rattle.std.proofs.lemmas.List.{drop_more, map_push}
+use Rattle.std.proofs.Math.Bool.{or_assoc}
 use Rattle.structure_recover.specs.Tree as tree
 use Rattle.structure_recover.specs.Tree.{before, ends}
 use Rattle.structure_recover.specs.View.{item_of, region_of, group_of, groups_of}
@@ -37,10 +38,6 @@ group_in (x ∷ l) (suc k) d h = omega (arith, group_in l k d (omega arith))
 
 pub group_smaller : (gs : List Group) (i : ℕ) (g : Group) → i < length gs → g ≡ get_or gs i g → region_size (region_of g.body) + 2 < groups_size (groups_of (map group_of gs))
 group_smaller gs i g inside e = subst (λ (x : Group). region_size (region_of x.body) + 2 < groups_size (groups_of (map group_of gs))) (sym e) (group_in gs i g inside)
-
-or_after : (b x y : Bool) → ((b || x) || y) ≡ (b || (x || y))
-or_after true x y = refl
-or_after false x y = refl
 
 item_at : (is : List Item) (i : ℕ) (x : Item) → i < length is → x ≡ get_or is i x → drop i is ≡ x ∷ drop (i + 1) is
 item_at is i x inside e = drop_more is i x inside ∙ ap (λ y. y ∷ drop (i + 1) is) (sym e)
@@ -81,7 +78,7 @@ item_more w p e is i x from now old mid new all inside at plain copied written k
 pub item_breaks_more : (e : Exit) (is : List Item) (i : ℕ) (x : Item) (old now all : Bool) → i < length is → x ≡ get_or is i x → now ≡ item_has_break (item_of x) → (old || has_break (before (map item_of (drop i is)) (ends e))) ≡ all → ((old || now) || has_break (before (map item_of (drop (i + 1) is)) (ends e))) ≡ all
 item_breaks_more e is i x old now all inside at same kept =
     let rest = has_break (before (map item_of (drop (i + 1) is)) (ends e)) in
-    or_after old now rest
+    or_assoc old now rest
     ∙ ap (λ b. old || (b || rest)) same
     ∙ ap (λ l. old || has_break (before (map item_of l) (ends e))) (sym (item_at is i x inside at))
     ∙ kept
@@ -123,7 +120,7 @@ group_more w p h gs i g a old new all inside e labels body pushed kept =
 pub group_breaks_more : (gs : List Group) (i : ℕ) (g : Group) (old now all : Bool) → i < length gs → g ≡ get_or gs i g → now ≡ has_break (region_of g.body) → (old || groups_have_break (groups_of (map group_of (drop i gs)))) ≡ all → ((old || now) || groups_have_break (groups_of (map group_of (drop (i + 1) gs)))) ≡ all
 group_breaks_more gs i g old now all inside e is kept =
     let rest = drop (i + 1) gs in
-    or_after old now (groups_have_break (groups_of (map group_of rest)))
+    or_assoc old now (groups_have_break (groups_of (map group_of rest)))
     ∙ ap (λ b. old || (b || groups_have_break (groups_of (map group_of rest)))) is
     ∙ ap (λ v. old || groups_have_break (groups_of (v ∷ map group_of rest))) (sym (group_is g))
     ∙ ap (λ l. old || groups_have_break (groups_of (map group_of l))) (sym (group_at gs i g inside e))

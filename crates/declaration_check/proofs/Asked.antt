@@ -8,6 +8,7 @@ use Rattle.std.proofs.lemmas.List.Elements.{filter-append, filter_map-append}
 use Rattle.std.proofs.lemmas.List.Concat.{flat_map-cons}
 use Rattle.std.proofs.lemmas.List.Sums.{sum_by-cons}
 use Rattle.std.proofs.lemmas.Grind.{flat_map-append}
+use Rattle.std.proofs.Math.Bool.{or_assoc}
 use Rattle.spv_module.specs.State.{ModuleState}
 use Rattle.spv_module.specs.declared.inst.Inst.{Inst}
 use Rattle.spv_module.specs.declared.inst.Block.{Block}
@@ -105,10 +106,6 @@ held_same (t ∷ ts) a b same id =
 or_nothing : (x : Bool) → x ≡ (x || false)
 or_nothing true = refl
 or_nothing false = refl
-
-or_assoc : (x y z : Bool) → ((x || y) || z) ≡ (x || (y || z))
-or_assoc true y z = refl
-or_assoc false y z = refl
 
 pub with_none : (rows : Rows) → AreKept rows → WithMore [] rows rows
 with_none rows kept = record { variables = sym (append-nil (variables_in rows)); types = λ id. or_nothing (is_among rows.types.items id); kept = kept }

@@ -2,12 +2,12 @@
 use Rattle.std.proofs.Common.{◌≡◌, ◌<◌, ◌≤◌, ◌+◌, ◌++◌, append-nil, append_assoc, zero-add, take, map, ℕ, suc, Bool, true, false, List, [], ◌∷◌, length, drop, get_or, Option, Some, None, cond, ap, sym, ◌∙◌, arith}
 use Rattle.std.specs.List.{find, filter, filter_map, cons_option, count_by}
 use Rattle.std.proofs.lemmas.List.{map-append, drop-map}
-use Rattle.std.proofs.lemmas.List.Sums.{sum_by-cons}
 use Rattle.std.specs.Borrow.{Bor}
 use Rattle.spv_module.specs.declared.inst.Inst.{Inst}
 use Rattle.std.proofs.lemmas.List.Elements.{filter_more}
 use Rattle.std.proofs.Math.Seq.{drop-cons, drop-append_seam}
 use Rattle.std.proofs.Math.ListN.{drop_of_length-le}
+use Rattle.list_law.proofs.Lists.{count_by-cons}
 
 find_from : {X : Type 0} (p : X → Bool) (xs : List X) (i : ℕ) (d : X) → i < length xs → find p (drop i xs) ≡ cond (p (get_or xs i d)) (Some (get_or xs i d)) (find p (drop (i + 1) xs))
 find_from p xs i d inside = ap (find p) (drop-cons xs i d inside) ∙ ap (λ n. cond (p (get_or xs i d)) (Some (get_or xs i d)) (find p (drop n xs))) (let more : suc i ≡ i + 1 = omega arith in more)
@@ -61,9 +61,6 @@ pub ruleset behind_rules = (behind_here, behind_later, behind_end)
 pub behind_front : (items : List (Bor Inst)) (xs ys : List Inst) (n : ℕ) → map (λ (x : Bor Inst). x.now) items ≡ xs ++ ys → n ≡ length xs → map (λ (x : Bor Inst). x.now) (drop n items) ≡ ys
 behind_front items xs ys n both is =
     sym (drop-map now n items) ∙ ap (drop n) both ∙ ap (λ k. drop k (xs ++ ys)) is ∙ drop-append_seam xs ys
-
-count_by-cons : {X : Type 0} (p : X → Bool) (x : X) (xs : List X) → count_by p (x ∷ xs) ≡ cond (p x) 1 0 + count_by p xs
-count_by-cons p x xs = sum_by-cons (λ y. cond (p y) 1 0) x xs
 
 -- how many of those behind references pass
 pub count_here : (p : Inst → Bool) (xs : List (Bor Inst)) (i : ℕ) (d : Bor Inst) → i < length xs → p (get_or xs i d).now ≡ true → count_by p (map (λ (x : Bor Inst). x.now) (drop i xs)) ≡ 1 + count_by p (map (λ (x : Bor Inst). x.now) (drop (i + 1) xs))

@@ -3,6 +3,7 @@ use Rattle.std.proofs.Common.{◌≡◌, ◌==◌, ◌||◌, ◌∙◌, ap, inl,
 use Rattle.std.specs.Prelude.{Contains, filter, not}
 use Rattle.std.specs.List.{find}
 use Rattle.std.proofs.lemmas.Bool.Decides.{eqb_tells}
+use Rattle.list_law.proofs.Lists.{contains_head}
 use Rattle.spv_words.specs.declared.rule.Rule.{Rule}
 use Rattle.spv_words.specs.declared.rule.Fault.{Fault}
 use Rattle.spv_words.specs.declared.rule.Fault.TheVariants.{Refused, Limit, Memory}
@@ -13,9 +14,6 @@ use Rattle.declaration_check.specs.Checked.{IsCause, IsChecked, word_of}
 -- one more in front
 pub contains_tail : (x : ℕ) (xs : List ℕ) (y : ℕ) → Contains xs y → Contains (x ∷ xs) y
 contains_tail x xs y (k, inside, is) = (suc k, omega arith, is)
-
-pub contains_head : (x : ℕ) (xs : List ℕ) → Contains (x ∷ xs) x
-contains_head x xs = (0, omega arith, refl)
 
 -- what a list of one contains
 at_only : (x y : ℕ) → Contains (x ∷ []) y → x ≡ y

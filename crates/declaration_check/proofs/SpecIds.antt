@@ -7,6 +7,7 @@ use Rattle.std.proofs.lemmas.List.{take_all}
 use Rattle.std.proofs.lemmas.List.Sums.{count_by_more_yes, count_by_more_no, sum_by-cons}
 use Rattle.spv_decor.proofs.First.{count_by_front}
 use Rattle.std.proofs.lemmas.Bool.Decides.{eqb_tells, nat_tests}
+use Rattle.list_law.proofs.Lists.{contains_head}
 use Rattle.spv_ops.specs.Enumerants.{decoration_number}
 use Rattle.spv_ops.specs.declared.Decoration.TheVariants as decoration
 use Rattle.spv_ops.specs.declared.Op.TheVariants as code
@@ -16,7 +17,7 @@ use Rattle.spv_decor.specs.Rows.{value_of}
 use Rattle.profile_rules.specs.Places.{places}
 use Rattle.profile_rules.specs.TypeForm.{is_shared, p20}
 use Rattle.profile_rules.specs.Entry.{is_same_spec}
-use Rattle.declaration_check.proofs.Listed.{contains_head, contains_tail}
+use Rattle.declaration_check.proofs.Listed.{contains_tail}
 
 -- an instruction has this SpecId
 abbrev pub has_spec : List Inst → ℕ → Inst → Bool

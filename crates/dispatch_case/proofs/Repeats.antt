@@ -3,20 +3,13 @@ use Rattle.std.proofs.Common.{◌≡◌, ◌<◌, ◌≤◌, ◌+◌, ℕ, zero,
 use Rattle.std.specs.List.{list_any}
 use Rattle.std.proofs.lemmas.List.Folds.{list_any_more, list_any-append}
 use Rattle.std.proofs.lemmas.List.{take-append-drop, take_all}
-use Rattle.std.proofs.lemmas.Bool.Decides.{nat_tests}
+use Rattle.std.proofs.Math.Bool.{or-true}
+use Rattle.list_law.proofs.Numbers.{turned}
+use Rattle.list_law.proofs.Tests.{or_steps}
 use Rattle.dispatch_case.specs.Cases.{Buffer, is_at, buffers_repeat}
 
-any_or_true : (a : Bool) → (a || true) ≡ true
-any_or_true a = grind arith
-
-same_number : (a b : ℕ) → (a == b) ≡ (b == a)
-same_number a b = grind (arith, nat_tests)
-
 same_place : (b c : Buffer) → is_at b.0 b.1 c ≡ is_at c.0 c.1 b
-same_place b c = ap (λ t. t && (c.1 == b.1)) (same_number c.0 b.0) ∙ ap (λ t. (b.0 == c.0) && t) (same_number c.1 b.1)
-
-or_steps : (a d r b e : Bool) → d ≡ e → ((a || d) || (r || b)) ≡ ((a || r) || (e || b))
-or_steps a d r b e same = grind (arith, same)
+same_place b c = ap (λ t. t && (c.1 == b.1)) (turned c.0 b.0) ∙ ap (λ t. (b.0 == c.0) && t) (turned c.1 b.1)
 
 -- one of the buffers is here
 abbrev pub has_at : List Buffer → ℕ → ℕ → Bool
@@ -41,7 +34,7 @@ repeats_append (x ∷ xs) ys h =
     rw (list_any-append (is_at x.0 x.1) xs ys)
     ((elim (has_at xs x.0 x.1) as (λ b. (b || buffers_repeat xs) ≡ true → ((b || has_at ys x.0 x.1) || buffers_repeat (xs ++ ys)) ≡ true) [
       | true ↦ λ e. refl
-      | false ↦ λ e. ap (λ (b : Bool). has_at ys x.0 x.1 || b) (repeats_append xs ys e) ∙ any_or_true (has_at ys x.0 x.1)
+      | false ↦ λ e. ap (λ (b : Bool). has_at ys x.0 x.1 || b) (repeats_append xs ys e) ∙ or-true (has_at ys x.0 x.1)
     ]) h)
 
 repeats_front : (i : ℕ) (bs : List Buffer) → buffers_repeat (take i bs) ≡ true → buffers_repeat bs ≡ true
@@ -53,7 +46,7 @@ no_repeat bs i d inside none new = ap (λ k. buffers_repeat (take k bs)) (add-on
 
 -- the next buffer is one of those before
 pub found_repeat : (bs : List Buffer) (i : ℕ) (d : Buffer) → i < length bs → has_at (take i bs) (get_or bs i d).0 (get_or bs i d).1 ≡ true → buffers_repeat bs ≡ true
-found_repeat bs i d inside old = repeats_front (suc i) bs (repeats_more bs i d inside ∙ ap (λ (b : Bool). buffers_repeat (take i bs) || b) old ∙ any_or_true (buffers_repeat (take i bs)))
+found_repeat bs i d inside old = repeats_front (suc i) bs (repeats_more bs i d inside ∙ ap (λ (b : Bool). buffers_repeat (take i bs) || b) old ∙ or-true (buffers_repeat (take i bs)))
 
 -- where none of the first comes twice and there are no others
 pub none_repeats : (bs : List Buffer) (i : ℕ) → length bs ≤ i → buffers_repeat (take i bs) ≡ false → buffers_repeat bs ≡ false

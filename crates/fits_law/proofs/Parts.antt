@@ -1,8 +1,9 @@
 -- Values of a shape by their parts.
-use Rattle.std.proofs.Common.{◌≡◌, ◌==◌, ◌&&◌, ℕ, zero, suc, Bool, true, false, List, [], ◌∷◌, length, replicate, Some, None, refl, sym, ap, ◌∙◌, subst, arith}
+use Rattle.std.proofs.Common.{◌≡◌, ◌==◌, ◌&&◌, ℕ, zero, suc, Bool, true, false, List, [], ◌∷◌, length, replicate, Option, Some, None, refl, sym, ap, ◌∙◌, subst, arith}
 use Rattle.std.specs.Prelude.{nat_lt, option_and_then, slice_get, slice_set, if◌then◌else◌}
 use Rattle.std.proofs.lemmas.Bool.Decides.{nat_tests}
 use Rattle.std.proofs.lemmas.Bool.{and_parts, and_from}
+use Rattle.std.proofs.lemmas.List.{length-replicate}
 use Rattle.spv_module.specs.declared.tree.Elem.{Elem}
 use Rattle.spv_module.specs.declared.tree.Elem.TheVariants as elem
 use Rattle.spv_module.specs.declared.tree.Length.TheVariants.{Fixed, Spec}
@@ -11,10 +12,22 @@ use Rattle.spv_types.specs.Leaves.{zero_elem, zero_of, zeros_of, IsSized, AreSiz
 use Rattle.op_semantics.specs.Component.{listed, composite}
 use Rattle.op_semantics.specs.Composite.{part_at, with_part, extracted, inserted}
 use Rattle.op_semantics.specs.Fits.{count_of, elem_tree, fits, each_fits, fits_parts}
+use Rattle.module_semantics.specs.Operands.{as_word}
 use Rattle.list_law.proofs.Options.{some_part}
 use Rattle.list_law.proofs.Numbers.{same_number, number_same}
 use Rattle.fits_law.specs.Takes.{Alike, AreAlike, AllAlike, nth_of, part_shape, shape_at}
 use Rattle.fits_law.specs.State.{element_shape, place_shape}
+
+-- a value that is a word, and the whole of a value
+pub word_value : (o : Option ValueTree) (x : ℕ) → as_word o ≡ Some x → o ≡ Some (word x)
+word_value None x e = cc
+word_value (Some (word w)) x e = let same : w ≡ x = cc in ap (λ w. Some (word w)) same
+word_value (Some (truth b)) x e = cc
+word_value (Some (many vs)) x e = cc
+
+pub extracted_none : (o : Option ValueTree) → option_and_then (extracted []) o ≡ o
+extracted_none None = refl
+extracted_none (Some v) = refl
 
 pub listed_values : (vs : List ValueTree) → listed (values_in vs) ≡ vs
 listed_values [] = refl
@@ -274,12 +287,8 @@ each_copy : (t : Tree) (v : ValueTree) (n : ℕ) → fits t v ≡ true → EachF
 each_copy t v zero e = tt
 each_copy t v (suc n) e = (e, each_copy t v n e)
 
-copies : {A : Type 0} (n : ℕ) (a : A) → length (replicate n a) ≡ n
-copies zero a = refl
-copies (suc n) a = ap (λ k. suc k) (copies n a)
-
 times_fits : (t : Tree) (n : ℕ) (v : ValueTree) → fits t v ≡ true → ((count_of (values_in (replicate n v)) == n) && each_fits t (values_in (replicate n v))) ≡ true
-times_fits t n v e = of_many t n (replicate n v) (copies n v) (each_copy t v n e)
+times_fits t n v e = of_many t n (replicate n v) (length-replicate n v) (each_copy t v n e)
 
 mutual
   pub zero_fits : (t : Tree) → IsSized t → fits t (zero_of t) ≡ true

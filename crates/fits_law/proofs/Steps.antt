@@ -37,6 +37,7 @@ use Rattle.module_semantics.specs.Accesses.{seen, kept, keeping, with_lent, glob
 use Rattle.module_semantics.specs.Steps as the
 use Rattle.module_semantics.specs.Steps.{with_some, advanced, set, set_value, computed, operation_step, base, without_based, is_based_on, lead_if, chain_step, length_step, variable_step, read_shape, load_from, load_step, store_to, store_step, atomic_operands, set_found, atomic_step, memory_barriers, memory_barrier_step, control_barrier_step, phis, passed, argument_of, entered, call_step, return_step, given_to, return_value_step, target_label, phi_value, source_from, with_phis, present_label, edge_step, branch_step, StepKind, step_kind, step_by, act_on, act}
 use Rattle.list_law.proofs.Options.{some_part}
+use Rattle.list_law.proofs.Lists.{same_first, same_rest}
 use Rattle.fits_law.specs.Takes.{AllFit}
 use Rattle.fits_law.specs.State.{value_shape, target_shape, global_shape, result_shape, place_shape, functions_of, function_at, root_shape, HasShape, LeadsTo, IsLocal, HeldFits, IdsFit, VariablesFit, FrameFits, CallsFit, Await, ConfFits, ActFits, ModuleFits}
 use Rattle.fits_law.specs.Typed.{HaveShapes, AreArguments, ArePhis, IsAtomic, IsLoad, IsTyped}
@@ -44,18 +45,16 @@ use Rattle.fits_law.proofs.Parts.{extracted_fits, inserted_fits, place_is, place
 use Rattle.fits_law.proofs.Operations.{before_some, op_fits}
 use Rattle.fits_law.proofs.Words.{read_fits, scalars}
 
-same_head : {A : Type 0} (x y : A) (xs ys : List A) → x ∷ xs ≡ y ∷ ys → x ≡ y
-same_head x y xs ys e = cc
-
-same_tail : {A : Type 0} (x y : A) (xs ys : List A) → x ∷ xs ≡ y ∷ ys → xs ≡ ys
-same_tail x y xs ys e = cc
-
 -- shapes
 has_some : (o : Option Tree) (t : Tree) (v : ValueTree) → o ≡ Some t → HasShape o v → fits t v ≡ true
 has_some o t v e has = subst (λ q. HasShape q v) e has
 
 some_has : (o : Option Tree) (t : Tree) (v : ValueTree) → o ≡ Some t → fits t v ≡ true → HasShape o v
 some_has o t v e f = subst (λ q. HasShape q v) (sym e) f
+
+pub has_is : (o : Option Tree) (v : ValueTree) → HasShape o v → (t : Tree) × (o ≡ Some t) × (fits t v ≡ true)
+has_is None v has = absurd has
+has_is (Some t) v has = (t, refl, has)
 
 shape_append : (is js : List ℕ) (t u : Tree) → place_shape t is ≡ Some u → place_shape t (is ++ js) ≡ place_shape u js
 shape_append [] js t u e = ap (λ x. place_shape x js) (same_Some t u e)
@@ -328,10 +327,6 @@ module _ (s : Setting) (right : ModuleFits s) where
             privates = fit.privates;
           }
 
-  has_is : (o : Option Tree) (v : ValueTree) → HasShape o v → (t : Tree) × (o ≡ Some t) × (fits t v ≡ true)
-  has_is None v has = absurd has
-  has_is (Some t) v has = (t, refl, has)
-
   stored_fits : (c : Conf) (rest : List Inst) (p : Target) (v : ValueTree) (u : Option Tree) → ConfFits s c → LeadsTo (root_shape s (functions_of c.below) c.top.function p.0) p.1 u → HasShape u v → (o : Option Inst) → ActFits s (store_to s c rest p v o)
   stored_fits c rest p v u fit leads has (Some var) = advanced_fits c rest fit
   stored_fits c rest p v u fit leads has None =
@@ -404,8 +399,8 @@ module _ (s : Setting) (right : ModuleFits s) where
   arguments_fit fs c g depth size fit (p ∷ ps) (x ∷ ids) [] are e id h at = cc
   arguments_fit fs c g depth size fit (p ∷ ps) (x ∷ ids) (k ∷ hs) are e id h at =
       let b = before_some (held s c x) (each_one (held s c) ids) (k ∷ hs) e in
-      let first : k ≡ b.0 = same_head k b.0 hs b.1 b.4 in
-      let rest : hs ≡ b.1 = same_tail k b.0 hs b.1 b.4 in
+      let first : k ≡ b.0 = same_first k b.0 hs b.1 b.4 in
+      let rest : hs ≡ b.1 = same_rest k b.0 hs b.1 b.4 in
       let own_fits = passed_fits fs c.function g depth p.0.0 x k size are.0 are.1 (held_fits fs c x k fit (b.2 ∙ ap (λ y. Some y) (sym first))) in
       by_test (p.0.0 == id) (eqb_tells p.0.0 id) (are.2, own_fits) (arguments_fit fs c g depth size fit ps ids hs are.3 (b.3 ∙ ap (λ l. Some l) (sym rest)) id h) at
     where
@@ -453,8 +448,8 @@ module _ (s : Setting) (right : ModuleFits s) where
   phis_fit fs c from fit (i ∷ is) [] are e = fit
   phis_fit fs c from fit (i ∷ is) (v ∷ vs) are e =
       let b = before_some (phi_value s c from i) (each_one (phi_value s c from) is) (v ∷ vs) e in
-      let first : v ≡ b.0 = same_head v b.0 vs b.1 b.4 in
-      let rest : vs ≡ b.1 = same_tail v b.0 vs b.1 b.4 in
+      let first : v ≡ b.0 = same_first v b.0 vs b.1 b.4 in
+      let rest : vs ≡ b.1 = same_rest v b.0 vs b.1 b.4 in
       let source = some_part (value_at s c) (source_from from i.args) v (b.2 ∙ ap (λ x. Some x) (sym first)) in
       ids_put fs c.function (with_phis is vs c.ids) i.result (value v) (phis_fit fs c from fit is vs are.2 (b.3 ∙ ap (λ l. Some l) (sym rest))) are.1
       (subst (λ o. HasShape o v) (are.0 from source.0 source.1) (value_has fs c source.0 v fit source.2))

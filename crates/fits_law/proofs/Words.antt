@@ -3,6 +3,7 @@ use Rattle.std.proofs.Common.{◌≡◌, ◌≤◌, ◌+◌, ◌*◌, ◌-◌, �
 use Rattle.std.specs.Prelude.{flat_map}
 use Rattle.std.specs.List.{range_with_len}
 use Rattle.std.proofs.lemmas.List.{length-append, length-map}
+use Rattle.std.proofs.lemmas.List.FromFn.{length-range_with_len}
 use Rattle.std.proofs.lemmas.Bool.{and_from}
 use Rattle.spv_module.specs.declared.tree.Elem.{Elem}
 use Rattle.spv_module.specs.declared.tree.Elem.TheVariants as elem
@@ -61,10 +62,6 @@ mutual
       (reads_fit ts (drop (leaf_count t) ws) s.1 (subst (λ m. leaf_counts ts ≤ m) (sym (dropped (leaf_count t) ws)) (let rest : leaf_counts ts ≤ length ws - leaf_count t = omega (arith, le) in rest)))
 
 -- as many scalars as indexes that lead to one
-ranged : (k n : ℕ) → length (range_with_len k n) ≡ n
-ranged k zero = refl
-ranged k (suc n) = ap (λ m. suc m) (ranged (k + 1) n)
-
 all_behind : (paths : List (List ℕ)) (is : List ℕ) → length (flat_map (λ i. behind i paths) is) ≡ length is * length paths
 all_behind paths [] = let same : 0 ≡ 0 * length paths = omega arith in same
 all_behind paths (i ∷ is) =
@@ -76,8 +73,8 @@ mutual
   scalars boolean = refl
   scalars int = refl
   scalars uint = refl
-  scalars (vector e n) = length-map (range_with_len 0 n) (λ i. i ∷ []) ∙ ranged 0 n
-  scalars (array t (Fixed n)) = all_behind (scalar_paths t) (range_with_len 0 n) ∙ ap (λ m. m * length (scalar_paths t)) (ranged 0 n) ∙ ap (λ m. n * m) (scalars t)
+  scalars (vector e n) = length-map (range_with_len 0 n) (λ i. i ∷ []) ∙ length-range_with_len 0 n
+  scalars (array t (Fixed n)) = all_behind (scalar_paths t) (range_with_len 0 n) ∙ ap (λ m. m * length (scalar_paths t)) (length-range_with_len 0 n) ∙ ap (λ m. n * m) (scalars t)
   scalars (array t (Spec id)) = refl
   scalars (runtime t) = refl
   scalars (struct id ts) = member_scalars 0 ts

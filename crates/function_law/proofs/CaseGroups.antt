@@ -112,10 +112,10 @@ label_in x label (literal ∷ l ∷ more) e = by_test (literal == x) e (label_in
     by_test true e later = inl (let same : label ≡ l = cc in same)
     by_test false e later = inr (later e)
 
-pub placed_below : (bs : List Block) (n : ℕ) (b : Block) → slice_get bs n ≡ Some b → n < length bs
-placed_below [] n b e = cc
-placed_below (c ∷ bs) zero b e = omega arith
-placed_below (c ∷ bs) (suc n) b e = let le = placed_below bs n b e in omega (arith, le)
+pub placed_below : {A : Type 0} (xs : List A) (n : ℕ) (x : A) → slice_get xs n ≡ Some x → n < length xs
+placed_below [] n x e = cc
+placed_below (y ∷ xs) zero x e = omega arith
+placed_below (y ∷ xs) (suc n) x e = let le = placed_below xs n x e in omega (arith, le)
 
 module _ (f : Function) (g : List Node) (h : ℕ) (last : Inst) (is : IsSwitchOf f g h last) where
   pairs_are_cases : cases f g h ≡ zip (map (index_of f) (seconds is.words)) (firsts is.words)

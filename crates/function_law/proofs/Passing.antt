@@ -1,5 +1,5 @@
 -- What a call leaves: of each variable and pointer parameter of the caller that was lent to it, the value that the parameter has at the end.
-use Rattle.std.proofs.Common.{◌≡◌, ◌≢◌, ◌≤◌, ◌⊎◌, ◌==◌, ℕ, suc, true, false, List, [], ◌∷◌, length, map, Option, Some, None, inl, inr, refl, sym, ap, ◌∙◌, subst, arith}
+use Rattle.std.proofs.Common.{◌≡◌, ◌≢◌, ◌≤◌, ◌⊎◌, ◌==◌, ℕ, suc, true, false, List, [], ◌∷◌, length, map, Option, Some, inl, inr, refl, sym, ap, ◌∙◌, subst, arith}
 use Rattle.std.specs.Prelude.{option_and_then}
 use Rattle.std.specs.List.{list_any}
 use Rattle.std.proofs.lemmas.Bool.Decides.{eqb_tells}
@@ -21,6 +21,7 @@ use Rattle.glsl_semantics.specs.Expressions.{Argument}
 use Rattle.glsl_semantics.specs.Run.{last_value}
 use Rattle.list_law.proofs.Tests.{not_both, or_left, or_right, and_off}
 use Rattle.fits_law.proofs.Operations.{before_some}
+use Rattle.fits_law.proofs.Parts.{extracted_none}
 use Rattle.agree_law.specs.Agree.{Naming, AreApart, IfPointer, variable_in, target_value}
 use Rattle.agree_law.specs.Outs.{Outs, IsOut, NotOut, AreOnce, AreLent, AreOuts}
 use Rattle.agree_law.proofs.Returning.{IsLeft}
@@ -158,10 +159,6 @@ module _ (s : Setting) (whole : LendsWhole s) (m : Naming) (apart : AreApart m) 
 
   from_lent : (depth n : ℕ) → suc depth ≤ length c.below → target_value d (from_call c.below (lent depth n)) [] ≡ target_value (record d { top = frame; below = below }) (lent depth n) []
   from_lent depth n le = ap (λ (o : Option Frame). option_and_then (extracted []) (variable_in o n)) (ap (λ l. call_at depth l) is ∙ under depth (frame, id) below (subst (λ l. suc depth ≤ l) (sym heights) le))
-
-  extracted_none : (o : Option ValueTree) → option_and_then (extracted []) o ≡ o
-  extracted_none None = refl
-  extracted_none (Some v) = refl
 
   argument : (n : ℕ) (r : Root) (path : List ℕ) → IsArgument n (pointer r path) ns hs → IsWhole s c.below c.top n r path
   argument n r path arg = whole_in s whole c.below c.top at ns hs have fine n r path arg

@@ -1,5 +1,5 @@
 -- The arguments of a call stand for what the module passes, where their expressions are names of variables or say values.
-use Rattle.std.proofs.Common.{◌≡◌, ◌⊎◌, ◌++◌, ℕ, true, false, List, [], ◌∷◌, Option, Some, None, inl, inr, refl, sym, ap, ◌∙◌}
+use Rattle.std.proofs.Common.{◌≡◌, ◌⊎◌, ◌++◌, ℕ, true, false, List, [], ◌∷◌, Option, Some, inl, inr, refl, sym, ap, ◌∙◌}
 use Rattle.std.specs.Prelude.{option_and_then}
 use Rattle.spv_module.specs.declared.inst.Id.{Id}
 use Rattle.spv_types.specs.Tree.{ValueTree}
@@ -15,24 +15,22 @@ use Rattle.glsl_semantics.specs.States as state
 use Rattle.glsl_semantics.specs.States.{State, Thing, fetch}
 use Rattle.glsl_semantics.specs.Expressions.{Program, Argument, denote, arguments}
 use Rattle.list_law.proofs.Tests.{not_both}
+use Rattle.list_law.proofs.Lists.{none_left, none_right}
+use Rattle.fits_law.proofs.Parts.{extracted_none}
 use Rattle.agree_law.specs.Agree.{Naming, IsFar, variable_with, target_value, Agree}
 use Rattle.agree_law.proofs.Owned.{own_found}
 use Rattle.agree_law.proofs.Evaluating.{named_is}
+use Rattle.agree_law.proofs.Steps.{before_none}
 use Rattle.call_law.specs.Known.{is_parameter, IsOfBelow, LeadsToSome, IsValued, IsWhole}
 use Rattle.call_law.proofs.Valued.{held_so}
 use Rattle.call_law.proofs.Lending.{of_pointer}
 use Rattle.function_law.specs.Passed.{NamesMemory, IsArgument, IsPassed, ArePassed, ArgumentSays, ArgumentsSay}
 
-none_before : (d e : List Event) → d ++ e ≡ [] → (d ≡ []) × (e ≡ [])
-none_before [] e is = (refl, is)
-none_before (x ∷ d) e is = cc
-
 before_got : {A : Type 0} (d : List Event) (g : Result A) (a : A) → with_before d g ≡ got [] a → (d ≡ []) × (g ≡ got [] a)
 before_got {A} d (got e x) a is =
     let events : d ++ e ≡ [] = cc in
-    let both = none_before d e events in
     let same : x ≡ a = cc in
-    (both.0, ap (λ l. got l x) both.1 ∙ ap (got []) same)
+    (none_left d e events, ap (λ l. got l x) (none_right d e events) ∙ ap (got []) same)
 before_got d (cut e) a is = cc
 before_got d (waits e) a is = cc
 before_got d (stuck e) a is = cc
@@ -45,13 +43,7 @@ got_first (waits e) f b is = cc
 got_first (stuck e) f b is = cc
 
 then_known : {A B : Type 0} (g : Result A) (f : A → Result B) (a : A) → g ≡ got [] a → then_get g f ≡ f a
-then_known {A} {B} g f a is = ap (λ (g : Result A). then_get g f) is ∙ none_added (f a)
-  where
-    none_added : (r : Result B) → with_before [] r ≡ r
-    none_added (got e b) = refl
-    none_added (cut e) = refl
-    none_added (waits e) = refl
-    none_added (stuck e) = refl
+then_known {A} {B} g f a is = ap (λ (g : Result A). then_get g f) is ∙ before_none (f a)
 
 module _ (p : Program) (calls : Text → List Argument → State → Result (Option Typed × State)) (m other : Naming) (s : Setting) (c : Conf) (z : State) (valued : IsValued c.below c.top) (names : NamesMemory m c.top.function) (agree : Agree m c z) where
   -- an argument stands for something, which has this value
@@ -73,15 +65,11 @@ module _ (p : Program) (calls : Text → List Argument → State → Result (Opt
   found_so : (n : ℕ) (r : Root) (path : List ℕ) (v : ValueTree) → IsWhole s c.below c.top n r path → target_value c r path ≡ Some v → (m.is_variable n ≡ true) ⊎ (m.is_lent n ≡ true) → state.found_in z.frames (m.name n) ≡ Some (variable_with (m.shape n) (Some v))
   found_so n r path v is has (inl mine) = by_kind is.2
     where
-      whole_value : (o : Option ValueTree) → option_and_then (extracted []) o ≡ o
-      whole_value None = refl
-      whole_value (Some v) = refl
-
       by_kind : ((is_parameter c.top.function n ≡ true) × IsOfBelow c.below r × (c.top.ids n ≡ Some (pointer r path))) ⊎ ((is_parameter c.top.function n ≡ false) × (r ≡ own n)) → state.found_in z.frames (m.name n) ≡ Some (variable_with (m.shape n) (Some v))
       by_kind (inl q) = absurd (not_both _ q.0 (names.variables n mine).1)
       by_kind (inr q) =
           own_found z.frames (m.name n) _ (agree.variables n mine)
-          ∙ ap (λ o. Some (variable_with (m.shape n) o)) (sym (whole_value (c.top.variables n)) ∙ (sym (ap (target_value c r) is.1 ∙ ap (λ t. target_value c t []) q.1) ∙ has))
+          ∙ ap (λ o. Some (variable_with (m.shape n) o)) (sym (extracted_none (c.top.variables n)) ∙ (sym (ap (target_value c r) is.1 ∙ ap (λ t. target_value c t []) q.1) ∙ has))
   found_so n r path v is has (inr mine) = by_kind is.2
     where
       by_kind : ((is_parameter c.top.function n ≡ true) × IsOfBelow c.below r × (c.top.ids n ≡ Some (pointer r path))) ⊎ ((is_parameter c.top.function n ≡ false) × (r ≡ own n)) → state.found_in z.frames (m.name n) ≡ Some (variable_with (m.shape n) (Some v))

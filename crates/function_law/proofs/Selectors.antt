@@ -1,31 +1,17 @@
 -- The expression of a switch's selector enters the group that has its word, where it says what the module has.
-use Rattle.std.proofs.Common.{◌≡◌, ◌⊎◌, ◌==◌, ℕ, Bool, true, false, List, [], Option, Some, None, inl, inr, refl, sym, ap, ◌∙◌, subst}
-use Rattle.std.proofs.lemmas.Bool.Decides.{eqb_tells}
-use Rattle.spv_types.specs.Tree.{ValueTree, truth, word, many}
+use Rattle.std.proofs.Common.{◌≡◌, ◌⊎◌, ◌==◌, ℕ, true, List, [], Option, Some, inl, inr, refl, sym, ap, ◌∙◌, subst}
+use Rattle.spv_types.specs.Tree.{ValueTree, word}
+use Rattle.list_law.proofs.Numbers.{turned}
 use Rattle.traces.specs.Outcomes.{Result, got}
 use Rattle.module_semantics.specs.Setting.{Setting}
 use Rattle.module_semantics.specs.State.{Conf}
-use Rattle.module_semantics.specs.Operands.{as_word, value_at, word_at}
+use Rattle.module_semantics.specs.Operands.{value_at, word_at}
 use Rattle.glsl_ast.specs.Tree.{Text, Expr}
 use Rattle.glsl_semantics.specs.Shapes.{Shape, int, uint, Typed, typed}
 use Rattle.glsl_semantics.specs.States.{State}
 use Rattle.glsl_semantics.specs.Expressions.{Program, Argument, evaluate}
 use Rattle.glsl_semantics.specs.Statements.{is_case, is_selector}
-
-pub word_value : (o : Option ValueTree) (x : ℕ) → as_word o ≡ Some x → o ≡ Some (word x)
-word_value None x e = cc
-word_value (Some (word w)) x e = let same : w ≡ x = cc in ap (λ w. Some (word w)) same
-word_value (Some (truth b)) x e = cc
-word_value (Some (many vs)) x e = cc
-
-turned : (x l : ℕ) → (x == l) ≡ (l == x)
-turned x l = by_tests (x == l) (l == x) (eqb_tells x l) (eqb_tells l x)
-  where
-    by_tests : (t u : Bool) → ((t ≡ true) × (x ≡ l)) ⊎ ((t ≡ false) × (x ≡ l → ⊥)) → ((u ≡ true) × (l ≡ x)) ⊎ ((u ≡ false) × (l ≡ x → ⊥)) → t ≡ u
-    by_tests t u (inl a) (inl b) = a.0 ∙ sym b.0
-    by_tests t u (inl a) (inr b) = absurd (b.1 (sym a.1))
-    by_tests t u (inr a) (inl b) = absurd (a.1 (sym b.1))
-    by_tests t u (inr a) (inr b) = a.0 ∙ sym b.0
+pub use Rattle.fits_law.proofs.Parts.{word_value}
 
 -- literals of the selector's type are its cases by their words
 pub selects : (p : Program) (calls : Text → List Argument → State → Result (Option Typed × State)) (s : Setting) (c : Conf) (z : State) (n x : ℕ) (t : Shape) (e : Expr) (literals : ℕ → Typed) → (t ≡ int) ⊎ (t ≡ uint) → ((l : ℕ) → literals l ≡ typed t (word l))

@@ -1,21 +1,18 @@
 -- The moves of edges in a list, in which the first of a block counts.
-use Rattle.std.proofs.Common.{◌≡◌, ◌==◌, ℕ, Bool, true, false, List, [], ◌∷◌, ◌++◌, Option, Some, None, is_some, cond, if◌then◌else◌, refl, sym, ◌∙◌, ap, subst, arith}
+use Rattle.std.proofs.Common.{◌≡◌, ◌==◌, ℕ, Bool, true, false, List, [], ◌∷◌, ◌++◌, Option, Some, None, is_some, cond, if◌then◌else◌, refl, sym, ◌∙◌, ap, subst}
 use Rattle.std.specs.Prelude.{option_map, find}
 use Rattle.std.specs.BTreeMap.{BTreeMap, get, is_at}
 use Rattle.std.specs.Ordering.{nat_cmp}
 use Rattle.std.specs.declared.vec.Vec.{Vec}
 use Rattle.std.specs.declared.alloc.Global.{Global}
 use Rattle.std.proofs.lemmas.Bool.{eqb-true}
-use Rattle.std.proofs.lemmas.Bool.Decides.{nat_tests}
+use Rattle.list_law.proofs.Numbers.{order_at}
 use Rattle.phi_copies.specs.declared.moves.Move.{Move}
 use Rattle.phi_copies.specs.Sequence.{Pair}
 use Rattle.function_plan.specs.Moved.{or_moves, is_from, first_from, single, left_moves}
 
 abbrev pub Edge : Type 0
 Edge = ℕ × Vec Move Global
-
-at_is : (a b : ℕ) → is_at (nat_cmp a) b ≡ (a == b)
-at_is a b = grind (arith, nat_tests)
 
 -- an edge behind the others counts where its block has none before
 pub first_append : (edges : List Edge) (e : Edge) (b : ℕ) → first_from (edges ++ e ∷ []) b ≡ or_moves (first_from edges b) (if e.0 == b then Some e.1 else None)
@@ -73,7 +70,7 @@ pub put_new : (old new : Tree) (from : ℕ) (own : Vec Move Global) → is_some 
 put_new old new from own free put b = step (from == b) refl
   where
     found : (x : Bool) → (from == b) ≡ x → get nat_cmp new b ≡ cond x (Some own) (get nat_cmp old b)
-    found x e = put b ∙ ap (λ y. cond y (Some own) (get nat_cmp old b)) (at_is from b ∙ e)
+    found x e = put b ∙ ap (λ y. cond y (Some own) (get nat_cmp old b)) (order_at from b ∙ e)
 
     step : (x : Bool) → (from == b) ≡ x → get nat_cmp new b ≡ or_moves (get nat_cmp old b) (if x then Some own else None)
     step true e = found true e ∙ nothing (get nat_cmp old b) (Some own) (subst (λ q. is_some (get nat_cmp old q) ≡ false) (eqb-true from b e) free)

@@ -8,10 +8,10 @@ use Rattle.std.specs.Option.{option_map_or}
 use Rattle.std.specs.List.{AllZip, list_any}
 use Rattle.std.specs.BTreeMap.{get, is_at, keys}
 use Rattle.std.proofs.lemmas.Map.Made.{is_some-lookup}
-use Rattle.std.proofs.lemmas.Bool.Decides.{nat_tests}
 use Rattle.std.specs.Ordering.{nat_cmp}
 use Rattle.std.specs.declared.vec.Vec.{Vec}
 use Rattle.std.specs.declared.alloc.Global.{Global}
+use Rattle.list_law.proofs.Numbers.{turned, order_at}
 use Rattle.spv_module.specs.declared.inst.Inst.{Inst}
 use Rattle.spv_module.specs.declared.inst.Block.{Block}
 use Rattle.spv_module.specs.declared.inst.Function.{Function}
@@ -19,7 +19,7 @@ use Rattle.hoist_plan.specs.declared.form.Form.{Form}
 use Rattle.phi_copies.specs.declared.moves.Move.{Move}
 use Rattle.phi_copies.specs.Sequence.{Pair, IsSequence, IsLeft}
 use Rattle.function_plan.specs.declared.edge_moves.Moves.{Moves}
-use Rattle.function_plan.specs.Phis.{pairs_into, pairs, firsts}
+use Rattle.function_plan.specs.Phis.{pairs_into, firsts}
 use Rattle.function_plan.proofs.Edges.{same}
 use Rattle.function_plan.specs.Moved.{items_at, or_moves, moves_in, PairsByBlock, pairs_from, AreListed, AreMovesFor}
 
@@ -82,9 +82,6 @@ or_left false x e = e
 some_none : (m : Vec Move Global) → Some m ≡ None → ⊥
 some_none m e = cc
 
-pub at_is : (a b : ℕ) → is_at (nat_cmp a) b ≡ (a == b)
-at_is a b = grind (arith, nat_tests)
-
 -- one more of the blocks from which edges come
 pub moved_more : (given : PairsByBlock) (blocks : List ℕ) (i from b : ℕ) (old new : Option (Vec Move Global)) (moves : Vec Move Global) → i < length blocks → from ≡ get_or blocks i 0
     → IsSequence (firsts (pairs_from given from)) moves.items → new ≡ or_moves old (if from == b then Some moves else None)
@@ -128,19 +125,16 @@ pair_put given left new from before list pair taken pushed rest put b = step (fr
   where
     step : (x : Bool) → (from == b) ≡ x → pairs_from new b ≡ pairs_from given b ++ (if x then pair ∷ [] else [])
     step true e =
-        ap items_at (put b ∙ ap (λ y. cond y (Some list) (get nat_cmp left b)) (at_is from b ∙ e))
+        ap items_at (put b ∙ ap (λ y. cond y (Some list) (get nat_cmp left b)) (order_at from b ∙ e))
         ∙ (pushed ∙ ap (λ ps. ps ++ pair ∷ []) (taken ∙ ap (pairs_from given) (eqb-true from b e)))
     step false e =
-        ap items_at (put b ∙ ap (λ y. cond y (Some list) (get nat_cmp left b)) (at_is from b ∙ e))
-        ∙ (ap items_at (rest b ∙ ap (λ y. if y then None else get nat_cmp given b) (at_is from b ∙ e))
+        ap items_at (put b ∙ ap (λ y. cond y (Some list) (get nat_cmp left b)) (order_at from b ∙ e))
+        ∙ (ap items_at (rest b ∙ ap (λ y. if y then None else get nat_cmp given b) (order_at from b ∙ e))
         ∙ sym (append-nil (pairs_from given b)))
 
 -- the keys are all blocks that have pairs
 any_same : (b : ℕ) (ks : List ℕ) → list_any (is_at (nat_cmp b)) ks ≡ list_any (λ c. c == b) ks
-any_same b ks = ap (λ p. list_any p ks) (λ i c. (at_is b c ∙ turned b c) i)
-  where
-    turned : (a c : ℕ) → (a == c) ≡ (c == a)
-    turned a c = grind (arith, nat_tests)
+any_same b ks = ap (λ p. list_any p ks) (λ i c. (order_at b c ∙ turned b c) i)
 
 pub listed : (given : PairsByBlock) (blocks : List ℕ) → blocks ≡ keys given → AreListed given blocks
 listed given blocks are = λ b has.

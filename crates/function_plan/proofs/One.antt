@@ -1,8 +1,9 @@
 -- The moves of a single pair.
 use Rattle.std.proofs.Common.{◌≡◌, ◌==◌, ◌<◌, ◌≤◌, ◌&&◌, ◌||◌, ℕ, zero, Bool, true, false, not, List, [], ◌∷◌, filter, length, get_or, refl, sym, ◌∙◌, ap, inl, arith, subst, suc, if◌then◌else◌}
-use Rattle.std.proofs.lemmas.Bool.{eq-eqb, and_parts}
+use Rattle.std.proofs.lemmas.Bool.{eq-eqb, and_parts, not-true}
 use Rattle.std.proofs.lemmas.Bool.Decides.{nat_tests}
 use Rattle.std.proofs.lemmas.List.Sums.{count_by_more_no}
+use Rattle.std.proofs.Math.Bool.{and-false, or-true}
 use Rattle.phi_copies.specs.declared.moves.Var.{Var}
 use Rattle.phi_copies.specs.declared.moves.Src.{Src}
 use Rattle.phi_copies.specs.declared.moves.Src.TheVariants.{Var as Variable, Constant}
@@ -71,20 +72,16 @@ record InOrder (p q : Pair) : Type 0 where
   apart : (target q == target p) ≡ false
   unread : is_var (target p) q.1 ≡ false
 
-flipped : (x : Bool) → not x ≡ true → x ≡ false
-flipped true h = sym h
-flipped false h = refl
-
 ordered : (p q : Pair) → go_in_order p q ≡ true → InOrder p q
 ordered p q h =
     let one = and_parts (is_proper p) (is_proper q && (not (target q == target p) && not (is_var (target p) q.1))) h in
     let two = and_parts (is_proper q) (not (target q == target p) && not (is_var (target p) q.1)) one.1 in
     let three = and_parts (not (target q == target p)) (not (is_var (target p) q.1)) two.1 in
     record {
-      first = flipped (is_var (target p) p.1) one.0;
-      second = flipped (is_var (target q) q.1) two.0;
-      apart = flipped (target q == target p) three.0;
-      unread = flipped (is_var (target p) q.1) three.1;
+      first = not-true (is_var (target p) p.1) one.0;
+      second = not-true (is_var (target q) q.1) two.0;
+      apart = not-true (target q == target p) three.0;
+      unread = not-true (is_var (target p) q.1) three.1;
     }
 
 turned : (a b : ℕ) → (a == b) ≡ false → (b == a) ≡ false
@@ -133,12 +130,8 @@ module _ (p q : Pair) (in_order : InOrder p q) where
     still = record { below = omega arith; unset = unset_second };
     unread = none_reads done (target q)
         (ap (λ (b : Bool). not (b || false) && (is_var (target q) p.1 && true)) (own (target p)))
-        (ap (λ (b : Bool). not (is_set done (target q)) && (b && true)) in_order.second ∙ no_more (not (is_set done (target q))));
+        (ap (λ (b : Bool). not (is_set done (target q)) && (b && true)) in_order.second ∙ and-false (not (is_set done (target q))));
   }
-    where
-      no_more : (b : Bool) → (b && false) ≡ false
-      no_more true = refl
-      no_more false = refl
 
   second_least : (j : ℕ) → IsReady ps done j → 1 ≤ j
   second_least zero other = absurd (true_false (sym (ap (λ (b : Bool). b || false) (own (target p))) ∙ other.still.unset))
@@ -152,11 +145,7 @@ module _ (p q : Pair) (in_order : InOrder p q) where
   second_copied = record { at = 1; first = record { holds = second_ready; least = second_least }; move = second_moved q.0 q.1 }
 
   all_set : (i : ℕ) → IsLeft ps (Set q.0 q.1 ∷ done) i → ⊥
-  all_set zero left = true_false (sym (ap (λ (b : Bool). (target q == target p) || (b || false)) (own (target p)) ∙ or_true (target q == target p)) ∙ left.unset)
-    where
-      or_true : (b : Bool) → (b || true) ≡ true
-      or_true true = refl
-      or_true false = refl
+  all_set zero left = true_false (sym (ap (λ (b : Bool). (target q == target p) || (b || false)) (own (target p)) ∙ or-true (target q == target p)) ∙ left.unset)
   all_set (suc zero) left = true_false (sym (ap (λ (b : Bool). b || is_set done (target q)) (own (target q))) ∙ left.unset)
   all_set (suc (suc i)) left = let below : suc (suc i) < 2 = left.below in omega arith
 

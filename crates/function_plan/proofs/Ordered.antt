@@ -1,5 +1,5 @@
 -- The orders of the targets of switches, one after another.
-use Rattle.std.proofs.Common.{◌≡◌, ◌<◌, ◌≤◌, ◌+◌, ℕ, Bool, true, false, not, List, [], ◌∷◌, ◌++◌, Some, None, cond, filter, get_or, length, map, take, refl, sym, ◌∙◌, ap, inl, inr, arith}
+use Rattle.std.proofs.Common.{◌≡◌, ◌<◌, ◌≤◌, ◌+◌, ℕ, Bool, true, false, not, List, [], ◌∷◌, ◌++◌, Some, None, cond, get_or, length, map, take, refl, sym, ◌∙◌, ap, inl, inr, arith}
 use Rattle.std.specs.Prelude.{if◌then◌else◌}
 use Rattle.std.specs.List.{concat, flat_map}
 use Rattle.std.specs.BTreeMap.{BTreeMap, get, is_at}
@@ -10,13 +10,13 @@ use Rattle.std.proofs.lemmas.List.{append_assoc, get_or_past}
 use Rattle.std.proofs.lemmas.List.Elements.{filter_more}
 use Rattle.std.proofs.lemmas.Bool.{cases_lt}
 use Rattle.std.proofs.lemmas.Bool.Decides.{eqb_tells}
+use Rattle.list_law.proofs.Numbers.{order_at}
 use Rattle.structure_rules.specs.declared.graph.Node.{Node}
 use Rattle.structure_rules.specs.Graph.{no_node, nth}
 use Rattle.switch_ladder.specs.Ladder.{items_of}
 use Rattle.function_plan.specs.Moved.{items_at}
 use Rattle.function_plan.specs.Orders.{others_of, is_reached_switch, order_of, order_by}
 use Rattle.function_plan.specs.Planned.{order_in, AreOrdersBelow}
-use Rattle.function_plan.proofs.Moving.{at_is}
 
 abbrev pub Orders : Type 0
 Orders = BTreeMap ℕ (Vec ℕ Global)
@@ -62,16 +62,16 @@ orders_put g n old new order switch is put are = record {
   below = λ h less. elim (eqb_tells n h) [
     | inl w ↦
         let own : order_by g n ≡ order_of g n = ap (λ b. if b then order_of g n else []) switch in
-        ap items_at (put h ∙ ap (λ y. cond y (Some order) (get nat_cmp old h)) (at_is n h ∙ w.0))
+        ap items_at (put h ∙ ap (λ y. cond y (Some order) (get nat_cmp old h)) (order_at n h ∙ w.0))
         ∙ (is ∙ (sym own ∙ ap (order_by g) w.1))
     | inr w ↦
-        ap items_at (put h ∙ ap (λ y. cond y (Some order) (get nat_cmp old h)) (at_is n h ∙ w.0))
+        ap items_at (put h ∙ ap (λ y. cond y (Some order) (get nat_cmp old h)) (order_at n h ∙ w.0))
         ∙ are.below h (omega (arith, less, w.1))
   ];
   past = λ h beyond. elim (eqb_tells n h) [
     | inl w ↦ absurd (omega (arith, beyond, w.1))
     | inr w ↦
-        ap items_at (put h ∙ ap (λ y. cond y (Some order) (get nat_cmp old h)) (at_is n h ∙ w.0))
+        ap items_at (put h ∙ ap (λ y. cond y (Some order) (get nat_cmp old h)) (order_at n h ∙ w.0))
         ∙ are.past h (omega (arith, beyond))
   ];
 }

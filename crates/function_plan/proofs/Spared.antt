@@ -1,8 +1,9 @@
 -- A block claims no spares where no edge that leaves it needs any.
-use Rattle.std.proofs.Common.{◌≡◌, ◌==◌, ◌||◌, not, ℕ, Bool, true, false, List, [], ◌∷◌, ◌++◌, None, refl, sym, ap, ◌∙◌, map}
+use Rattle.std.proofs.Common.{◌≡◌, ◌==◌, not, ℕ, Bool, true, false, List, [], ◌∷◌, ◌++◌, None, refl, sym, ap, ◌∙◌, map}
 use Rattle.std.specs.Prelude.{flat_map}
 use Rattle.std.specs.List.{list_any, range_with_len}
-use Rattle.std.proofs.lemmas.Bool.{eqb-true}
+use Rattle.std.proofs.lemmas.Bool.{eqb-true, not-false}
+use Rattle.list_law.proofs.Tests.{or_left, or_right}
 use Rattle.spv_module.specs.Lists.{id}
 use Rattle.name_alloc.specs.declared.claims.Key.TheVariants.{Spare}
 use Rattle.text_rules.specs.Claims.{Claim, Plan, claim_spares, label}
@@ -11,21 +12,6 @@ use Rattle.function_plan.specs.Claimed.{claimed_by}
 use Rattle.function_plan.specs.Targets.{targets_in}
 use Rattle.function_plan.specs.Once.{with_id, once_by, no_id, itself}
 use Rattle.function_plan.specs.Spares.{has_saves_to}
-
-true_false : true ≡ false → ⊥
-true_false e = cc
-
-left_false : (a b : Bool) → (a || b) ≡ false → a ≡ false
-left_false true b h = absurd (true_false h)
-left_false false b h = refl
-
-right_false : (a b : Bool) → (a || b) ≡ false → b ≡ false
-right_false true b h = absurd (true_false h)
-right_false false b h = h
-
-not_not : (b : Bool) → not b ≡ false → b ≡ true
-not_not true h = refl
-not_not false h = absurd (true_false h)
 
 -- no spares for a block that is led to, and for the others
 none_at : (p : Plan) (b t : ℕ) → p.spares b t ≡ 0 → claim_spares p b t ≡ []
@@ -42,8 +28,8 @@ none_of : (p : Plan) (b : ℕ) (test : ℕ → Bool) → ((t : ℕ) → test t �
 none_of p b test is seen [] h = refl
 none_of p b test is seen (t ∷ ts) h =
     none_with p b t seen ts
-    (none_at p b t (eqb-true (p.spares b t) 0 (not_not (p.spares b t == 0) (sym (is t) ∙ left_false (test t) (list_any test ts) h))))
-    (λ q. none_of p b test is q ts (right_false (test t) (list_any test ts) h))
+    (none_at p b t (eqb-true (p.spares b t) 0 (not-false (p.spares b t == 0) (sym (is t) ∙ or_left (test t) (list_any test ts) h))))
+    (λ q. none_of p b test is q ts (or_right (test t) (list_any test ts) h))
     (seen t)
 
 pub no_spares : (p : Planned) (b : ℕ) → list_any (has_saves_to p b) (targets_in p.nodes.items b) ≡ false → flat_map (claim_spares (claimed_by p) b) ((claimed_by p).targets b) ≡ []

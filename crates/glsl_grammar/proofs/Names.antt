@@ -1,10 +1,13 @@
 -- Which words are names.
 use Rattle.std.proofs.Common.{◌≡◌, ℕ, ◌<◌, ◌^◌, Bool, true, false, List, [], ◌∷◌, length, refl, ap, subst, ◌∙◌, arith, append-nil}
-use Rattle.std.specs.Prelude.{codes, ◌==◌, ◌&&◌, not, Option, Some, None, is_none}
+use Rattle.std.specs.Prelude.{codes, ◌==◌, ◌&&◌, not, None, is_none}
 use Rattle.std.specs.Fmt.{decimal}
 use Rattle.std.specs.Str.{bytes_eq}
 use Rattle.std.proofs.lemmas.Bool.Decides.{nat_tests}
 use Rattle.std.proofs.lemmas.Fmt.{decimal_nonempty}
+use Rattle.std.proofs.lemmas.Bool.{and_parts, not-true}
+use Rattle.std.proofs.Math.Bool.{and-false}
+use Rattle.list_law.proofs.Options.{none_by}
 use Rattle.glsl_ast.specs.Tree.{Text}
 use Rattle.glsl_grammar.specs.Token.{Token}
 use Rattle.glsl_grammar.specs.Lex.{is_digit, is_word, keywords, token_in, name_token, classify}
@@ -25,30 +28,18 @@ unfoldable pub is_name : Text → Bool
 is_name [] = false
 is_name (c ∷ w) = (not (is_digit c) && is_none (token_in keywords (c ∷ w))) && (is_word c && all_word_bytes w)
 
-split : (x y : Bool) → (x && y) ≡ true → (x ≡ true) × (y ≡ true)
-split true y h = (refl, h)
-split false y h = absurd cc
-
 word_bytes_from : (w : Text) → all_word_bytes w ≡ true → AreWordBytes w
 word_bytes_from [] h = tt
-word_bytes_from (c ∷ w) h = let k = split (is_word c) (all_word_bytes w) h in (k.0, word_bytes_from w k.1)
-
-no_digit : (x : Bool) → not x ≡ true → x ≡ false
-no_digit true h = cc
-no_digit false h = refl
-
-nothing_there : {A : Type 0} (o : Option A) → is_none o ≡ true → o ≡ None
-nothing_there None h = refl
-nothing_there (Some x) h = absurd cc
+word_bytes_from (c ∷ w) h = let k = and_parts (is_word c) (all_word_bytes w) h in (k.0, word_bytes_from w k.1)
 
 pub name_by_test : (w : Text) → is_name w ≡ true → IsName w
 unfolding is_name
 name_by_test [] h = absurd cc
 name_by_test (c ∷ w) h =
-    let k = split (not (is_digit c) && is_none (token_in keywords (c ∷ w))) (is_word c && all_word_bytes w) h in
-    let front = split (not (is_digit c)) (is_none (token_in keywords (c ∷ w))) k.0 in
-    let bytes = split (is_word c) (all_word_bytes w) k.1 in
-    name_by_table c w bytes.0 (no_digit (is_digit c) front.0) (word_bytes_from w bytes.1) (nothing_there (token_in keywords (c ∷ w)) front.1)
+    let k = and_parts (not (is_digit c) && is_none (token_in keywords (c ∷ w))) (is_word c && all_word_bytes w) h in
+    let front = and_parts (not (is_digit c)) (is_none (token_in keywords (c ∷ w))) k.0 in
+    let bytes = and_parts (is_word c) (all_word_bytes w) k.1 in
+    name_by_table c w bytes.0 (not-true (is_digit c) front.0) (word_bytes_from w bytes.1) (none_by (token_in keywords (c ∷ w)) front.1)
 
 -- words that the text's parts are named by
 pub main_is_name : IsName (codes "main")
@@ -89,19 +80,15 @@ digits_differ : (d b : ℕ) → is_digit d ≡ true → not (is_digit b) ≡ tru
 unfolding is_digit
 digits_differ d b h g = grind (arith, nat_tests)
 
-and_false : (t : Bool) → (t && false) ≡ false
-and_false true = refl
-and_false false = refl
-
 second_differs : (c d : ℕ) (w k : Text) → is_digit d ≡ true → second_is_no_digit k ≡ true → bytes_eq (c ∷ d ∷ w) k ≡ false
 second_differs c d w [] h g = refl
-second_differs c d w (a ∷ []) h g = and_false (c == a)
-second_differs c d w (a ∷ b ∷ k) h g = ap (λ t. (c == a) && (t && bytes_eq w k)) (digits_differ d b h g) ∙ and_false (c == a)
+second_differs c d w (a ∷ []) h g = and-false (c == a)
+second_differs c d w (a ∷ b ∷ k) h g = ap (λ t. (c == a) && (t && bytes_eq w k)) (digits_differ d b h g) ∙ and-false (c == a)
 
 none_in : (rows : List (Text × Token)) (c d : ℕ) (w : Text) → is_digit d ≡ true → no_second_digits rows ≡ true → token_in rows (c ∷ d ∷ w) ≡ None
 none_in [] c d w h g = refl
 none_in (row ∷ rows) c d w h g =
-    let k = split (second_is_no_digit row.0) (no_second_digits rows) g in
+    let k = and_parts (second_is_no_digit row.0) (no_second_digits rows) g in
     rw (second_differs c d w row.0 h k.0, token_in) (none_in rows c d w h k.1)
 
 letter_and_digits : (c : ℕ) (w : Text) → is_word c ≡ true → is_digit c ≡ false → 0 < length w → AreDigits w → IsName (c ∷ w)

@@ -3,6 +3,7 @@ use Rattle.std.proofs.Common.{◌≡◌, ◌==◌, ℕ, zero, suc, ◌+◌, ◌�
 use Rattle.std.proofs.lemmas.Bool.{cases_lt}
 use Rattle.std.proofs.lemmas.Bool.Decides.{nat_tests}
 use Rattle.std.specs.Prelude.{option_and_then}
+use Rattle.list_law.proofs.Tests.{off_on}
 use Rattle.glsl_ast.specs.Tree as tree
 use Rattle.glsl_ast.specs.Tree.{Text, TypeName, type_name, Extent, Base, Expr, Exprs, no_exprs, exprs_in}
 use Rattle.glsl_ast.specs.declared.expressions.Literal.{Literal}
@@ -254,16 +255,13 @@ is_end comma = true
 is_end colon = true
 is_end _ = false
 
-pub not_true : {A : Type 0} → false ≡ true → A
-not_true h = cc
-
 ends_any : (t : Token) (ts : List Token) → is_end t ≡ true → any_level < end (t ∷ ts)
 ends_any right_paren ts h = omega arith
 ends_any right_bracket ts h = omega arith
 ends_any semicolon ts h = omega arith
 ends_any comma ts h = omega arith
 ends_any colon ts h = omega arith
-ends_any _ ts h = not_true h
+ends_any _ ts h = off_on h
 
 -- the arguments as a list
 abbrev pub exprs_of : Exprs → List Expr

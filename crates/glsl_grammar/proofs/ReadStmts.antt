@@ -1,5 +1,6 @@
 -- Reading the tokens of a statement gives it back.
 use Rattle.std.proofs.Common.{◌≡◌, ℕ, zero, suc, ◌+◌, ◌≤◌, true, List, [], ◌∷◌, length, Option, Some, None, refl, sym, ap, ◌∙◌, arith}
+use Rattle.list_law.proofs.Tests.{off_on}
 use Rattle.glsl_ast.specs.Tree as tree
 use Rattle.glsl_ast.specs.Tree.{Text, TypeName, type_name, Base, Expr, Exprs, LStep, lvalue, Stmt, Stmts, no_stmts, stmts_in, Arms, no_arms, Arm, group, arms_in}
 use Rattle.glsl_ast.specs.declared.expressions.Literal.TheVariants.{Int, Uint, Hex, Truth}
@@ -9,7 +10,7 @@ use Rattle.glsl_grammar.specs.Token.{Token, word, basic, if_, else_, for_, switc
 use Rattle.glsl_grammar.specs.Parsers.{Parse, close_bracket, ◌>>=◌, ◌>>◌, pure, one_and, until_brace, some_until_brace, any_until_paren, see_semicolon}
 use Rattle.glsl_grammar.specs.Read.{read_type, read_expr, read_steps, read_start, read_result, read_declaration, read_assignment, read_action, read_condition, read_else, read_label, read_labels, read_arm, read_arms, read_stmt, read_body}
 use Rattle.glsl_grammar.specs.Scopes.{IsDeclaredType, IsFree, IsDeclaredExpr, AreDeclaredExprs, AreDeclaredSteps, IsDeclaredValue, IsDeclaredStmt, AreDeclaredStmts, AreDeclaredArms, has_arms}
-use Rattle.glsl_grammar.proofs.ReadExprs.{and_on, one_on, rest_of_type, ends_type-word, type_back, rest_of_expr, rest_of_args, first_of_type, first_of_expr, not_true, exprs_of, exprs_back, expr_then, args_back}
+use Rattle.glsl_grammar.proofs.ReadExprs.{and_on, one_on, rest_of_type, ends_type-word, type_back, rest_of_expr, rest_of_args, first_of_type, first_of_expr, exprs_of, exprs_back, expr_then, args_back}
 
 -- steps
 
@@ -206,7 +207,7 @@ arm_from body ls some b n ts le back = and_on (one_and read_label (read_labels n
 
 -- the groups, where they are read after a turn
 arms_from : (names : List Text) (arms : Arms) → has_arms arms ≡ true → AreDeclaredArms names arms → (body : Parse Stmts) (n : ℕ) (ts : List Token) → until_brace (read_arm body n) (suc n) (put_arms arms ts) ≡ Some (arms_of arms, ts) → read_arms body n (left_brace ∷ put_arms arms ts) ≡ Some (arms, ts)
-arms_from names no_arms some d body n ts back = not_true some
+arms_from names no_arms some d body n ts back = off_on some
 arms_from names (tree.Arms.arm ls b r) some d body n ts back =
     and_on (some_until_brace (read_arm body n) n) _ (put_arms (tree.Arms.arm ls b r) ts) ts (group ls b ∷ arms_of r) _ (sym (arm_turn ls d.0 (read_arm body n) n (left_brace ∷ put_body b (put_arms r ts))) ∙ back) (ap (λ as'. Some (as', ts)) (arms_back (tree.Arms.arm ls b r)))
 

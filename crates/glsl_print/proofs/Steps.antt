@@ -1,23 +1,15 @@
 -- Steps of printing, one after the other.
-use Rattle.std.proofs.Common.{suc, append_assoc, append-nil, add-one, drop, drop-cons, get_or, ◌<◌, ◌≤◌, subst, ◌≡◌, ◌+◌, ◌-◌, ◌++◌, ℕ, replicate, List, [], ◌∷◌, length, take, Option, Some, None, Result, OnOk, Ok, Err, refl, sym, ap, ◌∙◌, arith}
+use Rattle.std.proofs.Common.{suc, append_assoc, append-nil, add-one, drop, drop-cons, get_or, ◌<◌, ◌≤◌, subst, ◌≡◌, ◌+◌, ◌-◌, ◌++◌, ℕ, replicate, List, [], ◌∷◌, length, take, Option, Result, OnOk, Ok, Err, refl, sym, ap, ◌∙◌, arith}
 use Rattle.std.specs.Io.KnownBytes.{Appends}
-use Rattle.std.proofs.KnownBytes.{Appends-trans}
-use Rattle.std.proofs.lemmas.List.{take-append-le, take-append-drop, drop_all, length-append, replicate-append-replicate}
-use Rattle.std.proofs.Math.Seq.{take-append-add}
+use Rattle.std.proofs.KnownBytes.{Appends-trans, Appends-nil}
+use Rattle.std.proofs.lemmas.List.{take-append-drop, drop_all, replicate-append-replicate}
 use Rattle.cc_outside.specs.Causes.{AppendsPrefix, HasCauseOf}
 use Rattle.cc_outside.specs.declared.all.WriteEnd.{WriteEnd}
 use Rattle.cc_outside.specs.declared.all.WriteEnd.TheVariants as sink
+use Rattle.cc_outside.proofs.Fronts.{front_of, front_after}
 use Rattle.glsl_print.specs.declared.end.PrintEnd.{PrintEnd}
 use Rattle.glsl_print.specs.declared.end.PrintEnd.TheVariants.{Fault, Memory}
 use Rattle.glsl_print.specs.Printed.{PageState, Handed, Printed, Goes}
-
--- the front of a front
-pub front_of : (a b : Option (List ℕ)) (xs zs : List ℕ) → AppendsPrefix a b xs → AppendsPrefix a b (xs ++ zs)
-front_of a b xs zs (n, fits, wrote) = (n, omega (arith, length-append xs zs), rw (take-append-le n xs zs fits) wrote)
-
-pub Appends-refl : (old : Option (List ℕ)) → Appends old old []
-Appends-refl None = tt
-Appends-refl (Some xs) = sym (append-nil xs)
 
 pub goes_then : {K : Type 0} {written : K → Option (List ℕ)} {faults wants : K → ℕ} {a b c : K} {p q r : PageState} {xs ys : List ℕ} → Goes written faults wants a p xs b q → Goes written faults wants b q ys c r → Goes written faults wants a p (xs ++ ys) c r
 goes_then {written = w} {faults = f} {wants = n} {c = c} {r = r} {xs = xs} {ys = ys} first second = record {
@@ -31,8 +23,8 @@ goes_nowhere {written = w} {faults = f} {wants = n} a p = record {
 
 pub nothing_printed : {K : Type 0} (written : K → Option (List ℕ)) (faults wants : K → ℕ) (a : K) → Printed written faults wants a a (record { held = []; status = Ok tt }) []
 nothing_printed written faults wants a = record {
-  all = record { front = []; taken = Appends-refl (written a); whole = refl };
-  front = (0, omega arith, Appends-refl (written a));
+  all = record { front = []; taken = Appends-nil (written a); whole = refl };
+  front = (0, omega arith, Appends-nil (written a));
   fault = record { later = omega arith; failed = λ e. cc };
   want = record { later = omega arith; failed = λ e. cc };
 }
@@ -74,11 +66,6 @@ remains_less {xs = xs} ys before step = record {
 
 pub remains_last : {K : Type 0} {written : K → Option (List ℕ)} {faults wants : K → ℕ} {a b c : K} {p q r : PageState} {xs all : List ℕ} → Remains written faults wants a p xs all b q → Goes written faults wants b q xs c r → Goes written faults wants a p all c r
 remains_last {written = w} {faults = f} {wants = n} {a = a} {c = c} {p = p} {r = r} before step = subst (λ l. Goes w f n a p l c r) before.whole (goes_then before.goes step)
-
--- all of some bytes, and then the front of others
-pub front_after : (a b c : Option (List ℕ)) (xs ys : List ℕ) → Appends a b xs → AppendsPrefix b c ys → AppendsPrefix a c (xs ++ ys)
-front_after a b c xs ys all (n, fits, wrote) =
-    (length xs + n, omega (arith, length-append xs ys), rw take-append-add (Appends-trans a b c xs (take n ys) all wrote))
 
 -- what is held was handed to the sink
 module _ {K : Type 0} {written : K → Option (List ℕ)} {faults wants : K → ℕ} (start a b : K) (before held : List ℕ) where

@@ -2,7 +2,6 @@
 use Rattle.std.proofs.Common.{◌≡◌, ℕ, zero, suc, ◌+◌, ◌<◌, List, [], ◌∷◌, ◌++◌, length, slice_index, take, drop, Bool, true, false, refl, sym, ap, ◌∙◌, subst, arith, append_assoc, append-nil}
 use Rattle.std.proofs.lemmas.List.{take_all, take-append-drop}
 use Rattle.std.proofs.lemmas.List.FromFn.{length-range_with_len, get_or-range_with_len}
-use Rattle.std.specs.Prelude.{Result, Ok, Err, IfOk, OnOk}
 use Rattle.traces.specs.Events as trace
 use Rattle.dispatch_semantics.specs.Dispatch.{DispatchRun}
 use Rattle.group_items.specs.declared.schedule.End.{End}
@@ -15,11 +14,6 @@ use Rattle.group_items.proofs.States.{goes_none, goes_then}
 
 abbrev Events : Type 0
 Events = List (ℕ × trace.Event)
-
--- a value that two clauses speak of
-pub if_ok_both : {A E : Type 0} (P S : A → Type 0) (Q : Type 0) (r : Result A E) → IfOk r P → OnOk r Q → ((a : A) → P a → Q → S a) → IfOk r S
-if_ok_both P S Q (Ok a) p q f = f a p q
-if_ok_both P S Q (Err e) p q f = tt
 
 split : (f : ℕ) (xs : List ℕ) → f < length xs → xs ≡ take f xs ++ slice_index xs f ∷ drop (suc f) xs
 split f [] h = absurd (omega (arith, h))

@@ -8,6 +8,9 @@ use Rattle.std.specs.declared.cmp.Ordering.{Ordering}
 use Rattle.std.specs.declared.cmp.Ordering.TheVariants.{Less, Equal, Greater}
 use Rattle.std.specs.BTreeMap.{insert_entry, is_at}
 use Rattle.std.specs.Map.{lookup}
+use Rattle.std.proofs.lemmas.Bool.{and_from}
+use Rattle.list_law.proofs.Tests.{and_left, and_right}
+use Rattle.list_law.proofs.Numbers.{turned, same_number}
 use Rattle.traces.specs.Events.{Location, buffer, push, shared}
 use Rattle.dispatch_semantics.specs.Store.{same_numbers, same_location}
 use Rattle.group_items.specs.declared.event.LeafPlace.{LeafPlace}
@@ -29,43 +32,29 @@ eq_is p q = search (rules, same_lists)
 pub cmp_is : (p q : LeafPlace) → is_eq (place_ord.ghosts.cmp p q) ≡ same_location (location_of p) (location_of q)
 cmp_is p q = sym (matches_eq-law p q) ∙ eq_is p q
 
-and_left : (a b : Bool) → (a && b) ≡ true → a ≡ true
-and_left true b h = refl
-and_left false b h = cc
-
-and_right : (a b : Bool) → (a && b) ≡ true → b ≡ true
-and_right true b h = h
-and_right false b h = cc
-
-same_nat : (a b : ℕ) → (a == b) ≡ true → a ≡ b
-same_nat a b h = grind (arith, nat_tests, h)
-
 own_nat : (a : ℕ) → (a == a) ≡ true
 own_nat a = grind (arith, nat_tests)
-
-both : (a b : Bool) → a ≡ true → b ≡ true → (a && b) ≡ true
-both a b h k = ap (λ x. x && b) h ∙ k
 
 numbers_same : (xs ys : List ℕ) → same_numbers xs ys ≡ true → xs ≡ ys
 numbers_same [] [] h = refl
 numbers_same [] (y ∷ ys) h = cc
 numbers_same (x ∷ xs) [] h = cc
 numbers_same (x ∷ xs) (y ∷ ys) h =
-    ap (λ a. a ∷ xs) (same_nat x y (and_left (x == y) (same_numbers xs ys) h)) ∙ ap (λ l. y ∷ l) (numbers_same xs ys (and_right (x == y) (same_numbers xs ys) h))
+    ap (λ a. a ∷ xs) (same_number x y (and_left (x == y) (same_numbers xs ys) h)) ∙ ap (λ l. y ∷ l) (numbers_same xs ys (and_right (x == y) (same_numbers xs ys) h))
 
 numbers_own : (xs : List ℕ) → same_numbers xs xs ≡ true
 numbers_own [] = refl
-numbers_own (x ∷ xs) = both (x == x) (same_numbers xs xs) (own_nat x) (numbers_own xs)
+numbers_own (x ∷ xs) = and_from (x == x) (same_numbers xs xs) (own_nat x) (numbers_own xs)
 
 pub same_is : (a b : Location) → same_location a b ≡ true → a ≡ b
 same_is (buffer s b n) (buffer t c m) h =
     let more : ((b == c) && (n == m)) ≡ true = and_right (s == t) ((b == c) && (n == m)) h in
-    ap (λ x. buffer x b n) (same_nat s t (and_left (s == t) ((b == c) && (n == m)) h))
-    ∙ ap (λ x. buffer t x n) (same_nat b c (and_left (b == c) (n == m) more))
-    ∙ ap (λ x. buffer t c x) (same_nat n m (and_right (b == c) (n == m) more))
-same_is (push n) (push m) h = ap push (same_nat n m h)
+    ap (λ x. buffer x b n) (same_number s t (and_left (s == t) ((b == c) && (n == m)) h))
+    ∙ ap (λ x. buffer t x n) (same_number b c (and_left (b == c) (n == m) more))
+    ∙ ap (λ x. buffer t c x) (same_number n m (and_right (b == c) (n == m) more))
+same_is (push n) (push m) h = ap push (same_number n m h)
 same_is (shared k path) (shared l way) h =
-    ap (λ x. shared x path) (same_nat k l (and_left (k == l) (same_numbers path way) h)) ∙ ap (λ x. shared l x) (numbers_same path way (and_right (k == l) (same_numbers path way) h))
+    ap (λ x. shared x path) (same_number k l (and_left (k == l) (same_numbers path way) h)) ∙ ap (λ x. shared l x) (numbers_same path way (and_right (k == l) (same_numbers path way) h))
 same_is (buffer s b n) (push m) h = cc
 same_is (buffer s b n) (shared l way) h = cc
 same_is (push n) (buffer t c m) h = cc
@@ -74,9 +63,9 @@ same_is (shared k path) (buffer t c m) h = cc
 same_is (shared k path) (push m) h = cc
 
 pub same_own : (a : Location) → same_location a a ≡ true
-same_own (buffer s b n) = both (s == s) ((b == b) && (n == n)) (own_nat s) (both (b == b) (n == n) (own_nat b) (own_nat n))
+same_own (buffer s b n) = and_from (s == s) ((b == b) && (n == n)) (own_nat s) (and_from (b == b) (n == n) (own_nat b) (own_nat n))
 same_own (push n) = own_nat n
-same_own (shared k path) = both (k == k) (same_numbers path path) (own_nat k) (numbers_own path)
+same_own (shared k path) = and_from (k == k) (same_numbers path path) (own_nat k) (numbers_own path)
 
 -- a key more in a list of entries
 module _ (k : LeafPlace) (v : ℕ) (at : Location) where
@@ -119,20 +108,17 @@ module _ (k : LeafPlace) (v : ℕ) (at : Location) where
           ∙ ap (λ x. elim (tells k) as (λ _. ℕ) [ true ↦ v | false ↦ word_of (cond (same_location x at) (Some e.1) (lookup tells es)) ]) one
       by_order Greater h more = behind_other (tells e.0) (tells k) e.1 (lookup tells es) (lookup tells (insert_entry place_ord.ghosts.cmp es k v)) (apart h) more
 
-nat_swap : (a b : ℕ) → (a == b) ≡ (b == a)
-nat_swap a b = grind (arith, nat_tests)
-
 numbers_swap : (xs ys : List ℕ) → same_numbers xs ys ≡ same_numbers ys xs
 numbers_swap [] [] = refl
 numbers_swap [] (y ∷ ys) = refl
 numbers_swap (x ∷ xs) [] = refl
-numbers_swap (x ∷ xs) (y ∷ ys) = ap (λ b. b && same_numbers xs ys) (nat_swap x y) ∙ ap (λ b. (y == x) && b) (numbers_swap xs ys)
+numbers_swap (x ∷ xs) (y ∷ ys) = ap (λ b. b && same_numbers xs ys) (turned x y) ∙ ap (λ b. (y == x) && b) (numbers_swap xs ys)
 
 same_swap : (a b : Location) → same_location a b ≡ same_location b a
 same_swap (buffer s b n) (buffer t c m) =
-    ap (λ x. x && ((b == c) && (n == m))) (nat_swap s t) ∙ ap (λ x. (t == s) && (x && (n == m))) (nat_swap b c) ∙ ap (λ x. (t == s) && ((c == b) && x)) (nat_swap n m)
-same_swap (push n) (push m) = nat_swap n m
-same_swap (shared k path) (shared l way) = ap (λ x. x && same_numbers path way) (nat_swap k l) ∙ ap (λ x. (l == k) && x) (numbers_swap path way)
+    ap (λ x. x && ((b == c) && (n == m))) (turned s t) ∙ ap (λ x. (t == s) && (x && (n == m))) (turned b c) ∙ ap (λ x. (t == s) && ((c == b) && x)) (turned n m)
+same_swap (push n) (push m) = turned n m
+same_swap (shared k path) (shared l way) = ap (λ x. x && same_numbers path way) (turned k l) ∙ ap (λ x. (l == k) && x) (numbers_swap path way)
 same_swap (buffer s b n) (push m) = refl
 same_swap (buffer s b n) (shared l way) = refl
 same_swap (push n) (buffer t c m) = refl

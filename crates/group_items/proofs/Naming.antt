@@ -2,12 +2,8 @@
 use Rattle.std.proofs.Common.{◌≡◌, ℕ, zero, suc, ◌+◌, ◌<◌, Bool, true, false, List, [], ◌∷◌, ◌++◌, cond, length, slice_index, nat_lt, refl, ap, ◌∙◌, subst, arith}
 use Rattle.std.proofs.lemmas.Bool.Decides.{nat_tests}
 use Rattle.std.proofs.lemmas.List.FromFn.{length-range_with_len, get_or-range_with_len}
-use Rattle.std.specs.List.{range_with_len}
+use Rattle.list_law.proofs.Lists.{range_end}
 use Rattle.group_items.specs.Schedule.{among, turn}
-
-range_end : (a n : ℕ) → range_with_len a (suc n) ≡ range_with_len a n ++ (a + n) ∷ []
-range_end a zero = let same : a ≡ a + 0 = omega arith in ap (λ k. k ∷ []) same
-range_end a (suc n) = let same : a + 1 + n ≡ a + suc n = omega arith in ap (λ l. a ∷ l) (range_end (a + 1) n ∙ ap (λ k. range_with_len (a + 1) n ++ k ∷ []) same)
 
 pub turn_more : (n : ℕ) → turn (n + 1) ≡ turn n ++ n ∷ []
 turn_more n =

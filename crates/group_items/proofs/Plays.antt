@@ -3,6 +3,7 @@ use Rattle.std.proofs.Common.{◌≡◌, ℕ, ◌+◌, ◌<◌, ◌≤◌, ◌/�
 use Rattle.std.proofs.lemmas.Bool.Decides.{nat_tests}
 use Rattle.std.proofs.lemmas.List.{get_or-set_same, get_or-set_other, length-set}
 use Rattle.std.specs.Prelude.{None, Result, Ok, Err, IsErrOf}
+use Rattle.list_law.proofs.Numbers.{same_number}
 use Rattle.traces.specs.Events as trace
 use Rattle.traces.specs.Runs as run
 use Rattle.traces.specs.Runs.{made}
@@ -20,9 +21,6 @@ use Rattle.group_items.proofs.States.{weight-append, controls-snoc, now-snoc}
 -- an error is the same, whatever there is where there is none
 pub other_error : {S T E : Type 0} (x y : E) → IsErrOf {T = S} (Err x) y → IsErrOf {T = T} (Err x) y
 other_error {S} {T} {E} x y h = ap (λ (r : Result S E). elim r as (λ _. Result T E) [ Ok v ↦ Err y | Err e ↦ Err e ]) h
-
-same_number : (j i : ℕ) → (j == i) ≡ true → j ≡ i
-same_number j i h = grind (arith, nat_tests, h)
 
 few_controls : (e : trace.Event) → controls (e ∷ []) ≤ 1
 few_controls e = elim (is_control e) as (λ b. (elim b as (λ _. ℕ) [ true ↦ 1 + 0 | false ↦ 0 ]) ≤ 1) [ true ↦ omega arith | false ↦ omega arith ]

@@ -2,7 +2,8 @@
 use Rattle.std.proofs.Common.{◌≡◌, ◌≢◌, ℕ, ◌+◌, ◌<◌, ◌≤◌, Bool, true, false, List, [], ◌∷◌, ◌++◌, length, slice_index, take, inl, inr, ⊎_elim, ◌⊎◌, refl, sym, ap, ◌∙◌, subst, arith, add-one}
 use Rattle.std.proofs.Math.Seq.{take-suc}
 use Rattle.std.proofs.lemmas.Bool.{cases_lt}
-use Rattle.std.specs.Prelude.{Option, Some, None}
+use Rattle.std.specs.Prelude.{Some, None}
+use Rattle.std.proofs.lemmas.Option.{same_Some}
 use Rattle.traces.specs.Events as trace
 use Rattle.traces.specs.Invocations.{Invocation as Told}
 use Rattle.traces.specs.Runs as run
@@ -23,9 +24,6 @@ Events = List (ℕ × trace.Event)
 
 last_or : (j k : ℕ) → j < k + 1 → (j < k) ⊎ (j ≡ k)
 last_or j k h = ⊎_elim inl (λ ge. inr (omega (arith, h, ge))) (cases_lt j k)
-
-some_same : {A : Type 0} (x y : A) → Some x ≡ Some y → x ≡ y
-some_same {A} x y h = ap (λ (o : Option A). elim o as (λ _. A) [ Some a ↦ a | None ↦ x ]) h
 
 module _ (d : Setup) (runs : Runs) (old : Events) (items : List ℕ) (k : ℕ) (i : ℕ) (mid new : Events) (inside : k < length items) (lt : i < d.count) (is : i ≡ slice_index items k) where
   one_more : take (k + 1) items ≡ take k items ++ i ∷ []
@@ -113,8 +111,8 @@ module _ (d : Setup) (runs : Runs) (old : Events) (items : List ℕ) (k : ℕ) (
           not_undefined u = let never : run.running ≡ run.undefined = ap (λ (r : Run). r.status) (sym h.run ∙ u) in cc
 
       pub stop_at : (turn : Turn) (e : End) → IsTurn d runs mid i new turn → end_by turn i ≡ Some e → HasStopped d runs old items new e
-      stop_at Undefined e h q = subst (HasStopped d runs old items new) (some_same (end.Undefined i) e q) (undefined_at h)
-      stop_at Cut e h q = subst (HasStopped d runs old items new) (some_same (end.Cut i) e q) (cut_at h)
+      stop_at Undefined e h q = subst (HasStopped d runs old items new) (same_Some (end.Undefined i) e q) (undefined_at h)
+      stop_at Cut e h q = subst (HasStopped d runs old items new) (same_Some (end.Cut i) e q) (cut_at h)
       stop_at Waits e h q = cc
       stop_at Ended e h q = cc
       stop_at Moves e h q = cc

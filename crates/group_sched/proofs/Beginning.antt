@@ -1,11 +1,12 @@
 -- How a dispatch stands before its first item.
-use Rattle.std.proofs.Common.{◌≡◌, ℕ, zero, suc, ◌<◌, ◌≤◌, ◌+◌, ◌*◌, ◌/◌, ◌==◌, ◌&&◌, ◌||◌, Bool, true, false, List, [], ◌∷◌, length, map, drop, slice_index, get_or, refl, sym, ap, ◌∙◌, subst, arith, add-one}
+use Rattle.std.proofs.Common.{◌≡◌, ℕ, zero, suc, ◌<◌, ◌≤◌, ◌+◌, ◌*◌, ◌/◌, ◌==◌, ◌&&◌, ◌||◌, true, List, [], ◌∷◌, length, map, drop, slice_index, get_or, refl, sym, ap, ◌∙◌, subst, arith, add-one}
 use Rattle.std.proofs.Math.Seq.{drop-cons}
 use Rattle.std.proofs.lemmas.Bool.Decides.{nat_tests}
 use Rattle.std.specs.Prelude.{None}
 use Rattle.std.specs.List.{list_any, list_all}
 use Rattle.std.specs.declared.vec.Vec.{Vec}
 use Rattle.std.specs.declared.alloc.Global.{Global}
+use Rattle.list_law.proofs.Tests.{and_left, and_right}
 use Rattle.traces.specs.Events.{Location, buffer}
 use Rattle.dispatch_semantics.specs.Store.{Store, put}
 use Rattle.group_items.specs.declared.play.Play.{Play}
@@ -17,14 +18,6 @@ use Rattle.group_items.specs.Schedule.{Setup, now, most_weight}
 use Rattle.group_items.specs.Playing.{IsAt}
 use Rattle.dispatch_case.specs.Cases.{Buffer, buffer_view, is_short, most_numbers, is_at, buffers_repeat}
 use Rattle.group_sched.specs.Start.{size_of, spread, with_buffers}
-
-pub and_left : (a b : Bool) → (a && b) ≡ true → a ≡ true
-and_left true b h = refl
-and_left false b h = cc
-
-pub and_right : (a b : Bool) → (a && b) ≡ true → b ≡ true
-and_right true b h = h
-and_right false b h = cc
 
 -- one word more is put
 pub spread_more : (at : ℕ → Location) (k : ℕ) (words : List ℕ) (w : ℕ) (store : Store) → k < length words → w ≡ slice_index words k → spread at (4 * (k + 1)) (drop (k + 1) words) (put 0 (at (4 * k)) w store) ≡ spread at (4 * k) (drop k words) store

@@ -1,15 +1,17 @@
 -- What the bounds of a case give.
-use Rattle.std.proofs.Common.{◌≡◌, ℕ, ◌<◌, ◌≤◌, ◌*◌, ◌&&◌, Bool, true, false, not, refl, ◌∙◌, subst, arith, nat_le, map}
+use Rattle.std.proofs.Common.{◌≡◌, ℕ, ◌<◌, ◌≤◌, ◌*◌, ◌&&◌, true, false, not, ◌∙◌, subst, arith, nat_le, map}
 use Rattle.std.proofs.Math.Nat.{le-mul_of_pos_right, mul_comm, mul-pos}
 use Rattle.std.proofs.lemmas.Bool.Decides.{nat_tests}
 use Rattle.std.specs.List.{list_all}
+use Rattle.std.proofs.lemmas.Bool.{not-true}
+use Rattle.list_law.proofs.Tests.{and_left, and_right}
 use Rattle.traces.specs.Invocations.{Triple}
 use Rattle.dispatch_semantics.specs.Grid.{product}
 use Rattle.group_items.specs.Sides.{keys_repeat}
 use Rattle.dispatch_case.specs.Cases.{CaseParts, Buffer, is_side, is_short, are_groups, are_buffers, buffers_repeat, is_fine}
 use Rattle.group_sched.specs.Sides.{AreAbove, AreSmall}
 use Rattle.group_sched.specs.Start.{size_of}
-use Rattle.group_sched.proofs.Beginning.{and_left, and_right, repeats_same}
+use Rattle.group_sched.proofs.Beginning.{repeats_same}
 
 side_above : (n : ℕ) → is_side n ≡ true → 0 < n
 side_above n h = let low : nat_le 1 n ≡ true = and_left (nat_le 1 n) (nat_le n 1024) h in grind (arith, nat_tests, low)
@@ -39,15 +41,11 @@ module _ (c : CaseParts) (fine : is_fine c ≡ true) where
   buffers_fine : are_buffers c.buffers ≡ true
   buffers_fine = and_left (are_buffers c.buffers) _ (and_right (are_groups c.groups) _ fine)
 
-  not_false : (b : Bool) → not b ≡ true → b ≡ false
-  not_false true h = cc
-  not_false false h = refl
-
   -- no buffer has two sizes
   pub sizes_apart : keys_repeat (map size_of c.buffers) ≡ false
   sizes_apart =
       repeats_same c.buffers
-      ∙ not_false (buffers_repeat c.buffers) (and_right (list_all (λ (b : Buffer). is_short b.2) c.buffers) (not (buffers_repeat c.buffers)) buffers_fine)
+      ∙ not-true (buffers_repeat c.buffers) (and_right (list_all (λ (b : Buffer). is_short b.2) c.buffers) (not (buffers_repeat c.buffers)) buffers_fine)
 
 pub product_above : (t : Triple) → AreAbove t → 0 < product t
 product_above t a = mul-pos a.0 (mul-pos a.1 a.2)

@@ -4,10 +4,8 @@ use Rattle.std.specs.Option.{option_map_or}
 use Rattle.std.proofs.lemmas.List.{get_or-set_same, get_or-set_other}
 use Rattle.std.proofs.Math.ListN.{length-set}
 use Rattle.std.proofs.lemmas.Bool.Decides.{nat_tests, eqb_tells}
+use Rattle.std.proofs.lemmas.Option.{same_Some}
 use Rattle.id_map.specs.Entries.{slot_in, entry_by}
-
-some_is : {X : Type 0} (a b : X) → Some a ≡ Some b → a ≡ b
-some_is a b h = ap (λ (o : Option _). option_map_or (λ x. x) o a) h
 
 -- where a slot stands
 pub slot_is : (least count id k : ℕ) → slot_in least count id ≡ Some k → (id ≡ least + k) × (k < count)
@@ -18,7 +16,7 @@ slot_is least count id k h =
       | true ↦ λ low within is. cc
       | false ↦ elim c as (λ c. nat_lt id least ≡ false → nat_lt (id - least) count ≡ c → cond c (Some (id - least)) None ≡ Some k → (id ≡ least + k) × (k < count)) [
         | true ↦ λ low within is.
-            let e : id - least ≡ k = some_is (id - least) k is in
+            let e : id - least ≡ k = same_Some (id - least) k is in
             (grind (arith, nat_tests, low, e), grind (arith, nat_tests, within, e))
         | false ↦ λ low within is. cc
       ]

@@ -1,5 +1,6 @@
 -- The expression of an operation is at most 40 higher than the highest of its operands.
 use Rattle.std.proofs.Common.{◌≡◌, ℕ, ◌+◌, ◌≤◌, Bool, true, false, List, [], ◌∷◌, Option, Some, None, Result, Ok, Err, IfOk, arith, sym, subst, if◌then◌else◌}
+use Rattle.list_law.proofs.Numbers.{le_on}
 use Rattle.spv_ops.specs.declared.Op.{Op}
 use Rattle.spv_module.specs.declared.tree.Elem.{Elem}
 use Rattle.spv_module.specs.declared.tree.Elem.TheVariants as elem
@@ -33,10 +34,6 @@ use Rattle.int_lowering.specs.Division.{is_negative, magnitude, quotient, remain
 use Rattle.int_lowering.specs.Operator.{modulo_32, shift_amount}
 use Rattle.int_lowering.specs.Lowered.{both_as, function_of_both, function_of, unary, binary, comparison, compared_as_they_are, logical, clamped, clamp, extracted, inserted, written, applied, written_if_any, lowered_basic}
 
--- n + k + 1 is n + (k + 1), and what is below the one is below the other
-within-le : (m k n : ℕ) → m ≤ k → k ≤ n → m ≤ n
-within-le m k n p q = omega arith
-
 choice-le : (b : Bool) (x y : Expr) (n : ℕ) → height x ≤ n → height y ≤ n → height (if b then x else y) ≤ n
 choice-le true x y n p q = p
 choice-le false x y n p q = q
@@ -56,7 +53,7 @@ pub converted-le : (ty : BasicType) (from : Elem) (e : Expr) (n : ℕ) → heigh
 converted-le ty from e n h = choice-le (same_elem ty.elem from) e (tree.build (type_named ty) (tree.expr e tree.no_exprs)) (n + 2) (omega arith) (built-le ty e n h)
 
 fitting-le : (ty : BasicType) (from : Elem) (e : Expr) (n : ℕ) → height e ≤ n + 9 → height (converted ty from e) ≤ n + 11
-fitting-le ty from e n h = within-le _ _ _ (converted-le ty from e (n + 9) h) (omega arith)
+fitting-le ty from e n h = le_on _ _ _ (converted-le ty from e (n + 9) h) (omega arith)
 
 part-le : (e : Elem) (word : Option ℕ) (ty : BasicType) (of : Expr) (n : ℕ) → height of ≤ n → height (as_elem e (record { expr = of; ty = ty; word = word })) ≤ n + 2
 part-le e (Some w) ty of n h = omega arith
@@ -123,13 +120,13 @@ is_zero-le a b n p q = omega (arith, remainder-le a b n p q)
 
 by_signs-le : (a b : Operand) (n : ℕ) → height a.expr ≤ n → height b.expr ≤ n → height (tree.choose (signs Equal a b) (of_like_signs a b) (of_unlike_signs a b)) ≤ n + 8
 by_signs-le a b n p q =
-    let whole = chosen-le (signs Equal a b) (of_like_signs a b) (of_unlike_signs a b) (n + 7) (within-le _ _ _ (equal_signs-le a b n p q) (omega arith)) (like-le a b n p q) (unlike-le a b n p q) in
-    within-le _ _ _ whole (omega arith)
+    let whole = chosen-le (signs Equal a b) (of_like_signs a b) (of_unlike_signs a b) (n + 7) (le_on _ _ _ (equal_signs-le a b n p q) (omega arith)) (like-le a b n p q) (unlike-le a b n p q) in
+    le_on _ _ _ whole (omega arith)
 
 signed_modulo-le : (a b : Operand) (n : ℕ) → height a.expr ≤ n → height b.expr ≤ n → height (signed_modulo a b) ≤ n + 9
 signed_modulo-le a b n p q =
-    let whole = chosen-le (tree.binary Equal (remainder a b) (unsigned_literal 0)) (unsigned_literal 0) (tree.choose (signs Equal a b) (of_like_signs a b) (of_unlike_signs a b)) (n + 8) (within-le _ _ _ (is_zero-le a b n p q) (omega arith)) (omega arith) (by_signs-le a b n p q) in
-    within-le _ _ _ whole (omega arith)
+    let whole = chosen-le (tree.binary Equal (remainder a b) (unsigned_literal 0)) (unsigned_literal 0) (tree.choose (signs Equal a b) (of_like_signs a b) (of_unlike_signs a b)) (n + 8) (le_on _ _ _ (is_zero-le a b n p q) (omega arith)) (omega arith) (by_signs-le a b n p q) in
+    le_on _ _ _ whole (omega arith)
 
 unary-le : (o : Unary) (ty : BasicType) (a : Operand) (n : ℕ) → height a.expr ≤ n → height (unary o ty a) ≤ n + 11
 unary-le SNegate ty a n h = omega (arith, as_elem-le ty.elem a n h)
@@ -159,9 +156,9 @@ binary-le IAdd ty a b n p q = plain-le ty.elem Add a b n p q
 binary-le ISub ty a b n p q = plain-le ty.elem Sub a b n p q
 binary-le IMul ty a b n p q = plain-le ty.elem Mul a b n p q
 binary-le UDiv ty a b n p q = operator-le ty elem.Uint Div a b n p q
-binary-le SDiv ty a b n p q = fitting-le ty elem.Uint (signed_quotient a b) n (within-le _ _ _ (signed_quotient-le a b n p q) (omega arith))
+binary-le SDiv ty a b n p q = fitting-le ty elem.Uint (signed_quotient a b) n (le_on _ _ _ (signed_quotient-le a b n p q) (omega arith))
 binary-le UMod ty a b n p q = operator-le ty elem.Uint Rem a b n p q
-binary-le SRem ty a b n p q = fitting-le ty elem.Uint (signed_remainder a b) n (within-le _ _ _ (signed_remainder-le a b n p q) (omega arith))
+binary-le SRem ty a b n p q = fitting-le ty elem.Uint (signed_remainder a b) n (le_on _ _ _ (signed_remainder-le a b n p q) (omega arith))
 binary-le SMod ty a b n p q = fitting-le ty elem.Uint (signed_modulo a b) n (signed_modulo-le a b n p q)
 binary-le ShiftRightLogical ty a b n p q = shift-le ty elem.Uint Shr a b n p q
 binary-le ShiftRightArithmetic ty a b n p q = shift-le ty elem.Int Shr a b n p q
@@ -256,7 +253,7 @@ height-close o ty xs =
     omega (arith, written-le o ty (first xs) (second xs) (third xs) (fourth xs) (1 + highest_operand xs) (first-le xs) (second-le xs) (third-le xs) (fourth-le xs))
 
 pub height-applied : (o : Operation) (ty : BasicType) (xs : List Operand) → height (applied o ty xs) ≤ 40 + highest_operand xs
-height-applied o ty xs = within-le _ _ _ (height-close o ty xs) (omega arith)
+height-applied o ty xs = le_on _ _ _ (height-close o ty xs) (omega arith)
 
 found-le : (found : Option Operation) (ty : BasicType) (xs : List Operand) → height (written_if_any found ty xs) ≤ 40 + highest_operand xs
 found-le None ty xs = omega arith

@@ -6,7 +6,6 @@ use Rattle.std.proofs.lemmas.Slice.Eq.{bytes_eq-Decides}
 use Rattle.std.proofs.lemmas.Bool.Decides.{nat_tests}
 use Rattle.std.proofs.lemmas.Bool.{and_from, or_left, or_right}
 use Rattle.spv_ops.specs.Opcode.{is}
-use Rattle.spv_ops.specs.Groups.{is_constant as is_constant_op}
 use Rattle.spv_ops.specs.declared.Op.TheVariants as code
 use Rattle.spv_module.specs.Lists.{id}
 use Rattle.spv_module.specs.declared.inst.Inst.{Inst}
@@ -29,8 +28,8 @@ use Rattle.name_alloc.specs.Reserved.{has_prefix}
 use Rattle.name_alloc.specs.declared.claims.Key.{Key}
 use Rattle.name_alloc.specs.declared.claims.Key.TheVariants.{Main, Id, Member}
 use Rattle.glsl_ast.specs.Tree.{Text}
-use Rattle.text_rules.specs.Constants.{Source, is_constant, reading, free_spec_id, group_size_text}
-use Rattle.text_rules.specs.Printed.{Reached, is_variable, is_private, is_workgroup, is_block_variable, is_operand_in, is_named, is_needed, has_struct, have_struct, is_written_variable, is_declared_constant, is_written_struct, type_has_struct, written_types}
+use Rattle.text_rules.specs.Constants.{Source, group_size_text}
+use Rattle.text_rules.specs.Printed.{Reached, is_variable, is_private, is_workgroup, is_block_variable, is_operand_in, has_struct, have_struct, is_written_variable, is_declared_constant, is_written_struct, type_has_struct, written_types}
 use Rattle.text_rules.specs.Claims.{Plan, claims, has_block, is_written_block}
 use Rattle.global_law.specs.Parts.{AreMembersApart, HasMembersApart, HaveMembersApart}
 use Rattle.global_law.specs.Walks.{struct_names}
@@ -39,17 +38,14 @@ use Rattle.global_law.specs.Within.{IsStructBefore, IsWithin, AreWithin, IsNoBlo
 use Rattle.global_law.specs.Items.{key_text, is_item, HaveNames}
 use Rattle.global_law.proofs.Constant.Within.{constant_within, pointee_within, members_unblocked}
 use Rattle.global_law.proofs.Constant.Written.{IsHeld, own_type, pointed_type, held_by, struct_written}
-use Rattle.global_law.proofs.Constant.Standing.{any_among}
+use Rattle.global_law.proofs.Constant.Standing.{any_among, declared_op}
 use Rattle.claim_law.specs.Claimed.{IsIn, HasKey, HasName}
 use Rattle.claim_law.proofs.Claim.Keys.{struct_claimed, member_claimed, constant_claimed, variable_claimed}
 use Rattle.claim_law.proofs.Claim.Constants.{no_struct}
 use Rattle.claim_law.proofs.Claim.Variables.{variable_no_struct}
+use Rattle.claim_law.proofs.Claim.Apart.{size_reserved}
 
 -- a name that begins with a reserved prefix
-size_reserved : has_prefix group_size_text ≡ true
-unfolding has_prefix
-size_reserved = refl
-
 in_among : (g : Inst) (gs : List Inst) → IsAmong g gs → IsIn g gs
 in_among g [] there = absurd there
 in_among g (h ∷ gs) (inl same) = inl same
@@ -127,10 +123,6 @@ module _ (s : Setting) (entry : Option (List ℕ)) (right : IsConforming s.of en
   one_key : (a b : Key) → space_of a ≡ space_of b → HasName found a → HasName found b → key a ≡ key b → a ≡ b
   one_key a b space has too same = lawful.apart a b (key a) space (named_key found a has) (named_key found b too ∙ ap (λ x. Some x) (sym same))
 
-  -- an item's name is claimed
-  constant_there : (g : Inst) → is_declared_constant source r g ≡ true → is_constant_op g.op ≡ true
-  constant_there g on = and_left (is_constant g) (is_named (reading source g) && (is_some (free_spec_id source g.result) || is_needed source r g.result)) on
-
   pub item_named : (g : Inst) → IsAmong g Gs → is_item source r g ≡ true → HasName found (Id (id g.result))
   item_named g among on = by_kind (is_written_struct source r g) (is_declared_constant source r g) (is_written_variable r g) refl refl refl on
     where
@@ -140,7 +132,7 @@ module _ (s : Setting) (entry : Option (List ℕ)) (right : IsConforming s.of en
       by_kind : (a b c : Bool) → is_written_struct source r g ≡ a → is_declared_constant source r g ≡ b → is_written_variable r g ≡ c → (a || (b || c)) ≡ true → HasName found (Id (id g.result))
       by_kind true b c struct constant variable on =
           claimed (Id (id g.result)) (struct_claimed source r plans g there (and_left (is g.op code.TypeStruct) (not (is_block s.of.heads g.result) && list_any (type_has_struct Gs g.result) (written_types source r)) struct) struct)
-      by_kind false true c struct constant variable on = claimed (Id (id g.result)) (constant_claimed source r plans g there (no_struct g.op (constant_there g constant)) constant)
+      by_kind false true c struct constant variable on = claimed (Id (id g.result)) (constant_claimed source r plans g there (no_struct g.op (declared_op source r g constant)) constant)
       by_kind false false true struct constant variable on = claimed (Id (id g.result)) (variable_claimed source r plans g there (variable_no_struct g.op (variable_one g r variable)) constant variable)
       by_kind false false false struct constant variable on = cc
 
@@ -204,7 +196,7 @@ module _ (s : Setting) (entry : Option (List ℕ)) (right : IsConforming s.of en
   -- so it is with each constant that is declared
   pub constant_members : (g : Inst) (t : Tree) → IsAmong g Gs → is_declared_constant source r g ≡ true → type_tree Gs g.ty ≡ Some t → HasMembersApart (struct_names key) t
   constant_members g t there on shape =
-      members_apart g.at t (constant_within s.of entry right g t there (constant_there g on) shape)
+      members_apart g.at t (constant_within s.of entry right g t there (declared_op source r g on) shape)
       (λ j has. held_by s entry right overrides r g j there (or_right (is_written_variable r g) (is_declared_constant source r g) on) (own_type s entry right overrides r g.ty j t shape has))
 
   -- with what a written variable points to that is no block

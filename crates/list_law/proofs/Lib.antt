@@ -1,4 +1,5 @@
 pub mod Lists
 pub mod Numbers
 pub mod Options
+pub mod Results
 pub mod Tests

@@ -1,5 +1,20 @@
 -- What is so of any tests.
-use Rattle.std.proofs.Common.{◌≡◌, ◌||◌, ◌&&◌, not, Bool, true, false, refl}
+use Rattle.std.proofs.Common.{◌≡◌, ◌||◌, ◌&&◌, not, Bool, true, false, refl, sym, arith}
+
+-- in another order
+pub or_steps : (a d r b e : Bool) → d ≡ e → ((a || d) || (r || b)) ≡ ((a || r) || (e || b))
+or_steps a d r b e same = grind (arith, same)
+
+-- without what does not hold
+pub or_alone : (a b : Bool) → b ≡ false → (a || b) ≡ a
+or_alone true b off = refl
+or_alone false b off = off
+
+-- tests of which each tells the other
+pub same_tests : (a b : Bool) → (a ≡ true → b ≡ true) → (b ≡ true → a ≡ true) → a ≡ b
+same_tests true b there back = sym (there refl)
+same_tests false true there back = back refl
+same_tests false false there back = refl
 
 -- a test that holds and does not
 pub not_both : (b : Bool) → b ≡ true → b ≡ false → ⊥
@@ -72,3 +87,10 @@ unless false b off = refl
 pub common : (v a b c : Bool) → ((v && a) || ((v && b) || (v && c))) ≡ true → v ≡ true
 common true a b c on = refl
 common false a b c on = cc
+
+-- in other order
+pub and_turned : (a b : Bool) → (a && b) ≡ (b && a)
+and_turned true true = refl
+and_turned true false = refl
+and_turned false true = refl
+and_turned false false = refl

@@ -26,6 +26,7 @@ use Rattle.glsl_semantics.specs.States.{State, component_if}
 use Rattle.glsl_semantics.specs.Functions.{as_elem, scalars_of, joined, filled, vector_built, built}
 use Rattle.glsl_semantics.specs.Expressions.{Program, Argument, type_of}
 use Rattle.list_law.proofs.Numbers.{less_is}
+use Rattle.list_law.proofs.Lists.{map_joined}
 use Rattle.fits_law.proofs.Operations.{before_some}
 use Rattle.fits_law.proofs.Parts.{listed_values}
 use Rattle.lowering_law.specs.Says.{Says, AllSay}
@@ -57,10 +58,6 @@ take_whole [] zero e = refl
 take_whole [] (suc m) e = refl
 take_whole (x ∷ xs) zero e = absurd (omega (arith, e))
 take_whole (x ∷ xs) (suc m) e = ap (λ ys. x ∷ ys) (take_whole xs m (omega (arith, e)))
-
-pub map_end : {A B : Type 0} (f : A → B) (xs : List A) (x : A) → map f (xs ++ x ∷ []) ≡ map f xs ++ f x ∷ []
-map_end f [] x = refl
-map_end f (y ∷ xs) x = ap (λ ys. f y ∷ ys) (map_end f xs x)
 
 -- what is given of each, at a place
 -- what is given of each, at a place
@@ -309,7 +306,7 @@ module _ (p : Program) (none : NoneDeclared p) (calls : Text → List Argument �
     below_say Q rs each zero le = tt
     below_say Q rs each (suc m) le =
         let last = take_end rs m (omega (arith, le)) in
-        subst (λ ys. AllSay p calls s (exprs_in (each_below (suc m) Q)) ys) (sym (ap (map (typed (shape_of_elem g))) last.2 ∙ map_end (typed (shape_of_elem g)) (take m rs) last.0))
+        subst (λ ys. AllSay p calls s (exprs_in (each_below (suc m) Q)) ys) (sym (ap (map (typed (shape_of_elem g))) last.2 ∙ map_joined (typed (shape_of_elem g)) (take m rs) (last.0 ∷ [])))
         (all_end p calls s (each_below m Q) (map (typed (shape_of_elem g)) (take m rs)) (Q m) (typed (shape_of_elem g) last.0) (below_say Q rs each m (omega (arith, le))) (each m last.0 last.1))
 
     -- a constructor of components says the vector of them

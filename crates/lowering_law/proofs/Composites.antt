@@ -3,7 +3,6 @@ use Rattle.std.proofs.Common.{◌≡◌, ◌<◌, ◌≤◌, ◌+◌, ◌^◌, �
 use Rattle.std.specs.Prelude.{nat_lt, option_map, slice_get, bytes_eq, if◌then◌else◌}
 use Rattle.std.specs.List.{list_all}
 use Rattle.std.proofs.lemmas.Bool.{and_parts, and_from}
-use Rattle.std.proofs.lemmas.Slice.Eq.{bytes_eq-Decides}
 use Rattle.std.proofs.lemmas.Option.{slice_get_within}
 use Rattle.spv_module.specs.declared.tree.Elem.{Elem}
 use Rattle.spv_module.specs.declared.tree.Elem.TheVariants as elem
@@ -17,6 +16,7 @@ use Rattle.op_semantics.specs.Composite.{part_at, extracted as part_extracted, a
 use Rattle.op_semantics.specs.Fits.{fits, elem_tree}
 use Rattle.list_law.proofs.Numbers.{less_is, less_of, number_itself}
 use Rattle.list_law.proofs.Options.{some_part}
+use Rattle.list_law.proofs.Lists.{same_bytes, map_joined}
 use Rattle.fits_law.specs.Takes.{AreAlike, Alike, AllAlike, nth_of, part_shape, shape_at}
 use Rattle.fits_law.proofs.Parts.{MembersFit, many_of, members_of, each_at, all_alike, listed_back}
 use Rattle.vec_lowering.specs.Named.{Naming, id_name, member_name, array_of, shape_type}
@@ -31,13 +31,10 @@ use Rattle.lowering_law.specs.Says.{Says, AllSay}
 use Rattle.lowering_law.specs.Written.{text_shape, text_fields, IsWritten, AreWritten, typed_as, members_as, IsShort, AreShort, IsLogical, AreLogical}
 use Rattle.lowering_law.proofs.Saying.{all_end, says_build, says_literal}
 use Rattle.lowering_law.proofs.Parts.{says_member, says_element}
-use Rattle.lowering_law.proofs.Components.{axis_part, type_is, take_end, map_end, take_whole}
+use Rattle.lowering_law.proofs.Components.{axis_part, type_is, take_end, take_whole}
 
 -- names and types are themselves
-bytes_same : (w : Text) → bytes_eq w w ≡ true
-bytes_same w = (bytes_eq-Decides w w).1 refl
-
-elem_itself : (e : Elem) → same_elem e e ≡ true
+pub elem_itself : (e : Elem) → same_elem e e ≡ true
 elem_itself elem.Bool = refl
 elem_itself elem.Int = refl
 elem_itself elem.Uint = refl
@@ -51,7 +48,7 @@ module _ (p : Program) (names : Naming) where
   shape_itself (plain.array t (Fixed n)) w = and_from (same_shape (text_shape names t) (text_shape names t)) (n == n) (shape_itself t w) (number_itself n)
   shape_itself (plain.array t (Spec id)) w = absurd w
   shape_itself (plain.runtime t) w = absurd w
-  shape_itself (plain.struct id ts) w = bytes_same (id_name names id)
+  shape_itself (plain.struct id ts) w = same_bytes (id_name names id)
 
   -- the name of a type stands for it
   array_is : (n : ℕ) (ty : TypeName) (s : Shape) → type_of p ty ≡ Some s → type_of p (array_of (number n) ty) ≡ Some (array s (Some n))
@@ -79,7 +76,7 @@ module _ (p : Program) (names : Naming) where
         let here : n ≡ k = omega (arith, same) in
         let shape : u ≡ t = cc in
         subst (λ m. member_from k (text_fields names id k (tree u ts)) (member_name names id m) ≡ Some (m, text_shape names t)) (sym here)
-        (ap (λ b. elim b [ true ↦ Some (k, text_shape names u) | false ↦ member_from (k + 1) (text_fields names id (k + 1) ts) (member_name names id k) ]) (bytes_same (member_name names id k)) ∙ ap (λ x. Some (k, text_shape names x)) shape)
+        (ap (λ b. elim b [ true ↦ Some (k, text_shape names u) | false ↦ member_from (k + 1) (text_fields names id (k + 1) ts) (member_name names id k) ]) (same_bytes (member_name names id k)) ∙ ap (λ x. Some (k, text_shape names x)) shape)
     member_found (tree u ts) k (suc i) t same at =
         let less : k < n = omega (arith, same) in
         let next : n ≡ k + 1 + i = omega (arith, same) in
@@ -245,7 +242,7 @@ module _ (p : Program) (names : Naming) where
     each_below_say Q t vs each zero le = tt
     each_below_say Q t vs each (suc n) le =
         let last = take_end vs n (let less : n < length vs = omega (arith, le) in less) in
-        subst (λ ys. AllSay p calls s (exprs_in (each_below (suc n) Q)) ys) (sym (ap (map (typed_as names t)) last.2 ∙ map_end (typed_as names t) (take n vs) last.0))
+        subst (λ ys. AllSay p calls s (exprs_in (each_below (suc n) Q)) ys) (sym (ap (map (typed_as names t)) last.2 ∙ map_joined (typed_as names t) (take n vs) (last.0 ∷ [])))
         (all_end p calls s (each_below n Q) (map (typed_as names t) (take n vs)) (Q n) (typed_as names t last.0) (each_below_say Q t vs each n (let low : n ≤ length vs = omega (arith, le) in low)) (each n last.0 last.1))
 
     -- an array whose elements are copied one by one

@@ -24,6 +24,7 @@ use Rattle.glsl_semantics.specs.Shapes.{Typed, typed, scalar as shape_of_elem}
 use Rattle.glsl_semantics.specs.States.{State}
 use Rattle.glsl_semantics.specs.Operators.{numeric, shift, operator_kind, operated_by, operated, word_operator}
 use Rattle.glsl_semantics.specs.Expressions.{Program, Argument, settling}
+use Rattle.list_law.proofs.Numbers.{above_zero}
 use Rattle.lowering_law.specs.Says.{Says}
 use Rattle.lowering_law.specs.Stands.{Stands}
 use Rattle.lowering_law.specs.Numbers.{IsNumeric, IsOperator, number}
@@ -84,9 +85,6 @@ is_defined a b h = by_zero (b == 0) h
     by_zero : (t : Bool) → (t || ((a == smallest) && (b == all_ones))) ≡ false → t ≡ false
     by_zero true h = cc
     by_zero false h = refl
-
-above_zero : (b : ℕ) → (b == 0) ≡ false → 0 < b
-above_zero b e = grind (arith, nat_tests, e)
 
 module _ (p : Program) (calls : Text → List Argument → State → Result (Option Typed × State)) (s : State) where
   abbrev S : Expr → Typed → Type 0

@@ -1,6 +1,6 @@
 -- Operators on vectors of numbers go by component, as the operations of a module do.
-use Rattle.std.proofs.Common.{◌≡◌, ℕ, false, List, [], ◌∷◌, Option, Some, None, refl, sym, ap, ◌∙◌, subst}
-use Rattle.std.specs.Prelude.{◌==◌, ◌&&◌, not, ◌++◌, length, option_map, option_and_then, if◌then◌else◌}
+use Rattle.std.proofs.Common.{◌≡◌, ℕ, false, List, [], ◌∷◌, Option, Some, None, refl, sym, ap, ◌∙◌, subst, append-nil}
+use Rattle.std.specs.Prelude.{◌==◌, ◌&&◌, not, length, option_map, option_and_then, if◌then◌else◌}
 use Rattle.spv_module.specs.declared.tree.Elem.{Elem}
 use Rattle.spv_module.specs.declared.tree.Elem.TheVariants as elem
 use Rattle.spv_types.specs.Tree.{ValueTree, truth, word, many, ValueTrees, no_values, value}
@@ -61,10 +61,6 @@ on_vectors o op e n vs ws r he more kind same h = ap (λ k. operated_by k o (vec
     by_elem elem.Uint he = refl
     by_elem elem.Bool he = absurd he
 
-append_none : (vs : List ValueTree) → vs ++ [] ≡ vs
-append_none [] = refl
-append_none (v ∷ vs) = ap (λ ws. v ∷ ws) (append_none vs)
-
 filled_whole : (vs : List ValueTree) → (length vs == 1) ≡ false → filled (length vs) vs ≡ Some vs
 filled_whole [] more = refl
 filled_whole (v ∷ []) more = cc
@@ -84,7 +80,7 @@ each_word e (value (many us) vs) he h = absurd h
 -- a vector of numbers as one of other numbers
 made : (e : Elem) (n : ℕ) (vs : ValueTrees) → IsNumeric e → AreWords vs → length (listed vs) ≡ n → (n == 1) ≡ false → vector_of e n (listed vs ∷ []) ≡ Some (many vs)
 made e n vs he words count more =
-    ap (λ us. option_and_then (λ us. option_map composite (each_one (component_as e) us)) (filled n us)) (append_none (listed vs))
+    ap (λ us. option_and_then (λ us. option_map composite (each_one (component_as e) us)) (filled n us)) (append-nil (listed vs))
     ∙ ap (option_and_then (λ us. option_map composite (each_one (component_as e) us))) (filled_is n (listed vs) count more)
     ∙ ap (option_map composite) (each_word e vs he words)
     ∙ ap (λ us. Some (many us)) (listed_back vs)

@@ -1,5 +1,5 @@
 -- Which operations stand in expressions, by their opcodes: what words they take, and how they are named.
-use Rattle.std.proofs.Common.{◌≡◌, ◌==◌, ◌&&◌, ℕ, Bool, true, false, List, [], ◌∷◌, drop, take, Option, Some, refl, sym, ap, ◌∙◌, subst, if◌then◌else◌}
+use Rattle.std.proofs.Common.{◌≡◌, ◌==◌, ◌&&◌, ℕ, Bool, true, false, List, [], ◌∷◌, Option, Some, refl, sym, ap, ◌∙◌, subst, if◌then◌else◌}
 use Rattle.std.specs.Prelude.{find, option_map, slice_index}
 use Rattle.std.specs.Option.{option_map_or}
 use Rattle.std.specs.List.{list_all}
@@ -15,6 +15,7 @@ use Rattle.hoist_plan.specs.Plan.{is_always_named}
 use Rattle.expr_forward.specs.declared.kinds.OperationKind.TheVariants as kind
 use Rattle.expr_forward.specs.Kinds.{kind_of, operation_kind_of}
 use Rattle.expr_forward.specs.Values.{value_words, literal_words}
+use Rattle.list_law.proofs.Lists.{second_word}
 use Rattle.typed_law.proofs.Lists.{clash}
 
 -- operations on scalars and vectors, and those of GLSL.std.450 among them
@@ -107,11 +108,6 @@ in_rows Q (r ∷ rows) n o all e = by_test (Q r.1) refl (r.0 == n) all e (λ mor
 pub extended_operation : (ls : List ℕ) (o : Operation) → operation_of code.ExtInst ls ≡ Some o → is_extended o ≡ true
 unfolding operation_of
 extended_operation ls o at = in_rows is_extended extended_opcodes (slice_index ls 0) o refl at
-
-second_word : (args : List ℕ) → slice_index (take 1 (drop 1 args)) 0 ≡ slice_index args 1
-second_word [] = refl
-second_word (a ∷ []) = refl
-second_word (a ∷ b ∷ args) = refl
 
 pub extended_at : (args : List ℕ) (o : Operation) → operation_of code.ExtInst (literal_operands code.ExtInst args) ≡ Some o → operation_of code.ExtInst (slice_index args 1 ∷ []) ≡ Some o
 unfolding operation_of

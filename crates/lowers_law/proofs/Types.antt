@@ -1,6 +1,6 @@
 -- Types of values as the blocks of a function name them, and the parts of composites to which literals lead.
 use Rattle.std.proofs.Common.{◌≡◌, ◌⊎◌, ℕ, zero, suc, Bool, true, false, List, [], ◌∷◌, Option, Some, None, inl, inr, refl, sym, ap, ◌∙◌, unwrap_or, if◌then◌else◌}
-use Rattle.std.specs.Prelude.{nat_lt, option_map, option_and_then, slice_index}
+use Rattle.std.specs.Prelude.{nat_lt, option_and_then, slice_index}
 use Rattle.std.specs.Option.{option_map_or}
 use Rattle.spv_ops.specs.Opcode.{is, number}
 use Rattle.spv_ops.specs.declared.Op.{Op}
@@ -14,7 +14,7 @@ use Rattle.spv_module.specs.declared.tree.Elem.TheVariants as elem
 use Rattle.spv_module.specs.declared.tree.Length.TheVariants.{Fixed, Spec}
 use Rattle.spv_types.specs.Tree as plain
 use Rattle.spv_types.specs.Tree.{Tree, Trees, no_trees, tree}
-use Rattle.spv_types.specs.Types.{all_trees, tree_by_kind, tree_before, tree_at, type_tree}
+use Rattle.spv_types.specs.Types.{tree_at, type_tree}
 use Rattle.op_semantics.specs.Fits.{elem_tree}
 use Rattle.profile_rules.specs.declared.given.Given.{Given}
 use Rattle.module_semantics.specs.Setting.{Setting}
@@ -37,14 +37,14 @@ use Rattle.expr_forward.specs.Scope.{Scope, type_of}
 use Rattle.expr_forward.specs.Paths.{composite_op_in, part_step_by, part_type, part_steps, further}
 use Rattle.hoist_plan.specs.declared.form.Form.{Form}
 use Rattle.unit_rules.specs.Translation.{text_of, id_text, names_of, scope_by}
+use Rattle.list_law.proofs.Options.{some_unwrapped}
 use Rattle.fits_law.specs.Takes.{nth_of, shape_at}
 use Rattle.fits_law.specs.State.{value_shape}
 use Rattle.type_law.proofs.Places.{part_leads}
 use Rattle.lowering_law.specs.Arguments.{IsBasic}
 use Rattle.global_law.specs.Parts.{HasMembersApart}
 use Rattle.global_law.specs.Walks.{struct_names}
-use Rattle.global_law.proofs.Path.Bytes.{declared_by}
-use Rattle.global_law.proofs.Path.Types.{op_of, declared_as}
+use Rattle.global_law.proofs.Path.Types.{op_of, declared_as, struct_number}
 use Rattle.global_law.proofs.Global.Declared.{outline_same}
 use Rattle.global_law.proofs.Global.Zeros.{HasZero}
 
@@ -98,10 +98,6 @@ no_scalar_parts elem.Bool k ks t e = cc
 no_scalar_parts elem.Int k ks t e = cc
 no_scalar_parts elem.Uint k ks t e = cc
 
-unwrapped : (g : ℕ → Option Tree) (o : Option ℕ) (t : Tree) → option_and_then g o ≡ Some t → g (unwrap_or o 0) ≡ Some t
-unwrapped g None t e = cc
-unwrapped g (Some ty) t e = e
-
 -- the module, its entry and its overrides; the names of keys; the function, how globals are read, the forms of values and which chains are mentioned in other blocks
 module _ (s : Setting) (entry : ℕ) (overrides : List (ℕ × Given)) (found : Key → Option Text) (f : Function) (globals : ℕ → Option Expr) (form : ℕ → Form) (carried : ℕ → Bool) where
   abbrev pub Src : Source
@@ -119,7 +115,7 @@ module _ (s : Setting) (entry : ℕ) (overrides : List (ℕ × Given)) (found : 
 
   -- the type of a value
   pub type_is : (n : ℕ) (t : Tree) → value_shape s f n ≡ Some t → type_tree Gs (type_of W n) ≡ Some t
-  type_is n t shaped = unwrapped (type_tree Gs) _ t shaped
+  type_is n t shaped = some_unwrapped (type_tree Gs) _ t shaped
 
   -- the name of a type, by its shape
   module _ (p : Program) where
@@ -139,15 +135,6 @@ module _ (s : Setting) (entry : ℕ) (overrides : List (ℕ × Given)) (found : 
     type_named ty t shaped z = outline_same (spelling Src (id_text found)) Gs ty t shaped ∙ shape_named t z
 
   -- the id of a struct is that of its type
-  struct_is : (ty k : ℕ) (ts : Trees) → type_tree Gs ty ≡ Some (plain.struct k ts) → k ≡ ty
-  struct_is ty k ts shaped =
-      let d = declared_by s ty (plain.struct k ts) shaped in
-      by_parts d.0 (all_trees (tree_before Gs d.0.at) d.0.args) (ap (tree_by_kind Gs (tree_before Gs d.0.at) d.0) (sym d.3) ∙ d.4) ∙ d.2
-    where
-      by_parts : (g : Inst) (o : Option Trees) → option_map (plain.struct g.result) o ≡ Some (plain.struct k ts) → k ≡ g.result
-      by_parts g None e = cc
-      by_parts g (Some us) e = cc
-
   pub op_at : (ty : ℕ) (a : Tree) → type_tree Gs ty ≡ Some a → composite_op_in Gs ty ≡ op_of a
   op_at ty a shaped =
       let d = declared_as s ty a shaped in
@@ -191,7 +178,7 @@ module _ (s : Setting) (entry : ℕ) (overrides : List (ℕ × Given)) (found : 
           → further x (part_step_by W.setting ty k code.TypeStruct ∷ part_steps W.setting (part_type W.setting ty k) ks) ≡ extracted found (plain.struct j ts) (k ∷ ks) x
       by_member None there at later = cc
       by_member (Some u) there at later =
-          ap (λ (w : Text). further (Expr.member x w) (part_steps W.setting (part_type W.setting ty k) ks)) (text_is (found (Member (id ty) k)) ∙ ap (λ (n : ℕ). text_or_none (found (Member (id n) k))) (sym (struct_is ty j ts shaped)))
+          ap (λ (w : Text). further (Expr.member x w) (part_steps W.setting (part_type W.setting ty k) ks)) (text_is (found (Member (id ty) k)) ∙ ap (λ (n : ℕ). text_or_none (found (Member (id n) k))) (sym (struct_number s ty j ts shaped)))
           ∙ (later u there at ∙ ap (λ (v : Tree). extracted found v ks (Expr.member x (text_or_none (found (Member (id j) k))))) (sym (nth_is ts k u there)))
   parts_are (k ∷ ks) ty plain.boolean t x shaped at = cc
   parts_are (k ∷ ks) ty plain.int t x shaped at = cc

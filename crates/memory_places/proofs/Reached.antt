@@ -1,10 +1,11 @@
 -- The functions in the order of calls are those to which at most as many calls lead from the entry as there are functions.
 use Rattle.std.proofs.Common.{◌≡◌, ◌<◌, ◌≤◌, ◌⊎◌, inl, inr, ℕ, zero, suc, ◌+◌, ◌-◌, ◌==◌, ◌&&◌, ◌||◌, Bool, true, false, cond, List, [], ◌∷◌, refl, ap, sym, subst, ◌∙◌, arith, length, filter, slice_index}
 use Rattle.std.specs.List.{list_any, Contains}
-use Rattle.std.proofs.lemmas.Bool.{eqb-true, eq-eqb, false≢true, cases_lt}
+use Rattle.std.proofs.lemmas.Bool.{eqb-true, eq-eqb, false≢true, cases_lt, or_right, and_from, and_parts, or_cases}
 use Rattle.std.proofs.lemmas.List.Folds.{Any-from_list_any, list_any-from_Any}
 use Rattle.std.proofs.lemmas.Map.Views.{any-filter_same}
 use Rattle.std.proofs.lemmas.List.{get_or_default}
+use Rattle.list_law.proofs.Tests.{same_tests}
 use Rattle.spv_module.specs.declared.inst.Id.{Id}
 use Rattle.spv_module.specs.declared.inst.Inst.{Inst}
 use Rattle.spv_module.specs.declared.inst.Function.{Function}
@@ -15,23 +16,6 @@ use Rattle.memory_places.specs.Kernel.{bare_from}
 use Rattle.memory_places.specs.Mentions.{AreMentioned, mention, with_ids, is_among_ids}
 
 -- truth
-same_bool : (a b : Bool) → (a ≡ true → b ≡ true) → (b ≡ true → a ≡ true) → a ≡ b
-same_bool true true f g = refl
-same_bool true false f g = sym (f refl)
-same_bool false true f g = g refl
-same_bool false false f g = refl
-
-both_true : (a b : Bool) → (a && b) ≡ true → (a ≡ true) × (b ≡ true)
-both_true true b h = (refl, h)
-both_true false b h = absurd (false≢true h)
-
-true_both : (a b : Bool) → a ≡ true → b ≡ true → (a && b) ≡ true
-true_both a b x y = ap (λ (c : Bool). c && b) x ∙ y
-
-either_true : (a b : Bool) → (a || b) ≡ true → (a ≡ true) ⊎ (b ≡ true)
-either_true true b h = inl refl
-either_true false b h = inr h
-
 first_true : (a b : Bool) → (elim a [ true ↦ true | false ↦ b ]) ≡ true → (a ≡ true) ⊎ (b ≡ true)
 first_true true b h = inl refl
 first_true false b h = inr h
@@ -57,17 +41,17 @@ within_next fs entry n id =
 
 -- what is within so many calls is reached
 sound : (fs : List Function) (entry n id : ℕ) → within fs entry n id ≡ true → Reaches (Calls fs) entry id
-sound fs entry zero id h = elim (either_true (entry == id) false h) [
+sound fs entry zero id h = elim (or_cases (entry == id) false h) [
   | inl e ↦ (0, eqb-true entry id e)
   | inr f ↦ absurd (false≢true f)
 ]
 sound fs entry (suc n) id h =
-    let now : next fs (within fs entry n) id ≡ true = (both_true (next fs (within fs entry n) id) (is_listed (ids_of fs) id) (sym (within_next fs entry n id) ∙ h)).0 in
+    let now : next fs (within fs entry n) id ≡ true = (and_parts (next fs (within fs entry n) id) (is_listed (ids_of fs) id) (sym (within_next fs entry n id) ∙ h)).0 in
     elim (first_true (within fs entry n id) (list_any (λ (f : Function). within fs entry n (id_of f) && calls_to id f) fs) now) [
       | inl t ↦ sound fs entry n id t
       | inr t ↦
           let (k, f, inside, is, p) = Any-from_list_any (λ (g : Function). within fs entry n (id_of g) && calls_to id g) fs t in
-          let both : (within fs entry n (id_of f) ≡ true) × (calls_to id f ≡ true) = both_true (within fs entry n (id_of f)) (calls_to id f) p in
+          let both : (within fs entry n (id_of f) ≡ true) × (calls_to id f ≡ true) = and_parts (within fs entry n (id_of f)) (calls_to id f) p in
           let (m, leads) = sound fs entry n (id_of f) both.0 in
           let (j, call, jn, jis, e) = Any-from_list_any (λ (c : Inst). callee c == id) (calls_in f) both.1 in
           (suc m, (id_of f, leads, (call, (f, (k, inside, is), refl, (j, jn, jis)), eqb-true (callee call) id e)))
@@ -88,14 +72,14 @@ complete fs entry (suc n) id (h, leads, (call, (f, (k, inside, is), named, (j, j
     let here : within fs entry n (id_of f) ≡ true = subst (λ (x : ℕ). within fs entry n x ≡ true) (sym named) before in
     let calls : calls_to id f ≡ true = list_any-from_Any (λ (c : Inst). callee c == id) (calls_in f) (j, call, jn, jis, eq-eqb (callee call) id to) in
     let any : list_any (λ (g : Function). within fs entry n (id_of g) && calls_to id g) fs ≡ true =
-    list_any-from_Any (λ (g : Function). within fs entry n (id_of g) && calls_to id g) fs (k, f, inside, is, true_both (within fs entry n (id_of f)) (calls_to id f) here calls) in
-    within_next fs entry n id ∙ true_both (next fs (within fs entry n) id) (is_listed (ids_of fs) id) (from_second (within fs entry n id) (list_any (λ (g : Function). within fs entry n (id_of g) && calls_to id g) fs) any) l
+    list_any-from_Any (λ (g : Function). within fs entry n (id_of g) && calls_to id g) fs (k, f, inside, is, and_from (within fs entry n (id_of f)) (calls_to id f) here calls) in
+    within_next fs entry n id ∙ and_from (next fs (within fs entry n) id) (is_listed (ids_of fs) id) (from_second (within fs entry n id) (list_any (λ (g : Function). within fs entry n (id_of g) && calls_to id g) fs) any) l
 
 -- more calls lead to no fewer
 more_calls : (fs : List Function) (entry n id : ℕ) → is_listed (ids_of fs) id ≡ true → within fs entry n id ≡ true → within fs entry (suc n) id ≡ true
 more_calls fs entry n id l h =
     within_next fs entry n id
-    ∙ true_both (next fs (within fs entry n) id) (is_listed (ids_of fs) id) (from_first (within fs entry n id) (list_any (λ (g : Function). within fs entry n (id_of g) && calls_to id g) fs) h) l
+    ∙ and_from (next fs (within fs entry n) id) (is_listed (ids_of fs) id) (from_first (within fs entry n id) (list_any (λ (g : Function). within fs entry n (id_of g) && calls_to id g) fs) h) l
 
 many_more : (fs : List Function) (entry k n m id : ℕ) → m ≡ n + k → is_listed (ids_of fs) id ≡ true → within fs entry n id ≡ true → within fs entry m id ≡ true
 many_more fs entry zero n m id e l h = subst (λ (x : ℕ). within fs entry x id ≡ true) (let same : n ≡ m = omega (arith, e) in same) h
@@ -123,14 +107,10 @@ Agree p q (x ∷ xs) = (q x ≡ p x) × Agree p q xs
 
 agree_at : (p q : ℕ → Bool) (xs : List ℕ) (id : ℕ) → Agree p q xs → is_listed xs id ≡ true → q id ≡ p id
 agree_at p q [] id a l = absurd (false≢true l)
-agree_at p q (x ∷ xs) id (e, es) l = elim (either_true (x == id) (is_listed xs id) l) [
+agree_at p q (x ∷ xs) id (e, es) l = elim (or_cases (x == id) (is_listed xs id) l) [
   | inl h ↦ subst (λ (n : ℕ). q n ≡ p n) (eqb-true x id h) e
   | inr h ↦ agree_at p q xs id es h
 ]
-
-or_second : (a b : Bool) → b ≡ true → (a || b) ≡ true
-or_second true b h = refl
-or_second false b h = h
 
 -- a test that lets no fewer through agrees with the first, or lets one more through
 abbrev pub Wider : (ℕ → Bool) → (ℕ → Bool) → List ℕ → Type 0
@@ -149,7 +129,7 @@ wider : (p q : ℕ → Bool) (xs : List ℕ) → ((id : ℕ) → is_listed xs id
 wider p q [] sub = (omega arith, inl tt)
 wider p q (x ∷ xs) sub =
     wider_by p q x xs (p x) (q x) refl refl (sub x (ap (λ (b : Bool). b || is_listed xs x) (eq-eqb x x refl)))
-    (wider p q xs (λ id l. sub id (or_second (x == id) (is_listed xs id) l)))
+    (wider p q xs (λ id l. sub id (or_right (x == id) (is_listed xs id) l)))
 
 -- no more functions are reached by one more call
 abbrev pub IsStable : List Function → ℕ → ℕ → Type 0
@@ -161,7 +141,7 @@ any_by p q fs same h =
     list_any-from_Any q fs (k, f, inside, is, sym (same f (k, inside, is)) ∙ t)
 
 any_same : (p q : Function → Bool) (fs : List Function) → ((f : Function) → Contains fs f → p f ≡ q f) → list_any p fs ≡ list_any q fs
-any_same p q fs same = same_bool (list_any p fs) (list_any q fs) (any_by p q fs same) (any_by q p fs (λ f i. sym (same f i)))
+any_same p q fs same = same_tests (list_any p fs) (list_any q fs) (any_by p q fs same) (any_by q p fs (λ f i. sym (same f i)))
 
 stays : (fs : List Function) (entry n : ℕ) → IsStable fs entry n → IsStable fs entry (suc n)
 stays fs entry n st id l =
@@ -216,7 +196,7 @@ all_reached fs entry n id l h = elim (cases_lt n (length fs)) [
 -- the order lists those functions
 ordered : (fs : List Function) (entry : ℕ) (order : List ℕ) (f : Function) → IsCallOrder fs entry order → Contains fs f
     → is_listed order (id_of f) ≡ within fs entry (length fs) (id_of f)
-ordered fs entry order f o inside = same_bool (is_listed order (id_of f)) (within fs entry (length fs) (id_of f))
+ordered fs entry order f o inside = same_tests (is_listed order (id_of f)) (within fs entry (length fs) (id_of f))
     (λ h.
     let (k, x, kn, is, e) = Any-from_list_any (λ (n : ℕ). n == id_of f) order h in
     let at : slice_index order k ≡ id_of f = sym (get_or_default order k x 0 kn) ∙ (is ∙ eqb-true x (id_of f) e) in

@@ -1,5 +1,5 @@
 -- Why a module is refused, one judge after another.
-use Rattle.std.proofs.Common.{◌≡◌, ℕ, List, [], Option, Result, Ok, Err, OnOk, IfOk, IfErr, IsSomeAnd, subst}
+use Rattle.std.proofs.Common.{◌≡◌, ℕ, List, [], Option, IsSomeAnd, subst}
 use Rattle.std.specs.Prelude.{Contains}
 use Rattle.spv_words.specs.declared.rule.Fault.{Fault}
 use Rattle.spv_module.specs.State.{ModuleState}
@@ -44,20 +44,3 @@ chosen_by m o name id same is = subst (λ (n : Option (List ℕ)). IsSomeAnd (ch
 
 pub typed_by : (m : ModuleState) → NoRuleBroken (BrokenTypes m) type_rules → broken m ≡ [] → AreWithin m → IsTyped m
 typed_by m typed unbroken within = record { typed = typed; unbroken = unbroken; within = within }
-
--- what follows from an answer's clauses
-pub on_ok : {T E : Type 0} (A B : Type 0) (r : Result T E) → (A → B) → OnOk r A → OnOk r B
-on_ok A B (Ok x) f h = f h
-on_ok A B (Err e) f h = h
-
-pub if_err : {T E : Type 0} (P Q : E → Type 0) (r : Result T E) → ((e : E) → P e → Q e) → IfErr r P → IfErr r Q
-if_err P Q (Ok x) f h = h
-if_err P Q (Err e) f h = f e h
-
-pub if_ok : {T E : Type 0} (P Q : T → Type 0) (r : Result T E) → ((x : T) → P x → Q x) → IfOk r P → IfOk r Q
-if_ok P Q (Ok x) f h = f x h
-if_ok P Q (Err e) f h = h
-
-pub if_ok_both : {T E : Type 0} (P Q R : T → Type 0) (r : Result T E) → ((x : T) → P x → Q x → R x) → IfOk r P → IfOk r Q → IfOk r R
-if_ok_both P Q R (Ok x) f h k = f x h k
-if_ok_both P Q R (Err e) f h k = h

@@ -21,8 +21,7 @@ pub fn read_module(alloc: Global, bytes: &[u8]) -> Result<Module, Fault>
     ensures refused { IfErr result (IsUnread bytes.now) }
 {
     let words = Words::of(alloc, bytes)?;
-    let module = Module::read(alloc, &words)?;
-    Ok(module)
+    Module::read(alloc, &words)
 }
 
 /// Judges bytes: whether they break no rule of the profile and exceed no limit.

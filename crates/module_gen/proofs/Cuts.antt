@@ -1,21 +1,13 @@
 -- A stream of instructions, cut into instructions again.
-use Rattle.std.proofs.Common.{◌≡◌, ◌<◌, ◌≤◌, ◌+◌, ◌-◌, ◌*◌, ◌/◌, ◌%◌, ◌++◌, ◌∙◌, ℕ, zero, suc, List, [], ◌∷◌, length, take, drop, map, refl, sym, ap, arith, length-append, append_assoc, false, cond, Some}
+use Rattle.std.proofs.Common.{◌≡◌, ◌<◌, ◌≤◌, ◌+◌, ◌-◌, ◌*◌, ◌/◌, ◌%◌, ◌++◌, ◌∙◌, ℕ, suc, List, [], ◌∷◌, length, take, drop, map, refl, sym, ap, arith, length-append, append_assoc, false, cond, Some}
 use Rattle.std.specs.Prelude.{All, None, find}
-use Rattle.std.proofs.Math.Nat.{add-zero}
 use Rattle.std.proofs.Math.Seq.{drop-append_seam, take-append_seam}
 use Rattle.std.proofs.lemmas.Bool.Decides.{nat_tests}
 use Rattle.spv_words.specs.Words.{insts_from, is_at_fault}
 use Rattle.spv_words.specs.declared.words.Inst1.{Inst1}
+use Rattle.spv_words.proofs.Cuts.{insts_from_skip}
 use Rattle.module_gen.specs.Assembly.{Instruction, words_of, stream, instruction_at}
 use Rattle.module_gen.proofs.Octets.{All-first, All-rest}
-
--- words of the instruction before are skipped
-pub insts_from_skip : (ws : List ℕ) (at k : ℕ) → insts_from at k ws ≡ insts_from (at + k) 0 (drop k ws)
-insts_from_skip [] at zero = refl
-insts_from_skip [] at (suc k) = refl
-insts_from_skip (w ∷ ws) at zero = ap (λ n. insts_from n 0 (w ∷ ws)) (sym (add-zero at))
-insts_from_skip (w ∷ ws) at (suc k) =
-    insts_from_skip ws (suc at) k ∙ ap (λ n. insts_from n 0 (drop k ws)) (omega arith)
 
 -- an instruction's place in the words, by its length
 abbrev pub placed : ℕ → Instruction → Inst1

@@ -1,9 +1,11 @@
 -- A space after a claim.
-use Rattle.std.proofs.Common.{◌≡◌, ◌<◌, ◌≤◌, ◌+◌, ◌-◌, ◌^◌, ◌||◌, ℕ, Bool, true, false, List, Bor, Option, None, Some, IsSome, is_some, option_map, refl, ap, sym, ◌∙◌, inl, inr, arith, subst, bytes_eq}
+use Rattle.std.proofs.Common.{◌≡◌, ◌<◌, ◌≤◌, ◌+◌, ◌-◌, ◌^◌, ◌||◌, ℕ, true, false, List, Bor, Option, None, Some, IsSome, is_some, option_map, refl, ap, sym, ◌∙◌, inl, inr, arith, subst, bytes_eq}
 use Rattle.std.specs.Map.{update}
 use Rattle.std.proofs.lemmas.Bool.{cases_Bool, false_from_ne_true, false≢true}
 use Rattle.std.proofs.lemmas.Bool.Decides.{eqb_tells}
 use Rattle.std.proofs.lemmas.Slice.Eq.{bytes_eq-Decides}
+use Rattle.std.proofs.Math.Bool.{or-true}
+use Rattle.std.proofs.lemmas.Option.{same_Some}
 use Rattle.glsl_ast.specs.View.{name_text}
 use Rattle.glsl_ast.specs.declared.names.Name.{Name}
 use Rattle.name_alloc.specs.Naming.{numbered, first_free, free_name}
@@ -13,10 +15,6 @@ use Rattle.name_alloc.proofs.Crowd.{numbered_apart, one_free}
 
 abbrev Puts : Held → Held → List ℕ → ℕ → Type 0
 Puts old new base n = (t : List ℕ) → number_at new t ≡ update bytes_eq (number_at old) base (Some n) t
-
-or_true : (a : Bool) → (a || true) ≡ true
-or_true true = refl
-or_true false = refl
 
 same_text : (t : List ℕ) → bytes_eq t t ≡ true
 same_text t = (bytes_eq-Decides t t).1 refl
@@ -31,9 +29,6 @@ stays old new base v put t h =
 
 is_put : (old new : Held) (base : List ℕ) (v : ℕ) → Puts old new base v → is_held new base ≡ true
 is_put old new base v put = rw (put base, same_text base) refl
-
-some_same : (m n : ℕ) → Some m ≡ Some n → m ≡ n
-some_same m n e = cc
 
 held_put : (old new : Held) (base : List ℕ) (v : ℕ) → Puts old new base v → (t : List ℕ) → is_held new t ≡ (bytes_eq base t || is_held old t)
 held_put old new base v put t =
@@ -50,7 +45,7 @@ skips_put old new base v skips put more own = record {
         | inl w ↦
             let at : base ≡ t = (bytes_eq-Decides base t).0 w in
             let e : Some v ≡ Some n = rw (put t, w) at h in
-            let m : v ≡ n = some_same v n e in
+            let m : v ≡ n = same_Some v n e in
             subst (λ b. IsNext (is_held new) (held_count new) b n) at (subst (λ k. IsNext (is_held new) (held_count new) base k) m own)
         | inr w ↦
             let e : number_at old t ≡ Some n = rw (put t, w) at h in
@@ -119,7 +114,7 @@ claimed_number old mid new base name start number skips small at found is name_p
                 let same : base ≡ t = (bytes_eq-Decides base t).0 w in
                 let now : is_held new t ≡ true = rw (put_base t, w) refl in
                 let was : is_held old t ≡ true = subst (λ b. is_held old b ≡ true) same taken_base in
-                now ∙ sym (rw was (or_true (bytes_eq name t)))
+                now ∙ sym (rw was (or-true (bytes_eq name t)))
             | inr w ↦
                 let now : is_held new t ≡ is_held mid t = rw (put_base t, w) refl in
                 now ∙ held_put old mid name 2 put t

@@ -1,6 +1,6 @@
 -- Bases and names with numbers are not reserved.
 use Rattle.std.proofs.Common.{◌≡◌, ◌==◌, ◌&&◌, ◌||◌, ◌⊎◌, ◌++◌, ℕ, Bool, true, false, List, [], ◌∷◌, Option, codes, refl, ap, sym, ◌∙◌, inl, inr, subst, bytes_eq, nat_eq}
-use Rattle.std.proofs.lemmas.Bool.{cases_Bool, false≢true}
+use Rattle.std.proofs.lemmas.Bool.{cases_Bool, false≢true, or_parts}
 use Rattle.std.proofs.lemmas.Bool.Decides.{eqb_tells}
 use Rattle.std.specs.Fmt.{decimal}
 use Rattle.std.specs.List.{list_any, starts_with}
@@ -11,10 +11,6 @@ use Rattle.name_alloc.specs.Law.{IsFree}
 use Rattle.name_alloc.specs.Naming.{numbered}
 use Rattle.name_alloc.specs.declared.claims.Key.{Key}
 use Rattle.name_alloc.specs.declared.claims.Key.TheVariants.{Main, Id, Block, Member, Again, Leave, Fell, Captured, Spare}
-
-pub or_parts : (a b : Bool) → (a || b) ≡ false → (a ≡ false) × (b ≡ false)
-or_parts true b h = absurd (false≢true (sym h))
-or_parts false b h = (refl, h)
 
 -- whether there is a `_` in a text
 abbrev has_low : Text → Bool

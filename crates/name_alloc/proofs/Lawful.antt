@@ -1,7 +1,8 @@
 -- Each name is one that its key may have, and keys of one space have names of their own.
 use Rattle.std.proofs.Common.{◌≡◌, ◌||◌, ◌⊎◌, ℕ, Bool, true, false, List, [], ◌∷◌, ◌++◌, Option, None, Some, is_some, refl, ap, sym, ◌∙◌, inl, inr, subst, bytes_eq, eq-eqb}
-use Rattle.std.proofs.lemmas.Bool.{cases_Bool, false≢true}
-use Rattle.std.proofs.lemmas.Slice.Eq.{bytes_eq-Decides}
+use Rattle.std.proofs.lemmas.Bool.{cases_Bool, false≢true, or_parts}
+use Rattle.std.proofs.Math.Bool.{or-true}
+use Rattle.list_law.proofs.Lists.{same_bytes}
 use Rattle.name_alloc.specs.declared.claims.Claim.{Claim}
 use Rattle.name_alloc.specs.declared.claims.Key.{Key}
 use Rattle.name_alloc.specs.Base.{Text, base_of}
@@ -14,7 +15,7 @@ use Rattle.name_alloc.specs.Places.{place_in}
 use Rattle.name_alloc.specs.Given.{taken_of, name_at, IsNamed, AreGiven}
 use Rattle.name_alloc.proofs.Keyed.{key_tells}
 use Rattle.name_alloc.proofs.Words.{base_word, numbered_word}
-use Rattle.name_alloc.proofs.Free.{or_parts, base_free, numbered_free, main_free}
+use Rattle.name_alloc.proofs.Free.{base_free, numbered_free, main_free}
 
 -- the name of a claim: its base, or with a number
 number_free : (key : Key) (given : Option Text) (n : ℕ) → IsFree (numbered (base_of key given) n)
@@ -35,27 +36,20 @@ name_for key given name form =
 some_same : (a b : Text) → Some a ≡ Some b → a ≡ b
 some_same a b e = cc
 
-own_space : (s : Option ℕ) → same_space s s ≡ true
+pub own_space : (s : Option ℕ) → same_space s s ≡ true
 own_space None = refl
 own_space (Some n) = eq-eqb n n refl
-
-or_true : (a : Bool) → (a || true) ≡ true
-or_true true = refl
-or_true false = refl
-
-own_text : (t : Text) → bytes_eq t t ≡ true
-own_text t = (bytes_eq-Decides t t).1 refl
 
 -- what was taken stays so, and the name is
 has_more : (taken : AllTaken) (space : Option ℕ) (name : Text) (other : Option ℕ) (text : Text) → taken.has other text ≡ true → (with_name taken space name).has other text ≡ true
 has_more taken space name other text h =
     elim (cases_Bool (same_space space other)) [
-      | inl e ↦ rw (e, h) (or_true (bytes_eq name text))
+      | inl e ↦ rw (e, h) (or-true (bytes_eq name text))
       | inr e ↦ rw e h
     ]
 
 has_own : (taken : AllTaken) (space : Option ℕ) (name : Text) → (with_name taken space name).has space name ≡ true
-has_own taken space name = rw (own_space space, own_text name) refl
+has_own taken space name = rw (own_space space, same_bytes name) refl
 
 abbrev AreHeld : AllTaken → (Key → Option Text) → Type 0
 AreHeld taken found = (key : Key) (name : Text) → found key ≡ Some name → taken.has (space_of key) name ≡ true
@@ -143,7 +137,7 @@ claimed_from taken found (c ∷ cs) key =
     let name = claim_name taken c in
     let later = claimed_from (with_name taken (space_of c.key) name) (with_key found c.key name) cs key in
     later ∙ elim (cases_Bool (same_key c.key key)) [
-      | inl e ↦ rw (e, or_true (is_some (found key))) refl
+      | inl e ↦ rw (e, or-true (is_some (found key))) refl
       | inr e ↦ rw e refl
     ]
 

@@ -1,29 +1,23 @@
 -- Spaces and names after a claim.
-use Rattle.std.proofs.Common.{rules, ◌≡◌, ◌+◌, ◌||◌, ◌==◌, ◌⊎◌, ℕ, Bool, true, false, cond, List, [], ◌∷◌, Option, None, Some, is_some, option_map, refl, ap, sym, ◌∙◌, inl, inr, arith, subst, bytes_eq, option_and_then}
+use Rattle.std.proofs.Common.{◌≡◌, ◌+◌, ◌||◌, ◌==◌, ◌⊎◌, ℕ, Bool, true, false, cond, List, [], ◌∷◌, Option, None, Some, is_some, option_map, refl, ap, sym, ◌∙◌, inl, inr, subst, bytes_eq, option_and_then}
 use Rattle.std.specs.Ordering.{nat_cmp, is_eq}
 use Rattle.std.specs.BTreeMap.{get}
 use Rattle.std.proofs.lemmas.Bool.{cases_Bool, false≢true}
-use Rattle.std.proofs.lemmas.Bool.Decides.{eqb_tells, nat_tests}
+use Rattle.std.proofs.lemmas.Bool.Decides.{eqb_tells}
+use Rattle.list_law.proofs.Numbers.{order_same}
 use Rattle.name_alloc.specs.declared.claims.Claim.{Claim}
 use Rattle.name_alloc.specs.declared.claims.Key.{Key}
 use Rattle.name_alloc.specs.Base.{Text}
 use Rattle.name_alloc.specs.Naming.{space_of, same_space, free_name, claim_base, claim_name, with_name, with_key, none_taken, names_from, name_of, numbered}
 use Rattle.name_alloc.specs.Keys.{same_key}
 use Rattle.name_alloc.specs.Law.{IsNameFor}
-use Rattle.name_alloc.proofs.Lawful.{name_for}
+use Rattle.name_alloc.proofs.Lawful.{name_for, own_space}
 use Rattle.name_alloc.specs.Taken.{Held, number_at, is_held, held_count, text_at, IsSkipping, IsClaimed}
 use Rattle.name_alloc.specs.declared.space.Spaces.{Spaces}
 use Rattle.name_alloc.specs.declared.places.Places.{Places}
 use Rattle.name_alloc.specs.Places.{place_in}
 use Rattle.name_alloc.specs.Given.{Members, held_at, text_in, taken_of, AreSkipping, IsSpaceOf, IsHeldOut, IsNamed, name_at}
 use Rattle.name_alloc.proofs.Keyed.{key_tells}
-
-nat_same : (x y : ℕ) → is_eq (nat_cmp x y) ≡ (x == y)
-nat_same x y =
-    elim (eqb_tells x y) [
-      | inl w ↦ let own : is_eq (nat_cmp x y) ≡ true = grind (arith, nat_tests, w.1) in own ∙ sym w.0
-      | inr w ↦ let other : is_eq (nat_cmp x y) ≡ false = grind (arith, nat_tests, w.1) in other ∙ sym w.0
-    ]
 
 -- the test tells
 same_tells : (s o : Option ℕ) → same_space s o ≡ true → s ≡ o
@@ -79,7 +73,7 @@ pub back_members : (old : Spaces) (block : ℕ) (held : Held) (rest : Members) (
     → ((other : ℕ) → get nat_cmp new.members other ≡ cond (is_eq (nat_cmp block other)) (Some now) (get nat_cmp rest other)) → Back old (Some block) now new
 back_members old block held rest now new out text put None = ap Some text
 back_members old block held rest now new out text put (Some other) =
-    put other ∙ (ap (λ r. cond (is_eq (nat_cmp block other)) (Some now) r) (out.others other) ∙ cond_twice (is_eq (nat_cmp block other)) (block == other) (Some now) (get nat_cmp old.members other) (nat_same block other))
+    put other ∙ (ap (λ r. cond (is_eq (nat_cmp block other)) (Some now) r) (out.others other) ∙ cond_twice (is_eq (nat_cmp block other)) (block == other) (Some now) (get nat_cmp old.members other) (order_same block other))
 
 -- the space with one more name is put back
 module _ (old : Spaces) (space : Option ℕ) (held : Held) (now : Held) (base name : Text) (new : Spaces) (out : IsSpaceOf (held_at old space) held) (claimed : IsClaimed held now base name) (back : Back old space now new) where
@@ -129,12 +123,8 @@ module _ (old : Spaces) (space : Option ℕ) (held : Held) (now : Held) (base na
         | inr w ↦ rw (at_other other w) h
       ]
 
-  same_own : (s : Option ℕ) → same_space s s ≡ true
-  same_own None = refl
-  same_own (Some n) = search (rules, nat_tests)
-
   pub stands_now : (place : ℕ) → text_at now place ≡ Some name → text_in new space place ≡ Some name
-  stands_now place h = rw (at_same space (same_own space)) h
+  stands_now place h = rw (at_same space (own_space space)) h
 
   pub name_now : (c : Claim) → space ≡ space_of c.key → base ≡ claim_base c → name ≡ claim_name (taken_of old) c
   name_now c s b =

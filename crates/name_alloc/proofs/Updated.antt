@@ -1,5 +1,5 @@
 -- The numbers of a space's names, by their text, after one is put.
-use Rattle.std.proofs.Common.{◌≡◌, ℕ, Bool, true, false, List, Option, Some, cond, bytes_eq, sym, ◌∙◌, subst, inl, inr}
+use Rattle.std.proofs.Common.{◌≡◌, ℕ, Bool, true, false, List, Option, bytes_eq, sym, ◌∙◌, subst, inl, inr}
 use Rattle.std.specs.Map.{update, lookup, IsKeyTest, AreApart, KeepsOthers}
 use Rattle.std.specs.HashMap.{UpdatesBy}
 use Rattle.std.specs.Cmp.Lexicographic.{bytes_decides, nat_list_eq_equiv}

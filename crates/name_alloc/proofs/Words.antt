@@ -1,7 +1,7 @@
 -- Bases are words.
 use Rattle.std.proofs.Common.{◌≡◌, ◌<◌, ◌-◌, ◌/◌, ◌%◌, ◌==◌, ◌&&◌, ◌||◌, ◌++◌, ℕ, zero, suc, Bool, true, false, [], ◌∷◌, Option, None, Some, length, take, map, codes, refl, inl, inr, arith}
 use Rattle.std.proofs.Math.Nat.{mod-lt}
-use Rattle.std.proofs.lemmas.Bool.{cases_Bool}
+use Rattle.std.proofs.lemmas.Bool.{cases_Bool, or_parts}
 use Rattle.std.proofs.lemmas.Bool.Decides.{nat_tests}
 use Rattle.std.proofs.lemmas.List.{length-append}
 use Rattle.std.proofs.lemmas.Str.Ascii.{IsAscii-nil, IsAscii-cons}
@@ -13,7 +13,6 @@ use Rattle.std.specs.Str.{IsAscii}
 use Rattle.name_alloc.specs.Base.{Text, worded, single, ends_low, trimmed, cleaned, or_number, begins_digit, is_barred, guarded, given_base, base_of}
 use Rattle.name_alloc.specs.Reserved.{has_prefix, is_word}
 use Rattle.name_alloc.specs.Law.{is_word_byte, IsWord}
-use Rattle.name_alloc.proofs.Free.{or_parts}
 use Rattle.name_alloc.specs.Naming.{numbered}
 use Rattle.name_alloc.specs.declared.claims.Key.{Key}
 use Rattle.name_alloc.specs.declared.claims.Key.TheVariants.{Main, Id, Block, Member, Again, Leave, Fell, Captured, Spare}

@@ -33,10 +33,7 @@ fn name_claim(alloc: Global, spaces: &mut Spaces, claimed: &Claim) -> Result<usi
 {
     let base = base(alloc, claimed.key, &claimed.given)?;
     match space_of(claimed.key) {
-        None => {
-            let place = claim(alloc, &mut spaces.text, base)?;
-            Ok(place)
-        }
+        None => claim(alloc, &mut spaces.text, base),
         Some(block) => {
             let mut held = held_in(alloc, &mut spaces.members, block);
             let place = claim(alloc, &mut held, base)?;

@@ -6,12 +6,10 @@ use Rattle.std.proofs.lemmas.Bool.Decides.{nat_tests}
 use Rattle.std.proofs.lemmas.Bool.{and_parts}
 use Rattle.std.proofs.lemmas.Option.{same_Some}
 use Rattle.spv_module.specs.declared.inst.Inst.{Inst}
-use Rattle.spv_module.specs.declared.tree.Elem.{Elem}
-use Rattle.spv_module.specs.declared.tree.Elem.TheVariants as elem
 use Rattle.spv_module.specs.declared.tree.Length.TheVariants.{Fixed, Spec}
 use Rattle.spv_types.specs.Tree as plain
 use Rattle.spv_types.specs.Tree.{Tree, Trees, no_trees, tree}
-use Rattle.spv_types.specs.Leaves.{IsSized, AreSized}
+use Rattle.spv_types.specs.Leaves.{IsSized}
 use Rattle.spv_types.specs.Types.{type_tree}
 use Rattle.op_semantics.specs.Fits.{elem_tree}
 use Rattle.layout_rules.specs.declared.Kind.{Kind}
@@ -24,6 +22,7 @@ use Rattle.fits_law.specs.Takes.{nth_of}
 use Rattle.fits_law.specs.State.{element_shape, place_shape}
 use Rattle.type_law.specs.Shaped.{AreConstants}
 use Rattle.type_law.proofs.Places.{part_leads}
+use Rattle.type_law.proofs.Parts.{sized_nth, sized_elem}
 use Rattle.global_law.specs.Laid.{IsLaidOut}
 use Rattle.global_law.specs.Parts.{StructNames, shape_in, fields_in, IsInside}
 use Rattle.global_law.proofs.Path.Bytes.{bytes_in, bytes_same, stride_same}
@@ -33,22 +32,12 @@ use Rattle.narrow_law.specs.Reach.{count_of, IsIn, IsShort, Along, Reaches}
 use Rattle.narrow_law.proofs.Sizes.{at_least, within}
 
 -- what has a size has parts that have
-member_sized : (ts : Trees) (i : ℕ) (u : Tree) → AreSized ts → nth_of ts i ≡ Some u → IsSized u
-member_sized no_trees i u h at = cc
-member_sized (tree t ts) zero u h at = subst IsSized (same_Some t u at) h.0
-member_sized (tree t ts) (suc i) u h at = member_sized ts i u h.1 at
-
-elem_sized : (e : Elem) → IsSized (elem_tree e)
-elem_sized elem.Bool = tt
-elem_sized elem.Int = tt
-elem_sized elem.Uint = tt
-
 part_sized : (t : Tree) (i : ℕ) (u : Tree) → IsSized t → element_shape t i ≡ Some u → IsSized u
-part_sized (plain.vector e n) i u h at = subst IsSized (same_Some (elem_tree e) u at) (elem_sized e)
+part_sized (plain.vector e n) i u h at = subst IsSized (same_Some (elem_tree e) u at) (sized_elem e)
 part_sized (plain.array t (Fixed n)) i u h at = subst IsSized (same_Some t u at) h
 part_sized (plain.array t (Spec id)) i u h at = absurd h
 part_sized (plain.runtime t) i u h at = absurd h
-part_sized (plain.struct id ts) i u h at = member_sized ts i u h at
+part_sized (plain.struct id ts) i u h at = sized_nth ts i u h at
 part_sized plain.boolean i u h at = cc
 part_sized plain.int i u h at = cc
 part_sized plain.uint i u h at = cc

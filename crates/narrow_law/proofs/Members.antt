@@ -20,11 +20,12 @@ use Rattle.layout_rules.specs.Rules.{is_past, ends_past, offset_of, breaks}
 use Rattle.layout_rules.specs.Blocks.{Member, members_from, members_of, breaks_inside, end_of, member_breaks, members_break, block_rules, first_at, kind_at}
 use Rattle.module_semantics.specs.Setting.{Setting}
 use Rattle.module_semantics.specs.Memory.{member_offset, part_type}
+use Rattle.list_law.proofs.Options.{none_some}
 use Rattle.fits_law.specs.Takes.{nth_of}
 use Rattle.fits_law.proofs.Steps.{named}
 use Rattle.global_law.specs.Laid.{IsLaidOut}
 use Rattle.global_law.proofs.Path.Bytes.{declared_by}
-use Rattle.global_law.proofs.Path.BlockLayouts.{offset_is, none_found, any_none, taken_fits, block_laid, AllFalse}
+use Rattle.global_law.proofs.Path.BlockLayouts.{offset_is, none_found, any_none, taken_fits, block_laid, AllFalse, each_l1, member_l1}
 use Rattle.narrow_law.specs.Low.{IsLowMember, IsFineMember}
 
 not_past : (n : ℕ) → is_past n ≡ false → n ≤ 4294967295
@@ -41,17 +42,9 @@ module _ (s : Setting) (k : Kind) where
   abbrev H : List Inst
   H = s.of.heads
 
-  each_l1 : (ms : List Member) → members_break H Gs k ms L1 ≡ list_any (member_breaks H Gs k L1) ms
-  unfolding members_break
-  each_l1 ms = refl
-
   each_l7 : (ms : List Member) → members_break H Gs k ms L7 ≡ list_any (member_breaks H Gs k L7) ms
   unfolding members_break
   each_l7 ms = refl
-
-  member_l1 : (m : Member) → member_breaks H Gs k L1 m ≡ (is_none m.offset || breaks_inside H Gs k L1 m)
-  unfolding member_breaks
-  member_l1 m = refl
 
   member_l7 : (m : Member) → member_breaks H Gs k L7 m ≡ (is_past (end_of k m) || breaks_inside H Gs k L7 m)
   unfolding member_breaks
@@ -71,7 +64,7 @@ module _ (s : Setting) (k : Kind) where
 
   found : (of n id : ℕ) (u : Tree) (m : Member) → m.offset ≡ offset_of H of n → m.shape ≡ Some u → m.id ≡ id → member_breaks H Gs k L1 m ≡ false → member_breaks H Gs k L7 m ≡ false → IsFound of n u
   found of n id u m o is same a b =
-      let one = or_parts (is_none m.offset) (breaks_inside H Gs k L1 m) (sym (member_l1 m) ∙ a) in
+      let one = or_parts (is_none m.offset) (breaks_inside H Gs k L1 m) (sym (member_l1 s k m) ∙ a) in
       let seven = or_parts (is_past (end_of k m)) (breaks_inside H Gs k L7 m) (sym (member_l7 m) ∙ b) in
       let (w, e) = there m.offset one.0 in
       let end_is : end_of k m ≡ w + size_of k u =
@@ -86,10 +79,7 @@ module _ (s : Setting) (k : Kind) where
 
   member_at : (g : Inst) (ids : List ℕ) (ts : Trees) (j i : ℕ) (u : Tree) → all_trees (tree_before Gs g.at) ids ≡ Some ts → nth_of ts i ≡ Some u
       → AllFalse s k (member_breaks H Gs k L1) (members_from H Gs g j ids) → AllFalse s k (member_breaks H Gs k L7) (members_from H Gs g j ids) → IsFound g.result (j + i) u
-  member_at g [] ts j i u all at a b = absurd (never (ap (λ x. nth_of x i) (same_Some no_trees ts all) ∙ at))
-    where
-      never : None ≡ Some u → ⊥
-      never e = cc
+  member_at g [] ts j i u all at a b = none_some (ap (λ x. nth_of x i) (same_Some no_trees ts all) ∙ at)
   member_at g (id ∷ ids) ts j i u all at a b = by_parts (tree_before Gs g.at id) refl (all_trees (tree_before Gs g.at) ids) refl i all at (λ rest n is there. member_at g ids rest (j + 1) n u is there a.1 b.1)
     where
       by_parts : (o : Option Tree) → tree_before Gs g.at id ≡ o → (q : Option Trees) → all_trees (tree_before Gs g.at) ids ≡ q → (i : ℕ) → both o q ≡ Some ts → nth_of ts i ≡ Some u
@@ -128,7 +118,7 @@ module _ (s : Setting) (k : Kind) where
       → IsLaidOut s k (part_type s ty i) u × IsLowMember k (member_offset s ty i) u
   members_low v g ty id ts i u takes is shape at fine =
       let none = none_found s k (members_break H Gs k (members_of H Gs g)) block_rules (taken_fits s k (first_at H v g) (members_of H Gs g) takes) in
-      let one = any_none s k (member_breaks H Gs k L1) (members_of H Gs g) (sym (each_l1 (members_of H Gs g)) ∙ none.0) in
+      let one = any_none s k (member_breaks H Gs k L1) (members_of H Gs g) (sym (each_l1 s k (members_of H Gs g)) ∙ none.0) in
       let seven = any_none s k (member_breaks H Gs k L7) (members_of H Gs g) (sym (each_l7 (members_of H Gs g)) ∙ none.1.1.1.1.1.1.0) in
       let d = declared_by s ty (plain.struct id ts) shape in
       let same : d.0 ≡ g = same_Some d.0 g (sym d.1 ∙ is) in

@@ -2,6 +2,7 @@
 use Rattle.std.proofs.Common.{◌≡◌, ◌≤◌, ℕ, zero, suc, ◌+◌, List, [], ◌∷◌, ◌++◌, Option, Some, refl, ap, sym, subst, ◌∙◌, arith, map, flat_map}
 use Rattle.std.specs.Prelude.{option_and_then}
 use Rattle.std.specs.List.{range_with_len}
+use Rattle.std.proofs.lemmas.Option.{same_Some}
 use Rattle.spv_module.specs.declared.tree.Elem.{Elem}
 use Rattle.spv_module.specs.declared.tree.Length.TheVariants.{Fixed, Spec}
 use Rattle.spv_types.specs.Tree as plain
@@ -53,9 +54,6 @@ module _ (s : Setting) where
 
   -- one way behind another
   pub along_more : (path : List ℕ) (t u : Tree) (rest : List ℕ) → Along s t path → place_shape t path ≡ Some u → Along s u rest → Along s t (path ++ rest)
-  along_more [] t u rest a at b = subst (λ x. Along s x rest) (sym (some_same t u at)) b
-    where
-      some_same : (a b : Tree) → Some a ≡ Some b → a ≡ b
-      some_same a b e = cc
+  along_more [] t u rest a at b = subst (λ x. Along s x rest) (sym (same_Some t u at)) b
   along_more (i ∷ is) t u rest (x, here, inside, short, a) at b =
       (x, here, inside, short, along_more is x u rest a (ap (λ (o : Option Tree). option_and_then (λ z. place_shape z is) o) (sym here) ∙ at) b)

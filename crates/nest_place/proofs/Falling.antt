@@ -5,6 +5,7 @@ use Rattle.std.specs.Option.{option_map, option_and_then}
 use Rattle.std.proofs.lemmas.List.{drop_more, drop_all, append-nil}
 use Rattle.spv_words.specs.declared.rule.Rule.TheVariants.{K9, K10, K11}
 use Rattle.std.proofs.lemmas.Bool.{or_cases, and_parts, or_left, or_right}
+use Rattle.std.proofs.Math.Bool.{and_comm}
 use Rattle.structure_rules.specs.declared.graph.Node.{Node}
 use Rattle.structure_rules.specs.declared.graph.Part.{Part}
 use Rattle.structure_rules.specs.declared.graph.Part.TheVariants.{If, Loop, Cont, Case}
@@ -119,14 +120,8 @@ falls_within g links is grounded = links_within (length g) links (λ u t e.
 pub turned_has : (links : Links) (a b : ℕ) → has_link (turned_links links) a b ≡ has_link links b a
 turned_has [] a b = refl
 turned_has (l ∷ links) a b =
-    let swap : ((l.1 == a) && (l.0 == b)) ≡ ((l.0 == b) && (l.1 == a)) = swap_and (l.1 == a) (l.0 == b) in
+    let swap : ((l.1 == a) && (l.0 == b)) ≡ ((l.0 == b) && (l.1 == a)) = and_comm (l.1 == a) (l.0 == b) in
     ap (λ q. q || has_link (turned_links links) a b) swap ∙ ap (λ q. ((l.0 == b) && (l.1 == a)) || q) (turned_has links a b)
-  where
-    swap_and : (x y : Bool) → (x && y) ≡ (y && x)
-    swap_and true true = refl
-    swap_and true false = refl
-    swap_and false true = refl
-    swap_and false false = refl
 
 pub turned_within : (g : List Node) (links turned : Links) → turned ≡ turned_links links → links ≡ fall_links g → AreWithin g → LinksWithin (length g) turned
 turned_within g links turned now is within = links_within (length g) turned (λ t u e.

@@ -6,7 +6,9 @@ use Rattle.std.proofs.Math.ListN.{set}
 use Rattle.std.proofs.lemmas.List.{take_more, get_or-set_same, get_or-set_other, length-set, length-replicate, take_all}
 use Rattle.std.proofs.lemmas.List.Folds.{find-append, list_any-append}
 use Rattle.std.proofs.lemmas.Bool.{or_cases, and_parts, or_left, or_right, and_from}
-use Rattle.std.proofs.lemmas.Bool.Decides.{eqb_tells, nat_tests}
+use Rattle.std.proofs.lemmas.Bool.Decides.{eqb_tells}
+use Rattle.list_law.proofs.Options.{or_none}
+pub use Rattle.list_law.proofs.Numbers.{number_itself as same_nat, same_number as equal_nat}
 use Rattle.structure_rules.specs.Nesting.{Links, has_link, first_of}
 use Rattle.nest_place.specs.Links.{IsTable, IsSingle}
 
@@ -24,12 +26,6 @@ first_push links l a = ap (option_map (λ (l : ℕ × ℕ). l.1)) (find-append (
 
 has_push : (links : Links) (l : ℕ × ℕ) (a b : ℕ) → has_link (links ++ l ∷ []) a b ≡ (has_link links a b || (((l.0 == a) && (l.1 == b)) || false))
 has_push links l a b = list_any-append (λ (m : ℕ × ℕ). (m.0 == a) && (m.1 == b)) links (l ∷ [])
-
-pub same_nat : (x : ℕ) → (x == x) ≡ true
-same_nat x = grind (arith, nat_tests)
-
-pub equal_nat : (x y : ℕ) → (x == y) ≡ true → x ≡ y
-equal_nat x y e = grind (arith, nat_tests, e)
 
 -- the first link of a block is one of its links
 pub has_first : (links : Links) (a b : ℕ) → first_of links a ≡ Some b → has_link links a b ≡ true
@@ -105,10 +101,6 @@ module _ (links : Links) (i n : ℕ) (table : List (Option ℕ)) (d : ℕ × ℕ
             get_or-set_other table l.0 a (Some l.1) None apart
             ∙ sym (firsts_more a ∙ ap (λ b. option_or (get_or table a None) (cond b (Some l.1) None)) w.0 ∙ or_none (get_or table a None))
       ]
-    where
-      or_none : (o : Option ℕ) → option_or o None ≡ o
-      or_none None = refl
-      or_none (Some x) = refl
 
   -- a block that has a link already
   old_first : (a v : ℕ) → get_or table (get_or links i d).0 None ≡ Some v → get_or table a None ≡ first_of (take (i + 1) links) a
@@ -120,10 +112,6 @@ module _ (links : Links) (i n : ℕ) (table : List (Option ℕ)) (d : ℕ × ℕ
             (taken ∙ sym (firsts_more l.0 ∙ ap (λ o. option_or o (link_if l l.0)) taken))
         | inr w ↦ sym (firsts_more a ∙ ap (λ b. option_or (get_or table a None) (cond b (Some l.1) None)) w.0 ∙ or_none (get_or table a None))
       ]
-    where
-      or_none : (o : Option ℕ) → option_or o None ≡ o
-      or_none None = refl
-      or_none (Some x) = refl
 
   kept_first : (a b : ℕ) → first_of (take i links) a ≡ Some b → first_of (take (i + 1) links) a ≡ Some b
   kept_first a b e = firsts_more a ∙ ap (λ o. option_or o (link_if (get_or links i d) a)) (g.firsts a ∙ e)

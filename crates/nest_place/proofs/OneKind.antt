@@ -3,7 +3,7 @@ use Rattle.std.proofs.Common.{◌≡◌, ◌≢◌, ◌<◌, ◌==◌, ◌&&◌,
 use Rattle.std.specs.List.{list_any, find, slice_get}
 use Rattle.std.specs.Option.{option_and_then}
 use Rattle.std.proofs.lemmas.Bool.Decides.{eqb_tells}
-use Rattle.std.proofs.lemmas.Bool.{and_parts, or_left, or_right, false_from_ne_true}
+use Rattle.std.proofs.lemmas.Bool.{and_parts, or_left, or_right, false_from_ne_true, not-false}
 use Rattle.structure_rules.specs.declared.graph.Merge.{Merge}
 use Rattle.structure_rules.specs.declared.graph.Merge.TheVariants.{Absent, Selection, Loop as LoopMerge}
 use Rattle.structure_rules.specs.declared.graph.Exit.{Exit}
@@ -58,10 +58,6 @@ pub not_twice : (g : List Node) → IsSound g → (h t : ℕ) → (nth g h).reac
 not_twice g sound h t here merge target =
     sound.fine.1.1.0 (nth g h).merge_at (h, reached_inside g h here, here, (or_right (is_value h (merge_named (nth g h).merge)) _ (or_left (names_twice (nth g h).merge) _ (twice_by (nth g h).merge t merge target)), refl))
 
-selection_by : (b : Bool) → not b ≡ false → b ≡ true
-selection_by true e = refl
-selection_by false e = cc
-
 both_false : (a b : Bool) → a ≡ true → ((a && b) ≡ true → ⊥) → b ≡ false
 both_false true b e never = false_from_ne_true b never
 both_false false b e never = cc
@@ -69,7 +65,7 @@ both_false false b e never = cc
 -- a switch has a selection
 pub switch_selects : (g : List Node) → IsSound g → (s : ℕ) → (nth g s).reached ≡ true → is_switch (nth g s).exit ≡ true → is_selection (nth g s).merge ≡ true
 switch_selects g sound s here switch =
-    selection_by (is_selection (nth g s).merge) (both_false (is_switch (nth g s).exit) (not (is_selection (nth g s).merge)) switch (λ bad.
+    not-false (is_selection (nth g s).merge) (both_false (is_switch (nth g s).exit) (not (is_selection (nth g s).merge)) switch (λ bad.
     sound.fine.0 (nth g s).exit_at (s, reached_inside g s here, here, inr (bad, refl))))
 
 pub selection_names : (m : Merge) (t : ℕ) → merge_named m ≡ Some t → list_any (λ x. x == t) (named m) ≡ true

@@ -2,9 +2,10 @@
 use Rattle.std.proofs.Common.{◌≡◌, ◌≢◌, ◌<◌, ◌≤◌, ◌==◌, ◌&&◌, ◌||◌, nat_lt, ℕ, Bool, true, false, List, [], ◌∷◌, length, filter, if◌then◌else◌, Option, Some, None, is_none, cond, refl, ap, sym, ◌∙◌, subst, inl, inr, arith}
 use Rattle.std.specs.List.{list_any, find}
 use Rattle.std.specs.Option.{option_map}
-use Rattle.std.proofs.lemmas.Bool.Decides.{nat_tests}
 use Rattle.spv_words.specs.declared.rule.Rule.TheVariants.{K4, K5}
 use Rattle.std.proofs.lemmas.Bool.{or_cases, and_parts, or_left, or_right}
+use Rattle.list_law.proofs.Options.{none_by}
+use Rattle.list_law.proofs.Numbers.{less_of}
 use Rattle.structure_rules.specs.declared.graph.Node.{Node}
 use Rattle.structure_rules.specs.declared.graph.Role.TheVariants.{First, Merge as MergeOf, Continue}
 use Rattle.structure_rules.specs.Graph.{nth, edges, is_value, is_switch, merge_block}
@@ -42,15 +43,11 @@ edge_to g p t f inside e =
       λ zero_is. f.first (nth g p).exit_at (p, inside, parts.0, inl (names_zero (nth g p).targets t parts.1 zero_is, refl)),
     )
 
-none_is : (o : Option ℕ) → is_none o ≡ true → o ≡ None
-none_is None e = refl
-none_is (Some x) e = cc
-
 switch_if : (g : List Node) (n : Node) (t : ℕ) → list_any (λ x. x == t) (case_targets g n) ≡ true → (is_switch n.exit ≡ true) × (list_any (λ x. x == t) (edges n) ≡ true) × (header_of g t ≡ None)
 switch_if g n t e = by_test (is_switch n.exit) refl e
   where
     by_test : (b : Bool) → is_switch n.exit ≡ b → list_any (λ x. x == t) (if b then filter (λ t. is_none (header_of g t)) (edges n) else []) ≡ true → (is_switch n.exit ≡ true) × (list_any (λ x. x == t) (edges n) ≡ true) × (header_of g t ≡ None)
-    by_test true is e = let parts = filter_has (λ t. is_none (header_of g t)) (edges n) t e in (is, parts.0, none_is (header_of g t) parts.1)
+    by_test true is e = let parts = filter_has (λ t. is_none (header_of g t)) (edges n) t e in (is, parts.0, none_by (header_of g t) parts.1)
     by_test false is e = cc
 
 -- a link to a switch
@@ -61,9 +58,6 @@ case_from g t s e =
     let parts = switch_if g (nth g s) t at.1 in
     (at.0, parts.0, parts.1, parts.2)
 
-less_if : (p t : ℕ) → nat_lt p t ≡ true → p < t
-less_if p t e = grind (arith, nat_tests, e)
-
 -- a link to a predecessor
 pub entry_from : (g : List Node) (t p : ℕ) → has_link (entry_links g) t p ≡ true → (p < length g) × (p < t) × (list_any (λ x. x == t) (edges (nth g p)) ≡ true) × (header_of g t ≡ None) × (switch_of g t ≡ None)
 unfolding entry_links
@@ -72,7 +66,7 @@ entry_from g t p e =
     let parts = filter_has (λ t. nat_lt p t && (is_none (header_of g t) && is_none (switch_of g t))) (edges (nth g p)) t at.1 in
     let tests = and_parts (nat_lt p t) (is_none (header_of g t) && is_none (switch_of g t)) parts.1 in
     let nones = and_parts (is_none (header_of g t)) (is_none (switch_of g t)) tests.1 in
-    (at.0, less_if p t tests.0, parts.0, none_is (header_of g t) nones.0, none_is (switch_of g t) nones.1)
+    (at.0, less_of p t tests.0, parts.0, none_by (header_of g t) nones.0, none_by (switch_of g t) nones.1)
 
 pub cases_are_parents : (g : List Node) → IsFormed g → AreParentLinks g (case_links g)
 cases_are_parents g f t s e =

@@ -1,6 +1,6 @@
 -- Following falls, and heights.
-use Rattle.std.proofs.Common.{◌≡◌, ◌≢◌, ◌<◌, ◌≤◌, ◌+◌, ◌-◌, ◌==◌, ℕ, zero, suc, true, List, length, get_or, replicate, Option, Some, None, IfSome, refl, ap, sym, ◌∙◌, subst, inl, inr, arith, below_more}
-use Rattle.std.specs.List.{list_any, slice_index}
+use Rattle.std.proofs.Common.{◌≡◌, ◌≢◌, ◌<◌, ◌≤◌, ◌+◌, ◌-◌, ℕ, zero, suc, true, List, length, get_or, replicate, Option, Some, None, IfSome, refl, ap, sym, ◌∙◌, subst, inl, inr, arith, below_more}
+use Rattle.std.specs.List.{slice_index}
 use Rattle.std.specs.Option.{option_and_then}
 use Rattle.std.proofs.Math.ListN.{set}
 use Rattle.std.proofs.lemmas.Bool.{cases_lt}
@@ -14,8 +14,8 @@ use Rattle.structure_rules.specs.Structure.{BrokenIn, fall_links, falls_from, af
 use Rattle.nest_place.specs.Checks.{IsUnbroken}
 use Rattle.nest_place.specs.Links.{IsTable, IsSingle, turned_links}
 use Rattle.nest_place.specs.Cycles.{Table, entry, steps, Returns, AreInverse, IsReady, AreHeights, FallsOnCycle, SomeCyclic}
-use Rattle.std.proofs.lemmas.List.Folds.{list_any_at}
-use Rattle.nest_place.proofs.LinkLemmas.{has_first, same_nat}
+use Rattle.list_law.proofs.Lists.{any_itself}
+use Rattle.nest_place.proofs.LinkLemmas.{has_first}
 use Rattle.nest_place.proofs.Each.{member_at}
 use Rattle.nest_place.proofs.Reading.{NoneBelow, none_start, none_at_all, nth_read, targets_inside}
 use Rattle.nest_place.proofs.Falling.{turned_has}
@@ -169,14 +169,11 @@ off_cycle g next u all size cycle = (cycle.0, (let inside : cycle.0 < length g =
 abbrev pub IsCyclicExit : List Node → Table → ℕ → Node → Type 0
 IsCyclicExit g next b n = SomeCyclic g next b n.targets
 
-at_list : (ts : List ℕ) (k : ℕ) → k < length ts → list_any (λ x. x == slice_index ts k) ts ≡ true
-at_list ts k inside = list_any_at (λ x. x == slice_index ts k) ts k 0 inside (same_nat (slice_index ts k))
-
 pub cyclic_bad : (g : List Node) (next : Table) (b : ℕ) (n : Node) → IsTable (fall_links g) next → length next ≡ length g → b < length g → n ≡ get_or g b n → n.reached ≡ true → SomeCyclic g next b n.targets → BrokenIn g K11 n.exit_at
 cyclic_bad g next b n all size inside read here cyclic =
     let node : n ≡ nth g b = nth_read g b n inside read in
     subst (λ (m : Node). m.reached ≡ true → SomeCyclic g next b m.targets → BrokenIn g K11 m.exit_at) (sym node) (λ h c.
-    (b, inside, h, ((slice_index (nth g b).targets c.0, c.2.0, at_list (nth g b).targets c.0 c.1, c.2.1, on_cycle g next c.2.0 all size c.2.2), refl))) here cyclic
+    (b, inside, h, ((slice_index (nth g b).targets c.0, c.2.0, any_itself (nth g b).targets c.0 c.1, c.2.1, on_cycle g next c.2.0 all size c.2.2), refl))) here cyclic
 
 pub cycles_fine : (g : List Node) (next : Table) (i : ℕ) → IsTable (fall_links g) next → length next ≡ length g → length g ≤ i → NoneBelow g i (IsCyclicExit g next) → IsUnbroken g K11
 cycles_fine g next i all size past none at broken =

@@ -3,12 +3,15 @@ use Rattle.std.proofs.Common.{◌≡◌, ◌≢◌, ◌<◌, ◌≤◌, ◌+◌,
 use Rattle.std.specs.Option.{is_some}
 use Rattle.std.specs.Ordering.{nat_cmp, is_eq}
 use Rattle.std.proofs.lemmas.Bool.Decides.{nat_tests, eqb_tells}
+use Rattle.std.proofs.lemmas.Bool.{or_right, or_left, and_from, and_parts, or_from, or_parts, or_cases, false_from_ne_true}
+use Rattle.list_law.proofs.Options.{some_of}
+use Rattle.list_law.proofs.Tests.{not_both}
 use Rattle.phi_copies.specs.declared.moves.Src.{Src}
 use Rattle.phi_copies.specs.declared.moves.Src.TheVariants.{Var as Variable, Constant}
 use Rattle.phi_copies.specs.declared.moves.Move.{Move}
 use Rattle.phi_copies.specs.Sequence.{Pair, target, pair_at, HaveOwnTargets, is_var, sets, is_set, spare_of, is_save, reads, readers, IsLeft, move_of}
 use Rattle.phi_copies.specs.Kept.{ArePlaces, unless_saved, source_place, is_place, IsReleased, IsState}
-use Rattle.phi_copies.proofs.Reading.{as_number, not_true, not_both, or_parts, or_cases, sets_move, after_move, save_move, saves_cons, readers_less, some_reader, quiet, same_place}
+use Rattle.phi_copies.proofs.Reading.{as_number, sets_move, after_move, save_move, saves_cons, readers_less, some_reader, quiet, same_place}
 use Rattle.phi_copies.proofs.Counted.{copy_readers}
 use Rattle.phi_copies.proofs.Saved.{cmp_same, cmp_other, cond_true, cond_false}
 
@@ -21,10 +24,6 @@ inside_or (x ∷ xs) (suc j) =
       | inl w ↦ inl (omega (arith, w))
       | inr w ↦ inr w
     ]
-
-some_of : (o : Option ℕ) → is_some o ≡ true → (k : ℕ) × (o ≡ Some k)
-some_of None e = cc
-some_of (Some k) e = (k, refl)
 
 -- the place of a target
 place_is : (ps : List Pair) (places : ℕ → Option ℕ) (j : ℕ) → HaveOwnTargets ps → ArePlaces ps (length ps) places → j < length ps → places (target (pair_at ps j)) ≡ Some j
@@ -77,23 +76,6 @@ reads_source ps h places spares j (Variable x) own are same small =
           no_place j (spares x.0) (places x.0) (other_place ps places j x.0 (places x.0) are refl w.1) ∙ sym right
     ]
 
-and_true : (a b : Bool) → a ≡ true → b ≡ true → (a && b) ≡ true
-and_true a b e f = rw (e, f) refl
-
-and_true_parts : (a b : Bool) → (a && b) ≡ true → (a ≡ true) × (b ≡ true)
-and_true_parts true b e = (refl, e)
-and_true_parts false b e = cc
-
-or_left : (a b : Bool) → a ≡ true → (a || b) ≡ true
-or_left a b e = rw e refl
-
-or_right : (a b : Bool) → b ≡ true → (a || b) ≡ true
-or_right true b e = refl
-or_right false b e = e
-
-or_none : (a b : Bool) → a ≡ false → b ≡ false → (a || b) ≡ false
-or_none a b e f = rw (e, f) refl
-
 -- one may ask for less than the source of the pair has
 pub enough_readers : (ps : List Pair) (h : List Move) (counts : List ℕ) (left ready : ℕ → Bool) (places spares : ℕ → Option ℕ) (n i j : ℕ)
     → HaveOwnTargets ps → ArePlaces ps (length ps) places → IsState ps h counts left ready spares n → ready i ≡ true → source_place places spares (pair_at ps i).1 ≡ Some j → j < length ps → 0 < get_or counts j 0
@@ -130,7 +112,7 @@ state_copy ps h counts left ready places spares n i still rest after is own are 
       | inl w ↦ absurd (apart (same_place ps i j own known.still.below small w.1))
       | inr w ↦ w.0
     ] in
-    or_none (sets (target (pair_at ps j)) m) (is_set h (target (pair_at ps j))) other e in
+    or_from (sets (target (pair_at ps j)) m) (is_set h (target (pair_at ps j))) other e in
     let set : is_set (m ∷ h) (target p) ≡ true = or_left (sets (target p) m) (is_set h (target p)) (sets_move p (spare_of h) (target p) ∙ eq-eqb (target p) (target p) refl) in
     let before : (j : ℕ) → IsLeft ps (m ∷ h) j → IsLeft ps h j × (i ≢ j) = λ j l. (
       record { below = l.below; unset = (or_parts (sets (target (pair_at ps j)) m) (is_set h (target (pair_at ps j))) l.unset).1 },
@@ -160,7 +142,7 @@ state_copy ps h counts left ready places spares n i still rest after is own are 
                       record { still = record { below = was.still.below; unset = unset j was.still.below w.1 was.still.unset }; unread = omega (arith, was.unread, readers_less ps m h (target (pair_at ps j))) }
                 ]
             | inr new ↦
-                let parts = and_true_parts (is_place j place) (get_or after j 0 == 0) new in
+                let parts = and_parts (is_place j place) (get_or after j 0 == 0) new in
                 let less : get_or after j 0 + as_number (is_place j place) ≡ get_or counts j 0 = released.less j in
                 let one : as_number (is_place j place) ≡ 1 = ap as_number parts.0 in
                 let small : j < length ps =
@@ -170,7 +152,7 @@ state_copy ps h counts left ready places spares n i still rest after is own are 
                 ] in
                 let reads_here : reads h (target (pair_at ps j)) p ≡ true = sym (reading j small) ∙ parts.0 in
                 let some = some_reader ps h (target (pair_at ps j)) i known.still.below reads_here in
-                let was : is_set h (target (pair_at ps j)) ≡ false = not_true (is_set h (target (pair_at ps j))) (λ e. absurd (omega (arith, some, quiet ps h (target (pair_at ps j)) state.next e))) in
+                let was : is_set h (target (pair_at ps j)) ≡ false = false_from_ne_true (is_set h (target (pair_at ps j))) (λ e. absurd (omega (arith, some, quiet ps h (target (pair_at ps j)) state.next e))) in
                 let apart : i ≢ j = λ e.
                 let none : readers ps h (target (pair_at ps j)) ≡ 0 = ap (λ k. readers ps h (target (pair_at ps k))) (sym e) ∙ known.unread in
                 omega (arith, some, none) in
@@ -182,7 +164,7 @@ state_copy ps h counts left ready places spares n i still rest after is own are 
           let empty : get_or after j 0 ≡ 0 = counted j r.still.below ∙ r.unread in
           released.ready_is j
           ∙ (elim (is_place j place) as (λ b. is_place j place ≡ b → (rest j || (is_place j place && (get_or after j 0 == 0))) ≡ true) [
-            | true ↦ λ e. or_right (rest j) (is_place j place && (get_or after j 0 == 0)) (and_true (is_place j place) (get_or after j 0 == 0) e (eq-eqb (get_or after j 0) 0 empty))
+            | true ↦ λ e. or_right (rest j) (is_place j place && (get_or after j 0 == 0)) (and_from (is_place j place) (get_or after j 0 == 0) e (eq-eqb (get_or after j 0) 0 empty))
             | false ↦ λ e.
                 let none : as_number (is_place j place) ≡ 0 = ap as_number e in
                 let unread : readers ps h (target (pair_at ps j)) ≡ 0 = omega (arith, none, empty, released.less j, state.counts_are j r.still.below) in

@@ -1,16 +1,18 @@
 -- The moves of a sequence do what its pairs do at once.
-use Rattle.std.proofs.Common.{◌≡◌, not, ◌++◌, ℕ, suc, Bool, true, false, cond, List, [], ◌∷◌, filter, reverse, refl, ap, sym, subst, ◌∙◌, arith, Contains}
+use Rattle.std.proofs.Common.{◌≡◌, ◌++◌, ℕ, suc, Bool, true, false, cond, List, [], ◌∷◌, filter, reverse, refl, ap, sym, subst, ◌∙◌, arith, Contains}
 use Rattle.std.specs.List.{All}
 use Rattle.std.proofs.lemmas.List.{get_or_default, reverse-append, reverse-reverse}
 use Rattle.std.proofs.lemmas.List.Elements.{All-nil, All-cons, All-weaker, All-filter, All-contains, All-contains_itself, filter_passes, Contains-get_or}
 use Rattle.std.proofs.lemmas.List.Kept.{AllPairs-filter}
 use Rattle.std.proofs.lemmas.Bool.Decides.{nat_tests}
+use Rattle.std.proofs.lemmas.Bool.{false_from_ne_true, not-false}
+use Rattle.list_law.proofs.Tests.{not_both}
 use Rattle.phi_copies.specs.declared.moves.Src.{Src}
 use Rattle.phi_copies.specs.declared.moves.Src.TheVariants.{Var as Variable, Constant}
 use Rattle.phi_copies.specs.declared.moves.Move.{Move}
 use Rattle.phi_copies.specs.Sequence.{Pair, target, no_pair, pair_at, HaveOwnTargets, is_var, is_proper, is_set, IsLeft, AreNext, IsSequence}
 use Rattle.phi_copies.specs.Meaning.{State, value, step, run, IsAtOnce, DoAtOnce}
-use Rattle.phi_copies.proofs.Reading.{not_true, not_both, set_target, same_pair}
+use Rattle.phi_copies.proofs.Reading.{set_target, same_pair}
 use Rattle.phi_copies.proofs.Moved.{after, moved}
 
 -- moves from the first on, and from the last back
@@ -40,7 +42,7 @@ at_once V constants s ps h own next whole =
           ]) refl in
           all.given p here set;
       other = λ v none.
-          all.kept v (not_true (is_set h v) (λ e.
+          all.kept v (false_from_ne_true (is_set h v) (λ e.
           let found = set_target ps h v next e in
           none (pair_at ps found.0) (Contains-get_or ps found.0 no_pair found.1) found.2));
     }
@@ -68,10 +70,6 @@ value_self : (V : Type 0) (constants vars : ℕ → V) (v : ℕ) (s : Src) → i
 value_self V constants vars v (Variable x) e = let same : x.0 ≡ v = grind (arith, nat_tests, e) in ap vars same
 value_self V constants vars v (Constant c) e = absurd (not_both (is_var v (Constant c)) e refl)
 
-not_false : (b : Bool) → not b ≡ false → b ≡ true
-not_false true e = refl
-not_false false e = cc
-
 -- pairs with equal sides change nothing
 pub with_equal : (V : Type 0) (constants before now : ℕ → V) (pairs : List Pair) → HaveOwnTargets pairs
     → IsAtOnce V constants (filter is_proper pairs) before now → IsAtOnce V constants pairs before now
@@ -83,7 +81,7 @@ with_equal V constants before now pairs own proper =
           (elim (is_proper p) as (λ b. is_proper p ≡ b → now (target p) ≡ value V constants before p.1) [
             | true ↦ λ e. proper.given p (All-contains (λ (x : Pair). is_proper x ≡ true → Contains (filter is_proper pairs) x) pairs p (filter_keeps is_proper pairs) here e)
             | false ↦ λ e.
-                let self : is_var (target p) p.1 ≡ true = not_false (is_var (target p) p.1) e in
+                let self : is_var (target p) p.1 ≡ true = not-false (is_var (target p) p.1) e in
                 proper.other (target p) (λ q there same.
                 let one : q ≡ p = same_pair pairs q p own (from q there) here same in
                 let passes : is_proper q ≡ true = All-contains (λ (x : Pair). is_proper x ≡ true) (filter is_proper pairs) q (filter_passes is_proper pairs) there in

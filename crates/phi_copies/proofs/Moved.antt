@@ -2,6 +2,9 @@
 use Rattle.std.proofs.Common.{◌≡◌, ◌<◌, ◌+◌, ◌==◌, ℕ, true, false, cond, Option, None, Some, List, [], ◌∷◌, refl, ap, sym, subst, ◌∙◌, inl, inr, arith, Contains, eq-eqb}
 use Rattle.std.proofs.lemmas.List.Elements.{Contains-get_or}
 use Rattle.std.proofs.lemmas.Bool.Decides.{nat_tests, eqb_tells}
+use Rattle.std.proofs.lemmas.Bool.{or_parts}
+use Rattle.std.proofs.lemmas.Option.{same_Some}
+use Rattle.list_law.proofs.Tests.{not_both}
 use Rattle.phi_copies.specs.declared.moves.Var.{Var}
 use Rattle.phi_copies.specs.declared.moves.Src.{Src}
 use Rattle.phi_copies.specs.declared.moves.Src.TheVariants.{Var as Variable, Constant}
@@ -9,7 +12,7 @@ use Rattle.phi_copies.specs.declared.moves.Move.{Move}
 use Rattle.phi_copies.specs.declared.moves.Move.TheVariants.{Save}
 use Rattle.phi_copies.specs.Sequence.{Pair, target, no_pair, pair_at, HaveOwnTargets, is_var, sets, is_set, spare_of, is_save, saves, IsLeft, restored, copied, move_of, AreNext}
 use Rattle.phi_copies.specs.Meaning.{State, put, value, step}
-use Rattle.phi_copies.proofs.Reading.{as_number, or_parts, not_both, sets_move, after_move, save_move, saves_cons, source_unset, same_pair}
+use Rattle.phi_copies.proofs.Reading.{as_number, sets_move, after_move, save_move, saves_cons, source_unset, same_pair}
 
 -- variables that are not set have their first values, those that are set the first values of their sources, and spares the first values of what they stand for
 pub record IsMoved (V : Type 0) (constants : ℕ → V) (ps : List Pair) (before : ℕ → V) (h : List Move) (now : State V) : Type 0 where
@@ -79,9 +82,6 @@ moved_copy V constants ps before h now i own next left was =
           omega (arith, saves_cons m h, none, was.fresh v k (sym (after_move p (spare_of h) (spare_of h v) v) ∙ e));
     }
 
-some_is : (j k : ℕ) → Some j ≡ Some k → j ≡ k
-some_is j k e = cc
-
 -- one more save
 moved_save : (V : Type 0) (constants : ℕ → V) (ps : List Pair) (before : ℕ → V) (h : List Move) (now : State V) (i : ℕ)
     → IsLeft ps h i → IsMoved V constants ps before h now
@@ -98,7 +98,7 @@ moved_save V constants ps before h now i left was =
           elim (eqb_tells (target p) v) [
             | inl w ↦
                 let o : cond (target p == v) (Some n) (spare_of h v) ≡ Some n = ap (λ b. cond b (Some n) (spare_of h v)) w.0 in
-                let num : n ≡ k = some_is n k (sym o ∙ e) in
+                let num : n ≡ k = same_Some n k (sym o ∙ e) in
                 put_same V n k (now.vars (target p)) now.spares (eq-eqb n k num) ∙ (was.kept (target p) left.unset ∙ ap before w.1)
             | inr w ↦
                 let o : cond (target p == v) (Some n) (spare_of h v) ≡ spare_of h v = ap (λ b. cond b (Some n) (spare_of h v)) w.0 in
@@ -111,7 +111,7 @@ moved_save V constants ps before h now i left was =
           elim (eqb_tells (target p) v) [
             | inl w ↦
                 let o : cond (target p == v) (Some n) (spare_of h v) ≡ Some n = ap (λ b. cond b (Some n) (spare_of h v)) w.0 in
-                let num : n ≡ k = some_is n k (sym o ∙ e) in
+                let num : n ≡ k = same_Some n k (sym o ∙ e) in
                 omega (arith, more, num)
             | inr w ↦
                 let o : cond (target p == v) (Some n) (spare_of h v) ≡ spare_of h v = ap (λ b. cond b (Some n) (spare_of h v)) w.0 in

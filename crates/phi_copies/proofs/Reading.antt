@@ -1,9 +1,11 @@
 -- Who reads a variable, as the moves go on.
-use Rattle.std.proofs.Common.{◌≡◌, ◌<◌, ◌≤◌, ◌+◌, ◌==◌, ◌&&◌, ◌||◌, not, ◌⊎◌, ℕ, suc, Bool, true, false, cond, Option, None, Some, List, [], ◌∷◌, length, refl, ap, sym, ◌∙◌, inl, inr, arith, Contains}
+use Rattle.std.proofs.Common.{◌≡◌, ◌<◌, ◌≤◌, ◌+◌, ◌==◌, ◌&&◌, ◌||◌, not, ℕ, suc, Bool, true, false, cond, Option, None, Some, List, [], ◌∷◌, length, refl, ap, sym, ◌∙◌, inl, inr, arith, Contains}
 use Rattle.std.specs.Option.{is_some}
 use Rattle.std.proofs.lemmas.List.{get_or_default}
 use Rattle.std.proofs.lemmas.List.Sums.{sum_by-cons, get_or-le-sum_by, sum_by-le-sum_by}
 use Rattle.std.proofs.lemmas.Bool.Decides.{nat_tests, leb_tells}
+use Rattle.std.proofs.lemmas.Bool.{or_cases, false_from_ne_true}
+use Rattle.list_law.proofs.Tests.{not_both}
 use Rattle.phi_copies.specs.declared.moves.Var.{Var}
 use Rattle.phi_copies.specs.declared.moves.Src.{Src}
 use Rattle.phi_copies.specs.declared.moves.Src.TheVariants.{Var as Variable, Constant}
@@ -13,22 +15,6 @@ use Rattle.phi_copies.specs.Sequence.{Pair, target, no_pair, pair_at, HaveOwnTar
 
 abbrev pub as_number : Bool → ℕ
 as_number b = cond b 1 0
-
--- a truth value is known by its cases
-pub not_true : (b : Bool) → (b ≡ true → ⊥) → b ≡ false
-not_true true h = absurd (h refl)
-not_true false h = refl
-
-pub or_cases : (a b : Bool) → (a || b) ≡ true → (a ≡ true) ⊎ (b ≡ true)
-or_cases true b h = inl refl
-or_cases false b h = inr h
-
-pub or_parts : (a b : Bool) → (a || b) ≡ false → (a ≡ false) × (b ≡ false)
-or_parts true b h = cc
-or_parts false b h = (refl, h)
-
-pub not_both : (b : Bool) → b ≡ true → b ≡ false → ⊥
-not_both b e f = cc
 
 -- what a copy is as a move
 sets_restored : (t : Var) (s : Src) (o : Option ℕ) (v : ℕ) → sets v (restored t s o) ≡ (t.0 == v)
@@ -136,7 +122,7 @@ reads_of a b c e f g = rw (e, f, g) refl
 -- the source of a pair that is left has its first value, or is saved
 pub source_unset : (ps : List Pair) (h : List Move) (i v : ℕ) → AreNext ps h → IsLeft ps h i → is_var v (pair_at ps i).1 ≡ true → spare_of h v ≡ None → is_set h v ≡ false
 source_unset ps h i v next left own none =
-    not_true (is_set h v) (λ e.
+    false_from_ne_true (is_set h v) (λ e.
     let reading : reads h v (pair_at ps i) ≡ true = reads_of (is_set h (target (pair_at ps i))) (is_var v (pair_at ps i).1) (is_some (spare_of h v)) left.unset own (ap is_some none) in
     let some = some_reader ps h v i left.below reading in
     absurd (omega (arith, some, quiet ps h v next e)))

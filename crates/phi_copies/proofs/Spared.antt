@@ -1,11 +1,12 @@
 -- One spare for each cycle.
-use Rattle.std.proofs.Common.{◌≡◌, ◌<◌, ◌+◌, ◌==◌, ◌⊎◌, ℕ, suc, Bool, true, false, cond, Option, None, Some, is_some, List, [], ◌∷◌, length, count_by, refl, ap, sym, ◌∙◌, inl, inr, arith, subst, eq-eqb}
-use Rattle.std.proofs.lemmas.Bool.{cases_Bool, false≢true}
+use Rattle.std.proofs.Common.{◌≡◌, ◌<◌, ◌+◌, ◌==◌, ◌⊎◌, ℕ, suc, Bool, true, false, cond, Option, Some, is_some, List, [], ◌∷◌, length, count_by, refl, ap, sym, ◌∙◌, inl, inr, arith, subst, eq-eqb}
+use Rattle.std.proofs.lemmas.Bool.{cases_Bool, false≢true, or_cases}
 use Rattle.std.proofs.lemmas.Bool.Decides.{eqb_tells}
+use Rattle.list_law.proofs.Tests.{not_both}
 use Rattle.phi_copies.specs.declared.moves.Move.{Move}
 use Rattle.phi_copies.specs.Sequence.{Pair, target, no_pair, pair_at, HaveOwnTargets, is_var, sets, is_set, spare_of, is_save, saves, reads, readers, IsLeft, AreNext, IsCopyNext, IsSaveNext}
 use Rattle.phi_copies.specs.Cycles.{Leads, IsOnCycle, is_spared, HasSpare, IsSpared, HasSpares}
-use Rattle.phi_copies.proofs.Reading.{as_number, or_cases, not_both, sets_move, after_move, save_move, saves_cons, same_place, some_reader, reads_of}
+use Rattle.phi_copies.proofs.Reading.{as_number, sets_move, after_move, save_move, saves_cons, same_place, some_reader, reads_of}
 use Rattle.phi_copies.proofs.Counted.{count_except}
 use Rattle.phi_copies.proofs.Walks.{leads_back, leads_last, leads_join}
 use Rattle.phi_copies.proofs.Stuck.{stuck_cycle, stuck_left, stuck_unspared}
@@ -120,10 +121,6 @@ spared_count ps (m ∷ h) own next =
 -- once a pair of a cycle is copied, one of them has a spare
 spared_stays : (ps : List Pair) (m : Move) (h : List Move) (i : ℕ) → AreNext ps (m ∷ h) → IsSpared ps h i → IsSpared ps (m ∷ h) i
 spared_stays ps m h i next s = record { at = s.at; steps = s.steps; leads = s.leads; has = spare_stays ps m h s.at next s.has }
-
-none_is : (o : Option ℕ) → is_some o ≡ false → o ≡ None
-none_is None e = refl
-none_is (Some k) e = absurd (false≢true (sym e))
 
 pub copied_spared : (ps : List Pair) (h : List Move) → HaveOwnTargets ps → AreNext ps h → (i n j : ℕ) → IsOnCycle ps i → Leads ps n i j → j < length ps → is_set h (target (pair_at ps j)) ≡ true → IsSpared ps h i
 copied_spared ps [] own next i n j cycle leads small set = absurd (false≢true set)

@@ -1,22 +1,21 @@
 -- What is known before the first move.
-use Rattle.std.proofs.Common.{◌≡◌, ◌<◌, ◌≤◌, ◌+◌, ℕ, Bool, true, false, cond, Option, None, Some, List, [], ◌∷◌, ◌++◌, length, take, reverse, get_or, refl, ap, sym, ◌∙◌, inl, inr, arith, count_by}
+use Rattle.std.proofs.Common.{◌≡◌, ◌<◌, ◌≤◌, ◌+◌, ℕ, Bool, true, cond, Option, None, Some, List, [], ◌∷◌, ◌++◌, length, take, reverse, get_or, refl, ap, sym, ◌∙◌, inl, inr, arith, count_by}
 use Rattle.std.specs.Option.{is_some, IfSome}
-use Rattle.std.specs.Ordering.{nat_cmp, is_eq, is_gt}
+use Rattle.std.specs.Ordering.{nat_cmp, is_eq}
 use Rattle.std.specs.List.{list_any}
 use Rattle.std.proofs.lemmas.List.{take_all, reverse-append, length-take-le}
 use Rattle.std.proofs.lemmas.List.Sums.{sum_by_more, count_by-le-length}
-use Rattle.std.proofs.lemmas.Bool.Decides.{nat_tests, eqb_tells}
+use Rattle.std.proofs.lemmas.Bool.Decides.{eqb_tells}
+use Rattle.std.proofs.lemmas.Option.{same_Some}
+use Rattle.list_law.proofs.Tests.{not_both}
 use Rattle.phi_copies.specs.declared.moves.Src.{Src}
 use Rattle.phi_copies.specs.declared.moves.Src.TheVariants.{Var as Variable, Constant}
 use Rattle.phi_copies.specs.declared.moves.Move.{Move}
 use Rattle.phi_copies.specs.Sequence.{Pair, target, no_pair, pair_at, HaveOwnTargets, reads, readers}
 use Rattle.phi_copies.specs.Kept.{ArePlaces, unless_saved, source_place, AreCounts, AreBelow, AreReady, is_place, IsAdded, IsState}
-use Rattle.phi_copies.proofs.Reading.{as_number, not_both}
+use Rattle.phi_copies.proofs.Reading.{as_number}
 use Rattle.phi_copies.proofs.Saved.{cmp_same, cmp_other, cond_true, cond_false}
 use Rattle.phi_copies.proofs.Copied.{reads_source, enough_readers}
-
-some_is : (j k : ℕ) → Some j ≡ Some k → j ≡ k
-some_is j k e = cc
 
 -- one more place
 pub places_more : (ps : List Pair) (i : ℕ) (before after : ℕ → Option ℕ) → ArePlaces ps i before
@@ -26,7 +25,7 @@ places_more ps i before after are added = record {
       elim (eqb_tells (target (pair_at ps i)) v) [
         | inl w ↦
             let now : after v ≡ Some i = added v ∙ cond_true (is_eq (nat_cmp (target (pair_at ps i)) v)) (Some i) (before v) (cmp_same (target (pair_at ps i)) v w.1) in
-            let same : i ≡ k = some_is i k (sym now ∙ e) in
+            let same : i ≡ k = same_Some i k (sym now ∙ e) in
             (omega (arith, same), ap (λ j. target (pair_at ps j)) (sym same) ∙ w.1)
         | inr w ↦
             let now : after v ≡ before v = added v ∙ cond_false (is_eq (nat_cmp (target (pair_at ps i)) v)) (Some i) (before v) (cmp_other (target (pair_at ps i)) v w.1) in
@@ -119,10 +118,6 @@ enough_source ps h counts left ready places spares n i own are state here =
     if_some_more (λ j. j < length ps) (λ j. 0 < get_or counts j 0) (source_place places spares (pair_at ps i).1)
     (λ j e small. enough_readers ps h counts left ready places spares n i j own are state here e small)
     (source_inside ps places spares (pair_at ps i).1 are)
-
--- what a lower bound says of a number
-pub least_is : (q p : ℕ) → is_gt (nat_cmp q p) ≡ false → q ≤ p
-least_is q p h = grind (arith, nat_tests, h)
 
 -- a set without keys has none
 pub none_in : (keys : List ℕ) → length keys ≡ 0 → (j : ℕ) → list_any (λ k. is_eq (nat_cmp j k)) keys ≡ true → ⊥

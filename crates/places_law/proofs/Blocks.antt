@@ -1,9 +1,7 @@
 -- The block variables of a conforming module are placed, where no rule on layout is broken.
-use Rattle.std.proofs.Common.{◌≡◌, ◌≤◌, ◌⊎◌, ◌==◌, ◌||◌, ◌&&◌, ℕ, zero, suc, Bool, true, false, List, [], ◌∷◌, length, Option, Some, None, inl, inr, refl, sym, ap, subst, ◌∙◌, if◌then◌else◌, unwrap_or, arith}
+use Rattle.std.proofs.Common.{◌≡◌, ◌≤◌, ◌⊎◌, ◌==◌, ◌||◌, ◌&&◌, ℕ, zero, suc, Bool, true, false, List, [], ◌∷◌, length, Option, Some, None, inl, inr, refl, sym, ap, subst, ◌∙◌, if◌then◌else◌, unwrap_or}
 use Rattle.std.specs.Prelude.{count_by, option_map, option_and_then, slice_index}
 use Rattle.std.specs.Option.{option_map_or}
-use Rattle.std.specs.List.{list_any}
-use Rattle.std.proofs.lemmas.Bool.Decides.{nat_tests}
 use Rattle.std.proofs.lemmas.Bool.{not-false}
 use Rattle.std.proofs.lemmas.Option.{same_Some}
 use Rattle.spv_words.specs.declared.rule.Rule.{Rule}
@@ -40,7 +38,7 @@ use Rattle.type_law.proofs.Vectors.{three_off}
 use Rattle.typed_law.specs.Conforms.{IsConforming}
 use Rattle.typed_law.proofs.Lists.{and_left, and_right, and_off, found_in, none_at_fault}
 use Rattle.typed_law.proofs.Types.{row_is}
-use Rattle.typed_law.proofs.Used.{struct_part, IsMemberSized, member_sized}
+use Rattle.typed_law.proofs.Used.{struct_part, IsMemberSized, member_sized, first_among}
 use Rattle.typed_law.proofs.Calls.{class_is, global_variable_is, global_points}
 use Rattle.memory_places.specs.Capped.{most_variables}
 use Rattle.narrow_law.specs.Low.{IsFineMember}
@@ -50,9 +48,6 @@ use Rattle.places_law.specs.Pointing.{ArePlaced}
 use Rattle.places_law.proofs.Seen.{seen_is, seen_class}
 
 -- the members of a struct are the parts of its type
-among_first : (id : ℕ) (ids : List ℕ) → is_among (id ∷ ids) id ≡ true
-among_first id ids = ap (λ b. b || list_any (λ other. other == id) ids) (let same : (id == id) ≡ true = grind (arith, nat_tests) in same)
-
 among_more : (other id : ℕ) (ids : List ℕ) → is_among ids id ≡ true → is_among (other ∷ ids) id ≡ true
 among_more other id ids e = by_test (other == id)
   where
@@ -68,7 +63,7 @@ nth_among f [] ts i u e at = absurd (no_nth i u (subst (λ x. nth_of x i ≡ Som
 nth_among f (id ∷ ids) ts i u e at = by_trees (f id) (all_trees f ids) refl e (λ us j more there. nth_among f ids us j u more there)
   where
     by_index : (x : Tree) (us : Trees) (j : ℕ) → nth_of (tree x us) j ≡ Some u → ((k : ℕ) → nth_of us k ≡ Some u → is_among ids (slice_index ids k) ≡ true) → is_among (id ∷ ids) (slice_index (id ∷ ids) j) ≡ true
-    by_index x us zero there next = among_first id ids
+    by_index x us zero there next = first_among id ids
     by_index x us (suc j) there next = among_more id (slice_index ids j) ids (next j there)
 
     by_trees : (o : Option Tree) (q : Option Trees) → all_trees f ids ≡ q → both o q ≡ Some ts → ((us : Trees) (j : ℕ) → all_trees f ids ≡ Some us → nth_of us j ≡ Some u → is_among ids (slice_index ids j) ≡ true) → is_among (id ∷ ids) (slice_index (id ∷ ids) i) ≡ true

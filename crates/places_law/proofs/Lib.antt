@@ -1,5 +1,4 @@
 mod Seen
-pub mod Changes
 pub mod Steps
 pub mod Numbers
 pub mod Blocks

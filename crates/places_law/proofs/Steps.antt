@@ -29,12 +29,12 @@ use Rattle.fits_law.proofs.Operations.{before_some}
 use Rattle.type_law.specs.Shaped.{AreConstants}
 use Rattle.typed_law.specs.Runs.{LeadsOn}
 use Rattle.agree_law.specs.Agree.{IfPointer}
+use Rattle.agree_law.proofs.Along.{put_along, phis_along, without_along, AllHeld, arguments_along}
 use Rattle.narrow_law.specs.Reach.{Along}
 use Rattle.narrow_law.proofs.Inside.{allowed_along}
 use Rattle.narrow_law.proofs.Scalars.{along_more}
 use Rattle.narrow_law.proofs.Places.{no_names}
 use Rattle.places_law.specs.Pointing.{GoesAlong, IdsAlong, CallsAlong, IsAlong}
-use Rattle.places_law.proofs.Changes.{put_along, phis_along, without_along, AllHeld, arguments_along}
 
 module _ (s : Setting) where
   abbrev Gs : List Inst

@@ -24,13 +24,13 @@ abbrev at_least : Told → ℕ → ℕ
 at_least k n = unwrap_or (k n) 0
 
 -- one mention raises what mentions it, and nothing else
-told_here : (k : Told) (m h n : ℕ) → m ≡ n → with_told k m h n ≡ Some h
-told_here k m h n same = ap (λ (b : Bool). elim b as (λ b. Option ℕ) [ true ↦ Some h | false ↦ k n ]) (elim (eqb_tells m n) [ inl w ↦ w.0 | inr w ↦ absurd (w.1 same) ])
+told_here : {A : Type 0} (k : ℕ → Option A) (m : ℕ) (h : A) (n : ℕ) → m ≡ n → with_told k m h n ≡ Some h
+told_here {A} k m h n same = ap (λ (b : Bool). elim b as (λ b. Option A) [ true ↦ Some h | false ↦ k n ]) (elim (eqb_tells m n) [ inl w ↦ w.0 | inr w ↦ absurd (w.1 same) ])
 
-told_other : (k : Told) (m h n : ℕ) → (m ≡ n → ⊥) → with_told k m h n ≡ k n
-told_other k m h n apart =
+told_other : {A : Type 0} (k : ℕ → Option A) (m : ℕ) (h : A) (n : ℕ) → (m ≡ n → ⊥) → with_told k m h n ≡ k n
+told_other {A} k m h n apart =
     let off : (m == n) ≡ false = elim (eqb_tells m n) [ inl w ↦ absurd (apart w.1) | inr w ↦ w.0 ] in
-    ap (λ (b : Bool). elim b as (λ b. Option ℕ) [ true ↦ Some h | false ↦ k n ]) off
+    ap (λ (b : Bool). elim b as (λ b. Option A) [ true ↦ Some h | false ↦ k n ]) off
 
 raised_other : (h n : ℕ) (k : Told) (o : Option Inst) → IfSome o (λ (i : Inst). i.result ≡ n → ⊥) → raised_by h k o n ≡ k n
 raised_other h n k None apart = refl
@@ -128,21 +128,13 @@ module _ (gs : List Inst) (f : Function) where
 
   form_later : (k : Known) (ps : List Placed) (n : ℕ) → NoneIs n ps → (fold (with_result gs f) k ps).forms n ≡ k.forms n
   form_later k [] n apart = refl
-  form_later k (p ∷ ps) n apart = form_later (with_result gs f k p) ps n apart.1 ∙ other_form k.forms p.result (form_with gs f k.operands p) n apart.0
-    where
-      other_form : (t : ℕ → Option Form) (m : ℕ) (x : Form) (n : ℕ) → (m ≡ n → ⊥) → with_told t m x n ≡ t n
-      other_form t m x n apart =
-          let off : (m == n) ≡ false = elim (eqb_tells m n) [ inl w ↦ absurd (apart w.1) | inr w ↦ w.0 ] in
-          ap (λ (b : Bool). elim b as (λ b. Option Form) [ true ↦ Some x | false ↦ t n ]) off
+  form_later k (p ∷ ps) n apart = form_later (with_result gs f k p) ps n apart.1 ∙ told_other k.forms p.result (form_with gs f k.operands p) n apart.0
 
   form_here : (k : Known) (front back : List Placed) (p : Placed) → NoneIs p.result back → (fold (with_result gs f) k (front ++ p ∷ back)).forms p.result ≡ Some (form_with gs f (fold W k.operands front) p)
   form_here k front back p apart =
       ap (λ (t : Known). t.forms p.result) (forms_both k front (p ∷ back))
       ∙ (form_later (with_result gs f (fold (with_result gs f) k front) p) back p.result apart
-      ∙ (same_form (fold (with_result gs f) k front).forms p.result (form_with gs f (fold (with_result gs f) k front).operands p) ∙ ap (λ (t : Told). Some (form_with gs f t p)) (heights_of k front)))
-    where
-      same_form : (t : ℕ → Option Form) (m : ℕ) (x : Form) → with_told t m x m ≡ Some x
-      same_form t m x = ap (λ (b : Bool). elim b as (λ b. Option Form) [ true ↦ Some x | false ↦ t m ]) (elim (eqb_tells m m) [ inl w ↦ w.0 | inr w ↦ absurd (w.1 refl) ])
+      ∙ (told_here (fold (with_result gs f) k front).forms p.result (form_with gs f (fold (with_result gs f) k front).operands p) p.result refl ∙ ap (λ (t : Told). Some (form_with gs f t p)) (heights_of k front)))
 
   -- what is forwarded has no variable
   not_named : (b : Bool) (p : Placed) → form_by f b p ≡ Forwarded → b ≡ false

@@ -30,14 +30,9 @@ use Rattle.use_chains.specs.Links.{Link, chain, link_of, AreLiveLinks}
 use Rattle.hoist_plan.specs.Plan.{Placed, user, mentions_of, result_of, results_of_block, results}
 use Rattle.list_law.proofs.Numbers.{less_of}
 use Rattle.list_law.proofs.Tests.{not_both, or_left, or_right, and_right, and_left, but_not}
+use Rattle.list_law.proofs.Lists.{same_first, same_rest}
 use Rattle.plan_law.specs.Ordered.{NoOperand, NoneMentioned, NoneIs, AreOrdered}
 use Rattle.plan_law.specs.InOrder.{IsAmong, AreRising, HaveNot, AreApart, IsOwn, AreInOrder}
-
-same_first : (q p : Placed) (ps back : List Placed) → q ∷ ps ≡ p ∷ back → q ≡ p
-same_first q p ps back e = cc
-
-same_rest : (q p : Placed) (ps back : List Placed) → q ∷ ps ≡ p ∷ back → ps ≡ back
-same_rest q p ps back e = cc
 
 -- lists of instructions
 pub among_left : (i : Inst) (xs ys : List Inst) → IsAmong i xs → IsAmong i (xs ++ ys)

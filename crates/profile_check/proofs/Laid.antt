@@ -7,6 +7,7 @@ use Rattle.std.proofs.lemmas.List.{take_all}
 use Rattle.std.proofs.lemmas.List.Elements.{All-contains, All-more}
 use Rattle.std.proofs.lemmas.Bool.Decides.{eqb_tells, nat_tests}
 use Rattle.std.proofs.lemmas.Bool.{and_parts}
+use Rattle.std.proofs.lemmas.Option.{same_Some}
 use Rattle.spv_words.specs.declared.rule.Rule.{Rule}
 use Rattle.spv_ops.specs.Enumerants.{class_number}
 use Rattle.spv_ops.specs.Opcode.{is}
@@ -45,13 +46,10 @@ some_is : (o : Option Inst) → is_some o ≡ true → (block : Inst) × (o ≡ 
 some_is None e = cc
 some_is (Some block) e = (block, refl)
 
-some_same : (p q : ℕ) → Some p ≡ Some q → p ≡ q
-some_same p q e = cc
-
 one_struct : (gs : List Inst) (o : Option ℕ) (p q : ℕ) (block : Inst) → o ≡ Some p → o ≡ Some q → option_and_then as_struct (global gs p) ≡ Some block → option_and_then as_struct (global gs q) ≡ Some block
 one_struct gs o p q block first second at =
     let Q : ℕ → Type 0 = λ r. option_and_then as_struct (global gs r) ≡ Some block in
-    subst Q (some_same p q (sym first ∙ second)) at
+    subst Q (same_Some p q (sym first ∙ second)) at
 
 -- the block of the variable with a struct
 block_at : (gs : List Inst) (class : ℕ) (v : Inst) (p : ℕ) → struct_by gs class v ≡ Some p → (block : Inst) × (block_of gs v ≡ Some block) × (slice_index v.args 0 ≡ class) × (option_and_then as_struct (global gs p) ≡ Some block)

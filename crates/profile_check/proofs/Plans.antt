@@ -5,7 +5,7 @@ use Rattle.std.specs.List.{find, filter}
 use Rattle.std.specs.Option.{option_map_or}
 use Rattle.std.proofs.lemmas.List.{map-append}
 use Rattle.std.proofs.lemmas.List.Elements.{filter_more}
-use Rattle.std.proofs.lemmas.Bool.{eqb-true}
+use Rattle.std.proofs.lemmas.Bool.{eqb-true, false_from_ne_true}
 use Rattle.spv_words.specs.declared.rule.Rule.{Rule}
 use Rattle.spv_module.specs.Held.{global}
 use Rattle.spv_module.specs.State.{ModuleState}
@@ -27,13 +27,9 @@ block_some : (gs : List Inst) (o : Option Inst) → option_map_or (λ (v : Inst)
 block_some gs None e = cc
 block_some gs (Some v) e = e
 
-false_unless : (b : Bool) → (b ≡ true → ⊥) → b ≡ false
-false_unless true h = absurd (h refl)
-false_unless false h = refl
-
 -- another id does not
 pub fails : (gs : List Inst) (id : ℕ) → (IsBlockVariable gs id → ⊥) → is_block_variable gs id ≡ false
-fails gs id h = false_unless (is_block_variable gs id) (λ e. h (block_some gs (global gs id) e))
+fails gs id h = false_from_ne_true (is_block_variable gs id) (λ e. h (block_some gs (global gs id) e))
 
 one_more : (m : ModuleState) (ids : List ℕ) (plans : List BlockPlan) (id : ℕ) (plan : BlockPlan) → ArePlans m ids plans → IsPlanned m id plan → ArePlans m (ids ++ id ∷ []) (plans ++ plan ∷ [])
 one_more m [] [] id plan h is = (is, tt)

@@ -5,12 +5,10 @@ use Rattle.std.proofs.lemmas.Bool.{false_from_ne_true}
 use Rattle.spv_types.specs.Tree.{ValueTree}
 use Rattle.glsl_ast.specs.Tree.{Text}
 use Rattle.glsl_semantics.specs.States.{Variable, Frame, State, found, has, or_outer, found_in, has_in, put_first, put_in, declared, popped}
+pub use Rattle.list_law.proofs.Lists.{same_bytes as own_text}
 
 pub same_text : (x y : Text) → bytes_eq x y ≡ true → x ≡ y
 same_text x y e = (bytes_eq-Decides x y).0 e
-
-pub own_text : (x : Text) → bytes_eq x x ≡ true
-own_text x = (bytes_eq-Decides x x).1 refl
 
 pub other_text : (x y : Text) → x ≢ y → bytes_eq x y ≡ false
 other_text x y ne = false_from_ne_true (bytes_eq x y) (λ e. ne (same_text x y e))

@@ -6,9 +6,10 @@ use Rattle.std.proofs.lemmas.Bool.Decides.{eqb_tells}
 use Rattle.std.specs.Prelude.{nat_eq, cond}
 use Rattle.std.specs.Option.{option_to_list, option_map_or}
 use Rattle.std.specs.Map.{update, update_all}
+use Rattle.std.proofs.lemmas.Option.{same_Some}
 use Rattle.spv_types.specs.Tree.{ValueTree, truth}
 use Rattle.glsl_ast.specs.Tree as tree
-use Rattle.glsl_ast.specs.Tree.{Text, Expr, name, not, literal, Stmt, when, either, stmts_in, Stmts, stmt, no_stmts, declare, assign, lvalue, give}
+use Rattle.glsl_ast.specs.Tree.{Text, Expr, name, not, Stmt, when, either, stmts_in, Stmts, give}
 use Rattle.glsl_ast.specs.declared.statements.Label.{Label}
 use Rattle.structure_rules.specs.declared.graph.EdgeKind.{EdgeKind}
 use Rattle.structure_rules.specs.declared.graph.EdgeKind.TheVariants.{Enter, Merge, SwitchBreak, Break, Continue, Back, Fall}
@@ -25,6 +26,7 @@ use Rattle.glsl_semantics.specs.States.{Variable, Frame, State, has, found_in, p
 use Rattle.glsl_semantics.specs.Expressions.{Program, Argument, named, evaluate}
 use Rattle.glsl_semantics.specs.Statements.{Run, closed, in_braces, stmt_run, stmts_run, arms_run, arms_from}
 use Rattle.glsl_semantics.proofs.Appended.{run_append, OnOutcome}
+use Rattle.list_law.proofs.Options.{none_some}
 use Rattle.region_law.specs.Leads.{Term, jump, branch, table, return, lost, Ways, if_there, out_of, IsBlock, IsItem, IsEdge, Fresh, FreshIf, EdgeLeads, PlainLeads, BreakLeads, BackLeads, Leads, In, AreApart, AreInOrder, IsOrder, FreshGroups, FreshBodies, FellFresh, GroupsLead, OutLeads, in_case, out_if}
 use Rattle.region_law.proofs.Flags.{same_text, own_text, other_text, top_has, found_popped, found_declared, other_declared, found_put, other_put, in_found}
 
@@ -34,6 +36,13 @@ Flags = Text → Option (Option Bool)
 
 abbrev upd : Flags → Text → Option Bool → Flags
 upd f x v y = elim (bytes_eq x y) [ true ↦ Some v | false ↦ f y ]
+
+-- the entry that is changed, and another
+pub update_own : {X : Type 0} (f : ℕ → Option X) (j u : ℕ) (x : Option X) → j ≡ u → update nat_eq f j x u ≡ x
+update_own f j u x same = elim (eqb_tells j u) [ inl e ↦ ap (λ b. cond b x (f u)) e.0 | inr e ↦ absurd (e.1 same) ]
+
+pub update_apart : {X : Type 0} (f : ℕ → Option X) (j u : ℕ) (x : Option X) → (j ≡ u → ⊥) → update nat_eq f j x u ≡ f u
+update_apart f j u x ne = elim (eqb_tells j u) [ inl e ↦ absurd (ne e.1) | inr e ↦ ap (λ b. cond b x (f u)) e.0 ]
 
 upd_own : (f : Flags) (x : Text) (v : Option Bool) → upd f x v x ≡ Some v
 upd_own f x v = rw (own_text x, upd) refl
@@ -572,12 +581,6 @@ module _ (C : Type 0) (step : C → Move C) (p : Program) (calls : Text → List
         by_way (inr (inl g)) = subst Goal (sym (conditional_run (w.condition b) xs ys s false g.0)) (after_going (Next o f ns v) (Left o f ns v) (At o f ns v.again) (Ended ns) (weight y) c (in_braces (runs ys) s) (λ d. Arrives b e d s) g.1 (enter 1 y e ey (w.target b 1) to1 fy))
         by_way (inr (inr q)) = inr (fails_now C step c _ q)
 
-    none_some : {A : Type 0} {a : A} → None ≡ Some a → ⊥
-    none_some e = cc
-
-    some_same : {A : Type 0} {a b : A} → Some a ≡ Some b → a ≡ b
-    some_same e = cc
-
     at_same : (o f : Flags) (ns : List (List Text)) (m : Option ℕ) (t : ℕ) (d : C) (z : State) → m ≡ Some t → Start t d z → K o f ns z → At o f ns m d z
     at_same o f ns m t d z is start on = record { to = t; is = is; start = start; on = on }
 
@@ -598,12 +601,12 @@ module _ (C : Type 0) (step : C → Move C) (p : Program) (calls : Text → List
             (inl (lands (λ d. Left o f ns v d (flagged s l true)) c (inr (record { flag = l; to = t; is = is; start = ok.start_puts t c s l true (on.flag l (Some false) known) start; set = found_put s.frames l (flag_variable false) (truth true) was; on = on_set IsFlag o f ns s l true (Some false) known None (inl refl) on }))))
 
         by_flag : (q : Option Text) (l : Text) → q ≡ Some l → v.out ≡ Some (l, t) → F o f ns v 0 c (runs (flags (λ x. set_flag x true ∷ []) q ++ (tree.leave ∷ [])) s)
-        by_flag None l e is = absurd (none_some e)
-        by_flag (Some x) l e is = flagged_break x (is ∙ ap (λ y. Some (y, t)) (sym (some_same e)))
+        by_flag None l e is = none_some e
+        by_flag (Some x) l e is = flagged_break x (is ∙ ap (λ y. Some (y, t)) (sym (same_Some _ _ e)))
 
         by_loop : (q : Option ℕ) (h : ℕ) (l : Text) → q ≡ Some h → w.leave h ≡ Some l → v.out ≡ Some (l, t) → F o f ns v 0 c (runs (leave_loop w q ++ (tree.leave ∷ [])) s)
-        by_loop None h l e g is = absurd (none_some e)
-        by_loop (Some j) h l e g is = by_flag (w.leave j) l (ap w.leave (some_same e) ∙ g) is
+        by_loop None h l e g is = none_some e
+        by_loop (Some j) h l e g is = by_flag (w.leave j) l (ap w.leave (same_Some _ _ e) ∙ g) is
 
         by_switch : (b : Bool) (q : Option ℕ) → BreakLeads w term falls Cases v q t b → F o f ns v 0 c (runs ((if b then leave_loop w q else []) ++ (tree.leave ∷ [])) s)
         by_switch true q g = by_loop q g.0 g.1 g.2 g.3 g.4
@@ -617,14 +620,14 @@ module _ (C : Type 0) (step : C → Move C) (p : Program) (calls : Text → List
     edge_follows Fall pl o f ns v t c s ready h start on = by_flag (w.fell t) refl
       where
         by_flag : (q : Option Text) → w.fell t ≡ q → F o f ns v 0 c (runs (flags (λ x. set_flag x true ∷ []) q) s)
-        by_flag None e = inl (lands (λ d. Next o f ns v d s) c (inr (record { to = t; is = h; start = start; on = on; set = λ x g. absurd (none_some (sym e ∙ g)) })))
+        by_flag None e = inl (lands (λ d. Next o f ns v d s) c (inr (record { to = t; is = h; start = start; on = on; set = λ x g. none_some (sym e ∙ g) })))
         by_flag (Some x) e =
             let known = ready.fall t x h e in
             let was = on.some x known in
             let set = found_put s.frames x (flag_variable was.0) (truth true) was.1 in
             let now : K o f ns (flagged s x true) = on_sub IsFlag o f (upd f x None) ns (flagged s x true) (λ y u g. inl (same y u g)) (on_set IsFlag o f ns s x true None known None (inl refl) on) in
             normal_then (Next o f ns v) (Left o f ns v) (At o f ns v.again) (Ended ns) 0 c (set_flag x true) [] s (flagged s x true) (set_run s x true was.0 was.1)
-            (inl (lands (λ d. Next o f ns v d (flagged s x true)) c (inr (record { to = t; is = h; start = ok.start_puts t c s x true (on.flag x None known) start; on = now; set = λ y g. subst (λ j. Has j true (flagged s x true)) (some_same (sym e ∙ g)) set }))))
+            (inl (lands (λ d. Next o f ns v d (flagged s x true)) c (inr (record { to = t; is = h; start = ok.start_puts t c s x true (on.flag x None known) start; on = now; set = λ y g. subst (λ j. Has j true (flagged s x true)) (same_Some _ _ (sym e ∙ g)) set }))))
           where
             same : (y : Text) (u : Option Bool) → f y ≡ Some u → upd f x None y ≡ Some u
             same y u g = by_name (cases_Bool (bytes_eq x y))
@@ -634,8 +637,8 @@ module _ (C : Type 0) (step : C → Move C) (p : Program) (calls : Text → List
                 by_name (inr off) = upd_other f x y None (λ eq. both_ways (bytes_eq x y) off (subst (λ j. bytes_eq x j ≡ true) eq (own_text x))) ∙ g
 
     if_own : (f : Flags) (q : Option Text) (x : Text) (v : Option Bool) → q ≡ Some x → if_flag f q v x ≡ Some v
-    if_own f None x v e = absurd (none_some e)
-    if_own f (Some y) x v e = subst (λ j. upd f y v j ≡ Some v) (some_same e) (upd_own f y v)
+    if_own f None x v e = none_some e
+    if_own f (Some y) x v e = subst (λ j. upd f y v j ≡ Some v) (same_Some _ _ e) (upd_own f y v)
 
     if_other : (f : Flags) (q : Option Text) (x : Text) (v : Option Bool) → q ≢ Some x → if_flag f q v x ≡ f x
     if_other f None x v ne = refl
@@ -646,17 +649,17 @@ module _ (C : Type 0) (step : C → Move C) (p : Program) (calls : Text → List
     if_tells f (Some y) x v u e = ⊎_elim (λ h. inl (ap Some h.0)) (λ h. inr h.1) (upd_tells f y x v u e)
 
     fresh_if : (q : Option Text) (x : Text) (r : Region) → FreshIf w term falls Cases q r → q ≡ Some x → Fresh w term falls Cases x r
-    fresh_if None x r h e = absurd (none_some e)
-    fresh_if (Some y) x r h e = subst (λ j. Fresh w term falls Cases j r) (some_same e) h
+    fresh_if None x r h e = none_some e
+    fresh_if (Some y) x r h e = subst (λ j. Fresh w term falls Cases j r) (same_Some _ _ e) h
 
     none_or : {A : Type 0} (m : Option A) → ((a : A) → m ≡ Some a → ⊥) → m ≡ None
     none_or None h = refl
     none_or (Some a) h = absurd (h a refl)
 
     out_flag : (q : Option Text) (m : Option ℕ) (l : Text) (t : ℕ) → out_of q m ≡ Some (l, t) → (q ≡ Some l) × (m ≡ Some t)
-    out_flag None m l t e = absurd (none_some e)
-    out_flag (Some y) None l t e = absurd (none_some e)
-    out_flag (Some y) (Some n) l t e = let pair = some_same e in (ap (λ p. Some p.0) pair, ap (λ p. Some p.1) pair)
+    out_flag None m l t e = none_some e
+    out_flag (Some y) None l t e = none_some e
+    out_flag (Some y) (Some n) l t e = let pair = same_Some _ _ e in (ap (λ p. Some p.0) pair, ap (λ p. Some p.1) pair)
 
     same_within : (f : Flags) → Within f f
     same_within f x v e = (v, e)
@@ -717,7 +720,7 @@ module _ (C : Type 0) (step : C → Move C) (p : Program) (calls : Text → List
         record { to = out.to; is = q.1; start = out.start; on = on_sub IsFlag o f (upd g out.flag None) ns z (λ x u e. let y = sub x u e in inl (upd_other g out.flag x None (λ same. y.0 (q.0 ∙ ap Some same)) ∙ y.1)) out.on }
 
     loop_ready : (g : Flags) (h : ℕ) (n m a : Option ℕ) → ((l : Text) → w.leave h ≡ Some l → g l ≡ Some (Some false)) → Ready g (loop_ways h n m a)
-    loop_ready g h n m a known = record { out = λ l t e. known l (out_flag (w.leave h) m l t e).0; fall = λ t x e q. absurd (none_some e) }
+    loop_ready g h n m a known = record { out = λ l t e. known l (out_flag (w.leave h) m l t e).0; fall = λ t x e q. none_some e }
 
     -- a loop without a continue construct
     loop_follows : (h : ℕ) (x : Region) (o f : Flags) (ns : List (List Text)) (m : Option ℕ) (v : Ways) (c : C) (s : State) → IsBlock x → IsItem x → w.again h ≡ None
@@ -754,9 +757,9 @@ module _ (C : Type 0) (step : C → Move C) (p : Program) (calls : Text → List
         turn_follows : (d : C) (z : State) → H d z → Follows C step State (Option Typed) H (At o f ns m) H (Ended ns) 1 k d (in_braces (runs inside) z)
         turn_follows d z h' =
             mapped (Next o g ns ways) (Left o g ns ways) (At o g ns (Some h)) H (At o f ns m) H (Ended ns) (Ended ns) 1 d (in_braces (runs inside) z)
-            (λ e q n. ⊎_elim (λ a. absurd (none_some a.is)) (λ a. absurd (none_some a.is)) n)
+            (λ e q n. ⊎_elim (λ a. none_some a.is) (λ a. none_some a.is) n)
             (λ e q l. behind_loop o f g ns h None m (Some h) e q sub l)
-            (λ e q a. (subst (λ j. Start j e q) (sym (some_same a.is)) a.start, a.on))
+            (λ e q a. (subst (λ j. Start j e q) (sym (same_Some _ _ a.is)) a.start, a.on))
             (λ e r q y. y)
             (braces_follow o g g ns ways 1 d z (runs inside) h'.1 (same_within g) ready
             (subst (λ u. F g g (names_of z.frames) ways u d (runs inside (pushed z))) (weight_is x block)
@@ -864,9 +867,9 @@ module _ (C : Type 0) (step : C → Move C) (p : Program) (calls : Text → List
         H_of : (d : C) (z : State) → F o f3 ns vx 1 d (in_braces (runs inside) z) → Follows C step State (Option Typed) H (At o f ns m) H (Ended ns) 1 k d (in_braces (runs inside) z)
         H_of d z h' =
             mapped (Next o f3 ns vx) (Left o f3 ns vx) (At o f3 ns (Some e)) H (At o f ns m) H (Ended ns) (Ended ns) 1 d (in_braces (runs inside) z)
-            (λ e q n. ⊎_elim (λ a. absurd (none_some a.is)) (λ a. absurd (none_some a.is)) n)
+            (λ e q n. ⊎_elim (λ a. none_some a.is) (λ a. none_some a.is) n)
             (λ d q l. behind_loop o f f3 ns h None m (Some e) d q f3_more l)
-            (λ d q at. inr (subst (λ j. Start j d q) (sym (some_same at.is)) at.start, at.on))
+            (λ d q at. inr (subst (λ j. Start j d q) (sym (same_Some _ _ at.is)) at.start, at.on))
             (λ e r q y. y) h'
 
         turn_follows : (d : C) (z : State) → H d z → Follows C step State (Option Typed) H (At o f ns m) H (Ended ns) 1 k d (in_braces (runs inside) z)
@@ -889,8 +892,8 @@ module _ (C : Type 0) (step : C → Move C) (p : Program) (calls : Text → List
             H_of d z (braces_follow o f3 f3 ns vx 1 d z (runs inside) h'.1 (same_within f3) ready_x
             (part_then C step State (Option Typed) (Next f3 f3 ms vx) (Left f3 f3 ms vx) (At f3 f3 ms vx.again) (Ended ms) (At f3 f3 ms (Some h)) (weight y) 1 k d (runs (set_flag a true ∷ xt)) (stmt_run p calls k (when (name a) (stmts_in zt)) (pushed z))
             (mapped (Next f3 f3 ms vy) (Left f3 f3 ms vy) (At f3 f3 ms None) (At f3 f3 ms (Some h)) (Left f3 f3 ms vx) (Never C step State (Option Typed)) (Ended ms) (Ended ms) (weight y) d (stmt_run p calls k (when (name a) (stmts_in zt)) (pushed z))
-            (λ d q n. ⊎_elim (λ at. at) (λ at. absurd (none_some at.is)) n) (λ d q l. l) (λ d q at. absurd (none_some at.is)) (λ d r q i. i) first)
-            (λ d q at. body_follows f3 f3 ms d q (Some true) (same_within f3) (upd_own f2 a (Some true)) same_f3 (subst (λ j. Start j d q) (sym (some_same at.is)) at.start) at.on)))
+            (λ d q n. ⊎_elim (λ at. at) (λ at. none_some at.is) n) (λ d q l. l) (λ d q at. none_some at.is) (λ d r q i. i) first)
+            (λ d q at. body_follows f3 f3 ms d q (Some true) (same_within f3) (upd_own f2 a (Some true)) same_f3 (subst (λ j. Start j d q) (sym (same_Some _ _ at.is)) at.start) at.on)))
 
     -- a switch, and what is known in its groups
     abbrev fell_map : Flags → Groups → Option Bool → Flags
@@ -1029,12 +1032,6 @@ module _ (C : Type 0) (step : C → Move C) (p : Program) (calls : Text → List
                 subst (λ j. Goal (unless_fallen (entering w h u j) (Some y) ++ region_text w pl j)) (sym is)
                 (behind_flag (item i r) (subst (λ j. (d : C) (q : State) → Start u d q → K f f ms q → F f f ms v (weight x) d (runs (rest_text pl j) q)) is (ih ms)) tt refl)
 
-    update_apart : {X : Type 0} (f : ℕ → Option X) (j u : ℕ) (x : Option X) → (j ≡ u → ⊥) → update nat_eq f j x u ≡ f u
-    update_apart f j u x ne = elim (eqb_tells j u) [ inl e ↦ absurd (ne e.1) | inr e ↦ ap (λ b. cond b x (f u)) e.0 ]
-
-    update_own : {X : Type 0} (f : ℕ → Option X) (j u : ℕ) (x : Option X) → j ≡ u → update nat_eq f j x u ≡ x
-    update_own f j u x same = elim (eqb_tells j u) [ inl e ↦ ap (λ b. cond b x (f u)) e.0 | inr e ↦ absurd (e.1 same) ]
-
     module _ (o f : Flags) (ns : List (List Text)) (h : ℕ) (pl : Place) (v : Ways) (breaking : Bool) (m : Option ℕ) (t : ℕ) (q : List Label → Bool) where
       -- the group of a target, as it is written
       abbrev Found : (ℕ → Option tree.Arm) → ℕ → Type 0
@@ -1080,12 +1077,12 @@ module _ (C : Type 0) (step : C → Move C) (p : Program) (calls : Text → List
 
       -- what a group falls into follows
       from_follows : (ts : List ℕ) (fa : ℕ → Option tree.Arm) (j : ℕ) → AreApart ts → AreInOrder falls (j ∷ ts) → ((u : ℕ) → In u ts → Found fa u) → (d : C) (z : State) → Next o f ns (in_case w term falls Cases v breaking m j) d z → S 0 d (arms_from p calls k (tree.arms_in (in_order ts fa)) z)
-      from_follows [] fa j apart e all d z (inl a) = absurd (none_some a.is)
-      from_follows [] fa j apart e all d z (inr a) = absurd (none_some (sym e ∙ a.is))
-      from_follows (u ∷ ts) fa j apart e all d z (inl a) = absurd (none_some a.is)
+      from_follows [] fa j apart e all d z (inl a) = none_some a.is
+      from_follows [] fa j apart e all d z (inr a) = none_some (sym e ∙ a.is)
+      from_follows (u ∷ ts) fa j apart e all d z (inl a) = none_some a.is
       from_follows (u ∷ ts) fa j apart e all d z (inr a) =
           let g = all u (inl refl) in
-          let same : a.to ≡ u = ⊎_elim (λ never. absurd (none_some (sym never ∙ a.is))) (λ is. some_same (sym a.is ∙ is)) e.0 in
+          let same : a.to ≡ u = ⊎_elim (λ never. none_some (sym never ∙ a.is)) (λ is. same_Some _ _ (sym a.is ∙ is)) e.0 in
           let entry : Entry h u d z = inr (subst (λ y. Start y d z) same a.start, (λ y i. a.set y (ap w.fell same ∙ i)), (j, a.is ∙ ap Some same)) in
           subst (λ x. S 0 d (arms_from p calls k x z)) (sym (arms_step fa u ts g.0 g.1 g.2))
           (stmt_then C step State (Option Typed) (Never C step State (Option Typed)) (Left o f ns (in_case w term falls Cases v breaking m 0)) (At o f ns v.again) (Ended ns) (Next o f ns (in_case w term falls Cases v breaking m u)) 0 0 k d (arms_from p calls k (tree.arms_in (in_order ts (update nat_eq fa u None)))) (in_braces (runs g.1) z)
@@ -1134,9 +1131,9 @@ module _ (C : Type 0) (step : C → Move C) (p : Program) (calls : Text → List
 
     in_order_next : (ts : List ℕ) (u y : ℕ) → AreInOrder falls ts → In u ts → falls u ≡ Some y → In y ts
     in_order_next [] u y e i is = absurd i
-    in_order_next (t ∷ []) u y e (inl same) is = absurd (none_some (sym e ∙ ap falls (sym same) ∙ is))
+    in_order_next (t ∷ []) u y e (inl same) is = none_some (sym e ∙ ap falls (sym same) ∙ is)
     in_order_next (t ∷ []) u y e (inr i) is = absurd i
-    in_order_next (t ∷ j ∷ ts) u y e (inl same) is = ⊎_elim (λ never. absurd (none_some (sym never ∙ ap falls (sym same) ∙ is))) (λ to. inr (inl (some_same (sym is ∙ ap falls same ∙ to)))) e.0
+    in_order_next (t ∷ j ∷ ts) u y e (inl same) is = ⊎_elim (λ never. none_some (sym never ∙ ap falls (sym same) ∙ is)) (λ to. inr (inl (same_Some _ _ (sym is ∙ ap falls same ∙ to)))) e.0
     in_order_next (t ∷ j ∷ ts) u y e (inr i) is = inr (in_order_next (j ∷ ts) u y e.1 i is)
 
     fresh_groups : (gs : Groups) (u : ℕ) (y : Text) → FreshGroups w term falls Cases y gs → In u (targets gs) → w.fell u ≡ Some y → ⊥
@@ -1176,7 +1173,7 @@ module _ (C : Type 0) (step : C → Move C) (p : Program) (calls : Text → List
         lesser z on = on_sub IsFlag o fg f0 ns z (λ y u e. by_way y u (fell_tells gs f None u y e) e) on
           where
             by_way : (y : Text) (u : Option Bool) → ((t : ℕ) × (In t (targets gs) × (w.fell t ≡ Some y))) ⊎ (f y ≡ Some u) → fg y ≡ Some u → (f0 y ≡ Some u) ⊎ ((u ≡ None) × ((r : Option Bool) × (f0 y ≡ Some r)))
-            by_way y u (inl a) e = inr (some_same (sym e ∙ fell_has gs f None a.0 y a.1.0 a.1.1), (Some false, fell_has gs f (Some false) a.0 y a.1.0 a.1.1))
+            by_way y u (inl a) e = inr (same_Some _ _ (sym e ∙ fell_has gs f None a.0 y a.1.0 a.1.1), (Some false, fell_has gs f (Some false) a.0 y a.1.0 a.1.1))
             by_way y u (inr a) e = inl (fell_out gs f (Some false) y (apart y u a) ∙ a)
 
         -- what was known before is known behind
@@ -1209,7 +1206,7 @@ module _ (C : Type 0) (step : C → Move C) (p : Program) (calls : Text → List
         -- behind the switch
         rest_follows : (b : Bool) → breaking ≡ b → OutLeads w term falls Cases pl v b → (d : C) (z : State) → At o fg ns m d z ⊎ Out o fg ns (out_if w term falls Cases v b) d z → G (At o f ns m) (Left o f ns v) (At o f ns v.again) (Ended ns) 0 d (runs (behind_text w pl b) z)
         rest_follows false e ol d z (inl a) = inl (lands (λ d. At o f ns m d z) d (at_back m d z a))
-        rest_follows false e ol d z (inr a) = absurd (none_some a.is)
+        rest_follows false e ol d z (inr a) = none_some a.is
         rest_follows true e ol d z l =
             let flag_is : option_map_or w.leave pl.in_loop None ≡ Some ol.1 = ap (λ j. option_map_or w.leave j None) ol.3 ∙ ol.4 in
             subst (λ j. G (At o f ns m) (Left o f ns v) (At o f ns v.again) (Ended ns) 0 d (runs (leave_again j) z)) (sym flag_is) (by_side l)
@@ -1230,7 +1227,7 @@ module _ (C : Type 0) (step : C → Move C) (p : Program) (calls : Text → List
                 normal_then (At o f ns m) (Left o f ns v) (At o f ns v.again) (Ended ns) 0 d (when (name l0) (stmts_in (tree.leave ∷ []))) [] z z (when_run (name l0) (stmts_in (tree.leave ∷ [])) z false (test_run z l0 false off))
                 (inl (lands (λ d. At o f ns m d z) d (at_back m d z a)))
             by_side (inr a) =
-                let same : a.flag ≡ l0 = ap (λ j. j.0) (some_same (sym a.is ∙ ol.5)) in
+                let same : a.flag ≡ l0 = ap (λ j. j.0) (same_Some _ _ (sym a.is ∙ ol.5)) in
                 let set : Has l0 true z = subst (λ j. Has j true z) same a.set in
                 let run : stmt_run p calls k (when (name l0) (stmts_in (tree.leave ∷ []))) z ≡ breaks [] z = when_run (name l0) (stmts_in (tree.leave ∷ [])) z true (test_run z l0 true set) in
                 subst (λ x. Goal (then_do x (runs []))) (sym run) (inl (lands (λ d. Left o f ns v d z) d (inr (out_back d z a))))
@@ -1248,7 +1245,7 @@ module _ (C : Type 0) (step : C → Move C) (p : Program) (calls : Text → List
 
     ready_out : (b : Bool) (f : Flags) (gs : Groups) (v : Ways) → Ready f v → (l : Text) (to : ℕ) → out_if w term falls Cases v b ≡ Some (l, to) → ((y : Text) (u : Option Bool) → f y ≡ Some u → FreshGroups w term falls Cases y gs) → fell_map f gs None l ≡ Some (Some false)
     ready_out true f gs v ready l to e apart = let known = ready.out l to e in fell_out gs f None l (apart l (Some false) known) ∙ known
-    ready_out false f gs v ready l to e apart = absurd (none_some e)
+    ready_out false f gs v ready l to e apart = none_some e
 
     block_item : (x : Region) → IsBlock x → IsItem x
     block_item (ends e) h = absurd h
@@ -1270,11 +1267,11 @@ module _ (C : Type 0) (step : C → Move C) (p : Program) (calls : Text → List
           let g = h.1 in
           let m : Option ℕ = g.7.0 in
           let vi : Ways = record v { normal = m; fall = None } in
-          let readi : Ready f vi = record { out = ready.out; fall = λ q y e i. absurd (none_some e) } in
+          let readi : Ready f vi = record { out = ready.out; fall = λ q y e i. none_some e } in
           rest_then o f ns v m pl r 1 (item_text w pl (choose b x y)) c s
           (block_then (At o f ns m) (Left o f ns v) (At o f ns v.again) (Ended ns) o f ns 1 b c s ((conditional (w.condition b) (entering w b (w.target b 0) x ++ region_text w pl x) (entering w b (w.target b 1) y ++ region_text w pl y)) ∷ []) (subst (λ j. Start j c s) (sym h.0) start) on (λ d z at on.
           last_then (At o f ns m) (Left o f ns v) (At o f ns v.again) (Ended ns) 1 d (conditional (w.condition b) (entering w b (w.target b 0) x ++ region_text w pl x) (entering w b (w.target b 1) y ++ region_text w pl y)) z
-          (mapped (Next o f ns vi) (Left o f ns v) (At o f ns v.again) (At o f ns m) (Left o f ns v) (At o f ns v.again) (Ended ns) (Ended ns) 1 d (stmt_run p calls k (conditional (w.condition b) (entering w b (w.target b 0) x ++ region_text w pl x) (entering w b (w.target b 1) y ++ region_text w pl y)) z) (λ d z n. ⊎_elim (λ a. a) (λ a. absurd (none_some a.is)) n) (λ d z l. l) (λ d z a. a) (λ d r z q. q)
+          (mapped (Next o f ns vi) (Left o f ns v) (At o f ns v.again) (At o f ns m) (Left o f ns v) (At o f ns v.again) (Ended ns) (Ended ns) 1 d (stmt_run p calls k (conditional (w.condition b) (entering w b (w.target b 0) x ++ region_text w pl x) (entering w b (w.target b 1) y ++ region_text w pl y)) z) (λ d z n. ⊎_elim (λ a. a) (λ a. none_some a.is) n) (λ d z l. l) (λ d z a. a) (λ d r z q. q)
           (branch_then o f ns vi b g.0 g.1 pl x y d z readi g.2 g.3 g.4 g.5 g.6 at on
           (λ d q st kn. region_follows x pl f f (names_of z.frames) vi g.0 readi (same_within f) (λ y u e. (apart y u e).0.0) g.7.1 d q st kn)
           (λ d q st kn. region_follows y pl f f (names_of z.frames) vi g.1 readi (same_within f) (λ y u e. (apart y u e).0.1) g.7.2 d q st kn)))))

@@ -2,9 +2,9 @@
 use Rattle.std.proofs.Common.{◌≡◌, ◌==◌, ◌≤◌, ℕ, Bool, true, false, List, [], ◌∷◌, ◌++◌, refl, ap, sym, ◌∙◌, arith, map, length}
 use Rattle.std.specs.Prelude.{Option, Some, None, slice_get}
 use Rattle.std.specs.Option.{option_or}
-use Rattle.std.proofs.lemmas.Bool.Decides.{nat_tests}
 use Rattle.std.proofs.lemmas.Option.{same_Some}
 use Rattle.std.proofs.lemmas.List.{map-append, length-map}
+use Rattle.list_law.proofs.Numbers.{turned}
 use Rattle.spv_module.specs.declared.inst.Id.{Id}
 use Rattle.module_semantics.specs.State as state
 use Rattle.module_semantics.specs.Steps.{argument_of}
@@ -15,7 +15,7 @@ by_test : (t : Bool) (g : state.Held) (more less last : Option state.Held) → m
 by_test true g more less last e = refl
 by_test false g more less last e = e
 
-no_argument : (ps : List (Id × Id)) (q : ℕ) → argument_of ps [] q ≡ None
+pub no_argument : (ps : List (Id × Id)) (q : ℕ) → argument_of ps [] q ≡ None
 no_argument [] q = refl
 no_argument (o ∷ ps) q = refl
 
@@ -37,9 +37,6 @@ or_step : (a : Option state.Held) (t : Bool) (h : state.Held) (o : Option state.
 or_step None true h o = refl
 or_step None false h o = refl
 or_step (Some a) t h o = refl
-
-turned : (a b : ℕ) → (a == b) ≡ (b == a)
-turned a b = grind (arith, nat_tests)
 
 -- what is noted of the last argument that is left
 noted : (ps : List (Id × Id)) (hs : List Held) (x : Held) (p : Id × Id) (q : ℕ) (old : ℕ → Option state.Held) (new : Option state.Held) → slice_get ps (length hs) ≡ Some p → new ≡ state.put old p.0.0 (held_of x) q → option_or (argument_of ps (map held_of hs) q) new ≡ option_or (argument_of ps (map held_of (hs ++ x ∷ [])) q) (old q)

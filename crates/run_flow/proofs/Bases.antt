@@ -3,6 +3,7 @@ use Rattle.std.proofs.Common.{◌≡◌, ◌<◌, ◌+◌, ◌==◌, ◌&&◌, �
 use Rattle.std.specs.List.{list_any}
 use Rattle.std.proofs.lemmas.Bool.{or_parts}
 use Rattle.std.proofs.lemmas.List.Folds.{list_any_more}
+use Rattle.std.proofs.Math.Bool.{or_assoc}
 use Rattle.spv_ops.specs.Groups.{is_chain}
 use Rattle.spv_module.specs.declared.inst.Inst.{Inst}
 use Rattle.module_semantics.specs.Steps.{base, based_among}
@@ -21,14 +22,10 @@ none_based chain (i ∷ is) h =
     ap (λ f. based_among chain f is) (λ j id. by_tests (is_chain i.op) (base i == chain) (i.result == id) none.0 j)
     ∙ none_based chain is none.1
 
-or_or : (a b c : Bool) → ((a || b) || c) ≡ (a || (b || c))
-or_or true b c = refl
-or_or false b c = refl
-
 -- a test of one more of a list
 pub any_more : {A : Type 0} (p : A → Bool) (xs : List A) (k : ℕ) (x : A) (old now new : Bool) → k < length xs → x ≡ get_or xs k x → new ≡ (now || p x) → now ≡ (old || list_any p (take k xs)) → new ≡ (old || list_any p (take (k + 1) xs))
 any_more p xs k x old now new inside is h was =
     h
     ∙ ap (λ b. b || p x) was
-    ∙ or_or old (list_any p (take k xs)) (p x)
+    ∙ or_assoc old (list_any p (take k xs)) (p x)
     ∙ ap (λ b. old || b) (ap (λ y. list_any p (take k xs) || p y) is ∙ sym (list_any_more p xs k x inside))

@@ -1,8 +1,9 @@
 -- What each element of a list gives, one after another.
-use Rattle.std.proofs.Common.{◌≡◌, ◌<◌, ◌+◌, ℕ, suc, List, [], ◌∷◌, ◌++◌, refl, ap, sym, ◌∙◌, append_assoc, add-one, length, drop, get_or, map}
-use Rattle.std.specs.Prelude.{Option, Some, None, Result, Ok, Err, IfOk, option_map}
+use Rattle.std.proofs.Common.{◌≡◌, ◌<◌, ◌+◌, ℕ, suc, List, [], ◌∷◌, ◌++◌, refl, ap, sym, ◌∙◌, add-one, length, drop, get_or, map}
+use Rattle.std.specs.Prelude.{Option, Some, None, option_map}
 use Rattle.std.proofs.Math.Seq.{drop-cons}
 use Rattle.std.proofs.lemmas.Option.{same_Some}
+use Rattle.run_operands.proofs.Operands.{pushed}
 use Rattle.op_semantics.specs.Component.{before, each_one}
 
 module _ {A B : Type 0} (f : A → Option B) (xs : List A) (i : ℕ) (x : A) (inside : i < length xs) (is : x ≡ get_or xs i x) where
@@ -22,10 +23,6 @@ module _ {A B : Type 0} (f : A → Option B) (xs : List A) (i : ℕ) (x : A) (in
       ∙ ap (λ o. option_map (λ (rest : List B). vs ++ rest) (before o (each_one f (drop (i + 1) xs)))) some
       ∙ ap (option_map (λ (rest : List B). vs ++ rest)) (sym each_at)
       ∙ whole
-    where
-      pushed : (vs : List B) (v : B) (rest : Option (List B)) → option_map (λ (l : List B). (vs ++ v ∷ []) ++ l) rest ≡ option_map (λ (l : List B). vs ++ l) (before (Some v) rest)
-      pushed vs v None = refl
-      pushed vs v (Some l) = ap Some (append_assoc vs (v ∷ []) l)
 
 mapped_before : {B C : Type 0} (g : B → C) (o : Option B) (rest : Option (List B)) → before (option_map g o) (option_map (map g) rest) ≡ option_map (map g) (before o rest)
 mapped_before g None rest = refl
@@ -50,7 +47,3 @@ each_mapped f g (x ∷ xs) = ap (before (option_map g (f x))) (each_mapped f g x
 pub none_mapped : {A B : Type 0} (g : A → B) (o : Option A) → None ≡ option_map g o → None ≡ o
 none_mapped g None h = refl
 none_mapped g (Some a) h = cc
-
-pub if_ok : {A E : Type 0} {P Q : A → Type 0} (r : Result A E) → ((x : A) → P x → Q x) → IfOk r P → IfOk r Q
-if_ok (Ok x) f h = f x h
-if_ok (Err e) f h = tt

@@ -19,15 +19,13 @@ given_first p ps q =
       | false ↦ refl
     ]
 
-at_key : (a q : ℕ) → is_at (nat_cmp a) q ≡ (a == q)
-at_key a q = grind (arith, nat_tests)
-
 -- what was known of the overrides behind one, with this one
 pub given_before : (ps : List (ℕ × Given)) (n k : ℕ) (d : ℕ × Given) (q : ℕ) (old new : ℕ → Option ℕ) → n ≡ k + 1 → k < length ps → ((x : ℕ) → old x ≡ given_words (drop n ps) x) → new q ≡ cond (is_at (nat_cmp (get_or ps k d).0) q) (Some (word_given (get_or ps k d).1)) (old q) → new q ≡ given_words (drop k ps) q
 given_before ps n k d q old new next inside known put =
     let p : ℕ × Given = get_or ps k d in
+    let at_key : is_at (nat_cmp p.0) q ≡ (p.0 == q) = grind (arith, nat_tests) in
     put
-    ∙ ap (λ b. cond b (Some (word_given p.1)) (old q)) (at_key p.0 q)
+    ∙ ap (λ b. cond b (Some (word_given p.1)) (old q)) at_key
     ∙ ap (λ o. cond (p.0 == q) (Some (word_given p.1)) o) (known q ∙ ap (λ i. given_words (drop i ps) q) next)
     ∙ sym (given_first p (drop (k + 1) ps) q)
     ∙ ap (λ (rest : List (ℕ × Given)). given_words rest q) (sym (drop_more ps k d inside))

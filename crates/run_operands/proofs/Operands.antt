@@ -39,6 +39,10 @@ second_none f (Some a) y o h = ap (λ y. option_and_then f (before (Some a) (bef
 
 pub ruleset two_rules = (first_none, second_none)
 
+pub pushed : {B : Type 0} (vs : List B) (v : B) (rest : Option (List B)) → option_map (λ (l : List B). (vs ++ v ∷ []) ++ l) rest ≡ option_map (λ (l : List B). vs ++ l) (before (Some v) rest)
+pushed vs v None = refl
+pushed vs v (Some l) = ap Some (append_assoc vs (v ∷ []) l)
+
 module _ {B : Type 0} (f : ℕ → Option B) (ids : List ℕ) (i : ℕ) (inside : i < length ids) where
   each_at : each_one f (drop i ids) ≡ before (f (slice_index ids i)) (each_one f (drop (i + 1) ids))
   each_at = ap (each_one f) (drop-cons ids i 0 inside) ∙ ap (λ n. before (f (slice_index ids i)) (each_one f (drop n ids))) (sym (add-one i))
@@ -53,10 +57,6 @@ module _ {B : Type 0} (f : ℕ → Option B) (ids : List ℕ) (i : ℕ) (inside 
       ∙ ap (λ o. option_map (λ (rest : List B). vs ++ rest) (before o (each_one f (drop (i + 1) ids)))) some
       ∙ ap (option_map (λ (rest : List B). vs ++ rest)) (sym each_at)
       ∙ whole
-    where
-      pushed : (vs : List B) (v : B) (rest : Option (List B)) → option_map (λ (l : List B). (vs ++ v ∷ []) ++ l) rest ≡ option_map (λ (l : List B). vs ++ l) (before (Some v) rest)
-      pushed vs v None = refl
-      pushed vs v (Some l) = ap Some (append_assoc vs (v ∷ []) l)
 
 -- lists of one and of two
 pub one_list : (xs : List ℕ) → length xs ≡ 1 → slice_index xs 0 ∷ [] ≡ xs

@@ -5,6 +5,8 @@ use Rattle.std.specs.List.{flat_map}
 use Rattle.std.proofs.Math.Seq.{drop-cons}
 use Rattle.std.proofs.Math.ListN.{drop_of_length-le}
 use Rattle.std.proofs.lemmas.Bool.Decides.{nat_tests}
+use Rattle.std.proofs.Math.Bool.{or-true}
+use Rattle.list_law.proofs.Numbers.{number_other}
 use Rattle.spv_module.specs.declared.inst.Inst.{Inst}
 use Rattle.spv_module.specs.declared.inst.Block.{Block}
 use Rattle.module_semantics.specs.State as state
@@ -20,18 +22,7 @@ pub listed_push : (xs : List ℕ) (x q : ℕ) → is_listed (xs ++ x ∷ []) q �
 listed_push [] x q = or_false (x == q) ∙ (elim (x == q) as (λ b. b ≡ (if b then true else false)) [ true ↦ refl | false ↦ refl ])
 listed_push (y ∷ xs) x q =
     ap (λ b. (y == q) || b) (listed_push xs x q)
-    ∙ (elim (x == q) as (λ b. ((y == q) || (if b then true else is_listed xs q)) ≡ (if b then true else ((y == q) || is_listed xs q))) [ true ↦ or_true (y == q) | false ↦ refl ])
-  where
-    or_true : (b : Bool) → (b || true) ≡ true
-    or_true true = refl
-    or_true false = refl
-
-test_apart : (j i : ℕ) → (j ≡ i → ⊥) → (j == i) ≡ false
-test_apart j i h = by_test (j == i) refl
-  where
-    by_test : (b : Bool) → (j == i) ≡ b → (j == i) ≡ false
-    by_test true t = absurd (h (grind (arith, nat_tests, t)))
-    by_test false t = t
+    ∙ (elim (x == q) as (λ b. ((y == q) || (if b then true else is_listed xs q)) ≡ (if b then true else ((y == q) || is_listed xs q))) [ true ↦ or-true (y == q) | false ↦ refl ])
 
 abbrev others : ℕ → List ℕ → List ℕ
 others x xs = filter (λ y. not (y == x)) xs
@@ -47,7 +38,7 @@ out_same (y ∷ xs) x = out_step (y == x) y x (others x xs) refl (out_same xs x)
 other_step : (b : Bool) (y x q : ℕ) (xs ys : List ℕ) → (x ≡ q → ⊥) → (y == x) ≡ b → is_listed ys q ≡ is_listed xs q → is_listed (if not b then y ∷ ys else ys) q ≡ is_listed (y ∷ xs) q
 other_step true y x q xs ys apart t h =
     let same : y ≡ x = grind (arith, nat_tests, t) in
-    h ∙ sym (ap (λ c. c || is_listed xs q) (test_apart y q (λ e. apart (sym same ∙ e))))
+    h ∙ sym (ap (λ c. c || is_listed xs q) (number_other y q (λ e. apart (sym same ∙ e))))
 other_step false y x q xs ys apart t h = ap (λ c. (y == q) || c) h
 
 out_other : (xs : List ℕ) (x q : ℕ) → (x ≡ q → ⊥) → is_listed (others x xs) q ≡ is_listed xs q
@@ -115,7 +106,7 @@ module _ (but : ℕ) (list : List ℕ) (k x : ℕ) (old new : ℕ → Option sta
           ∙ (elim L as (λ b. (if b then None else None) ≡ (if true || b then None else old q)) [ true ↦ refl | false ↦ refl ])
           ∙ ap (λ b. if b || L then None else old q) (sym back)
       by_same false t =
-          let back : (x == q) ≡ false = test_apart x q (λ e. absurd (grind (arith, nat_tests, t, e))) in
+          let back : (x == q) ≡ false = number_other x q (λ e. absurd (grind (arith, nat_tests, t, e))) in
           ap (λ v. if L then None else v) (h q ∙ ap (λ b. elim b as (λ _. Option state.Held) [ true ↦ None | false ↦ old q ]) t)
           ∙ ap (λ b. if b || L then None else old q) (sym back)
 
@@ -124,7 +115,7 @@ module _ (but : ℕ) (list : List ℕ) (k x : ℕ) (old new : ℕ → Option sta
           let e : q ≡ but = grind (arith, nat_tests, t) in
           ap (λ b. if b then new q else (if L then None else new q)) t
           ∙ h q
-          ∙ ap (λ b. elim b as (λ _. Option state.Held) [ true ↦ None | false ↦ old q ]) (test_apart q x (λ w. apart (sym w ∙ e)))
+          ∙ ap (λ b. elim b as (λ _. Option state.Held) [ true ↦ None | false ↦ old q ]) (number_other q x (λ w. apart (sym w ∙ e)))
           ∙ sym (ap (λ b. if b then old q else (if (x == q) || L then None else old q)) t)
       by_but false t =
           ap (λ b. if b then new q else (if L then None else new q)) t
@@ -140,7 +131,7 @@ module _ (but : ℕ) (list : List ℕ) (k x : ℕ) (old new : ℕ → Option sta
 
       by_but : (b : Bool) → (q == but) ≡ b → (if q == but then old q else (if L then None else old q)) ≡ (if q == but then old q else (if (x == q) || L then None else old q))
       by_but true t = ap (λ b. if b then old q else (if L then None else old q)) t ∙ sym (ap (λ b. if b then old q else (if (x == q) || L then None else old q)) t)
-      by_but false t = ap (λ c. if q == but then old q else (if c || L then None else old q)) (sym (test_apart x q (λ e. absurd (grind (arith, nat_tests, t, e, same)))))
+      by_but false t = ap (λ c. if q == but then old q else (if c || L then None else old q)) (sym (number_other x q (λ e. absurd (grind (arith, nat_tests, t, e, same)))))
 
 pub forgot_end : (but : ℕ) (list : List ℕ) (k : ℕ) (f : ℕ → Option state.Held) (q : ℕ) → length list ≤ k → forgotten but f (drop k list) q ≡ f q
 forgot_end but list k f q past = ap (λ l. forgotten but f l q) (drop_of_length-le list past) ∙ (elim (q == but) as (λ b. (if b then f q else f q) ≡ f q) [ true ↦ refl | false ↦ refl ])

@@ -34,6 +34,7 @@ use Rattle.function_text.specs.Functions.{FunctionPlan, blocks_of, copies_text, 
 use Rattle.unit_rules.specs.Translation.{Naming, id_text, global_expr, IsPlanOf}
 use Rattle.unit_rules.specs.Unit.{source_of, IsUnitOf}
 use Rattle.claim_law.specs.Claimed.{IsIn}
+use Rattle.claim_law.proofs.Claim.Apart.{size_reserved}
 use Rattle.safe_law.specs.Flags.{IsFlag, IsNoFlag}
 use Rattle.safe_law.specs.Safe.{IsSafe, HasSafeNames}
 use Rattle.safe_law.proofs.Flags.{empty_no_flag, other_no_flag, built_no_flag, planned}
@@ -47,10 +48,6 @@ built_prefix (Some built.WorkgroupId) = refl
 built_prefix (Some built.LocalInvocationId) = refl
 built_prefix (Some built.GlobalInvocationId) = refl
 built_prefix o = refl
-
-size_prefix : has_prefix group_size_text ≡ true
-unfolding has_prefix
-size_prefix = refl
 
 module _ (m : ModuleState) (o : Options) (unit : TranslationUnit) (u : IsUnitOf m o unit) (p : FunctionPlan) (among : IsIn p u.plans) where
   abbrev found : Naming
@@ -69,8 +66,8 @@ module _ (m : ModuleState) (o : Options) (unit : TranslationUnit) (u : IsUnitOf 
   reading_safe : (g : Inst) (r : Reading) → IsSafe W (expr_by src (id_text found) g r)
   reading_safe g Plain = (tt, tt)
   reading_safe g Named = (id_safe g.result, tt)
-  reading_safe g GroupSize = (built_no_flag found u.lawful group_size_text size_prefix, tt)
-  reading_safe g (GroupSizePart axis) = (built_no_flag found u.lawful group_size_text size_prefix, tt)
+  reading_safe g GroupSize = (built_no_flag found u.lawful group_size_text size_reserved, tt)
+  reading_safe g (GroupSizePart axis) = (built_no_flag found u.lawful group_size_text size_reserved, tt)
 
   read_by : (g : Option Inst) (e : Expr) → option_and_then (global_by src (id_text found)) g ≡ Some e → IsSafe W e
   read_by None e is = cc

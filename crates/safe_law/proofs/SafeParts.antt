@@ -27,7 +27,7 @@ module _ (W : Text → Type 0) where
   abbrev S : Expr → Type 0
   S = IsSafe W
 
-  both_are : (xs ys : List Expr) → AreSafe W xs → AreSafe W ys → AreSafe W (xs ++ ys)
+  pub both_are : (xs ys : List Expr) → AreSafe W xs → AreSafe W ys → AreSafe W (xs ++ ys)
   both_are [] ys p q = q
   both_are (x ∷ xs) ys p q = (p.0, both_are xs ys p.1 q)
 

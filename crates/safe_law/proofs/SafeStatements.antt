@@ -29,6 +29,7 @@ use Rattle.function_text.specs.Functions.{FunctionPlan, constant_text, source_ex
 use Rattle.safe_law.specs.Safe.{IsSafe, AreSafe, AllWrite, HasSafeNames}
 use Rattle.safe_law.proofs.SafeScalars.{if_safe, roots_in, exprs_write, call_safe}
 use Rattle.safe_law.proofs.SafeValues.{place_writes, place_safe, index_safe, parts_write, expression_safe, value_safe}
+use Rattle.safe_law.proofs.SafeParts.{both_are}
 
 module _ (W : Text → Type 0) where
   abbrev S : Expr → Type 0
@@ -45,10 +46,6 @@ module _ (W : Text → Type 0) where
   pub as_stmts : (xs : List Stmt) → AllWrite W xs → StmtsWrite W (stmts_in xs)
   as_stmts [] are = tt
   as_stmts (x ∷ xs) are = (are.0, as_stmts xs are.1)
-
-  both_safe : (xs ys : List Expr) → AreSafe W xs → AreSafe W ys → AreSafe W (xs ++ ys)
-  both_safe [] ys p q = q
-  both_safe (x ∷ xs) ys p q = (p.0, both_safe xs ys p.1 q)
 
   -- a call as a statement
   call_writes : (f : Text) (es : List Expr) → AreSafe W es → AllWrite W (Stmt.call f (exprs_in es) ∷ [])
@@ -109,7 +106,7 @@ module _ (W : Text → Type 0) where
 
     atomic_safe : (block : ℕ) (i : Inst) (a : AtomicOp) → AreSafe W (atomic_arguments w block i a)
     atomic_safe block i a =
-        both_safe (place_expr w.setting block (slice_index i.args 0) ∷ comparator w block i a) (atomic_operand w block i a ∷ []) (place_safe W w.setting names block (slice_index i.args 0), comparator_safe block i (compares a)) (operand_safe block i a, tt)
+        both_are W (place_expr w.setting block (slice_index i.args 0) ∷ comparator w block i a) (atomic_operand w block i a ∷ []) (place_safe W w.setting names block (slice_index i.args 0), comparator_safe block i (compares a)) (operand_safe block i a, tt)
 
     inserted_write : (block : ℕ) (i : Inst) (composite : ℕ) (steps : List LStep) (object : ℕ) → StepsWrite W steps → AllWrite W (insert_where_named w block i composite steps object)
     inserted_write block i composite steps object has =

@@ -4,9 +4,9 @@ use Rattle.std.specs.Prelude.{Option, Some, None, unwrap_or, fold, sum_by, slice
 use Rattle.std.specs.Option.{option_map_or}
 use Rattle.std.specs.BTreeMap.{is_at}
 use Rattle.std.specs.Ordering.{nat_cmp}
-use Rattle.std.proofs.lemmas.Bool.Decides.{nat_tests}
 use Rattle.std.proofs.lemmas.List.Sums.{fold_more, sum_by-cons}
 use Rattle.std.proofs.lemmas.List.{take_all}
+use Rattle.list_law.proofs.Numbers.{order_at}
 use Rattle.spv_ops.specs.Opcode.{is}
 use Rattle.spv_ops.specs.declared.Op.TheVariants as code
 use Rattle.spv_module.specs.Held.{global}
@@ -50,12 +50,9 @@ leaves_same gs f g args Runtime h = refl
 leaves_same gs f g args Struct h = sum_same f g args h
 leaves_same gs f g args Other h = refl
 
-pub at_is : (a b : ℕ) → is_at (nat_cmp a) b ≡ (a == b)
-at_is a b = grind (arith, nat_tests)
-
 at_result : (g : Inst) (q v : ℕ) (old : Option ℕ) (counted leaves : ℕ → ℕ) (all : List Inst) → min cap v ≡ min cap (leaves_step all leaves g) → min cap (unwrap_or old 0) ≡ min cap (leaves q) → min cap (unwrap_or (cond (is_at (nat_cmp g.result) q) (Some v) old) 0) ≡ min cap (said_with (leaves_step all) leaves g q)
 at_result g q v old counted leaves all new same =
-    ap (λ b. min cap (unwrap_or (cond b (Some v) old) 0)) (at_is g.result q)
+    ap (λ b. min cap (unwrap_or (cond b (Some v) old) 0)) (order_at g.result q)
     ∙ (elim (g.result == q) as (λ b. min cap (unwrap_or (cond b (Some v) old) 0) ≡ min cap (elim b as (λ x. ℕ) [ true ↦ leaves_step all leaves g | false ↦ leaves q ])) [ true ↦ new | false ↦ same ])
 
 -- the counts with those of one more type

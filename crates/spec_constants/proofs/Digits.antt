@@ -2,12 +2,13 @@
 use Rattle.std.proofs.Math.Seq.{drop-cons}
 use Rattle.std.proofs.Common.{suc, sym, ap, ◌∙◌, drop, get_or, ◌≡◌, ◌<◌, ◌≤◌, ◌+◌, ◌*◌, ℕ, Bool, true, false, List, [], ◌∷◌, refl, arith}
 use Rattle.std.specs.Prelude.{Option, None, option_and_then, if◌then◌else◌}
-use Rattle.std.specs.Prelude.{unwrap_or, length, not}
-use Rattle.std.specs.List.{position, position_or_len}
+use Rattle.std.specs.Prelude.{length, not}
+use Rattle.std.specs.List.{position_or_len}
 use Rattle.std.proofs.lemmas.List.Sums.{prefix_len-le-length}
 use Rattle.std.specs.Char.{digit_value, is_digit}
 use Rattle.std.proofs.lemmas.Bool.Decides.{nat_tests}
 use Rattle.std.proofs.Math.Nat.{mul-le-mul_left}
+use Rattle.spv_decor.proofs.Texts.{first_or_all}
 use Rattle.profile_rules.specs.Overrides.{number_from, number_up_to, at_most}
 
 grows : (n base d most : ℕ) → 1 ≤ base → most < n → most < n * base + d
@@ -21,9 +22,6 @@ past base n most (c ∷ cs) h k =
       | true ↦ past base (n * base + digit_value c) most cs h (grows n base (digit_value c) most h k)
       | false ↦ refl
     ]
-
-pub first_or_all : {X : Type 0} (p : X → Bool) (xs : List X) → unwrap_or (position p xs) (length xs) ≡ position_or_len p xs
-first_or_all p xs = let le = prefix_len-le-length (λ x. not (p x)) xs in grind (arith, nat_tests, le)
 
 if_true : (b : Bool) (x y : Option ℕ) → b ≡ true → (if b then x else y) ≡ x
 if_true b x y e = ap (λ c. if c then x else y) e

@@ -1,8 +1,8 @@
 -- What specialization constants are given, as overrides are met.
-use Rattle.std.proofs.Common.{◌≡◌, ◌<◌, ◌+◌, ℕ, zero, suc, Bool, true, false, ◌==◌, cond, List, [], ◌∷◌, refl, ap, sym, ◌∙◌, arith, add-one, take, get_or, length}
+use Rattle.std.proofs.Common.{◌≡◌, ◌<◌, ◌+◌, ℕ, zero, suc, true, false, ◌==◌, cond, List, [], ◌∷◌, refl, ap, sym, ◌∙◌, arith, add-one, take, get_or, length}
 use Rattle.std.specs.Prelude.{Option, Some, None, is_some, option_map}
 use Rattle.std.specs.Option.{option_or}
-use Rattle.std.specs.List.{list_any, find}
+use Rattle.std.specs.List.{find}
 use Rattle.std.specs.Ordering.{nat_cmp}
 use Rattle.std.specs.BTreeMap.{is_at}
 use Rattle.std.proofs.lemmas.Bool.Decides.{nat_tests}
@@ -10,10 +10,6 @@ use Rattle.std.proofs.lemmas.Bool.{cases_eq}
 use Rattle.std.proofs.Common.{⊎_elim}
 use Rattle.profile_rules.specs.declared.given.Given.{Given}
 use Rattle.profile_rules.specs.Constants.{given_to}
-
--- tests that agree are passed alike
-pub any_same : {X : Type 0} (p q : X → Bool) (xs : List X) → ((x : X) → p x ≡ q x) → list_any p xs ≡ list_any q xs
-any_same p q xs same = ap (λ f. list_any f xs) (λ i x. same x i)
 
 given_first : (p : ℕ × Given) (ps : List (ℕ × Given)) (q : ℕ) → given_to (p ∷ ps) q ≡ cond (p.0 == q) (Some p.1) (given_to ps q)
 given_first p ps q = elim (p.0 == q) as (λ b. option_map (λ (r : ℕ × Given). r.1) (cond b (Some p) (find (λ (r : ℕ × Given). r.0 == q) ps)) ≡ cond b (Some p.1) (given_to ps q)) [ true ↦ refl | false ↦ refl ]

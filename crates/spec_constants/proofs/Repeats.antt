@@ -3,18 +3,11 @@ use Rattle.std.proofs.Common.{◌≡◌, ◌<◌, ◌≤◌, ◌+◌, ℕ, zero,
 use Rattle.std.specs.List.{list_any}
 use Rattle.std.proofs.lemmas.List.Folds.{list_any_more, list_any-append}
 use Rattle.std.proofs.lemmas.List.{take-append-drop, take_all}
-use Rattle.std.proofs.lemmas.Bool.Decides.{nat_tests}
+use Rattle.std.proofs.Math.Bool.{or-true}
+use Rattle.list_law.proofs.Numbers.{turned}
+use Rattle.list_law.proofs.Tests.{or_steps}
 use Rattle.profile_rules.specs.declared.given.Given.{Given}
 use Rattle.profile_rules.specs.Overrides.{repeats}
-
-any_or_true : (a : Bool) → (a || true) ≡ true
-any_or_true a = grind arith
-
-same_test : (a b : ℕ) → (a == b) ≡ (b == a)
-same_test a b = grind (arith, nat_tests)
-
-or_steps : (a d r b e : Bool) → d ≡ e → ((a || d) || (r || b)) ≡ ((a || r) || (e || b))
-or_steps a d r b e same = grind (arith, same)
 
 -- one of the pairs has this id
 abbrev has_id : List (ℕ × Given) → ℕ → Bool
@@ -32,7 +25,7 @@ repeats_more (q ∷ ps) (suc i) d inside =
     let n : ℕ = (get_or ps i d).0 in
     ap (λ (b : Bool). b || repeats (take (suc i) ps)) (has_id_more ps i q.0 d within)
     ∙ ap (λ (b : Bool). (has_id (take i ps) q.0 || (n == q.0)) || b) (repeats_more ps i d within)
-    ∙ or_steps (has_id (take i ps) q.0) (n == q.0) (repeats (take i ps)) (has_id (take i ps) n) (q.0 == n) (same_test n q.0)
+    ∙ or_steps (has_id (take i ps) q.0) (n == q.0) (repeats (take i ps)) (has_id (take i ps) n) (q.0 == n) (turned n q.0)
 
 repeats_append : (xs ys : List (ℕ × Given)) → repeats xs ≡ true → repeats (xs ++ ys) ≡ true
 repeats_append [] ys h = cc
@@ -40,7 +33,7 @@ repeats_append (x ∷ xs) ys h =
     rw (list_any-append (λ (q : ℕ × Given). q.0 == x.0) xs ys)
     ((elim (has_id xs x.0) as (λ b. (b || repeats xs) ≡ true → ((b || has_id ys x.0) || repeats (xs ++ ys)) ≡ true) [
       | true ↦ λ e. refl
-      | false ↦ λ e. ap (λ (b : Bool). has_id ys x.0 || b) (repeats_append xs ys e) ∙ any_or_true (has_id ys x.0)
+      | false ↦ λ e. ap (λ (b : Bool). has_id ys x.0 || b) (repeats_append xs ys e) ∙ or-true (has_id ys x.0)
     ]) h)
 
 -- a repeat among the first ones is one among all
@@ -53,7 +46,7 @@ no_repeat ps i d inside none new = ap (λ k. repeats (take k ps)) (add-one i) �
 
 -- the next id is one of those before
 pub found_repeat : (ps : List (ℕ × Given)) (i : ℕ) (d : ℕ × Given) → i < length ps → has_id (take i ps) (get_or ps i d).0 ≡ true → repeats ps ≡ true
-found_repeat ps i d inside old = repeats_front (suc i) ps (repeats_more ps i d inside ∙ ap (λ (b : Bool). repeats (take i ps) || b) old ∙ any_or_true (repeats (take i ps)))
+found_repeat ps i d inside old = repeats_front (suc i) ps (repeats_more ps i d inside ∙ ap (λ (b : Bool). repeats (take i ps) || b) old ∙ or-true (repeats (take i ps)))
 
 -- where none of the first comes twice and there are no others
 pub none_repeats : (ps : List (ℕ × Given)) (i : ℕ) → length ps ≤ i → repeats (take i ps) ≡ false → repeats ps ≡ false

@@ -1,7 +1,7 @@
 -- The state at the start.
-use Rattle.std.proofs.Common.{◌≡◌, ℕ, true, false, Bool, List, [], ◌∷◌, refl, ap, sym, ◌∙◌}
+use Rattle.std.proofs.Common.{◌≡◌, ℕ, true, false, Bool, List, [], refl, ap, sym, ◌∙◌}
 use Rattle.std.specs.Prelude.{Option, Some, None}
-use Rattle.spv_module.specs.declared.inst.Id.{Id}
+use Rattle.run_calls.proofs.Taken.{no_argument}
 use Rattle.spv_module.specs.declared.inst.Function.{Function}
 use Rattle.spv_types.specs.Tree.{ValueTree}
 use Rattle.profile_rules.specs.Entry.{function_of}
@@ -10,7 +10,7 @@ use Rattle.group_items.specs.Sides.{told_of}
 use Rattle.module_semantics.specs.Setting.{Setting}
 use Rattle.module_semantics.specs.State as state
 use Rattle.module_semantics.specs.Accesses.{initial_private}
-use Rattle.module_semantics.specs.Steps.{argument_of, entered}
+use Rattle.module_semantics.specs.Steps.{entered}
 use Rattle.module_semantics.specs.Run.{have_values, start_by, start}
 use Rattle.memory_places.specs.Kernel.{Kernel, setting_for}
 use Rattle.run_operands.specs.Looks.{Ids}
@@ -20,10 +20,6 @@ use Rattle.step_run.specs.Steps.{IsStart}
 use Rattle.spv_run.specs.declared.state.State.{State}
 use Rattle.spv_run.specs.Runs.{act_by, walk_by, walk}
 use Rattle.spv_run.specs.States.{is_at_by, setting_at, stands_at, is_at, goes_from}
-
-none_argued : (ps : List (Id × Id)) (q : ℕ) → argument_of ps [] q ≡ None
-none_argued [] q = refl
-none_argued (p ∷ ps) q = refl
 
 abbrev conf_by : state.Frame → List (state.Frame × ℕ) → (ℕ → Option ValueTree) → state.Conf
 conf_by top below privates = record { top = top; below = below; privates = privates }
@@ -47,7 +43,7 @@ module _ (s : Setting) where
       ap (λ l. Some (conf_by top l privates)) alone
       ∙ ap (λ t. Some (conf_by t [] privates)) first
       ∙ ap (λ p. Some (conf_by (first_of s f ids) [] p)) (λ j q. all q j)
-      ∙ ap (λ (m : Ids). Some (conf_by (first_of s f m) [] (initial_private s))) (λ j q. (none q ∙ sym (none_argued f.params q)) j)
+      ∙ ap (λ (m : Ids). Some (conf_by (first_of s f m) [] (initial_private s))) (λ j q. (none q ∙ sym (no_argument f.params q)) j)
       ∙ ap (start_by s true) (sym there)
       ∙ ap (λ b. start_by s b (function_of s.of.functions s.entry)) (sym values)
 

@@ -1,8 +1,7 @@
 -- The octets of words by their places, and the characters that they spell.
-use Rattle.std.proofs.Common.{◌≡◌, ◌<◌, ◌≤◌, ◌+◌, ◌-◌, ◌*◌, ◌/◌, ◌%◌, ◌==◌, ℕ, zero, suc, Bool, true, false, cond, List, [], ◌∷◌, length, take, drop, get_or, min, Option, Some, None, refl, ap, sym, ◌∙◌, subst, inl, inr, arith}
+use Rattle.std.proofs.Common.{◌≡◌, ◌<◌, ◌≤◌, ◌+◌, ◌-◌, ◌*◌, ◌/◌, ◌%◌, ◌==◌, ℕ, zero, suc, Bool, true, false, cond, List, [], ◌∷◌, length, take, drop, get_or, min, Some, None, refl, ap, sym, ◌∙◌, subst, inl, inr, arith}
 use Rattle.std.specs.List.{position, position_from}
 use Rattle.std.specs.Int.{to_le_bytes, w32}
-use Rattle.std.specs.Option.{unwrap_or}
 use Rattle.std.specs.Str.{IsUtf8, encode_utf8_all, all_scalars}
 use Rattle.std.proofs.Math.Utf8.{encode, scalar}
 use Rattle.std.proofs.lemmas.List.{length-take, length-take-le, length-drop, length-append, get_or-drop, get_or-take, get_or_past, drop_more, drop-drop, take-take}
@@ -12,6 +11,7 @@ use Rattle.std.proofs.lemmas.Iterator.Adapters.{position_from-zero}
 use Rattle.std.proofs.lemmas.List.Concat.{get_or-flat_map}
 use Rattle.std.proofs.lemmas.Bool.{and_parts, cases_lt}
 use Rattle.std.proofs.lemmas.Str.{IsUtf8-append, IsUtf8-encode, IsUtf8-drop, IsCharBoundary-from_take, length-encode, len_utf8_bounds}
+use Rattle.std.proofs.lemmas.Option.{same_Some}
 use Rattle.spv_words.specs.Words.{octets_of}
 use Rattle.spv_words.specs.Breaks.{IsText}
 
@@ -135,10 +135,7 @@ rest_more whole at n inside rest more =
     subst IsUtf8 (drop-drop n at whole) (IsUtf8-drop (drop at whole) n rest (IsCharBoundary-from_take (drop at whole) n rest short more))
 
 -- the one place where a text ends
-some_is : (a b : ℕ) → Some a ≡ Some b → a ≡ b
-some_is a b e = ap (λ (o : Option ℕ). unwrap_or o 0) e
-
 pub text_at : (os : List ℕ) (len n : ℕ) → position (λ b. b == 0) os ≡ Some len → (IsUtf8 (take len os) → ⊥) → IsText os n → ⊥
 text_at os len n is bad text =
-    let same : n ≡ len = some_is n len (sym text.0 ∙ is) in
+    let same : n ≡ len = same_Some n len (sym text.0 ∙ is) in
     bad (subst (λ k. IsUtf8 (take k os)) same text.1)

@@ -1,6 +1,7 @@
 -- An invocation under way, step by step.
-use Rattle.std.proofs.Common.{◌≡◌, ℕ, suc, ◌+◌, ◌-◌, ◌<◌, ◌≤◌, List, [], ◌∷◌, ◌++◌, refl, sym, ap, ◌∙◌, subst, arith, append_assoc, append-nil}
+use Rattle.std.proofs.Common.{◌≡◌, ℕ, suc, ◌+◌, ◌-◌, ◌<◌, ◌≤◌, List, [], ◌∷◌, ◌++◌, sym, ap, ◌∙◌, subst, arith, append_assoc, append-nil}
 use Rattle.std.specs.Prelude.{Option, Some, None, IfSome}
+use Rattle.list_law.proofs.Lists.{none_left, none_right}
 use Rattle.traces.specs.Events as trace
 use Rattle.traces.specs.Runs as run
 use Rattle.traces.specs.Runs.{Run, Status, made, before}
@@ -14,14 +15,6 @@ use Rattle.run_law.specs.Walks.{Walk}
 use Rattle.step_run.specs.declared.row.Row.{Row}
 use Rattle.step_run.specs.Answers.{answers_in}
 use Rattle.step_run.specs.Kept.{told_by, told_events, untold_events, asked_by, begun_of, IsGoing, IsTold}
-
-left_none : {A : Type 0} (xs ys : List A) → xs ++ ys ≡ [] → xs ≡ []
-left_none [] ys h = refl
-left_none (x ∷ xs) ys h = cc
-
-right_none : {A : Type 0} (xs ys : List A) → xs ++ ys ≡ [] → ys ≡ []
-right_none [] ys h = h
-right_none (x ∷ xs) ys h = cc
 
 answers-snoc : (es : List trace.Event) (e : trace.Event) → answers_in (es ++ e ∷ []) ≡ answers_in es ++ answers_of e
 answers-snoc [] e = append-nil (answers_of e)
@@ -76,10 +69,10 @@ module _ (start : Walk) (steps : ℕ) (r : Row) (here : Walk) (g : IsGoing start
       (rest ++ more, ap (λ (q : Run). q.events) now ∙ ap (λ u. (es ++ u) ++ more) is ∙ append_assoc es (e ∷ rest) more ∙ sym (append_assoc es (e ∷ []) (rest ++ more)))
 
   pub took_none : (e : trace.Event) (rest : List trace.Event) → us ≡ e ∷ rest → answers_of e ≡ []
-  took_none e rest is = left_none (answers_of e) (answers_in rest) (sym (ap answers_in is) ∙ g.1.0)
+  took_none e rest is = none_left (answers_of e) (answers_in rest) (sym (ap answers_in is) ∙ g.1.0)
 
   pub told_on : (new : Row) (e : trace.Event) → IsTold r e new → IsGoing start steps new here
-  told_on new e t = (subst (λ n. n ≤ steps) (sym t.used) g.0, (right_none (answers_of e) (answers_in (untold_events new)) (sym (ap answers_in t.untold) ∙ g.1.0), goes))
+  told_on new e t = (subst (λ n. n ≤ steps) (sym t.used) g.0, (none_right (answers_of e) (answers_in (untold_events new)) (sym (ap answers_in t.untold) ∙ g.1.0), goes))
     where
       same_past : answers_in (told_events new) ≡ past
       same_past = ap answers_in t.told ∙ answers-snoc es e ∙ ap (λ l. past ++ l) (took_none e (untold_events new) t.untold) ∙ append-nil past

@@ -1,7 +1,8 @@
 -- All invocations of a runner.
 use Rattle.std.proofs.Common.{◌≡◌, ◌≢◌, ℕ, zero, suc, ◌<◌, ◌==◌, Bool, true, false, List, [], ◌∷◌, ◌++◌, length, get_or, slice_set, refl, sym, ap, ◌∙◌, subst, arith}
 use Rattle.std.proofs.lemmas.Bool.Decides.{nat_tests}
-use Rattle.std.specs.Prelude.{IfSome, Result, Ok, Err, IfOk, OnErr, slice_get, if◌then◌else◌}
+use Rattle.std.specs.Prelude.{IfSome, slice_get, if◌then◌else◌}
+use Rattle.list_law.proofs.Numbers.{number_other, number_same}
 use Rattle.group_items.specs.Sides.{Begun, with_at}
 use Rattle.step_run.specs.declared.row.Thread.{Thread}
 use Rattle.step_run.specs.Kept.{begun_of}
@@ -39,21 +40,11 @@ module _ {A : Type 0} (P : A → Type 0) where
   all_at (y ∷ ys) (suc i) x d h inside is = all_at ys i x d (λ n. h (suc n)) (omega (arith, inside)) is
 
 -- how far each is, where one is changed or begins
-test_same : (j i : ℕ) → j ≡ i → (j == i) ≡ true
-test_same j i e = grind (arith, nat_tests, e)
-
-test_apart : (j i : ℕ) → (j ≡ i → ⊥) → (j == i) ≡ false
-test_apart j i h = by_test (j == i) refl
-  where
-    by_test : (b : Bool) → (j == i) ≡ b → (j == i) ≡ false
-    by_test true t = absurd (h (grind (arith, nat_tests, t)))
-    by_test false t = t
-
 with_same : (f : ℕ → Begun) (i j : ℕ) (b : Begun) → j ≡ i → with_at f i b j ≡ b
-with_same f i j b e = ap (λ t. elim t as (λ _. Begun) [ true ↦ b | false ↦ f j ]) (test_same j i e)
+with_same f i j b e = ap (λ t. elim t as (λ _. Begun) [ true ↦ b | false ↦ f j ]) (number_same j i e)
 
 with_other : (f : ℕ → Begun) (i j : ℕ) (b : Begun) → (j ≡ i → ⊥) → with_at f i b j ≡ f j
-with_other f i j b h = ap (λ t. elim t as (λ _. Begun) [ true ↦ b | false ↦ f j ]) (test_apart j i h)
+with_other f i j b h = ap (λ t. elim t as (λ _. Begun) [ true ↦ b | false ↦ f j ]) (number_other j i h)
 
 -- with the value that it has
 with_back : (f : ℕ → Begun) (i j : ℕ) → with_at f i (f i) j ≡ f j
@@ -105,12 +96,3 @@ module _ {S : Type 0} where
 
   pub push_moved : (ts : List (Thread S)) (t : Thread S) (b : Begun) → begun_of t.row ≡ b → begun_at (ts ++ t ∷ []) ≡ with_at (begun_at ts) (length ts) b
   push_moved ts t b is = push_begun ts t ∙ ap (with_at (begun_at ts) (length ts)) is
-
--- what an answer says, said otherwise
-pub if_ok : {A E : Type 0} {P Q : A → Type 0} (r : Result A E) → IfOk r P → ((a : A) → P a → Q a) → IfOk r Q
-if_ok (Ok a) h f = f a h
-if_ok (Err e) h f = tt
-
-pub on_err : {A E : Type 0} {P Q : Type 0} (r : Result A E) → OnErr r P → (P → Q) → OnErr r Q
-on_err (Ok a) h f = tt
-on_err (Err e) h f = f h

@@ -8,6 +8,8 @@ use Rattle.std.specs.declared.cmp.Ordering.TheVariants.{Less, Equal, Greater}
 use Rattle.std.proofs.lemmas.Cmp.{ranked}
 use Rattle.std.proofs.lemmas.Map.Keys.{sorted_from_strictly_increasing}
 use Rattle.std.proofs.lemmas.Bool.Decides.{eqb_tells}
+use Rattle.std.proofs.lemmas.Bool.{or_right}
+use Rattle.list_law.proofs.Numbers.{number_other}
 use Rattle.spv_module.specs.declared.inst.Function.{Function}
 use Rattle.structure_rules.specs.declared.graph.Node.{Node}
 use Rattle.structure_rules.specs.Graph.{nth, leads_to, is_value}
@@ -17,7 +19,6 @@ use Rattle.nest_place.proofs.Verdict.{edge_inside}
 use Rattle.structure_recover.specs.declared.arms.Arm.{Arm}
 use Rattle.structure_recover.specs.Follows.{switch_targets, labels_to, literals_by, last_inst}
 use Rattle.structure_recover.specs.Arms.{IsArm, AreArms, AreTargets, AreLabelled, Adds, target_of}
-use Rattle.structure_recover.proofs.Kids.{not_equal}
 
 -- each number is at least this one, and more than the one before it
 abbrev Rises : ℕ → List ℕ → Type 0
@@ -41,13 +42,13 @@ none_below : (ks : List ℕ) (low t : ℕ) → Rises low ks → t < low → list
 none_below [] low t up less = refl
 none_below (k ∷ ks) low t up less =
     let le : low ≤ k = up.0 in
-    ap (λ b. b || list_any (λ x. x == t) ks) (not_equal k t (λ e. omega (arith, e, le, less))) ∙ none_below ks (k + 1) t up.1 (omega (arith, le, less))
+    ap (λ b. b || list_any (λ x. x == t) ks) (number_other k t (λ e. omega (arith, e, le, less))) ∙ none_below ks (k + 1) t up.1 (omega (arith, le, less))
 
 here_is : (k : ℕ) (ks : List ℕ) → list_any (λ x. x == k) (k ∷ ks) ≡ true
 here_is k ks = ap (λ b. b || list_any (λ x. x == k) ks) (same_nat k)
 
 past : (k t : ℕ) (ks : List ℕ) → k ≢ t → list_any (λ x. x == t) (k ∷ ks) ≡ list_any (λ x. x == t) ks
-past k t ks apart = ap (λ b. b || list_any (λ x. x == t) ks) (not_equal k t apart)
+past k t ks apart = ap (λ b. b || list_any (λ x. x == t) ks) (number_other k t apart)
 
 filter_takes : (p : ℕ → Bool) (i : ℕ) (xs : List ℕ) → p i ≡ true → filter p (i ∷ xs) ≡ i ∷ filter p xs
 filter_takes p i xs e = ap (λ b. if b then i ∷ filter p xs else filter p xs) e
@@ -66,7 +67,7 @@ rising_filter p (suc n) i (k ∷ ks) up same low = elim (eqb_tells k i) [
   | inl w ↦
       let own : k ≡ i = w.1 in
       let passes : p i ≡ true = sym (same i (omega arith) (omega arith)) ∙ ap (λ b. b || list_any (λ x. x == i) ks) w.0 in
-      let rest = rising_filter p n (i + 1) ks (subst (λ q. Rises (q + 1) ks) own up.1) (λ t a b. sym (past k t ks (λ e. omega (arith, e, own, a))) ∙ same t (omega (arith, a)) (omega (arith, b))) (λ t e. let less = low t (or_later (k == t) (list_any (λ x. x == t) ks) e) in omega (arith, less)) in
+      let rest = rising_filter p n (i + 1) ks (subst (λ q. Rises (q + 1) ks) own up.1) (λ t a b. sym (past k t ks (λ e. omega (arith, e, own, a))) ∙ same t (omega (arith, a)) (omega (arith, b))) (λ t e. let less = low t (or_right (k == t) (list_any (λ x. x == t) ks) e) in omega (arith, less)) in
       ap (λ q. q ∷ ks) own ∙ (ap (λ q. i ∷ q) rest ∙ sym (filter_takes p i (range_with_len (i + 1) n) passes))
   | inr w ↦
       let le : i ≤ k = up.0 in
@@ -75,20 +76,12 @@ rising_filter p (suc n) i (k ∷ ks) up same low = elim (eqb_tells k i) [
       rising_filter p n (i + 1) (k ∷ ks) ((let more : i + 1 ≤ k = omega (arith, le, apart) in more), up.1) (λ t a b. same t (omega (arith, a)) (omega (arith, b))) (λ t e. let less = low t e in omega (arith, less))
       ∙ sym (filter_drops p i (range_with_len (i + 1) n) off)
 ]
-  where
-    or_later : (a b : Bool) → b ≡ true → (a || b) ≡ true
-    or_later true b e = refl
-    or_later false b e = e
 
 -- each of these is one of them
 any_own : (ts : List ℕ) (k d : ℕ) → k < length ts → list_any (λ t. t == get_or ts k d) ts ≡ true
 any_own [] k d less = absurd (omega (arith, less))
 any_own (t ∷ ts) zero d less = ap (λ b. b || list_any (λ x. x == t) ts) (same_nat t)
-any_own (t ∷ ts) (suc k) d less = or_later (t == get_or ts k d) (list_any (λ x. x == get_or ts k d) ts) (any_own ts k d (omega (arith, less)))
-  where
-    or_later : (a b : Bool) → b ≡ true → (a || b) ≡ true
-    or_later true b e = refl
-    or_later false b e = e
+any_own (t ∷ ts) (suc k) d less = or_right (t == get_or ts k d) (list_any (λ x. x == get_or ts k d) ts) (any_own ts k d (omega (arith, less)))
 
 -- the blocks to which a node leads, each once, in their order
 pub are_targets : (g : List Node) (h : ℕ) (n : Node) (ts order : List ℕ) → IsSound g → (nth g h).reached ≡ true → n ≡ nth g h → ts ≡ n.targets
@@ -107,11 +100,7 @@ are_targets g h n ts order sound here n_is ts_is up same = record { all = order_
 any_target : (arms : List Arm) (k : ℕ) (d : Arm) → k < length arms → list_any (λ t. t == (get_or arms k d).target) (map target_of arms) ≡ true
 any_target [] k d less = absurd (omega (arith, less))
 any_target (a ∷ arms) zero d less = ap (λ b. b || list_any (λ t. t == a.target) (map target_of arms)) (same_nat a.target)
-any_target (a ∷ arms) (suc k) d less = or_later (a.target == (get_or arms k d).target) (list_any (λ t. t == (get_or arms k d).target) (map target_of arms)) (any_target arms k d (omega (arith, less)))
-  where
-    or_later : (a b : Bool) → b ≡ true → (a || b) ≡ true
-    or_later true b e = refl
-    or_later false b e = e
+any_target (a ∷ arms) (suc k) d less = or_right (a.target == (get_or arms k d).target) (list_any (λ t. t == (get_or arms k d).target) (map target_of arms)) (any_target arms k d (omega (arith, less)))
 
 pub are_arms : (f : Function) (g : List Node) (h : ℕ) (order ts ls : List ℕ) (default : Option ℕ) (bare arms : List Arm)
     → IsSound g → (nth g h).reached ≡ true → ts ≡ (nth g h).targets → ls ≡ literals_by (last_inst (slice_get f.blocks h)) → default ≡ slice_get ts 0

@@ -2,6 +2,8 @@
 use Rattle.std.proofs.Common.{◌≡◌, ◌≢◌, ◌<◌, ◌≤◌, ◌+◌, ◌==◌, ◌&&◌, ◌||◌, ◌⊎◌, not, ℕ, zero, suc, Bool, true, false, List, [], ◌∷◌, length, if◌then◌else◌, Option, Some, None, filter, refl, ap, sym, ◌∙◌, subst, inl, inr, arith}
 use Rattle.std.specs.List.{list_any, range_with_len, slice_get}
 use Rattle.std.proofs.lemmas.Bool.Decides.{eqb_tells}
+use Rattle.list_law.proofs.Numbers.{number_other}
+use Rattle.list_law.proofs.Tests.{not_both}
 use Rattle.spv_module.specs.declared.inst.Function.{Function}
 use Rattle.structure_rules.specs.declared.graph.Merge.{Merge}
 use Rattle.structure_rules.specs.declared.graph.Merge.TheVariants.{Absent, Selection, Loop as LoopMerge}
@@ -44,13 +46,6 @@ up g (Continue h) y b = same (heads_loop g h) h y b
 up g (CaseOf s) y b = same false s y b
 up g (Inside p) y b = same false p y b
 
-pub not_equal : (a b : ℕ) → (a ≡ b → ⊥) → (a == b) ≡ false
-not_equal a b apart = elim (eqb_tells a b) [ inl w ↦ absurd (apart w.1) | inr w ↦ w.0 ]
-
-pub clash : (b : Bool) → b ≡ true → b ≡ false → ⊥
-clash true e f = cc
-clash false e f = cc
-
 no_and : (b : Bool) → (b && false) ≡ false
 no_and true = refl
 no_and false = refl
@@ -69,7 +64,7 @@ kid_none t e (k ∷ ts) off =
     omega (arith, here, rest)
 
 kid_apart : (t k : ℕ) (e : Bool) → (k ≡ t → ⊥) → one ((k == t) && e) ≡ 0
-kid_apart t k e apart = ap (λ b. one (b && e)) (not_equal k t apart)
+kid_apart t k e apart = ap (λ b. one (b && e)) (number_other k t apart)
 
 kid_past : (P : ℕ → Bool) (t : ℕ) (e : Bool) (i n : ℕ) → t < i → kid_sum (λ k. one ((k == t) && e)) (filter P (range_with_len i n)) ≡ 0
 kid_past P t e i zero past = refl
@@ -172,7 +167,7 @@ sum_block : (r : Role) (h : ℕ) (loops : Bool) → loops ≡ false → (r ≡ C
 sum_block r h true e apart = cc
 sum_block First h false e apart = refl
 sum_block (MergeOf k) h false e apart = omega arith
-sum_block (Continue k) h false e apart = sym (zero_if (k == h) (not_equal k h (λ own. apart (ap (λ q. Continue q) own))))
+sum_block (Continue k) h false e apart = sym (zero_if (k == h) (number_other k h (λ own. apart (ap (λ q. Continue q) own))))
 sum_block (CaseOf s) h false e apart = by_test (s == h)
   where
     by_test : (b : Bool) → one b + 0 ≡ one (b || false)
@@ -187,7 +182,7 @@ sum_block (Inside s) h false e apart = by_test (s == h)
 sum_loop : (r : Role) (h : ℕ) → (r ≡ Continue h → ⊥) → merged_at r h ≡ named_at r h
 sum_loop First h apart = refl
 sum_loop (MergeOf k) h apart = refl
-sum_loop (Continue k) h apart = sym (not_equal k h (λ own. apart (ap (λ q. Continue q) own)))
+sum_loop (Continue k) h apart = sym (number_other k h (λ own. apart (ap (λ q. Continue q) own)))
 sum_loop (CaseOf s) h apart = refl
 sum_loop (Inside s) h apart = refl
 
@@ -211,7 +206,7 @@ other_apart t h (Some k) e own = by_test (k == t) refl e
   where
     by_test : (b : Bool) → (k == t) ≡ b → (if b then None else Some k) ≡ Some h → ⊥
     by_test true is e = cc
-    by_test false is e = let equal : k ≡ h = cc in clash (k == t) (ap (λ q. q == t) (equal ∙ own) ∙ same_nat t) is
+    by_test false is e = let equal : k ≡ h = cc in not_both (k == t) (ap (λ q. q == t) (equal ∙ own) ∙ same_nat t) is
 
 loop_merges : (m : Merge) → IsLoopMerge m → is_loop_merge m ≡ true
 loop_merges Absent is = absurd is
@@ -248,7 +243,7 @@ module _ (f : Function) (g : List Node) (sound : IsSound g) (shaped : IsShaped g
   ]
 
   not_continued : (h : ℕ) → heads_loop g h ≡ false → role g t ≡ Continue h → ⊥
-  not_continued h off is = clash (heads_loop g h) (loop_merges (nth g h).merge (continue_header_is g t h is)) off
+  not_continued h off is = not_both (heads_loop g h) (loop_merges (nth g h).merge (continue_header_is g t h is)) off
 
   kid_hits : (h k : ℕ) (n : Next) → Carries g h k n → hits g (at_block g t) n ≡ one ((k == t) && is_enter g h t)
   kid_hits h k n c = elim (eqb_tells k t) [ inl w ↦ own w.0 w.1 n c | inr w ↦ other w.0 w.1 n c ]
@@ -263,12 +258,12 @@ module _ (f : Function) (g : List Node) (sound : IsSound g) (shaped : IsShaped g
       own on is (Stop Closed) c = absurd c
 
       other : (k == t) ≡ false → k ≢ t → (n : Next) → Carries g h k n → hits g (at_block g t) n ≡ one ((k == t) && is_enter g h t)
-      other off is (At (Block u)) c = ap one (block_hits g t u ∙ not_equal t u (λ e. is (sym (e ∙ c.0)))) ∙ sym (ap (λ b. one (b && is_enter g h t)) off)
+      other off is (At (Block u)) c = ap one (block_hits g t u ∙ number_other t u (λ e. is (sym (e ∙ c.0)))) ∙ sym (ap (λ b. one (b && is_enter g h t)) off)
       other off is (At (Body u)) c = absurd c
       other off is (Stop e) c = sym (ap (λ b. one (b && is_enter g h t)) off)
 
   no_entry : (h : ℕ) → (nth g h).reached ≡ true → (nth g h).targets ≡ [] → is_enter g h t ≡ false
-  no_entry h here empty = not_true (is_enter g h t) (λ e. clash (leads_to t (nth g h)) (enter_leads h here e) (ap (list_any (λ x. x == t)) empty))
+  no_entry h here empty = not_true (is_enter g h t) (λ e. not_both (leads_to t (nth g h)) (enter_leads h here e) (ap (list_any (λ x. x == t)) empty))
 
   one_target : (h a : ℕ) → (nth g h).reached ≡ true → (nth g h).targets ≡ a ∷ [] → ((a == t) && is_enter g h t) ≡ is_enter g h t
   one_target h a here only = by_tests (a == t) (is_enter g h t) (λ e. sym (or_none (a == t)) ∙ (sym (ap (list_any (λ x. x == t)) only) ∙ enter_leads h here e))
@@ -296,7 +291,7 @@ module _ (f : Function) (g : List Node) (sound : IsSound g) (shaped : IsShaped g
   pair_hits h n m (x ∷ y ∷ []) here is fit apart c d =
       let a : hits g (at_block g t) n ≡ one ((x == t) && is_enter g h t) = kid_hits h x n c in
       let b : hits g (at_block g t) m ≡ one ((y == t) && is_enter g h t) = kid_hits h y m d in
-      let e = by_tests (x == t) (y == t) (is_enter g h t) (λ e. sym (ap (list_any (λ z. z == t)) is) ∙ enter_leads h here e) (λ xt yt. clash (x == y) (ap (λ z. z == y) (equal_nat x t xt) ∙ (ap (λ z. t == z) (equal_nat y t yt) ∙ same_nat t)) apart) in
+      let e = by_tests (x == t) (y == t) (is_enter g h t) (λ e. sym (ap (list_any (λ z. z == t)) is) ∙ enter_leads h here e) (λ xt yt. not_both (x == y) (ap (λ z. z == y) (equal_nat x t xt) ∙ (ap (λ z. t == z) (equal_nat y t yt) ∙ same_nat t)) apart) in
       omega (arith, a, b, e)
     where
       by_tests : (u v w : Bool) → (w ≡ true → (u || (v || false)) ≡ true) → (u ≡ true → v ≡ true → ⊥) → one (u && w) + one (v && w) ≡ one w
@@ -323,7 +318,7 @@ module _ (f : Function) (g : List Node) (sound : IsSound g) (shaped : IsShaped g
             ap one (block_hits g t m ∙ w.0) ∙ sym (ap one none)
       ]
       by_reached m false is live =
-          let none : merged_at (role g t) h ≡ false = not_true (merged_at (role g t) h) (λ e. let both : Some m ≡ Some t = sym is ∙ merged_tells h e in let equal : m ≡ t = cc in clash (nth g t).reached there (subst (λ x. (nth g x).reached ≡ false) equal live)) in
+          let none : merged_at (role g t) h ≡ false = not_true (merged_at (role g t) h) (λ e. let both : Some m ≡ Some t = sym is ∙ merged_tells h e in let equal : m ≡ t = cc in not_both (nth g t).reached there (subst (λ x. (nth g x).reached ≡ false) equal live)) in
           sym (ap one none)
 
       by_merge : (o : Option ℕ) → merge_block g h ≡ o → hits g (at_block g t) (if_reached g o) ≡ one (merged_at (role g t) h)
@@ -380,7 +375,7 @@ module _ (f : Function) (g : List Node) (sound : IsSound g) (shaped : IsShaped g
       let facts = (role_facts g t).continued h is in
       let link = has_first (name_links g) t h (other_first t h (first_of (name_links g) t) facts.0) in
       let goes : continue_target g h ≡ Some t = continue_named_by (nth g h).merge t (name_from g t h link).2 facts.1 in
-      let apart : (t == h) ≡ false = not_equal t h (λ own. other_apart t h (first_of (name_links g) t) facts.0 (sym own)) in
+      let apart : (t == h) ≡ false = number_other t h (λ own. other_apart t h (first_of (name_links g) t) facts.0 (sym own)) in
       ap (other_block g h) goes ∙ (ap (λ b. if b && not (t == h) then Some t else None) there ∙ ap (λ b. if not b then Some t else None) apart)
 
   pub block_step : IsStep f g (at_block g t) (up g (role g t))
@@ -392,7 +387,7 @@ module _ (f : Function) (g : List Node) (sound : IsSound g) (shaped : IsShaped g
         let b : hits g (at_block g t) (merged g h) ≡ one (merged_at (role g t) h) = merged_hits h here in
         let e : one (is_enter g h t) + one (merged_at (role g t) h) ≡ one (up g (role g t) false h) = sum_block (role g t) h (heads_loop g h) loops (not_continued h loops) ∙ sym (ap one (up_block g (role g t) h)) in
         omega (arith, a, b, e));
-    loose_step = λ h n m here con sel c d. both_hit h n m here con c d ∙ sym (ap one (only_enters h (λ e. clash (is_selection (nth g h).merge) e sel)));
+    loose_step = λ h n m here con sel c d. both_hit h n m here con c d ∙ sym (ap one (only_enters h (λ e. not_both (is_selection (nth g h).merge) e sel)));
     loop_step = λ h here loops gone. (
         let a : one (same (heads_loop g t) t false h) ≡ 0 = ap one (body_apart h loops) in
         let b : hits g (at_block g t) (merged g h) ≡ one (merged_at (role g t) h) = merged_hits h here in

@@ -1,7 +1,9 @@
 -- The blocks at which control goes on are reached, and stand behind.
-use Rattle.std.proofs.Common.{◌≡◌, ◌<◌, ◌≤◌, ◌==◌, ◌||◌, ℕ, zero, suc, Bool, true, false, List, [], ◌∷◌, length, get_or, if◌then◌else◌, Some, refl, ap, sym, ◌∙◌, subst, inl, inr, arith}
+use Rattle.std.proofs.Common.{◌≡◌, ◌<◌, ◌≤◌, ◌==◌, ◌||◌, ℕ, zero, suc, true, false, List, [], ◌∷◌, length, get_or, if◌then◌else◌, Some, refl, ap, sym, ◌∙◌, subst, inl, inr, arith}
 use Rattle.std.specs.List.{list_any, slice_get}
 use Rattle.std.proofs.lemmas.Bool.Decides.{eqb_tells}
+use Rattle.std.proofs.lemmas.Bool.{false_from_ne_true}
+use Rattle.std.proofs.Math.Bool.{or-true}
 use Rattle.spv_module.specs.declared.inst.Function.{Function}
 use Rattle.structure_rules.specs.declared.graph.Exit.TheVariants.{Conditional}
 use Rattle.structure_rules.specs.declared.graph.Node.{Node}
@@ -39,12 +41,8 @@ enter_later g b t sound here leads enters =
     let parent : parent_of (role g t) ≡ Some b = elim (enter_view g sound b here t enters) [ inl r ↦ ap parent_of r | inr r ↦ ap parent_of r ] in
     ((sound.grounded.up t b there parent).0, there)
 
-not_true : (b : Bool) → (b ≡ true → ⊥) → b ≡ false
-not_true true never = absurd (never refl)
-not_true false never = refl
-
 pub not_enter : (g : List Node) (b t : ℕ) (k : EdgeKind) → ((j : EdgeKind) → has_kind g b t j ≡ true → j ≡ k) → (k ≡ Enter → ⊥) → is_enter g b t ≡ false
-not_enter g b t k only other = not_true (is_enter g b t) (λ e. other (sym (only Enter e)))
+not_enter g b t k only other = false_from_ne_true (is_enter g b t) (λ e. other (sym (only Enter e)))
 
 pub target_leads : (n : Node) (k t : ℕ) → slice_get n.targets k ≡ Some t → leads_to t n ≡ true
 target_leads n k t e = by_list n.targets k e
@@ -52,14 +50,10 @@ target_leads n k t e = by_list n.targets k e
     head_same : (x : ℕ) (ts : List ℕ) → x ≡ t → list_any (λ q. q == t) (x ∷ ts) ≡ true
     head_same x ts same = elim (eqb_tells x t) [ inl w ↦ ap (λ b. b || list_any (λ q. q == t) ts) w.0 | inr w ↦ absurd (w.1 same) ]
 
-    or_true : (b : Bool) → (b || true) ≡ true
-    or_true true = refl
-    or_true false = refl
-
     by_list : (ts : List ℕ) (k : ℕ) → slice_get ts k ≡ Some t → list_any (λ q. q == t) ts ≡ true
     by_list [] k e = cc
     by_list (x ∷ ts) zero e = head_same x ts (let same : x ≡ t = cc in same)
-    by_list (x ∷ ts) (suc k) e = ap (λ b. (x == t) || b) (by_list ts k e) ∙ or_true (x == t)
+    by_list (x ∷ ts) (suc k) e = ap (λ b. (x == t) || b) (by_list ts k e) ∙ or-true (x == t)
 
 pub named_role_is : (g : List Node) (t h : ℕ) → header_of g t ≡ Some h → role g t ≡ named_role g t h
 unfolding role

@@ -2,6 +2,7 @@
 use Rattle.std.proofs.Common.{◌≡◌, ◌==◌, ◌&&◌, not, ℕ, Bool, true, false, List, [], ◌∷◌, ◌++◌, length, map, if◌then◌else◌, Option, Some, None, is_none, filter, refl, ap, sym, ◌∙◌, subst, inl, inr}
 use Rattle.std.specs.List.{list_any, range_with_len}
 use Rattle.std.proofs.lemmas.Bool.Decides.{eqb_tells}
+pub use Rattle.std.proofs.lemmas.Bool.{false_from_ne_true as not_true}
 use Rattle.spv_module.specs.declared.inst.Function.{Function}
 use Rattle.structure_rules.specs.declared.graph.Merge.{Merge}
 use Rattle.structure_rules.specs.declared.graph.Merge.TheVariants.{Absent, Selection, Loop as LoopMerge}
@@ -68,10 +69,6 @@ enters_case g h t sound here is leads e =
 pub merge_role : (g : List Node) (h m : ℕ) → IsSound g → (nth g h).reached ≡ true → merge_block g h ≡ Some m → role g m ≡ MergeOf h
 merge_role g h m sound here is =
     role_merge g sound h here m h (header_is g sound m h (merge_link g m h here is) (λ same. not_own g sound h here (is ∙ ap (λ q. Some q) (sym same)))) is
-
-pub not_true : (b : Bool) → (b ≡ true → ⊥) → b ≡ false
-not_true true never = absurd (never refl)
-not_true false never = refl
 
 -- the block in which a loop continues
 pub record IsContinue (g : List Node) (h c : ℕ) : Type 0 where

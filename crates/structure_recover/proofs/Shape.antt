@@ -1,6 +1,7 @@
 -- The graph of a function: its first block is reached, and terminators have no more targets than their kinds have.
 use Rattle.std.proofs.Common.{◌≡◌, ◌<◌, ◌≤◌, ◌==◌, ℕ, zero, suc, Bool, true, false, List, [], ◌∷◌, length, map, take, drop, Option, Some, None, refl, sym, ◌∙◌, subst, arith}
 use Rattle.std.proofs.lemmas.List.{length-map, length-take}
+use Rattle.list_law.proofs.Numbers.{above_zero}
 use Rattle.spv_module.specs.declared.inst.Inst.{Inst}
 use Rattle.spv_module.specs.declared.inst.Block.{Block}
 use Rattle.spv_module.specs.declared.inst.Function.{Function}
@@ -24,13 +25,9 @@ first_reached f some =
     let blocks : 0 < length ns = (let a = graph_sized f in let b = length_nodes f in omega (arith, some, a, b)) in
     past_told (reached ns) ns 0 size ∙ reach_le ns 0 (length ns) 0 (omega arith) (reach_start ns blocks)
 
-positive : (n : ℕ) → (n == 0) ≡ false → 0 < n
-positive zero e = cc
-positive (suc n) e = omega arith
-
 pub some_reached : (f : Function) (ns g : List Node) → ns ≡ g → g ≡ graph f → (length ns == 0) ≡ false → (nth g 0).reached ≡ true
 some_reached f ns g one two some =
-    subst (λ q. (nth q 0).reached ≡ true) (sym two) (first_reached f (subst (λ q. 0 < length q) (one ∙ two) (positive (length ns) some)))
+    subst (λ q. (nth q 0).reached ≡ true) (sym two) (first_reached f (subst (λ q. 0 < length q) (one ∙ two) (above_zero (length ns) some)))
 
 pub first_none : (g : List Node) → (length g == 0) ≡ true → first g ≡ Stop Closed
 first_none [] e = refl

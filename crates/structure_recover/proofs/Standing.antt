@@ -1,6 +1,8 @@
 -- Each reached block stands in the tree once.
 use Rattle.std.proofs.Common.{◌≡◌, ◌<◌, ◌+◌, ◌==◌, ℕ, zero, suc, Bool, true, false, List, [], ◌∷◌, ◌++◌, length, if◌then◌else◌, Option, Some, None, filter, refl, ap, sym, ◌∙◌, subst, inl, inr, arith}
 use Rattle.std.proofs.lemmas.Bool.Decides.{eqb_tells}
+use Rattle.list_law.proofs.Numbers.{number_other, turned}
+use Rattle.list_law.proofs.Tests.{not_both}
 use Rattle.spv_module.specs.declared.inst.Function.{Function}
 use Rattle.structure_rules.specs.declared.graph.Exit.{Exit as Terminator}
 use Rattle.structure_rules.specs.declared.graph.Exit.TheVariants as terminator
@@ -11,7 +13,7 @@ use Rattle.structure_rules.specs.declared.graph.Part.TheVariants.{If, Loop, Cont
 use Rattle.structure_rules.specs.Graph.{graph, nth, merge_block}
 use Rattle.structure_rules.specs.Nesting.{role, parent_of}
 use Rattle.nest_place.specs.Nests.{IsSound}
-use Rattle.nest_place.proofs.LinkLemmas.{equal_nat, same_nat}
+use Rattle.nest_place.proofs.LinkLemmas.{equal_nat}
 use Rattle.nest_place.proofs.Parenthood.{orphan_bad}
 use Rattle.nest_place.proofs.Outward.{reached_inside}
 use Rattle.structure_recover.specs.declared.region.Exit.TheVariants.{Closed}
@@ -24,7 +26,7 @@ use Rattle.structure_recover.specs.Once.{Around, within, branch, round, around, 
 use Rattle.structure_recover.proofs.Rounds.{AllStand, regions_stand, round_is}
 use Rattle.structure_recover.proofs.Counting.{one, hits, kid_sum, times, inner_times, group_times, IsStep, times_follow}
 use Rattle.structure_recover.proofs.Shape.{IsShaped, graph_shaped, first_reached}
-use Rattle.structure_recover.proofs.Kids.{same, up, at_block, block_hits, block_step, not_equal, clash}
+use Rattle.structure_recover.proofs.Kids.{same, up, at_block, block_hits, block_step}
 
 -- the body of a loop begins where the loop stands
 module _ (f : Function) (g : List Node) (k : ℕ) (loops : heads_loop g k ≡ true) where
@@ -122,7 +124,7 @@ module _ (f : Function) (g : List Node) (sound : IsSound g) (shaped : IsShaped g
       parented : (p : ℕ) → parent_of (role g t) ≡ Some p → times (up g (role g t)) r ≡ 1 → times (at_block g t) r ≡ 1
       parented p is up_once =
           let low : p < t = (sound.grounded.up t p there is).0 in
-          let zero_is : one (t == 0) ≡ 0 = ap one (not_equal t 0 (λ e. omega (arith, e, low))) in
+          let zero_is : one (t == 0) ≡ 0 = ap one (number_other t 0 (λ e. omega (arith, e, low))) in
           omega (arith, all, start, zero_is, up_once)
 
       Earlier : Type 0
@@ -155,9 +157,6 @@ about b (s ∷ ss) = one (s.0 == b) + about b ss
 about_both : (b : ℕ) (xs ys : List (ℕ × List Around)) → about b (xs ++ ys) ≡ about b xs + about b ys
 about_both b [] ys = omega arith
 about_both b (x ∷ xs) ys = let rest = about_both b xs ys in omega (arith, rest)
-
-turned : (a b : ℕ) → (a == b) ≡ (b == a)
-turned a b = elim (eqb_tells a b) [ inl w ↦ w.0 ∙ sym (ap (λ x. x == a) (sym w.1) ∙ same_nat a) | inr w ↦ w.0 ∙ sym (not_equal b a (λ e. w.1 (sym e))) ]
 
 module _ (b : ℕ) where
   mutual
@@ -223,7 +222,7 @@ unreached_none g b [] all off = refl
 unreached_none g b (s ∷ ss) all off = by_test (unreached_none g b ss all.2 off) (s.0 == b) refl
   where
     by_test : chosen b ss ≡ [] → (x : Bool) → (s.0 == b) ≡ x → (if x then s ∷ chosen b ss else chosen b ss) ≡ []
-    by_test rest true is = absurd (clash (nth g s.0).reached all.0 (ap (λ k. (nth g k).reached) (equal_nat s.0 b is) ∙ off))
+    by_test rest true is = absurd (not_both (nth g s.0).reached all.0 (ap (λ k. (nth g k).reached) (equal_nat s.0 b is) ∙ off))
     by_test rest false is = rest
 
 -- the first block has no parent

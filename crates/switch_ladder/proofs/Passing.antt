@@ -3,17 +3,12 @@ use Rattle.std.proofs.Common.{◌≡◌, ◌≢◌, ◌<◌, ◌+◌, ◌==◌, 
 use Rattle.std.specs.List.{list_any, range_with_len}
 use Rattle.std.specs.List.Sorted.{IsSorted, IsBinarySearchResult}
 use Rattle.std.specs.Ordering.{nat_cmp}
-use Rattle.std.proofs.lemmas.Bool.{cases_lt}
+use Rattle.std.proofs.lemmas.Bool.{cases_lt, or_right}
 use Rattle.std.proofs.lemmas.Bool.Decides.{eqb_tells}
 use Rattle.std.proofs.lemmas.List.Sorted.{searched, IsNonDecreasingBy-from_sort}
 use Rattle.std.proofs.lemmas.List.Elements.{filter-append}
 use Rattle.std.proofs.lemmas.List.Folds.{list_any-append}
-
-range_end : (a n : ℕ) → range_with_len a (suc n) ≡ range_with_len a n ++ (a + n) ∷ []
-range_end a zero = let e : a ≡ a + 0 = omega arith in ap (λ k. k ∷ []) e
-range_end a (suc n) =
-    let e : (a + 1) + n ≡ a + suc n = omega arith in
-    ap (λ r. a ∷ r) (range_end (a + 1) n ∙ ap (λ k. range_with_len (a + 1) n ++ k ∷ []) e)
+use Rattle.list_law.proofs.Lists.{range_end}
 
 one_more : (n : ℕ) → range_with_len 0 (n + 1) ≡ range_with_len 0 n ++ n ∷ []
 one_more n =
@@ -42,11 +37,7 @@ pass_more p n old new x before is more =
 any_at : (xs : List ℕ) (k x : ℕ) → k < length xs → get_or xs k 0 ≡ x → list_any (λ b. b == x) xs ≡ true
 any_at [] k x less is = absurd (omega (arith, less))
 any_at (y ∷ ys) zero x less is = elim (eqb_tells y x) [ inl w ↦ ap (λ b. b || list_any (λ b. b == x) ys) w.0 | inr w ↦ absurd (w.1 is) ]
-any_at (y ∷ ys) (suc k) x less is = or_later (y == x) (list_any (λ b. b == x) ys) (any_at ys k x (omega (arith, less)) is)
-  where
-    or_later : (a b : Bool) → b ≡ true → (a || b) ≡ true
-    or_later true b e = refl
-    or_later false b e = e
+any_at (y ∷ ys) (suc k) x less is = or_right (y == x) (list_any (λ b. b == x) ys) (any_at ys k x (omega (arith, less)) is)
 
 none_at : (xs : List ℕ) (x : ℕ) → ((k : ℕ) → k < length xs → get_or xs k 0 ≢ x) → list_any (λ b. b == x) xs ≡ false
 none_at [] x never = refl

@@ -3,6 +3,7 @@ use Rattle.std.proofs.Common.{◌≡◌, ◌==◌, ◌&&◌, ◌||◌, ℕ, ◌+
 use Rattle.std.specs.List.{list_any}
 use Rattle.std.proofs.lemmas.List.{drop_more}
 use Rattle.std.proofs.Math.ListN.{drop_of_length-le}
+use Rattle.std.proofs.Math.Bool.{or_assoc}
 use Rattle.spv_module.specs.declared.inst.Inst.{Inst}
 use Rattle.text_rules.specs.Constants.{Source}
 use Rattle.text_rules.specs.Printed.{has_operand, has_operand_from, is_private, is_length_of, declares, needed_with, needed_from}
@@ -17,10 +18,6 @@ operand_end ids id k words past = ap (has_operand_from ids id k) (drop_of_length
 
 pub ruleset operand_rules = (operand_more, operand_end)
 
-pub or_right : (a b c : Bool) → ((a || b) || c) ≡ (a || (b || c))
-or_right true b c = refl
-or_right false b c = refl
-
 or_nothing : (a : Bool) → (a || false) ≡ a
 or_nothing true = refl
 or_nothing false = refl
@@ -29,7 +26,7 @@ or_nothing false = refl
 pub operand_step : (ids : ℕ → Bool) (id k : ℕ) (words : List ℕ) (d : ℕ) (new old all : Bool) → k < length words → new ≡ (old || (ids k && (get_or words k d == id))) → (old || has_operand_from ids id k (drop k words)) ≡ all → (new || has_operand_from ids id (k + 1) (drop (k + 1) words)) ≡ all
 operand_step ids id k words d new old all inside is so =
     ap (λ (b : Bool). b || has_operand_from ids id (k + 1) (drop (k + 1) words)) is
-    ∙ (or_right old (ids k && (get_or words k d == id)) (has_operand_from ids id (k + 1) (drop (k + 1) words))
+    ∙ (or_assoc old (ids k && (get_or words k d == id)) (has_operand_from ids id (k + 1) (drop (k + 1) words))
     ∙ (ap (λ (b : Bool). old || b) (sym (operand_more ids id k words d inside)) ∙ so))
 
 pub operand_all : (ids : ℕ → Bool) (id k : ℕ) (words : List ℕ) (set all : Bool) → length words ≤ k → (set || has_operand_from ids id k (drop k words)) ≡ all → set ≡ all
@@ -66,7 +63,7 @@ needed_all s operand_ids mentions gs none one two three all same empty first sec
     let inits : List Inst → ℕ → Bool = λ l m. list_any (λ (g : Inst). is_private g && (is_written_by operand_ids g && has_operand g m)) l in
     let at : (m : ℕ) → three m ≡ needed_first s operand_ids mentions m =
     λ m. third m ∙ (ap (λ (b : Bool). b || inits gs m) (second m ∙ ap (λ (b : Bool). b || list_any (is_length_of m) gs) (first m ∙ ap (λ (b : Bool). b || list_any (λ (k : ℕ). k == m) mentions) (empty m)))
-    ∙ (or_right (list_any (λ (k : ℕ). k == m) mentions) (list_any (is_length_of m) gs) (inits gs m)
+    ∙ (or_assoc (list_any (λ (k : ℕ). k == m) mentions) (list_any (is_length_of m) gs) (inits gs m)
     ∙ ap (λ (l : List Inst). list_any (λ (k : ℕ). k == m) mentions || (list_any (is_length_of m) l || inits l m)) same)) in
     let sets : three ≡ needed_first s operand_ids mentions = λ i m. at m i in
     last n ∙ (ap (λ (l : List Inst). needed_from s three l n) same ∙ ap (λ (f : ℕ → Bool). needed_from s f s.of.globals n) sets)

@@ -5,6 +5,7 @@ use Rattle.id_map.specs.declared.set.IdSet.{IdSet}
 use Rattle.std.proofs.lemmas.Bool.{eqb-true, or_cases, both_ways}
 use Rattle.std.proofs.lemmas.List.{drop_more}
 use Rattle.std.proofs.Math.ListN.{drop_of_length-le}
+use Rattle.std.proofs.Math.Bool.{or_assoc, or-true}
 use Rattle.spv_module.specs.declared.inst.Inst.{Inst}
 use Rattle.spv_module.specs.declared.inst.Id.{Id}
 use Rattle.spv_module.specs.declared.tree.Shape.{Shape}
@@ -14,7 +15,6 @@ use Rattle.spv_types.specs.View.{tree_of, trees_of}
 use Rattle.text_rules.specs.Printed.{has_struct, have_struct, type_has_struct}
 use Rattle.spv_types.proofs.Views.{shape-Struct}
 use Rattle.text_items.specs.State.{HasThose}
-use Rattle.text_items.proofs.Built.{or_right}
 
 pub have_more : (id : ℕ) (l : List Shape) (i : ℕ) (d : Shape) → i < length l → have_struct id (trees_of (drop i l)) ≡ (has_struct id (tree_of (get_or l i d)) || have_struct id (trees_of (drop (i + 1) l)))
 have_more id l i d inside = ap (λ (m : List Shape). have_struct id (trees_of m)) (drop_more l i d inside)
@@ -28,19 +28,15 @@ pub ruleset have_rules = (have_more, have_end)
 pub have_step : (id : ℕ) (l : List Shape) (i : ℕ) (d : Shape) (new old all : Bool) → i < length l → new ≡ (old || has_struct id (tree_of (get_or l i d))) → (old || have_struct id (trees_of (drop i l))) ≡ all → (new || have_struct id (trees_of (drop (i + 1) l))) ≡ all
 have_step id l i d new old all inside is so =
     ap (λ (b : Bool). b || have_struct id (trees_of (drop (i + 1) l))) is
-    ∙ (or_right old (has_struct id (tree_of (get_or l i d))) (have_struct id (trees_of (drop (i + 1) l)))
+    ∙ (or_assoc old (has_struct id (tree_of (get_or l i d))) (have_struct id (trees_of (drop (i + 1) l)))
     ∙ (ap (λ (b : Bool). old || b) (sym (have_more id l i d inside)) ∙ so))
 
 -- a set with a struct, and then with those of its members
 pub struct_step : (id : ℕ) (shape : Shape) (of : Id) (members : Vec Shape Global) (new marked old : Bool) → shape ≡ Struct of members → marked ≡ (old || (of.0 == id)) → new ≡ (marked || have_struct id (trees_of members.items)) → new ≡ (old || has_struct id (tree_of shape))
 struct_step id shape of members new marked old is marks adds =
     adds ∙ (ap (λ (b : Bool). b || have_struct id (trees_of members.items)) marks
-    ∙ (or_right old (of.0 == id) (have_struct id (trees_of members.items))
+    ∙ (or_assoc old (of.0 == id) (have_struct id (trees_of members.items))
     ∙ ap (λ (t : Tree). old || has_struct id t) (sym (ap tree_of is ∙ shape-Struct of members))))
-
-or_true : (b : Bool) → (b || true) ≡ true
-or_true true = refl
-or_true false = refl
 
 or_false : (b : Bool) → (b || false) ≡ b
 or_false true = refl
@@ -48,7 +44,7 @@ or_false false = refl
 
 -- what is found stays so
 again : (found here : Bool) → (here ≡ true → found ≡ true) → found ≡ (found || here)
-again found true known = known refl ∙ sym (or_true found)
+again found true known = known refl ∙ sym (or-true found)
 again found false known = sym (or_false found)
 
 -- a type that comes again adds nothing
@@ -64,7 +60,7 @@ gone_more gs seen found more all ty those marks adds = record {
       adds id ∙
       ⊎_elim
       (λ old. ap (λ (b : Bool). b || type_has_struct gs id ty) (those.each t id old has))
-      (λ new. ap (λ (b : Bool). is_in found id || b) (ap (type_has_struct gs id) (eqb-true ty t new) ∙ has) ∙ or_true (is_in found id))
+      (λ new. ap (λ (b : Bool). is_in found id || b) (ap (type_has_struct gs id) (eqb-true ty t new) ∙ has) ∙ or-true (is_in found id))
       (or_cases (is_in seen t) (ty == t) (sym (marks t) ∙ h));
 }
 

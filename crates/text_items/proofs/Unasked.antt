@@ -2,6 +2,7 @@
 use Rattle.std.proofs.Common.{◌≡◌, ◌&&◌, ◌||◌, ℕ, not, Bool, true, false, List, [], ◌∷◌, ◌++◌, None, refl, ap, ◌∙◌}
 use Rattle.std.specs.Prelude.{flat_map, is_some, if◌then◌else◌}
 use Rattle.std.specs.List.{list_any, enumerate_from}
+use Rattle.list_law.proofs.Tests.{or_left, or_right}
 use Rattle.spv_ops.specs.Opcode.{is}
 use Rattle.spv_ops.specs.declared.Op.TheVariants as code
 use Rattle.spv_module.specs.declared.inst.Inst.{Inst}
@@ -18,14 +19,6 @@ use Rattle.text_items.specs.Asked.{is_asked}
 true_false : true ≡ false → ⊥
 true_false e = cc
 
-left_false : (a b : Bool) → (a || b) ≡ false → a ≡ false
-left_false true b h = absurd (true_false h)
-left_false false b h = refl
-
-right_false : (a b : Bool) → (a || b) ≡ false → b ≡ false
-right_false true b h = absurd (true_false h)
-right_false false b h = h
-
 -- what stands behind a test that fails
 behind : (a b x y : Bool) → (a && b) ≡ false → (a && (b && x)) ≡ (a && (b && y))
 behind true true x y h = absurd (true_false h)
@@ -35,8 +28,8 @@ behind false b x y h = refl
 flats : {A B : Type 0} (f g : A → List B) (test : A → Bool) → ((a : A) → test a ≡ false → f a ≡ g a) → (xs : List A) → list_any test xs ≡ false → flat_map f xs ≡ flat_map g xs
 flats f g test same [] h = refl
 flats f g test same (x ∷ xs) h =
-    ap (λ ys. ys ++ flat_map f xs) (same x (left_false (test x) (list_any test xs) h))
-    ∙ ap (λ ys. g x ++ ys) (flats f g test same xs (right_false (test x) (list_any test xs) h))
+    ap (λ ys. ys ++ flat_map f xs) (same x (or_left (test x) (list_any test xs) h))
+    ∙ ap (λ ys. g x ++ ys) (flats f g test same xs (or_right (test x) (list_any test xs) h))
 
 module _ (s : Source) (fs : List Function) (types mentions types' mentions' : List ℕ) where
   abbrev some : Reached
@@ -48,12 +41,12 @@ module _ (s : Source) (fs : List Function) (types mentions types' mentions' : Li
   constant_same : (g : Inst) → is_asked s g ≡ false → is_declared_constant s some g ≡ is_declared_constant s all g
   constant_same g h =
       behind (is_constant g) (is_named (reading s g)) (is_some (free_spec_id s g.result) || is_needed s some g.result) (is_some (free_spec_id s g.result) || is_needed s all g.result)
-      (left_false (is_constant g && is_named (reading s g)) ((is g.op code.TypeStruct) && not (is_block s.of.heads g.result)) h)
+      (or_left (is_constant g && is_named (reading s g)) ((is g.op code.TypeStruct) && not (is_block s.of.heads g.result)) h)
 
   struct_same : (g : Inst) → is_asked s g ≡ false → is_written_struct s some g ≡ is_written_struct s all g
   struct_same g h =
       behind (is g.op code.TypeStruct) (not (is_block s.of.heads g.result)) (list_any (type_has_struct s.of.globals g.result) (written_types s some)) (list_any (type_has_struct s.of.globals g.result) (written_types s all))
-      (right_false (is_constant g && is_named (reading s g)) ((is g.op code.TypeStruct) && not (is_block s.of.heads g.result)) h)
+      (or_right (is_constant g && is_named (reading s g)) ((is g.op code.TypeStruct) && not (is_block s.of.heads g.result)) h)
 
   declaration_same : (names : Names) (g : Inst) → is_asked s g ≡ false → declaration s some names g ≡ declaration s all names g
   declaration_same names g h =

@@ -1,10 +1,11 @@
 -- The items that declare constants with a SpecId.
-use Rattle.std.proofs.Common.{◌≡◌, ◌<◌, ◌+◌, ◌==◌, ℕ, Bool, true, false, List, [], ◌∷◌, length, take, get_or, map, Option, None, Some, is_some, option_map, cond, refl, ap, sym, ◌∙◌}
+use Rattle.std.proofs.Common.{◌≡◌, ◌<◌, ◌+◌, ◌==◌, ℕ, true, false, List, length, take, get_or, Option, None, Some, is_some, cond, ap, sym, ◌∙◌}
 use Rattle.std.specs.Option.{option_map_or, option_or}
-use Rattle.std.specs.List.{position_from, find}
+use Rattle.std.specs.List.{position_from}
 use Rattle.std.specs.Ordering.{nat_cmp, is_eq}
+use Rattle.list_law.proofs.Lists.{position_more}
 use Rattle.spv_decor.proofs.First.{position_fails}
-use Rattle.spv_index.proofs.First.{or_entry, position_more, put_absent, keep_present}
+use Rattle.spv_index.proofs.First.{or_entry, put_absent, keep_present}
 use Rattle.glsl_ast.specs.declared.items.Decl.{Decl}
 use Rattle.glsl_ast.specs.View.{decl_of}
 use Rattle.text_report.specs.Constants.{own_id}
@@ -26,11 +27,3 @@ module _ (ds : List Decl) (i : ℕ) (d : Decl) (inside : i < length ds) where
     -- one more that is not
     pub places_old : (old : ℕ → Option ℕ) → is_some (old own) ≡ true → ArePlaces (take i ds) old → ArePlaces (take (i + 1) ds) old
     places_old old present before id = keep_present old own i present id ∙ ap (λ o. or_entry o own i id) (before id) ∙ sym (entry id)
-
--- what is found among trees
-pub find_tree : {X Y : Type 0} (test : Y → Bool) (f : X → Y) (xs : List X) → find test (map f xs) ≡ option_map f (find (λ x. test (f x)) xs)
-find_tree test f [] = refl
-find_tree test f (x ∷ xs) = elim (test (f x)) as (λ b. cond b (Some (f x)) (find test (map f xs)) ≡ option_map f (cond b (Some x) (find (λ y. test (f y)) xs))) [
-  | true ↦ refl
-  | false ↦ find_tree test f xs
-]

@@ -1,9 +1,10 @@
 -- A report has no number with a fraction, so that its text is determined.
-use Rattle.std.proofs.Common.{◌≡◌, ◌||◌, ℕ, Bool, false, List, [], ◌∷◌, map, Option, None, Some, IfSome, option_map, refl, subst, sym, ◌∙◌, ap}
+use Rattle.std.proofs.Common.{◌≡◌, ℕ, false, List, [], ◌∷◌, map, Option, None, Some, IfSome, option_map, refl}
 use Rattle.std.specs.Prelude.{ℤ, pos, negsuc, option_and_then}
 use Rattle.std.specs.Option.{option_or}
 use Rattle.std.specs.Int.{w32, cast_signed}
 use Rattle.std.specs.List.{filter_map, cons_option, find}
+use Rattle.std.proofs.lemmas.Bool.{or_from}
 use Rattle.spv_module.specs.State.{ModuleState}
 use Rattle.spv_ops.specs.Enumerants.{decoration_number}
 use Rattle.spv_ops.specs.declared.Decoration.TheVariants as decoration
@@ -27,16 +28,13 @@ use Rattle.text_report.specs.Report.{report_data}
 abbrev IsWhole : Option Data → Type 0
 IsWhole o = IfSome o (λ d. has_float d ≡ false)
 
-neither : (a b : Bool) → a ≡ false → b ≡ false → (a || b) ≡ false
-neither a b p q = subst (λ (x : Bool). (x || b) ≡ false) (sym p) q
-
 whole_items : {X : Type 0} (f : X → Data) → ((x : X) → has_float (f x) ≡ false) → (xs : List X) → items_have_float (items_of (map f xs)) ≡ false
 whole_items f h [] = refl
-whole_items f h (x ∷ xs) = neither (has_float (f x)) _ (h x) (whole_items f h xs)
+whole_items f h (x ∷ xs) = or_from (has_float (f x)) _ (h x) (whole_items f h xs)
 
 whole_more : (o : Option Data) (ds : List Data) → IsWhole o → items_have_float (items_of ds) ≡ false → items_have_float (items_of (cons_option o ds)) ≡ false
 whole_more None ds h rest = rest
-whole_more (Some d) ds h rest = neither (has_float d) _ h rest
+whole_more (Some d) ds h rest = or_from (has_float d) _ h rest
 
 whole_some : {X : Type 0} (f : X → Option Data) → ((x : X) → IsWhole (f x)) → (xs : List X) → items_have_float (items_of (filter_map f xs)) ≡ false
 whole_some f h [] = refl
@@ -58,10 +56,10 @@ whole_block (constant id ty name value) = tt
 whole_block (shared ty name) = tt
 whole_block (global ty name value) = tt
 whole_block (block place rules quals buffer name members instance) =
-    neither (has_float (number_or_null (binding_number place))) _ (whole_number (binding_number place))
-    (neither (items_have_float (items_of (map member_data members))) _ (whole_items member_data whole_member members)
-    (neither (items_have_float (items_of (map qualifier_data quals))) _ (whole_items qualifier_data whole_qualifier quals)
-    (neither (has_float (number_or_null (set_number place))) _ (whole_number (set_number place)) refl)))
+    or_from (has_float (number_or_null (binding_number place))) _ (whole_number (binding_number place))
+    (or_from (items_have_float (items_of (map member_data members))) _ (whole_items member_data whole_member members)
+    (or_from (items_have_float (items_of (map qualifier_data quals))) _ (whole_items qualifier_data whole_qualifier quals)
+    (or_from (has_float (number_or_null (set_number place))) _ (whole_number (set_number place)) refl)))
 whole_block (function result name params body) = tt
 
 whole_shared : (d : Decl) → IsWhole (shared_data d)
@@ -88,7 +86,7 @@ whole_default _ = refl
 
 whole_constant : (id : Option ℕ) (ty : tree.TypeName) (name : Text) (value : Expr) → IsWhole (declared_data (constant id ty name value))
 whole_constant None ty name value = tt
-whole_constant (Some id) ty name value = neither (has_float (default_data value)) _ (whole_default value) refl
+whole_constant (Some id) ty name value = or_from (has_float (default_data value)) _ (whole_default value) refl
 
 whole_declared : (d : Decl) → IsWhole (declared_data d)
 whole_declared (struct name fields) = tt
@@ -99,7 +97,7 @@ whole_declared (block place rules quals buffer name members instance) = tt
 whole_declared (function result name params body) = tt
 
 whole_part : (ss : List Size) (s : Size) → has_float (part_data ss s) ≡ false
-whole_part ss s = neither (has_float (number_or_null (number_at ss s.axis))) _ (whole_number (number_at ss s.axis)) refl
+whole_part ss s = or_from (has_float (number_or_null (number_at ss s.axis))) _ (whole_number (number_at ss s.axis)) refl
 
 whole_then : {X : Type 0} (f : X → Option Data) → ((x : X) → IsWhole (f x)) → (o : Option X) → IsWhole (option_and_then f o)
 whole_then f h None = tt
@@ -120,9 +118,9 @@ whole_size_ids ss = whole_items (λ axis. number_or_null (id_at ss axis)) (λ ax
 
 pub whole_report : (m : ModuleState) (name : Option Text) (u : TranslationUnit) → has_float (report_data m name u) ≡ false
 whole_report m name (translation_unit ss ds) =
-    neither (items_have_float (items_of (filter_map block_data ds))) _ (whole_some block_data whole_block ds)
-    (neither (items_have_float (items_of (filter_map shared_data ds))) _ (whole_some shared_data whole_shared ds)
-    (neither (has_float (size_data ss)) _ (whole_size ss)
-    (neither (has_float (size_ids_data ss)) _ (whole_size_ids ss)
-    (neither (items_have_float (items_of (spec m (translation_unit ss ds)))) _
+    or_from (items_have_float (items_of (filter_map block_data ds))) _ (whole_some block_data whole_block ds)
+    (or_from (items_have_float (items_of (filter_map shared_data ds))) _ (whole_some shared_data whole_shared ds)
+    (or_from (has_float (size_data ss)) _ (whole_size ss)
+    (or_from (has_float (size_ids_data ss)) _ (whole_size_ids ss)
+    (or_from (items_have_float (items_of (spec m (translation_unit ss ds)))) _
     (whole_some (spec_by m (translation_unit ss ds)) (λ g. whole_then (spec_data (translation_unit ss ds)) (whole_spec (translation_unit ss ds)) (value_of m.heads g.result (decoration_number decoration.SpecId))) m.globals) refl))))

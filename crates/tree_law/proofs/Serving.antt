@@ -1,8 +1,7 @@
 -- An edge out of a region leads where its kind says; and what serves a region goes over into the constructs in it.
 use Rattle.std.proofs.Common.{◌≡◌, ◌||◌, ℕ, Bool, true, false, List, [], ◌∷◌, Option, Some, None, is_some, if◌then◌else◌, refl, sym, ap, ◌∙◌, subst, ◌⊎◌, inl, inr, ⊎_elim}
 use Rattle.std.specs.Prelude.{option_and_then}
-use Rattle.std.proofs.lemmas.Bool.{false≢true, and_parts}
-use Rattle.std.proofs.lemmas.Bool.Decides.{eqb_tells}
+use Rattle.std.proofs.lemmas.Bool.{and_parts}
 use Rattle.std.proofs.lemmas.Option.{same_Some}
 use Rattle.structure_rules.specs.declared.graph.Node.{Node}
 use Rattle.structure_rules.specs.declared.graph.Part.{Part}
@@ -13,15 +12,12 @@ use Rattle.structure_rules.specs.Graph.{nth, leads_to, merge_block, continue_tar
 use Rattle.structure_rules.specs.Nesting.{role}
 use Rattle.structure_rules.specs.EdgeKinds.{body_header, continue_header, loop_header, if_header, case_switch, case_target, nearest_loop, innermost, innermost_switch, merges_to, continues_to, is_break, case_of, are_same, is_enter, has_kind}
 use Rattle.structure_rules.specs.Structure.{falls_from}
+use Rattle.nest_place.proofs.OneKind.{value_some}
 use Rattle.structure_recover.specs.Tree.{Groups}
 use Rattle.glsl_ast.specs.Tree.{Text}
 use Rattle.control_text.specs.Statements.{Blocks}
 use Rattle.region_law.specs.Leads.{Term, Ways, out_of, out_if, in_case, BreakLeads, BackLeads, EdgeLeads}
 use Rattle.tree_law.specs.Serves.{nearest, top, switch_in, place_of, Sees, Serves, if_there, behind, in_choice, in_body, in_continue}
-
-pub value_some : (x : ℕ) (o : Option ℕ) → is_value x o ≡ true → o ≡ Some x
-value_some x None e = cc
-value_some x (Some y) e = elim (eqb_tells y x) [ inl w ↦ ap (λ q. Some q) w.1 | inr w ↦ absurd (false≢true (sym w.0 ∙ e)) ]
 
 pub merges : (g : List Node) (t : ℕ) (o : Option ℕ) → merges_to g t o ≡ true → (h : ℕ) × (o ≡ Some h) × (merge_block g h ≡ Some t)
 merges g t None e = cc

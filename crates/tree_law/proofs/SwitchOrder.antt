@@ -26,6 +26,7 @@ use Rattle.nest_place.proofs.OneKind.{one_header}
 use Rattle.structure_recover.specs.Follows.{switch_targets}
 use Rattle.structure_recover.proofs.Rounds.{enters_case}
 use Rattle.switch_ladder.specs.Ladder.{fallen_from, begins_chain, chain_of as chain_by, chains_of}
+use Rattle.list_law.proofs.Options.{none_by}
 use Rattle.region_law.specs.Leads.{In, AreApart, AreInOrder, IsOrder}
 use Rattle.tree_law.specs.Chain.{chain, after, chains}
 use Rattle.tree_law.proofs.Order.{in_left, in_right, in_either, apart_joined, in_order_on, all_last, has_first, chain_of, in_chains, chains_apart, chains_ordered}
@@ -288,11 +289,7 @@ module _ (g : List Node) (sound : IsSound g) where
     start_role s i =
         let f = filter_in (begins_chain g h) (switch_targets g h) s i in
         let tests = and_parts (is_enter g h s) (is_none (fallen_from g s)) f.1 in
-        (enters_case g h s sound here is (leads_of s f.0) tests.0, none_of (fallen_from g s) tests.1)
-      where
-        none_of : (o : Option ℕ) → is_none o ≡ true → o ≡ None
-        none_of None e = refl
-        none_of (Some x) e = cc
+        (enters_case g h s sound here is (leads_of s f.0) tests.0, none_by (fallen_from g s) tests.1)
 
     role_start : (s : ℕ) → role g s ≡ CaseOf h → fallen_from g s ≡ None → In s starts
     role_start s r none = in_filter (begins_chain g h) (switch_targets g h) s (target_of s r) (and_from (is_enter g h s) (is_none (fallen_from g s)) (enters_own s h r) (ap is_none none))

@@ -16,6 +16,7 @@ use Rattle.profile_rules.specs.FlowRules.{every_second}
 use Rattle.module_semantics.specs.Setting.{Setting}
 use Rattle.module_semantics.specs.Steps.{source_from}
 use Rattle.list_law.proofs.Tests.{or_left, or_right}
+use Rattle.list_law.proofs.Numbers.{even_again}
 use Rattle.fits_law.specs.Takes.{numbers, Has}
 use Rattle.fits_law.specs.State.{value_shape}
 use Rattle.fits_law.specs.Typed.{IsOfWords}
@@ -61,9 +62,6 @@ module _ (s : Setting) (f : Function) where
 odd_after : (n : ℕ) → (n % 2 == 0) ≡ true → ((n + 1) % 2 == 0) ≡ false
 odd_after n e = grind (arith, nat_tests, e)
 
-even_after : (n : ℕ) → (n % 2 == 0) ≡ true → ((n + 1 + 1) % 2 == 0) ≡ true
-even_after n e = grind (arith, nat_tests, e)
-
 abbrev seconds : ℕ → List ℕ → List ℕ
 seconds n ws = map (λ (o : ℕ × ℕ). o.1) (filter (λ (o : ℕ × ℕ). o.0 % 2 == 0) (enumerate_from n ws))
 
@@ -75,7 +73,7 @@ source_passes test n from id [] e right is = cc
 source_passes test n from id (a ∷ []) e right is = cc
 source_passes test n from id (a ∷ b ∷ ws) e right is =
     let parts : list_any test (a ∷ seconds (n + 1 + 1) ws) ≡ false = ap (list_any test) (sym (pair_first n a b ws e)) ∙ right in
-    by_label (b == from) (or_left (test a) (list_any test (seconds (n + 1 + 1) ws)) parts) (source_passes test (n + 1 + 1) from id ws (even_after n e) (or_right (test a) (list_any test (seconds (n + 1 + 1) ws)) parts)) is
+    by_label (b == from) (or_left (test a) (list_any test (seconds (n + 1 + 1) ws)) parts) (source_passes test (n + 1 + 1) from id ws (even_again n e) (or_right (test a) (list_any test (seconds (n + 1 + 1) ws)) parts)) is
   where
     by_label : (t : Bool) → test a ≡ false → (source_from from ws ≡ Some id → test id ≡ false) → elim t [ true ↦ Some a | false ↦ source_from from ws ] ≡ Some id → test id ≡ false
     by_label true own later is = let same : a ≡ id = same_Some a id is in subst (λ x. test x ≡ false) same own

@@ -25,7 +25,9 @@ use Rattle.module_semantics.specs.Setting.{Setting, as_variable, global_variable
 use Rattle.module_semantics.specs.State.{global, Held, value, pointer, Frame}
 use Rattle.module_semantics.specs.Operands.{of_module, as_value, as_word, word_at, words_at}
 use Rattle.module_semantics.specs.Steps.{base}
-use Rattle.list_law.proofs.Options.{some_part}
+use Rattle.list_law.proofs.Options.{some_part, none_some}
+use Rattle.list_law.proofs.Lists.{same_first, same_rest}
+use Rattle.list_law.proofs.Tests.{clash}
 use Rattle.fits_law.specs.Takes.{nth_of}
 use Rattle.fits_law.specs.State.{target_shape, element_shape, place_shape, LeadsTo}
 use Rattle.fits_law.specs.Typed.{HasOwn, IsChain}
@@ -35,6 +37,9 @@ use Rattle.type_law.proofs.Rows.{by_kind, vector_parts}
 use Rattle.type_law.proofs.Choices.{scalar_elem}
 use Rattle.type_law.proofs.Vectors.{three_off}
 use Rattle.type_law.proofs.Parts.{array_kind, runtime_kind, struct_kind, all_nth, row, earlier_is, same_types}
+
+pub none_longer : (x : ℕ) (xs : List ℕ) → [] ≡ x ∷ xs → ⊥
+none_longer x xs e = cc
 
 constant_only : (o : Op) → is o code.Constant ≡ true → is o code.Variable ≡ false
 unfolding number
@@ -112,7 +117,7 @@ module _ (s : Setting) (f : Function) where
       by_opcode g whole false on false vn false an true rn = runtime_part g t n rn whole
       by_opcode g whole false on false vn false an false rn = inl refl
 
-  nothing_left : (ids : List ℕ) → walk (chain_step Gs T) Nothing ids ≡ Nothing
+  pub nothing_left : (ids : List ℕ) → walk (chain_step Gs T) Nothing ids ≡ Nothing
   nothing_left [] = refl
   nothing_left (id ∷ ids) = nothing_left ids
 
@@ -142,10 +147,7 @@ module _ (s : Setting) (f : Function) where
       by_value (Some v) is_value e = of_word v (right id w v told is_value) e
 
       by_own : (g : Inst) → global_inst Gs id ≡ Some g → is g.op code.Constant ≡ true → (o : Option Held) → c.ids id ≡ o → as_word (as_value (elim o [ Some h ↦ Some h | None ↦ of_module s id ])) ≡ Some n → n ≡ w
-      by_own g there on (Some h) has e = absurd (never (sym (own id h has) ∙ there))
-        where
-          never : None ≡ Some g → ⊥
-          never e = cc
+      by_own g there on (Some h) has e = none_some (sym (own id h has) ∙ there)
       by_own g there on None has e =
           let none : global_variable s id ≡ None = ap (λ (o : Option Inst). elim o [ None ↦ None | Some x ↦ as_variable x ]) there ∙ ap (λ (b : Bool). elim b [ true ↦ Some g | false ↦ None ]) (constant_only g.op on) in
           by_value (s.constants id) refl (ap (λ (o : Option Inst). as_word (as_value (elim o [ Some v ↦ Some (pointer (global id) []) | None ↦ option_map value (s.constants id) ]))) (sym none) ∙ e)
@@ -155,10 +157,7 @@ module _ (s : Setting) (f : Function) where
       by_test g there false on e = cc
 
       by_global : (o : Option Inst) → global_inst Gs id ≡ o → n ≡ w
-      by_global None there = absurd (never (ap (option_and_then constant_if) (sym there) ∙ told))
-        where
-          never : None ≡ Some w → ⊥
-          never e = cc
+      by_global None there = none_some (ap (option_and_then constant_if) (sym there) ∙ told)
       by_global (Some g) there = by_test g there (is g.op code.Constant) refl (ap (option_and_then constant_if) (sym there) ∙ told)
 
   -- each index of a chain has a type
@@ -169,19 +168,10 @@ module _ (s : Setting) (f : Function) where
   indexes_are : (c : Frame) (ids ns : List ℕ) → AreConstants s → HasOwn s c → HaveTypes ids → words_at s c ids ≡ Some ns → AreIndexes ids ns
   indexes_are c [] [] right own have e = tt
   indexes_are c [] (n ∷ ns) right own have e = cc
-  indexes_are c (id ∷ ids) [] right own have e = let b = before_some (word_at s c id) (words_at s c ids) [] e in absurd (never b.0 b.1 b.4)
-    where
-      never : (x : ℕ) (xs : List ℕ) → [] ≡ x ∷ xs → ⊥
-      never x xs e = cc
+  indexes_are c (id ∷ ids) [] right own have e = let b = before_some (word_at s c id) (words_at s c ids) [] e in absurd (none_longer b.0 b.1 b.4)
   indexes_are c (id ∷ ids) (n ∷ ns) right own have e =
       let b = before_some (word_at s c id) (words_at s c ids) (n ∷ ns) e in
-      ((have.0, λ w is. constant_there c id w n right own is (b.2 ∙ ap (λ x. Some x) (sym (same_head n b.0 ns b.1 b.4)))), indexes_are c ids ns right own have.1 (b.3 ∙ ap (λ x. Some x) (sym (same_tail n b.0 ns b.1 b.4))))
-    where
-      same_head : (x y : ℕ) (xs ys : List ℕ) → x ∷ xs ≡ y ∷ ys → x ≡ y
-      same_head x y xs ys e = cc
-
-      same_tail : (x y : ℕ) (xs ys : List ℕ) → x ∷ xs ≡ y ∷ ys → xs ≡ ys
-      same_tail x y xs ys e = cc
+      ((have.0, λ w is. constant_there c id w n right own is (b.2 ∙ ap (λ x. Some x) (sym (same_first n b.0 ns b.1 b.4)))), indexes_are c ids ns right own have.1 (b.3 ∙ ap (λ x. Some x) (sym (same_rest n b.0 ns b.1 b.4))))
 
   -- T6: a chain leads to what its type says, where pointers lead to shapes
   pub chain_typed : (i : Inst) (t : Tree) → breaks_t6 Gs T i ≡ false → AreConstants s → HaveTypes (drop 1 i.args) → target_shape s f (base i) ≡ Some t → T i.result ≡ Some i.ty → (fails is_pointer Gs i.ty ≡ false → (q : ℕ) × (u : Tree) × (pointee Gs i.ty ≡ Some q) × (type_tree Gs q ≡ Some u)) → IsChain s f i
@@ -198,10 +188,7 @@ module _ (s : Setting) (f : Function) where
 
       by_walk : (p : ℕ) (r : Reached) → walk (chain_step Gs T) (Part p) (drop 1 i.args) ≡ r → leads_elsewhere Gs i.ty (option_and_then (storage_class Gs) (T (word i 0))) r ≡ false
           → (walk (chain_step Gs T) (Part p) (drop 1 i.args) ≡ Nothing) ⊎ ((c : ℕ) × (w : Tree) × (walk (chain_step Gs T) (Part p) (drop 1 i.args) ≡ Part c) × (type_tree Gs c ≡ Some w) × (place_shape t indexes ≡ Some w)) → place_shape t indexes ≡ target_shape s f i.result
-      by_walk p r is right (inl none) = absurd (never (ap (leads_elsewhere Gs i.ty (option_and_then (storage_class Gs) (T (word i 0)))) (sym (sym is ∙ none)) ∙ right))
-        where
-          never : true ≡ false → ⊥
-          never e = cc
+      by_walk p r is right (inl none) = clash (ap (leads_elsewhere Gs i.ty (option_and_then (storage_class Gs) (T (word i 0)))) (sym (sym is ∙ none)) ∙ right)
       by_walk p r is right (inr w) =
           let part : is_other_pointer Gs i.ty (option_and_then (storage_class Gs) (T (word i 0))) w.0 ≡ false = ap (leads_elsewhere Gs i.ty (option_and_then (storage_class Gs) (T (word i 0)))) (sym (sym is ∙ w.2)) ∙ right in
           let off = three_off (fails is_pointer Gs i.ty) (option_map_or (λ c. is_not c (storage_class Gs i.ty)) (option_and_then (storage_class Gs) (T (word i 0))) false) (option_map_or (differ Gs w.0) (pointee Gs i.ty) false) part in
@@ -226,10 +213,7 @@ module _ (s : Setting) (f : Function) where
       by_walk (walk (chain_step Gs T) (Part start.0) (drop 1 i.args)) reached (elim (chain_leads (drop 1 i.args) indexes.0 start.0 t start.2 indexes.1) [ inl none ↦ inl none | inr w ↦ inr (w.0, w.2) ])
     where
       by_walk : (r : Reached) → leads_elsewhere Gs i.ty (option_and_then (storage_class Gs) (T (word i 0))) r ≡ false → (r ≡ Nothing) ⊎ ((c : ℕ) × (r ≡ Part c)) → fails is_pointer Gs i.ty ≡ false
-      by_walk r right (inl none) = absurd (never (ap (leads_elsewhere Gs i.ty (option_and_then (storage_class Gs) (T (word i 0)))) (sym none) ∙ right))
-        where
-          never : true ≡ false → ⊥
-          never e = cc
+      by_walk r right (inl none) = clash (ap (leads_elsewhere Gs i.ty (option_and_then (storage_class Gs) (T (word i 0)))) (sym none) ∙ right)
       by_walk r right (inr w) =
           let part : is_other_pointer Gs i.ty (option_and_then (storage_class Gs) (T (word i 0))) w.0 ≡ false = ap (leads_elsewhere Gs i.ty (option_and_then (storage_class Gs) (T (word i 0)))) (sym w.1) ∙ right in
           (three_off (fails is_pointer Gs i.ty) (option_map_or (λ c. is_not c (storage_class Gs i.ty)) (option_and_then (storage_class Gs) (T (word i 0))) false) (option_map_or (differ Gs w.0) (pointee Gs i.ty) false) part).0

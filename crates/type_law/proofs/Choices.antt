@@ -43,8 +43,18 @@ module _ (s : Setting) (f : Function) where
   abbrev T : ℕ → Option ℕ
   T = type_in s.of.globals f
 
-  row : (ty : ℕ) (t : Tree) → type_tree Gs ty ≡ Some t → (g : Inst) × (type_row Gs ty ≡ Some g) × (tree_at Gs g ≡ Some t)
+  pub row : (ty : ℕ) (t : Tree) → type_tree Gs ty ≡ Some t → (g : Inst) × (type_row Gs ty ≡ Some g) × (tree_at Gs g ≡ Some t)
   row = row_of is_int numbers int_has Gs
+
+  -- types that do not differ are one, and have one shape
+  pub same_rows : (a b : ℕ) (t u : Tree) → type_tree Gs a ≡ Some t → type_tree Gs b ≡ Some u → differ Gs a b ≡ false → a ≡ b
+  same_rows a b t u ta tb right =
+      let ra = row a t ta in
+      let rb = row b u tb in
+      same_count a b (and_off (is_some (type_row Gs a) && is_some (type_row Gs b)) (not (a == b)) right (and_from (is_some (type_row Gs a)) (is_some (type_row Gs b)) (ap is_some ra.1) (ap is_some rb.1)))
+
+  pub same_types : (a b : ℕ) (t u : Tree) → type_tree Gs a ≡ Some t → type_tree Gs b ≡ Some u → differ Gs a b ≡ false → t ≡ u
+  same_types a b t u ta tb right = same_Some t u (sym ta ∙ ap (type_tree Gs) (same_rows a b t u ta tb right) ∙ tb)
 
   -- the type with a row passes a test that it does not fail
   pub passes : (test : Inst → Bool) (ty : ℕ) (g : Inst) → type_row Gs ty ≡ Some g → fails test Gs ty ≡ false → test g ≡ true
@@ -84,13 +94,6 @@ module _ (s : Setting) (f : Function) where
       let one : component Gs own.0 ≡ Some (word g.0 0) = ap (option_and_then component_if) g.1 ∙ ap (λ b. if b then Some (word g.0 0) else None) on in
       let same = same_types ty (word g.0 0) t parts.0 shape part (ap (λ o. option_map_or (differ Gs ty) o false) (sym (ap (option_and_then (component Gs)) own.1 ∙ one)) ∙ third) in
       (parts.1, word g.0 1, parts.4, same ∙ scalar_elem parts.0 parts.1 parts.3, int_scalar s f y b second hb)
-    where
-      same_types : (a b : ℕ) (t u : Tree) → type_tree Gs a ≡ Some t → type_tree Gs b ≡ Some u → differ Gs a b ≡ false → t ≡ u
-      same_types a b t u ta tb right =
-          let ra = row a t ta in
-          let rb = row b u tb in
-          let same = same_count a b (and_off (is_some (type_row Gs a) && is_some (type_row Gs b)) (not (a == b)) right (and_from (is_some (type_row Gs a)) (is_some (type_row Gs b)) (ap is_some ra.1) (ap is_some rb.1))) in
-          same_Some t u (sym ta ∙ ap (type_tree Gs) same ∙ tb)
 
   -- T17: a choice between values of the result's type, by a bool or a vector of as many bools
   condition_of : (ty c : ℕ) (t u : Tree) → is_no_condition Gs ty c ≡ false → type_tree Gs ty ≡ Some t → type_tree Gs c ≡ Some u → IsCondition u t

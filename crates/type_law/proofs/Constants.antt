@@ -24,7 +24,7 @@ use Rattle.profile_rules.specs.Constants.{constant_kind, value_by_kind, if_fits,
 use Rattle.module_semantics.specs.Setting.{Setting, global_variable}
 use Rattle.module_semantics.specs.Memory.{class_of}
 use Rattle.module_semantics.specs.Accesses.{input_value}
-use Rattle.list_law.proofs.Options.{some_part}
+use Rattle.list_law.proofs.Options.{some_part, none_some}
 use Rattle.fits_law.specs.State.{value_shape, target_shape, global_shape, HasShape, LeadsTo, ModuleFits}
 use Rattle.type_law.specs.Shaped.{EachFound, HaveResults, AreConstants, HasConstants}
 use Rattle.type_law.proofs.Places.{along_is}
@@ -53,6 +53,20 @@ found_at gs step (g ∷ rest) f id v each e = by_later (found_at gs step rest (w
     by_later (inl own) = by_test (g.result == id) (eqb_tells g.result id) own
     by_later (inr w) = inr w
 
+-- a value that fits its shape
+pub by_fits : (t : Tree) (w v : ValueTree) (b : Bool) → fits t w ≡ b → (if b then Some w else None) ≡ Some v → (w ≡ v) × (fits t v ≡ true)
+by_fits t w v true is e = let same = same_Some w v e in (same, subst (λ x. fits t x ≡ true) same is)
+by_fits t w v false is e = cc
+
+-- a type with a shape is not 0
+pub typed_by : (gs : List Inst) → HaveResults gs → (g : Inst) (t : Tree) → type_tree gs g.ty ≡ Some t → typed g ≡ Some g.ty
+typed_by gs results g t shape = by_test (g.ty == 0) (eqb_tells g.ty 0)
+  where
+    by_test : (b : Bool) → ((b ≡ true) × (g.ty ≡ 0)) ⊎ ((b ≡ false) × (g.ty ≡ 0 → ⊥)) → (if b then None else Some g.ty) ≡ Some g.ty
+    by_test true (inl w) = none_some (sym (ap (λ o. option_map_or (tree_at gs) o None) (ap (global_inst gs) w.1 ∙ results.none)) ∙ shape)
+    by_test true (inr w) = cc
+    by_test false w = refl
+
 module _ (s : Setting) (chosen : ℕ → Option ℕ) (have : HasConstants s chosen) (results : HaveResults s.of.globals) where
   abbrev pub Gs : List Inst
   Gs = s.of.globals
@@ -61,16 +75,12 @@ module _ (s : Setting) (chosen : ℕ → Option ℕ) (have : HasConstants s chos
   pub constant_of : (id : ℕ) (v : ValueTree) → s.constants id ≡ Some v → (g : Inst) × (h : ℕ → Option ValueTree) × (t : Tree) × (global_inst Gs id ≡ Some g) × (type_tree Gs g.ty ≡ Some t) × (fits t v ≡ true) × (value_by_kind h (chosen g.result) t g.args (constant_kind g.op) ≡ Some v)
   constant_of id v e = by_found (found_at Gs (value_step s.of chosen) Gs (λ id. None) id v results.each (sym (have id) ∙ e))
     where
-      by_fits : (t : Tree) (w : ValueTree) (b : Bool) → fits t w ≡ b → (if b then Some w else None) ≡ Some v → (w ≡ v) × (fits t v ≡ true)
-      by_fits t w true is e = let same = same_Some w v e in (same, subst (λ x. fits t x ≡ true) same is)
-      by_fits t w false is e = cc
-
       by_sound : (g : Inst) (h : ℕ → Option ValueTree) (b : Bool) → global_inst Gs id ≡ Some g → (if b then option_and_then (shaped_value h (chosen g.result) g) (type_tree Gs g.ty) else None) ≡ Some v
           → (g : Inst) × (h : ℕ → Option ValueTree) × (t : Tree) × (global_inst Gs id ≡ Some g) × (type_tree Gs g.ty ≡ Some t) × (fits t v ≡ true) × (value_by_kind h (chosen g.result) t g.args (constant_kind g.op) ≡ Some v)
       by_sound g h true there e =
           let t = some_part (shaped_value h (chosen g.result) g) (type_tree Gs g.ty) v e in
           let w = some_part (if_fits t.0) (value_by_kind h (chosen g.result) t.0 g.args (constant_kind g.op)) v t.2 in
-          let fit = by_fits t.0 w.0 (fits t.0 w.0) refl w.2 in
+          let fit = by_fits t.0 w.0 v (fits t.0 w.0) refl w.2 in
           (g, h, t.0, there, t.1, fit.1, w.1 ∙ ap (λ x. Some x) fit.0)
       by_sound g h false there e = cc
 
@@ -91,22 +101,10 @@ module _ (s : Setting) (chosen : ℕ → Option ℕ) (have : HasConstants s chos
           sym (same_Some (word_value (word g 0)) v (sym kind_is ∙ made)) ∙ ap word_value (same_Some (word g 0) w e)
       by_test g false on e h t made = cc
 
-  -- a type with a shape is not 0
-  typed_by : (g : Inst) (t : Tree) → type_tree Gs g.ty ≡ Some t → typed g ≡ Some g.ty
-  typed_by g t shape = by_test (g.ty == 0) (eqb_tells g.ty 0)
-    where
-      by_test : (b : Bool) → ((b ≡ true) × (g.ty ≡ 0)) ⊎ ((b ≡ false) × (g.ty ≡ 0 → ⊥)) → (if b then None else Some g.ty) ≡ Some g.ty
-      by_test true (inl w) = absurd (never (sym (ap (λ o. option_map_or (tree_at Gs) o None) (ap (global_inst Gs) w.1 ∙ results.none)) ∙ shape))
-        where
-          never : None ≡ Some t → ⊥
-          never e = cc
-      by_test true (inr w) = cc
-      by_test false w = refl
-
   pub constants_fit : (f : Function) (id : ℕ) (v : ValueTree) → s.constants id ≡ Some v → HasShape (value_shape s f id) v
   constants_fit f id v at =
       let c = constant_of id v at in
-      let own : global_type Gs id ≡ Some c.0.ty = ap (option_and_then typed) c.3 ∙ typed_by c.0 c.2 c.4 in
+      let own : global_type Gs id ≡ Some c.0.ty = ap (option_and_then typed) c.3 ∙ typed_by Gs results c.0 c.2 c.4 in
       let shape : value_shape s f id ≡ Some c.2 = ap (λ o. option_and_then (type_tree Gs) (option_or o (local_type f id))) own ∙ c.4 in
       subst (λ o. HasShape o v) (sym shape) c.5
 

@@ -31,7 +31,7 @@ use Rattle.fits_law.specs.State.{value_shape}
 use Rattle.fits_law.proofs.Steps.{named}
 use Rattle.type_law.proofs.Rows.{by_kind}
 use Rattle.type_law.proofs.Vectors.{alike_self}
-use Rattle.type_law.proofs.Parts.{array_kind, struct_kind, fixed_word, row, earlier_is}
+use Rattle.type_law.proofs.Parts.{array_kind, struct_kind, fixed_word, row, earlier_is, fixed_same}
 
 -- a relation of shapes that each sized one has to itself, and arrays and structs have where their parts have it
 pub record IsByParts (R : Tree → Tree → Type 0) (Rs : Trees → Trees → Type 0) : Type 0 where
@@ -82,9 +82,6 @@ module _ (s : Setting) (f : Function) (R : Tree → Tree → Type 0) (Rs : Trees
   same_array : (x y : Tree) (l k : Length) → array x l ≡ array y k → (x ≡ y) × (l ≡ k)
   same_array x y l k e = (let one : x ≡ y = cc in one, let two : l ≡ k = cc in two)
 
-  same_fixed : (n m : ℕ) → Fixed n ≡ Fixed m → n ≡ m
-  same_fixed n m e = cc
-
   same_struct : (a b : ℕ) (ts us : Trees) → struct a ts ≡ struct b us → ts ≡ us
   same_struct a b ts us e = cc
 
@@ -104,7 +101,7 @@ module _ (s : Setting) (f : Function) (R : Tree → Tree → Type 0) (Rs : Trees
       let same = same_array x p.0 (Fixed n) (Fixed p.1) p.3 in
       let before = before_matches g.at (word g 0) (word h 0) p.0 p.2 m in
       let whole = part (word g 0) (word h 0) q.0 before.0 before.1 (earlier_is s f g.at (word g 0) p.0 p.2 ∙ ap (λ y. Some y) (sym same.0)) (earlier_is s f h.at (word h 0) q.0 q.2) sx (subst IsSized q.3 su) before.3 in
-      subst (λ y. R y (array x (Fixed n))) {x = array q.0 (Fixed q.1)} (sym q.3) (kept.arrays q.0 x q.1 n whole (same_length (word g 1) (word h 1) p.1 q.1 l p.4 q.4 ∙ sym (same_fixed n p.1 same.1)))
+      subst (λ y. R y (array x (Fixed n))) {x = array q.0 (Fixed q.1)} (sym q.3) (kept.arrays q.0 x q.1 n whole (same_length (word g 1) (word h 1) p.1 q.1 l p.4 q.4 ∙ sym (fixed_same n p.1 same.1)))
 
   four_on : (a b c d : Bool) → (a && b && c && d) ≡ true → (a ≡ true) × (b ≡ true) × (c ≡ true) × (d ≡ true)
   four_on true true true true e = (refl, refl, refl, refl)

@@ -32,7 +32,7 @@ use Rattle.module_semantics.specs.Setting.{Setting}
 use Rattle.module_semantics.specs.Operands.{arg}
 use Rattle.list_law.proofs.Numbers.{same_count}
 use Rattle.list_law.proofs.Options.{some_part}
-use Rattle.list_law.proofs.Tests.{not_both, or_left, or_right}
+use Rattle.list_law.proofs.Tests.{not_both, or_left, or_right, clash}
 use Rattle.fits_law.specs.Takes.{Gives, GiveAll, AreOfShape, AreMembers, AreParts, Takes}
 use Rattle.fits_law.specs.State.{value_shape, target_shape, result_shape, IsLocal}
 use Rattle.fits_law.specs.Typed.{HaveShapes, IsLoad}
@@ -183,13 +183,10 @@ module _ (s : Setting) (f : Function) where
               (ap (λ b. if b then are_other_members Gs T g.args i.args else true) (sym q_is)
               ∙ ap (λ b. if b then option_map_or (λ n. are_other_parts Gs T n (word g 0) i.args) (constant_word Gs (word g 1)) false else (if is g.op code.TypeStruct then are_other_members Gs T g.args i.args else true)) (sym a_is)
               ∙ ap (λ b. if b then are_other_parts Gs T (word g 1) (word g 0) i.args else (if is g.op code.TypeArray then option_map_or (λ n. are_other_parts Gs T n (word g 0) i.args) (constant_word Gs (word g 1)) false else (if is g.op code.TypeStruct then are_other_members Gs T g.args i.args else true))) (sym v_is) ∙ h)
-          by_tests false false false v_is a_is q_is h = absurd (never
+          by_tests false false false v_is a_is q_is h = absurd (clash
               (ap (λ b. if b then are_other_members Gs T g.args i.args else true) (sym q_is)
               ∙ ap (λ b. if b then option_map_or (λ n. are_other_parts Gs T n (word g 0) i.args) (constant_word Gs (word g 1)) false else (if is g.op code.TypeStruct then are_other_members Gs T g.args i.args else true)) (sym a_is)
               ∙ ap (λ b. if b then are_other_parts Gs T (word g 1) (word g 0) i.args else (if is g.op code.TypeArray then option_map_or (λ n. are_other_parts Gs T n (word g 0) i.args) (constant_word Gs (word g 1)) false else (if is g.op code.TypeStruct then are_other_members Gs T g.args i.args else true))) (sym v_is) ∙ h))
-            where
-              never : true ≡ false → ⊥
-              never e = cc
 
   -- T5: what is stored has the shape of what the pointer leads to
   pub store_typed : (pointer object : ℕ) (u w : Tree) → is_no_content Gs T pointer object ≡ false → value_shape s f object ≡ Some u → target_shape s f pointer ≡ Some w → value_shape s f object ≡ target_shape s f pointer

@@ -1,9 +1,8 @@
 -- Parts of composites along literals: the rules lead where the shapes do.
-use Rattle.std.proofs.Common.{◌≡◌, ◌<◌, ◌==◌, ◌&&◌, ℕ, zero, suc, Bool, true, false, not, List, [], ◌∷◌, length, Option, Some, None, inl, inr, refl, sym, ap, ◌∙◌, subst, arith, if◌then◌else◌}
-use Rattle.std.specs.Prelude.{◌⊎◌, nat_lt, option_map, option_and_then, is_some, slice_index}
+use Rattle.std.proofs.Common.{◌≡◌, ◌<◌, ℕ, zero, suc, Bool, true, false, List, [], ◌∷◌, length, Option, Some, None, inl, inr, refl, sym, ap, ◌∙◌, subst, arith, if◌then◌else◌}
+use Rattle.std.specs.Prelude.{◌⊎◌, nat_lt, option_map, option_and_then, slice_index}
 use Rattle.std.specs.Option.{option_map_or}
 use Rattle.std.proofs.lemmas.Bool.Decides.{nat_tests}
-use Rattle.std.proofs.lemmas.Bool.{and_from}
 use Rattle.std.proofs.lemmas.Option.{same_Some}
 use Rattle.spv_ops.specs.Opcode.{is, number}
 use Rattle.spv_ops.specs.declared.Op.{Op}
@@ -25,18 +24,18 @@ use Rattle.op_semantics.specs.declared.operation.Operation.TheVariants as op
 use Rattle.op_semantics.specs.Fits.{elem_tree}
 use Rattle.profile_rules.specs.declared.needs.Reached.{Reached}
 use Rattle.profile_rules.specs.declared.needs.Reached.TheVariants.{Part, Nothing, Unknown}
-use Rattle.profile_rules.specs.TypeRows.{is_int, is_vector, is_runtime_array, type_row, differ, is_other, constant_if, constant_word}
+use Rattle.profile_rules.specs.TypeRows.{is_int, is_vector, is_runtime_array, is_other, constant_if, constant_word}
 use Rattle.profile_rules.specs.ValueRules.{walk, nth_member, one_of, literal_part, literal_step, part_of, is_elsewhere, is_value_elsewhere}
 use Rattle.module_semantics.specs.Setting.{Setting}
-use Rattle.list_law.proofs.Tests.{and_off}
-use Rattle.list_law.proofs.Numbers.{same_count}
 use Rattle.list_law.proofs.Options.{some_part}
+use Rattle.list_law.proofs.Tests.{clash}
 use Rattle.fits_law.specs.Takes.{numbers, nth_of, part_shape, shape_at, Takes}
 use Rattle.fits_law.specs.State.{value_shape}
 use Rattle.type_law.proofs.Rows.{int_has, by_kind, vector_parts}
-use Rattle.type_law.proofs.Scalars.{row_of, before_row}
+use Rattle.type_law.proofs.Scalars.{before_row}
 use Rattle.type_law.proofs.Operands.{same_shape_of}
 use Rattle.type_law.proofs.Choices.{scalar_elem}
+pub use Rattle.type_law.proofs.Choices.{row, same_types}
 
 -- a type with a shape is of one of five kinds besides scalars, by its opcode
 pub array_kind : (o : Op) → is o code.TypeArray ≡ true → kind o ≡ Array
@@ -54,13 +53,24 @@ unfolding kind number
 struct_kind code.TypeStruct e = refl
 struct_kind o e = cc
 
+-- and by the kind
+pub array_op : (o : Op) → kind o ≡ Array → is o code.TypeArray ≡ true
+unfolding kind number
+array_op code.TypeArray e = refl
+array_op o e = cc
+
+pub struct_op : (o : Op) → kind o ≡ Struct → is o code.TypeStruct ≡ true
+unfolding kind number
+struct_op code.TypeStruct e = refl
+struct_op o e = cc
+
 -- the length of an array is the word of an OpConstant
-constant_length : (o : Op) (id w n : ℕ) → length_of o id w ≡ Some (Fixed n) → (is o code.Constant ≡ true) × (w ≡ n)
+pub fixed_same : (w n : ℕ) → Fixed w ≡ Fixed n → w ≡ n
+fixed_same w n e = cc
+
+pub constant_length : (o : Op) (id w n : ℕ) → length_of o id w ≡ Some (Fixed n) → (is o code.Constant ≡ true) × (w ≡ n)
 unfolding number
 constant_length code.Constant id w n e = (refl, let same : Fixed w ≡ Fixed n = same_Some (Fixed w) (Fixed n) e in fixed_same w n same)
-  where
-    fixed_same : (w n : ℕ) → Fixed w ≡ Fixed n → w ≡ n
-    fixed_same w n e = cc
 constant_length code.SpecConstantTrue id w n e = cc
 constant_length code.SpecConstantFalse id w n e = cc
 constant_length code.SpecConstant id w n e = cc
@@ -93,12 +103,12 @@ all_nth f (id ∷ ids) ts k e less = by_parts (f id) refl (all_trees f ids) refl
         lower : (k n : ℕ) → nat_lt (suc k) (suc n) ≡ true → nat_lt k n ≡ true
         lower k n e = grind (arith, nat_tests, e)
 
-sized_nth : (ts : Trees) (k : ℕ) (u : Tree) → AreSized ts → nth_of ts k ≡ Some u → IsSized u
+pub sized_nth : (ts : Trees) (k : ℕ) (u : Tree) → AreSized ts → nth_of ts k ≡ Some u → IsSized u
 sized_nth no_trees k u s at = cc
 sized_nth (tree t ts) zero u s at = let same : t ≡ u = cc in subst IsSized same s.0
 sized_nth (tree t ts) (suc k) u s at = sized_nth ts k u s.1 at
 
-sized_elem : (e : Elem) → IsSized (elem_tree e)
+pub sized_elem : (e : Elem) → IsSized (elem_tree e)
 sized_elem elem.Bool = tt
 sized_elem elem.Int = tt
 sized_elem elem.Uint = tt
@@ -106,9 +116,6 @@ sized_elem elem.Uint = tt
 module _ (s : Setting) (f : Function) where
   abbrev Gs : List Inst
   Gs = s.of.globals
-
-  pub row : (ty : ℕ) (t : Tree) → type_tree Gs ty ≡ Some t → (g : Inst) × (type_row Gs ty ≡ Some g) × (tree_at Gs g ≡ Some t)
-  row = row_of is_int numbers int_has Gs
 
   pub earlier_is : (n c : ℕ) (u : Tree) → tree_before Gs n c ≡ Some u → type_tree Gs c ≡ Some u
   earlier_is = before_row is_int numbers int_has Gs
@@ -174,7 +181,7 @@ module _ (s : Setting) (f : Function) where
 
   step_leads : (ty k : ℕ) (t : Tree) → type_tree Gs ty ≡ Some t → IsSized t → Leads (literal_step Gs ty k) t k
   step_leads ty k t shape sized =
-      let g = row ty t shape in
+      let g = row s f ty t shape in
       subst (λ o. Leads (option_map_or (λ x. literal_part Gs x k) o Unknown) t k) (sym g.1) (by_opcode g.0 g.2 (is_vector g.0) refl (is g.0.op code.TypeArray) refl (is_runtime_array g.0) refl (is g.0.op code.TypeStruct) refl)
     where
       nothing : Leads Nothing t k
@@ -205,25 +212,15 @@ module _ (s : Setting) (f : Function) where
         | inr q ↦ inr (q.0, q.1, ap (λ r. walk (literal_step Gs) r ks) w.2 ∙ q.2, q.3, ap (option_and_then (λ x. shape_at x ks)) w.4 ∙ q.4)
       ]
 
-  pub same_types : (a b : ℕ) (t u : Tree) → type_tree Gs a ≡ Some t → type_tree Gs b ≡ Some u → differ Gs a b ≡ false → t ≡ u
-  same_types a b t u ta tb right =
-      let ra = row a t ta in
-      let rb = row b u tb in
-      let same = same_count a b (and_off (is_some (type_row Gs a) && is_some (type_row Gs b)) (not (a == b)) right (and_from (is_some (type_row Gs a)) (is_some (type_row Gs b)) (ap is_some ra.1) (ap is_some rb.1))) in
-      same_Some t u (sym ta ∙ ap (type_tree Gs) same ∙ tb)
-
   -- T11: the part has the type of the result
   pub extract_takes : (ty id : ℕ) (ks : List ℕ) (t a : Tree) → is_elsewhere Gs ty (part_of Gs (type_in Gs f id) ks) ≡ false → type_tree Gs ty ≡ Some t → value_shape s f id ≡ Some a → IsSized a → Takes op.CompositeExtract t ks (a ∷ [])
   extract_takes ty id ks t a right shape value sized =
       let own = some_part (type_tree Gs) (type_in Gs f id) a value in
       let there : is_elsewhere Gs ty (walk (literal_step Gs) (Part own.0) ks) ≡ false = ap (λ o. is_elsewhere Gs ty (walk (literal_step Gs) (option_map_or Part o Unknown) ks)) (sym own.1) ∙ right in
       elim (walk_leads ks own.0 a own.2 sized) [
-        | inl none ↦ absurd (never (ap (is_elsewhere Gs ty) (sym none) ∙ there))
-        | inr w ↦ w.4 ∙ ap (λ x. Some x) (sym (same_types ty w.0 t w.1 shape w.3 (ap (is_elsewhere Gs ty) (sym w.2) ∙ there)))
+        | inl none ↦ clash (ap (is_elsewhere Gs ty) (sym none) ∙ there)
+        | inr w ↦ w.4 ∙ ap (λ x. Some x) (sym (same_types s f ty w.0 t w.1 shape w.3 (ap (is_elsewhere Gs ty) (sym w.2) ∙ there)))
       ]
-    where
-      never : true ≡ false → ⊥
-      never e = cc
 
   -- T11: the object has the type of the part that it takes the place of
   pub insertion_takes : (ty object id : ℕ) (ks : List ℕ) (t o a : Tree) → is_other Gs (type_in Gs f) ty id ≡ false → is_value_elsewhere Gs (type_in Gs f) object (part_of Gs (type_in Gs f id) ks) ≡ false → type_tree Gs ty ≡ Some t → value_shape s f object ≡ Some o → value_shape s f id ≡ Some a → IsSized a
@@ -234,10 +231,7 @@ module _ (s : Setting) (f : Function) where
       let there : is_value_elsewhere Gs (type_in Gs f) object (walk (literal_step Gs) (Part own.0) ks) ≡ false = ap (λ q. is_value_elsewhere Gs (type_in Gs f) object (walk (literal_step Gs) (option_map_or Part q Unknown) ks)) (sym own.1) ∙ right in (
         whole,
         subst (λ x. shape_at x ks ≡ Some o) whole (elim (walk_leads ks own.0 a own.2 sized) [
-          | inl none ↦ absurd (never (ap (is_value_elsewhere Gs (type_in Gs f) object) (sym none) ∙ there))
+          | inl none ↦ clash (ap (is_value_elsewhere Gs (type_in Gs f) object) (sym none) ∙ there)
           | inr w ↦ w.4 ∙ ap (λ x. Some x) (sym (same_shape_of s f w.0 object w.1 o (ap (is_value_elsewhere Gs (type_in Gs f) object) (sym w.2) ∙ there) w.3 given))
         ]),
       )
-    where
-      never : true ≡ false → ⊥
-      never e = cc

@@ -20,7 +20,7 @@ use Rattle.module_semantics.specs.Setting.{Setting, is_variable, as_variable, gl
 use Rattle.module_semantics.specs.Memory.{part_by, part_type, type_along, variable_type, shape_along, class_of}
 use Rattle.module_semantics.specs.State.{global}
 use Rattle.module_semantics.specs.Accesses.{seen, seen_if, if_seen, is_seen}
-use Rattle.list_law.proofs.Options.{some_part}
+use Rattle.list_law.proofs.Options.{some_part, none_some}
 use Rattle.fits_law.specs.Takes.{numbers, nth_of}
 use Rattle.fits_law.specs.State.{global_shape, element_shape, place_shape, LeadsTo}
 use Rattle.profile_rules.specs.TypeRows.{is_int}
@@ -34,10 +34,7 @@ part_of_kind Struct args i = slice_index args i
 part_of_kind _ args i = slice_index args 0
 
 member_is : (f : ℕ → Option Tree) (ids : List ℕ) (ts : Trees) (i : ℕ) (u : Tree) → all_trees f ids ≡ Some ts → nth_of ts i ≡ Some u → f (slice_index ids i) ≡ Some u
-member_is f [] ts i u e at = let none : no_trees ≡ ts = same_Some no_trees ts e in absurd (never (ap (λ x. nth_of x i) none ∙ at))
-  where
-    never : None ≡ Some u → ⊥
-    never e = cc
+member_is f [] ts i u e at = let none : no_trees ≡ ts = same_Some no_trees ts e in none_some (ap (λ x. nth_of x i) none ∙ at)
 member_is f (id ∷ ids) ts i u e at = by_parts (f id) refl (all_trees f ids) refl i e at (λ rest k all there. member_is f ids rest k u all there)
   where
     by_parts : (o : Option Tree) → f id ≡ o → (q : Option Trees) → all_trees f ids ≡ q → (i : ℕ) → both o q ≡ Some ts → nth_of ts i ≡ Some u → ((rest : Trees) (k : ℕ) → all_trees f ids ≡ Some rest → nth_of rest k ≡ Some u → f (slice_index ids k) ≡ Some u) → f (slice_index (id ∷ ids) i) ≡ Some u
@@ -51,18 +48,12 @@ module _ (s : Setting) where
   Gs = s.of.globals
 
   element_at : (g : Inst) (f : ℕ → Option Tree) (k : TypeKind) (t u : Tree) (i : ℕ) → tree_by_kind Gs f g k ≡ Some t → element_shape t i ≡ Some u → f (part_of_kind k g.args i) ≡ Some u
-  element_at g f BoolKind t u i e at = absurd (never (ap (λ x. element_shape x i) (same_Some boolean t e) ∙ at))
-    where
-      never : None ≡ Some u → ⊥
-      never e = cc
+  element_at g f BoolKind t u i e at = none_some (ap (λ x. element_shape x i) (same_Some boolean t e) ∙ at)
   element_at g f Int t u i e at = by_width (slice_index g.args 0 == 32) (slice_index g.args 1 == 0) (slice_index g.args 1 == 1) e
     where
-      never : None ≡ Some u → ⊥
-      never e = cc
-
       by_width : (w a b : Bool) → (if w then (if a then Some uint else (if b then Some int else None)) else None) ≡ Some t → f (slice_index g.args 0) ≡ Some u
-      by_width true true b e = absurd (never (ap (λ x. element_shape x i) (same_Some uint t e) ∙ at))
-      by_width true false true e = absurd (never (ap (λ x. element_shape x i) (same_Some int t e) ∙ at))
+      by_width true true b e = none_some (ap (λ x. element_shape x i) (same_Some uint t e) ∙ at)
+      by_width true false true e = none_some (ap (λ x. element_shape x i) (same_Some int t e) ∙ at)
       by_width true false false e = cc
       by_width false a b e = cc
   element_at g f Vector t u i e at = by_part (f (slice_index g.args 0)) refl e

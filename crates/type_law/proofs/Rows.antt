@@ -2,6 +2,7 @@
 use Rattle.std.proofs.Common.{◌≡◌, ◌==◌, ◌&&◌, ℕ, Bool, true, false, List, Option, Some, None, inl, inr, refl, sym, ap, ◌∙◌, subst, if◌then◌else◌}
 use Rattle.std.specs.Prelude.{◌⊎◌, nat_le, slice_index}
 use Rattle.std.specs.Option.{option_map_or}
+use Rattle.std.proofs.lemmas.Option.{same_Some}
 use Rattle.spv_ops.specs.Opcode.{is, number}
 use Rattle.spv_ops.specs.Groups.{is_type as is_type_op}
 use Rattle.spv_ops.specs.declared.Op.{Op}
@@ -14,6 +15,7 @@ use Rattle.spv_types.specs.Tree.{Tree, boolean, int, uint, vector}
 use Rattle.spv_types.specs.Types.{kind, elem_of, sized_vector, vector_tree, tree_by_kind, tree_step, tree_before, tree_at}
 use Rattle.spv_decor.specs.Rows.{word}
 use Rattle.profile_rules.specs.TypeRows.{is_type, is_bool, is_int, is_vector}
+use Rattle.list_law.proofs.Options.{none_some}
 use Rattle.fits_law.specs.Takes.{Sort, numbers, truths, Has, IsOfSort}
 
 -- kinds by opcodes
@@ -48,10 +50,7 @@ pub by_kind : (gs : List Inst) (f : ℕ → Option Tree) (g : Inst) (k : TypeKin
 by_kind gs f g k t is e = ap (tree_by_kind gs f g) (sym is) ∙ e
 
 pub is_a_type : (gs : List Inst) (f : ℕ → Option Tree) (g : Inst) (t : Tree) → tree_step gs f g ≡ Some t → is_type g ≡ true
-is_a_type gs f g t e = elim (shaped_type g.op) [ inl other ↦ absurd (never (by_kind gs f g Other t other e)) | inr w ↦ w ]
-  where
-    never : {A : Type 0} {a : A} → None ≡ Some a → ⊥
-    never e = cc
+is_a_type gs f g t e = elim (shaped_type g.op) [ inl other ↦ none_some (by_kind gs f g Other t other e) | inr w ↦ w ]
 
 -- scalars
 pub int_has : (gs : List Inst) (f : ℕ → Option Tree) (g : Inst) (t : Tree) → is_int g ≡ true → tree_step gs f g ≡ Some t → Has numbers None t
@@ -67,18 +66,9 @@ pub bool_has : (gs : List Inst) (f : ℕ → Option Tree) (g : Inst) (t : Tree) 
 bool_has gs f g t on e = let k = by_kind gs f g BoolKind t (bool_kind g.op on) e in let same : boolean ≡ t = cc in subst (Has truths None) same tt
 
 pub elem_sort : (k : Sort) (u : Tree) (e : Elem) → Has k None u → elem_of u ≡ Some e → IsOfSort k e
-elem_sort numbers int e h is = let same = some_same is in subst (IsOfSort numbers) same tt
-  where
-    some_same : {A : Type 0} {a b : A} → Some a ≡ Some b → a ≡ b
-    some_same e = cc
-elem_sort numbers uint e h is = let same = some_same is in subst (IsOfSort numbers) same tt
-  where
-    some_same : {A : Type 0} {a b : A} → Some a ≡ Some b → a ≡ b
-    some_same e = cc
-elem_sort truths boolean e h is = let same = some_same is in subst (IsOfSort truths) same tt
-  where
-    some_same : {A : Type 0} {a b : A} → Some a ≡ Some b → a ≡ b
-    some_same e = cc
+elem_sort numbers int e h is = let same = same_Some _ _ is in subst (IsOfSort numbers) same tt
+elem_sort numbers uint e h is = let same = same_Some _ _ is in subst (IsOfSort numbers) same tt
+elem_sort truths boolean e h is = let same = same_Some _ _ is in subst (IsOfSort truths) same tt
 elem_sort _ u e h is = absurd h
 
 -- a vector, and its components' type, which stands before it

@@ -1,17 +1,14 @@
 -- The imports found by id, with one more row.
-use Rattle.std.proofs.Common.{◌≡◌, ◌==◌, ◌&&◌, ◌<◌, ◌+◌, ℕ, true, false, List, length, take, get_or, Some, None, Option, cond, refl, ap, sym, ◌∙◌, option_map}
+use Rattle.std.proofs.Common.{◌≡◌, ◌==◌, ◌&&◌, ◌<◌, ◌+◌, ℕ, true, false, List, length, take, get_or, Some, None, Option, cond, ap, sym, ◌∙◌, option_map}
 use Rattle.std.specs.List.{find}
 use Rattle.std.specs.Option.{option_or}
+use Rattle.list_law.proofs.Options.{or_none}
 use Rattle.spv_ops.specs.Opcode.{is}
 use Rattle.spv_ops.specs.declared.Op.TheVariants as code
 use Rattle.spv_module.specs.declared.inst.Inst.{Inst}
 use Rattle.spv_index.proofs.First.{find_more, map_or, map_entry}
 use Rattle.profile_rules.specs.Operands.{is_import_row}
 use Rattle.type_rules.specs.Indexed.{or_entry}
-
-or_none : (o : Option ℕ) → option_or o None ≡ o
-or_none None = refl
-or_none (Some v) = refl
 
 at_by : Inst → ℕ
 at_by i = i.at

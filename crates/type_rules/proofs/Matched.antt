@@ -1,5 +1,5 @@
 -- Types that are compared part by part.
-use Rattle.std.proofs.Common.{◌≡◌, ◌==◌, ◌&&◌, ◌||◌, ◌<◌, ◌≤◌, ◌+◌, ◌∷◌, ℕ, suc, Bool, true, false, List, Option, Some, None, IfSome, length, drop, get_or, nat_lt, cond, if◌then◌else◌, refl, ap, sym, ◌∙◌, subst, arith}
+use Rattle.std.proofs.Common.{◌≡◌, ◌==◌, ◌&&◌, ◌||◌, ◌<◌, ◌≤◌, ◌+◌, ◌∷◌, ℕ, suc, Bool, true, false, List, Option, Some, None, IfSome, length, drop, get_or, cond, refl, ap, sym, ◌∙◌, subst, arith}
 use Rattle.std.specs.Option.{option_map_or}
 use Rattle.std.specs.List.{list_all, zip}
 use Rattle.std.specs.BTreeMap.{BTreeMap, get}
@@ -13,8 +13,9 @@ use Rattle.spv_decor.specs.Rows.{word}
 use Rattle.std.proofs.Math.ListN.{drop_of_length-le}
 use Rattle.spv_module.specs.Held.{global}
 use Rattle.spv_module.specs.declared.inst.Inst.{Inst}
-use Rattle.spv_types.specs.Types.{earlier, if_earlier}
+use Rattle.spv_types.specs.Types.{earlier}
 use Rattle.spv_types.proofs.Below.{below_is, value_at}
+use Rattle.spv_types.proofs.Sizes.{of_earlier}
 use Rattle.profile_rules.specs.ValueRules.{is_same_length, do_parts_match, match_step, match_before, match_at}
 use Rattle.type_rules.specs.Edges.{pair_cmp}
 use Rattle.type_rules.specs.Matches.{match_of, AreKnown}
@@ -27,14 +28,6 @@ at_value gs b (Some g) = refl
 -- a part is compared by the instruction that stands before
 pub match_before_is : (gs : List Inst) (n a b : ℕ) → match_before gs n a b ≡ option_map_or (λ g. match_at gs g b) (earlier gs n a) true
 match_before_is gs n a b = ap (λ f. f b) (below_is (match_step gs) (λ c. true) gs n a) ∙ at_value gs b (earlier gs n a)
-
-by_test : (b : Bool) (g h : Inst) → (if b then Some g else None) ≡ Some h → Some g ≡ Some h
-by_test true g h e = e
-by_test false g h e = cc
-
-of_earlier : (n : ℕ) (o : Option Inst) (h : Inst) → if_earlier n o ≡ Some h → o ≡ Some h
-of_earlier n None h e = cc
-of_earlier n (Some g) h e = by_test (nat_lt g.at n) g h e
 
 pub match_earlier : (gs : List Inst) (n a b : ℕ) (g : Inst) → earlier gs n a ≡ Some g → match_before gs n a b ≡ match_of gs a b
 match_earlier gs n a b g e = match_before_is gs n a b ∙ ap (λ o. option_map_or (λ h. match_at gs h b) o true) (e ∙ sym (of_earlier n (global gs a) g e))

@@ -7,6 +7,10 @@ use Rattle.std.proofs.lemmas.List.Elements.{filter-append}
 use Rattle.std.proofs.lemmas.List.Folds.{list_any-append}
 use Rattle.std.proofs.lemmas.List.Sums.{sum_by-cons}
 use Rattle.std.proofs.lemmas.Bool.Decides.{nat_tests, eqb_tells}
+use Rattle.std.proofs.lemmas.Bool.{or_right, and_parts}
+use Rattle.std.proofs.Math.Bool.{or_assoc}
+use Rattle.list_law.proofs.Tests.{or_alone}
+use Rattle.list_law.proofs.Lists.{any_same}
 use Rattle.spv_ops.specs.Groups.{is_terminator}
 use Rattle.spv_ops.specs.declared.Op.{Op}
 use Rattle.spv_module.specs.declared.inst.Inst.{Inst}
@@ -110,10 +114,6 @@ are_before label n m (b ∷ bs) fits =
       | false ↦ later
     ]
 
-and_parts : (a b : Bool) → (a && b) ≡ true → (a ≡ true) × (b ≡ true)
-and_parts true b e = (refl, e)
-and_parts false b e = cc
-
 got_passes : {X : Type 0} (p : X → Bool) (xs : List X) (k : ℕ) → list_all p xs ≡ true → option_map_or (λ x. not (p x)) (slice_get xs k) false ≡ false
 got_passes p [] k all = refl
 got_passes p (x ∷ xs) zero all = ap not (and_parts (p x) (list_all p xs) all).0
@@ -154,14 +154,6 @@ added label done s false here =
     let other : ends_at (sources_of label done) s.place ≡ false = ap (ends_at (sources_of label done)) here ∙ ends_before label done in
     ap (λ xs. with_source xs s) none ∙ ap (λ t. cond t (sources_of label done) (sources_of label done ++ s ∷ [])) other
 
-or_yes : (a b : Bool) → b ≡ true → (a || b) ≡ true
-or_yes true b e = refl
-or_yes false b e = e
-
-or_no : (a b : Bool) → b ≡ false → (a || b) ≡ a
-or_no true b e = refl
-or_no false b e = e
-
 is_itself : (a : ℕ) → (a == a) ≡ true
 is_itself a = grind (arith, nat_tests)
 
@@ -176,7 +168,7 @@ edge_added f s label k old new found more = record {
         elim (eqb_tells label x) [
           | inl w ↦
               let same : j ≡ k = let e : Some j ≡ Some k = sym at ∙ ap (block_in f) (sym w.1) ∙ found in cc in
-              let yes : (some x || (label == x)) ≡ true = or_yes (some x) (label == x) w.0 in
+              let yes : (some x || (label == x)) ≡ true = or_right (some x) (label == x) w.0 in
               let P : ℕ → Type 0 = λ i. list_of (get_or new i d) ≡ sources_of x done ++ source_if (some x || (label == x)) s in
               subst P (sym same)
               (more.own d
@@ -185,7 +177,7 @@ edge_added f s label k old new found more = record {
               ∙ ap (λ b. sources_of x done ++ source_if b s) (sym yes))
           | inr w ↦
               let other : j ≡ k → ⊥ = λ e. w.1 (same_label f label x k found (at ∙ ap Some e)) in
-              let no : (some x || (label == x)) ≡ some x = or_no (some x) (label == x) w.0 in
+              let no : (some x || (label == x)) ≡ some x = or_alone (some x) (label == x) w.0 in
               ap list_of (more.others j d other)
               ∙ was.each x j d at
               ∙ ap (λ b. sources_of x done ++ source_if b s) (sym no)
@@ -203,7 +195,7 @@ edge_nowhere f s label old none = record {
     each = λ x j d at.
         elim (eqb_tells label x) [
           | inl w ↦ let e : None ≡ Some j = sym none ∙ ap (block_in f) w.1 ∙ at in absurd (let n : ⊥ = cc in n)
-          | inr w ↦ was.each x j d at ∙ ap (λ b. sources_of x done ++ source_if b s) (sym (or_no (some x) (label == x) w.0))
+          | inr w ↦ was.each x j d at ∙ ap (λ b. sources_of x done ++ source_if b s) (sym (or_alone (some x) (label == x) w.0))
         ];
   };
 }
@@ -220,10 +212,6 @@ adds_same f s p q old new same more = record {
         each = λ x j d at. now.each x j d at ∙ ap (λ b. sources_of x done ++ source_if (some x || b) s) (same x);
       };
 }
-
-or_assoc : (a b c : Bool) → ((a || b) || c) ≡ (a || (b || c))
-or_assoc true b c = refl
-or_assoc false b c = refl
 
 or_false : (a : Bool) → a ≡ (a || false)
 or_false true = refl
@@ -350,9 +338,6 @@ length_of_sources label n (b ∷ bs) =
       | false ↦ omega (arith, later)
     ])
     ∙ sym (sum_by-cons (λ c. cond (goes_to label c) 1 0) b bs)
-
-any_same : {X : Type 0} (p q : X → Bool) (xs : List X) → ((x : X) → p x ≡ q x) → list_any p xs ≡ list_any q xs
-any_same p q xs same = ap (λ r. list_any r xs) (λ i x. same x i)
 
 -- what is asked of the sources of a label is what is asked of the function
 pub asked_of_sources : (f : Function) (label : ℕ) (labels : List ℕ) → are_not_sources (sources_of label f.blocks) labels ≡ are_no_predecessors f label labels

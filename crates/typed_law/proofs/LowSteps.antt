@@ -39,6 +39,7 @@ use Rattle.module_semantics.specs.Steps as the
 use Rattle.module_semantics.specs.Steps.{with_some, advanced, set, set_value, computed, operation_step, base, without_based, is_based_on, lead_if, chain_step, length_step, variable_step, read_shape, load_from, load_step, store_to, store_step, atomic_operation, atomic_operands, set_found, atomic_step, memory_barriers, memory_barrier_step, control_barrier_step, phis, passed, argument_of, entered, called, call_step, return_step, given_to, return_value_step, target_label, source_from, phi_value, with_phis, present_label, gone_to, edge_step, branch_step, StepKind, step_kind, step_by, act_on, act}
 use Rattle.module_semantics.specs.Run.{have_values, first_state, start_by, start}
 use Rattle.list_law.proofs.Options.{some_part}
+use Rattle.list_law.proofs.Lists.{same_first, same_rest}
 use Rattle.fits_law.proofs.Operations.{before_some}
 use Rattle.typed_law.specs.Words.{AllOfWords, AreAllWords, HoldWords, IsSettingOfWords, IdsHoldWords, IsFrameOfWords, AreCallsOfWords, IsStateOfWords, LeadsToWords}
 use Rattle.typed_law.proofs.LowValues.{extracted_low, inserted_low, zero_low, read_low, op_low, first_low}
@@ -63,6 +64,11 @@ same_value v w e = cc
 
 no_pointer : (r : Root) (path : List ℕ) (v : ValueTree) → pointer r path ≡ value v → ⊥
 no_pointer r path v e = cc
+
+-- a call without arguments
+pub no_arguments : (ps : List (Id × Id)) (id : ℕ) (h : Held) → argument_of ps [] id ≡ Some h → ⊥
+no_arguments [] id h e = cc
+no_arguments (p ∷ ps) id h e = cc
 
 module _ (s : Setting) (right : IsSettingOfWords s) where
   -- what ids have
@@ -206,14 +212,8 @@ module _ (s : Setting) (right : IsSettingOfWords s) where
   phis_low c from (i ∷ js) (v ∷ vs) frame e ids all =
       let b = before_some (phi_value s c from i) (each_one (phi_value s c from) js) (v ∷ vs) e in
       let source = some_part (value_at s c) (source_from from i.args) b.0 b.2 in
-      put_value (with_phis js vs ids) i.result (value v) (phis_low c from js vs frame (b.3 ∙ ap (λ l. Some l) (sym (same_tail v b.0 vs b.1 b.4))) ids all)
-      (λ w same. subst IsOfWords (sym (same_head v b.0 vs b.1 b.4) ∙ same_value v w same) (value_low c source.0 b.0 frame source.2))
-    where
-      same_head : (x y : ValueTree) (xs ys : List ValueTree) → x ∷ xs ≡ y ∷ ys → x ≡ y
-      same_head x y xs ys e = cc
-
-      same_tail : (x y : ValueTree) (xs ys : List ValueTree) → x ∷ xs ≡ y ∷ ys → xs ≡ ys
-      same_tail x y xs ys e = cc
+      put_value (with_phis js vs ids) i.result (value v) (phis_low c from js vs frame (b.3 ∙ ap (λ l. Some l) (sym (same_rest v b.0 vs b.1 b.4))) ids all)
+      (λ w same. subst IsOfWords (sym (same_first v b.0 vs b.1 b.4) ∙ same_value v w same) (value_low c source.0 b.0 frame source.2))
 
   module _ (c : Conf) (state : IsStateOfWords c) (i : Inst) (rest : List Inst) where
     operation_leads : LeadsToWords (operation_step s c rest i)
@@ -366,10 +366,6 @@ module _ (s : Setting) (right : IsSettingOfWords s) where
       by_rest (i ∷ rest) = steps_lead c state i rest (step_kind i.op)
 
   -- and a run starts in one
-  no_arguments : (ps : List (Id × Id)) (id : ℕ) (h : Held) → argument_of ps [] id ≡ Some h → ⊥
-  no_arguments [] id h e = cc
-  no_arguments (p ∷ ps) id h e = cc
-
   pub words_start : (c : Conf) → start s ≡ Some c → IsStateOfWords c
   unfolding start
   words_start c e = by_start (have_values s) (function_of s.of.functions s.entry) e

@@ -147,6 +147,10 @@ module _ (s : Setting) (entry : Option (List ℕ)) (right : IsConforming s.of en
     pub most : 1 + count_of (has_type p) + count_of (has_result p) + length i.args ≤ (shape p).most
     pub has : (k : ℕ) → k < length i.args → is_id p i.args k ≡ true → is_there_in s.of f i.at (need p k) (slice_index i.args k) ≡ true
 
+  -- an operand that is a value has a type
+  pub typed_operand : (p : Op) → Facts p → (k : ℕ) → k < length i.args → is_id p i.args k ≡ true → need p k ≡ Value → HasType s entry right f in_it (slice_index i.args k)
+  typed_operand p facts k less has needed = typed_value s entry right f in_it i.at (slice_index i.args k) (subst (λ q. is_there_in s.of f i.at q (slice_index i.args k) ≡ true) needed (facts.has k less has))
+
 module _ (s : Setting) (entry : Option (List ℕ)) (right : IsConforming s.of entry) (f : Function) (in_it : Contains s.of.functions f) (i : Inst) (there : IsAmong i (insts_of f)) (t : Tree) (shaped : type_tree s.of.globals i.ty ≡ Some t) where
   abbrev Gs : List Inst
   Gs = s.of.globals
@@ -164,11 +168,8 @@ module _ (s : Setting) (entry : Option (List ℕ)) (right : IsConforming s.of en
   result_sized : IsSized t
   result_sized = value_sized s entry right f in_it i.result i.ty (own_type s entry right f in_it i there (shaped_some s entry right f in_it i.ty t shaped)) t shaped
 
-  typed_at : (p : Op) → Facts s entry right f in_it i there p → (k : ℕ) → k < length i.args → is_id p i.args k ≡ true → need p k ≡ Value → IsTypedId (slice_index i.args k)
-  typed_at p facts k less has needed = typed_value s entry right f in_it i.at (slice_index i.args k) (subst (λ q. is_there_in s.of f i.at q (slice_index i.args k) ≡ true) needed (facts.has k less has))
-
   all_typed : (p : Op) → Facts s entry right f in_it i there p → ((k : ℕ) → is_id p i.args k ≡ true) → ((k : ℕ) → need p k ≡ Value) → HaveTypes i.args
-  all_typed p facts ids needed k less = typed_at p facts k less (ids k) (needed k)
+  all_typed p facts ids needed k less = typed_operand s entry right f in_it i there p facts k less (ids k) (needed k)
 
   -- the operation takes the shapes of these ids
   abbrev IsGiven : List ℕ → List ℕ → Operation → Type 0
@@ -472,10 +473,10 @@ module _ (s : Setting) (entry : Option (List ℕ)) (right : IsConforming s.of en
   given_by code.CopyLogical o facts e = subst (Given code.CopyLogical) (same_Some op.Copy o e) (as_copied facts.value (all_typed code.CopyLogical facts (λ k. from_zero k) (λ k. refl)) (exactly 1 (length i.args) facts.least facts.most))
   given_by code.VectorExtractDynamic o facts e = subst (Given code.VectorExtractDynamic) (same_Some op.VectorExtractDynamic o e) (as_taken facts.value (all_typed code.VectorExtractDynamic facts (λ k. from_zero k) (λ k. refl)) (exactly 2 (length i.args) facts.least facts.most))
   given_by code.VectorInsertDynamic o facts e = subst (Given code.VectorInsertDynamic) (same_Some op.VectorInsertDynamic o e) (as_put facts.value (all_typed code.VectorInsertDynamic facts (λ k. from_zero k) (λ k. refl)) (exactly 3 (length i.args) facts.least facts.most))
-  given_by code.VectorShuffle o facts e = subst (Given code.VectorShuffle) (same_Some op.VectorShuffle o e) (as_shuffle facts.value (typed_at code.VectorShuffle facts 0 (let many : 2 ≤ length i.args = at_least 2 (length i.args) facts.least in let less : 0 < length i.args = omega (arith, many) in less) refl refl) (typed_at code.VectorShuffle facts 1 (let many : 2 ≤ length i.args = at_least 2 (length i.args) facts.least in let less : 1 < length i.args = omega (arith, many) in less) refl refl) (at_least 2 (length i.args) facts.least))
+  given_by code.VectorShuffle o facts e = subst (Given code.VectorShuffle) (same_Some op.VectorShuffle o e) (as_shuffle facts.value (typed_operand s entry right f in_it i there code.VectorShuffle facts 0 (let many : 2 ≤ length i.args = at_least 2 (length i.args) facts.least in let less : 0 < length i.args = omega (arith, many) in less) refl refl) (typed_operand s entry right f in_it i there code.VectorShuffle facts 1 (let many : 2 ≤ length i.args = at_least 2 (length i.args) facts.least in let less : 1 < length i.args = omega (arith, many) in less) refl refl) (at_least 2 (length i.args) facts.least))
   given_by code.CompositeConstruct o facts e = subst (Given code.CompositeConstruct) (same_Some op.CompositeConstruct o e) (as_made facts.value (all_typed code.CompositeConstruct facts (λ k. from_zero k) (λ k. refl)))
-  given_by code.CompositeExtract o facts e = subst (Given code.CompositeExtract) (same_Some op.CompositeExtract o e) (as_extract facts.value (typed_at code.CompositeExtract facts 0 (let many : 1 ≤ length i.args = at_least 1 (length i.args) facts.least in let less : 0 < length i.args = omega (arith, many) in less) refl refl) (at_least 1 (length i.args) facts.least))
-  given_by code.CompositeInsert o facts e = subst (Given code.CompositeInsert) (same_Some op.CompositeInsert o e) (as_inserted facts.value (typed_at code.CompositeInsert facts 0 (let many : 2 ≤ length i.args = at_least 2 (length i.args) facts.least in let less : 0 < length i.args = omega (arith, many) in less) refl refl) (typed_at code.CompositeInsert facts 1 (let many : 2 ≤ length i.args = at_least 2 (length i.args) facts.least in let less : 1 < length i.args = omega (arith, many) in less) refl refl) (at_least 2 (length i.args) facts.least))
+  given_by code.CompositeExtract o facts e = subst (Given code.CompositeExtract) (same_Some op.CompositeExtract o e) (as_extract facts.value (typed_operand s entry right f in_it i there code.CompositeExtract facts 0 (let many : 1 ≤ length i.args = at_least 1 (length i.args) facts.least in let less : 0 < length i.args = omega (arith, many) in less) refl refl) (at_least 1 (length i.args) facts.least))
+  given_by code.CompositeInsert o facts e = subst (Given code.CompositeInsert) (same_Some op.CompositeInsert o e) (as_inserted facts.value (typed_operand s entry right f in_it i there code.CompositeInsert facts 0 (let many : 2 ≤ length i.args = at_least 2 (length i.args) facts.least in let less : 0 < length i.args = omega (arith, many) in less) refl refl) (typed_operand s entry right f in_it i there code.CompositeInsert facts 1 (let many : 2 ≤ length i.args = at_least 2 (length i.args) facts.least in let less : 1 < length i.args = omega (arith, many) in less) refl refl) (at_least 2 (length i.args) facts.least))
   given_by code.Undef o facts e = subst (Given code.Undef) (same_Some op.Undef o e) (([], tt, result_sized))
-  given_by code.ExtInst o facts e = as_extended o e (at_least 2 (length i.args) facts.least) facts.number (dropped_typed (λ k low less. typed_at code.ExtInst facts k less (behind_second k low) (behind_first k low)))
+  given_by code.ExtInst o facts e = as_extended o e (at_least 2 (length i.args) facts.least) facts.number (dropped_typed (λ k low less. typed_operand s entry right f in_it i there code.ExtInst facts k less (behind_second k low) (behind_first k low)))
   given_by p o facts e = cc

@@ -24,7 +24,7 @@ use Rattle.spv_decor.specs.Rows.{word}
 use Rattle.spv_index.specs.Locals.{insts_of, type_in}
 use Rattle.spv_index.specs.Pointers.{pointee, pointer, as_pointer, pointee_of, storage_class}
 use Rattle.spv_index.specs.ValueTypes.{is_no_value_type}
-use Rattle.profile_rules.specs.declared.needs.Need.TheVariants.{Value, PhiValue, Label}
+use Rattle.profile_rules.specs.declared.needs.Need.TheVariants.{PhiValue, Label}
 use Rattle.profile_rules.specs.Operands.{need, type_need, suits, is_global, is_in_function, is_there_in}
 use Rattle.profile_rules.specs.TypeRows.{is_int, is_uint, is_pointer, is_void, fails, differ, value_fails, is_other}
 use Rattle.profile_rules.specs.ValueRules.{breaks_t4, breaks_t5, breaks_t6, breaks_t7, is_no_array_id, leads_elsewhere, chain_end}
@@ -35,7 +35,7 @@ use Rattle.profile_rules.specs.declared.way.Way.TheVariants.{BufferBlock}
 use Rattle.profile_rules.specs.FlowRules.{callee, every_second, is_from_elsewhere, breaks_t22, breaks_t24_value}
 use Rattle.profile_rules.specs.TypeRules.{is_flow_broken}
 use Rattle.profile_rules.specs.Entry.{function_of}
-use Rattle.list_law.proofs.Options.{some_by}
+use Rattle.list_law.proofs.Options.{some_by, none_some}
 use Rattle.list_law.proofs.Tests.{or_left, or_right, and_off, and_left, clash}
 use Rattle.list_law.proofs.Numbers.{even_after, from_zero}
 use Rattle.plan_law.specs.InOrder.{IsAmong}
@@ -56,11 +56,11 @@ use Rattle.typed_law.specs.Conforms.{IsConforming}
 use Rattle.typed_law.proofs.Lists.{earlier_some}
 use Rattle.typed_law.proofs.Rules.{type_there, operand_there, flow_right, access_right}
 use Rattle.typed_law.proofs.Types.{row_is, pointee_shaped}
-use Rattle.typed_law.proofs.Values.{IsRow, shape_of_row, value_type_has, inside, local_row, result_row, HasType, type_row_of, one_type, same_type, typed_value, typed_source, own_type, own_local, own_shape, int_shaped, type_suits, type_outside}
+use Rattle.typed_law.proofs.Values.{IsRow, shape_of_row, value_type_has, inside, local_row, result_row, HasType, type_row_of, one_type, same_type, typed_source, own_type, own_local, own_shape, int_shaped, type_suits, type_outside}
 use Rattle.typed_law.proofs.Shapes.{row_of_shape, shaped_type}
-use Rattle.typed_law.proofs.Operations.{Facts}
+pub use Rattle.typed_law.proofs.Operations.{typed_operand}
 
-uint_shaped : (g : Inst) → is_uint g ≡ true → is_shapeless g.op ≡ false
+pub uint_shaped : (g : Inst) → is_uint g ≡ true → is_shapeless g.op ≡ false
 uint_shaped g e = int_shaped g.op (and_left (is g.op code.TypeInt) (word g 0 == 32) (and_left ((is g.op code.TypeInt) && (word g 0 == 32)) (word g 1 == 0) e))
 
 pub phi_group : (o : Op) → is o code.Phi ≡ true → group_of o ≡ groups.Phi
@@ -144,21 +144,15 @@ module _ (s : Setting) (entry : Option (List ℕ)) (right : IsConforming s.of en
   typed_some i there has zero_is =
       let on = type_there (is_there_in s.of f i.at) i ((inside s entry right f in_it).order.there i there) has in
       let g = some_by (suits (type_need i.op)) (earlier Gs i.at i.ty) (alone (is_global Gs i.at (type_need i.op) i.ty) on) in
-      never (sym right.results.none ∙ (ap (global Gs) (sym zero_is) ∙ (earlier_some Gs i.at i.ty g.0 g.1).0))
+      none_some (sym right.results.none ∙ (ap (global Gs) (sym zero_is) ∙ (earlier_some Gs i.at i.ty g.0 g.1).0))
     where
       alone : (a : Bool) → (a || is_in_function s.of f i.at (type_need i.op) i.ty) ≡ true → a ≡ true
       alone true e = refl
       alone false e = clash (sym e ∙ type_outside s.of f i.at i.ty i.op)
 
-      never : {g : Inst} → None ≡ Some g → ⊥
-      never e = cc
-
   module _ (i : Inst) (there : IsAmong i (insts_of f)) where
     has_row : has_type i.op ≡ true → IsRow s entry right i.ty
     has_row has = let g = local_row s entry right f in_it i there (typed_some i there has) in (g.0, g.1, type_suits i.op g.0 g.2)
-
-    pub typed_operand : (p : Op) → Facts s entry right f in_it i there p → (k : ℕ) → k < length i.args → is_id p i.args k ≡ true → need p k ≡ Value → IsTypedId (slice_index i.args k)
-    typed_operand p facts k less has needed = typed_value s entry right f in_it i.at (slice_index i.args k) (subst (λ q. is_there_in s.of f i.at q (slice_index i.args k) ≡ true) needed (facts.has k less has))
 
     -- T4
     pub as_load : has_type i.op ≡ true → breaks_t4 s.of.heads Gs V i ≡ false → IsTypedId (word i 0) → IsLoad s f i

@@ -97,7 +97,7 @@ module _ (m : ModuleState) (entry : Option (List ℕ)) (right : IsConforming m e
     by_function : broken_by_function m f ≡ []
     by_function = none_by (broken_by_function m) m.functions f by_functions in_it
 
-    rest_of : broken_if (breaks_t21_of m.globals f) T21 f.at ++ flat_map (broken_by_block m f) f.blocks ≡ []
+    pub rest_of : broken_if (breaks_t21_of m.globals f) T21 f.at ++ flat_map (broken_by_block m f) f.blocks ≡ []
     rest_of = none_right (broken_if (breaks_t1_of m.globals f) T1 f.at) (broken_if (breaks_t21_of m.globals f) T21 f.at ++ flat_map (broken_by_block m f) f.blocks) by_function
 
     -- T1 and T21 of its types

@@ -6,7 +6,6 @@ use Rattle.spv_ops.specs.declared.AtomicOp.{AtomicOp}
 use Rattle.spv_ops.specs.declared.AtomicOp.TheVariants as atomics
 use Rattle.spv_ops.specs.declared.Terminator.{Terminator}
 use Rattle.spv_module.specs.State.{ModuleState}
-use Rattle.spv_module.specs.declared.inst.Id.{Id}
 use Rattle.spv_module.specs.declared.inst.Inst.{Inst}
 use Rattle.spv_module.specs.declared.inst.Block.{Block}
 use Rattle.spv_module.specs.declared.inst.Function.{Function}
@@ -26,7 +25,7 @@ use Rattle.module_semantics.specs.Memory.{location, shape_along, elements, are_a
 use Rattle.module_semantics.specs.Operands.{Target, held, value_at, pointer_at, word_at, words_at, arg}
 use Rattle.module_semantics.specs.Accesses.{seen, kept, keeping, with_lent}
 use Rattle.module_semantics.specs.Steps as the
-use Rattle.module_semantics.specs.Steps.{with_some, advanced, set, set_value, computed, operation_step, base, lead_if, chain_step, length_step, variable_step, read_shape, load_from, load_step, store_to, store_step, atomic_operation, atomic_operands, set_found, atomic_step, memory_barriers, memory_barrier_step, control_barrier_step, phis, argument_of, first_insts, entered, called, call_step, return_step, given_to, return_value_step, target_label, phi_value, present_label, gone_to, edge_step, branch_step, StepKind, step_kind, step_by, act_on, act}
+use Rattle.module_semantics.specs.Steps.{with_some, advanced, set, set_value, computed, operation_step, base, lead_if, chain_step, length_step, variable_step, read_shape, load_from, load_step, store_to, store_step, atomic_operation, atomic_operands, set_found, atomic_step, memory_barriers, memory_barrier_step, control_barrier_step, phis, first_insts, entered, called, call_step, return_step, given_to, return_value_step, target_label, phi_value, present_label, gone_to, edge_step, branch_step, StepKind, step_kind, step_by, act_on, act}
 use Rattle.module_semantics.specs.Run.{have_values, first_state, start_by, start}
 use Rattle.fits_law.specs.State.{ConfFits, ActFits}
 use Rattle.fits_law.proofs.Steps.{fits_step}
@@ -37,6 +36,7 @@ use Rattle.typed_law.proofs.Others.{contains_found, among_block}
 use Rattle.typed_law.proofs.Calls.{initial_in_fits, initial_private_fits}
 use Rattle.typed_law.proofs.Whole.{is_typed}
 use Rattle.typed_law.proofs.Inputs.{conforming_fits}
+use Rattle.typed_law.proofs.LowSteps.{no_arguments}
 
 -- what is left behind some
 among_drop : (n : ℕ) (js : List Inst) (i : Inst) → IsAmong i (drop n js) → IsAmong i js
@@ -210,10 +210,6 @@ module _ (s : Setting) (entry : Option (List ℕ)) (right : IsConforming s.of en
       (act_goes s c state.of_module)
 
   -- and a run starts in one
-  no_arguments : (ps : List (Id × Id)) (id : ℕ) (h : Held) → argument_of ps [] id ≡ Some h → ⊥
-  no_arguments [] id h e = cc
-  no_arguments (p ∷ ps) id h e = cc
-
   first_fits : (f : Function) → Contains s.of.functions f → ConfFits s (first_state s f)
   unfolding entered
   first_fits f in_it = record {

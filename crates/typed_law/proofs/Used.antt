@@ -6,6 +6,7 @@ use Rattle.std.specs.List.{list_any, filter_map, cons_option}
 use Rattle.std.proofs.lemmas.Bool.Decides.{eqb_tells, nat_tests}
 use Rattle.std.proofs.lemmas.Bool.{and_from, false_from_ne_true, not-false, not-true, or_cases, or_left as or_on_left, or_right as or_on_right}
 use Rattle.std.proofs.lemmas.Option.{same_Some}
+use Rattle.std.proofs.lemmas.List.Folds.{list_any-append}
 use Rattle.spv_ops.specs.Opcode.{is, number}
 use Rattle.spv_ops.specs.Groups.{is_specialization}
 use Rattle.spv_ops.specs.Operands.{is_id}
@@ -28,7 +29,7 @@ use Rattle.profile_rules.specs.declared.needs.Need.TheVariants.{AnyType, Constan
 use Rattle.profile_rules.specs.Operands.{need, first_or, is_there}
 use Rattle.profile_rules.specs.Places.{is_among, is_variable, is_defined_elsewhere, body_insts}
 use Rattle.profile_rules.specs.TypeForm.{parts_of, value_type, value_types, signature_types, pointee_by, pointees, block_misuses, fixed_parts, runtime_misuses, with_parts, held, is_held, other_types, is_workgroup, is_above_zero, is_no_int, is_workgroup_length, is_length}
-use Rattle.list_law.proofs.Numbers.{from_zero}
+use Rattle.list_law.proofs.Numbers.{from_zero, number_itself}
 use Rattle.list_law.proofs.Tests.{or_left, or_right, and_off, and_right, clash}
 use Rattle.plan_law.specs.InOrder.{IsAmong, AreRising}
 use Rattle.fits_law.proofs.Steps.{named}
@@ -40,22 +41,18 @@ use Rattle.typed_law.proofs.Types.{type_before, of_form}
 use Rattle.typed_law.proofs.Sized.{rising_low, sized_by}
 use Rattle.typed_law.proofs.Opcodes.{of_number}
 
-among_append : (xs ys : List ℕ) (id : ℕ) → is_among (xs ++ ys) id ≡ (is_among xs id || is_among ys id)
-among_append [] ys id = refl
-among_append (x ∷ xs) ys id = by_test (x == id) (among_append xs ys id)
-  where
-    by_test : (b : Bool) → is_among (xs ++ ys) id ≡ (is_among xs id || is_among ys id) → (b || is_among (xs ++ ys) id) ≡ ((b || is_among xs id) || is_among ys id)
-    by_test true e = refl
-    by_test false e = e
+-- the first of a list is among it
+pub first_among : (id : ℕ) (ids : List ℕ) → is_among (id ∷ ids) id ≡ true
+first_among id ids = ap (λ b. b || is_among ids id) (number_itself id)
 
 pub among_left : (xs ys : List ℕ) (id : ℕ) → is_among xs id ≡ true → is_among (xs ++ ys) id ≡ true
-among_left xs ys id there = among_append xs ys id ∙ or_on_left (is_among xs id) (is_among ys id) there
+among_left xs ys id there = list_any-append (λ x. x == id) xs ys ∙ or_on_left (is_among xs id) (is_among ys id) there
 
 pub among_right : (xs ys : List ℕ) (id : ℕ) → is_among ys id ≡ true → is_among (xs ++ ys) id ≡ true
-among_right xs ys id there = among_append xs ys id ∙ or_on_right (is_among xs id) (is_among ys id) there
+among_right xs ys id there = list_any-append (λ x. x == id) xs ys ∙ or_on_right (is_among xs id) (is_among ys id) there
 
 among_either : (xs ys : List ℕ) (id : ℕ) → is_among (xs ++ ys) id ≡ true → (is_among xs id ≡ true) ⊎ (is_among ys id ≡ true)
-among_either xs ys id there = or_cases (is_among xs id) (is_among ys id) (sym (among_append xs ys id) ∙ there)
+among_either xs ys id there = or_cases (is_among xs id) (is_among ys id) (sym (list_any-append (λ x. x == id) xs ys) ∙ there)
 
 pub among_flat : (f : Inst → List ℕ) (xs : List Inst) (x : Inst) (id : ℕ) → IsAmong x xs → is_among (f x) id ≡ true → is_among (flat_map f xs) id ≡ true
 among_flat f [] x id there own = absurd there
@@ -266,7 +263,7 @@ module _ (m : ModuleState) (entry : Option (List ℕ)) (right : IsConforming m e
   used_by (suc n) g there less used t shape = used_whole g there used (λ h h_in before. used_by n h h_in (let low : h.at < n = omega (arith, less, before) in low)) t shape
 
   -- the types of instructions that are no variables
-  body_type : (is : List Inst) (i : Inst) → IsAmong i is → is_variable i ≡ false → is_among (filter_map value_type is) i.ty ≡ true
+  pub body_type : (is : List Inst) (i : Inst) → IsAmong i is → is_variable i ≡ false → is_among (filter_map value_type is) i.ty ≡ true
   body_type [] i there off = absurd there
   body_type (j ∷ is) i (inl same) off = subst (λ (x : Inst). is_among (filter_map value_type (x ∷ is)) i.ty ≡ true) (sym same) (by_test (is_variable i) off)
     where

@@ -34,7 +34,7 @@ use Rattle.profile_rules.specs.Places.{is_variable, body_insts}
 use Rattle.profile_rules.specs.TypeRows.{is_type, type_row, fails, differ, value_fails, is_other, one_if, count_in, is_not}
 use Rattle.profile_rules.specs.TypeForm.{is_no_variable, is_other_parameter, is_other_result, is_other_function, is_other_pointer}
 use Rattle.profile_rules.specs.FlowRules.{function_type_if, function_type, is_misdeclared}
-use Rattle.list_law.proofs.Options.{some_by, some_part}
+use Rattle.list_law.proofs.Options.{some_by, some_part, none_some}
 pub use Rattle.list_law.proofs.Numbers.{same_count}
 use Rattle.list_law.proofs.Tests.{first_by, or_left, or_right, and_off, and_left, clash}
 use Rattle.plan_law.specs.InOrder.{IsAmong}
@@ -116,7 +116,7 @@ shapeless_no_bool code.TypeBool e = cc
 shapeless_no_bool o e = refl
 
 -- the type of an instruction that has one
-type_of : (i : Inst) (ty : ℕ) → typed i ≡ Some ty → (i.ty ≡ ty) × (i.ty ≡ 0 → ⊥)
+pub type_of : (i : Inst) (ty : ℕ) → typed i ≡ Some ty → (i.ty ≡ ty) × (i.ty ≡ 0 → ⊥)
 type_of i ty e = by_test (i.ty == 0) (eqb_tells i.ty 0) e
   where
     by_test : (b : Bool) → ((b ≡ true) × (i.ty ≡ 0)) ⊎ ((b ≡ false) × (i.ty ≡ 0 → ⊥)) → (if b then None else Some i.ty) ≡ Some ty → (i.ty ≡ ty) × (i.ty ≡ 0 → ⊥)
@@ -216,10 +216,7 @@ module _ (s : Setting) (entry : Option (List ℕ)) (right : IsConforming s.of en
   pub global_typed_some : (h : Inst) → IsAmong h Gs → has_type h.op ≡ true → h.ty ≡ 0 → ⊥
   global_typed_some h there has zero_is =
       let g = row_of h.at h.ty h.op (type_there (is_there Gs h.at) h (global_there s.of entry right h there) has) in
-      never (sym right.results.none ∙ (ap (global Gs) (sym zero_is) ∙ g.1))
-    where
-      never : {g : Inst} → None ≡ Some g → ⊥
-      never e = cc
+      none_some (sym right.results.none ∙ (ap (global Gs) (sym zero_is) ∙ g.1))
 
   pub shape_of_row : (ty : ℕ) (w : IsRow ty) → is_shapeless w.0.op ≡ false → (t : Tree) × (type_tree Gs ty ≡ Some t)
   shape_of_row ty w shaped = type_shaped s.of entry right ty w.0 w.1 w.2 shaped
@@ -232,10 +229,7 @@ module _ (s : Setting) (entry : Option (List ℕ)) (right : IsConforming s.of en
 
   -- a pointer type has no shape
   pointer_none : (g : Inst) (t : Tree) → is g.op code.TypePointer ≡ true → tree_at Gs g ≡ Some t → ⊥
-  pointer_none g t on e = never (ap (tree_by_kind Gs (tree_before Gs g.at) g) (sym (pointer_kind g.op on)) ∙ e)
-    where
-      never : None ≡ Some t → ⊥
-      never e = cc
+  pointer_none g t on e = none_some (ap (tree_by_kind Gs (tree_before Gs g.at) g) (sym (pointer_kind g.op on)) ∙ e)
 
   module _ (f : Function) (in_it : Contains s.of.functions f) where
     abbrev pub T : ℕ → Option ℕ
@@ -377,10 +371,7 @@ module _ (s : Setting) (entry : Option (List ℕ)) (right : IsConforming s.of en
 
     -- a type that has a shape is not 0
     pub shaped_some : (ty : ℕ) (t : Tree) → type_tree Gs ty ≡ Some t → ty ≡ 0 → ⊥
-    shaped_some ty t shape zero_is = never (ap (λ o. option_map_or (tree_at Gs) o None) (sym right.results.none) ∙ (ap (type_tree Gs) (sym zero_is) ∙ shape))
-      where
-        never : None ≡ Some t → ⊥
-        never e = cc
+    shaped_some ty t shape zero_is = none_some (ap (λ o. option_map_or (tree_at Gs) o None) (sym right.results.none) ∙ (ap (type_tree Gs) (sym zero_is) ∙ shape))
 
     pub own_shape : (i : Inst) → IsAmong i (insts_of f) → (t : Tree) → type_tree Gs i.ty ≡ Some t → value_shape s f i.result ≡ Some t
     own_shape i there t shape = ap (option_and_then (type_tree Gs)) (own_type i there (shaped_some i.ty t shape)) ∙ shape

@@ -6,12 +6,12 @@ use Rattle.std.proofs.lemmas.Bool.Decides.{eqb_tells, nat_tests}
 use Rattle.std.proofs.lemmas.Bool.{and_from, false_from_ne_true, not-false, or_right as or_right_on}
 use Rattle.spv_words.specs.Words.{insts, nth_inst, slice, is_at_fault}
 use Rattle.spv_words.specs.declared.rule.Rule.TheVariants.{T1}
-use Rattle.spv_words.specs.declared.rule.Refusal.{Refusal}
 use Rattle.spv_words.specs.declared.words.Inst1.{Inst1}
 use Rattle.spv_ops.specs.Opcode.{number, op_of}
-use Rattle.spv_ops.specs.Shape.{shape, count_of, has_room}
+use Rattle.spv_ops.specs.Shape.{shape, count_of}
 use Rattle.spv_ops.specs.declared.opcode.Op.{Op}
 use Rattle.spv_ops.specs.declared.opcode.Op.TheVariants as op
+use Rattle.spv_ops.proofs.Shapes.{room}
 use Rattle.spv_module.specs.declared.kind.Kind.{Kind}
 use Rattle.spv_module.specs.declared.kind.Kind.TheVariants.{Debug, Global, Undef, Variable, Function as Opening_of, Parameter, End, Label, Other}
 use Rattle.spv_module.specs.declared.kind.Place.{Place}
@@ -29,7 +29,8 @@ use Rattle.spv_module.specs.Ids.{is_out, result_by, result_of, results, HasIdOut
 use Rattle.spv_module.specs.Lists.{id as id_of, is_global, globals_from, globals, with_inst, block_insts, block, with_block, blocks, with_param, params, function, with_function, functions_from, functions, module_of}
 use Rattle.spv_index.specs.Locals.{insts_of}
 use Rattle.profile_rules.specs.TypeRules.{broken, Broken as BrokenTypes}
-use Rattle.list_law.proofs.Tests.{or_right, and_right, and_left}
+use Rattle.list_law.proofs.Tests.{or_right, and_right, and_left, off_on}
+use Rattle.list_law.proofs.Lists.{none_within}
 use Rattle.plan_law.specs.InOrder.{IsAmong}
 use Rattle.plan_law.specs.Distinct.{IsNone, AreDistinct}
 use Rattle.plan_law.proofs.Listed.{flat, globals_rise, distinct}
@@ -61,11 +62,6 @@ none_found test (i ∷ is) x e one = by_test (test i) refl one e (λ rest later.
 known_is : (n : ℕ) (o : Op) → op_of n ≡ Some o → known n ≡ o
 unfolding known
 known_is n o e = ap (λ q. unwrap_or q op.Nop) e
-
-room : (o : Op) → has_room (shape o) ≡ true
-unfolding shape
-room op.Nop = refl
-room o = refl
 
 -- kinds of globals; these, functions and parameters have results
 abbrev pub is_global_kind : Kind → Bool
@@ -385,10 +381,7 @@ module _ (ws : List ℕ) (entry : Option (List ℕ)) (right : BreakNone ws entry
       let y = global_made ws Outside (insts ws) g g_in in
       let y_is = result_is y.0 (own_not_debug (kind_of ws y.0) (own_global (kind_of ws y.0) y.3)) ∙ ap (λ (i : Inst). i.result) y.2 in
       let one = same_one ws (insts ws) w.0 y.0 apart w.1 y.1 (parameter_some p w) (parameter_is p w ∙ sym same ∙ sym y_is) in
-      never (ap is_global_kind (sym w.3) ∙ ap (λ x. is_global_kind (kind_of ws x)) one ∙ y.3))
-    where
-      never : false ≡ true → ⊥
-      never e = cc
+      off_on (ap is_global_kind (sym w.3) ∙ ap (λ x. is_global_kind (kind_of ws x)) one ∙ y.3))
 
   parameter_alone : (p q : Id × Id) → IsParameterMade ws (insts ws) p → IsParameterMade ws (insts ws) q → q.0.0 ≡ p.0.0 → q ≡ p
   parameter_alone p q w v same =
@@ -414,10 +407,7 @@ module _ (ws : List ℕ) (entry : Option (List ℕ)) (right : BreakNone ws entry
       let y = global_made ws Outside (insts ws) g g_in in
       let y_is = result_is y.0 (own_not_debug (kind_of ws y.0) (own_global (kind_of ws y.0) y.3)) ∙ ap (λ (i : Inst). i.result) y.2 in
       let alone = same_one ws (insts ws) x y.0 apart one y.1 (own_some x one own) (x_is ∙ sym same ∙ sym y_is) in
-      never (ap is_global_kind (sym e) ∙ ap (λ z. is_global_kind (kind_of ws z)) alone ∙ y.3))
-    where
-      never : false ≡ true → ⊥
-      never e = cc
+      off_on (ap is_global_kind (sym e) ∙ ap (λ z. is_global_kind (kind_of ws z)) alone ∙ y.3))
 
   all_outside : (is : List Inst1) → ((x : Inst1) → IsOne x is → IsOne x (insts ws)) → AreOutside (functions_from ws is)
   all_outside [] sub = tt
@@ -446,10 +436,7 @@ module _ (ws : List ℕ) (entry : Option (List ℕ)) (right : BreakNone ws entry
       }
     where
       none_in : (m : ModuleState) → broken m ≡ [] → (at : ℕ) → BrokenTypes m T1 at → ⊥
-      none_in m none at has = no_refusal (record { rule = T1; at = at }) (subst (λ rs. Contains rs (record { rule = T1; at = at })) none has)
-        where
-          no_refusal : (r : Refusal) → Contains [] r → ⊥
-          no_refusal r there = let less = there.1 in omega (arith, less)
+      none_in m none at has = none_within (record { rule = T1; at = at }) (subst (λ rs. Contains rs (record { rule = T1; at = at })) none has)
 
   -- the module that words are
   pub conforms : IsConforming (module_of ws) entry

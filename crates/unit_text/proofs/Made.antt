@@ -1,8 +1,9 @@
 -- What the code makes of planned functions is the unit of the definitions.
-use Rattle.std.proofs.Common.{◌≡◌, ℕ, Bool, true, false, List, [], ◌∷◌, ◌++◌, Option, Some, None, cond, map, refl, sym, ◌∙◌, ap, subst}
-use Rattle.std.specs.Prelude.{find, flat_map, option_map, option_to_list}
+use Rattle.std.proofs.Common.{◌≡◌, ℕ, Bool, List, [], ◌∷◌, ◌++◌, Option, Some, None, map, refl, sym, ◌∙◌, ap, subst}
+use Rattle.std.specs.Prelude.{flat_map, option_map, option_to_list}
 use Rattle.std.specs.List.{AllZip}
 use Rattle.std.proofs.lemmas.List.{map-append}
+use Rattle.list_law.proofs.Lists.{find_map}
 use Rattle.spv_module.specs.State.{ModuleState}
 use Rattle.spv_module.specs.declared.inst.Id.{Id}
 use Rattle.spv_module.specs.declared.inst.Inst.{Inst}
@@ -14,7 +15,6 @@ use Rattle.profile_rules.specs.Entry.{group_size}
 use Rattle.conformance.specs.Rules.{Options}
 use Rattle.module_check.specs.Judged.{IsEntry}
 use Rattle.hoist_plan.specs.Kept.{form_in, is_carried_in}
-use Rattle.hoist_plan.specs.Plan as plan
 use Rattle.name_alloc.specs.declared.claims.Names.{Names as Given}
 use Rattle.name_alloc.specs.Law.{AreNames}
 use Rattle.name_alloc.specs.Naming.{name_of}
@@ -57,14 +57,6 @@ zip_flats R g k h each [] [] all = refl
 zip_flats R g k h each [] (y ∷ ys) all = absurd all
 zip_flats R g k h each (x ∷ xs) [] all = absurd all
 zip_flats R g k h each (x ∷ xs) (y ∷ ys) all = ap (λ d. d ++ flat_map g ys) (each x y all.0) ∙ ap (λ ds. h (k y) ++ ds) (zip_flats R g k h each xs ys all.1)
-
--- what is found among what lists are mapped to
-find_map : {A B : Type 0} (test : B → Bool) (f : A → B) (xs : List A) → find test (map f xs) ≡ option_map f (find (λ x. test (f x)) xs)
-find_map test f [] = refl
-find_map test f (x ∷ xs) = elim (test (f x)) as (λ b. cond b (Some (f x)) (find test (map f xs)) ≡ option_map f (cond b (Some x) (find (λ y. test (f y)) xs))) [
-  | true ↦ refl
-  | false ↦ find_map test f xs
-]
 
 listed_map : {A B : Type 0} (f : A → B) (o : Option A) → option_to_list (option_map f o) ≡ map f (option_to_list o)
 listed_map f None = refl

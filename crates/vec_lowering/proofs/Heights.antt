@@ -1,5 +1,6 @@
 -- The expression of an operation on shapes at most 15 deep is at most 40 higher than the highest of its operands.
 use Rattle.std.proofs.Common.{◌≡◌, ℕ, zero, suc, ◌+◌, ◌*◌, ◌≤◌, Bool as Truth, true, false, List, [], ◌∷◌, ◌++◌, Option, Some, None, Result, Ok, Err, IfOk, max, map, arith, sym, subst, nat_lt, ◌==◌, ◌-◌, if◌then◌else◌}
+use Rattle.list_law.proofs.Numbers.{le_on}
 use Rattle.spv_ops.specs.Opcode.{is as is_code}
 use Rattle.spv_ops.specs.declared.Op.{Op}
 use Rattle.spv_ops.specs.declared.Op.TheVariants as code
@@ -25,9 +26,6 @@ use Rattle.vec_lowering.specs.Component.{component, component_of, each_below, by
 use Rattle.vec_lowering.specs.Composite.{Argument, operand, first_of, rest_of, second_of, constructed, nth_or, element, axis, member_of, extracted, vector_size, picked, has_struct, array_part, fixed_length, struct_id, struct_parts, copied, copied_parts}
 use Rattle.vec_lowering.specs.Depth.{depth, deepest, deepest_argument, highest_argument}
 use Rattle.vec_lowering.specs.Lowered.{extracted_from, extracted_at, shuffled_of, copied_from, on_arguments, copy_by, written, written_if_any, lowered_vector}
-
-within-le : (m k n : ℕ) → m ≤ k → k ≤ n → m ≤ n
-within-le m k n p q = omega arith
 
 max-within : (a b n : ℕ) → a ≤ n → b ≤ n → max a b ≤ n
 max-within a b n p q = omega arith
@@ -96,11 +94,11 @@ parts-le k (x ∷ xs) = omega (arith, part-le x.ty.size k x, parts-le k xs)
 by_component-le : (o : Operation) (e : Elem) (n : ℕ) (xs : List Operand) → height (by_component o e n xs) ≤ 20 + highest_operand xs
 by_component-le o e n xs =
     let each = each-le n (λ k. applied o (scalar e) (map (component k) xs)) (14 + highest_operand xs)
-    (λ k. within-le _ _ _ (height-close o (scalar e) (map (component k) xs)) (omega (arith, parts-le k xs))) in
+    (λ k. le_on _ _ _ (height-close o (scalar e) (map (component k) xs)) (omega (arith, parts-le k xs))) in
     omega (arith, each, named-le (record { elem = e; size = Some n }))
 
 close-le : (o : Operation) (ty : BasicType) (xs : List Operand) → height (applied o ty xs) ≤ 20 + highest_operand xs
-close-le o ty xs = within-le _ _ _ (height-close o ty xs) (omega arith)
+close-le o ty xs = le_on _ _ _ (height-close o ty xs) (omega arith)
 
 sized-le : (o : Operation) (e : Elem) (size : Option ℕ) (xs : List Operand) → height (on_basic o (record { elem = e; size = size }) xs) ≤ 20 + highest_operand xs
 sized-le o e None xs = close-le o (scalar e) xs
@@ -113,14 +111,14 @@ operands-le [] = omega arith
 operands-le (x ∷ xs) = omega (arith, operands-le xs)
 
 basic-le : (o : Operation) (ty : BasicType) (xs : List Argument) → height (on_basic o ty (map operand xs)) ≤ 40 + highest_argument xs
-basic-le o ty xs = within-le _ _ _ (sized-le o ty.elem ty.size (map operand xs)) (omega (arith, operands-le xs))
+basic-le o ty xs = le_on _ _ _ (sized-le o ty.elem ty.size (map operand xs)) (omega (arith, operands-le xs))
 
 arguments-le : (xs : List Argument) → heights (exprs_in (map (λ a. a.of) xs)) ≤ highest_argument xs
 arguments-le [] = omega arith
 arguments-le (x ∷ xs) = omega (arith, arguments-le xs)
 
 constructed-le : (names : Naming) (t : Tree) (xs : List Argument) → height (constructed names t xs) ≤ 40 + highest_argument xs
-constructed-le names t xs = within-le _ _ _ (built-le names t (exprs_in (map (λ a. a.of) xs)) (highest_argument xs) (arguments-le xs)) (omega arith)
+constructed-le names t xs = le_on _ _ _ (built-le names t (exprs_in (map (λ a. a.of) xs)) (highest_argument xs) (arguments-le xs)) (omega arith)
 
 first_of-le : (xs : List Argument) → height (first_of xs).of ≤ 1 + highest_argument xs
 first_of-le [] = omega arith
@@ -182,10 +180,10 @@ extracted-le names boolean (i ∷ is) e = omega arith
 extracted-le names int (i ∷ is) e = omega arith
 extracted-le names uint (i ∷ is) e = omega arith
 extracted-le names (vector f n) (i ∷ is) e = axis-le e i
-extracted-le names (array t l) (i ∷ is) e = within-le _ _ _ (extracted-le names t is (element e i)) (let h = element-le e i in omega (arith, h))
-extracted-le names (runtime t) (i ∷ is) e = within-le _ _ _ (extracted-le names t is (element e i)) (let h = element-le e i in omega (arith, h))
+extracted-le names (array t l) (i ∷ is) e = le_on _ _ _ (extracted-le names t is (element e i)) (let h = element-le e i in omega (arith, h))
+extracted-le names (runtime t) (i ∷ is) e = le_on _ _ _ (extracted-le names t is (element e i)) (let h = element-le e i in omega (arith, h))
 extracted-le names (struct id ts) (i ∷ is) e =
-    within-le _ _ _ (extracted-le names (nth_or ts i boolean) is (member_of names e id i)) (omega (arith, member-le names e id i, nth-le ts i))
+    le_on _ _ _ (extracted-le names (nth_or ts i boolean) is (member_of names e id i)) (omega (arith, member-le names e id i, nth-le ts i))
 
 first-deep : (xs : List Argument) → depth (first_of xs).shape ≤ 1 + deepest_argument xs
 first-deep [] = omega arith
@@ -193,14 +191,14 @@ first-deep (x ∷ xs) = omega arith
 
 extracted_from-le : (names : Naming) (is : List ℕ) (xs : List Argument) → deepest_argument xs ≤ 15 → height (extracted_from names is xs) ≤ 40 + highest_argument xs
 extracted_from-le names is xs deep =
-    within-le _ _ _ (extracted-le names (first_of xs).shape is (first_of xs).of) (omega (arith, way-le (first_of xs).shape, first-deep xs, first_of-le xs))
+    le_on _ _ _ (extracted-le names (first_of xs).shape is (first_of xs).of) (omega (arith, way-le (first_of xs).shape, first-deep xs, first_of-le xs))
 
 picked-le : (e : Elem) (a b : Argument) (k n : ℕ) → height a.of ≤ n → height b.of ≤ n → height (picked e a b k) ≤ n + 1
 picked-le e a b k n p q =
     choice-le (k == 4294967295) (ast.literal (literal_of e 0)) (if nat_lt k (vector_size a.shape) then axis a.of k else axis b.of (k - vector_size a.shape)) (n + 1)
     (omega arith)
     (choice-le (nat_lt k (vector_size a.shape)) (axis a.of k) (axis b.of (k - vector_size a.shape)) (n + 1)
-    (within-le _ _ _ (axis-le a.of k) (omega arith)) (within-le _ _ _ (axis-le b.of (k - vector_size a.shape)) (omega arith)))
+    (le_on _ _ _ (axis-le a.of k) (omega arith)) (le_on _ _ _ (axis-le b.of (k - vector_size a.shape)) (omega arith)))
 
 picks-le : (e : Elem) (a b : Argument) (ks : List ℕ) (n : ℕ) → height a.of ≤ n → height b.of ≤ n → heights (exprs_in (map (picked e a b) ks)) ≤ n + 1
 picks-le e a b [] n p q = omega arith
@@ -208,8 +206,8 @@ picks-le e a b (k ∷ ks) n p q = let h = picked-le e a b k n p q in let hs = pi
 
 shuffled_of-le : (names : Naming) (t : Tree) (ks : List ℕ) (xs : List Argument) → height (shuffled_of names t ks xs) ≤ 40 + highest_argument xs
 shuffled_of-le names t ks xs =
-    within-le _ _ _ (built-le names t (exprs_in (map (picked (basic_type t).elem (first_of xs) (second_of xs)) ks)) (2 + highest_argument xs)
-    (within-le _ _ _ (picks-le (basic_type t).elem (first_of xs) (second_of xs) ks (1 + highest_argument xs) (first_of-le xs) (second_of-le xs)) (omega arith)))
+    le_on _ _ _ (built-le names t (exprs_in (map (picked (basic_type t).elem (first_of xs) (second_of xs)) ks)) (2 + highest_argument xs)
+    (le_on _ _ _ (picks-le (basic_type t).elem (first_of xs) (second_of xs) ks (1 + highest_argument xs) (first_of-le xs) (second_of-le xs)) (omega arith)))
     (omega arith)
 
 extracted_at-le : (xs : List Argument) → height (extracted_at xs) ≤ 40 + highest_argument xs
@@ -224,24 +222,24 @@ mutual
   copied-le names (runtime t) from e = omega arith
   copied-le names (array t l) from e =
       choice-le (has_struct t) (ast.build (shape_type names (array t l)) (exprs_in (each_below (fixed_length l) (λ k. copied names t (array_part from) (element e k))))) e (height e + 2 * (1 + way t) + 2)
-      (within-le _ _ _ (built-high names (array t l) (exprs_in (each_below (fixed_length l) (λ k. copied names t (array_part from) (element e k)))) (height e + 1 + 2 * way t + 2) (omega arith)
+      (le_on _ _ _ (built-high names (array t l) (exprs_in (each_below (fixed_length l) (λ k. copied names t (array_part from) (element e k)))) (height e + 1 + 2 * way t + 2) (omega arith)
       (each-le (fixed_length l) (λ k. copied names t (array_part from) (element e k)) (height e + 1 + 2 * way t + 2)
-      (λ k. within-le _ _ _ (copied-le names t (array_part from) (element e k)) (let h = element-le e k in omega (arith, h)))))
+      (λ k. le_on _ _ _ (copied-le names t (array_part from) (element e k)) (let h = element-le e k in omega (arith, h)))))
       (omega arith))
       (omega arith)
   copied-le names (struct id ts) from e =
-      within-le _ _ _ (built-high names (struct id ts) (copied_parts names ts (struct_id from) (struct_parts from) 0 e) (height e + 1 + 2 * longest ts + 2) (omega arith) (copies-le names ts (struct_id from) (struct_parts from) 0 e)) (omega arith)
+      le_on _ _ _ (built-high names (struct id ts) (copied_parts names ts (struct_id from) (struct_parts from) 0 e) (height e + 1 + 2 * longest ts + 2) (omega arith) (copies-le names ts (struct_id from) (struct_parts from) 0 e)) (omega arith)
 
   copies-le : (names : Naming) (ts : Trees) (id : ℕ) (from : Trees) (k : ℕ) (e : Expr) → heights (copied_parts names ts id from k e) ≤ height e + 1 + 2 * longest ts + 2
   copies-le names no_trees id from k e = omega arith
   copies-le names (tree t ts) id from k e =
       max-within _ _ _
-      (within-le _ _ _ (copied-le names t (nth_or from k boolean) (member_of names e id k)) (let h = member-le names e id k in omega (arith, h)))
-      (within-le _ _ _ (copies-le names ts id from (k + 1) e) (omega arith))
+      (le_on _ _ _ (copied-le names t (nth_or from k boolean) (member_of names e id k)) (let h = member-le names e id k in omega (arith, h)))
+      (le_on _ _ _ (copies-le names ts id from (k + 1) e) (omega arith))
 
 copied_from-le : (names : Naming) (t : Tree) (xs : List Argument) → depth t ≤ 15 → height (copied_from names t xs) ≤ 40 + highest_argument xs
 copied_from-le names t xs deep =
-    within-le _ _ _ (copied-le names t (first_of xs).shape (first_of xs).of) (omega (arith, way-le t, first_of-le xs))
+    le_on _ _ _ (copied-le names t (first_of xs).shape (first_of xs).of) (omega (arith, way-le t, first_of-le xs))
 
 copy_by-le : (names : Naming) (o : Op) (t : Tree) (xs : List Argument) → depth t ≤ 15 → height (copy_by names o t xs) ≤ 40 + highest_argument xs
 copy_by-le names o t xs deep =

@@ -1,10 +1,11 @@
 -- The text of a block is that of its instructions between its phis and its terminator, which are not written.
-use Rattle.std.proofs.Common.{◌≡◌, ◌+◌, ℕ, suc, Bool, true, false, List, [], ◌∷◌, ◌++◌, append_assoc, arith, cond, drop, find, length, Option, Some, None, refl, sym, ap, ◌∙◌, subst, if◌then◌else◌}
+use Rattle.std.proofs.Common.{◌≡◌, ◌+◌, ℕ, suc, Bool, true, false, List, [], ◌∷◌, ◌++◌, arith, cond, drop, length, Option, Some, None, refl, sym, ap, ◌∙◌, if◌then◌else◌}
 use Rattle.std.specs.Prelude.{flat_map, option_and_then, option_map, slice_get, take_while}
 use Rattle.std.specs.Option.{option_map_or}
 use Rattle.std.specs.List.{prefix_len}
 use Rattle.std.proofs.lemmas.List.{append-nil}
 use Rattle.std.proofs.lemmas.List.Folds.{length-prefix_len}
+use Rattle.std.proofs.lemmas.Grind.{flat_map-append}
 use Rattle.spv_ops.specs.Opcode.{is, number}
 use Rattle.spv_ops.specs.Groups.{is_terminator}
 use Rattle.spv_ops.specs.OpGroups.{group_of}
@@ -22,6 +23,7 @@ use Rattle.expr_forward.specs.Values.{value}
 use Rattle.expr_forward.specs.Statements.{inst_text, block_text}
 use Rattle.module_semantics.specs.Operands.{arg}
 use Rattle.module_semantics.specs.Steps.{is_phi}
+use Rattle.list_law.proofs.Lists.{found_passes}
 use Rattle.agree_law.specs.Points.{Body}
 use Rattle.function_text.specs.Functions.{FunctionPlan, written, operand_in, first_operand, condition_text, returned_by, returned, result_text}
 
@@ -47,10 +49,6 @@ end_silent o on = cc
 silent_text : (w : Scope) (b : ℕ) (i : Inst) → kind_of i.op ≡ kind.Silent → text_of w b i ≡ []
 silent_text w b i silent = ap (inst_text w b i) silent
 
-flat_both : (g : Inst → List Stmt) (xs ys : List Inst) → flat_map g (xs ++ ys) ≡ flat_map g xs ++ flat_map g ys
-flat_both g [] ys = refl
-flat_both g (x ∷ xs) ys = ap (λ l. g x ++ l) (flat_both g xs ys) ∙ sym (append_assoc (g x) (flat_map g xs) (flat_map g ys))
-
 -- the first instructions, as long as a test holds, are skipped where nothing is written of these
 skipped_so_many : (g : Inst → List Stmt) (test : Inst → Bool) (is : List Inst) → ((i : Inst) → test i ≡ true → g i ≡ []) → flat_map g is ≡ flat_map g (drop (prefix_len test is) is)
 skipped_so_many g test [] none = refl
@@ -65,24 +63,16 @@ skipped_so_many g test (i ∷ is) none = by_test (test i) refl (skipped_so_many 
 skipped : (g : Inst → List Stmt) (test : Inst → Bool) (is : List Inst) → ((i : Inst) → test i ≡ true → g i ≡ []) → flat_map g is ≡ flat_map g (drop (length (take_while test is)) is)
 skipped g test is none = skipped_so_many g test is none ∙ ap (λ n. flat_map g (drop n is)) (sym (length-prefix_len test is))
 
-found_holds : (test : Inst → Bool) (is : List Inst) (i : Inst) → find test is ≡ Some i → test i ≡ true
-found_holds test [] i e = cc
-found_holds test (j ∷ is) i e = by_test (test j) refl e (found_holds test is i)
-  where
-    by_test : (b : Bool) → test j ≡ b → (if b then Some j else find test is) ≡ Some i → (find test is ≡ Some i → test i ≡ true) → test i ≡ true
-    by_test true on e later = let same : j ≡ i = cc in subst (λ x. test x ≡ true) same on
-    by_test false off e later = later e
-
 module _ (f : Function) (b : ℕ) (o : Body f b) (ends : terminator o.block ≡ Some o.last) where
   -- what the statements of a block are made of
   pub texts_are : (w : Scope) → w.setting.function ≡ f → block_text w b ≡ flat_map (text_of w b) o.insts
   texts_are w same =
       let g : Inst → List Stmt = text_of w b in
-      let last : g o.last ≡ [] = silent_text w b o.last (end_silent o.last.op (found_holds (λ (i : Inst). is_terminator i.op) o.block.insts o.last ends)) in
+      let last : g o.last ≡ [] = silent_text w b o.last (end_silent o.last.op (found_passes (λ (i : Inst). is_terminator i.op) o.block.insts o.last ends)) in
       ap (λ (x : Option Block). flat_map g (option_map_or (λ (c : Block). c.insts) x [])) (ap (λ (h : Function). slice_get h.blocks b) same ∙ o.there)
       ∙ (skipped g is_phi o.block.insts (λ i on. silent_text w b i (phi_silent i.op on))
       ∙ (ap (flat_map g) o.whole
-      ∙ (flat_both g o.insts (o.last ∷ [])
+      ∙ (flat_map-append g o.insts (o.last ∷ [])
       ∙ (ap (λ l. flat_map g o.insts ++ (l ++ [])) last ∙ append-nil (flat_map g o.insts)))))
 
   -- the operand of its terminator

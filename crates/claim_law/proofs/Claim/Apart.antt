@@ -7,6 +7,7 @@ use Rattle.name_alloc.specs.declared.claims.Key.TheVariants.{Main, Id, Block, Me
 use Rattle.name_alloc.specs.Reserved.{has_prefix}
 use Rattle.name_alloc.specs.Naming.{space_of}
 use Rattle.name_alloc.specs.Law.{IsFree, AreNames}
+use Rattle.text_rules.specs.Constants.{group_size_text}
 use Rattle.glsl_ast.specs.Tree.{Text}
 use Rattle.agree_law.specs.Agree.{Naming, is_named, AreApart, IsOther}
 use Rattle.claim_law.specs.Apart.{IsOutside, AreOfKeys, is_flow}
@@ -28,9 +29,13 @@ same_index q k r l e = cc
 no_chain : (n q k : ℕ) → Id (id n) ≡ Captured (id q) k → ⊥
 no_chain n q k e = cc
 
-main_free : has_prefix (codes "main") ≡ false
+pub main_free : has_prefix (codes "main") ≡ false
 unfolding has_prefix
 main_free = refl
+
+pub size_reserved : has_prefix group_size_text ≡ true
+unfolding has_prefix
+size_reserved = refl
 
 flow_no_id : (key : Key) (n : ℕ) → is_flow key ≡ true → key ≡ Id (id n) → ⊥
 flow_no_id key n flow e = let never : false ≡ true = ap is_flow (sym e) ∙ flow in absurd cc

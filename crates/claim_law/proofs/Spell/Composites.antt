@@ -1,5 +1,5 @@
 -- The expression of an operation on vectors, arrays and structs is made of its operands' names, those of components and members, and those of types.
-use Rattle.std.proofs.Common.{◌≡◌, ◌<◌, ◌-◌, ◌+◌, ◌==◌, ℕ, zero, suc, Bool, true, false, List, [], ◌∷◌, ◌++◌, Option, Some, None, map, nat_lt, refl, arith, if◌then◌else◌}
+use Rattle.std.proofs.Common.{◌≡◌, ◌<◌, ◌-◌, ◌+◌, ◌==◌, ℕ, zero, suc, Bool, true, false, List, [], ◌∷◌, Option, Some, None, map, nat_lt, refl, arith, if◌then◌else◌}
 use Rattle.spv_ops.specs.Opcode.{is as is_code}
 use Rattle.spv_ops.specs.declared.Op.{Op}
 use Rattle.spv_ops.specs.declared.Op.TheVariants as code
@@ -24,7 +24,7 @@ use Rattle.vec_lowering.specs.Composite.{Argument, operand, first_of, rest_of, s
 use Rattle.vec_lowering.specs.Lowered.{copied_from, on_arguments, written, written_if_any, lowered_vector}
 use Rattle.claim_law.specs.Uses.{Words, UsesExtent, UsesType, UsesExpr, UseExprs, UseEach}
 use Rattle.claim_law.specs.Named.{FitsSize, FitsShape, LeadIn, IsUsed, AreUsed, IsArgument, AreArguments, IsNamedLength, IsNamedType, AreNamedAlong, CanCopy, CanCopyParts, Asks, AsksIfAny}
-use Rattle.claim_law.proofs.Spell.Scalars.{if-uses, each-uses, literal-uses, named-uses, zero-uses, applied-uses}
+use Rattle.claim_law.proofs.Spell.Scalars.{if-uses, each-uses, literal-uses, named-uses, zero-uses, applied-uses, both-use}
 
 basic-fits : (t : Tree) → FitsShape t → FitsSize (basic_type t).size
 basic-fits shape.boolean fits = tt
@@ -36,13 +36,9 @@ basic-fits (shape.runtime t) fits = tt
 basic-fits (shape.struct id ts) fits = tt
 
 module _ (W : Words) (built : (f : BuiltIn) → W.called (built_in_name f)) (axes : (k : ℕ) → W.member (axis_name k)) where
-  both-use : (xs ys : List Expr) → UseEach W xs → UseEach W ys → UseEach W (xs ++ ys)
-  both-use [] ys p q = q
-  both-use (x ∷ xs) ys p q = (p.0, both-use xs ys p.1 q)
-
   below-use : (n : ℕ) (f : ℕ → Expr) → ((k : ℕ) → UsesExpr W (f k)) → UseEach W (each_below n f)
   below-use zero f each = tt
-  below-use (suc n) f each = both-use (each_below n f) (f n ∷ []) (below-use n f each) (each n, tt)
+  below-use (suc n) f each = both-use W (each_below n f) (f n ∷ []) (below-use n f each) (each n, tt)
 
   -- components
   part-used : (o : Option ℕ) (k : ℕ) (x : Operand) → IsUsed W x → IsUsed W (component_of o k x)
@@ -127,7 +123,7 @@ module _ (W : Words) (built : (f : BuiltIn) → W.called (built_in_name f)) (axe
     -- copies
     below-fits : (n : ℕ) (f : ℕ → Expr) → ((k : ℕ) → k < n → UsesExpr W (f k)) → UseEach W (each_below n f)
     below-fits zero f each = tt
-    below-fits (suc n) f each = both-use (each_below n f) (f n ∷ []) (below-fits n f (λ k less. each k (omega (arith, less)))) (each n (omega arith), tt)
+    below-fits (suc n) f each = both-use W (each_below n f) (f n ∷ []) (below-fits n f (λ k less. each k (omega (arith, less)))) (each n (omega arith), tt)
 
     length-fits : (l : Length) → IsNamedLength W names l → (k : ℕ) → k < fixed_length l → FitsWord k
     length-fits (Fixed n) named k less = omega (arith, named, less)

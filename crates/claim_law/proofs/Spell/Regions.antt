@@ -2,7 +2,6 @@
 use Rattle.std.proofs.Common.{◌≡◌, ◌≤◌, ℕ, Bool, true, false, List, [], ◌∷◌, ◌++◌, cond, Option, Some, None, is_some, length, nat_eq, inl, inr, refl, ◌∙◌, ap, arith, if◌then◌else◌}
 use Rattle.std.specs.Option.{option_map_or, option_to_list}
 use Rattle.std.specs.Map.{update, update_all}
-use Rattle.std.proofs.lemmas.Bool.Decides.{eqb_tells}
 use Rattle.structure_rules.specs.declared.graph.EdgeKind.{EdgeKind}
 use Rattle.structure_rules.specs.declared.graph.EdgeKind.TheVariants.{Enter, Merge, SwitchBreak, Break, Continue, Back, Fall}
 use Rattle.structure_recover.specs.declared.region.Exit.{Exit}
@@ -14,17 +13,14 @@ use Rattle.glsl_grammar.specs.Spelled.{AreSpelledLabels}
 use Rattle.glsl_grammar.specs.Scopes.{has_arms}
 use Rattle.control_text.specs.declared.place.Place.{Place}
 use Rattle.control_text.specs.Statements.{Blocks, set_flag, declare_flag, flags, conditional, unless_fallen, groups_have_break, plain_block, leave_again, by_target, in_order, turn, inside_loop, inside_switch, leave_loop, edge_text, exit_text, entering, onward, entering_case, behind_switch, labels_text, fell_flags, loop_flags, loop_text, region_text, item_text, groups_text}
+use Rattle.list_law.proofs.Numbers.{number_same}
 use Rattle.claim_law.specs.Uses.{Words, UsesExpr}
 use Rattle.claim_law.specs.Statements.{UsesIfSome, UsesStmt, UseStmts, UseArms, EachStmt}
 use Rattle.claim_law.specs.Blocks.{AreMade, IsTarget, HasLabel, FitWords, IsHereAt, IsEntered, GoesOn, IsWhole, IsWholeItem, AreWhole}
-use Rattle.claim_law.proofs.Spell.Statements.{both-stmts}
+use Rattle.claim_law.proofs.Spell.Statements.{both-stmts, if-stmts}
 use Rattle.claim_law.proofs.Spell.Sentences.{list-uses}
 
 module _ (W : Words) where
-  if-made : (b : Bool) (xs ys : List Stmt) → EachStmt W xs → EachStmt W ys → EachStmt W (if b then xs else ys)
-  if-made true xs ys p q = p
-  if-made false xs ys p q = q
-
   flags-made : (f : Text → List Stmt) (o : Option Text) → ((x : Text) → o ≡ Some x → W.value x) → ((x : Text) → W.value x → EachStmt W (f x)) → EachStmt W (flags f o)
   flags-made f None named each = tt
   flags-made f (Some x) named each = each x (named x refl)
@@ -81,9 +77,6 @@ module _ (W : Words) where
   in-order-made (t ∷ ts) arms each = both-arms (option_to_list (arms t)) (in_order ts (update nat_eq arms t None)) (each t) (in-order-made ts (update nat_eq arms t None) (updated-made arms t None each tt))
 
 -- the group of a target is found
-same-target : (t u : ℕ) → t ≡ u → nat_eq t u ≡ true
-same-target t u same = elim (eqb_tells t u) [ inl w ↦ w.0 | inr w ↦ absurd (w.1 same) ]
-
 kept-some : (gs : List (ℕ × text.Arm)) (arms : ℕ → Option text.Arm) (t : ℕ) → is_some (arms t) ≡ true → is_some (update_all nat_eq arms gs t) ≡ true
 kept-some [] arms t some = some
 kept-some (g ∷ gs) arms t some = kept-some gs (update nat_eq arms g.0 (Some g.1)) t (by_test (nat_eq g.0 t))
@@ -96,7 +89,7 @@ module _ (w : Blocks) where
   found-target : (p : Place) (h t : ℕ) (gs : Groups) (arms : ℕ → Option text.Arm) → IsTarget t gs → is_some (update_all nat_eq arms (groups_text w p h gs) t) ≡ true
   found-target p h t none arms is = absurd is
   found-target p h t (group u labels default x gs) arms (inl same) =
-      kept-some (groups_text w p h gs) (update nat_eq arms u (Some _)) t (by_test (nat_eq u t) (same-target u t same))
+      kept-some (groups_text w p h gs) (update nat_eq arms u (Some _)) t (by_test (nat_eq u t) (number_same u t same))
     where
       by_test : (b : Bool) → b ≡ true → is_some (cond b (Some (text.group (labels_text w h labels default) (stmts_in (entering_case w h u x ++ region_text w p x)))) (arms t)) ≡ true
       by_test true on = refl
@@ -123,9 +116,9 @@ module _ (W : Words) (w : Blocks) (IsHere : ℕ → Type 0) (Chooses : ℕ → T
   edge-made p t Enter = tt
   edge-made p t Merge = tt
   edge-made p t SwitchBreak = (tt, tt)
-  edge-made p t Break = both-stmts W (if p.in_switch then leave_loop w p.in_loop else []) (text.leave ∷ []) (if-made W p.in_switch (leave_loop w p.in_loop) [] (left-made p.in_loop) tt) (tt, tt)
+  edge-made p t Break = both-stmts W (if p.in_switch then leave_loop w p.in_loop else []) (text.leave ∷ []) (if-stmts W p.in_switch (leave_loop w p.in_loop) [] (left-made p.in_loop) tt) (tt, tt)
   edge-made p t Continue = (tt, tt)
-  edge-made p t Back = if-made W p.continues [] (text.again ∷ []) tt (tt, tt)
+  edge-made p t Back = if-stmts W p.continues [] (text.again ∷ []) tt (tt, tt)
   edge-made p t Fall = flags-made W (λ flag. set_flag flag true ∷ []) (w.fell t) (made.fell t) (set-made W true)
 
   exit-made : (p : Place) (e : Exit) → IsHereAt w IsHere Chooses Leads e → EachStmt W (exit_text w p e)
@@ -159,7 +152,7 @@ module _ (W : Words) (w : Blocks) (IsHere : ℕ → Type 0) (Chooses : ℕ → T
   looped-made (Some h) = leave-made (w.leave h) (made.leave h)
 
   behind-made : (p : Place) (breaks : Bool) → EachStmt W (behind_switch w p breaks)
-  behind-made p breaks = if-made W breaks (leave_again (option_map_or w.leave p.in_loop None)) [] (looped-made p.in_loop) tt
+  behind-made p breaks = if-stmts W breaks (leave_again (option_map_or w.leave p.in_loop None)) [] (looped-made p.in_loop) tt
 
   fells-made : (gs : Groups) → EachStmt W (fell_flags w gs)
   fells-made none = tt

@@ -1,5 +1,5 @@
 -- The expression of an operation on scalars is made of its operands' names, and of those of functions that GLSL has.
-use Rattle.std.proofs.Common.{◌<◌, ◌^◌, ℕ, Bool, true, false, List, [], ◌∷◌, Option, Some, None, nat_lt, arith, if◌then◌else◌}
+use Rattle.std.proofs.Common.{◌<◌, ◌^◌, ℕ, Bool, true, false, List, [], ◌∷◌, Option, Some, None, nat_lt, arith, if◌then◌else◌, ◌++◌}
 use Rattle.spv_module.specs.declared.tree.Elem.{Elem}
 use Rattle.spv_module.specs.declared.tree.Elem.TheVariants as elem
 use Rattle.glsl_ast.specs.Tree as tree
@@ -41,6 +41,10 @@ module _ (W : Words) where
   pub each-uses : (es : List Expr) → UseEach W es → UseExprs W (exprs_in es)
   each-uses [] has = tt
   each-uses (e ∷ es) has = (has.0, each-uses es has.1)
+
+  pub both-use : (xs ys : List Expr) → UseEach W xs → UseEach W ys → UseEach W (xs ++ ys)
+  both-use [] ys p q = q
+  both-use (x ∷ xs) ys p q = (p.0, both-use xs ys p.1 q)
 
   if-literal : (b : Bool) (x y : Literal) → IsSpelledLiteral x → IsSpelledLiteral y → IsSpelledLiteral (if b then x else y)
   if-literal true x y p q = p

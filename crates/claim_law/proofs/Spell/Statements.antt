@@ -33,16 +33,12 @@ module _ (W : Words) where
   both-stmts [] ys p q = q
   both-stmts (x ∷ xs) ys p q = (p.0, both-stmts xs ys p.1 q)
 
-  if-stmts : (b : Bool) (xs ys : List Stmt) → EachStmt W xs → EachStmt W ys → EachStmt W (if b then xs else ys)
+  pub if-stmts : (b : Bool) (xs ys : List Stmt) → EachStmt W xs → EachStmt W ys → EachStmt W (if b then xs else ys)
   if-stmts true xs ys p q = p
   if-stmts false xs ys p q = q
 
   place-uses : (l : LValue) → UsesLValue W l → UsesExpr W (lvalue_expr l)
   place-uses (lvalue x ss) has = further-uses W (Expr.name x) ss has.0 has.1
-
-  both-exprs : (xs ys : List Expr) → UseEach W xs → UseEach W ys → UseEach W (xs ++ ys)
-  both-exprs [] ys p q = q
-  both-exprs (x ∷ xs) ys p q = (p.0, both-exprs xs ys p.1 q)
 
   -- what instructions make of usable values
   module _ (built : (f : BuiltIn) → W.called (built_in_name f)) (axes : (k : ℕ) → W.member (axis_name k)) (names : Naming) (w : Scope) (IsUsable : ℕ → Type 0) (block : ℕ) (asked : IsAsked W names w IsUsable block) (rank : ℕ → ℕ) (ranked : AreRanked w IsUsable rank) where

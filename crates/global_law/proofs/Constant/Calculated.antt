@@ -93,7 +93,7 @@ calculated_is g t from c v kind made = by_may o.0 o.1 (may_give t o.0) refl o.2
     by_may o at false may e = none_some e
 
 -- the names of structs and members are those of their keys
-text_same : (o : Option Text) → text_or_none o ≡ unwrap_or o []
+pub text_same : (o : Option Text) → text_or_none o ≡ unwrap_or o []
 text_same None = refl
 text_same (Some w) = refl
 

@@ -1,5 +1,5 @@
 -- What a function's text reads of constants says what the module has; and what stands in the text for the module's variables, by the order of items.
-use Rattle.std.proofs.Common.{◌≡◌, ◌⊎◌, ◌<◌, ◌≤◌, ◌+◌, ◌==◌, ◌++◌, ℕ, true, false, List, [], ◌∷◌, Option, Some, None, inl, inr, refl, sym, ap, ◌∙◌, subst, if◌then◌else◌, arith}
+use Rattle.std.proofs.Common.{◌≡◌, ◌⊎◌, ◌<◌, ◌≤◌, ◌+◌, ◌==◌, ◌++◌, ℕ, true, false, List, [], ◌∷◌, Option, Some, None, inl, inr, refl, sym, ap, ◌∙◌, subst, if◌then◌else◌, arith, append-nil}
 use Rattle.std.specs.Prelude.{unwrap_or, flat_map, option_and_then}
 use Rattle.std.specs.List.{list_any}
 use Rattle.std.proofs.lemmas.Bool.{or_left, or_right}
@@ -35,6 +35,7 @@ use Rattle.text_rules.specs.Constants.{Source, sizes, reading, constant_expr, gr
 use Rattle.text_rules.specs.Printed.{Reached, have_struct, needs_constant, is_needed, is_written_variable, is_declared_constant}
 use Rattle.text_rules.specs.Declarations.{Names, declaration, declarations}
 use Rattle.text_items.specs.Globals.{is_input, built_in_text, global_by}
+use Rattle.list_law.proofs.Numbers.{none_below}
 use Rattle.plan_law.specs.InOrder.{IsAmong, AreRising}
 use Rattle.plan_law.proofs.Order.{among_left as inst_left}
 use Rattle.agree_law.specs.Agree.{Naming}
@@ -102,17 +103,14 @@ module _ (s : Setting) (entry : Option (List ℕ)) (overrides : List (ℕ × Giv
   abbrev Ns : Names
   Ns = N s entry overrides found_key r asked
 
-  none_before : {j : ℕ} → j < 0 → ⊥
-  none_before less = omega (arith, less)
-
   pub first_stands : Stands s entry overrides found_key r asked 0 (first s overrides)
   first_stands = record {
     invocation = refl;
     functions = λ w. refl;
     size = refl;
     hidden = λ x off. refl;
-    structs = λ h ts there less on all. absurd (none_before less);
-    constants = λ h t v there less on has shape. absurd (none_before less);
+    structs = λ h ts there less on all. absurd (none_below _ less);
+    constants = λ h t v there less on has shape. absurd (none_below _ less);
   }
 
   -- before a global stands what the items before it declare
@@ -160,11 +158,7 @@ module _ (s : Setting) (entry : Option (List ℕ)) (overrides : List (ℕ × Giv
 
     -- behind all items
     pub last : StandsAt s entry overrides found_key r asked [] (with_items (first s overrides) (declarations source r Ns))
-    last = stands_at s entry overrides found_key r asked Gs [] (first s overrides) (sym (no_more Gs)) first_stands
-      where
-        no_more : (xs : List Inst) → xs ++ [] ≡ xs
-        no_more [] = refl
-        no_more (x ∷ xs) = ap (λ l. x ∷ l) (no_more xs)
+    last = stands_at s entry overrides found_key r asked Gs [] (first s overrides) (sym (append-nil Gs)) first_stands
 
     -- what the text reads of a constant, where its name is that of nothing of the function
     pub record IsReadHere (m : Naming) (n : ℕ) : Type 0 where

@@ -1,6 +1,6 @@
 -- The parts of a composite constant have the shapes of its parts (T2), and what the rules on types say of a constant with a value.
 use Rattle.std.proofs.Common.{◌≡◌, ◌==◌, ℕ, suc, Bool, true, false, List, [], ◌∷◌, ◌++◌, length, not, Option, Some, None, inl, inr, refl, sym, ap, subst, ◌∙◌, if◌then◌else◌}
-use Rattle.std.specs.Prelude.{◌⊎◌, option_map, option_and_then, slice_index}
+use Rattle.std.specs.Prelude.{option_map, option_and_then, slice_index}
 use Rattle.std.specs.Option.{option_map_or, option_or}
 use Rattle.std.specs.List.{list_any}
 use Rattle.std.proofs.lemmas.Bool.Decides.{eqb_tells}
@@ -35,7 +35,6 @@ use Rattle.profile_rules.specs.ValueRules.{are_other_parts, are_other_members, m
 use Rattle.profile_rules.specs.TypeRules.{broken_if, is_value_broken, is_number_broken, is_broken_outside, broken_as, inner, broken_inside, broken_by_global, is_sound, rule_of}
 use Rattle.module_semantics.specs.Setting.{Setting}
 use Rattle.list_law.proofs.Numbers.{same_count}
-use Rattle.list_law.proofs.Options.{none_some}
 use Rattle.plan_law.specs.InOrder.{AreRising}
 use Rattle.fits_law.specs.Takes.{AreOfShape, AreParts, AllFit}
 use Rattle.fits_law.specs.State.{value_shape}
@@ -46,6 +45,7 @@ use Rattle.type_law.proofs.Operands.{same_shape_of}
 use Rattle.type_law.proofs.Choices.{scalar_elem}
 use Rattle.type_law.proofs.Parts.{row, earlier_is}
 use Rattle.type_law.proofs.Made.{made_takes}
+use Rattle.type_law.proofs.Constants.{typed_by}
 use Rattle.typed_law.proofs.Lists.{or_left, or_right, clash, none_left, none_right}
 use Rattle.typed_law.proofs.Rules.{refused}
 use Rattle.global_law.proofs.Constant.Valued.{IsOperand, AreOperands}
@@ -141,17 +141,8 @@ module _ (s : Setting) where
       )
 
   module _ (chosen : ℕ → Option ℕ) (have : HasConstants s chosen) (results : HaveResults s.of.globals) (rising : AreRising 0 s.of.globals) where
-    -- the type of an operand
-    typed_is : (g : Inst) (t : Tree) → type_tree Gs g.ty ≡ Some t → typed g ≡ Some g.ty
-    typed_is g t shape = by_test (g.ty == 0) (eqb_tells g.ty 0)
-      where
-        by_test : (b : Bool) → ((b ≡ true) × (g.ty ≡ 0)) ⊎ ((b ≡ false) × (g.ty ≡ 0 → ⊥)) → (if b then None else Some g.ty) ≡ Some g.ty
-        by_test b (inl w) = none_some (sym (ap (λ o. option_map_or (tree_at Gs) o None) (ap (global Gs) w.1 ∙ results.none)) ∙ shape)
-        by_test true (inr w) = cc
-        by_test false (inr w) = refl
-
     pub operand_type : (at n : ℕ) (t : Tree) (v : ValueTree) (w : IsOperand s chosen have results rising at n t v) → T n ≡ Some w.inst.ty
-    operand_type at n t v w = ap (λ o. option_or (option_and_then typed o) None) w.there ∙ ap (λ o. option_or o None) (typed_is w.inst t w.typed_as)
+    operand_type at n t v w = ap (λ o. option_or (option_and_then typed o) None) w.there ∙ ap (λ o. option_or o None) (typed_by Gs results w.inst t w.typed_as)
 
     pub operand_shape : (at n : ℕ) (t : Tree) (v : ValueTree) → IsOperand s chosen have results rising at n t v → value_shape s nothing n ≡ Some t
     operand_shape at n t v w = ap (option_and_then (type_tree Gs)) (operand_type at n t v w) ∙ w.typed_as

@@ -33,6 +33,7 @@ use Rattle.glsl_semantics.specs.Items.{words3, size_on}
 use Rattle.text_rules.specs.Constants.{Source, size_ids, size_now, sizes, sizes_by, axis_text, group_size_text}
 use Rattle.list_law.proofs.Options.{none_some}
 use Rattle.list_law.proofs.Numbers.{same_number, number_itself}
+use Rattle.list_law.proofs.Tests.{off_on}
 use Rattle.plan_law.specs.InOrder.{IsAmong, AreRising}
 use Rattle.fits_law.proofs.Steps.{named as named_so}
 use Rattle.type_law.specs.Shaped.{HaveResults, HasConstants}
@@ -77,6 +78,9 @@ axis_said p calls z x y w told = (
   ap (λ (o : Option Thing). then_fetch (then_get {A = Thing × State} (or_stuck o (λ a. got [] (a, z))) (λ a. or_stuck (member_of a.0 (axis_text 2)) (λ b. got [] (b, a.1)))) (λ v q. got [] (v, q))) told,
 )
 
+pub same_word : (i j : ℕ) → Some (word i) ≡ Some (word j) → i ≡ j
+same_word i j e = cc
+
 module _ (s : Setting) (overrides : List (ℕ × Given)) (have : HasConstants s (chosen s overrides)) (results : HaveResults s.of.globals) (rising : AreRising 0 s.of.globals) (spec_ids : AreSpecIds (source_of s overrides)) (are : AreSizes (source_of s overrides)) where
   abbrev source : Source
   source = source_of s overrides
@@ -99,9 +103,6 @@ module _ (s : Setting) (overrides : List (ℕ × Given)) (have : HasConstants s 
       c : IsValued s (chosen s overrides) have results rising n (word w)
       c = valued s (chosen s overrides) have results rising n (word w) has
 
-      word_same : (a b : ℕ) → Some (word a) ≡ Some (word b) → a ≡ b
-      word_same a b e = cc
-
       by_kind : (c : IsValued s (chosen s overrides) have results rising n (word w)) → (constant_kind c.inst.op ≡ kinds.Word) ⊎ (constant_kind c.inst.op ≡ kinds.SpecWord) → part_value s.invocation (size_now overrides (size_part s.of n)) ≡ w
       by_kind c (inr spec) = part_is s overrides have results n w c.inst c.there spec has
       by_kind c (inl plain_is) =
@@ -109,7 +110,7 @@ module _ (s : Setting) (overrides : List (ℕ × Given)) (have : HasConstants s 
           let none : spec_id s.of.heads n ≡ None = subst (λ k. spec_id s.of.heads k ≡ None) own (no_spec c.inst (found_in Gs n c.inst c.there) (λ is. subst IsScalarSpec plain_is is)) in
           ap (λ o. part_value s.invocation (size_now overrides (size_by o (option_map_or (λ (g : Inst). slice_index g.args 0) (global Gs n) 0)))) none
           ∙ ap (λ o. option_map_or (λ (g : Inst). slice_index g.args 0) o 0) c.there
-          ∙ word_same (slice_index c.inst.args 0) w (ap (value_by_kind c.from (chosen s overrides c.inst.result) c.shape c.inst.args) (sym plain_is) ∙ c.made)
+          ∙ same_word (slice_index c.inst.args 0) w (ap (value_by_kind c.from (chosen s overrides c.inst.result) c.shape c.inst.args) (sym plain_is) ∙ c.made)
 
   -- the parts of the module's size are those of these ids
   group_parts : (a b c : ℕ) → size_ids source ≡ a ∷ b ∷ c ∷ [] → group_size s.of s.entry ≡ size_part s.of a ∷ size_part s.of b ∷ size_part s.of c ∷ []
@@ -190,10 +191,7 @@ module _ (s : Setting) (overrides : List (ℕ × Given)) (have : HasConstants s 
       by_three (inl none) = absurd (no_parts (same_Some (composite []) v (ap (λ l. option_map composite (each_one c.from l)) (sym none ∙ told.0) ∙ made)))
         where
           no_parts : composite [] ≡ v → ⊥
-          no_parts e = never (subst (λ q. fits (plain.vector elem.Uint 3) q ≡ true) (sym e) fit)
-            where
-              never : false ≡ true → ⊥
-              never e = cc
+          no_parts e = off_on (subst (λ q. fits (plain.vector elem.Uint 3) q ≡ true) (sym e) fit)
       by_three (inr w) = (told.1, by_list h.args refl (each_one c.from h.args) refl made w.0 w.1 w.2 (sym told.0 ∙ w.3))
 
   -- a part that is read there: its axis, and its number

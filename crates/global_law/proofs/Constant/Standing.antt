@@ -190,6 +190,10 @@ named_reading Plain e = cc
 named_reading GroupSize e = cc
 named_reading (GroupSizePart axis) e = cc
 
+-- a constant that is declared is one by its opcode
+pub declared_op : (source : Source) (r : Reached) (g : Inst) → is_declared_constant source r g ≡ true → is_constant_op g.op ≡ true
+declared_op source r g on = and_left (is_constant g) (is_named (reading source g) && (is_some (free_spec_id source g.result) || is_needed source r g.result)) on
+
 module _ (s : Setting) (entry : Option (List ℕ)) (overrides : List (ℕ × Given)) (found_key : Key → Option Text) (r : Reached) (asked : AreAsked s entry overrides found_key r) where
   abbrev source : Source
   source = source_of s overrides
@@ -243,9 +247,6 @@ module _ (s : Setting) (entry : Option (List ℕ)) (overrides : List (ℕ × Giv
   pub variable_is_item : (g : Inst) → is_written_variable r g ≡ true → is_item source r g ≡ true
   variable_is_item g on = or_right (is_written_struct source r g) (is_declared_constant source r g || is_written_variable r g) (or_right (is_declared_constant source r g) (is_written_variable r g) on)
 
-  declared_op : (g : Inst) → is_declared_constant source r g ≡ true → is_constant_op g.op ≡ true
-  declared_op g on = and_left (is_constant g) (is_named (reading source g) && (is_some (free_spec_id source g.result) || is_needed source r g.result)) on
-
   declared_reading : (g : Inst) → is_declared_constant source r g ≡ true → reading source g ≡ Named
   declared_reading g on = named_reading (reading source g) (and_left (is_named (reading source g)) (is_some (free_spec_id source g.result) || is_needed source r g.result) (and_right (is_constant g) (is_named (reading source g) && (is_some (free_spec_id source g.result) || is_needed source r g.result)) on))
 
@@ -258,7 +259,7 @@ module _ (s : Setting) (entry : Option (List ℕ)) (overrides : List (ℕ × Giv
   pub constant_hidden : (g : Inst) → IsAmong g Gs → is_declared_constant source r g ≡ true → HasNoVariable (names g.result)
   constant_hidden g there on h h_in own written = bytes_off (names h.result) (names g.result) (λ same.
       let one : h ≡ g = same_item h g h_in there (variable_is_item h written) (constant_is_item g on) same in
-      clash (sym (variable_op r h written) ∙ ap (λ (x : Inst). is x.op code.Variable) one ∙ constant_no_variable g.op (declared_op g on)))
+      clash (sym (variable_op r h written) ∙ ap (λ (x : Inst). is x.op code.Variable) one ∙ constant_no_variable g.op (declared_op source r g on)))
 
   pub size_hidden : HasNoVariable group_size_text
   size_hidden h h_in own written = bytes_off (names h.result) group_size_text (λ same. asked.names.size_apart h h_in (variable_is_item h written) same)
@@ -269,7 +270,7 @@ module _ (s : Setting) (entry : Option (List ℕ)) (overrides : List (ℕ × Giv
 
   declares_constant : (g : Inst) → is_declared_constant source r g ≡ true → declaration source r N g ≡ constant_decl source N g ∷ []
   declares_constant g on =
-      let off : is_written_struct source r g ≡ false = first_off (is g.op code.TypeStruct) (not (is_block s.of.heads g.result) && list_any (type_has_struct Gs g.result) (written_types source r)) (constant_no_struct g.op (declared_op g on)) in
+      let off : is_written_struct source r g ≡ false = first_off (is g.op code.TypeStruct) (not (is_block s.of.heads g.result) && list_any (type_has_struct Gs g.result) (written_types source r)) (constant_no_struct g.op (declared_op source r g on)) in
       ap (λ b. if b then struct_decl source N g ∷ [] else (if is_declared_constant source r g then constant_decl source N g ∷ [] else (if is_written_variable r g then variable_decl source N g (block_of Gs g) else []))) off
       ∙ ap (λ b. if b then constant_decl source N g ∷ [] else (if is_written_variable r g then variable_decl source N g (block_of Gs g) else [])) on
 
@@ -578,7 +579,7 @@ module _ (s : Setting) (entry : Option (List ℕ)) (overrides : List (ℕ × Giv
       Goal = (with_item d (constant_decl source N g)).program.things (names g.result) ≡ Some (value (typed (shape_in s Y t) v))
 
       constant : is_constant_op g.op ≡ true
-      constant = declared_op g on
+      constant = declared_op source r g on
 
       sized : IsSized t
       sized = constant_sized g t there constant shape

@@ -17,6 +17,7 @@ use Rattle.list_law.proofs.Options.{none_some}
 use Rattle.plan_law.specs.InOrder.{AreRising, HaveNot}
 use Rattle.fits_law.proofs.Operations.{before_some}
 use Rattle.type_law.specs.Shaped.{EachFound, HaveResults, HasConstants}
+use Rattle.type_law.proofs.Constants.{by_fits}
 use Rattle.typed_law.proofs.Lists.{some_part}
 
 module _ (gs : List Inst) (step : (ℕ → Option ValueTree) → Inst → Option ValueTree) where
@@ -111,15 +112,11 @@ module _ (s : Setting) (chosen : ℕ → Option ℕ) (have : HasConstants s chos
   pub valued : (n : ℕ) (v : ValueTree) → s.constants n ≡ Some v → IsValued n v
   valued n v e = by_made (made_at Gs (value_step s.of chosen) Gs 0 (λ id. None) rising results.each (λ k u e. none_some e) n v (sym (have n) ∙ e))
     where
-      by_fits : (t : Tree) (w : ValueTree) (b : Bool) → fits t w ≡ b → (if b then Some w else None) ≡ Some v → (w ≡ v) × (fits t v ≡ true)
-      by_fits t w true at e = let same = same_Some w v e in (same, subst (λ x. fits t x ≡ true) same at)
-      by_fits t w false at e = none_some e
-
       by_sound : (w : Made Gs (value_step s.of chosen) (fold (with_value (value_step s.of chosen)) (λ id. None) Gs) n v) (b : Bool) → is_sound s.of w.inst ≡ b → (if b then option_and_then (shaped_value w.from (chosen w.inst.result) w.inst) (type_tree Gs w.inst.ty) else None) ≡ Some v → IsValued n v
       by_sound w true sound e =
           let t = some_part (shaped_value w.from (chosen w.inst.result) w.inst) (type_tree Gs w.inst.ty) v e in
           let u = some_part (if_fits t.0) (value_by_kind w.from (chosen w.inst.result) t.0 w.inst.args (constant_kind w.inst.op)) v t.2 in
-          let fit = by_fits t.0 u.0 (fits t.0 u.0) refl u.2 in
+          let fit = by_fits t.0 u.0 v (fits t.0 u.0) refl u.2 in
           record {
             inst = w.inst;
             there = w.there;

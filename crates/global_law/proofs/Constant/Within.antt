@@ -2,7 +2,7 @@
 use Rattle.std.proofs.Common.{◌≡◌, ◌<◌, ◌≤◌, ◌+◌, ◌==◌, ◌||◌, ◌&&◌, ℕ, zero, suc, Bool, true, false, List, [], ◌∷◌, ◌++◌, length, take, not, Option, Some, None, inl, inr, refl, sym, ap, subst, ◌∙◌, if◌then◌else◌, arith}
 use Rattle.std.specs.Prelude.{◌⊎◌, flat_map, fold, nat_le, option_map, option_and_then, slice_index}
 use Rattle.std.specs.Option.{option_map_or}
-use Rattle.std.specs.List.{list_any, filter_map, cons_option}
+use Rattle.std.specs.List.{list_any}
 use Rattle.std.proofs.lemmas.Bool.Decides.{nat_tests}
 use Rattle.std.proofs.lemmas.Bool.{or_left as or_on_left, or_right as or_on_right}
 use Rattle.std.proofs.lemmas.Option.{same_Some}
@@ -32,17 +32,17 @@ use Rattle.spv_index.specs.Pointers.{pointee, as_pointer}
 use Rattle.spv_index.specs.ValueTypes.{other_by, other_step, with_other, is_no_value_type}
 use Rattle.profile_rules.specs.Operands.{need, type_need, suits, is_there}
 use Rattle.profile_rules.specs.Places.{is_among, is_variable, body_insts}
-use Rattle.profile_rules.specs.TypeForm.{parts_of, value_type, value_types, signature_types, pointee_by, pointees, block_misuses, runtime_misuses}
+use Rattle.profile_rules.specs.TypeForm.{parts_of, value_types, signature_types, pointees, block_misuses, runtime_misuses}
 use Rattle.list_law.proofs.Options.{none_some}
 use Rattle.plan_law.specs.InOrder.{IsAmong}
 use Rattle.plan_law.proofs.Order.{among_left as inst_left}
 use Rattle.fits_law.proofs.Steps.{named}
-use Rattle.type_law.proofs.Parts.{struct_kind}
+use Rattle.type_law.proofs.Parts.{struct_kind, array_op, struct_op}
 use Rattle.global_law.proofs.Path.Types.{spec_is}
 use Rattle.typed_law.specs.Conforms.{IsConforming}
 use Rattle.typed_law.proofs.Lists.{or_left, or_right, and_off, found_in, earlier_some, some_by, from_zero}
 use Rattle.typed_law.proofs.Rules.{type_there, operand_there, global_there, used_type}
-use Rattle.typed_law.proofs.Used.{among_left, among_right, global_found, among_flat}
+use Rattle.typed_law.proofs.Used.{among_left, among_right, global_found, among_flat, body_type, pointee_among}
 use Rattle.typed_law.proofs.Types.{pointer_id}
 use Rattle.typed_law.proofs.Calls.{variable_typed}
 use Rattle.global_law.specs.Within.{IsStructBefore, IsLengthBefore, IsWithin, AreWithin, IsNoBlock, Anything}
@@ -54,11 +54,6 @@ middle_off true true false d on has e = cc
 middle_off false b c d on has e = cc
 
 -- opcodes
-struct_op : (o : Op) → kind o ≡ kinds.Struct → is o code.TypeStruct ≡ true
-unfolding kind number
-struct_op code.TypeStruct e = refl
-struct_op o e = cc
-
 array_ids : (o : Op) (args : List ℕ) (k : ℕ) → kind o ≡ kinds.Array → is_id o args k ≡ true
 unfolding kind is_id
 array_ids code.TypeArray args k e = from_zero k
@@ -78,11 +73,6 @@ spec_other : (o : Op) (q w : ℕ) (l : Id) → length_of o q w ≡ Some (Spec l)
 unfolding number
 spec_other code.Constant q w l e = cc
 spec_other o q w l e = refl
-
-array_op : (o : Op) → kind o ≡ kinds.Array → is o code.TypeArray ≡ true
-unfolding kind number
-array_op code.TypeArray e = refl
-array_op o e = cc
 
 two_to_four : (n : ℕ) → nat_le 2 n ≡ true → nat_le n 4 ≡ true → (n ≡ 2) ⊎ ((n ≡ 3) ⊎ (n ≡ 4))
 two_to_four n a b = by_number n (let low : 2 ≤ n = grind (arith, nat_tests, a) in low) (let high : n ≤ 4 = grind (arith, nat_tests, b) in high)
@@ -281,25 +271,11 @@ module _ (m : ModuleState) (entry : Option (List ℕ)) (right : IsConforming m e
     pub block_within : (g : Inst) (ts : Trees) → IsAmong g Gs → is g.op code.TypeStruct ≡ true → all_trees (tree_before Gs g.at) g.args ≡ Some ts → AreWithin Q m g.at ts
     block_within g ts there on all = members_within g there (λ h among before u whole asked. within_by (suc h.at) h among (let low : h.at < suc h.at = omega arith in low) u whole asked) g.args ts all (member_part g there (λ h among before u whole asked. within_by (suc h.at) h among (let low : h.at < suc h.at = omega arith in low) u whole asked) (struct_kind g.op on))
 
-  -- values are of such types
-  value_among : (is : List Inst) (i : Inst) → IsAmong i is → is_variable i ≡ false → is_among (filter_map value_type is) i.ty ≡ true
-  value_among [] i there off = absurd there
-  value_among (j ∷ is) i (inl same) off = subst (λ (x : Inst). is_among (filter_map value_type (x ∷ is)) i.ty ≡ true) (sym same) (by_test (is_variable i) off)
-    where
-      by_test : (b : Bool) → b ≡ false → is_among (cons_option (if b then None else Some i.ty) (filter_map value_type is)) i.ty ≡ true
-      by_test true e = cc
-      by_test false e = or_on_left (i.ty == i.ty) (is_among (filter_map value_type is) i.ty) (grind (arith, nat_tests))
-  value_among (j ∷ is) i (inr there) off = by_option (value_type j) (value_among is i there off)
-    where
-      by_option : (o : Option ℕ) → is_among (filter_map value_type is) i.ty ≡ true → is_among (cons_option o (filter_map value_type is)) i.ty ≡ true
-      by_option None e = e
-      by_option (Some x) e = or_on_right (x == i.ty) (is_among (filter_map value_type is) i.ty) e
-
   -- so a value's type is used where a block may not be
   pub value_misused : (i : Inst) → IsAmong i (body_insts m) → is_variable i ≡ false → is_among (block_misuses m) i.ty ≡ true
   value_misused i there off =
       among_left (flat_map parts_of Gs ++ pointees m (λ v. not (is_some_block m.heads m.globals v)) ++ value_types m) (signature_types m) i.ty
-      (among_right (flat_map parts_of Gs ++ pointees m (λ v. not (is_some_block m.heads m.globals v))) (value_types m) i.ty (value_among (body_insts m) i there off))
+      (among_right (flat_map parts_of Gs ++ pointees m (λ v. not (is_some_block m.heads m.globals v))) (value_types m) i.ty (body_type m entry right (body_insts m) i there off))
 
   pub constant_within : (h : Inst) (t : Tree) → IsAmong h Gs → is_constant_op h.op ≡ true → type_tree Gs h.ty ≡ Some t → IsWithin (IsNoBlock m) m h.at t
   constant_within h t there on shape =
@@ -310,23 +286,11 @@ module _ (m : ModuleState) (entry : Option (List ℕ)) (right : IsConforming m e
       wider (IsNoBlock m) m (c.0.at + 1) h.at (let low : c.0.at + 1 ≤ h.at = omega (arith, less) in low) t
       (type_within (IsNoBlock m) part_plain c.0 t among (sym (ap (λ o. option_map_or (tree_at Gs) o None) c.1) ∙ shape) (λ opcode. unblocked_by c.0 among opcode misused))
 
-  -- and what a variable points to that is no block
-  pointee_among : (test : Inst → Bool) (is : List Inst) (v : Inst) (q : ℕ) → IsAmong v is → is_variable v ≡ true → test v ≡ true → pointee Gs v.ty ≡ Some q → is_among (filter_map (pointee_by Gs test) is) q ≡ true
-  pointee_among test [] v q there on passed at = absurd there
-  pointee_among test (j ∷ is) v q (inl same) on passed at =
-      subst (λ (x : Inst). is_among (filter_map (pointee_by Gs test) (x ∷ is)) q ≡ true) (sym same)
-      (subst (λ o. is_among (cons_option o (filter_map (pointee_by Gs test) is)) q ≡ true) (sym (ap (λ (b : Bool). if b && test v then pointee Gs v.ty else None) on ∙ (ap (λ (b : Bool). if b then pointee Gs v.ty else None) passed ∙ at))) (or_on_left (q == q) (is_among (filter_map (pointee_by Gs test) is) q) (grind (arith, nat_tests))))
-  pointee_among test (j ∷ is) v q (inr there) on passed at = by_option (pointee_by Gs test j) (pointee_among test is v q there on passed at)
-    where
-      by_option : (o : Option ℕ) → is_among (filter_map (pointee_by Gs test) is) q ≡ true → is_among (cons_option o (filter_map (pointee_by Gs test) is)) q ≡ true
-      by_option None e = e
-      by_option (Some x) e = or_on_right (x == q) (is_among (filter_map (pointee_by Gs test) is) q) e
-
   pub pointee_misused : (v : Inst) (q : ℕ) → IsAmong v (body_insts m) → is_variable v ≡ true → is_some_block m.heads Gs v ≡ false → pointee Gs v.ty ≡ Some q → is_among (block_misuses m) q ≡ true
   pointee_misused v q there on off at =
       among_left (flat_map parts_of Gs ++ pointees m (λ v. not (is_some_block m.heads m.globals v)) ++ value_types m) (signature_types m) q
       (among_left (flat_map parts_of Gs ++ pointees m (λ v. not (is_some_block m.heads m.globals v))) (value_types m) q
-      (among_right (flat_map parts_of Gs) (pointees m (λ v. not (is_some_block m.heads m.globals v))) q (pointee_among (λ v. not (is_some_block m.heads m.globals v)) (body_insts m) v q there on (ap not off) at)))
+      (among_right (flat_map parts_of Gs) (pointees m (λ v. not (is_some_block m.heads m.globals v))) q (pointee_among m entry right (λ v. not (is_some_block m.heads m.globals v)) (body_insts m) v q there on (ap not off) at)))
 
   -- the row of the type to which a variable points stands before the variable
   pub pointee_before : (v : Inst) (q : ℕ) (h : Inst) → IsAmong v Gs → is_variable v ≡ true → pointee Gs v.ty ≡ Some q → global Gs q ≡ Some h → h.at < v.at

@@ -1,5 +1,5 @@
 -- What the items of a text declare stays: so the block of a variable stands for its members, by the layout that it takes.
-use Rattle.std.proofs.Common.{◌≡◌, ◌⊎◌, ◌+◌, ◌++◌, ℕ, true, false, List, [], ◌∷◌, map, Option, Some, None, refl, sym, ap, ap₂, ◌∙◌, subst}
+use Rattle.std.proofs.Common.{◌≡◌, ◌⊎◌, ◌+◌, ◌++◌, ℕ, true, false, List, [], ◌∷◌, map, Option, Some, None, refl, sym, ap, ap₂, ◌∙◌, subst, append_assoc}
 use Rattle.std.specs.Prelude.{flat_map, unwrap_or}
 use Rattle.std.specs.List.{enumerate_from}
 use Rattle.std.proofs.lemmas.List.Concat.{flat_map-cons}
@@ -62,11 +62,7 @@ item_there front back i d x a is others =
 -- what is declared of a global stands between what is declared of those before and behind it
 behind : {A B : Type 0} (f : A → List B) (xs : List A) (x : A) (ys : List A) → flat_map f (xs ++ x ∷ ys) ≡ flat_map f xs ++ (f x ++ flat_map f ys)
 behind f [] x ys = flat_map-cons f x ys
-behind f (a ∷ xs) x ys = flat_map-cons f a (xs ++ x ∷ ys) ∙ ap (λ l. f a ++ l) (behind f xs x ys) ∙ sym (joined (f a) (flat_map f xs) (f x ++ flat_map f ys)) ∙ ap (λ l. l ++ (f x ++ flat_map f ys)) (sym (flat_map-cons f a xs))
-  where
-    joined : {B : Type 0} (xs ys zs : List B) → (xs ++ ys) ++ zs ≡ xs ++ (ys ++ zs)
-    joined [] ys zs = refl
-    joined (x ∷ xs) ys zs = ap (λ l. x ∷ l) (joined xs ys zs)
+behind f (a ∷ xs) x ys = flat_map-cons f a (xs ++ x ∷ ys) ∙ ap (λ l. f a ++ l) (behind f xs x ys) ∙ sym (append_assoc (f a) (flat_map f xs) (f x ++ flat_map f ys)) ∙ ap (λ l. l ++ (f x ++ flat_map f ys)) (sym (flat_map-cons f a xs))
 
 pub declared_between : (source : Source) (r : Reached) (names : Names) (before after : List Inst) (g : Inst) (i : Decl) → source.of.globals ≡ before ++ g ∷ after → declaration source r names g ≡ i ∷ []
     → declarations source r names ≡ flat_map (declaration source r names) before ++ i ∷ flat_map (declaration source r names) after

@@ -40,7 +40,8 @@ use Rattle.text_rules.specs.Printed as printed
 use Rattle.text_rules.specs.Printed.{Reached, is_named, is_needed, type_has_struct, written_types, has_operand, is_operand_in, is_private, is_workgroup, is_block_variable, is_written_variable, is_declared_constant, is_written_struct}
 use Rattle.text_rules.specs.Declarations.{Names, struct_decl, constant_decl, variable_decl, type_at, pointee_at, initial, declaration, declarations}
 use Rattle.list_law.proofs.Numbers.{zero_first, same_number, number_itself}
-use Rattle.list_law.proofs.Tests.{and_none}
+use Rattle.list_law.proofs.Tests.{and_none, and_turned}
+use Rattle.list_law.proofs.Lists.{any_same}
 use Rattle.global_law.specs.Parts.{IsShape}
 use Rattle.global_law.specs.Walks.{struct_names}
 use Rattle.global_law.specs.Starts.{IsShared}
@@ -117,19 +118,9 @@ number_of p q (b ∷ bs) after v k is found off = by_first (p b) refl (λ j. num
         ap (λ x. position_from q k (if x then b ∷ filter p (bs ++ v ∷ after) else filter p (bs ++ v ∷ after))) e
         ∙ later k ∙ ap (λ n. Some n) (no_more k (count p bs)) ∙ ap (λ x. Some (k + (truth_count x + count p bs))) (sym e)
 
-any_same : {A : Type 0} (p q : A → Bool) (xs : List A) → ((x : A) → p x ≡ q x) → list_any p xs ≡ list_any q xs
-any_same p q [] same = refl
-any_same p q (x ∷ xs) same = ap₂ (λ a b. a || b) (same x) (any_same p q xs same)
-
-both_ways : (a b : Bool) → (a && b) ≡ (b && a)
-both_ways true true = refl
-both_ways true false = refl
-both_ways false true = refl
-both_ways false false = refl
-
 -- an operand, as the text and as the module ask for it
 operand_same : (n : ℕ) (i : Inst) → has_operand i n ≡ settings.has_operand n i
-operand_same n i = any_same (λ (p : ℕ × ℕ). is_id i.op i.args p.0 && (p.1 == n)) (λ (p : ℕ × ℕ). (p.1 == n) && is_id i.op i.args p.0) (enumerate_from 0 i.args) (λ p. both_ways (is_id i.op i.args p.0) (p.1 == n))
+operand_same n i = any_same (λ (p : ℕ × ℕ). is_id i.op i.args p.0 && (p.1 == n)) (λ (p : ℕ × ℕ). (p.1 == n) && is_id i.op i.args p.0) (enumerate_from 0 i.args) (λ p. and_turned (is_id i.op i.args p.0) (p.1 == n))
 
 -- an instruction of these functions mentions it, as the text and as the module ask for it
 pub mentioned_same : (fs : List Function) (n : ℕ) → is_operand_in fs n ≡ list_any (λ (f : Function). list_any (settings.has_operand n) (insts_of f)) fs

@@ -17,7 +17,7 @@ use Rattle.name_alloc.specs.declared.claims.Key.{Key}
 use Rattle.name_alloc.specs.declared.claims.Key.TheVariants.{Id}
 use Rattle.glsl_ast.specs.Tree.{Text, Expr, Exprs, exprs_in}
 use Rattle.glsl_semantics.specs.Shapes as shapes
-use Rattle.glsl_semantics.specs.Shapes.{Typed, typed, same_shape, same_elem, tree_of_value, scalar}
+use Rattle.glsl_semantics.specs.Shapes.{Typed, typed, same_shape, tree_of_value, scalar}
 use Rattle.glsl_semantics.specs.States.{State, value}
 use Rattle.glsl_semantics.specs.Functions.{built, whole_of, is_of, are_of}
 use Rattle.glsl_semantics.specs.Expressions.{Program, Argument, done, then_fetch, denote, values}
@@ -25,6 +25,7 @@ use Rattle.text_rules.specs.Types.{Spelling, type_text, zero_elem, zero_text, ze
 use Rattle.text_rules.specs.Constants.{Source}
 use Rattle.text_rules.specs.Declarations.{spelling}
 use Rattle.list_law.proofs.Numbers.{number_itself}
+use Rattle.lowering_law.proofs.Composites.{elem_itself}
 use Rattle.global_law.specs.Parts.{StructNames, shape_in, fields_in}
 use Rattle.global_law.specs.Laid.{HasLengths, HaveLengths}
 use Rattle.global_law.specs.Walks.{struct_names}
@@ -95,12 +96,7 @@ module _ (p : Program) (s : Setting) (source : Source) (key : Key → Text) wher
   same_itself plain.boolean z = refl
   same_itself plain.int z = refl
   same_itself plain.uint z = refl
-  same_itself (plain.vector e n) z = ap₂ (λ a b. a && b) (by_elem e) (number_itself n)
-    where
-      by_elem : (e : Elem) → same_elem e e ≡ true
-      by_elem elem.Bool = refl
-      by_elem elem.Int = refl
-      by_elem elem.Uint = refl
+  same_itself (plain.vector e n) z = ap₂ (λ a b. a && b) (elem_itself e) (number_itself n)
   same_itself (plain.array t (Fixed n)) z = ap₂ (λ a b. a && b) (same_itself t z) (number_itself n)
   same_itself (plain.array t (Spec n)) z = absurd z
   same_itself (plain.runtime t) z = absurd z

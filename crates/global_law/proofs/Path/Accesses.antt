@@ -7,8 +7,6 @@ use Rattle.std.proofs.lemmas.Option.{same_Some}
 use Rattle.spv_ops.specs.declared.AtomicOp.{AtomicOp}
 use Rattle.spv_module.specs.declared.inst.Inst.{Inst}
 use Rattle.spv_module.specs.declared.inst.Function.{Function}
-use Rattle.spv_module.specs.declared.tree.Elem.{Elem}
-use Rattle.spv_module.specs.declared.tree.Elem.TheVariants as elem
 use Rattle.spv_module.specs.declared.tree.Length.TheVariants.{Fixed, Spec}
 use Rattle.spv_types.specs.Tree as plain
 use Rattle.spv_types.specs.Tree.{Tree, ValueTree}
@@ -42,6 +40,7 @@ use Rattle.list_law.proofs.Numbers.{number_itself}
 use Rattle.list_law.proofs.Options.{none_or_some}
 use Rattle.list_law.proofs.Lists.{none_behind}
 use Rattle.type_law.specs.Shaped.{AreConstants}
+use Rattle.lowering_law.proofs.Composites.{elem_itself}
 use Rattle.agree_law.specs.Agree.{Naming, AreApart}
 use Rattle.agree_law.specs.Blocks.{Stands}
 use Rattle.agree_law.specs.Evaluates.{IsKept}
@@ -60,11 +59,6 @@ shape_itself s key plain.boolean z = refl
 shape_itself s key plain.int z = refl
 shape_itself s key plain.uint z = refl
 shape_itself s key (plain.vector e n) z = and_from (same_elem e e) (n == n) (elem_itself e) (number_itself n)
-  where
-    elem_itself : (e : Elem) → same_elem e e ≡ true
-    elem_itself elem.Bool = refl
-    elem_itself elem.Int = refl
-    elem_itself elem.Uint = refl
 shape_itself s key (plain.array t (Fixed n)) z = and_from (same_shape (shape_in s (struct_names key) t) (shape_in s (struct_names key) t)) (n == n) (shape_itself s key t z) (number_itself n)
 shape_itself s key (plain.array t (Spec id)) z = absurd z
 shape_itself s key (plain.runtime t) z = absurd z

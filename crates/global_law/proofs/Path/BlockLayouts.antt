@@ -28,6 +28,7 @@ use Rattle.layout_rules.specs.Blocks.{Member, members_from, members_of, breaks_i
 use Rattle.module_semantics.specs.Setting.{Setting}
 use Rattle.module_semantics.specs.Memory.{array_stride, member_offset, part_by, part_type}
 use Rattle.list_law.proofs.Numbers.{same_number}
+use Rattle.list_law.proofs.Options.{none_by, none_some}
 use Rattle.fits_law.specs.Takes.{nth_of}
 use Rattle.type_law.proofs.Places.{part_leads}
 use Rattle.global_law.specs.Laid.{IsLaidOut, AreLaidOut}
@@ -171,23 +172,19 @@ module _ (s : Setting) (k : Kind) where
   any_none p [] e = tt
   any_none p (x ∷ xs) e = let parts = or_parts (p x) (list_any p xs) e in (parts.0, any_none p xs parts.1)
 
-  none_of : {A : Type 0} (o : Option A) → is_none o ≡ true → o ≡ None
-  none_of None e = refl
-  none_of (Some a) e = cc
-
   -- the layout that the members take fits
   pub taken_fits : (first : Kind) (ms : List Member) → kind_of_members H Gs first ms ≡ Some k → first_broken H Gs k ms ≡ None
   taken_fits first ms e = by_first (is_none (first_broken H Gs first ms)) refl e
     where
       by_second : (b : Bool) → is_none (first_broken H Gs Std140 ms) ≡ b → (if b then Some Std140 else None) ≡ Some k → first_broken H Gs k ms ≡ None
-      by_second true is e = subst (λ q. first_broken H Gs q ms ≡ None) (same_Some Std140 k e) (none_of (first_broken H Gs Std140 ms) is)
+      by_second true is e = subst (λ q. first_broken H Gs q ms ≡ None) (same_Some Std140 k e) (none_by (first_broken H Gs Std140 ms) is)
       by_second false is e = cc
 
       by_first : (b : Bool) → is_none (first_broken H Gs first ms) ≡ b → (if b then Some first else (if is_none (first_broken H Gs Std140 ms) then Some Std140 else None)) ≡ Some k → first_broken H Gs k ms ≡ None
-      by_first true is e = subst (λ q. first_broken H Gs q ms ≡ None) (same_Some first k e) (none_of (first_broken H Gs first ms) is)
+      by_first true is e = subst (λ q. first_broken H Gs q ms ≡ None) (same_Some first k e) (none_by (first_broken H Gs first ms) is)
       by_first false is e = by_second (is_none (first_broken H Gs Std140 ms)) refl e
 
-  each_l1 : (ms : List Member) → members_break H Gs k ms L1 ≡ list_any (member_breaks H Gs k L1) ms
+  pub each_l1 : (ms : List Member) → members_break H Gs k ms L1 ≡ list_any (member_breaks H Gs k L1) ms
   unfolding members_break
   each_l1 ms = refl
 
@@ -199,7 +196,7 @@ module _ (s : Setting) (k : Kind) where
   unfolding members_break
   each_l6 ms = refl
 
-  member_l1 : (m : Member) → member_breaks H Gs k L1 m ≡ (is_none m.offset || breaks_inside H Gs k L1 m)
+  pub member_l1 : (m : Member) → member_breaks H Gs k L1 m ≡ (is_none m.offset || breaks_inside H Gs k L1 m)
   unfolding member_breaks
   member_l1 m = refl
 
@@ -218,10 +215,7 @@ module _ (s : Setting) (k : Kind) where
   member_at : (g : Inst) (ids : List ℕ) (ts : Trees) (j i : ℕ) (u : Tree) → all_trees (tree_before Gs g.at) ids ≡ Some ts → nth_of ts i ≡ Some u
       → AllFalse (member_breaks H Gs k L1) (members_from H Gs g j ids) → AllFalse (member_breaks H Gs k L2) (members_from H Gs g j ids) → AllFalse (member_breaks H Gs k L6) (members_from H Gs g j ids)
       → Off L1 (slice_index ids i) u × Off L2 (slice_index ids i) u × Off L6 (slice_index ids i) u
-  member_at g [] ts j i u all at a b c = let none : no_trees ≡ ts = same_Some no_trees ts all in absurd (never (ap (λ x. nth_of x i) none ∙ at))
-    where
-      never : None ≡ Some u → ⊥
-      never e = cc
+  member_at g [] ts j i u all at a b c = let none : no_trees ≡ ts = same_Some no_trees ts all in none_some (ap (λ x. nth_of x i) none ∙ at)
   member_at g (id ∷ ids) ts j i u all at a b c = by_parts (tree_before Gs g.at id) refl (all_trees (tree_before Gs g.at) ids) refl i all at (λ rest n is there. member_at g ids rest (j + 1) n u is there a.1 b.1 c.1)
     where
       Offs : ℕ → Type 0

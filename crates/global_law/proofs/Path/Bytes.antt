@@ -108,6 +108,11 @@ module _ (s : Setting) where
       by_global None is e = cc
       by_global (Some g) is e = (g, is, named Of ty g is, kind_is (tree_before Of g.at) g t (kind g.op) e, e)
 
+pub member_lengths : (ts : Trees) (i : ℕ) (u : Tree) → HaveLengths ts → nth_of ts i ≡ Some u → HasLengths u
+member_lengths no_trees i u h at = cc
+member_lengths (tree t ts) zero u h at = subst HasLengths (same_Some t u at) h.0
+member_lengths (tree t ts) (suc i) u h at = member_lengths ts i u h.1 at
+
 module _ (s : Setting) (y : StructNames) (k : Kind) where
   abbrev Gs : List Inst
   Gs = s.of.globals
@@ -165,11 +170,6 @@ module _ (s : Setting) (y : StructNames) (k : Kind) where
   member_laid ty j from no_trees i u l at = cc
   member_laid ty j from (tree t ts) zero u l at = subst (λ a. IsLaidOut s k (part_type s ty a) u) (let none : j ≡ j + 0 = omega arith in none) (subst (IsLaidOut s k (part_type s ty j)) (same_Some t u at) l.1)
   member_laid ty j from (tree t ts) (suc i) u l at = subst (λ a. IsLaidOut s k (part_type s ty a) u) (let next : j + 1 + i ≡ j + suc i = omega arith in next) (member_laid ty (j + 1) _ ts i u l.2 at)
-
-  member_lengths : (ts : Trees) (i : ℕ) (u : Tree) → HaveLengths ts → nth_of ts i ≡ Some u → HasLengths u
-  member_lengths no_trees i u h at = cc
-  member_lengths (tree t ts) zero u h at = subst HasLengths (same_Some t u at) h.0
-  member_lengths (tree t ts) (suc i) u h at = member_lengths ts i u h.1 at
 
   -- bytes by the kind of type
   abbrev bytes_of : Inst → ℕ → TypeKind → ℕ

@@ -55,6 +55,7 @@ use Rattle.global_law.specs.Chains.{NoneMakes, ChainsRise}
 use Rattle.global_law.specs.Writings.{IsWrittenStart, IsWrittenChain}
 use Rattle.global_law.proofs.Path.Reached.{IsRightChain}
 use Rattle.global_law.specs.Starts.{IsBuiltIn, IsBlock}
+use Rattle.global_law.proofs.Constant.GroupSizes.{same_word}
 
 unfoldable opened : Unit {0}
 unfolding shape op_of number known is_id kind_of_opcode kind_of_op key_of kind below constant_kind group_of aligned breaks member_breaks members_break declared_by literal_word axis_name step_kind
@@ -220,9 +221,6 @@ rise_by (i ∷ is) e =
 one_member : AreMembersApart (struct_names key) 3 (tree (plain.runtime plain.uint) no_trees)
 one_member j zero u less at = absurd (none_below j less)
 one_member j (suc k) u less at = cc
-
-pub same_word : (i j : ℕ) → Some (word i) ≡ Some (word j) → i ≡ j
-same_word i j e = cc
 
 module _ (calls : Text → List Argument → State → Result (Option Typed × State)) (z : State) where
   starts_there : IsWrittenStart p calls z naming s [] f key globals 0 (element_chain ∷ loaded ∷ component_chain ∷ []) 5

@@ -23,7 +23,9 @@ use Rattle.module_semantics.specs.Operands.{of_module, as_pointer, pointer_at, a
 use Rattle.module_semantics.specs.Steps.{chain, variable, step_kind, base, is_based_on, without_based, phis, is_phi, with_phis, argument_of, passed, entered}
 use Rattle.access_paths.specs.Ways.{is_constant_index}
 use Rattle.list_law.proofs.Tests.{not_both}
+use Rattle.list_law.proofs.Lists.{same_first, same_rest}
 use Rattle.fits_law.proofs.Operations.{before_some}
+use Rattle.type_law.proofs.Chains.{none_longer}
 use Rattle.agree_law.specs.Agree.{IfPointer}
 use Rattle.agree_law.specs.Blocks.{IsOf}
 use Rattle.call_law.specs.Frames.{makes_pointer, IsClosed}
@@ -116,19 +118,10 @@ module _ (s : Setting) where
   constants_there : (f : Frame) (ns is : List ℕ) → ((n : ℕ) → is_global s.of.globals n ≡ true → f.ids n ≡ None) → words_at s f ns ≡ Some is → ConstantsAre s ns is
   constants_there f [] [] mine e = tt
   constants_there f [] (i ∷ is) mine e = cc
-  constants_there f (n ∷ ns) [] mine e = let b = before_some (word_at s f n) (words_at s f ns) [] e in absurd (never b.0 b.1 b.4)
-    where
-      never : (x : ℕ) (xs : List ℕ) → [] ≡ x ∷ xs → ⊥
-      never x xs e = cc
+  constants_there f (n ∷ ns) [] mine e = let b = before_some (word_at s f n) (words_at s f ns) [] e in absurd (none_longer b.0 b.1 b.4)
   constants_there f (n ∷ ns) (i ∷ is) mine e =
       let b = before_some (word_at s f n) (words_at s f ns) (i ∷ is) e in
-      ((λ on. constant_there f n i on (mine n (constant_global n on)) (b.2 ∙ ap (λ a. Some a) (sym (first i b.0 is b.1 b.4)))), constants_there f ns is mine (b.3 ∙ ap (λ a. Some a) (sym (rest i b.0 is b.1 b.4))))
-    where
-      first : (x y : ℕ) (xs ys : List ℕ) → x ∷ xs ≡ y ∷ ys → x ≡ y
-      first x y xs ys e = cc
-
-      rest : (x y : ℕ) (xs ys : List ℕ) → x ∷ xs ≡ y ∷ ys → xs ≡ ys
-      rest x y xs ys e = cc
+      ((λ on. constant_there f n i on (mine n (constant_global n on)) (b.2 ∙ ap (λ a. Some a) (sym (same_first i b.0 is b.1 b.4)))), constants_there f ns is mine (b.3 ∙ ap (λ a. Some a) (sym (same_rest i b.0 is b.1 b.4))))
 
   -- a frame that has of an id what another has
   pointer_same : (f g : Frame) (n : ℕ) → g.ids n ≡ f.ids n → pointer_at s g n ≡ pointer_at s f n

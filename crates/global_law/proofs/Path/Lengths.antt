@@ -40,9 +40,9 @@ use Rattle.global_law.specs.Parts.{StructNames, HasMembersApart, shape_in}
 use Rattle.global_law.specs.Laid.{IsLaidOut, HasLengths}
 use Rattle.global_law.specs.Walks.{writing, struct_names}
 use Rattle.global_law.specs.Starts.{members_in, IsBlock}
-use Rattle.global_law.proofs.Path.Bytes.{stride_same}
+use Rattle.global_law.proofs.Path.Bytes.{stride_same, member_lengths}
 use Rattle.global_law.proofs.Path.BlockLayouts.{block_laid}
-use Rattle.global_law.proofs.Path.Starts.{outside_is, member_in_block, member_lengths}
+use Rattle.global_law.proofs.Path.Starts.{outside_is, member_in_block}
 
 -- as many strides as there are bytes: none where the stride is 0
 strides_are : (bytes byte stride : ℕ) → strides_behind bytes byte stride ≡ (bytes - byte) / stride

@@ -1,9 +1,8 @@
 -- Where P3 and T1 are not broken, the chains of a function stand behind what makes their bases, each with a result of its own.
-use Rattle.std.proofs.Common.{◌≡◌, ◌≢◌, ◌⊎◌, ◌<◌, ◌≤◌, ◌+◌, ◌==◌, ◌&&◌, ◌||◌, not, ℕ, Bool, true, false, List, [], ◌∷◌, Some, inl, inr, refl, sym, ap, ◌∙◌, subst, arith, if◌then◌else◌}
-use Rattle.std.specs.Prelude.{find, is_some, nat_lt, slice_index}
+use Rattle.std.proofs.Common.{◌≡◌, ◌≢◌, ◌<◌, ◌≤◌, ◌+◌, ◌&&◌, ◌||◌, ℕ, true, false, List, [], ◌∷◌, inl, inr, refl, sym, ap, ◌∙◌, subst, arith}
+use Rattle.std.specs.Prelude.{is_some, nat_lt, slice_index}
 use Rattle.std.specs.Option.{option_map_or}
 use Rattle.std.specs.List.{enumerate_from, list_any}
-use Rattle.std.proofs.lemmas.Bool.Decides.{eqb_tells}
 use Rattle.std.proofs.lemmas.Bool.{and_parts, or_parts}
 use Rattle.spv_ops.specs.Groups.{is_chain}
 use Rattle.spv_ops.specs.OpGroups.{takes_of, group_of}
@@ -21,7 +20,8 @@ use Rattle.module_semantics.specs.Steps.{base}
 use Rattle.list_law.proofs.Tests.{but_not}
 use Rattle.list_law.proofs.Numbers.{no_less, less_of}
 use Rattle.plan_law.specs.InOrder.{IsAmong, AreRising, AreApart, IsOwn, AreInOrder}
-use Rattle.plan_law.proofs.Order.{not_among}
+use Rattle.plan_law.proofs.Order.{not_among, found}
+use Rattle.typed_law.proofs.Sized.{rising_low}
 use Rattle.global_law.specs.Chains.{NoneMakes, ChainsRise}
 
 -- the first operand of a chain is a value
@@ -36,25 +36,6 @@ unfolding is_id
 chain_names code.AccessChain x xs e = refl
 chain_names code.InBoundsAccessChain x xs e = refl
 chain_names o x xs e = cc
-
--- the instruction with a result that is its alone
-found : (j : Inst) (is : List Inst) → AreApart is → IsAmong j is → (j.result ≡ 0 → ⊥) → find (λ (i : Inst). i.result == j.result) is ≡ Some j
-found j [] apart at some = absurd at
-found j (h ∷ is) apart at some = by_test (h.result == j.result) (eqb_tells h.result j.result) at (λ there. found j is apart.1 there some)
-  where
-    by_test : (t : Bool) → ((t ≡ true) × (h.result ≡ j.result)) ⊎ ((t ≡ false) × (h.result ≡ j.result → ⊥)) → IsAmong j (h ∷ is) → (IsAmong j is → find (λ (i : Inst). i.result == j.result) is ≡ Some j) → (if t then Some h else find (λ (i : Inst). i.result == j.result) is) ≡ Some j
-    by_test true w (inl same) later = ap (λ (x : Inst). Some x) same
-    by_test true (inl w) (inr there) later = absurd (not_among h.result j is (apart.0 (λ zero. some (sym w.1 ∙ zero))) there (sym w.1))
-    by_test true (inr w) (inr there) later = cc
-    by_test false (inl w) at later = cc
-    by_test false (inr w) (inl same) later = absurd (w.1 (ap (λ (x : Inst). x.result) same))
-    by_test false (inr w) (inr there) later = later there
-
--- what stands behind stands at a greater word
-rising_low : (n : ℕ) (is : List Inst) (j : Inst) → AreRising n is → IsAmong j is → n ≤ j.at
-rising_low n [] j rising at = absurd at
-rising_low n (i ∷ is) j rising (inl same) = subst (λ (x : Inst). n ≤ x.at) same rising.0
-rising_low n (i ∷ is) j rising (inr at) = let more = rising_low (i.at + 1) is j rising.1 at in let first = rising.0 in omega (arith, more, first)
 
 module _ (m : ModuleState) (f : Function) (order : AreInOrder m f) (some : (i : Inst) → IsAmong i (insts_of f) → is_chain i.op ≡ true → i.result ≡ 0 → ⊥) where
   -- what a chain's base is the result of stands before the chain

@@ -28,7 +28,7 @@ use Rattle.region_law.proofs.Flags.{own_text}
 use Rattle.fits_law.specs.Takes.{nth_of}
 use Rattle.fits_law.specs.State.{element_shape, place_shape}
 use Rattle.type_law.proofs.Places.{part_leads}
-use Rattle.fits_law.proofs.Parts.{many_of, each_at, MembersFit, members_of}
+use Rattle.fits_law.proofs.Parts.{many_of, each_at, MembersFit, members_of, extracted_none}
 use Rattle.global_law.specs.Parts.{StructNames, AreMembersApart, length_in, shape_in, fields_in, HasLength, IsShape, AreFields, IsBelow, IsInside, HasScalars, part_value, IsPart}
 use Rattle.global_law.specs.Laid.{HasLengths, HaveLengths}
 
@@ -213,13 +213,9 @@ module _ (s : Setting) (y : StructNames) where
   pub next_value : (c : Conf) (r : Root) (path : List ℕ) (i : ℕ) → part_value s c r (path ++ i ∷ []) ≡ part_of_option (part_value s c r path) i
   next_value c r path i = by_kept (kept s c r)
     where
-      by_last : (o : Option ValueTree) → option_and_then (extracted []) o ≡ o
-      by_last None = refl
-      by_last (Some p) = refl
-
       by_part : (o : Option ValueTree) → option_and_then (extracted (i ∷ [])) o ≡ part_of_option o i
       by_part None = refl
-      by_part (Some p) = by_last (part_at p i)
+      by_part (Some p) = extracted_none (part_at p i)
 
       by_kept : (o : Option ValueTree) → option_and_then (extracted (path ++ i ∷ [])) o ≡ part_of_option (option_and_then (extracted path) o) i
       by_kept None = refl

@@ -1,5 +1,5 @@
 -- The text of a pointer's path stands for the place to which the pointer leads.
-use Rattle.std.proofs.Common.{◌≡◌, ◌<◌, ◌++◌, ℕ, zero, suc, List, [], ◌∷◌, drop, Option, Some, inl, inr, refl, sym, ap, ◌∙◌, subst, arith}
+use Rattle.std.proofs.Common.{◌≡◌, ◌<◌, ◌++◌, ℕ, zero, suc, List, [], drop, Option, Some, inl, inr, refl, sym, ap, ◌∙◌, subst, arith, append_assoc}
 use Rattle.std.specs.Prelude.{unwrap_or}
 use Rattle.std.proofs.lemmas.Option.{same_Some}
 use Rattle.spv_module.specs.declared.inst.Inst.{Inst}
@@ -35,10 +35,6 @@ use Rattle.global_law.proofs.Path.Starts.{start_is}
 
 none_less : {A : Type 0} (n : ℕ) → n < 0 → A
 none_less n e = absurd (none_below n e)
-
-joined : (xs ys zs : List ℕ) → (xs ++ ys) ++ zs ≡ xs ++ (ys ++ zs)
-joined [] ys zs = refl
-joined (x ∷ xs) ys zs = ap (λ l. x ∷ l) (joined xs ys zs)
 
 module _ (p : Program) (calls : Text → List Argument → State → Result (Option Typed × State)) (z : State) (m : Naming) (s : Setting) (overrides : List (ℕ × Given)) (f : Function) (key : Key → Text) (globals : ℕ → Option Expr) (right : AreConstants s) (c : Conf) (agree : Agree m c z) (b : ℕ) where
   abbrev W : scope.Setting
@@ -116,7 +112,7 @@ module _ (p : Program) (calls : Text → List Argument → State → Result (Opt
           begins = l.begins;
           begin_is = l.begin_is;
           base_is = ap (λ (w : Way). w.base) g.way ∙ l.base_is;
-          whole = q.whole ∙ ap (λ l. l ++ q.indexes) l.whole ∙ joined l.from l.along q.indexes;
+          whole = q.whole ∙ ap (λ l. l ++ q.indexes) l.whole ∙ append_assoc l.from l.along q.indexes;
           first = l.first;
           named_as = l.named_as;
           to = w.to;

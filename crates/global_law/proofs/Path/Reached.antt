@@ -1,9 +1,9 @@
 -- Where T6 is not broken, a chain steps into structs by constants, and its type points to what its indexes lead to.
 use Rattle.std.proofs.Common.{◌≡◌, ◌||◌, ℕ, Bool, true, false, List, [], ◌∷◌, length, drop, Option, Some, None, refl, sym, ap, ◌∙◌, if◌then◌else◌}
-use Rattle.std.specs.Prelude.{◌&&◌, not, ◌==◌, nat_lt, is_some, option_and_then}
+use Rattle.std.specs.Prelude.{nat_lt, is_some, option_and_then}
 use Rattle.std.specs.Option.{option_map_or}
 use Rattle.std.specs.List.{list_any}
-use Rattle.std.proofs.lemmas.Bool.{and_from, and_parts}
+use Rattle.std.proofs.lemmas.Bool.{and_parts}
 use Rattle.spv_ops.specs.Opcode.{is, number}
 use Rattle.spv_ops.specs.Groups.{is_constant}
 use Rattle.spv_ops.specs.declared.Op.{Op}
@@ -26,12 +26,13 @@ use Rattle.module_semantics.specs.Setting.{Setting}
 use Rattle.module_semantics.specs.Memory.{part_by, part_type, type_along, is_allowed, are_allowed}
 use Rattle.module_semantics.specs.Steps.{base}
 use Rattle.access_paths.specs.Ways.{is_constant_index}
-use Rattle.list_law.proofs.Numbers.{same_count}
-use Rattle.list_law.proofs.Tests.{and_off}
+use Rattle.list_law.proofs.Tests.{clash}
 use Rattle.type_law.specs.Shaped.{AreConstants}
 use Rattle.type_law.proofs.Places.{part_leads}
 use Rattle.type_law.proofs.Parts.{row}
 use Rattle.type_law.proofs.Vectors.{three_off}
+use Rattle.type_law.proofs.Chains.{nothing_left}
+use Rattle.type_law.proofs.Choices.{same_rows}
 use Rattle.global_law.specs.Walks.{ByConstants}
 use Rattle.global_law.specs.Chains.{ConstantsAre}
 use Rattle.global_law.proofs.Path.Types.{allowed_is, op_of, declared_as, is_struct_shape, struct_by}
@@ -136,10 +137,6 @@ module _ (s : Setting) (f : Function) (right : AreConstants s) where
       by_shape (plain.runtime t) shape g is part = (is ∙ ap Part (sym (part n)), no_struct (plain.runtime t) shape refl)
       by_shape (plain.struct m ts) shape g is part = by_constant g (constant_word Gs id) refl is (part n)
 
-  nothing_left : (ids : List ℕ) → walk (chain_step Gs T) Nothing ids ≡ Nothing
-  nothing_left [] = refl
-  nothing_left (id ∷ ids) = nothing_left ids
-
   -- each index has a type
   abbrev pub HaveTypes : List ℕ → Type 0
   HaveTypes [] = Unit {0}
@@ -153,7 +150,7 @@ module _ (s : Setting) (f : Function) (right : AreConstants s) where
   along (id ∷ ids) (n ∷ ns) ty t shape allowed typed are leads =
       let both = and_parts (is_allowed s ty n) (are_allowed s (part_type s ty n) ns) allowed in
       let q = allowed_is s ty n t right shape both.0 in
-      let one = one_reach ty id n t shape typed.0 are.0 (λ none. leads (ap (λ r. walk (chain_step Gs T) r ids) none ∙ nothing_left ids)) in
+      let one = one_reach ty id n t shape typed.0 are.0 (λ none. leads (ap (λ r. walk (chain_step Gs T) r ids) none ∙ nothing_left s f ids)) in
       let here : walk (chain_step Gs T) (chain_step Gs T ty id) ids ≡ walk (chain_step Gs T) (Part (part_type s ty n)) ids = ap (λ r. walk (chain_step Gs T) r ids) one.0 in
       let more = along ids ns (part_type s ty n) q.part (part_leads s ty n t q.part shape q.there) both.1 typed.1 are.1 (λ none. leads (here ∙ none)) in
       (here ∙ more.0, (one.1, more.1), more.2)
@@ -172,23 +169,14 @@ module _ (s : Setting) (f : Function) (right : AreConstants s) where
     pub by_constants : ByConstants s ty (drop 1 i.args) ns
     pub reaches : pointee_of Gs f i.result ≡ Some (type_along s ty ns)
 
-  types_same : (a b : ℕ) (t u : Tree) → type_tree Gs a ≡ Some t → type_tree Gs b ≡ Some u → differ Gs a b ≡ false → a ≡ b
-  types_same a b t u ta tb e =
-      let first = row s f a t ta in
-      let second = row s f b u tb in
-      same_count a b (and_off (is_some (type_row Gs a) && is_some (type_row Gs b)) (not (a == b)) e (and_from (is_some (type_row Gs a)) (is_some (type_row Gs b)) (ap is_some first.1) (ap is_some second.1)))
-
   pub chain_reaches : (i : Inst) (ty : ℕ) (t : Tree) (ns : List ℕ) → IsRightChain i → pointee_of Gs f (base i) ≡ Some ty → type_tree Gs ty ≡ Some t → are_allowed s ty ns ≡ true → ConstantsAre s (drop 1 i.args) ns → Reaches i ty ns
   chain_reaches i ty t ns is points shape allowed are =
       let class : Option ℕ = option_and_then (storage_class Gs) (T (word i 0)) in
       let off = three_off (value_fails is_pointer Gs T (word i 0)) (list_any (value_fails is_int Gs T) (drop 1 i.args)) (leads_elsewhere Gs i.ty class (chain_end Gs T i)) is.t6 in
       let end_is : chain_end Gs T i ≡ walk (chain_step Gs T) (Part ty) (drop 1 i.args) = ap (λ o. walk (chain_step Gs T) (option_map_or Part o Unknown) (drop 1 i.args)) points in
       let there : leads_elsewhere Gs i.ty class (walk (chain_step Gs T) (Part ty) (drop 1 i.args)) ≡ false = ap (leads_elsewhere Gs i.ty class) (sym end_is) ∙ off.2 in
-      let all = along (drop 1 i.args) ns ty t shape allowed is.typed are (λ none. never (ap (leads_elsewhere Gs i.ty class) (sym none) ∙ there)) in
+      let all = along (drop 1 i.args) ns ty t shape allowed is.typed are (λ none. clash (ap (leads_elsewhere Gs i.ty class) (sym none) ∙ there)) in
       let pointer : is_other_pointer Gs i.ty class (type_along s ty ns) ≡ false = ap (leads_elsewhere Gs i.ty class) (sym all.0) ∙ there in
       let parts = three_off (fails is_pointer Gs i.ty) (option_map_or (λ c. is_not c (storage_class Gs i.ty)) class false) (option_map_or (differ Gs (type_along s ty ns)) (pointee Gs i.ty) false) pointer in
-      let same : type_along s ty ns ≡ is.to = types_same (type_along s ty ns) is.to all.2.0 is.shape all.2.1 is.typed_as (ap (λ o. option_map_or (differ Gs (type_along s ty ns)) o false) (sym is.points_to) ∙ parts.2) in
+      let same : type_along s ty ns ≡ is.to = same_rows s f (type_along s ty ns) is.to all.2.0 is.shape all.2.1 is.typed_as (ap (λ o. option_map_or (differ Gs (type_along s ty ns)) o false) (sym is.points_to) ∙ parts.2) in
       record { by_constants = all.1; reaches = ap (option_and_then (pointee Gs)) is.result ∙ is.points_to ∙ ap (λ a. Some a) (sym same) }
-    where
-      never : true ≡ false → ⊥
-      never e = cc

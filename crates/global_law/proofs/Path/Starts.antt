@@ -48,10 +48,10 @@ use Rattle.agree_law.specs.Agree.{Naming, variable_with, IfPointer, variable_in,
 use Rattle.agree_law.proofs.Owned.{own_found}
 use Rattle.agree_law.proofs.Evaluating.{named_is}
 use Rattle.global_law.specs.Parts.{StructNames, AreMembersApart, HasMembersApart, shape_in, IsShape, HasScalars, part_value, IsPart}
-use Rattle.global_law.specs.Laid.{IsLaidOut, HasLengths, HaveLengths}
+use Rattle.global_law.specs.Laid.{IsLaidOut, HasLengths}
 use Rattle.global_law.specs.Walks.{writing, struct_names}
 use Rattle.global_law.specs.Starts.{members_in, IsVariable, IsOwn, IsParameter, IsPrivate, IsBuiltIn, IsShared, IsBlock, IsStart}
-use Rattle.global_law.proofs.Path.Bytes.{bytes_in, buffer_along, push_along, bytes_same}
+use Rattle.global_law.proofs.Path.Bytes.{bytes_in, buffer_along, push_along, bytes_same, member_lengths}
 use Rattle.global_law.proofs.Path.BlockLayouts.{block_laid}
 use Rattle.global_law.proofs.Path.Types.{declared_as}
 use Rattle.global_law.proofs.Path.Parts.{own_shape}
@@ -132,16 +132,15 @@ shared_along : (rest : List ℕ) (t : Tree) (way : List ℕ) (k : ℕ) → site_
 shared_along [] t way k = ap (in_shared k) (none_more way)
 shared_along (i ∷ rest) t way k = shared_along rest (part_tree t i) (way ++ i ∷ []) k ∙ ap (in_shared k) (joined way rest i)
 
-pub member_lengths : (ts : Trees) (i : ℕ) (u : Tree) → HaveLengths ts → nth_of ts i ≡ Some u → HasLengths u
-member_lengths no_trees i u h at = cc
-member_lengths (tree t ts) zero u h at = subst HasLengths (same_Some t u at) h.0
-member_lengths (tree t ts) (suc i) u h at = member_lengths ts i u h.1 at
-
 -- a member of a struct lies at its offset
 struct_bytes : (s : Setting) (ty n : ℕ) (ts : Trees) (k : ℕ) → type_tree s.of.globals ty ≡ Some (plain.struct n ts) → module_memory.part_bytes s ty k ≡ member_offset s ty k
 struct_bytes s ty n ts k shape =
     let d = declared_as s ty (plain.struct n ts) shape in
     ap (λ (o : Option Inst). option_map_or (λ (g : Inst). bytes_by s g k g.op) o 0) d.1 ∙ ap (bytes_by s d.0 k) d.2 ∙ ap (λ a. member_offset s a k) d.3
+
+pub same_root : (o : Option Frame) (n : ℕ) → variable_in o n ≡ option_and_then (λ (g : Frame). g.variables n) o
+same_root None n = refl
+same_root (Some g) n = refl
 
 module _ (p : Program) (calls : Text → List Argument → State → Result (Option Typed × State)) (z : State) (m : Naming) (s : Setting) (overrides : List (ℕ × Given)) (f : Function) (key : Key → Text) (globals : ℕ → Option Expr) (right : AreConstants s) where
   abbrev W : scope.Setting
@@ -218,10 +217,6 @@ module _ (p : Program) (calls : Text → List Argument → State → Result (Opt
         let there = subst (λ h. IfPointer h (λ r path. IsFar r × (l.0 ≡ target_value c r path))) is.leads l.2 in
         subst (λ a. l.0 ≡ target_value c a path → Started n t a path) (sym is.root)
         (λ at. started_by n t (lent is.depth is.of) path l.0 is.variable (named_is p z (m.name n) (variable_with (m.shape n) l.0) (own_found z.frames (m.name n) _ l.1)) refl (at ∙ ap (option_and_then (extracted path)) (same_root (call_at is.depth c.below) is.of))) there.1
-      where
-        same_root : (o : Option Frame) (k : ℕ) → variable_in o k ≡ option_and_then (λ (g : Frame). g.variables k) o
-        same_root None k = refl
-        same_root (Some g) k = refl
 
     private_start : (n : ℕ) (t : Tree) (r : Root) (path : List ℕ) → IsPrivate p m s W.source key globals n t r path → Started n t r path
     private_start n t r path is =

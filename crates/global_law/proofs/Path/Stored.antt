@@ -32,7 +32,7 @@ use Rattle.expr_forward.specs.Scope as scope
 use Rattle.expr_forward.specs.Paths.{name_in, base_text, steps_text}
 use Rattle.list_law.proofs.Options.{none_or_some}
 use Rattle.type_law.specs.Shaped.{AreConstants}
-use Rattle.agree_law.specs.Agree.{Naming, AreApart, IfPointer, variable_in, IsFar}
+use Rattle.agree_law.specs.Agree.{Naming, AreApart, IfPointer, IsFar}
 use Rattle.agree_law.specs.Blocks.{has_outcome, Stands, At}
 use Rattle.agree_law.specs.Evaluates.{IsKept}
 use Rattle.agree_law.proofs.Machine.{machine}
@@ -41,7 +41,7 @@ use Rattle.agree_law.proofs.Stores.{Storing, set_lent, store_own_follows, store_
 use Rattle.global_law.specs.Parts.{shape_in, IsInput}
 use Rattle.global_law.specs.Walks.{writing, struct_names}
 use Rattle.global_law.specs.Starts.{IsVariable, IsOwn, IsParameter, IsPrivate, IsShared, IsBlock, IsStart}
-use Rattle.global_law.proofs.Path.Starts.{variable_named}
+use Rattle.global_law.proofs.Path.Starts.{variable_named, same_root}
 use Rattle.global_law.proofs.Path.Pointers.{first_type, Leads, place_stands}
 use Rattle.global_law.proofs.Path.Parts.{sized_lengths, only_shape}
 use Rattle.global_law.proofs.Path.Accesses.{shape_itself, PointerLeads, PointsTo, Part, part_there, writes_seen}
@@ -50,10 +50,6 @@ use Rattle.global_law.proofs.Path.Accesses.{shape_itself, PointerLeads, PointsTo
 call_there : (o : Option Frame) (n : ℕ) (v : ValueTree) → option_and_then (λ (g : Frame). g.variables n) o ≡ Some v → (g : Frame) × (o ≡ Some g)
 call_there None n v e = cc
 call_there (Some g) n v e = (g, refl)
-
-same_root : (o : Option Frame) (n : ℕ) → variable_in o n ≡ option_and_then (λ (g : Frame). g.variables n) o
-same_root None n = refl
-same_root (Some g) n = refl
 
 module _ (p : Program) (calls : Text → List Argument → State → Result (Option Typed × State)) (k : ℕ) (m : Naming) (names : AreApart m) (s : Setting) (Holds : Conf → Type 0) (f : Function) (b : ℕ) (keeps : IsKept (machine s) Holds) (done : List Inst) (i : Inst) (rest : List Inst)
     (overrides : List (ℕ × Given)) (key : Key → Text) (globals : ℕ → Option Expr) (right : AreConstants s) (c : Supplied Conf) (z : State) (stands : Stands m s Holds f b done c z) where

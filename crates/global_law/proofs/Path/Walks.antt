@@ -38,6 +38,7 @@ use Rattle.expr_forward.specs.Paths.{word_at, index_expr, components, vector_siz
 use Rattle.list_law.proofs.Options.{some_of}
 use Rattle.list_law.proofs.Numbers.{less_of}
 use Rattle.list_law.proofs.Lists.{none_behind, joined}
+use Rattle.list_law.proofs.Tests.{clash}
 use Rattle.fits_law.specs.Takes.{nth_of}
 use Rattle.fits_law.specs.State.{element_shape}
 use Rattle.type_law.specs.Shaped.{AreConstants}
@@ -159,10 +160,7 @@ module _ (p : Program) (calls : Text → List Argument → State → Result (Opt
 
       only_part : (path : List ℕ) (t : Tree) (a : Thing) → is_struct_shape s t ≡ false → IsPlace path t a → P path t a
       only_part path t a off (apart, inl is) = is
-      only_part path t a off (apart, inr is) = absurd (never (sym (ap (is_struct_shape s) is.2) ∙ off))
-        where
-          never : true ≡ false → ⊥
-          never e = cc
+      only_part path t a off (apart, inr is) = clash (sym (ap (is_struct_shape s) is.2) ∙ off)
 
       -- what is no block is a part
       abbrev pub IsNoBlock : Tree → Type 0

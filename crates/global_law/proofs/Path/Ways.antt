@@ -1,5 +1,5 @@
 -- The path of a chain of a function in order is that of its base and the chain's steps.
-use Rattle.std.proofs.Common.{◌≡◌, ◌≢◌, ◌+◌, ◌==◌, ◌&&◌, ◌++◌, ℕ, zero, suc, Bool, true, false, List, [], ◌∷◌, map, Some, inl, inr, refl, sym, ap, ap₂, ◌∙◌, subst, arith}
+use Rattle.std.proofs.Common.{◌≡◌, ◌≢◌, ◌+◌, ◌==◌, ◌&&◌, ◌++◌, ℕ, zero, suc, Bool, true, false, List, [], ◌∷◌, map, Some, inl, inr, refl, sym, ap, ap₂, ◌∙◌, subst, arith, append_assoc}
 use Rattle.std.specs.Prelude.{slice_get, flat_map}
 use Rattle.std.specs.List.{enumerate_from, list_any}
 use Rattle.std.proofs.lemmas.Bool.Decides.{eqb_tells}
@@ -44,10 +44,6 @@ pub record Stands (c : ℕ × Inst) (cs : Placed) : Type 0 where
   pub after : Placed
   pub whole : cs ≡ before ++ c ∷ after
 
-joined : (xs ys zs : Placed) → (xs ++ ys) ++ zs ≡ xs ++ (ys ++ zs)
-joined [] ys zs = refl
-joined (x ∷ xs) ys zs = ap (λ l. x ∷ l) (joined xs ys zs)
-
 in_block : (b : ℕ) (i : Inst) (is : List Inst) → IsOf i is → Stands (b, i) (map (λ i. (b, i)) is)
 in_block b i [] at = absurd at
 in_block b i (j ∷ js) (inl same) = record { before = []; after = map (λ i. (b, i)) js; whole = ap (λ (x : Inst). (b, x) ∷ map (λ i. (b, i)) js) same }
@@ -64,7 +60,7 @@ in_blocks (d ∷ bs) k zero b i there at =
       after = s.after ++ placed (enumerate_from (k + 1) bs);
       whole =
           flat_map-cons (λ (d : ℕ × Block). map (λ i. (d.0, i)) d.1.insts) (k, d) (enumerate_from (k + 1) bs)
-          ∙ ap (λ l. l ++ placed (enumerate_from (k + 1) bs)) s.whole ∙ joined s.before ((k, i) ∷ s.after) (placed (enumerate_from (k + 1) bs));
+          ∙ ap (λ l. l ++ placed (enumerate_from (k + 1) bs)) s.whole ∙ append_assoc s.before ((k, i) ∷ s.after) (placed (enumerate_from (k + 1) bs));
     })
 in_blocks (d ∷ bs) k (suc t) b i there at =
     let s = in_blocks bs (k + 1) t b i there at in
@@ -74,7 +70,7 @@ in_blocks (d ∷ bs) k (suc t) b i there at =
       after = s.after;
       whole =
           flat_map-cons (λ (d : ℕ × Block). map (λ i. (d.0, i)) d.1.insts) (k, d) (enumerate_from (k + 1) bs)
-          ∙ ap (λ l. map (λ i. (k, i)) d.insts ++ l) s.whole ∙ sym (joined (map (λ i. (k, i)) d.insts) s.before ((k + 1 + t, i) ∷ s.after));
+          ∙ ap (λ l. map (λ i. (k, i)) d.insts ++ l) s.whole ∙ sym (append_assoc (map (λ i. (k, i)) d.insts) s.before ((k + 1 + t, i) ∷ s.after));
     })
 
 -- what is not made is made by none of these

@@ -8,7 +8,7 @@ use Rattle.spv_module.specs.Held.{global as global_inst}
 use Rattle.spv_module.specs.Lists.{id}
 use Rattle.spv_module.specs.declared.inst.Inst.{Inst}
 use Rattle.spv_module.specs.declared.inst.Function.{Function}
-use Rattle.spv_types.specs.Tree.{Tree, ValueTree, word}
+use Rattle.spv_types.specs.Tree.{Tree, word}
 use Rattle.spv_types.specs.Types.{elem_of, type_tree}
 use Rattle.spv_index.specs.Locals.{insts_of}
 use Rattle.spv_index.specs.Pointers.{pointee_of}
@@ -17,7 +17,7 @@ use Rattle.traces.specs.Runs.{Supplied}
 use Rattle.traces.specs.Outcomes.{Result}
 use Rattle.module_semantics.specs.Setting.{Setting, global_variable}
 use Rattle.module_semantics.specs.State.{Root, global, own, lent, Held, value, pointer, Conf}
-use Rattle.module_semantics.specs.Operands.{of_module, as_word, as_pointer, value_at, word_at, pointer_at, words_at, Target}
+use Rattle.module_semantics.specs.Operands.{of_module, as_pointer, value_at, word_at, pointer_at, words_at, Target}
 use Rattle.module_semantics.specs.Steps.{base}
 use Rattle.name_alloc.specs.declared.claims.Key.{Key}
 use Rattle.name_alloc.specs.declared.claims.Key.TheVariants.{Captured}
@@ -33,7 +33,10 @@ use Rattle.expr_forward.specs.Paths.{literal_word, is_plain, is_number, index_ex
 use Rattle.text_rules.specs.Constants.{reading, plain_value}
 use Rattle.text_rules.specs.Declarations.{word_of}
 use Rattle.op_semantics.specs.Component.{before}
+use Rattle.list_law.proofs.Lists.{same_first, same_rest}
+use Rattle.list_law.proofs.Options.{none_some}
 use Rattle.fits_law.proofs.Operations.{before_some}
+use Rattle.fits_law.proofs.Parts.{word_value}
 use Rattle.type_law.specs.Shaped.{AreConstants}
 use Rattle.agree_law.specs.Agree.{Naming, variable_with}
 use Rattle.agree_law.specs.Blocks.{IsOf, led, outcome, has_outcome, Stands}
@@ -53,11 +56,6 @@ use Rattle.global_law.proofs.Path.Reached.{constant_known, constant_same, IsRigh
 use Rattle.global_law.proofs.Path.Led.{variable_was}
 
 -- what a word is the value of
-word_value : (o : Option ValueTree) (i : ℕ) → as_word o ≡ Some i → o ≡ Some (word i)
-word_value None i e = cc
-word_value (Some (word w)) i e = let same : w ≡ i = cc in ap (λ a. Some (word a)) same
-word_value (Some v) i e = cc
-
 number_word : (t : Shape) (i : ℕ) → IsNumber t → index_word (typed t (word i)) ≡ Some i
 number_word int i n = refl
 number_word uint i n = refl
@@ -103,10 +101,7 @@ module _ (p : Program) (calls : Text → List Argument → State → Result (Opt
           ap (λ (t : Target). Some (pointer t.0 t.1)) same
 
       by_id : (o : Option Held) → c.at.top.ids n ≡ o → as_pointer (elim o as (λ o. Option Held) [ Some h ↦ Some h | None ↦ of_module s n ]) ≡ Some (r, at) → c.at.top.ids n ≡ Some (pointer r at)
-      by_id None there e = let never : None ≡ Some (r, at) = sym (ap as_pointer local) ∙ e in absurd (no_some never)
-        where
-          no_some : {A : Type 0} {a : A} → None ≡ Some a → ⊥
-          no_some e = cc
+      by_id None there e = let never : None ≡ Some (r, at) = sym (ap as_pointer local) ∙ e in none_some never
       by_id (Some (value v)) there e = cc
       by_id (Some (pointer q a)) there e = there ∙ same_target q r a at e
 
@@ -183,16 +178,10 @@ module _ (p : Program) (calls : Text → List Argument → State → Result (Opt
     )
       where
         first : (o : Option ℕ) (q : Option (List ℕ)) → before o q ≡ Some (j ∷ js) → o ≡ Some j
-        first o q e = let w = before_some o q (j ∷ js) e in w.2 ∙ ap (λ a. Some a) (sym (head j w.0 js w.1 w.4))
-          where
-            head : (x y : ℕ) (xs ys : List ℕ) → x ∷ xs ≡ y ∷ ys → x ≡ y
-            head x y xs ys e = cc
+        first o q e = let w = before_some o q (j ∷ js) e in w.2 ∙ ap (λ a. Some a) (sym (same_first j w.0 js w.1 w.4))
 
         rest : (o : Option ℕ) (q : Option (List ℕ)) → before o q ≡ Some (j ∷ js) → q ≡ Some js
-        rest o q e = let w = before_some o q (j ∷ js) e in w.3 ∙ ap (λ a. Some a) (sym (tail j w.0 js w.1 w.4))
-          where
-            tail : (x y : ℕ) (xs ys : List ℕ) → x ∷ xs ≡ y ∷ ys → xs ≡ ys
-            tail x y xs ys e = cc
+        rest o q e = let w = before_some o q (j ∷ js) e in w.3 ∙ ap (λ a. Some a) (sym (same_rest j w.0 js w.1 w.4))
 
   -- where the chains of the function stand in order
   module _ (whole : LendsWhole s) (rules : ChainsAreRight s) where

@@ -2,7 +2,7 @@
 use Rattle.std.proofs.Common.{◌≡◌, ◌<◌, ◌≤◌, ◌+◌, ◌==◌, ◌||◌, ◌&&◌, not, ℕ, Bool, true, false, List, [], ◌∷◌, length, take, drop, Option, Some, None, inl, inr, refl, sym, ap, subst, ◌∙◌, if◌then◌else◌, arith}
 use Rattle.std.specs.Prelude.{◌⊎◌, nat_le, is_some, option_map, option_and_then, Contains, slice_index}
 use Rattle.std.specs.Option.{option_map_or, option_or}
-use Rattle.std.specs.List.{list_any, list_all, zip, position_from}
+use Rattle.std.specs.List.{list_any, list_all, zip}
 use Rattle.std.proofs.lemmas.Bool.Decides.{eqb_tells}
 use Rattle.std.proofs.lemmas.Bool.{not-false}
 use Rattle.spv_words.specs.declared.rule.Rule.TheVariants.{M5}
@@ -37,11 +37,10 @@ use Rattle.profile_rules.specs.TypeForm.{is_other_pointer, is_other_function, is
 use Rattle.profile_rules.specs.ValueRules.{are_other_parts, are_other_members, misfit, is_other_count, is_misbuilt, breaks_t8_extract, breaks_t10, breaks_t11_extract, breaks_t11_insert, breaks_t12, is_elsewhere, is_value_elsewhere, part_of, walk, literal_step, match_before, match_at, do_match, do_parts_match, is_same_length, is_other_component, has_other_components, has_other_sizes}
 use Rattle.profile_rules.specs.NumberRules.{are_unlike_ints, breaks_t17, is_extended, is_no_bool_vector, is_no_condition}
 use Rattle.profile_rules.specs.FlowRules.{callee, function_type, is_miscalled, breaks_t21, every_second, is_from_elsewhere}
-use Rattle.profile_rules.specs.Entry.{function_of}
 use Rattle.profile_rules.specs.TypeRules.{is_value_broken, is_number_broken, is_flow_broken}
 use Rattle.profile_rules.specs.MemoryRules.{is_pointer, may_be_pointer_of, is_stray_pointer, breaks_m5}
 use Rattle.profile_rules.specs.AccessRules.{breaks, broken_in, broken_at}
-use Rattle.list_law.proofs.Options.{some_by}
+use Rattle.list_law.proofs.Options.{some_by, none_some}
 use Rattle.list_law.proofs.Numbers.{from_zero}
 use Rattle.list_law.proofs.Lists.{behind_one, empty_of, none_within}
 use Rattle.list_law.proofs.Tests.{second_by, not_both, or_left, or_right, and_off, clash}
@@ -68,6 +67,7 @@ use Rattle.typed_law.proofs.Others.{typed_some, contains_found, callee_is}
 use Rattle.typed_law.proofs.Whole.{is_typed}
 use Rattle.grammar_law.proofs.Ruled.Ruled.{parameter_of, class_there, pointer_by}
 use Rattle.grammar_law.proofs.Formed.Inner.{is_frame}
+use Rattle.grammar_law.proofs.Unit.CallTypes.{function_found}
 
 -- groups whose instructions have a type
 abbrev is_typed_group : OpGroup → Bool
@@ -212,10 +212,7 @@ shapeless_is code.TypeFunction on void pointer = refl
 shapeless_is o on void pointer = cc
 
 pub no_tree : (gs : List Inst) (g : Inst) (t : Tree) → is_shapeless g.op ≡ true → tree_at gs g ≡ Some t → ⊥
-no_tree gs g t on shape = never (ap (tree_by_kind gs (tree_before gs g.at) g) (sym (shapeless_kind g.op on)) ∙ shape)
-  where
-    never : None ≡ Some t → ⊥
-    never e = cc
+no_tree gs g t on shape = none_some (ap (tree_by_kind gs (tree_before gs g.at) g) (sym (shapeless_kind g.op on)) ∙ shape)
 
 -- a type that is no pointer has no storage class
 pub no_class : (gs : List Inst) (ty : ℕ) (g : Inst) → global gs ty ≡ Some g → is g.op code.TypePointer ≡ false → is_some (storage_class gs ty) ≡ false
@@ -243,16 +240,8 @@ no_match false false y z false false u v ea eq = refl
 no_match x a y z w q u v ea eq = cc
 
 -- a function that has a place is found by its id
-function_there : (fs : List Function) (id n : ℕ) → is_some (position_from (λ (f : Function). f.id.0 == id) n fs) ≡ true → (g : Function) × (function_of fs id ≡ Some g)
-function_there [] id n e = cc
-function_there (h ∷ fs) id n e = by_test (h.id.0 == id) e (function_there fs id (n + 1))
-  where
-    by_test : (b : Bool) → is_some (if b then Some n else position_from (λ (f : Function). f.id.0 == id) (n + 1) fs) ≡ true → (is_some (position_from (λ (f : Function). f.id.0 == id) (n + 1) fs) ≡ true → (g : Function) × (function_of fs id ≡ Some g)) → (g : Function) × ((if b then Some h else function_of fs id) ≡ Some g)
-    by_test true e later = (h, refl)
-    by_test false e later = later e
-
 found_callee : (fs : List Function) (id : ℕ) → is_some (function_in fs id) ≡ true → (g : Function) × Contains fs g × (callee fs id ≡ Some g)
-found_callee fs id e = let g = function_there fs id 0 e in (g.0, contains_found fs id g.0 g.1, callee_is fs id g.0 g.1)
+found_callee fs id e = let g = function_found fs id 0 e in (g.0, contains_found fs id g.0 g.1, callee_is fs id g.0 g.1)
 
 module _ (s : Setting) (entry : Option (List ℕ)) (right : IsConforming s.of entry) (chosen : ℕ → Option ℕ) (have : HasConstants s chosen) (f : Function) (in_it : Contains s.of.functions f) where
   abbrev Gs : List Inst

@@ -1,5 +1,5 @@
 -- The pairs of an edge are fewer than the operands of the function's instructions.
-use Rattle.std.proofs.Common.{◌≡◌, ◌<◌, ◌≤◌, ◌+◌, ◌^◌, ℕ, zero, suc, Bool, true, false, List, [], ◌∷◌, ◌++◌, length, map, filter, Option, Some, None, refl, subst, arith, if◌then◌else◌}
+use Rattle.std.proofs.Common.{◌≡◌, ◌<◌, ◌≤◌, ◌+◌, ◌^◌, ℕ, zero, suc, Bool, true, false, List, [], ◌∷◌, ◌++◌, length, map, filter, Option, Some, None, refl, subst, arith, if◌then◌else◌, length-append}
 use Rattle.std.specs.Prelude.{flat_map, slice_get}
 use Rattle.std.specs.Option.{option_map_or}
 use Rattle.spv_module.specs.declared.inst.Inst.{Inst}
@@ -9,24 +9,11 @@ use Rattle.spv_index.specs.Locals.{insts_of}
 use Rattle.hoist_plan.specs.declared.form.Form.{Form}
 use Rattle.phi_copies.specs.Sequence.{Pair}
 use Rattle.function_plan.specs.Phis.{is_live_phi, values_in, comes_from, pair_with, given_by, pairs_into, pairs}
-use Rattle.list_law.proofs.Numbers.{zero_first}
-use Rattle.accepted_law.proofs.Small.{args_in, args_append}
-
-length_joined : (xs ys : List Pair) → length (xs ++ ys) ≡ length xs + length ys
-length_joined [] ys = zero_first (length ys)
-length_joined (x ∷ xs) ys = let rest = length_joined xs ys in omega (arith, rest)
+use Rattle.accepted_law.proofs.Small.{args_in, args_append, filtered}
 
 mapped_few : (f : ℕ × ℕ → Pair) (xs : List (ℕ × ℕ)) → length (map f xs) ≤ length xs
 mapped_few f [] = omega arith
 mapped_few f (x ∷ xs) = let rest = mapped_few f xs in omega (arith, rest)
-
-kept_few : (test : ℕ × ℕ → Bool) (xs : List (ℕ × ℕ)) → length (filter test xs) ≤ length xs
-kept_few test [] = omega arith
-kept_few test (x ∷ xs) = by_test (test x) (kept_few test xs)
-  where
-    by_test : (b : Bool) → length (filter test xs) ≤ length xs → length (if b then x ∷ filter test xs else filter test xs) ≤ suc (length xs)
-    by_test true rest = omega (arith, rest)
-    by_test false rest = omega (arith, rest)
 
 values_few : (ws : List ℕ) → length (values_in ws) ≤ length ws
 values_few [] = omega arith
@@ -37,7 +24,7 @@ module _ (gs : List Inst) (form : ℕ → Form) (f : Function) (b : ℕ) where
   given_few : (i : Inst) → length (given_by gs f b i) ≤ length i.args
   given_few i =
       let mapped = mapped_few (pair_with gs i.result) (filter (comes_from f b) (values_in i.args)) in
-      let kept = kept_few (comes_from f b) (values_in i.args) in
+      let kept = filtered (comes_from f b) (values_in i.args) in
       let values = values_few i.args in
       omega (arith, mapped, kept, values)
 
@@ -47,7 +34,7 @@ module _ (gs : List Inst) (form : ℕ → Form) (f : Function) (b : ℕ) where
     where
       by_test : (c : Bool) → length (flat_map (given_by gs f b) (filter (is_live_phi form) is)) ≤ args_in is → length (flat_map (given_by gs f b) (if c then i ∷ filter (is_live_phi form) is else filter (is_live_phi form) is)) ≤ length i.args + args_in is
       by_test true rest =
-          let whole = length_joined (given_by gs f b i) (flat_map (given_by gs f b) (filter (is_live_phi form) is)) in
+          let whole = length-append (given_by gs f b i) (flat_map (given_by gs f b) (filter (is_live_phi form) is)) in
           let one = given_few i in
           omega (arith, whole, one, rest)
       by_test false rest = omega (arith, rest)

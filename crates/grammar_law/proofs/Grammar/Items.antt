@@ -22,6 +22,7 @@ use Rattle.text_rules.specs.Declarations.{Names, struct_decl, constant_decl, var
 use Rattle.text_rules.specs.Printed.{is_private, is_written_struct, is_written_variable, is_declared_constant}
 use Rattle.unit_rules.specs.Translation.{id_text}
 use Rattle.unit_rules.specs.Unit.{source_of, IsUnitOf}
+use Rattle.list_law.proofs.Tests.{off_on}
 use Rattle.claim_law.specs.Uses.{Words, UsesExpr}
 use Rattle.claim_law.specs.Units.{UseDecls}
 use Rattle.claim_law.specs.Blocks.{FitWords}
@@ -72,10 +73,7 @@ module _ (m : ModuleState) (entry : Option (List ℕ)) (right : IsConforming m e
     pub declared : (h : Inst) → IsIn h before → is_written_struct (source_of m o u.entry) (Written m entry right o unit u) h ≡ true → is_declared names (id_text (name_of u.claimed) h.result) ≡ true
 
   pub first_stands : Stands [] []
-  first_stands = record { structs = λ w on. absurd (never on); declared = λ h h_in on. absurd h_in }
-    where
-      never : false ≡ true → ⊥
-      never e = cc
+  first_stands = record { structs = λ w on. off_on on; declared = λ h h_in on. absurd h_in }
 
   module _ (words : (h : Inst) → IsIn h m.globals → FitWords h.args) (given : AreGivenWords o.overrides) (rows : (h : Inst) → IsIn h m.heads → FitWords h.args)
       (calculated : (g : Inst) → IsIn g m.globals → is_declared_constant (source_of m o u.entry) (Written m entry right o unit u) g ≡ true → constant_kind g.op ≡ kinds.Operation → (names : List (List ℕ)) → AreOfStructs m.globals (name_of u.claimed) names → AreDeclaredBefore m entry right o unit u names g.at → UsesExpr (words_of m.globals (name_of u.claimed) names) (Names_of.calculated g)) where

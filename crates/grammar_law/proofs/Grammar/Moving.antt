@@ -1,5 +1,5 @@
 -- Each move of an edge gives the target of a pair its source, or a spare its target or a target its spare, and the numbers of spares are below that of all spares.
-use Rattle.std.proofs.Common.{◌≡◌, ◌<◌, ◌≤◌, ◌+◌, ◌^◌, ◌==◌, ℕ, zero, suc, Bool, true, false, List, [], ◌∷◌, ◌++◌, reverse, filter, length, min, cond, Option, Some, None, inl, inr, refl, sym, ap, ◌∙◌, subst, arith, if◌then◌else◌}
+use Rattle.std.proofs.Common.{◌≡◌, ◌<◌, ◌≤◌, ◌+◌, ◌^◌, ◌==◌, ℕ, zero, suc, Bool, true, false, List, [], ◌∷◌, ◌++◌, reverse, filter, length, min, cond, Option, Some, None, inl, inr, refl, sym, ap, ◌∙◌, subst, arith}
 use Rattle.std.specs.Prelude.{◌⊎◌}
 use Rattle.std.proofs.lemmas.List.{reverse-append}
 use Rattle.std.proofs.lemmas.List.Kept.{AllPairs-filter}
@@ -18,6 +18,7 @@ use Rattle.function_plan.specs.Planned.{spares_in}
 use Rattle.function_plan.proofs.Firsts.{own_targets}
 use Rattle.list_law.proofs.Tests.{no_flip}
 use Rattle.claim_law.specs.Claimed.{IsIn}
+use Rattle.accepted_law.proofs.Small.{filtered}
 use Rattle.grammar_law.proofs.Unit.Lists.{of_filter}
 
 abbrev pub IsGivenFrom : List Pair → Var → Src → Type 0
@@ -172,14 +173,6 @@ once_few key seen (q ∷ ps) = by_seen (seen (key q)) (once_few key seen ps) (on
     by_seen true few later = omega (arith, few)
     by_seen false few later = omega (arith, later)
 
-filter_few : (test : Pair → Bool) (ps : List Pair) → length (filter test ps) ≤ length ps
-filter_few test [] = omega arith
-filter_few test (q ∷ ps) = by_test (test q) (filter_few test ps)
-  where
-    by_test : (b : Bool) → length (filter test ps) ≤ length ps → length (if b then q ∷ filter test ps else filter test ps) ≤ suc (length ps)
-    by_test true few = omega (arith, few)
-    by_test false few = omega (arith, few)
-
 below_both : (k s n : ℕ) → k < s → s ≤ n → n < 2 ^ 32 → k < min s 4294967295
 below_both k s n less few low = omega (arith, less, few, low)
 
@@ -200,7 +193,7 @@ edge_saves ps moves is =
     let own : HaveOwnTargets (filter is_proper (firsts ps)) = AllPairs-filter (λ (p : Pair) (q : Pair). target p ≡ target q → ⊥) is_proper (firsts ps) (own_targets ps) in
     let few : saves (reverse moves) ≤ length (filter is_proper (firsts ps)) = saves_few (filter is_proper (firsts ps)) (reverse moves) own is.next in
     let first_few : length (firsts ps) ≤ length ps = once_few target (λ n. false) ps in
-    let proper_few = filter_few is_proper (firsts ps) in
+    let proper_few = filtered is_proper (firsts ps) in
     let same = saves_reverse moves in
     omega (arith, few, first_few, proper_few, same)
 
@@ -211,7 +204,7 @@ edge_moves ps moves is low x there =
     let own : HaveOwnTargets qs = AllPairs-filter (λ (p : Pair) (q : Pair). target p ≡ target q → ⊥) is_proper (firsts ps) (own_targets ps) in
     let few : saves (reverse moves) ≤ length qs = saves_few qs (reverse moves) own is.next in
     let first_few : length (firsts ps) ≤ length ps = once_few target (λ n. false) ps in
-    let proper_few : length qs ≤ length (firsts ps) = filter_few is_proper (firsts ps) in
+    let proper_few : length qs ≤ length (firsts ps) = filtered is_proper (firsts ps) in
     let less : length qs < 2 ^ 32 = omega (arith, low, first_few, proper_few) in
     subst (λ (n : ℕ). IsMoveOf ps (min n 4294967295) x) (saves_reverse moves)
     (whole_move qs ps (min (saves (reverse moves)) 4294967295) x (λ p p_in. of_once target (λ n. false) ps p (of_filter is_proper (firsts ps) p p_in).0)

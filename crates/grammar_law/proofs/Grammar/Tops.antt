@@ -150,6 +150,12 @@ pointee_among gs test (j ∷ is) v q (inr there) on passed at = by_option (point
     by_option None e = e
     by_option (Some y) e = by_second (y == q) (is_among (filter_map (pointee_by gs test) is) q) e
 
+pub hoisted_is : (x : Form) → is_hoisted x ≡ true → x ≡ Hoisted
+hoisted_is Hoisted on = refl
+hoisted_is Gone on = cc
+hoisted_is Forwarded on = cc
+hoisted_is Local on = cc
+
 module _ (s : Setting) (entry : Option (List ℕ)) (right : IsConforming s.of entry) (kinds : HaveKinds s.of.globals) (o : Options) (unit : TranslationUnit) (u : IsUnitOf s.of o unit) (p : FunctionPlan) (among : IsIn p u.plans) (names : List (List ℕ)) (structs : AreOfStructs s.of.globals (name_of u.claimed) names)
     (declared : (g : Inst) → IsIn g s.of.globals → is_written_struct (source_of s.of o u.entry) (Written s.of o unit u) g ≡ true → is_declared names (id_text (name_of u.claimed) g.result) ≡ true)
     (words : (g : Inst) → IsIn g s.of.globals → FitWords g.args) (given : AreGivenWords o.overrides) where
@@ -379,17 +385,13 @@ module _ (s : Setting) (entry : Option (List ℕ)) (right : IsConforming s.of en
           let on = of_filter is_variable b.0.insts i.0 i.1 in
           subst (UsesStmt W) i.2 (variable_made c.0 b.0 i.0 c.1 on.0 on.1 (variables c.0 b.0 i.0 c.1 on.0 on.1))
 
-      hoisted_form : (y : Form) → is_hoisted y ≡ true → y ≡ Hoisted
-      hoisted_form Hoisted on = refl
-      hoisted_form y on = cc
-
       by_hoisted : (x : Stmt) → IsIn x (in_blocks (hoisted_texts Where) Fn.blocks) → UsesStmt W x
       by_hoisted x x_in =
           let b = of_flat (λ (y : Block). hoisted_texts Where y.insts) Fn.blocks x x_in in
           let c = at_some Fn.blocks b.0 b.1 in
           let i = of_mapped (hoisted_text Where) (filter (is_hoisted_in Where) b.0.insts) x b.2 in
           let on = of_filter (is_hoisted_in Where) b.0.insts i.0 i.1 in
-          let top = hoisted_form (Where.form i.0.result) on.1 in
+          let top = hoisted_is (Where.form i.0.result) on.1 in
           subst (UsesStmt W) i.2 (hoisted_made c.0 b.0 i.0 c.1 on.0 top (λ lacks. hoisted_some i.0.result top lacks))
 
       by_captured : (x : Stmt) → IsIn x (in_blocks (captured_texts Where) Fn.blocks) → UsesStmt W x

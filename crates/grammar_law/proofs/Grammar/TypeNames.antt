@@ -121,7 +121,4 @@ module _ (m : ModuleState) (entry : Option (List ℕ)) (right : IsConforming m e
 
   -- of scalars and vectors
   pub flat_has : (ty : ℕ) → is_composite m.globals ty ≡ false → (g : Inst) (t : Tree) → global m.globals ty ≡ Some g → type_tree m.globals ty ≡ Some t → HasNames m o unit u t
-  flat_has ty off g t at shaped n there = absurd (never (sym there ∙ tree_flat m.globals g (sym (ap (λ (q : Option Inst). option_map_or (λ (x : Inst). is_composite_type x.op) q false) at) ∙ off) n t (sym (ap (λ (q : Option Inst). option_map_or (tree_at m.globals) q None) at) ∙ shaped)))
-    where
-      never : true ≡ false → ⊥
-      never e = cc
+  flat_has ty off g t at shaped n there = clash (sym there ∙ tree_flat m.globals g (sym (ap (λ (q : Option Inst). option_map_or (λ (x : Inst). is_composite_type x.op) q false) at) ∙ off) n t (sym (ap (λ (q : Option Inst). option_map_or (tree_at m.globals) q None) at) ∙ shaped))

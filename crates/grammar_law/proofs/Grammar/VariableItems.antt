@@ -42,6 +42,7 @@ use Rattle.unit_rules.specs.Unit.{source_of, IsUnitOf}
 use Rattle.list_law.proofs.Numbers.{same_number, less_is}
 use Rattle.list_law.proofs.Lists.{second_at}
 use Rattle.list_law.proofs.Tests.{common}
+use Rattle.list_law.proofs.Options.{none_some}
 use Rattle.claim_law.specs.Uses.{Words, UsesType, UsesExpr}
 use Rattle.claim_law.specs.Units.{UsesDecl, UseDecls}
 use Rattle.claim_law.specs.Blocks.{FitWords}
@@ -111,12 +112,9 @@ class_of_block false a b c on = cc
 shaped_type : (gs : List Inst) (h : Inst) (t : Tree) → tree_at gs h ≡ Some t → is_type h ≡ true
 shaped_type gs h t shaped = by_test (is_type h) refl
   where
-    no_some : None ≡ Some t → ⊥
-    no_some e = cc
-
     by_test : (b : Bool) → is_type h ≡ b → b ≡ true
     by_test true on = refl
-    by_test false off = absurd (no_some (sym (ap (tree_by_kind gs (tree_before gs h.at) h) (kind_type h.op off)) ∙ shaped))
+    by_test false off = none_some (sym (ap (tree_by_kind gs (tree_before gs h.at) h) (kind_type h.op off)) ∙ shaped)
 
 module _ (m : ModuleState) (entry : Option (List ℕ)) (right : IsConforming m entry) (o : Options) (unit : TranslationUnit) (u : IsUnitOf m o unit) (v : Inst) (there : IsIn v m.globals) (written : is_written_variable (Written m entry right o unit u) v ≡ true) where
   abbrev Names_of : Names

@@ -33,6 +33,7 @@ use Rattle.profile_rules.specs.ValueRules.{walk, nth_member, member_by, chain_pa
 use Rattle.profile_rules.specs.TypeRules.{is_value_broken}
 use Rattle.access_paths.specs.Ways.{base, indexes, path}
 use Rattle.module_semantics.specs.Setting.{Setting}
+use Rattle.list_law.proofs.Tests.{clash}
 use Rattle.plan_law.specs.InOrder.{IsAmong}
 use Rattle.fits_law.specs.Takes.{nth_of}
 use Rattle.type_law.proofs.Rows.{by_kind, vector_parts}
@@ -285,12 +286,9 @@ module _ (s : Setting) (entry : Option (List ℕ)) (right : IsConforming s.of en
       let g = local_row s entry right f in_it i there (typed_some s entry right f in_it i there has) in
       by_end q t from target.3 own g (chain_end R T i) refl reached parts.2 (all_typed i.args (typed_ids i there on))
     where
-      never : true ≡ false → ⊥
-      never e = cc
-
       by_end : (q : ℕ) (t : Tree) → option_and_then (pointee R) (T (word i 0)) ≡ Some q → type_tree R q ≡ Some t → T i.result ≡ Some i.ty → (g : Inst) × (global R i.ty ≡ Some g) × (suits (type_need i.op) g ≡ true)
           → (r : Reached) → chain_end R T i ≡ r → chain_end R T i ≡ walk (chain_step R T) (Part q) (drop 1 i.args) → leads_elsewhere R i.ty (option_and_then (storage_class R) (T (word i 0))) (chain_end R T i) ≡ false → AllTyped s f (drop 1 i.args) → room_at i.result + length (indexes i) ≤ room_at (base i)
-      by_end q t from whole own g Nothing is reached off typed = absurd (never (ap (leads_elsewhere R i.ty (option_and_then (storage_class R) (T (word i 0)))) (sym is) ∙ off))
+      by_end q t from whole own g Nothing is reached off typed = clash (ap (leads_elsewhere R i.ty (option_and_then (storage_class R) (T (word i 0)))) (sym is) ∙ off)
       by_end q t from whole own g Unknown is reached off typed = absurd (walk-known s f (drop 1 i.args) q t whole typed (sym reached ∙ is))
       by_end q t from whole own g (Part c) is reached off typed =
           let down = walk-down s f (drop 1 i.args) q t c whole (sym reached ∙ is) in

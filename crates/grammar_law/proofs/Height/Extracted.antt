@@ -27,7 +27,7 @@ use Rattle.profile_rules.specs.TypeRules.{is_value_broken}
 use Rattle.module_semantics.specs.Setting.{Setting}
 use Rattle.op_semantics.specs.Fits.{elem_tree}
 use Rattle.list_law.proofs.Options.{some_part}
-use Rattle.list_law.proofs.Tests.{or_left, or_right}
+use Rattle.list_law.proofs.Tests.{or_left, or_right, clash}
 use Rattle.plan_law.specs.InOrder.{IsAmong}
 use Rattle.fits_law.specs.Takes.{part_shape, shape_at}
 use Rattle.type_law.proofs.Parts.{walk_leads}
@@ -116,12 +116,9 @@ module _ (s : Setting) (entry : Option (List ℕ)) (right : IsConforming s.of en
       typed_value s entry right f in_it i.at (word i 0)
       (subst (λ n. is_there_in s.of f i.at n (word i 0) ≡ true) (extract_need i.op on) (operand_there (is_there_in s.of f i.at) i ((inside s entry right f in_it).order.there i there) 0 (omega (arith, many)) (extract_id i.op i.args on))) in
       let leads : walk (literal_step R) (Part w.0) (drop 1 i.args) ≡ Nothing → ⊥ = λ none.
-      never (ap (is_elsewhere R i.ty) (sym none) ∙ (ap (λ o. is_elsewhere R i.ty (part_of R o (drop 1 i.args))) (sym w.1) ∙ elsewhere)) in
+      clash (ap (is_elsewhere R i.ty) (sym none) ∙ (ap (λ o. is_elsewhere R i.ty (part_of R o (drop 1 i.args))) (sym w.1) ∙ elsewhere)) in
       by_literals (drop 1 i.args) w leads
     where
-      never : true ≡ false → ⊥
-      never e = cc
-
       by_literals : (ks : List ℕ) (w : HasType s entry right f in_it (word i 0)) → (walk (literal_step R) (Part w.0) ks ≡ Nothing → ⊥) → length ks ≤ 16
       by_literals [] w leads = omega arith
       by_literals (k ∷ ks) w leads =

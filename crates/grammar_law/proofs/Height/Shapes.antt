@@ -14,6 +14,7 @@ use Rattle.spv_types.specs.Tree.{Tree, boolean, int, uint, vector, array, runtim
 use Rattle.spv_types.specs.Types.{kind, ids_by_kind, below, deepest as deepest_id, depth_step, depth_before, depth_at, depth as depth_of, if_earlier, parts_at, elem_of, sized_vector, vector_tree, length_by, array_tree, both, all_trees, tree_by_kind, tree_step, tree_before, tree_at, type_tree}
 use Rattle.spv_types.specs.Limits.{AreWithin}
 use Rattle.spv_types.proofs.Below.{tree_before_is}
+use Rattle.list_law.proofs.Options.{none_some}
 use Rattle.vec_lowering.specs.Depth.{depth, deepest}
 
 same-depth : (t u : Tree) (n : ℕ) → Some t ≡ Some u → depth t ≤ n → depth u ≤ n
@@ -54,10 +55,7 @@ module _ (f : ℕ → Option Tree) (d : ℕ → ℕ) (each : (id : ℕ) (t : Tre
         by_part (Some u) is (Some l) e = let one = each id u is in same-depth (array u l) t (1 + deepest_id d (id ∷ [])) e (omega (arith, one))
 
     runtime-le : (args : List ℕ) (t : Tree) → option_map runtime (f (slice_index args 0)) ≡ Some t → depth t ≤ 1 + deepest_id d (take 1 args)
-    runtime-le [] t e = absurd (never (ap (λ (o : Option Tree). option_map runtime o) (sym none) ∙ e))
-      where
-        never : None ≡ Some t → ⊥
-        never e = cc
+    runtime-le [] t e = none_some (ap (λ (o : Option Tree). option_map runtime o) (sym none) ∙ e)
     runtime-le (id ∷ args) t e = by_part (f id) refl e
       where
         by_part : (o : Option Tree) → f id ≡ o → option_map runtime o ≡ Some t → depth t ≤ 1 + deepest_id d (id ∷ [])

@@ -21,6 +21,8 @@ use Rattle.spv_types.specs.Types.{elem_of, tree_at, type_tree}
 use Rattle.spv_index.specs.Locals.{insts_of, inst_in, type_in}
 use Rattle.spv_index.specs.Pointers.{pointee_of}
 use Rattle.conformance.specs.Rules.{Options}
+use Rattle.list_law.proofs.Tests.{clash}
+use Rattle.list_law.proofs.Options.{none_some}
 use Rattle.plan_law.specs.InOrder.{IsAmong}
 use Rattle.module_semantics.specs.Setting.{Setting}
 use Rattle.use_chains.specs.Slots.{inst_at, IsLive}
@@ -181,10 +183,7 @@ other_of kind.Other on = refl
 other_of k on = cc
 
 no_other_of : (k : OperationKind) → is_other k ≡ false → k ≡ kind.Other → ⊥
-no_other_of k off same = never (sym (ap is_other same) ∙ off)
-  where
-    never : true ≡ false → ⊥
-    never e = cc
+no_other_of k off same = clash (sym (ap is_other same) ∙ off)
 
 module _ (s : Setting) (entry : Option (List ℕ)) (right : IsConforming s.of entry) (kinds : HaveKinds s.of.globals) (o : Options) (unit : TranslationUnit) (u : IsUnitOf s.of o unit) (p : FunctionPlan) (among : IsIn p u.plans) (names : List (List ℕ)) (structs : AreOfStructs s.of.globals (name_of u.claimed) names) where
   abbrev Gs : List Inst
@@ -285,10 +284,7 @@ module _ (s : Setting) (entry : Option (List ℕ)) (right : IsConforming s.of en
       forwarded_meets v shaped form = by_other (is_other (operation_kind_of i.op)) refl
         where
           some : i.ty ≡ 0 → ⊥
-          some lacks = never (sym (ap (λ q. option_map_or (tree_at Gs) q None) right.results.none) ∙ (ap (type_tree Gs) (sym lacks) ∙ shaped))
-            where
-              never : None ≡ Some v → ⊥
-              never e = cc
+          some lacks = none_some (sym (ap (λ q. option_map_or (tree_at Gs) q None) right.results.none) ∙ (ap (type_tree Gs) (sym lacks) ∙ shaped))
 
           typed : has_type i.op ≡ true
           typed = has_a_type i ((inside s entry right Fn in_it).formed i stands) some
@@ -320,11 +316,8 @@ module _ (s : Setting) (entry : Option (List ℕ)) (right : IsConforming s.of en
     no_struct : (n : ℕ) → Usable b n → is_struct_key Gs (Id (id n)) ≡ false
     no_struct n v = by_type (type_in Gs Fn n) refl v.shaped
       where
-        never : None ≡ Some v.shape → ⊥
-        never e = cc
-
         by_type : (q : Option ℕ) → type_in Gs Fn n ≡ q → type_tree Gs (unwrap_or q 0) ≡ Some v.shape → is_struct_key Gs (Id (id n)) ≡ false
-        by_type None told shaped = absurd (never (sym (ap (λ x. option_map_or (tree_at Gs) x None) right.results.none) ∙ shaped))
+        by_type None told shaped = none_some (sym (ap (λ x. option_map_or (tree_at Gs) x None) right.results.none) ∙ shaped)
         by_type (Some ty) told shaped = value_other s entry right kinds o unit u p among names structs n ty told
 
     word_fits : (n : ℕ) → FitsIfSome (word_at Where.setting n)

@@ -1,5 +1,5 @@
 -- What a live call asks for: its arguments are places that are written of declared words, or values of the block (T21).
-use Rattle.std.proofs.Common.{◌≡◌, ◌<◌, ◌+◌, ◌==◌, ◌&&◌, ◌||◌, not, ℕ, zero, suc, Bool, true, false, List, [], ◌∷◌, length, drop, Contains, Option, Some, None, refl, sym, ap, ◌∙◌, subst, arith, if◌then◌else◌}
+use Rattle.std.proofs.Common.{◌≡◌, ◌<◌, ◌+◌, ◌==◌, ◌&&◌, ◌||◌, not, ℕ, suc, Bool, true, false, List, [], ◌∷◌, length, drop, Contains, Option, Some, None, refl, sym, ap, ◌∙◌, subst, arith, if◌then◌else◌}
 use Rattle.std.specs.Prelude.{is_some, option_map, slice_get, slice_index, option_and_then}
 use Rattle.std.specs.Option.{option_map_or}
 use Rattle.std.specs.List.{list_any, zip}
@@ -30,6 +30,7 @@ use Rattle.profile_rules.specs.TypeForm.{is_no_variable, is_other_parameter, is_
 use Rattle.profile_rules.specs.ValueRules.{are_other_members}
 use Rattle.conformance.specs.Rules.{Options}
 use Rattle.list_law.proofs.Lists.{behind_first, index_get}
+use Rattle.list_law.proofs.Options.{none_some}
 use Rattle.plan_law.specs.InOrder.{IsAmong}
 use Rattle.module_semantics.specs.Setting.{Setting}
 use Rattle.use_chains.specs.Slots.{is_value, is_taken, is_label_reached}
@@ -57,10 +58,11 @@ use Rattle.typed_law.proofs.Values.{same_count, IsRow, HasType, same_type, typed
 use Rattle.typed_law.proofs.Others.{typed_some}
 use Rattle.claim_law.specs.Claimed.{IsIn}
 use Rattle.claim_law.proofs.Claim.Listed.{in_flat, at_place}
+use Rattle.function_law.proofs.CaseGroups.{placed_below}
 use Rattle.grammar_law.specs.Mentioned.{IsMentioned, IsValueIn}
 use Rattle.grammar_law.specs.Words.{words_of, AreOfStructs}
 use Rattle.grammar_law.specs.Types.{IsLengthOf}
-use Rattle.grammar_law.proofs.Unit.Lists.{as_among}
+use Rattle.grammar_law.proofs.Unit.Lists.{as_among, each_behind}
 use Rattle.grammar_law.proofs.Unit.Forms.{placed}
 use Rattle.grammar_law.proofs.Unit.Ways.{HaveKinds, F, R, V, plan_is, in_module}
 use Rattle.grammar_law.proofs.Unit.Structs.{Written}
@@ -89,21 +91,12 @@ unfolding number
 call_no_phi code.FunctionCall on = refl
 call_no_phi o on = cc
 
-pub inside_list : (xs : List ℕ) (k n : ℕ) → slice_get xs k ≡ Some n → k < length xs
-inside_list [] k n at = cc
-inside_list (x ∷ xs) zero n at = omega arith
-inside_list (x ∷ xs) (suc k) n at = let less = inside_list xs k n at in omega (arith, less)
-
 pub value_no_void : (gs : List Inst) (ty : ℕ) (g : Inst) → global gs ty ≡ Some g → plan.is_value gs ty ≡ true → is g.op code.TypeVoid ≡ false
 value_no_void gs ty g at value = by_void (is g.op code.TypeVoid) (is g.op code.TypePointer) (sym (ap (λ (q : Option Inst). not (option_map_or (λ (x : Inst). is x.op code.TypeVoid) q false || option_map_or (λ (x : Inst). is x.op code.TypePointer) q false)) at) ∙ value)
   where
     by_void : (a b : Bool) → not (a || b) ≡ true → a ≡ false
     by_void false b on = refl
     by_void true b on = cc
-
-dropped_row : (P : ℕ → Type 0) (args : List ℕ) → ((k : ℕ) → k < length args → P (slice_index args k)) → (k : ℕ) → k < length (drop 1 args) → P (slice_index (drop 1 args) k)
-dropped_row P [] each k less = absurd (omega (arith, less))
-dropped_row P (a ∷ args) each k less = each (suc k) (let more : suc k < suc (length args) = omega (arith, less) in more)
 
 module _ (s : Setting) (entry : Option (List ℕ)) (right : IsConforming s.of entry) (kinds : HaveKinds s.of.globals) (o : Options) (unit : TranslationUnit) (u : IsUnitOf s.of o unit) (p : FunctionPlan) (among : IsIn p u.plans) (names : List (List ℕ)) (structs : AreOfStructs s.of.globals (name_of u.claimed) names) where
   abbrev Gs : List Inst
@@ -155,11 +148,8 @@ module _ (s : Setting) (entry : Option (List ℕ)) (right : IsConforming s.of en
           let w = pointee_shaped s.of entry right ty row.0 row.1 on_pointer in
           let same : w.0 ≡ q = same_Some w.0 q (sym w.2 ∙ (sym (ap (option_and_then (pointee Gs)) typed) ∙ points)) in
           place_uses s entry right Fn o unit u names Where.setting.global b n (pointer b n i m (call_no_phi i.op on) q w.1 points (ap (type_tree Gs) (sym same) ∙ w.3))
-      by_place q points false off = absurd (never (sym (ap (option_map (λ (x : Inst). slice_index x.args 1)) is_pointer) ∙ (sym (ap (option_and_then (pointee Gs)) typed) ∙ points)))
+      by_place q points false off = none_some (sym (ap (option_map (λ (x : Inst). slice_index x.args 1)) is_pointer) ∙ (sym (ap (option_and_then (pointee Gs)) typed) ∙ points))
         where
-          never : None ≡ Some q → ⊥
-          never e = cc
-
           is_pointer : option_and_then as_pointer (global Gs ty) ≡ None
           is_pointer = ap (option_and_then as_pointer) row.1 ∙ ap (λ (x : Bool). if x then Some row.0 else None) off
 
@@ -202,7 +192,7 @@ module _ (s : Setting) (entry : Option (List ℕ)) (right : IsConforming s.of en
     passed : (k n : ℕ) → slice_get (drop 1 i.args) k ≡ Some n → IsPassed n
     passed k n at =
         let arg = behind_first i.args k n at in
-        let less = inside_list i.args (suc k) n arg in
+        let less = placed_below i.args (suc k) n arg in
         record {
           mentioned = record {
             place = r.place;
@@ -223,7 +213,7 @@ module _ (s : Setting) (entry : Option (List ℕ)) (right : IsConforming s.of en
         let members = or_right (differ Gs (word D 0) i.ty) (are_other_members Gs T (drop 1 D.args) (drop 1 i.args)) (right_call s entry right Fn in_it i stands on) in
         let few = not (length (drop 1 i.args) == length (drop 1 D.args)) in
         let others = list_any (λ (q : ℕ × ℕ). is_other Gs T q.0 q.1) (zip (drop 1 D.args) (drop 1 i.args)) in
-        arguments_ask (drop 1 D.args) (drop 1 i.args) (same_count (length (drop 1 i.args)) (length (drop 1 D.args)) (or_left few others members)) (dropped_row (IsRow s entry right) D.args (type_named s entry right Fn in_it i stands on))
+        arguments_ask (drop 1 D.args) (drop 1 i.args) (same_count (length (drop 1 i.args)) (length (drop 1 D.args)) (or_left few others members)) (each_behind (IsRow s entry right) D.args (type_named s entry right Fn in_it i stands on))
         (or_right (is_other_result s.of.heads Gs (word D 0)) (list_any (is_other_parameter s.of.heads Gs) (drop 1 D.args)) (right_type s entry right Fn in_it i stands on)) passed (or_right few others members)
 
     -- the result: nothing, or a value

@@ -39,6 +39,7 @@ use Rattle.expr_forward.specs.Statements.{callee_text}
 use Rattle.function_text.specs.Functions.{FunctionPlan}
 use Rattle.unit_rules.specs.Translation.{id_text}
 use Rattle.unit_rules.specs.Unit.{source_of, IsUnitOf}
+use Rattle.list_law.proofs.Tests.{clash}
 use Rattle.claim_law.specs.Uses.{Words, UsesExpr, UsesExtent}
 use Rattle.typed_law.specs.Conforms.{IsConforming}
 use Rattle.typed_law.proofs.Calls.{variable_typed}
@@ -122,18 +123,9 @@ module _ (s : Setting) (entry : Option (List ℕ)) (right : IsConforming s.of en
   -- what has a value gives one
   given_shape : (i : Inst) → is_shaped_kind (kind_of i.op) ≡ true → Gives s entry right kinds Fn in_it (λ j there. inner j (as_in (insts_of Fn) j there)) i → IsShaped s entry right i.ty
   given_shape i on (of_shape v) = v
-  given_shape i on (of_pointer w pointer (inl chain)) = absurd (never (sym on ∙ chain_kind i.op chain))
-    where
-      never : true ≡ false → ⊥
-      never e = cc
-  given_shape i on (of_pointer w pointer (inr variable)) = absurd (never (sym on ∙ variable_kind i.op variable))
-    where
-      never : true ≡ false → ⊥
-      never e = cc
-  given_shape i on (of_call w void call) = absurd (never (sym on ∙ call_kind i.op call))
-    where
-      never : true ≡ false → ⊥
-      never e = cc
+  given_shape i on (of_pointer w pointer (inl chain)) = clash (sym on ∙ chain_kind i.op chain)
+  given_shape i on (of_pointer w pointer (inr variable)) = clash (sym on ∙ variable_kind i.op variable)
+  given_shape i on (of_call w void call) = clash (sym on ∙ call_kind i.op call)
 
   -- what gives a pointer gives no value
   no_value : (i : Inst) → IsIn i (insts_of Fn) → (is_chain i.op ≡ true) ⊎ (is i.op code.Variable ≡ true) → (v : Tree) → type_tree Gs i.ty ≡ Some v → ⊥

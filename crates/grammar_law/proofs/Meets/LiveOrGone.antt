@@ -170,10 +170,7 @@ module _ (s : Setting) (entry : Option (List ℕ)) (right : IsConforming s.of en
           ∙ or_right (not (is_pure i.op)) (nat_lt 0 (length (mentions_of links i.result))) (subst (λ (k : ℕ). nat_lt 0 (length (mentions_of links k)) ≡ true) (sym same) (some_length (mentions_of links m.id) m.place (linked m m_in (user_live q is_it user))))
         where
           user_live : (q : Option Inst) → inst_at Fn m.place.block m.place.inst ≡ q → option_map_or (λ (j : Inst). is_live (placed links m.place.block j)) (inst_at Fn m.place.block m.place.inst) false ≡ true → IsLive Fn Marks m.place.block m.place.inst
-          user_live None is_it user = absurd (never (sym user ∙ ap (λ (x : Option Inst). option_map_or (λ (j : Inst). is_live (placed links m.place.block j)) x false) is_it))
-            where
-              never : true ≡ false → ⊥
-              never e = cc
+          user_live None is_it user = clash (sym user ∙ ap (λ (x : Option Inst). option_map_or (λ (j : Inst). is_live (placed links m.place.block j)) x false) is_it)
           user_live (Some j) is_it user = placed_live m.place.block m.place.inst j is_it (sym (ap (λ (x : Option Inst). option_map_or (λ (k : Inst). is_live (placed links m.place.block k)) x false) is_it) ∙ user)
 
   pub live_placed : (b n : ℕ) (i : Inst) → inst_at Fn b n ≡ Some i → IsLive Fn Marks b n → is_live (placed links b i) ≡ true

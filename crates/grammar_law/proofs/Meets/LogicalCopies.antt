@@ -1,5 +1,5 @@
 -- What OpCopyLogical asks for: the names of structs and members of both types, part by part (T12).
-use Rattle.std.proofs.Common.{◌≡◌, ◌+◌, ◌==◌, ℕ, zero, suc, true, List, [], Option, Some, None, unwrap_or, inl, refl, sym, ap, ◌∙◌, subst, arith}
+use Rattle.std.proofs.Common.{◌≡◌, ◌+◌, ◌==◌, ℕ, zero, suc, true, List, Option, Some, inl, sym, ap, ◌∙◌, subst, arith}
 use Rattle.std.specs.Prelude.{slice_get, slice_index}
 use Rattle.std.proofs.lemmas.Bool.{or_left, or_right}
 use Rattle.std.proofs.lemmas.Option.{same_Some}
@@ -14,12 +14,12 @@ use Rattle.conformance.specs.Rules.{Options}
 use Rattle.module_semantics.specs.Setting.{Setting}
 use Rattle.name_alloc.specs.declared.claims.Key.TheVariants.{Id, Member}
 use Rattle.name_alloc.specs.Naming.{name_of}
-use Rattle.glsl_ast.specs.Tree.{Text, TranslationUnit}
+use Rattle.glsl_ast.specs.Tree.{TranslationUnit}
 use Rattle.glsl_grammar.specs.Read.{is_declared}
 use Rattle.glsl_grammar.specs.Spelled.{FitsWord}
 use Rattle.text_rules.specs.Printed.{has_struct, have_struct, is_written_struct}
 use Rattle.text_rules.specs.Declarations.{length_extent}
-use Rattle.vec_lowering.specs.Named.{text_or_none, id_name, member_name}
+use Rattle.vec_lowering.specs.Named.{id_name, member_name}
 use Rattle.vec_lowering.specs.Composite.{nth_or}
 use Rattle.unit_rules.specs.Translation.{Naming, id_text}
 use Rattle.unit_rules.specs.Unit.{source_of, IsUnitOf}
@@ -30,16 +30,13 @@ use Rattle.typed_law.specs.Conforms.{IsConforming}
 use Rattle.typed_law.proofs.Used.{global_found}
 use Rattle.claim_law.specs.Claimed.{IsIn, HasName}
 use Rattle.claim_law.proofs.Claim.Told.{named_is}
+use Rattle.global_law.proofs.Constant.Calculated.{text_same}
 use Rattle.grammar_law.specs.Words.{words_of}
 use Rattle.grammar_law.specs.Types.{IsLengthOf, IsStructOf, IsOfTypes, AreOfTypes}
 use Rattle.grammar_law.proofs.Unit.Lists.{as_among}
 use Rattle.grammar_law.proofs.Unit.Structs.{Written, IsWrittenStruct, HasNames, structs_named, part_named}
 use Rattle.grammar_law.proofs.Unit.Types.{own_struct}
 use Rattle.grammar_law.proofs.Unit.Parts.{nth_arg}
-
-same_text : (q : Option Text) → text_or_none q ≡ unwrap_or q []
-same_text None = refl
-same_text (Some w) = refl
 
 nth_same : (ts : Trees) (k : ℕ) (v : Tree) → nth_of ts k ≡ Some v → nth_or ts k boolean ≡ v
 nth_same no_trees k v at = cc
@@ -66,7 +63,7 @@ module _ (s : Setting) (entry : Option (List ℕ)) (right : IsConforming s.of en
   AllHere ts = (n : ℕ) → have_struct n ts ≡ true → IsWrittenStruct s.of o unit u n
 
   struct_name : (n : ℕ) (ts : Trees) → Here (struct n ts) → W.struct (id_name Found n)
-  struct_name n ts has = subst W.struct (sym (same_text (Found (Id (id n))))) (structs_named s.of o unit u names declared lengths (struct n ts) has n (own_struct n ts))
+  struct_name n ts has = subst W.struct (sym (text_same (Found (Id (id n))))) (structs_named s.of o unit u names declared lengths (struct n ts) has n (own_struct n ts))
 
   length_fits : (n : ℕ) → IsLengthOf Gs (Fixed n) → FitsWord n
   length_fits n of_it = lengths (Fixed n) of_it
@@ -88,7 +85,7 @@ module _ (s : Setting) (entry : Option (List ℕ)) (right : IsConforming s.of en
       let arg = (nth_arg (tree_before Gs own.ty.at) own.ty.args ts k v own.parts at).0 in
       let same : has.ty ≡ own.ty = same_Some has.ty own.ty (sym (global_found s.of entry right has.ty (as_among Gs has.ty has.among)) ∙ (ap (global Gs) (has.result ∙ sym own.result) ∙ global_found s.of entry right own.ty (as_among Gs own.ty own.among))) in
       let named : HasName Found (Member (id n) k) = subst (λ (m : ℕ). HasName Found (Member (id m) k)) has.result (part_named s.of o unit u has.ty k (slice_index own.ty.args k) has.among has.is_struct has.written (subst (λ (g : Inst). slice_get g.args k ≡ Some (slice_index own.ty.args k)) (sym same) arg)) in
-      subst W.member (sym (same_text (Found (Member (id n) k)))) (inl (Member (id n) k, named_is Found (Member (id n) k) named))
+      subst W.member (sym (text_same (Found (Member (id n) k)))) (inl (Member (id n) k, named_is Found (Member (id n) k) named))
 
   mutual
     pub can_copy : (t v : Tree) → Alike t v → IsOfTypes Gs t → IsOfTypes Gs v → Here t → Here v → CanCopy W Found t v

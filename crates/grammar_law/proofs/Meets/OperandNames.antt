@@ -27,6 +27,7 @@ use Rattle.profile_rules.specs.TypeForm.{parts_of, pointees, signature, value_ty
 use Rattle.conformance.specs.Rules.{Options}
 use Rattle.list_law.proofs.Numbers.{number_same}
 use Rattle.list_law.proofs.Tests.{off_on}
+use Rattle.list_law.proofs.Options.{none_some}
 use Rattle.plan_law.proofs.Order.{among_left as insts_left}
 use Rattle.module_semantics.specs.Setting.{Setting}
 use Rattle.hoist_plan.specs.declared.form.Form.TheVariants.{Forwarded, Local}
@@ -198,9 +199,6 @@ module _ (s : Setting) (entry : Option (List ℕ)) (right : IsConforming s.of en
     pub operand_names : (b n : ℕ) (v : Tree) → IsValueIn Where Marks b n → type_tree Gs (type_of Where n) ≡ Some v → Here v
     operand_names b n v value shaped = by_type (type_in Gs Fn n) refl shaped
       where
-        none_some : None ≡ Some v → ⊥
-        none_some e = cc
-
         by_constant : (g : Inst) → IsIn g Gs → global Gs n ≡ Some g → is_constant_op g.op ≡ true → type_tree Gs g.ty ≡ Some v → Here v
         by_constant g there held constant at = elim (constants n g (mentioned b n value.user value.mentioned) held constant v at) [
           | inl written_so ↦ constant_names g there constant written_so v at
@@ -236,5 +234,5 @@ module _ (s : Setting) (entry : Option (List ℕ)) (right : IsConforming s.of en
             by_kind g.0 there.0 g.1 own.1 (ap (type_tree Gs) (own.0 ∙ same_Some y ty is_it) ∙ at) (kinds_of g.0 there.0 own.1)
 
         by_type : (x : Option ℕ) → type_in Gs Fn n ≡ x → type_tree Gs (unwrap_or x 0) ≡ Some v → Here v
-        by_type None told at = absurd (none_some (sym (ap (λ x. option_map_or (tree_at Gs) x None) right.results.none) ∙ at))
+        by_type None told at = none_some (sym (ap (λ x. option_map_or (tree_at Gs) x None) right.results.none) ∙ at)
         by_type (Some ty) told at = by_global (global_type Gs n) refl ty told at

@@ -24,6 +24,7 @@ use Rattle.profile_rules.specs.Places.{places, is_among, is_variable}
 use Rattle.profile_rules.specs.Variables.{classes, is_other_class, is_misclassed}
 use Rattle.conformance.specs.Rules.{Options}
 use Rattle.list_law.proofs.Numbers.{same_number, number_same}
+use Rattle.list_law.proofs.Tests.{clash}
 use Rattle.plan_law.specs.InOrder.{IsAmong}
 use Rattle.module_semantics.specs.Setting.{Setting}
 use Rattle.use_chains.specs.Slots.{is_value, is_taken, is_base, is_slot}
@@ -135,10 +136,7 @@ module _ (s : Setting) (entry : Option (List ℕ)) (right : IsConforming s.of en
         by_class false true d e f g' h ea eb ed ee ef eg eh some off = of_block (left_test (C == class_number storage.Uniform) (C == class_number storage.PushConstant) (C == class_number storage.StorageBuffer) (number_same C (class_number storage.Uniform) (is_it (class_number storage.Uniform) eb)))
         by_class false false true e f g' h ea eb ed ee ef eg eh some off = of_workgroup (is_it (class_number storage.Workgroup) ed)
         by_class false false false true f g' h ea eb ed ee ef eg eh some off = of_private (is_it (class_number storage.Private) ee)
-        by_class false false false false true g' h ea eb ed ee ef eg eh some off = absurd (never (sym (number_same C (class_number storage.Function) (is_it (class_number storage.Function) ef)) ∙ off))
-          where
-            never : true ≡ false → ⊥
-            never e = cc
+        by_class false false false false true g' h ea eb ed ee ef eg eh some off = clash (sym (number_same C (class_number storage.Function) (is_it (class_number storage.Function) ef)) ∙ off)
         by_class false false false false false true h ea eb ed ee ef eg eh some off = of_block (mid_test (C == class_number storage.Uniform) (C == class_number storage.PushConstant) (C == class_number storage.StorageBuffer) (number_same C (class_number storage.PushConstant) (is_it (class_number storage.PushConstant) eg)))
         by_class false false false false false false true ea eb ed ee ef eg eh some off = of_block (last_test (C == class_number storage.Uniform) (C == class_number storage.PushConstant) (C == class_number storage.StorageBuffer) (number_same C (class_number storage.StorageBuffer) (is_it (class_number storage.StorageBuffer) eh)))
         by_class false false false false false false false ea eb ed ee ef eg eh some off = cc

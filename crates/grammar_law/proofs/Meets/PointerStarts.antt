@@ -23,6 +23,7 @@ use Rattle.glsl_ast.specs.Tree.{TranslationUnit}
 use Rattle.function_text.specs.Functions.{FunctionPlan}
 use Rattle.unit_rules.specs.Unit.{IsUnitOf}
 use Rattle.list_law.proofs.Numbers.{same_number}
+use Rattle.list_law.proofs.Tests.{clash}
 use Rattle.global_law.specs.Chains.{NoneMakes}
 use Rattle.typed_law.specs.Conforms.{IsConforming}
 use Rattle.typed_law.proofs.Lists.{some_part}
@@ -102,10 +103,7 @@ module _ (s : Setting) (entry : Option (List ℕ)) (right : IsConforming s.of en
       by_kind (of_pointer w on (inr variable)) = own j there.0 there.1 (variable_op j.op variable) has points
       by_kind (of_call w void call) =
           let g = pointee_row Gs j.ty ty points in
-          absurd (never (sym g.2 ∙ (ap (λ (x : Inst). is x.op code.TypePointer) (same_Some g.0 w.0 (sym g.1 ∙ w.1)) ∙ void_kind w.0.op void)))
-        where
-          never : true ≡ false → ⊥
-          never e = cc
+          clash (sym g.2 ∙ (ap (λ (x : Inst). is x.op code.TypePointer) (same_Some g.0 w.0 (sym g.1 ∙ w.1)) ∙ void_kind w.0.op void))
 
   by_parameter : (x : Option ℕ) → parameter_in Fn n ≡ x → (pt : ℕ) → option_or x (option_and_then typed (inst_in Fn n)) ≡ Some pt → pointee Gs pt ≡ Some ty → T n ≡ Some pt → IsStart
   by_parameter None lent_as pt told points typed_is =

@@ -63,7 +63,7 @@ call_least code.FunctionCall n on le = omega (arith, le)
 call_least o n on le = cc
 
 -- the function with an id
-function_found : (fs : List Function) (n k : ℕ) → is_some (position_from (λ (f : Function). f.id.0 == n) k fs) ≡ true → (g : Function) × (function_of fs n ≡ Some g)
+pub function_found : (fs : List Function) (n k : ℕ) → is_some (position_from (λ (f : Function). f.id.0 == n) k fs) ≡ true → (g : Function) × (function_of fs n ≡ Some g)
 function_found [] n k some = cc
 function_found (f ∷ fs) n k some = by_test (f.id.0 == n) some (function_found fs n (k + 1))
   where

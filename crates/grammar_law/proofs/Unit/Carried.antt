@@ -28,6 +28,7 @@ use Rattle.function_text.specs.Functions.{FunctionPlan}
 use Rattle.unit_rules.specs.Translation.{Naming, text_of}
 use Rattle.unit_rules.specs.Unit.{IsUnitOf}
 use Rattle.list_law.proofs.Numbers.{number_same, number_other}
+use Rattle.list_law.proofs.Tests.{clash}
 use Rattle.plan_law.specs.Ordered.{AreOrdered}
 use Rattle.plan_law.proofs.Order.{in_order}
 use Rattle.typed_law.specs.Conforms.{IsConforming}
@@ -92,10 +93,7 @@ always_formed gs f k p value always kept = by_live (is_live p) refl (is_named gs
         → ((if l then (if n then (if is_hoisted f p then Hoisted else Local) else Forwarded) else Gone) ≡ Local) ⊎ ((if l then (if n then (if is_hoisted f p then Hoisted else Local) else Forwarded) else Gone) ≡ Hoisted)
     by_live false live n named kept = cc
     by_live true live true named kept = by_hoisted (is_hoisted f p)
-    by_live true live false named kept = absurd (never (sym (named_on live) ∙ named))
-      where
-        never : true ≡ false → ⊥
-        never e = cc
+    by_live true live false named kept = clash (sym (named_on live) ∙ named)
 
 module _ (s : Setting) (entry : Option (List ℕ)) (right : IsConforming s.of entry) (kinds : HaveKinds s.of.globals) (o : Options) (unit : TranslationUnit) (u : IsUnitOf s.of o unit) (p : FunctionPlan) (among : IsIn p u.plans) where
   abbrev Found : Naming

@@ -1,9 +1,8 @@
 -- The path of a pointer, as it is written: of words that are declared, where its chains' indexes are written.
-use Rattle.std.proofs.Common.{◌≡◌, ◌+◌, ◌++◌, ◌==◌, ◌&&◌, not, ℕ, true, false, List, [], ◌∷◌, Option, Some, refl, sym, ap, ◌∙◌, subst}
-use Rattle.std.specs.Prelude.{drop, is_some, option_and_then, slice_get, unwrap_or}
+use Rattle.std.proofs.Common.{◌≡◌, ◌+◌, ◌++◌, ℕ, true, false, List, [], ◌∷◌, Option, Some, refl, sym, ap, ◌∙◌, subst}
+use Rattle.std.specs.Prelude.{drop, option_and_then, slice_get, unwrap_or}
 use Rattle.std.specs.Option.{option_map_or}
 use Rattle.std.specs.List.{list_any}
-use Rattle.std.proofs.lemmas.Bool.{and_from}
 use Rattle.spv_ops.specs.Groups.{is_chain}
 use Rattle.spv_module.specs.declared.inst.Inst.{Inst}
 use Rattle.spv_module.specs.declared.inst.Block.{Block}
@@ -16,7 +15,7 @@ use Rattle.spv_index.specs.Pointers.{pointee, storage_class, pointee_of}
 use Rattle.spv_index.specs.Steps.{step_type}
 use Rattle.profile_rules.specs.declared.needs.Reached.{Reached}
 use Rattle.profile_rules.specs.declared.needs.Reached.TheVariants.{Part, Nothing, Unknown}
-use Rattle.profile_rules.specs.TypeRows.{is_pointer, is_int, is_not, type_row, differ, fails, value_fails}
+use Rattle.profile_rules.specs.TypeRows.{is_pointer, is_int, is_not, differ, fails, value_fails}
 use Rattle.profile_rules.specs.ValueRules.{walk, chain_step, chain_end, is_other_pointer, leads_elsewhere, breaks_t6}
 use Rattle.conformance.specs.Rules.{Options}
 use Rattle.module_semantics.specs.Setting.{Setting}
@@ -28,12 +27,11 @@ use Rattle.expr_forward.specs.Paths as paths
 use Rattle.expr_forward.specs.Paths.{base_text, step_text, steps_text, place_text}
 use Rattle.unit_rules.specs.Unit.{IsUnitOf}
 use Rattle.name_alloc.specs.Naming.{name_of}
-use Rattle.list_law.proofs.Numbers.{same_count}
-use Rattle.list_law.proofs.Tests.{and_off}
+use Rattle.list_law.proofs.Tests.{clash}
 use Rattle.claim_law.specs.Uses.{Words, UseSteps, UsesLValue}
 use Rattle.type_law.proofs.Chains.{HaveTypes}
 use Rattle.type_law.proofs.Vectors.{three_off}
-use Rattle.type_law.proofs.Parts.{row}
+use Rattle.type_law.proofs.Choices.{same_rows}
 use Rattle.agree_law.specs.Blocks.{IsOf}
 use Rattle.global_law.specs.Chains.{ChainsRise, NoneMakes}
 use Rattle.global_law.proofs.Path.Ways.{start_way, chain_way}
@@ -47,10 +45,7 @@ nothing_left f [] = refl
 nothing_left f (id ∷ ids) = nothing_left f ids
 
 not_nothing : (gs : List Inst) (ty : ℕ) (class : Option ℕ) (r : Reached) → leads_elsewhere gs ty class r ≡ false → r ≡ Nothing → ⊥
-not_nothing gs ty class r e is = never (sym (ap (leads_elsewhere gs ty class) is) ∙ e)
-  where
-    never : true ≡ false → ⊥
-    never e = cc
+not_nothing gs ty class r e is = clash (sym (ap (leads_elsewhere gs ty class) is) ∙ e)
 
 at_part : (gs : List Inst) (ty : ℕ) (class : Option ℕ) (r : Reached) (to : ℕ) → leads_elsewhere gs ty class r ≡ false → r ≡ Part to → is_other_pointer gs ty class to ≡ false
 at_part gs ty class r to e is = sym (ap (leads_elsewhere gs ty class) is) ∙ e
@@ -179,7 +174,7 @@ module _ (s : Setting) (entry : Option (List ℕ)) (right : IsConforming s.of en
       let part : is_other_pointer Gs i.ty (option_and_then (storage_class Gs) (T (word i 0))) led.to ≡ false = at_part Gs i.ty (option_and_then (storage_class Gs) (T (word i 0))) (walk (chain_step Gs T) (Part way.to) (indexes i)) led.to reached led.leads in
       let parts = three_off (fails is_pointer Gs i.ty) (option_map_or (λ (c : ℕ). is_not c (storage_class Gs i.ty)) (option_and_then (storage_class Gs) (T (word i 0))) false) (option_map_or (differ Gs led.to) (pointee Gs i.ty) false) part in
       let q = points parts.0 in
-      let same : led.to ≡ q.0 = same_rows led.to q.0 led.whole q.1 led.members.shaped q.3 (ap (λ (x : Option ℕ). option_map_or (differ Gs led.to) x false) (sym q.2) ∙ parts.2) in
+      let same : led.to ≡ q.0 = same_rows s f led.to q.0 led.whole q.1 led.members.shaped q.3 (ap (λ (x : Option ℕ). option_map_or (differ Gs led.to) x false) (sym q.2) ∙ parts.2) in
       record {
         from = way.from;
         to = led.to;
@@ -191,7 +186,3 @@ module _ (s : Setting) (entry : Option (List ℕ)) (right : IsConforming s.of en
         named = subst (λ (x : ℕ). W.value (base_text Site x)) (sym based) way.named;
         uses = joined_uses way.from way.to (path Gs f printed (base i)).steps ss (path Gs f printed i.result).steps stepped way.ends way.uses led.uses;
       }
-    where
-      same_rows : (a b : ℕ) (x y : Tree) → type_tree Gs a ≡ Some x → type_tree Gs b ≡ Some y → differ Gs a b ≡ false → a ≡ b
-      same_rows a b x y one two apart =
-          same_count a b (and_off (is_some (type_row Gs a) && is_some (type_row Gs b)) (not (a == b)) apart (and_from (is_some (type_row Gs a)) (is_some (type_row Gs b)) (ap is_some (row s f a x one).1) (ap is_some (row s f b y two).1)))

@@ -22,6 +22,7 @@ use Rattle.text_rules.specs.declared.readings.Reading.TheVariants.{Named, GroupS
 use Rattle.text_rules.specs.Printed.{Reached, needs_constant, is_needed, is_named, has_struct, is_declared_constant}
 use Rattle.unit_rules.specs.Unit.{source_of, IsUnitOf}
 use Rattle.list_law.proofs.Numbers.{number_same}
+use Rattle.list_law.proofs.Tests.{off_on}
 use Rattle.claim_law.specs.Claimed.{IsIn}
 use Rattle.claim_law.proofs.Claim.Constants.{found_in, needed_first}
 use Rattle.claim_law.proofs.Claim.Listed.{any_in}
@@ -37,34 +38,13 @@ found_any p n (x ∷ xs) k e = by_test (p x) e (found_any p (n + 1) xs k)
 
 -- scalars and vectors have no structs
 scalar_plain : (v : Tree) → is_scalar v ≡ true → (k : ℕ) → has_struct k v ≡ true → ⊥
-scalar_plain boolean on k has = never has
-  where
-    never : false ≡ true → ⊥
-    never e = cc
-scalar_plain int on k has = never has
-  where
-    never : false ≡ true → ⊥
-    never e = cc
-scalar_plain uint on k has = never has
-  where
-    never : false ≡ true → ⊥
-    never e = cc
-scalar_plain (vector e n) on k has = never on
-  where
-    never : false ≡ true → ⊥
-    never e = cc
-scalar_plain (array t l) on k has = never on
-  where
-    never : false ≡ true → ⊥
-    never e = cc
-scalar_plain (runtime t) on k has = never on
-  where
-    never : false ≡ true → ⊥
-    never e = cc
-scalar_plain (struct n ts) on k has = never on
-  where
-    never : false ≡ true → ⊥
-    never e = cc
+scalar_plain boolean on k has = off_on has
+scalar_plain int on k has = off_on has
+scalar_plain uint on k has = off_on has
+scalar_plain (vector e n) on k has = off_on on
+scalar_plain (array t l) on k has = off_on on
+scalar_plain (runtime t) on k has = off_on on
+scalar_plain (struct n ts) on k has = off_on on
 
 literal_scalar : (gs : List Inst) (ty : ℕ) (v : Tree) (b : Bool) → type_tree gs ty ≡ Some v → (option_map_or is_scalar (type_tree gs ty) false && b) ≡ true → is_scalar v ≡ true
 literal_scalar gs ty v b shaped on = by_test (is_scalar v) (sym (ap (λ (q : Option Tree). option_map_or is_scalar q false && b) shaped) ∙ on)

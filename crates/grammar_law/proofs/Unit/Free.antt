@@ -23,24 +23,21 @@ use Rattle.spv_index.specs.BlockStructs.{is_block, is_some_block}
 use Rattle.profile_rules.specs.Places.{is_among}
 use Rattle.profile_rules.specs.TypeForm.{parts_of, pointees, value_types, signature_types, block_misuses, runtime_misuses}
 use Rattle.text_rules.specs.Printed.{has_struct, have_struct}
-use Rattle.list_law.proofs.Numbers.{same_number, number_same}
+use Rattle.list_law.proofs.Numbers.{same_number}
 use Rattle.list_law.proofs.Tests.{off_on}
+use Rattle.type_law.proofs.Parts.{array_op, struct_op}
 use Rattle.typed_law.specs.Conforms.{IsConforming}
 use Rattle.typed_law.proofs.Lists.{or_left, clash, earlier_some}
 use Rattle.typed_law.proofs.Rules.{used_type}
-use Rattle.typed_law.proofs.Used.{among_left, among_right, struct_part}
+use Rattle.typed_law.proofs.Used.{among_left, among_right, struct_part, first_among}
 use Rattle.claim_law.specs.Claimed.{IsIn}
 use Rattle.claim_law.proofs.Claim.Constants.{found_in}
 use Rattle.grammar_law.proofs.Unit.Lists.{as_among}
-use Rattle.grammar_law.proofs.Unit.Types.{array_op, struct_op}
 
 in_flat_list : (f : Inst → List ℕ) (xs : List Inst) (x : Inst) (id : ℕ) → IsIn x xs → is_among (f x) id ≡ true → is_among (flat_map f xs) id ≡ true
 in_flat_list f [] x id there own = absurd there
 in_flat_list f (y ∷ xs) x id (inl same) own = among_left (f y) (flat_map f xs) id (subst (λ (z : Inst). is_among (f z) id ≡ true) (sym same) own)
 in_flat_list f (y ∷ xs) x id (inr there) own = among_right (f y) (flat_map f xs) id (in_flat_list f xs x id there own)
-
-first_among : (a : ℕ) (args : List ℕ) → is_among (a ∷ args) a ≡ true
-first_among a args = ap (λ (b : Bool). b || is_among args a) (number_same a a refl)
 
 -- the parts of types
 element_part : (o : Op) (args : List ℕ) → (is o code.TypeArray ≡ true) ⊎ (is o code.TypeRuntimeArray ≡ true) → (shape o).least ≤ 1 + count_of (has_type o) + count_of (has_result o) + length args

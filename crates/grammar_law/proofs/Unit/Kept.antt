@@ -1,5 +1,5 @@
 -- A chain's indexes, as the paths that pass it are written: in its own block as they are, elsewhere as they were kept; and stores.
-use Rattle.std.proofs.Common.{◌≡◌, ◌+◌, ◌==◌, ◌&&◌, ◌||◌, not, ℕ, suc, Bool, true, false, List, [], ◌∷◌, map, Option, Some, None, unwrap_or, inl, inr, refl, sym, ap, ◌∙◌, subst, arith, if◌then◌else◌}
+use Rattle.std.proofs.Common.{◌≡◌, ◌+◌, ◌==◌, ◌&&◌, ◌||◌, not, ℕ, suc, Bool, true, false, List, [], ◌∷◌, map, Option, Some, inl, inr, refl, sym, ap, ◌∙◌, subst, arith, if◌then◌else◌}
 use Rattle.std.specs.Prelude.{slice_get, slice_index, slice_index_or, option_and_then}
 use Rattle.std.specs.List.{enumerate_from}
 use Rattle.std.proofs.lemmas.Bool.{and_from, not-true}
@@ -13,7 +13,6 @@ use Rattle.spv_module.specs.Lists.{id}
 use Rattle.spv_module.specs.declared.inst.Inst.{Inst}
 use Rattle.spv_module.specs.declared.inst.Block.{Block}
 use Rattle.spv_module.specs.declared.inst.Function.{Function}
-use Rattle.spv_types.specs.Tree.{Tree}
 use Rattle.spv_types.specs.Types.{type_tree}
 use Rattle.spv_index.specs.Locals.{type_in}
 use Rattle.conformance.specs.Rules.{Options}
@@ -33,6 +32,7 @@ use Rattle.unit_rules.specs.Translation.{Naming, text_of}
 use Rattle.unit_rules.specs.Unit.{claims_by, IsUnitOf}
 pub use Rattle.list_law.proofs.Lists.{behind_first as dropped}
 use Rattle.list_law.proofs.Tests.{or_left}
+pub use Rattle.list_law.proofs.Options.{some_unwrapped as shaped_type}
 use Rattle.fits_law.specs.State.{value_shape, target_shape}
 use Rattle.claim_law.specs.Uses.{Words, UsesExpr}
 use Rattle.claim_law.specs.Statements.{AskKept, MeetsInst}
@@ -65,10 +65,6 @@ store_no_phi code.Store on = refl
 store_no_phi o on = cc
 
 -- an index is an operand
-pub shaped_type : (g : ℕ → Option Tree) (q : Option ℕ) (t : Tree) → option_and_then g q ≡ Some t → g (unwrap_or q 0) ≡ Some t
-shaped_type g None t e = cc
-shaped_type g (Some ty) t e = e
-
 module _ (s : Setting) (entry : Option (List ℕ)) (right : IsConforming s.of entry) (kinds : HaveKinds s.of.globals) (o : Options) (unit : TranslationUnit) (u : IsUnitOf s.of o unit) (p : FunctionPlan) (among : IsIn p u.plans) (names : List (List ℕ)) (structs : AreOfStructs s.of.globals (name_of u.claimed) names) where
   abbrev Gs : List Inst
   Gs = s.of.globals

@@ -27,6 +27,7 @@ use Rattle.profile_rules.specs.Operands.{is_there_in}
 use Rattle.profile_rules.specs.TypeRules.{is_number_broken}
 use Rattle.list_law.proofs.Numbers.{same_number, number_same}
 use Rattle.list_law.proofs.Tests.{unless}
+use Rattle.list_law.proofs.Lists.{second_word}
 use Rattle.plan_law.specs.InOrder.{IsAmong}
 use Rattle.module_semantics.specs.Setting.{Setting}
 use Rattle.module_semantics.specs.Operands.{value_operands, literal_operands}
@@ -206,11 +207,6 @@ extended_group : (o : Op) → is o code.ExtInst ≡ true → group_of o ≡ grou
 unfolding group_of number
 extended_group code.ExtInst on = refl
 extended_group o on = cc
-
-second_word : (args : List ℕ) → slice_index (take 1 (drop 1 args)) 0 ≡ slice_index args 1
-second_word [] = refl
-second_word (a ∷ []) = refl
-second_word (a ∷ b ∷ args) = refl
 
 rows_have : list_all (λ (r : ℕ × ℕ). is_some (operation_in extended_opcodes r.0)) extended_rows ≡ true
 rows_have = refl

@@ -35,10 +35,11 @@ use Rattle.expr_forward.specs.Paths.{part_step_by, part_step, part_type_by, part
 use Rattle.unit_rules.specs.Translation.{Naming, text_of}
 use Rattle.unit_rules.specs.Unit.{source_of, IsUnitOf}
 use Rattle.list_law.proofs.Numbers.{number_same}
+use Rattle.list_law.proofs.Options.{none_some}
 use Rattle.claim_law.specs.Uses.{Words, UseSteps}
 use Rattle.claim_law.specs.Blocks.{FitWords}
 use Rattle.fits_law.specs.Takes.{nth_of, part_shape, shape_at}
-use Rattle.type_law.proofs.Parts.{earlier_is}
+use Rattle.type_law.proofs.Parts.{earlier_is, struct_op}
 use Rattle.type_law.proofs.Choices.{scalar_elem}
 use Rattle.typed_law.specs.Conforms.{IsConforming}
 use Rattle.typed_law.proofs.Used.{global_found}
@@ -47,7 +48,6 @@ use Rattle.claim_law.proofs.Claim.Constants.{found_in}
 use Rattle.claim_law.proofs.Claim.Told.{named_is, axes_told}
 use Rattle.grammar_law.specs.Words.{words_of}
 use Rattle.grammar_law.proofs.Unit.Lists.{as_among}
-use Rattle.grammar_law.proofs.Unit.Types.{struct_op}
 use Rattle.grammar_law.proofs.Unit.Structs.{HasNames, part_named}
 
 -- what is no struct by its kind
@@ -64,10 +64,7 @@ no_array_struct e = cc
 
 -- the member of a struct
 pub nth_arg : (f : ℕ → Option Tree) (ids : List ℕ) (ts : Trees) (k : ℕ) (v : Tree) → all_trees f ids ≡ Some ts → nth_of ts k ≡ Some v → (slice_get ids k ≡ Some (slice_index ids k)) × (f (slice_index ids k) ≡ Some v)
-nth_arg f [] ts k v is at = absurd (never (ap (λ x. nth_of x k) (same_Some no_trees ts is) ∙ at))
-  where
-    never : None ≡ Some v → ⊥
-    never e = cc
+nth_arg f [] ts k v is at = none_some (ap (λ x. nth_of x k) (same_Some no_trees ts is) ∙ at)
 nth_arg f (x ∷ ids) ts k v is at = by_both (f x) refl (all_trees f ids) refl k is at (nth_arg f ids)
   where
     by_both : (o : Option Tree) → f x ≡ o → (q : Option Trees) → all_trees f ids ≡ q → (k : ℕ) → both o q ≡ Some ts → nth_of ts k ≡ Some v → ((us : Trees) (j : ℕ) (w : Tree) → all_trees f ids ≡ Some us → nth_of us j ≡ Some w → (slice_get ids j ≡ Some (slice_index ids j)) × (f (slice_index ids j) ≡ Some w))
@@ -125,18 +122,12 @@ module _ (s : Setting) (entry : Option (List ℕ)) (right : IsConforming s.of en
   }
 
   part_by : (g : Inst) (q : TypeKind) (t : Tree) (k : ℕ) (v : Tree) → kind g.op ≡ q → tree_by_kind Gs (tree_before Gs g.at) g q ≡ Some t → part_shape t k ≡ Some v → IsPartOf g t k v
-  part_by g kinds.Bool t k v on is part = absurd (never (ap (λ x. part_shape x k) (same_Some boolean t is) ∙ part))
-    where
-      never : None ≡ Some v → ⊥
-      never e = cc
+  part_by g kinds.Bool t k v on is part = none_some (ap (λ x. part_shape x k) (same_Some boolean t is) ∙ part)
   part_by g kinds.Int t k v on is part = absurd (by_width (slice_index g.args 0 == 32) (slice_index g.args 1 == 0) (slice_index g.args 1 == 1) is)
     where
-      never : None ≡ Some v → ⊥
-      never e = cc
-
       by_width : (a b c : Bool) → (if a then (if b then Some uint else (if c then Some int else None)) else None) ≡ Some t → ⊥
-      by_width true true c is = never (ap (λ x. part_shape x k) (same_Some uint t is) ∙ part)
-      by_width true false true is = never (ap (λ x. part_shape x k) (same_Some int t is) ∙ part)
+      by_width true true c is = none_some (ap (λ x. part_shape x k) (same_Some uint t is) ∙ part)
+      by_width true false true is = none_some (ap (λ x. part_shape x k) (same_Some int t is) ∙ part)
       by_width true false false is = cc
       by_width false b c is = cc
   part_by g kinds.Vector t k v on is part = by_part (tree_before Gs g.at (slice_index g.args 0)) refl is
@@ -176,12 +167,9 @@ module _ (s : Setting) (entry : Option (List ℕ)) (right : IsConforming s.of en
           first_part g t k v (no_struct g.op kinds.Array on no_array_struct) (at ∙ ap (λ x. Some x) (by_length u l (ap (λ x. part_shape x k) (same_Some (array u l) t is) ∙ part)))
   part_by g kinds.Runtime t k v on is part = absurd (by_part (tree_before Gs g.at (slice_index g.args 0)) is)
     where
-      never : None ≡ Some v → ⊥
-      never e = cc
-
       by_part : (o : Option Tree) → option_map runtime o ≡ Some t → ⊥
       by_part None is = cc
-      by_part (Some u) is = never (ap (λ x. part_shape x k) (same_Some (runtime u) t is) ∙ part)
+      by_part (Some u) is = none_some (ap (λ x. part_shape x k) (same_Some (runtime u) t is) ∙ part)
   part_by g kinds.Struct t k v on is part = by_members (all_trees (tree_before Gs g.at) g.args) refl is
     where
       by_members : (q : Option Trees) → all_trees (tree_before Gs g.at) g.args ≡ q → option_map (struct g.result) q ≡ Some t → IsPartOf g t k v

@@ -37,7 +37,7 @@ use Rattle.unit_rules.specs.Translation.{text_of, id_text}
 use Rattle.unit_rules.specs.Unit.{IsUnitOf}
 use Rattle.list_law.proofs.Lists.{behind_first}
 use Rattle.list_law.proofs.Numbers.{number_same}
-use Rattle.list_law.proofs.Tests.{first_by}
+use Rattle.list_law.proofs.Tests.{first_by, clash}
 use Rattle.plan_law.specs.Ordered.{AreOrdered}
 use Rattle.plan_law.proofs.Order.{in_order}
 use Rattle.global_law.specs.Chains.{ChainsRise, NoneMakes}
@@ -72,10 +72,7 @@ module _ (n : ℕ) where
       later off (inr none) = inr (off, none)
 
       by_chain : (b : Bool) → is_chain i.op ≡ b → Found is → Found (i ∷ is)
-      by_chain false off rest = later (λ on. absurd (never (sym on ∙ off))) rest
-        where
-          never : true ≡ false → ⊥
-          never e = cc
+      by_chain false off rest = later (λ on. clash (sym on ∙ off)) rest
       by_chain true on rest = elim (eqb_tells i.result n) [
         | inl w ↦ inl (i, (inl refl, on, w.1))
         | inr w ↦ later (λ same_on. w.1) rest

@@ -42,13 +42,13 @@ use Rattle.type_law.proofs.Rows.{vector_parts}
 use Rattle.type_law.proofs.Vectors.{three_off, five_off}
 use Rattle.type_law.proofs.Parts.{earlier_is, walk_leads}
 use Rattle.typed_law.specs.Conforms.{IsConforming}
-use Rattle.typed_law.proofs.Lists.{or_left, or_right, and_left, clash, none_left, none_right, none_among}
+use Rattle.typed_law.proofs.Lists.{or_left, or_right, clash, none_left, none_right, none_among}
 use Rattle.typed_law.proofs.Rules.{operand_there, value_right, number_right, refused}
 use Rattle.typed_law.proofs.Types.{row_is}
-use Rattle.typed_law.proofs.Values.{IsRow, shape_of_row, value_type_has, global_row, inside, local_row, HasType, HasItsShape, type_row_of, one_type, same_type, none_counted, value_sized, vector_shaped, bool_shaped, int_shaped, type_suits}
+use Rattle.typed_law.proofs.Values.{IsRow, shape_of_row, value_type_has, global_row, inside, local_row, HasType, HasItsShape, type_row_of, one_type, same_type, none_counted, value_sized, vector_shaped, bool_shaped, type_suits}
 use Rattle.typed_law.proofs.Shapes.{no_int, no_bool, row_of_shape, whole_shape}
 use Rattle.typed_law.proofs.Operations.{Facts, four_off}
-use Rattle.typed_law.proofs.Others.{target_of, typed_some, typed_operand}
+use Rattle.typed_law.proofs.Others.{target_of, typed_some, typed_operand, uint_shaped}
 
 -- groups of opcodes that stand in blocks
 abbrev pub stands_inside : OpGroup → Bool
@@ -174,9 +174,6 @@ pub swap_read : (o : Op) (args : List ℕ) → group_of o ≡ groups.Atomic atom
 unfolding group_of takes_of need is_id shape number
 swap_read code.AtomicCompareExchange args on = (record { names_id = refl; asks = refl; value = refl; no_phi = refl; many = λ n le. omega (arith, le) }, record { names_id = refl; asks = refl; value = refl; no_phi = refl; many = λ n le. omega (arith, le) })
 swap_read o args on = cc
-
-uint_shaped : (g : Inst) → is_uint g ≡ true → is_shapeless g.op ≡ false
-uint_shaped g e = int_shaped g.op (and_left (is g.op code.TypeInt) (word g 0 == 32) (and_left ((is g.op code.TypeInt) && (word g 0 == 32)) (word g 1 == 0) e))
 
 unbuilt : (o : Op) → is_shapeless o ≡ true → (is o code.TypeVector ≡ false) × (is o code.TypeArray ≡ false) × (is o code.TypeStruct ≡ false)
 unfolding number

@@ -190,10 +190,7 @@ module _ (s : Setting) (entry : Option (List ℕ)) (right : IsConforming s.of en
               less (and_left (is_some (typed j)) (nat_lt j.at n) told) (and_right (is_some (typed j)) (nat_lt j.at n) told)
 
           by_suits : (h : Inst) → earlier Gs n id ≡ Some h → (b : Bool) → is_some (typed h) ≡ b → (b || (is_some (parameter_in f id) || option_map_or (λ (i : Inst). is_some (typed i) && nat_lt i.at n) (inst_in f id) false)) ≡ true → j.at < n
-          by_suits h at true on e = absurd (never (sym on ∙ ap is_some (sym (ap (option_and_then typed) (earlier_some Gs n id h at).0) ∙ outside)))
-            where
-              never : true ≡ false → ⊥
-              never e = cc
+          by_suits h at true on e = clash (sym on ∙ ap is_some (sym (ap (option_and_then typed) (earlier_some Gs n id h at).0) ∙ outside))
           by_suits h at false off e = local e
 
           by_earlier : (q : Option Inst) → earlier Gs n id ≡ q → (option_map_or (suits Value) q false || (is_some (parameter_in f id) || option_map_or (λ (i : Inst). is_some (typed i) && nat_lt i.at n) (inst_in f id) false)) ≡ true → j.at < n
@@ -329,10 +326,7 @@ module _ (s : Setting) (entry : Option (List ℕ)) (right : IsConforming s.of en
         where
           by_test : (b : Bool) → is g.op code.TypePointer ≡ b → is_some (storage_class Gs w.0) ≡ false → b ≡ false
           by_test false e off = refl
-          by_test true e off = absurd (never (sym (ap (λ (q : Option Inst). is_some (option_map (λ (h : Inst). slice_index h.args 0) (option_and_then as_pointer q))) at ∙ ap (λ (b : Bool). is_some (option_map (λ (h : Inst). slice_index h.args 0) (if b then Some g else None))) e) ∙ off))
-            where
-              never : true ≡ false → ⊥
-              never e = cc
+          by_test true e off = clash (sym (ap (λ (q : Option Inst). is_some (option_map (λ (h : Inst). slice_index h.args 0) (option_and_then as_pointer q))) at ∙ ap (λ (b : Bool). is_some (option_map (λ (h : Inst). slice_index h.args 0) (if b then Some g else None))) e) ∙ off)
 
       -- T17
       module _ (is_it : group_of i.op ≡ groups.Select) where

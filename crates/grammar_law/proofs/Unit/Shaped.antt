@@ -11,6 +11,7 @@ use Rattle.spv_types.specs.declared.kind.TypeKind.{TypeKind}
 use Rattle.spv_types.specs.declared.kind.TypeKind.TheVariants.{Other}
 use Rattle.spv_types.specs.Types.{kind, tree_by_kind, tree_before, tree_at, type_tree}
 use Rattle.hoist_plan.specs.Plan.{is_value}
+use Rattle.list_law.proofs.Options.{none_some}
 use Rattle.typed_law.proofs.Values.{pointer_kind}
 
 void_kind : (o : Op) → is o code.TypeVoid ≡ true → kind o ≡ Other
@@ -19,10 +20,7 @@ void_kind code.TypeVoid on = refl
 void_kind o on = cc
 
 pub other_none : (gs : List Inst) (g : Inst) (t : Tree) → kind g.op ≡ Other → tree_at gs g ≡ Some t → ⊥
-other_none gs g t other shape = never (ap (λ (k : TypeKind). tree_by_kind gs (tree_before gs g.at) g k) (sym other) ∙ shape)
-  where
-    never : None ≡ Some t → ⊥
-    never e = cc
+other_none gs g t other shape = none_some (ap (λ (k : TypeKind). tree_by_kind gs (tree_before gs g.at) g k) (sym other) ∙ shape)
 
 pub pointer_none : (gs : List Inst) (g : Inst) (t : Tree) → is g.op code.TypePointer ≡ true → tree_at gs g ≡ Some t → ⊥
 pointer_none gs g t on shape = other_none gs g t (pointer_kind g.op on) shape

@@ -5,8 +5,7 @@ use Rattle.std.specs.Option.{option_map_or}
 use Rattle.std.proofs.lemmas.Bool.Decides.{nat_tests}
 use Rattle.std.proofs.lemmas.Bool.{or_left, or_right}
 use Rattle.std.proofs.lemmas.Option.{same_Some}
-use Rattle.spv_ops.specs.Opcode.{is, number}
-use Rattle.spv_ops.specs.declared.Op.{Op}
+use Rattle.spv_ops.specs.Opcode.{is}
 use Rattle.spv_ops.specs.declared.Op.TheVariants as code
 use Rattle.spv_module.specs.Held.{global}
 use Rattle.spv_module.specs.declared.inst.Inst.{Inst}
@@ -27,22 +26,13 @@ use Rattle.text_rules.specs.Outlines.{outline}
 use Rattle.text_rules.specs.Printed.{has_struct, have_struct}
 use Rattle.text_rules.specs.Types.{Spelling, vector_base, with_extent, type_text, zero_elem, times, zero_text, zero_texts}
 use Rattle.list_law.proofs.Numbers.{number_same}
+use Rattle.type_law.proofs.Parts.{struct_op, array_op}
 use Rattle.claim_law.specs.Uses.{Words, UsesExtent, UsesBase, UsesType, UsesExpr, UseExprs}
 use Rattle.global_law.proofs.Global.Declared.{outline_same}
 use Rattle.typed_law.proofs.Lists.{earlier_some}
 use Rattle.claim_law.specs.Claimed.{IsIn}
 use Rattle.claim_law.proofs.Claim.Constants.{found_in}
 use Rattle.grammar_law.specs.Types.{IsLengthOf, IsOfTypes, AreOfTypes}
-
-pub array_op : (o : Op) → kind o ≡ kinds.Array → is o code.TypeArray ≡ true
-unfolding kind number
-array_op code.TypeArray e = refl
-array_op o e = cc
-
-pub struct_op : (o : Op) → kind o ≡ kinds.Struct → is o code.TypeStruct ≡ true
-unfolding kind number
-struct_op code.TypeStruct e = refl
-struct_op o e = cc
 
 -- a struct is one of its own
 pub own_struct : (n : ℕ) (ts : Trees) → ((n == n) || have_struct n ts) ≡ true

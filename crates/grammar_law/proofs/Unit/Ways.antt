@@ -35,13 +35,14 @@ use Rattle.function_plan.specs.Planned.{is_reached_node, has_name_by}
 use Rattle.function_text.specs.Functions.{FunctionPlan, written}
 use Rattle.unit_rules.specs.Translation.{Naming, id_text, scope_of, IsPlanOf}
 use Rattle.unit_rules.specs.Unit.{is_called, called, source_of, IsUnitOf}
-use Rattle.list_law.proofs.Numbers.{same_number, number_same}
+use Rattle.list_law.proofs.Numbers.{same_number}
 use Rattle.plan_law.specs.InOrder.{AreInOrder}
 use Rattle.plan_law.specs.Ordered.{AreOrdered}
 use Rattle.plan_law.proofs.Order.{in_order}
 use Rattle.typed_law.specs.Conforms.{IsConforming}
-use Rattle.typed_law.proofs.Lists.{some_part, clash}
+use Rattle.typed_law.proofs.Lists.{some_part}
 use Rattle.typed_law.proofs.Values.{typed_result, has_a_type, variable_type_is, global_row, inside}
+pub use Rattle.typed_law.proofs.Values.{type_of as own_type_of}
 use Rattle.claim_law.specs.Claimed.{IsIn, HasName}
 use Rattle.claim_law.proofs.Claim.Listed.{in_flat, at_place}
 use Rattle.claim_law.proofs.Claim.Constants.{found_in}
@@ -68,13 +69,6 @@ reached_nth (n ∷ g) zero = refl
 reached_nth (n ∷ g) (suc b) = reached_nth g b
 
 -- the type of an instruction that has one
-pub own_type_of : (i : Inst) (ty : ℕ) → typed i ≡ Some ty → (i.ty ≡ ty) × (i.ty ≡ 0 → ⊥)
-own_type_of i ty is = by_test (i.ty == 0) refl is
-  where
-    by_test : (b : Bool) → (i.ty == 0) ≡ b → (if b then None else Some i.ty) ≡ Some ty → (i.ty ≡ ty) × (i.ty ≡ 0 → ⊥)
-    by_test true zero_is is = cc
-    by_test false some is = (same_Some i.ty ty is, λ lacks. clash (sym (number_same i.ty 0 lacks) ∙ some))
-
 no_hoisted : Hoisted ≡ Forwarded → ⊥
 no_hoisted e = cc
 

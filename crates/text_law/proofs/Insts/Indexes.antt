@@ -1,5 +1,5 @@
 -- What is written of a chain keeps its indexes: each that is kept has a variable, which says it while the chain leads nowhere.
-use Rattle.std.proofs.Common.{◌≡◌, ◌++◌, ◌==◌, ◌&&◌, ◌-◌, ◌+◌, ℕ, zero, suc, Bool, true, false, List, [], ◌∷◌, length, drop, Option, Some, None, inl, inr, refl, sym, ap, ◌∙◌, subst, arith, if◌then◌else◌}
+use Rattle.std.proofs.Common.{◌≡◌, ◌++◌, ◌==◌, ◌&&◌, ◌-◌, ◌+◌, ℕ, zero, suc, Bool, true, false, List, [], ◌∷◌, length, drop, Option, Some, None, inl, inr, refl, sym, ap, ◌∙◌, subst, arith, if◌then◌else◌, length-append}
 use Rattle.std.specs.Prelude.{◌⊎◌, slice_get, slice_index}
 use Rattle.std.specs.Option.{option_map_or}
 use Rattle.std.specs.List.{list_any, enumerate_from}
@@ -42,6 +42,7 @@ use Rattle.agree_law.proofs.Machine.{machine}
 use Rattle.agree_law.proofs.Owned.{own_found}
 use Rattle.agree_law.proofs.Values.{name_says, value_set}
 use Rattle.fits_law.proofs.Operations.{before_some}
+use Rattle.type_law.proofs.Chains.{none_longer}
 use Rattle.call_law.specs.Known.{IsFunctionOf, LendsWhole}
 use Rattle.function_law.proofs.Selectors.{word_value}
 use Rattle.typed_law.specs.Conforms.{IsConforming}
@@ -64,12 +65,9 @@ in_at (x ∷ xs) (suc k) n at = inr (in_at xs k n at)
 same_word : (a b : ℕ) (xs ys : List ℕ) → a ∷ xs ≡ b ∷ ys → (a ≡ b) × (xs ≡ ys)
 same_word a b xs ys e = let first : a ≡ b = cc in let rest : xs ≡ ys = cc in (first, rest)
 
-no_words : (y : ℕ) (ys : List ℕ) → [] ≡ y ∷ ys → ⊥
-no_words y ys e = cc
-
 each_at : (g : ℕ → Option ℕ) (ns js : List ℕ) (k n : ℕ) → each_one g ns ≡ Some js → slice_get ns k ≡ Some n → g n ≡ Some (slice_index js k)
 each_at g [] js k n each at = cc
-each_at g (x ∷ ns) [] k n each at = let w = before_some (g x) (each_one g ns) [] each in absurd (no_words w.0 w.1 w.4)
+each_at g (x ∷ ns) [] k n each at = let w = before_some (g x) (each_one g ns) [] each in absurd (none_longer w.0 w.1 w.4)
 each_at g (x ∷ ns) (j ∷ js) zero n each at =
     let w = before_some (g x) (each_one g ns) (j ∷ js) each in
     let same : x ≡ n = cc in
@@ -80,7 +78,7 @@ each_at g (x ∷ ns) (j ∷ js) (suc k) n each at =
 
 each_count : (g : ℕ → Option ℕ) (ns js : List ℕ) → each_one g ns ≡ Some js → length js ≡ length ns
 each_count g [] js each = let same : js ≡ [] = cc in ap length same
-each_count g (x ∷ ns) [] each = let w = before_some (g x) (each_one g ns) [] each in absurd (no_words w.0 w.1 w.4)
+each_count g (x ∷ ns) [] each = let w = before_some (g x) (each_one g ns) [] each in absurd (none_longer w.0 w.1 w.4)
 each_count g (x ∷ ns) (j ∷ js) each =
     let w = before_some (g x) (each_one g ns) (j ∷ js) each in
     ap suc (each_count g ns js (w.3 ∙ ap (λ (ys : List ℕ). Some ys) (sym (same_word j w.0 js w.1 w.4).1)))
@@ -93,12 +91,8 @@ drop_front xs ys n same = ap (λ (k : ℕ). drop k (xs ++ ys)) same ∙ dropped 
     dropped [] = refl
     dropped (x ∷ xs) = dropped xs
 
-joined_count : (xs ys : List ℕ) → length (xs ++ ys) ≡ length xs + length ys
-joined_count [] ys = let none : length ys ≡ 0 + length ys = omega arith in none
-joined_count (x ∷ xs) ys = let more = joined_count xs ys in let next : suc (length (xs ++ ys)) ≡ suc (length xs) + length ys = omega (arith, more) in next
-
 pub at_end : (xs ys : List ℕ) (n : ℕ) → length ys ≡ n → drop (length (xs ++ ys) - n) (xs ++ ys) ≡ ys
-at_end xs ys n same = drop_front xs ys (length (xs ++ ys) - n) (let whole = joined_count xs ys in omega (arith, whole, same))
+at_end xs ys n same = drop_front xs ys (length (xs ++ ys) - n) (let whole = length-append xs ys in omega (arith, whole, same))
 
 module _ (m : ModuleState) (opts : Options) (right : IsConforming m opts.entry) (kinds : HaveKinds m.globals) (unit : TranslationUnit) (u : IsUnitOf m opts unit) (inv : Invocation) (p : FunctionPlan) (among : IsIn p u.plans) (lends : LendsWhole (S m opts unit u inv)) (is_one : IsFunctionOf (written p) m.functions)
     (program : Program) (calls : Text → List Argument → State → Result (Option Typed × State)) (k : ℕ) (apart : AreApart (names m opts unit u inv p)) (Holds : Conf → Type 0) (keeps : IsKept (machine (S m opts unit u inv)) Holds) (form : IsFormedFunction (written p)) (b : ℕ) (o : Body (written p) b) (done : List Inst) (i : Inst) (rest : List Inst) where

@@ -12,6 +12,7 @@ use Rattle.spv_module.specs.declared.inst.Function.{Function}
 use Rattle.spv_index.specs.Locals.{insts_of, inst_in}
 use Rattle.module_semantics.specs.Steps as steps
 use Rattle.module_semantics.specs.Steps.{is_phi, base, with_based, based_among, is_based_on}
+use Rattle.list_law.proofs.Lists.{same_first, same_rest}
 use Rattle.region_law.specs.Leads.{In}
 use Rattle.agree_law.specs.Blocks.{IsOf, read_ids, reads, IsNew}
 use Rattle.agree_law.specs.Points.{Body}
@@ -49,16 +50,12 @@ no_end : (xs : List Inst) (b : Inst) → [] ≡ xs ++ b ∷ [] → ⊥
 no_end [] b e = cc
 no_end (x ∷ xs) b e = cc
 
-same_tail : (x y : Inst) (xs ys : List Inst) → x ∷ xs ≡ y ∷ ys → (x ≡ y) × (xs ≡ ys)
-same_tail x y xs ys e = let first : x ≡ y = cc in let rest : xs ≡ ys = cc in (first, rest)
-
 pub all_but_last : (xs : List Inst) (a : Inst) (ys : List Inst) (b : Inst) → xs ++ a ∷ [] ≡ ys ++ b ∷ [] → xs ≡ ys
 all_but_last [] a [] b e = refl
-all_but_last [] a (y ∷ ys) b e = absurd (no_end ys b (same_tail a y [] (ys ++ b ∷ []) e).1)
-all_but_last (x ∷ xs) a [] b e = absurd (no_end xs a (sym (same_tail x b (xs ++ a ∷ []) [] e).1))
+all_but_last [] a (y ∷ ys) b e = absurd (no_end ys b (same_rest a y [] (ys ++ b ∷ []) e))
+all_but_last (x ∷ xs) a [] b e = absurd (no_end xs a (sym (same_rest x b (xs ++ a ∷ []) [] e)))
 all_but_last (x ∷ xs) a (y ∷ ys) b e =
-    let w = same_tail x y (xs ++ a ∷ []) (ys ++ b ∷ []) e in
-    ap (λ (z : Inst). z ∷ xs) w.0 ∙ ap (λ (zs : List Inst). y ∷ zs) (all_but_last xs a ys b w.1)
+    ap (λ (z : Inst). z ∷ xs) (same_first x y (xs ++ a ∷ []) (ys ++ b ∷ []) e) ∙ ap (λ (zs : List Inst). y ∷ zs) (all_but_last xs a ys b (same_rest x y (xs ++ a ∷ []) (ys ++ b ∷ []) e))
 
 plain_so : (xs : List Inst) (j : Inst) → ArePlain xs → IsOf j xs → (is_phi j ≡ false) × (is_terminator j.op ≡ false)
 plain_so [] j plain one = absurd one

@@ -1,5 +1,5 @@
 -- Where a live phi takes something from a block, an edge leads from that block to the phi's (T22), so the target of the edge is among those of its block.
-use Rattle.std.proofs.Common.{◌≡◌, ◌+◌, ◌%◌, ◌==◌, ◌&&◌, ◌||◌, not, ℕ, zero, suc, Bool, true, false, List, [], ◌∷◌, ◌++◌, map, filter, take, drop, Contains, flat_map, Option, Some, unwrap_or, inl, inr, refl, sym, ap, ◌∙◌, subst, if◌then◌else◌, arith}
+use Rattle.std.proofs.Common.{◌≡◌, ◌+◌, ◌%◌, ◌==◌, ◌&&◌, ◌||◌, not, ℕ, zero, suc, Bool, true, false, List, [], ◌∷◌, map, filter, take, drop, Contains, flat_map, Option, Some, unwrap_or, inl, inr, refl, sym, ap, ◌∙◌, subst, if◌then◌else◌, arith}
 use Rattle.std.specs.Prelude.{slice_get}
 use Rattle.std.specs.List.{enumerate_from, list_any}
 use Rattle.std.proofs.lemmas.Bool.{and_parts, or_cases, not-false}
@@ -11,7 +11,6 @@ use Rattle.spv_ops.specs.OpGroups.{group_of}
 use Rattle.spv_ops.specs.Groups.{is_terminator}
 use Rattle.spv_ops.specs.declared.Op.{Op}
 use Rattle.spv_ops.specs.declared.Op.TheVariants as code
-use Rattle.spv_ops.specs.declared.OpGroup.TheVariants as groups
 use Rattle.spv_module.specs.State.{ModuleState}
 use Rattle.spv_module.specs.declared.inst.Inst.{Inst}
 use Rattle.spv_module.specs.declared.inst.Block.{Block}
@@ -21,16 +20,16 @@ use Rattle.spv_index.specs.ValueTypes.{is_no_value_type}
 use Rattle.structure_rules.specs.declared.graph.Node.{Node}
 use Rattle.structure_rules.specs.Graph.{index_of, seconds, exit_of, labels_by, target_labels, graph, nth}
 use Rattle.profile_rules.specs.FlowRules.{every_second, has_repeat, is_target, targets, goes, goes_to, is_predecessor, are_labels, are_no_predecessors, is_from_elsewhere, breaks_t21_of, breaks_t22}
-use Rattle.profile_rules.specs.Operands.{breaks_t1_in, breaks_t1_of}
+use Rattle.profile_rules.specs.Operands.{breaks_t1_in}
 use Rattle.profile_rules.specs.TypeRows.{is_other}
-use Rattle.profile_rules.specs.TypeRules.{broken_if, is_value_broken, is_number_broken, is_flow_broken, is_broken_in, broken_by_global, broken_by_local, broken_by_block, broken_by_function, rule_of}
+use Rattle.profile_rules.specs.TypeRules.{broken_if, is_value_broken, is_number_broken, is_flow_broken, is_broken_in, broken_by_local, broken_by_block, rule_of}
 use Rattle.list_law.proofs.Tests.{off_on, and_off}
 use Rattle.agree_law.specs.Points.{Body}
 use Rattle.type_law.proofs.Vectors.{three_off}
 use Rattle.plan_law.specs.InOrder.{IsAmong, AreInOrder}
 use Rattle.typed_law.specs.Conforms.{IsConforming}
-use Rattle.typed_law.proofs.Lists.{none_left, none_right, none_by, none_among}
-use Rattle.typed_law.proofs.Rules.{refused}
+use Rattle.typed_law.proofs.Lists.{none_left, none_right, none_among}
+use Rattle.typed_law.proofs.Rules.{refused, rest_of}
 use Rattle.typed_law.proofs.Others.{phi_group}
 use Rattle.claim_law.specs.Claimed.{IsIn}
 use Rattle.claim_law.proofs.Claim.Listed.{in_flat, in_mapped, at_place}
@@ -141,20 +140,11 @@ module _ (m : ModuleState) (entry : Option (List ℕ)) (right : IsConforming m e
   in_block : (holder : Block) (i : Inst) (bs : List Block) (k : ℕ) → flat_map (broken_by_block m f) bs ≡ [] → slice_get bs k ≡ Some holder → IsAmong i holder.insts → broken_by_local m f holder i ≡ []
   in_block holder i [] k none at there = cc
   in_block holder i (x ∷ bs) zero none at there =
-      none_among (broken_by_local m f holder) holder.insts i (subst (λ (y : Block). broken_by_block m f y ≡ []) (first x at) (none_left (broken_by_block m f x) (flat_map (broken_by_block m f) bs) none)) there
-    where
-      first : (x : Block) → Some x ≡ Some holder → x ≡ holder
-      first x e = cc
+      none_among (broken_by_local m f holder) holder.insts i (subst (λ (y : Block). broken_by_block m f y ≡ []) (same_Some x holder at) (none_left (broken_by_block m f x) (flat_map (broken_by_block m f) bs) none)) there
   in_block holder i (x ∷ bs) (suc k) none at there = in_block holder i bs k (none_right (broken_by_block m f x) (flat_map (broken_by_block m f) bs) none) at there
 
-  by_functions : flat_map (broken_by_function m) m.functions ≡ []
-  by_functions = none_right (flat_map (broken_by_global m) m.globals) (flat_map (broken_by_function m) m.functions) right.typed
-
   by_blocks : flat_map (broken_by_block m f) f.blocks ≡ []
-  by_blocks =
-      none_right (broken_if (breaks_t21_of m.globals f) T21 f.at) (flat_map (broken_by_block m f) f.blocks)
-      (none_right (broken_if (breaks_t1_of m.globals f) T1 f.at) (broken_if (breaks_t21_of m.globals f) T21 f.at ++ flat_map (broken_by_block m f) f.blocks)
-      (none_by (broken_by_function m) m.functions f by_functions in_it))
+  by_blocks = none_right (broken_if (breaks_t21_of m.globals f) T21 f.at) (flat_map (broken_by_block m f) f.blocks) (rest_of m entry right f in_it)
 
   -- each label of a phi is that of a block from which an edge leads to the phi's
   pub from_predecessor : (t : ℕ) (holder : Block) → slice_get f.blocks t ≡ Some holder → (i : Inst) → IsIn i holder.insts → is i.op code.Phi ≡ true → (k l : ℕ) → (k % 2 == 1) ≡ true → slice_get i.args k ≡ Some l → is_predecessor f holder.label.0 l ≡ true

@@ -111,13 +111,9 @@ abbrev rest_of : List Inst → List Inst
 rest_of [] = []
 rest_of (x ∷ xs) = xs
 
-abbrev is_empty : List Inst → Bool
-is_empty [] = true
-is_empty (x ∷ xs) = false
-
-some_behind : (xs : List Inst) (b : Inst) → xs ++ b ∷ [] ≡ [] → ⊥
-some_behind [] b e = off_on (ap is_empty e)
-some_behind (x ∷ xs) b e = off_on (ap is_empty e)
+pub some_behind : {A : Type 0} (xs : List A) (x : A) → xs ++ x ∷ [] ≡ [] → ⊥
+some_behind [] x e = cc
+some_behind (y ∷ xs) x e = cc
 
 last_same : (xs ys : List Inst) (a b : Inst) → xs ++ a ∷ [] ≡ ys ++ b ∷ [] → a ≡ b
 last_same [] [] a b e = cc

@@ -3,6 +3,7 @@ use Rattle.std.proofs.Common.{◌≡◌, ◌≤◌, ◌+◌, ℕ, Bool, true, fa
 use Rattle.std.specs.Prelude.{◌⊎◌, is_some, slice_get, slice_index}
 use Rattle.std.specs.Option.{option_map_or}
 use Rattle.std.proofs.lemmas.List.{length-map}
+use Rattle.std.proofs.lemmas.Option.{same_Some}
 use Rattle.spv_ops.specs.Opcode.{is, number}
 use Rattle.spv_ops.specs.OpGroups.{group_of}
 use Rattle.spv_ops.specs.Shape.{shape, count_of}
@@ -92,14 +93,11 @@ module _ (f : Function) (form : IsFormedFunction f) where
       E : Body f b → Type 0
       E x = (terminator x.block ≡ Some x.last) × (is_terminator x.last.op ≡ true) × IsOf x.last (insts_of f)
 
-      same_body : (x y : Body f b) → Some x ≡ Some y → x ≡ y
-      same_body x y e = cc
-
       by_test : (t : Bool) (q : Option Block) (there : slice_get f.blocks b ≡ q) → body_if f b form t q there ≡ Some o → E o
       by_test true (Some x) there e =
           let shaped = form.blocks b x there in
           let among : IsOf shaped.ended.last x.insts = subst (IsOf shaped.ended.last) (sym shaped.whole) (of_right shaped.ended.last shaped.heads shaped.behind (subst (IsOf shaped.ended.last) (sym shaped.ended.whole) (of_right shaped.ended.last shaped.ended.plain (shaped.ended.last ∷ []) (inl refl)))) in
-          subst E (same_body _ o e) (end_is x shaped, shaped.ended.ends, in_block f.blocks b x there shaped.ended.last among)
+          subst E (same_Some _ o e) (end_is x shaped, shaped.ended.ends, in_block f.blocks b x there shaped.ended.last among)
       by_test true None there e = cc
       by_test false (Some x) there e = cc
       by_test false None there e = cc

@@ -18,7 +18,6 @@ use Rattle.conformance.specs.Rules.{Options}
 use Rattle.profile_rules.specs.MemoryRules.{is_pointer}
 use Rattle.traces.specs.Invocations.{Invocation}
 use Rattle.hoist_plan.specs.declared.form.Form.{Form}
-use Rattle.hoist_plan.specs.declared.form.Form.TheVariants.{Gone, Forwarded, Local, Hoisted}
 use Rattle.access_paths.specs.Ways.{captured_indexes}
 use Rattle.name_alloc.specs.declared.claims.Key.{Key}
 use Rattle.name_alloc.specs.declared.claims.Key.TheVariants.{Id, Captured}
@@ -51,6 +50,7 @@ use Rattle.claim_law.proofs.Claim.Told.{named_is}
 use Rattle.claim_law.proofs.Claim.Apart.{names_apart}
 use Rattle.grammar_law.proofs.Unit.Lists.{in_block}
 use Rattle.grammar_law.proofs.Meets.Roots.{named_variable}
+pub use Rattle.grammar_law.proofs.Grammar.Tops.{hoisted_is}
 use Rattle.text_law.specs.Alone.{AreAlone}
 use Rattle.text_law.specs.Names.{is_other, is_result, is_value_parameter, is_variable_name, is_local_form, is_written_private, is_outer_global, has_text, keeps, names_of}
 use Rattle.text_law.proofs.Naming.Alone.{variable_inst, outer_once, variable_once, lent_once, global_apart, private_once}
@@ -72,12 +72,6 @@ in_numbers : (xs : List (ℕ × ℕ)) (k : ℕ) (x : ℕ × ℕ) → IsIn x xs �
 in_numbers [] k x among same = absurd among
 in_numbers (y ∷ xs) k x (inl here) same = inl (ap (λ (n : ℕ × ℕ). n.0) here ∙ same)
 in_numbers (y ∷ xs) k x (inr among) same = inr (in_numbers xs k x among same)
-
-pub hoisted_is : (x : Form) → is_hoisted x ≡ true → x ≡ Hoisted
-hoisted_is Hoisted on = refl
-hoisted_is Gone on = cc
-hoisted_is Forwarded on = cc
-hoisted_is Local on = cc
 
 as_in : (ps : List (IdOf × IdOf)) (p : IdOf × IdOf) → IsParameter p ps → IsIn p ps
 as_in [] p one = absurd one

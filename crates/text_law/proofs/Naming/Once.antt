@@ -1,11 +1,12 @@
 -- No name is declared twice at the top of a planned function of a conforming module: each declaration has the name of a key of its own.
-use Rattle.std.proofs.Common.{◌≡◌, ◌≤◌, ◌+◌, ◌==◌, ◌&&◌, ◌||◌, not, ℕ, Bool, true, false, List, [], ◌∷◌, ◌++◌, append_assoc, map, filter, fold, unwrap_or, Option, Some, None, inl, inr, refl, sym, ap, ◌∙◌, subst, if◌then◌else◌, arith}
+use Rattle.std.proofs.Common.{◌≡◌, ◌≤◌, ◌+◌, ◌==◌, ◌&&◌, ◌||◌, not, ℕ, Bool, true, false, List, [], ◌∷◌, ◌++◌, map, filter, fold, unwrap_or, Option, Some, None, inl, inr, refl, sym, ap, ◌∙◌, subst, if◌then◌else◌, arith}
 use Rattle.std.specs.Prelude.{◌⊎◌, flat_map, Contains}
 use Rattle.std.specs.Option.{option_map_or}
 use Rattle.std.specs.List.{enumerate_from}
 use Rattle.std.proofs.lemmas.Bool.{and_parts, or_right}
 use Rattle.std.proofs.lemmas.Bool.Decides.{eqb_tells}
 use Rattle.std.proofs.lemmas.Option.{same_Some}
+use Rattle.std.proofs.lemmas.Grind.{flat_map-append}
 use Rattle.spv_ops.specs.Opcode.{is}
 use Rattle.spv_ops.specs.Groups.{is_chain}
 use Rattle.spv_ops.specs.declared.Op.{Op}
@@ -151,14 +152,10 @@ once_joined [] us a b far = b
 once_joined (t ∷ ts) us a b far =
     (none_joined t.name ts us a.0 (no_top t.name us (λ u there same. far t u (inl refl) there (sym same))), once_joined ts us a.1 b (λ v u x y same. far v u (inr x) y same))
 
-flat_joined : (g : Inst → List Top) (is js : List Inst) → flat_map g (is ++ js) ≡ flat_map g is ++ flat_map g js
-flat_joined g [] js = refl
-flat_joined g (i ∷ is) js = ap (λ l. g i ++ l) (flat_joined g is js) ∙ sym (append_assoc (g i) (flat_map g is) (flat_map g js))
-
 flat_blocks : (h : Block → List Top) (g : Inst → List Top) (bs : List Block) → ((b : Block) → h b ≡ flat_map g b.insts) → flat_map h bs ≡ flat_map g (flat_map (λ (b : Block). b.insts) bs)
 flat_blocks h g [] same = refl
 flat_blocks h g (b ∷ bs) same =
-    ap (λ l. l ++ flat_map h bs) (same b) ∙ (ap (λ l. flat_map g b.insts ++ l) (flat_blocks h g bs same) ∙ sym (flat_joined g b.insts (flat_map (λ (c : Block). c.insts) bs)))
+    ap (λ l. l ++ flat_map h bs) (same b) ∙ (ap (λ l. flat_map g b.insts ++ l) (flat_blocks h g bs same) ∙ sym (flat_map-append g b.insts (flat_map (λ (c : Block). c.insts) bs)))
 
 abbrev one_if : (Inst → Bool) → (Inst → Top) → Inst → List Top
 one_if test top i = if test i then top i ∷ [] else []

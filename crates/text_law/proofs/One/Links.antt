@@ -1,16 +1,11 @@
 -- A function and its reached blocks determine its linked slots.
-use Rattle.std.proofs.Common.{◌≡◌, ◌+◌, ℕ, suc, Bool, true, false, List, [], ◌∷◌, filter, map, Some, refl, ap, sym, ◌∙◌, subst, if◌then◌else◌, arith}
+use Rattle.std.proofs.Common.{◌≡◌, ◌+◌, ℕ, suc, Bool, false, List, [], ◌∷◌, filter, map, Some, refl, ap, sym, ◌∙◌, subst, if◌then◌else◌, arith}
 use Rattle.std.specs.List.{enumerate_from, slice_get, slice_index_or}
 use Rattle.spv_module.specs.declared.inst.Function.{Function}
+use Rattle.list_law.proofs.Tests.{same_tests}
 use Rattle.use_chains.specs.declared.mention.Mention.{Mention}
 use Rattle.use_chains.specs.Slots.{slots}
 use Rattle.use_chains.specs.Links.{Link, link_of, AreLiveLinks}
-
-same_tests : (a b : Bool) → (a ≡ true → b ≡ true) → (b ≡ true → a ≡ true) → a ≡ b
-same_tests true true there back = refl
-same_tests true false there back = sym (there refl)
-same_tests false true there back = back refl
-same_tests false false there back = refl
 
 -- slots that are kept by their numbers, where two ways of telling agree on each
 kept_one : (p q : ℕ → Bool) (n : ℕ) (ms : List Mention) → ((k : ℕ) (m : Mention) → slice_get ms k ≡ Some m → p (n + k) ≡ q (n + k))

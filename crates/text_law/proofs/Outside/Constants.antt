@@ -57,16 +57,13 @@ use Rattle.global_law.proofs.Constant.Written.{no_pointee}
 use Rattle.global_law.proofs.Constant.Standing.{any_among, scalar_fit, constant_op, declared_by}
 use Rattle.global_law.proofs.Constant.Constants.{AreFunctions, IsReadHere, mentioned_needed, constants_say}
 use Rattle.fits_law.proofs.Steps.{named}
+use Rattle.claim_law.proofs.Claim.Apart.{size_reserved}
 use Rattle.text_law.specs.Names.{is_outer_global, has_text}
 use Rattle.text_law.proofs.Naming.Keys.{S, found as names_found, key as key_of, R, names as names_in}
 use Rattle.text_law.specs.Left.{IsLeftOfGlobals}
 use Rattle.text_law.proofs.Outside.Text.{fs as function_items, are_functions, asked as asked_of, P as program_in}
 
 -- the name of the size of workgroups begins with a reserved prefix
-size_prefixed : has_prefix group_size_text ≡ true
-unfolding has_prefix
-size_prefixed = refl
-
 module _ (bytes : List ℕ) (m : ModuleState) (o : Options) (read : IsReadFrom bytes m) (fine : IsFine m o) (unit : TranslationUnit) (u : IsUnitOf m o unit) (inv : Invocation) (told : IsInvocation inv) (left : IsLeftOfGlobals bytes m o) where
   abbrev s : Setting
   s = S m o unit u inv
@@ -163,7 +160,7 @@ module _ (bytes : List ℕ) (m : ModuleState) (o : Options) (read : IsReadFrom b
         named_as = constant_shape (written p) n it.inst it.shape it.there constant it.typed_as;
         needed = λ reads. needed;
         outside = outside;
-        size = or_left (has_prefix group_size_text) (list_any (has_text s o.overrides r key group_size_text) Gs) size_prefixed;
+        size = or_left (has_prefix group_size_text) (list_any (has_text s o.overrides r key group_size_text) Gs) size_reserved;
       }
 
       -- Where no variable hides it, the expression of a constant that a function mentions says its value.

@@ -38,6 +38,7 @@ use Rattle.list_law.proofs.Options.{none_some}
 use Rattle.plan_law.specs.InOrder.{IsAmong, AreRising}
 use Rattle.fits_law.proofs.Steps.{named}
 use Rattle.type_law.proofs.Vectors.{five_off}
+use Rattle.type_law.proofs.Parts.{array_op, struct_op, constant_length as fixed_length}
 use Rattle.typed_law.specs.Conforms.{IsConforming}
 use Rattle.typed_law.proofs.Lists.{and_left, and_off, found_in, earlier_some}
 use Rattle.typed_law.proofs.Rules.{formed_type}
@@ -60,27 +61,6 @@ one_in : (f : Inst → ℕ) (gs : List Inst) (g : Inst) → IsAmong g gs → f g
 one_in f [] g there = absurd there
 one_in f (x ∷ gs) g (inl same) = subst (λ n. f g ≤ n) (sym (sum_by-cons f x gs)) (subst (λ (y : Inst). f g ≤ f y + sum_by f gs) (sym same) (let le : f g ≤ f g + sum_by f gs = omega arith in le))
 one_in f (x ∷ gs) g (inr there) = let rest = one_in f gs g there in subst (λ n. f g ≤ n) (sym (sum_by-cons f x gs)) (let le : f g ≤ f x + sum_by f gs = omega (arith, rest) in le)
-
--- opcodes: a length that is a number is that of OpConstant
-fixed_length : (o : Op) (id w : ℕ) (n : ℕ) → length_of o id w ≡ Some (Fixed n) → (is o code.Constant ≡ true) × (w ≡ n)
-unfolding number
-fixed_length code.Constant id w n e = (refl, let same : w ≡ n = cc in same)
-fixed_length code.SpecConstantTrue id w n e = cc
-fixed_length code.SpecConstantFalse id w n e = cc
-fixed_length code.SpecConstant id w n e = cc
-fixed_length code.SpecConstantComposite id w n e = cc
-fixed_length code.SpecConstantOp id w n e = cc
-fixed_length o id w n e = cc
-
-array_op : (o : Op) → kind o ≡ type_kinds.Array → is o code.TypeArray ≡ true
-unfolding kind number
-array_op code.TypeArray e = refl
-array_op o e = cc
-
-struct_op : (o : Op) → kind o ≡ type_kinds.Struct → is o code.TypeStruct ≡ true
-unfolding kind number
-struct_op code.TypeStruct e = refl
-struct_op o e = cc
 
 -- what is told of ids, one instruction after another: of an id that no instruction behind has, what was told before
 module _ (step : (ℕ → ℕ) → Inst → ℕ) where

@@ -2,6 +2,7 @@
 use Rattle.std.proofs.Common.{◌≡◌, ◌<◌, ◌==◌, ◌++◌, ℕ, suc, Bool, true, false, List, [], ◌∷◌, find, flat_map, length, map, Contains, Option, Some, None, inl, inr, refl, sym, ap, ◌∙◌, arith, if◌then◌else◌}
 use Rattle.std.specs.Prelude.{◌⊎◌, bytes_eq, option_map, option_to_list}
 use Rattle.std.proofs.lemmas.Bool.Decides.{eqb_tells}
+use Rattle.std.proofs.lemmas.Option.{same_Some}
 use Rattle.spv_module.specs.State.{ModuleState}
 use Rattle.spv_module.specs.declared.inst.Id.{Id as IdOf}
 use Rattle.profile_rules.specs.Calls.{numbers}
@@ -26,10 +27,7 @@ in_numbers (k ∷ order) n (inr rest) = let w = in_numbers order n rest in let l
 
 -- ids with one number have one plan
 one_plan : (ps : List FunctionPlan) (a b : IdOf) (p q : FunctionPlan) → a.0 ≡ b.0 → find (has_id a) ps ≡ Some p → find (has_id b) ps ≡ Some q → p ≡ q
-one_plan ps a b p q same first second = some_same (sym first ∙ (ap (λ (n : ℕ). find (λ (x : FunctionPlan). (written x).id.0 == n) ps) same ∙ second))
-  where
-    some_same : Some p ≡ Some q → p ≡ q
-    some_same e = cc
+one_plan ps a b p q same first second = same_Some p q (sym first ∙ (ap (λ (n : ℕ). find (λ (x : FunctionPlan). (written x).id.0 == n) ps) same ∙ second))
 
 module _ (m : ModuleState) (o : Options) (unit : TranslationUnit) (u : IsUnitOf m o unit) (inv : Invocation) (n : IdOf) (p : FunctionPlan) (at : find (has_id n) u.plans ≡ Some p) where
   abbrev Bodies : List IdOf → List (Text × Stmts)

@@ -1,6 +1,6 @@
 -- The names of keys are none with which paths to memory begin, but those of what memory is: so are those of values, of kept indexes, of flags and of spares.
 use Rattle.std.proofs.Common.{◌≡◌, ◌++◌, ℕ, Bool, true, false, List, [], ◌∷◌, Option, Some, None, unwrap_or, inl, inr, refl, sym, ap, ◌∙◌, subst, arith}
-use Rattle.std.specs.Prelude.{bytes_eq, codes, option_to_list}
+use Rattle.std.specs.Prelude.{bytes_eq, option_to_list}
 use Rattle.std.proofs.lemmas.Bool.{or_from}
 use Rattle.spv_module.specs.Lists.{id}
 use Rattle.name_alloc.specs.declared.claims.Key.{Key}
@@ -16,6 +16,7 @@ use Rattle.typed_law.proofs.Lists.{clash}
 use Rattle.claim_law.specs.Claimed.{IsIn}
 use Rattle.claim_law.specs.Apart.{is_flow, IsFlow}
 use Rattle.claim_law.specs.Told.{built_in_variables}
+use Rattle.claim_law.proofs.Claim.Apart.{main_free, size_reserved}
 use Rattle.grammar_law.proofs.Grammar.FunctionsMade.{flow_own}
 use Rattle.text_law.specs.Walks.{is_in}
 use Rattle.text_law.specs.Pairs.{Naming}
@@ -38,14 +39,6 @@ none_reserved (y ∷ ys) reserved x off =
 empty_free : has_prefix [] ≡ false
 unfolding has_prefix
 empty_free = refl
-
-size_reserved : has_prefix group_size_text ≡ true
-unfolding has_prefix
-size_reserved = refl
-
-main_free : has_prefix (codes "main") ≡ false
-unfolding has_prefix
-main_free = refl
 
 -- the number of an id's key
 abbrev number_of : Key → ℕ

@@ -30,6 +30,7 @@ use Rattle.expr_forward.specs.Statements.{is_variable_form}
 use Rattle.function_plan.specs.Phis.{is_gone}
 use Rattle.function_text.specs.Functions.{FunctionPlan, written}
 use Rattle.unit_rules.specs.Unit.{claims_by, source_of, IsUnitOf}
+use Rattle.list_law.proofs.Tests.{off_on}
 use Rattle.agree_law.specs.Points.{Body}
 use Rattle.call_law.specs.Known.{IsFunctionOf, LendsWhole}
 use Rattle.typed_law.specs.Conforms.{IsConforming}
@@ -75,10 +76,7 @@ module _ (bytes : List ℕ) (m : ModuleState) (o : Options) (read : IsReadFrom b
   -- 0 has no variable
   some_result : (i : Inst) → is_variable_form (p.scope.form i.result) ≡ true → i.result ≡ 0 → ⊥
   some_result i on zero =
-      never (sym (ap is_variable_form (ap p.scope.form zero ∙ (ap (λ (w : Scope). w.form 0) (plan_is s o.entry right kinds o unit u p among).scope_is ∙ unmade_gone m.globals (F s o.entry right kinds o unit u p among) (plan_is s o.entry right kinds o unit u p among).links))) ∙ on)
-    where
-      never : false ≡ true → ⊥
-      never e = cc
+      off_on (sym (ap is_variable_form (ap p.scope.form zero ∙ (ap (λ (w : Scope). w.form 0) (plan_is s o.entry right kinds o unit u p among).scope_is ∙ unmade_gone m.globals (F s o.entry right kinds o unit u p among) (plan_is s o.entry right kinds o unit u p among).links))) ∙ on)
 
   -- an instruction of a reached block whose result has a variable
   module _ (is_one : IsFunctionOf f m.functions) (form : IsFormedFunction f) (b : ℕ) (body : Body f b) (has : reached_body f form b ≡ Some body) (i : Inst) (in_it : IsIn i body.block.insts) (on : is_variable_form (p.scope.form i.result) ≡ true) where

@@ -1,6 +1,6 @@
 -- No function of an accepted module's text is called as a built-in function: such names are reserved.
 use Rattle.std.proofs.Common.{◌≡◌, ◌||◌, ◌⊎◌, ℕ, Bool, true, false, List, [], ◌∷◌, map, Option, Some, None, inl, inr, refl, ap, ◌∙◌, subst, unwrap_or}
-use Rattle.std.specs.Prelude.{bytes_eq, codes, option_to_list}
+use Rattle.std.specs.Prelude.{bytes_eq, codes}
 use Rattle.std.proofs.lemmas.Slice.Eq.{bytes_eq-Decides}
 use Rattle.spv_module.specs.State.{ModuleState}
 use Rattle.conformance.specs.Rules.{Options}
@@ -72,11 +72,6 @@ functions_other (p ∷ ps) d w each off =
     functions_other ps (with_item d (function_decl p)) w (λ q among. each q (inr among)) (ap (λ (b : Bool). elim b [ true ↦ true | false ↦ d.program.is_function w ]) (each p (inl refl)) ∙ off)
 
 -- a plan in the order of calls is one of the plans
-of_option : (x : FunctionPlan) (q : Option FunctionPlan) → IsIn x (option_to_list q) → q ≡ Some x
-of_option x None among = absurd among
-of_option x (Some y) (inl same) = ap (λ (z : FunctionPlan). Some z) same
-of_option x (Some y) (inr none) = absurd none
-
 module _ (bytes : List ℕ) (m : ModuleState) (o : Options) (read : IsReadFrom bytes m) (fine : IsFine m o) (unit : TranslationUnit) (u : IsUnitOf m o unit) (inv : Invocation) (told : IsInvocation inv) (left : IsLeftOfGlobals bytes m o) where
   abbrev found : Key → Option Text
   found = names_found m o unit u inv

@@ -22,6 +22,7 @@ use Rattle.expr_forward.specs.Kinds.{kind_of}
 use Rattle.expr_forward.specs.Values.{value}
 use Rattle.expr_forward.specs.Statements.{set_by, set, is_void, has_result, semantics, bare_call, when_bit, memory_barrier, capture, captured_of, insert_text, is_variable_form, insert_where_named, inst_text, insts_at}
 use Rattle.function_text.specs.Functions.{FunctionPlan, written, is_variable, is_hoisted_in, move_text, blocks_of, top_text, body_text}
+use Rattle.list_law.proofs.Lists.{map_joined}
 use Rattle.text_law.specs.Declarations.{valued, unset, opened, occurs, AreSame}
 use Rattle.text_law.specs.Variables.{of_result, variables, hoisted, locals, index_key, kept_of, kept, all_flags, with_value, without_value}
 use Rattle.text_law.proofs.Variables.Texts.{declared_both, times_in, times_both}
@@ -91,10 +92,6 @@ twice : (name : Key → Text) (is : List Inst) → map name (map of_result is) �
 twice name [] = refl
 twice name (i ∷ is) = ap (λ (l : List Text). name (Id (id i.result)) ∷ l) (twice name is)
 
-mapped_both : (name : Key → Text) (a b : List Key) → map name (a ++ b) ≡ map name a ++ map name b
-mapped_both name [] b = refl
-mapped_both name (k ∷ a) b = ap (λ (l : List Text). name k ∷ l) (mapped_both name a b)
-
 module _ (p : FunctionPlan) where
   abbrev w : Scope
   w = p.scope
@@ -122,7 +119,7 @@ module _ (p : FunctionPlan) where
   all_kept : (is : List Inst) → map name (flat_map (kept_of (globals w) f w.form w.carried) is) ≡ flat_map (kept_named w) is
   all_kept [] = refl
   all_kept (i ∷ is) =
-      mapped_both name (kept_of (globals w) f w.form w.carried i) (flat_map (kept_of (globals w) f w.form w.carried) is)
+      map_joined name (kept_of (globals w) f w.form w.carried i) (flat_map (kept_of (globals w) f w.form w.carried) is)
       ∙ (ap (λ (l : List Text). l ++ map name (flat_map (kept_of (globals w) f w.form w.carried) is)) (kept_are i) ∙ ap (λ (l : List Text). kept_named w i ++ l) (all_kept is))
 
   -- what is declared without a value
@@ -135,7 +132,7 @@ module _ (p : FunctionPlan) where
   body_unset =
       unset_top
       ∙ (top_unset w f.blocks
-      ∙ sym (mapped_both name (hoisted (globals w) f w.form w.carried) (kept (globals w) f w.form w.carried)
+      ∙ sym (map_joined name (hoisted (globals w) f w.form w.carried) (kept (globals w) f w.form w.carried)
       ∙ (ap (λ (l : List Text). l ++ map name (kept (globals w) f w.form w.carried)) (twice name (filter (is_hoisted_in w) (insts_of f)))
       ∙ ap (λ (l : List Text). map (named w) (filter (is_hoisted_in w) (insts_of f)) ++ l) (all_kept (insts_of f)))))
 

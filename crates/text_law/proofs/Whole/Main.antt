@@ -10,6 +10,7 @@ use Rattle.spv_module.specs.declared.inst.Id.{Id as IdOf}
 use Rattle.spv_module.specs.declared.inst.Inst.{Inst}
 use Rattle.spv_module.specs.declared.inst.Block.{Block}
 use Rattle.spv_decor.specs.Rows.{member_name_of}
+use Rattle.list_law.proofs.Lists.{same_first, same_rest}
 use Rattle.spv_index.specs.Locals.{insts_of}
 use Rattle.layout_rules.specs.Blocks.{block_of}
 use Rattle.conformance.specs.Rules.{Options}
@@ -106,12 +107,6 @@ module _ (s : Source) (r : Reached) where
       (none_flat (λ (p : Plan). flat_map (claim_flow p) (enumerate_from 0 p.function.blocks)) plans (λ p. none_flat (claim_flow p) (enumerate_from 0 p.function.blocks) (none_flow p))))
 
 -- the first claim of main gives its name, where no other is of it
-head_is : (c d : Claim) (cs ds : List Claim) → c ∷ cs ≡ d ∷ ds → c ≡ d
-head_is c d cs ds e = cc
-
-tail_is : (c d : Claim) (cs ds : List Claim) → c ∷ cs ≡ d ∷ ds → cs ≡ ds
-tail_is c d cs ds e = cc
-
 no_main : (key : Key) → is_main key ≡ false → same_key key Main ≡ false
 no_main Main off = cc
 no_main key off = refl
@@ -129,8 +124,8 @@ first_named c key =
 main_named : (cs : List ClaimOf) (more : List Claim) → claims_of cs ≡ (Main, None) ∷ more → HaveNoMain more → name_of cs Main ≡ Some (codes "main")
 main_named [] more e none = cc
 main_named (c ∷ cs) more e none =
-    let first = head_is (claim_of c) (Main, None) (claims_of cs) more e in
-    let rest = tail_is (claim_of c) (Main, None) (claims_of cs) more e in
+    let first = same_first (claim_of c) (Main, None) (claims_of cs) more e in
+    let rest = same_rest (claim_of c) (Main, None) (claims_of cs) more e in
     name_before (c ∷ []) cs Main (unclaimed cs (subst HaveNoMain (sym rest) none)) ∙ first_named c (ap (λ (d : Claim). d.0) first)
 
 module _ (m : ModuleState) (o : Options) (unit : TranslationUnit) (u : IsUnitOf m o unit) where

@@ -14,6 +14,7 @@ use Rattle.phi_copies.specs.Sequence.{Pair, target, no_pair, pair_at, spare_of, 
 use Rattle.phi_copies.proofs.Reading.{saves_cons}
 use Rattle.glsl_semantics.specs.Shapes.{Shape, uint, same_shape}
 use Rattle.list_law.proofs.Numbers.{number_itself}
+use Rattle.list_law.proofs.Options.{no_some}
 use Rattle.agree_law.specs.Agree.{Naming}
 use Rattle.edge_law.specs.Copies.{EdgeNames, IsSource, IsTyped, AreTyped, IsRead, Reads, AllReads}
 use Rattle.claim_law.specs.Claimed.{IsIn}
@@ -24,9 +25,6 @@ saved_in [] k = None
 saved_in (Set v s ∷ h) k = saved_in h k
 saved_in (Save j v ∷ h) k = if j == k then Some v.0 else saved_in h k
 saved_in (Restore v j ∷ h) k = saved_in h k
-
-no_some : {A : Type 0} (a : ℕ) → None ≡ Some a → A
-no_some a e = cc
 
 -- what is known of a history
 record IsTold (h : List Move) : Type 0 where

@@ -11,7 +11,7 @@ use Rattle.profile_rules.specs.FlowRules.{every_second, has_repeat}
 use Rattle.phi_copies.proofs.Reading.{as_number}
 use Rattle.function_plan.specs.Phis.{values_in, comes_from}
 use Rattle.module_semantics.specs.Steps.{source_from}
-use Rattle.list_law.proofs.Numbers.{odd_on}
+use Rattle.list_law.proofs.Numbers.{odd_on, even_again}
 use Rattle.claim_law.specs.Claimed.{IsIn}
 use Rattle.grammar_law.proofs.Unit.Lists.{none_passes}
 use Rattle.function_law.proofs.PhiSources.{comes_is}
@@ -26,13 +26,10 @@ seconds n ws = map (λ (o : ℕ × ℕ). o.1) (filter (λ (o : ℕ × ℕ). o.0 
 even_no : (n : ℕ) → (n % 2 == 0) ≡ true → (n % 2 == 1) ≡ false
 even_no n e = grind (arith, nat_tests, e)
 
-even_after : (n : ℕ) → (n % 2 == 0) ≡ true → ((n + 1 + 1) % 2 == 0) ≡ true
-even_after n e = grind (arith, nat_tests, e)
-
 labels_are : (n : ℕ) (ws : List ℕ) → (n % 2 == 0) ≡ true → seconds n ws ≡ labels (values_in ws)
 labels_are n [] e = refl
 labels_are n (a ∷ []) e = rw (even_no n e) refl
-labels_are n (a ∷ b ∷ ws) e = pair n a b ws e ∙ ap (λ l. b ∷ l) (labels_are (n + 1 + 1) ws (even_after n e))
+labels_are n (a ∷ b ∷ ws) e = pair n a b ws e ∙ ap (λ l. b ∷ l) (labels_are (n + 1 + 1) ws (even_again n e))
   where
     pair : (n a b : ℕ) (ws : List ℕ) → (n % 2 == 0) ≡ true → seconds n (a ∷ b ∷ ws) ≡ b ∷ seconds (n + 1 + 1) ws
     pair n a b ws e = rw (even_no n e, odd_on n e) refl

@@ -1,5 +1,5 @@
 -- Into a case target that is fallen into, and has no flag, no copies are made: it has no live phi.
-use Rattle.std.proofs.Common.{◌≡◌, ◌<◌, ◌≤◌, ◌+◌, ◌++◌, ◌==◌, ◌||◌, ℕ, zero, suc, Bool, true, false, List, [], ◌∷◌, length, map, filter, flat_map, find, reverse, Option, Some, None, is_some, inl, inr, refl, sym, ap, ◌∙◌, subst, if◌then◌else◌, arith}
+use Rattle.std.proofs.Common.{◌≡◌, ◌<◌, ◌≤◌, ◌+◌, ◌==◌, ◌||◌, ℕ, zero, suc, Bool, true, false, List, [], ◌∷◌, length, map, filter, flat_map, find, reverse, Option, Some, None, is_some, inl, inr, refl, sym, ap, ◌∙◌, subst, if◌then◌else◌, arith}
 use Rattle.std.specs.Prelude.{slice_get, option_map}
 use Rattle.std.specs.Option.{option_map_or}
 use Rattle.std.specs.List.{list_any, enumerate_from}
@@ -32,6 +32,7 @@ use Rattle.claim_law.proofs.Claim.Listed.{in_flat, any_in}
 use Rattle.typed_law.proofs.Lists.{clash}
 use Rattle.grammar_law.proofs.Unit.Lists.{same_test, numbered_first}
 use Rattle.text_law.proofs.Naming.Tree.{among_that}
+use Rattle.text_law.proofs.Moves.PhiOperands.{some_behind}
 use Rattle.safe_law.proofs.Flags.{planned, found}
 
 -- what leads somewhere is led to
@@ -61,10 +62,6 @@ none_next (m ∷ h) next = elim next.0 [
   | inl c ↦ (let below = c.first.holds.still.below in absurd (omega (arith, below)))
   | inr c ↦ (let below = c.first.holds.below in absurd (omega (arith, below)))
 ]
-
-some_behind : (xs : List Move) (m : Move) → xs ++ m ∷ [] ≡ [] → ⊥
-some_behind [] m e = cc
-some_behind (x ∷ xs) m e = cc
 
 no_moves : (moves : List Move) → IsSequence [] moves → moves ≡ []
 no_moves [] is = refl

@@ -24,6 +24,7 @@ use Rattle.text_rules.specs.Declarations.{shape_at}
 use Rattle.function_text.specs.Functions.{FunctionPlan, written}
 use Rattle.unit_rules.specs.Unit.{IsUnitOf}
 use Rattle.fits_law.specs.State.{value_shape, HasShape, IdsFit, ModuleFits}
+pub use Rattle.fits_law.proofs.Steps.{has_is as has_shape}
 use Rattle.global_law.specs.Parts.{shape_in}
 use Rattle.global_law.specs.Walks.{struct_names}
 use Rattle.global_law.specs.Sources.{source_of}
@@ -54,10 +55,6 @@ module _ (m : ModuleState) (opts : Options) (unit : TranslationUnit) (u : IsUnit
       by_type (Some ty) typed shaped = shape_of_type n ty t typed shaped
 
 -- what fits a shape has one
-pub has_shape : (o : Option Tree) (v : ValueTree) → HasShape o v → (t : Tree) × (o ≡ Some t) × (fits t v ≡ true)
-has_shape None v has = absurd has
-has_shape (Some t) v has = (t, refl, has)
-
 -- what an id has is of its type
 pub value_has : (s : Setting) → ModuleFits s → (fs : List Function) (c : Frame) (n : ℕ) (v : ValueTree) → IdsFit s fs c.function c.ids → value_at s c n ≡ Some v → HasShape (value_shape s c.function n) v
 value_has s fits fs c n v ids is = by_id (c.ids n) refl is

@@ -1,4 +1,4 @@
-use Rattle.std.proofs.Common.{◌-◌, ◌<◌, ◌^◌, ℕ, List, length, drop, length-drop, sym, subst, arith}
+use Rattle.std.proofs.Common.{◌<◌, ◌^◌, ℕ, List, length, drop, length-drop, sym, subst, arith}
 use Rattle.access_paths.proofs.indexes.few_indexes.Goals as goal
 
 fewer : (xs : List ℕ) → length xs < 2 ^ 32 → length (drop 1 xs) < 2 ^ 32

@@ -1,5 +1,6 @@
 -- The measure of each kind of type, and of one more member.
 use Rattle.std.proofs.Common.{◌≡◌, ◌||◌, ℕ, ◌+◌, Bool, is_none, get_or, min, ap, subst, ◌∙◌, arith, drop, refl}
+use Rattle.std.proofs.Math.Bool.{or_assoc}
 use Rattle.spv_words.specs.declared.rule.Rule.{Rule}
 use Rattle.spv_words.specs.declared.rule.Rule.TheVariants.{L1, L2, L3, L6, L7}
 use Rattle.spv_types.specs.View.{tree_of, trees_of}
@@ -9,7 +10,7 @@ use Rattle.layout_rules.specs.Parts.{part_id, any_part, any_member}
 use Rattle.layout_rules.specs.Rules.{breaks, is_other, lacks_from, others_from}
 use Rattle.buffer_layout.specs.Measures.{IsMeasure}
 use Rattle.buffer_layout.proofs.Bytes.{capped_aligned, greatest_next, greatest_positive}
-use Rattle.buffer_layout.proofs.Steps.{end_before, end_before_next, end_step, lacks_next, others_next, member_next, one_more, two_more}
+use Rattle.buffer_layout.proofs.Steps.{end_before, end_before_next, end_step, lacks_next, others_next, member_next, two_more}
 use Rattle.buffer_layout.proofs.Measures.{array_measure, runtime_measure, struct_measure}
 use Rattle.buffer_layout.proofs.measure.+measuring.Goals as goal
 
@@ -74,10 +75,10 @@ measure_members-loop-k-preserved t c =
       positive = omega (arith, with.alignment, known.positive);
       small = omega (arith, with.alignment, known.small, is.small);
       l1 = cc (with.l1, is.l1, c.offset_of.ensures, member L1, lacks_next heads id i l i m inside, known.l1, two_more all.lacks_offset (is_none c.offset_of.result) found.lacks_offset (lacks_from heads id (i + 1) (trees_of (drop (i + 1) l))) (rest L1));
-      l2 = cc (with.l2, is.l2, member L2, known.l2, one_more all.other_stride found.other_stride (rest L2));
-      l3 = cc (with.l3, is.l3, member L3, known.l3, one_more all.has_bool found.has_bool (rest L3));
+      l2 = cc (with.l2, is.l2, member L2, known.l2, or_assoc all.other_stride found.other_stride (rest L2));
+      l3 = cc (with.l3, is.l3, member L3, known.l3, or_assoc all.has_bool found.has_bool (rest L3));
       l6 = cc (other, is.l6, is.alignment, c.offset_of.ensures, member L6, others_next heads kind id i end l i m inside, more, known.l6, two_more all.other_offset (is_other c.offset_of.result (aligned end found.alignment)) found.other_offset (others_from heads kind id (i + 1) (end_before kind l (i + 1)) (trees_of (drop (i + 1) l))) (rest L6));
-      l7 = cc (with.l7, is.l7, member L7, known.l7, one_more all.ends_past found.ends_past (rest L7));
+      l7 = cc (with.l7, is.l7, member L7, known.l7, or_assoc all.ends_past found.ends_past (rest L7));
     }
 
 pub measure_array-returns : goal.measure_array-returns

@@ -4,8 +4,9 @@ use Rattle.std.specs.BTreeSet.{contains}
 use Rattle.std.specs.Ordering.{nat_cmp}
 use Rattle.std.specs.Vec.{with_items}
 use Rattle.std.proofs.lemmas.List.{with_items_is}
+use Rattle.list_law.proofs.Numbers.{not_past}
 use Rattle.call_order.specs.Graph.{callers}
-use Rattle.call_order.proofs.Steps.{callers_below, enough_calls, state_push, caller_below, least_is}
+use Rattle.call_order.proofs.Steps.{callers_below, enough_calls, state_push, caller_below}
 use Rattle.call_order.proofs.Unlisted.{unlisted_push}
 use Rattle.call_order.proofs.queue.list.Goals as goal
 
@@ -41,7 +42,7 @@ loop-next-preserved c =
     rw (c.in_ok-push.ensures.items, items)
     (state_push c.args.calls.now (length c.args.callers.now) c.loop-next.order.items c.loop-next.missing.items (contains nat_cmp c.loop-next.ready) c.in-Some.next (contains nat_cmp c.pop_first.new.self) c.release.new.missing (contains nat_cmp c.release.new.ready)
     c.loop-next.invariant here
-    (λ p h. least_is c.in-Some.next p (c.in-Some.ensures.least p h))
+    (λ p h. not_past c.in-Some.next p (c.in-Some.ensures.least p h))
     c.in-Some.ensures.updates.0
     (λ p. caller_below c.args.calls.now (length c.args.callers.now) c.in-Some.next p c.requires.below)
     released)

@@ -7,7 +7,8 @@ use Rattle.group_items.specs.Schedule.{among, Comes}
 use Rattle.group_items.specs.Playing.{IsAt}
 use Rattle.group_items.specs.Played.{IsPlayed, HasStopped, IsThrough, TooMuchIn, RoundsEnd, RoundsTooMuch}
 use Rattle.group_items.proofs.Plays.{other_error}
-use Rattle.group_items.proofs.Ending.{if_ok_both, first_stops, first_too_much, rounds_end, rounds_too_much}
+use Rattle.list_law.proofs.Results.{if_ok_both}
+use Rattle.group_items.proofs.Ending.{first_stops, first_too_much, rounds_end, rounds_too_much}
 use Rattle.group_items.proofs.Naming.{among_inside}
 use Rattle.group_items.proofs.sequence.play_schedule.Goals as goal
 
@@ -53,8 +54,9 @@ returns-clause-comes g c =
     let is = c.deref.ensures.value ∙ c.in_ok-items.ensures ∙ ap (λ n. among n first) c.requires.1.1.1.0 in
     let played = subst (λ q. IsPlayed g.d runs old c.deref.result.now mid q) c.in-Through.is c.in_ok-end.ensures.played in
     let through = subst (λ es. IsThrough g.d runs es (among g.d.count first) (length (among g.d.count first)) mid waits) (ap events_of c.requires.1.1.0) (subst (λ xs. IsThrough g.d runs old xs (length xs) mid waits) is played) in
-    if_ok_both (RoundsEnd g.d (g.R.Runner.runs c.play_all.new.side) mid new) (Comes g.d runs first new (stored c.rounds.new.play.store.maps.items)) (IsAt g.d (g.R.Runner.at c.rounds.new.side) c.rounds.new.play) c.rounds.result c.rounds.ensures.end c.rounds.ensures.at
+    if_ok_both (RoundsEnd g.d (g.R.Runner.runs c.play_all.new.side) mid new) (λ _. IsAt g.d (g.R.Runner.at c.rounds.new.side) c.rounds.new.play) (Comes g.d runs first new (stored c.rounds.new.play.store.maps.items)) c.rounds.result
     (λ e r a. subst (λ s. Comes g.d runs first new s e) a.store (rounds_end g.d runs first mid new waits e through (subst (λ q. RoundsEnd g.d q mid new e) c.in_ok-end.ensures.runs r)))
+    c.rounds.ensures.end c.rounds.ensures.at
 
 pub returns-clause-events : goal.returns-clause-events
 returns-clause-events g c =

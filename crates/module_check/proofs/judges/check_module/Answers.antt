@@ -1,4 +1,6 @@
 use Rattle.std.proofs.Common.{◌≡◌, Err, Result, IfErr, rules, subst, sym}
+use Rattle.list_law.proofs.Results.{if_ok_both}
+use Rattle.std.proofs.lemmas.Result.{IfOk-weaker, IfErr-weaker, on_ok_weaker}
 use Rattle.declaration_check.specs.declared.declarations.Entry.{Entry}
 use Rattle.profile_rules.specs.Calls.{IsCallOrder, numbers}
 use Rattle.profile_rules.specs.Entry.{group_size}
@@ -8,7 +10,7 @@ use Rattle.spv_module.specs.State.{ModuleState}
 use Rattle.conformance.specs.Rules.{Options}
 use Rattle.module_check.specs.Asked.{asked}
 use Rattle.module_check.specs.Judged.{IsFineLater, IsLaterFault, IsFine, IsFault, IsEntry, by_types, by_later}
-use Rattle.module_check.proofs.Causes.{declared_by, chosen_by, entry_is_function, typed_by, on_ok, if_ok, if_ok_both, if_err}
+use Rattle.module_check.proofs.Causes.{declared_by, chosen_by, entry_is_function, typed_by}
 use Rattle.module_check.proofs.OfBytes.{own_functions, called_functions}
 use Rattle.module_check.proofs.judges.check_module.Goals as goal
 
@@ -37,7 +39,7 @@ returns-clause-passes c =
     let m : ModuleState = c.args.module.now in
     let o : Options = asked c.args.options.now in
     let id = c.in_ok-entry.entry.function.0 in
-    on_ok (IsFineLater m o.overrides id) (IsFine m o) c.check_later.result
+    on_ok_weaker {P = IsFineLater m o.overrides id} {Q = IsFine m o} c.check_later.result
     (λ later.
     record {
       declared = declared_by m o _ c.entry_name.ensures c.in_ok-entry.ensures.passes;
@@ -52,7 +54,7 @@ returns-clause-refused c =
     let m : ModuleState = c.args.module.now in
     let o : Options = asked c.args.options.now in
     let id = c.in_ok-entry.entry.function.0 in
-    if_err (IsLaterFault m o.overrides id) (IsFault m o) c.check_later.result
+    IfErr-weaker c.check_later.result (IsLaterFault m o.overrides id) (IsFault m o)
     (λ fault h.
     by_later (declared_by m o _ c.entry_name.ensures c.in_ok-entry.ensures.passes) (typed_by m c.in_ok-check_types.ensures.passes c.in_ok-check_types.ensures.unbroken c.in_ok-check_types.ensures.within) id
     (chosen_by m o _ id c.entry_name.ensures c.in_ok-entry.ensures.chosen) h) c.check_later.ensures.refused
@@ -63,14 +65,14 @@ returns-clause-entry c =
     let o : Options = asked c.args.options.now in
     let entry : Entry = c.in_ok-entry.entry in
     let is : IsEntry m o entry.function.0 = chosen_by m o _ entry.function.0 c.entry_name.ensures c.in_ok-entry.ensures.chosen in
-    if_ok (λ (f : Conforming). f.entry ≡ entry) (λ (f : Conforming). IsEntry m o f.entry.function.0) c.check_later.result
+    IfOk-weaker c.check_later.result (λ (f : Conforming). f.entry ≡ entry) (λ (f : Conforming). IsEntry m o f.entry.function.0)
     (λ f same. subst (λ (e : Entry). IsEntry m o e.function.0) (sym same) is) c.check_later.ensures.entry
 
 pub returns-clause-size : goal.returns-clause-size
 returns-clause-size c =
     let m : ModuleState = c.args.module.now in
     let entry : Entry = c.in_ok-entry.entry in
-    if_ok (λ (f : Conforming). f.entry ≡ entry) (λ (f : Conforming). f.entry.size.items ≡ group_size m f.entry.function.0) c.check_later.result
+    IfOk-weaker c.check_later.result (λ (f : Conforming). f.entry ≡ entry) (λ (f : Conforming). f.entry.size.items ≡ group_size m f.entry.function.0)
     (λ f same. subst (λ (e : Entry). e.size.items ≡ group_size m e.function.0) (sym same) c.in_ok-entry.ensures.size) c.check_later.ensures.entry
 
 pub returns-clause-order : goal.returns-clause-order

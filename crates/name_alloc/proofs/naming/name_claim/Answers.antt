@@ -1,4 +1,6 @@
 use Rattle.std.proofs.Common.{None, Some, refl, sym, ◌∙◌}
+use Rattle.std.proofs.lemmas.Result.{on_ok_weaker}
+use Rattle.list_law.proofs.Results.{if_ok_both}
 use Rattle.glsl_ast.specs.View.{name_text}
 use Rattle.name_alloc.specs.declared.space.Spaces.{Spaces}
 use Rattle.name_alloc.specs.Taken.{claimed_name}
@@ -11,23 +13,25 @@ claim-requires c = c.requires.each None c.args.spaces.now.text refl
 pub claim-requires-in-Some : goal.claim-requires-in-Some
 claim-requires-in-Some c = c.held_in-held.ensures.space.skipping (λ h e. c.requires.each (Some c.in-Some.block) h e)
 
-pub returns-in_ok-place-in-None-clause-named : goal.returns-in_ok-place-in-None-clause-named
-returns-in_ok-place-in-None-clause-named c =
+pub returns-in-None-clause-named : goal.returns-in-None-clause-named
+returns-in-None-clause-named c =
     let old = c.args.spaces.now in
     let now = c.claim.new.space in
     let base = name_text c.in_ok-base.base in
     let new : Spaces = record { text = now; members = old.members } in
-    named_now old None old.text now base (claimed_name old.text base) new (space_some old.text) c.in_ok-place-in-None.ensures.claimed (back_text old now new refl refl)
-    c.args.claimed.now c.requires (sym c.in-None.is ∙ c.space_of.ensures) c.in_ok-base.ensures
+    on_ok_weaker c.claim.result
+    (λ claimed. named_now old None old.text now base (claimed_name old.text base) new (space_some old.text) claimed (back_text old now new refl refl)
+    c.args.claimed.now c.requires (sym c.in-None.is ∙ c.space_of.ensures) c.in_ok-base.ensures) c.claim.ensures.claimed
 
-pub returns-in_ok-place-in-None-clause-stands : goal.returns-in_ok-place-in-None-clause-stands
-returns-in_ok-place-in-None-clause-stands c =
+pub returns-in-None-clause-stands : goal.returns-in-None-clause-stands
+returns-in-None-clause-stands c =
     let old = c.args.spaces.now in
     let now = c.claim.new.space in
     let base = name_text c.in_ok-base.base in
     let new : Spaces = record { text = now; members = old.members } in
-    named_at old None old.text now base (claimed_name old.text base) new (space_some old.text) c.in_ok-place-in-None.ensures.claimed (back_text old now new refl refl)
-    c.args.claimed.now c.in_ok-place-in-None.place (sym c.in-None.is ∙ c.space_of.ensures) c.in_ok-base.ensures c.in_ok-place-in-None.ensures.stands
+    if_ok_both _ _ _ c.claim.result
+    (λ place claimed stands. named_at old None old.text now base (claimed_name old.text base) new (space_some old.text) claimed (back_text old now new refl refl)
+    c.args.claimed.now place (sym c.in-None.is ∙ c.space_of.ensures) c.in_ok-base.ensures stands) c.claim.ensures.claimed c.claim.ensures.stands
 
 pub returns-in_ok-insert-in-Some-clause-named : goal.returns-in_ok-insert-in-Some-clause-named
 returns-in_ok-insert-in-Some-clause-named c =

@@ -1,7 +1,7 @@
 use Rattle.std.proofs.Common.{◌≡◌, ◌≤◌, ◌<◌, ◌∙◌, ap, sym, length, get_or, rules}
 use Rattle.std.specs.Prelude.{Some, slice_get}
 use Rattle.std.proofs.lemmas.Option.{slice_get-get_or, slice_get_past}
-use Rattle.run_flow.proofs.Lists.{if_ok}
+use Rattle.std.proofs.lemmas.Result.{IfOk-weaker}
 use Rattle.run_flow.proofs.Moves.{its_blocks, no_block, no_place, at_block}
 use Rattle.run_flow.proofs.edges.edge_step.Goals as goal
 
@@ -20,4 +20,4 @@ returns-in-Some-get-clause-step c = λ told.
     let inside : c.in-Some.place < length c.as_slice-blocks.result.now = search rules in
     let same = its_blocks c.function.result.now c.args.locals.now c.as_slice-blocks.result.now c.as_slice-blocks.ensures c.function.ensures in
     let there = ap Some is ∙ sym (slice_get-get_or c.as_slice-blocks.result.now c.in-Some.place c.in-Some-get.block.now inside) ∙ ap (λ bs. slice_get bs c.in-Some.place) same in
-    if_ok c.enter_block.result (λ step moved. at_block c.args.map.now told c.args.conf.now c.enter_block.new.conf c.args.locals.now c.requires.here c.args.label c.in-Some.place c.in-Some-get.block.now step c.in-Some.ensures there moved) (c.enter_block.ensures.step told)
+    IfOk-weaker c.enter_block.result _ _ (λ step moved. at_block c.args.map.now told c.args.conf.now c.enter_block.new.conf c.args.locals.now c.requires.here c.args.label c.in-Some.place c.in-Some-get.block.now step c.in-Some.ensures there moved) (c.enter_block.ensures.step told)

@@ -1,7 +1,7 @@
 use Rattle.std.proofs.Common.{ap, sym, ◌∙◌}
 use Rattle.std.specs.Prelude.{Option}
+use Rattle.std.proofs.lemmas.Result.{IfOk-weaker}
 use Rattle.spv_module.specs.declared.inst.Inst.{Inst}
-use Rattle.step_run.proofs.Threads.{if_ok}
 use Rattle.module_semantics.specs.Steps.{with_some}
 use Rattle.memory_places.specs.Kernel.{setting_for}
 use Rattle.run_state.specs.Confs.{conf_of}
@@ -12,4 +12,4 @@ pub returns-in-None : goal.returns-in-None
 returns-in-None c = λ told fs rest. ap (λ (q : Option Inst). with_some q (update_in (setting_for c.args.site.now.map.now told) (conf_of fs c.args.conf.now) rest c.args.site.now.inst.now c.args.op c.args.path.now)) (sym (c.in-None.ensures told))
 
 pub returns-in-Some : goal.returns-in-Some
-returns-in-Some c = λ told. if_ok c.update_along.result (c.update_along.ensures told) (λ u h fs rest. ap (λ (q : Option Inst). with_some q (update_in (setting_for c.args.site.now.map.now told) (conf_of fs c.args.conf.now) rest c.args.site.now.inst.now c.args.op c.args.path.now)) (sym (c.in-Some.ensures told)) ∙ h fs rest)
+returns-in-Some c = λ told. IfOk-weaker c.update_along.result _ _ (λ u h fs rest. ap (λ (q : Option Inst). with_some q (update_in (setting_for c.args.site.now.map.now told) (conf_of fs c.args.conf.now) rest c.args.site.now.inst.now c.args.op c.args.path.now)) (sym (c.in-Some.ensures told)) ∙ h fs rest) (c.update_along.ensures told)

@@ -1,10 +1,10 @@
 use Rattle.std.proofs.Common.{ap, sym, subst, ◌∙◌}
+use Rattle.std.proofs.lemmas.Result.{IfOk-weaker}
 use Rattle.spv_types.specs.View.{tree_of}
 use Rattle.value_words.specs.Words.{value_from}
 use Rattle.traces.specs.Events.{reading}
 use Rattle.traces.specs.Runs.{Act}
 use Rattle.group_items.specs.Sides.{told_of}
-use Rattle.step_run.proofs.Threads.{if_ok}
 use Rattle.module_semantics.specs.State.{Conf}
 use Rattle.module_semantics.specs.Steps.{set_value}
 use Rattle.memory_places.specs.Kernel.{setting_for}
@@ -22,10 +22,10 @@ returns-in-Missing c = λ fs rest.
 
 pub returns-in-Kept : goal.returns-in-Kept
 returns-in-Kept c =
-    if_ok c.load_kept.result c.load_kept.ensures (λ l h fs rest.
+    IfOk-weaker c.load_kept.result _ _ (λ l h fs rest.
     let s = setting_for c.args.site.now.map.now (told_of c.args.inv.now) in
     let d = conf_of fs c.args.conf.now in
-    subst (λ (a : Act Conf). IsLoaded a d rest c.args.site.now.inst.now l) (sym (ap narrowed (c.in_ok-source_of.ensures.load (told_of c.args.inv.now) fs rest ∙ ap (loaded_from s d rest c.args.site.now.inst.now) c.in-Kept.is))) (h fs rest c.args.site.now.inst.now))
+    subst (λ (a : Act Conf). IsLoaded a d rest c.args.site.now.inst.now l) (sym (ap narrowed (c.in_ok-source_of.ensures.load (told_of c.args.inv.now) fs rest ∙ ap (loaded_from s d rest c.args.site.now.inst.now) c.in-Kept.is))) (h fs rest c.args.site.now.inst.now)) c.load_kept.ensures
 
 pub returns-in_ok-read_event-in-Seen : goal.returns-in_ok-read_event-in-Seen
 returns-in_ok-read_event-in-Seen c = λ fs rest.

@@ -1,7 +1,7 @@
 use Rattle.std.proofs.Common.{sym, subst, refl}
+use Rattle.std.proofs.lemmas.Result.{IfOk-weaker, on_err_weaker}
 use Rattle.traces.specs.Runs.{Act}
 use Rattle.group_items.specs.Sides.{told_of}
-use Rattle.step_run.proofs.Threads.{if_ok, on_err}
 use Rattle.module_semantics.specs.State.{Conf}
 use Rattle.module_semantics.specs.Steps as steps
 use Rattle.memory_places.specs.Kernel.{setting_for}
@@ -24,10 +24,10 @@ returns-in-Value-clause-step c =
     let d = conf_of fs c.args.conf.now in
     let rest = behind fs c.args.conf.now in
     let h = subst (IsLoaded (narrowed (steps.load_step (setting_for c.args.site.now.map.now (told_of c.args.inv.now)) d rest c.args.site.now.inst.now)) d rest c.args.site.now.inst.now) c.in-Value.is (c.in_ok-load.ensures fs rest) in
-    if_ok c.set_result.result (c.set_result.ensures.set fs) (λ step k. subst (λ (a : Act Conf). IsAct a d (conf_of fs c.set_result.new.conf) step) (sym h) k)
+    IfOk-weaker c.set_result.result _ _ (λ step k. subst (λ (a : Act Conf). IsAct a d (conf_of fs c.set_result.new.conf) step) (sym h) k) (c.set_result.ensures.set fs)
 
 pub returns-in-Value-clause-err : goal.returns-in-Value-clause-err
-returns-in-Value-clause-err c = on_err c.set_result.result c.set_result.ensures.err (λ h. h c.args.site.now.map.now.of.functions)
+returns-in-Value-clause-err c = on_err_weaker c.set_result.result (λ h. h c.args.site.now.map.now.of.functions) c.set_result.ensures.err
 
 pub returns-in-Asked-clause-step : goal.returns-in-Asked-clause-step
 returns-in-Asked-clause-step c =

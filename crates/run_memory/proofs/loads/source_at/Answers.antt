@@ -1,5 +1,5 @@
 use Rattle.std.proofs.Common.{ap, sym, ◌∙◌}
-use Rattle.step_run.proofs.Threads.{if_ok}
+use Rattle.std.proofs.lemmas.Result.{IfOk-weaker}
 use Rattle.module_semantics.specs.Steps.{load_from}
 use Rattle.memory_places.specs.Kernel.{setting_for}
 use Rattle.run_state.specs.Ids.{root_of}
@@ -10,5 +10,5 @@ returns-in-None-clause-load c = λ told d rest i. ap (load_from (setting_for c.a
 
 pub returns-in-Some-clause-load : goal.returns-in-Some-clause-load
 returns-in-Some-clause-load c = λ told.
-    if_ok c.source_in.result (c.source_in.ensures.load told) (λ source h d rest i.
-    ap (load_from (setting_for c.args.map.now told) d rest i (root_of c.args.root, c.args.path.now)) (sym (c.in-Some.ensures told)) ∙ h d rest i (root_of c.args.root))
+    IfOk-weaker c.source_in.result _ _ (λ source h d rest i.
+    ap (load_from (setting_for c.args.map.now told) d rest i (root_of c.args.root, c.args.path.now)) (sym (c.in-Some.ensures told)) ∙ h d rest i (root_of c.args.root)) (c.source_in.ensures.load told)

@@ -1,9 +1,9 @@
 use Rattle.std.proofs.Common.{ap, ◌∙◌}
 use Rattle.std.specs.Prelude.{Option, option_and_then}
+use Rattle.std.proofs.lemmas.Result.{IfOk-weaker}
 use Rattle.spv_types.specs.Tree.{ValueTree}
 use Rattle.spv_types.specs.View.{value_of}
 use Rattle.op_semantics.specs.Composite.{inserted}
-use Rattle.step_run.proofs.Threads.{if_ok}
 use Rattle.module_semantics.specs.State.{global}
 use Rattle.run_memory.specs.Outcomes.{kept_with}
 use Rattle.run_memory.proofs.stores.store_input.Goals as goal
@@ -12,4 +12,4 @@ pub returns-in-None : goal.returns-in-None
 returns-in-None c = λ d rest. ap (λ (o : Option ValueTree). kept_with d rest (global c.args.variable.now.result) (option_and_then (inserted (value_of c.args.storing.now.value.now) c.args.storing.now.path.now) o)) c.in-None.ensures
 
 pub returns-in-Some : goal.returns-in-Some
-returns-in-Some c = if_ok c.store_over.result c.store_over.ensures (λ w h d rest. h d rest ∙ ap (λ (o : Option ValueTree). kept_with d rest (global c.args.variable.now.result) (option_and_then (inserted (value_of c.args.storing.now.value.now) c.args.storing.now.path.now) o)) c.in-Some.ensures)
+returns-in-Some c = IfOk-weaker c.store_over.result _ _ (λ w h d rest. h d rest ∙ ap (λ (o : Option ValueTree). kept_with d rest (global c.args.variable.now.result) (option_and_then (inserted (value_of c.args.storing.now.value.now) c.args.storing.now.path.now) o)) c.in-Some.ensures) c.store_over.ensures

@@ -1,8 +1,8 @@
 use Rattle.std.proofs.Common.{ap, sym, ◌∙◌}
+use Rattle.std.proofs.lemmas.Result.{on_err_weaker}
 use Rattle.spv_ops.specs.declared.AtomicOp.{AtomicOp}
 use Rattle.spv_types.specs.Tree.{word}
 use Rattle.spv_types.proofs.Views.{value-Word}
-use Rattle.step_run.proofs.Threads.{on_err}
 use Rattle.module_semantics.specs.State as state
 use Rattle.spv_types.specs.View.{value_of}
 use Rattle.spv_module.specs.declared.tree.Value as val
@@ -29,4 +29,4 @@ returns-in_default-clause-found c = λ fs.
     ∙ found_is d rest c.args.inst.now c.args.op c.args.words.now c.in_default.not-Store)
 
 pub returns-in_default-clause-err : goal.returns-in_default-clause-err
-returns-in_default-clause-err c = λ fs. on_err c.set.result c.set.ensures.err (same_conf fs c.args.conf.now c.set.new.conf)
+returns-in_default-clause-err c = λ fs. on_err_weaker c.set.result (same_conf fs c.args.conf.now c.set.new.conf) c.set.ensures.err

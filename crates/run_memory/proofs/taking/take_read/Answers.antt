@@ -1,8 +1,8 @@
 use Rattle.std.proofs.Common.{ap, sym, ◌∙◌}
 use Rattle.std.specs.Prelude.{Option, option_map}
+use Rattle.std.proofs.lemmas.Result.{on_err_weaker}
 use Rattle.spv_module.specs.declared.tree.Value.{Value}
 use Rattle.spv_types.specs.View.{value_of}
-use Rattle.step_run.proofs.Threads.{on_err}
 use Rattle.module_semantics.specs.State as state
 use Rattle.run_state.specs.Confs.{conf_of, behind}
 use Rattle.run_state.proofs.States.{set_conf, same_conf}
@@ -27,4 +27,4 @@ returns-in-Some-clause-took c = λ told.
     ∙ sym (c.in_ok-value_read.ensures told fs rest ∙ ap (λ (o : Option Value). with_read d rest c.args.site.now.inst.now (option_map value_of o)) c.in-Some.is))
 
 pub returns-in-Some-clause-err : goal.returns-in-Some-clause-err
-returns-in-Some-clause-err c = on_err c.set.result c.set.ensures.err (same_conf c.args.site.now.map.now.of.functions c.args.conf.now c.set.new.conf)
+returns-in-Some-clause-err c = on_err_weaker c.set.result (same_conf c.args.site.now.map.now.of.functions c.args.conf.now c.set.new.conf) c.set.ensures.err

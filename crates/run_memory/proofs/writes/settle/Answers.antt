@@ -1,8 +1,8 @@
 use Rattle.std.proofs.Common.{ℕ, List, ap, sym, subst, refl, ◌∙◌}
 use Rattle.std.specs.Prelude.{option_and_then}
+use Rattle.std.proofs.lemmas.Result.{IfOk-weaker}
 use Rattle.spv_types.specs.View.{value_of}
 use Rattle.op_semantics.specs.Composite.{inserted}
-use Rattle.step_run.proofs.Threads.{if_ok}
 use Rattle.traces.specs.Runs.{Act}
 use Rattle.module_semantics.specs.State.{Conf}
 use Rattle.run_state.specs.Ids.{root_of}
@@ -30,10 +30,10 @@ pub returns-in-Whole-clause-step : goal.returns-in-Whole-clause-step
 returns-in-Whole-clause-step c = λ fs.
     let d = conf_of fs c.args.conf.now in
     let rest = behind fs c.args.conf.now in
-    if_ok c.keep.result (c.keep.ensures.step fs) (λ step k. subst (λ (a : Act Conf). IsAct a d (conf_of fs c.keep.new.conf) step) (sym (ap (stored_by d rest) c.in-Whole.is)) k)
+    IfOk-weaker c.keep.result _ _ (λ step k. subst (λ (a : Act Conf). IsAct a d (conf_of fs c.keep.new.conf) step) (sym (ap (stored_by d rest) c.in-Whole.is)) k) (c.keep.ensures.step fs)
 
 pub returns-in-Seen-clause-step : goal.returns-in-Seen-clause-step
 returns-in-Seen-clause-step c = λ fs.
     let d = conf_of fs c.args.conf.now in
     let rest = behind fs c.args.conf.now in
-    if_ok c.write.result (c.write.ensures.step fs) (λ step k. subst (λ (a : Act Conf). IsAct a d (conf_of fs c.write.new.conf) step) (sym (ap (stored_by d rest) c.in-Seen.is)) k)
+    IfOk-weaker c.write.result _ _ (λ step k. subst (λ (a : Act Conf). IsAct a d (conf_of fs c.write.new.conf) step) (sym (ap (stored_by d rest) c.in-Seen.is)) k) (c.write.ensures.step fs)

@@ -4,8 +4,9 @@ use Rattle.std.specs.BTreeSet.{contains}
 use Rattle.std.specs.Ordering.{nat_cmp}
 use Rattle.std.specs.Vec.{with_items}
 use Rattle.std.proofs.lemmas.List.{with_items_is}
+use Rattle.list_law.proofs.Numbers.{not_past}
 use Rattle.phi_copies.proofs.Copied.{state_copied}
-use Rattle.phi_copies.proofs.Started.{enough_source, reverse_push, least_is}
+use Rattle.phi_copies.proofs.Started.{enough_source, reverse_push}
 use Rattle.phi_copies.proofs.work.Work.copy.Goals as goal
 
 pub release-requires : goal.release-requires
@@ -26,7 +27,7 @@ returns-clause-work c =
       state = rw (c.in_ok-push.ensures.items, reverse_push, c.move_of.ensures, items)
           (state_copied c.args.pairs.now (reverse w.moves.items) w.counts.items (contains nat_cmp w.left) (contains nat_cmp w.ready) (get nat_cmp w.places) (get nat_cmp w.spares) w.saves c.in-Some.next (contains nat_cmp c.remove.new.self) (contains nat_cmp c.pop_first.new.self) c.release.new.counts (contains nat_cmp c.release.new.ready)
           c.requires.own c.requires.work.are c.requires.work.state c.in-Some.ensures.member
-          (λ j r. least_is c.in-Some.next j (c.in-Some.ensures.least j r))
+          (λ j r. not_past c.in-Some.next j (c.in-Some.ensures.least j r))
           c.remove.ensures.updates.0
           c.in-Some.ensures.updates.0
           released);

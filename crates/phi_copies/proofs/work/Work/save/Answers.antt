@@ -4,8 +4,9 @@ use Rattle.phi_copies.proofs.Few.{few_saves}
 use Rattle.std.specs.BTreeMap.{get}
 use Rattle.std.specs.BTreeSet.{contains}
 use Rattle.std.specs.Ordering.{nat_cmp}
+use Rattle.list_law.proofs.Numbers.{not_past}
 use Rattle.phi_copies.proofs.Saved.{state_save}
-use Rattle.phi_copies.proofs.Started.{reverse_push, none_in, least_is}
+use Rattle.phi_copies.proofs.Started.{reverse_push, none_in}
 use Rattle.phi_copies.proofs.work.Work.save.Goals as goal
 
 pub returns-clause-work : goal.returns-clause-work
@@ -19,7 +20,7 @@ returns-clause-work c =
           c.requires.own c.requires.work.state
           (none_in w.ready.keys c.requires.stuck)
           c.requires.left
-          (λ j l. least_is c.args.first j (c.requires.least j l))
+          (λ j l. not_past c.args.first j (c.requires.least j l))
           c.in_ok-insert-2.ensures.updates.0
           c.in_ok-insert.ensures.updates.0);
     }

@@ -1,8 +1,9 @@
 use Rattle.std.proofs.Common.{ap, sym, subst, ◌∙◌}
+use Rattle.std.proofs.lemmas.Result.{IfOk-weaker, on_err_weaker}
 use Rattle.std.specs.Prelude.{IfOk}
 use Rattle.group_items.specs.Sides.{Begun, IsNext, behind_pause}
 use Rattle.step_run.specs.KeptAll.{IsKept, begun_at}
-use Rattle.step_run.proofs.Threads.{all_set, at_begun, set_moved, set_same, if_ok, on_err}
+use Rattle.step_run.proofs.Threads.{all_set, at_begun, set_moved, set_same}
 use Rattle.step_run.proofs.machine.MachineRunner.advance.Goals as goal
 
 pub go_on-requires-clause-free : goal.go_on-requires-clause-free
@@ -29,11 +30,11 @@ pub returns-clause-moved : goal.returns-clause-moved
 returns-clause-moved g c =
     let ts = c.args.self.now.threads.items in
     let t = c.index_mut.result.now in
-    if_ok c.go_on.result c.go_on.ensures.behind
-    (λ pause is. set_moved ts c.args.who c.go_on.new.thread (behind_pause (begun_at ts c.args.who) pause) c.requires.begun (is ∙ ap (λ b. behind_pause b pause) (sym (at_begun ts c.args.who t t c.requires.begun c.index_mut.ensures.value))))
+    IfOk-weaker c.go_on.result _ _
+    (λ pause is. set_moved ts c.args.who c.go_on.new.thread (behind_pause (begun_at ts c.args.who) pause) c.requires.begun (is ∙ ap (λ b. behind_pause b pause) (sym (at_begun ts c.args.who t t c.requires.begun c.index_mut.ensures.value)))) c.go_on.ensures.behind
 
 pub returns-clause-err : goal.returns-clause-err
 returns-clause-err g c =
     let ts = c.args.self.now.threads.items in
     let t = c.index_mut.result.now in
-    on_err c.go_on.result c.go_on.ensures.err (λ is. set_same ts c.args.who c.go_on.new.thread c.requires.begun (is ∙ sym (at_begun ts c.args.who t t c.requires.begun c.index_mut.ensures.value)))
+    on_err_weaker c.go_on.result (λ is. set_same ts c.args.who c.go_on.new.thread c.requires.begun (is ∙ sym (at_begun ts c.args.who t t c.requires.begun c.index_mut.ensures.value))) c.go_on.ensures.err
