@@ -4,7 +4,7 @@ use Rattle.std.specs.Prelude.{All, None}
 use Rattle.std.proofs.lemmas.List.Elements.{All-append, All-cons, All-nil}
 use Rattle.spv_words.specs.Words.{magic, words, first_fault, octets_of}
 use Rattle.module_gen.specs.Assembly.{Assembly, Instruction, words_of, stream, module_words, instructions_of}
-use Rattle.module_gen.specs.Held.{IsEncodable}
+use Rattle.module_gen.specs.Held.{IsEncodable, IsHalf}
 use Rattle.module_gen.proofs.Octets.{All-first, All-rest, words_back}
 use Rattle.module_gen.proofs.Cuts.{stream_cut, stream_whole}
 
@@ -38,7 +38,7 @@ pub built_words : (m : Assembly) (bound : ℕ) (bytes : List ℕ) → IsBuilt m 
 built_words m bound bytes built =
     ap words built.octets ∙ words_back (module_words m bound) (module_fits m bound built.version_fits built.bound_fits built.insts_fit)
 
-pub opcodes_fit : (is : List Instruction) → All IsEncodable is → All (λ i. i.opcode < 65536) is
+pub opcodes_fit : (is : List Instruction) → All IsEncodable is → All (λ i. IsHalf i.opcode) is
 opcodes_fit is held = λ k d inside. (held k d inside).opcode
 
 pub built_insts : (m : Assembly) (bound : ℕ) (bytes : List ℕ) → IsBuilt m bound bytes → instructions_of (words bytes) ≡ m.insts
