@@ -3,10 +3,11 @@ use Rattle.std.proofs.Common.{◌≡◌, ◌≢◌, ℕ, true, false, List, [], 
 use Rattle.std.proofs.lemmas.Bool.Decides.{eqb_tells}
 use Rattle.spv_types.specs.Tree.{ValueTree, word}
 use Rattle.module_semantics.specs.State.{Held, value, pointer, Conf}
+use Rattle.module_semantics.specs.Operands.{as_value}
 use Rattle.glsl_ast.specs.Tree.{Text}
 use Rattle.glsl_semantics.specs.States.{Frame, State, found, has_in, put_in}
 use Rattle.agree_law.specs.Own.{Own}
-use Rattle.agree_law.specs.Agree.{Naming, is_named, AreApart, variable_with, as_value, value_of, IfPointer, IsFar, target_value, Agree}
+use Rattle.agree_law.specs.Agree.{Naming, is_named, AreApart, variable_with, value_of, IfPointer, IsFar, target_value, Agree}
 use Rattle.agree_law.proofs.Owned.{own_put, own_put_other, none_put}
 use Rattle.agree_law.proofs.Braces.{outer_named, variable_named, lent_named}
 use Rattle.agree_law.proofs.Changes.{is_not, if_alike}

@@ -13,7 +13,7 @@ use Rattle.traces.proofs.Moves.{Never, NeverGives, one_step, fewer, fails_now}
 use Rattle.module_semantics.specs.Setting.{Setting}
 use Rattle.module_semantics.specs.Memory.{are_allowed}
 use Rattle.module_semantics.specs.State.{Held, pointer, Conf, put}
-use Rattle.module_semantics.specs.Operands.{of_module, held, pointer_at, words_at, Target}
+use Rattle.module_semantics.specs.Operands.{of_module, held, pointer_at, words_at, Target, as_value}
 use Rattle.module_semantics.specs.Steps.{chain, step_kind, with_some, base, is_based_on, without_based, lead, lead_if, chain_step}
 use Rattle.glsl_ast.specs.Tree.{Text, Expr, assign, lvalue, Stmts, stmts_in}
 use Rattle.glsl_semantics.specs.Shapes.{Typed, typed, same_shape}
@@ -24,7 +24,7 @@ use Rattle.region_law.proofs.Flags.{other_put}
 use Rattle.region_law.specs.Leads.{In}
 use Rattle.agree_law.specs.Answers.{move}
 use Rattle.agree_law.specs.Own.{Own}
-use Rattle.agree_law.specs.Agree.{Naming, AreApart, variable_with, as_value, AgreeIn}
+use Rattle.agree_law.specs.Agree.{Naming, AreApart, variable_with, AgreeIn}
 use Rattle.agree_law.specs.Blocks.{IsOf, have_result, outcome, reads, IsSettled, IsNew, Stands, At}
 use Rattle.agree_law.specs.Evaluates.{IsKept}
 use Rattle.agree_law.proofs.Owned.{own_found, own_put, own_put_other}

@@ -4,11 +4,12 @@ use Rattle.std.proofs.lemmas.Bool.Decides.{eqb_tells}
 use Rattle.spv_module.specs.declared.inst.Inst.{Inst}
 use Rattle.spv_types.specs.Tree.{ValueTree, word}
 use Rattle.module_semantics.specs.State.{Root, global, own, lent, Held, value, pointer, Conf, put, with_top}
+use Rattle.module_semantics.specs.Operands.{as_value}
 use Rattle.glsl_ast.specs.Tree.{Text}
 use Rattle.glsl_semantics.specs.States.{Variable, State, found, put_first, put_in, declared}
 use Rattle.region_law.proofs.Flags.{found_put_first, other_put_first}
 use Rattle.agree_law.specs.Own.{Own}
-use Rattle.agree_law.specs.Agree.{Naming, is_named, AreApart, variable_with, as_value, value_of, IfPointer, IsFar, target_value, Agree}
+use Rattle.agree_law.specs.Agree.{Naming, is_named, AreApart, variable_with, value_of, IfPointer, IsFar, target_value, Agree}
 use Rattle.agree_law.proofs.Owned.{own_put, own_put_other, own_declared, none_put, none_declared}
 use Rattle.agree_law.proofs.Braces.{outer_named, local_named, variable_named, lent_named, private_named}
 

@@ -8,7 +8,7 @@ use Rattle.spv_module.specs.declared.inst.Function.{Function}
 use Rattle.spv_types.specs.Tree.{Tree, ValueTree, word}
 use Rattle.op_semantics.specs.Composite.{extracted, inserted}
 use Rattle.value_words.specs.Words.{words_of, value_from}
-use Rattle.traces.specs.Events.{Event, Access, Location, updating}
+use Rattle.traces.specs.Events.{Event, Access, updating}
 use Rattle.traces.specs.Events as event
 use Rattle.traces.specs.Runs.{Act, goes, asks, fails, go, wrong, Supplied, supplied}
 use Rattle.traces.specs.Outcomes.{normal, cut, waits, stuck, events_of, Result, got, with_before, then_get, or_stuck, on_got}
@@ -17,7 +17,7 @@ use Rattle.traces.proofs.Moves.{Never, NeverGives, stays, one_step, fewer, fails
 use Rattle.module_semantics.specs.Setting.{Setting}
 use Rattle.module_semantics.specs.Memory.{location, locations, shape_along}
 use Rattle.module_semantics.specs.State.{own, Held, value, pointer, Conf}
-use Rattle.module_semantics.specs.Operands.{pointer_at, value_at, word_at, Target, arg}
+use Rattle.module_semantics.specs.Operands.{pointer_at, value_at, word_at, Target, arg, as_value}
 use Rattle.module_semantics.specs.Accesses.{seen, kept, keeping}
 use Rattle.module_semantics.specs.Steps.{StepKind, operation, array_length, variable, load, store, atomic, memory_barrier, control_barrier, merge, set, step_kind, step_by, with_some, computed, advanced, set_value, load_from, store_to, read_shape, atomic_operation, set_found, memory_barriers}
 use Rattle.glsl_ast.specs.Tree.{Text, Expr, Exprs, Stmt, assign, LStep, lvalue}
@@ -30,7 +30,7 @@ use Rattle.glsl_semantics.specs.Expressions as expressions
 use Rattle.glsl_semantics.specs.Expressions.{Program, Argument, AtomicFunction, operand_words, found_value, call_kind, named, then_fetch, denote, place_and_values, evaluate, steps}
 use Rattle.glsl_semantics.specs.Statements.{Run, barrier_run, stmt_run, stmts_run}
 use Rattle.agree_law.specs.Answers.{move, answered}
-use Rattle.agree_law.specs.Agree.{Naming, AreApart, variable_with, as_value}
+use Rattle.agree_law.specs.Agree.{Naming, AreApart, variable_with}
 use Rattle.agree_law.specs.Blocks.{measured, outcome, has_outcome, IsNew, At, have_result}
 use Rattle.agree_law.specs.Evaluates.{as_outcome, Evaluates, IsKept, Gets}
 use Rattle.agree_law.proofs.Changes.{is_not, put_other, forgets, leads}

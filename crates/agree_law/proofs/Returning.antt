@@ -4,6 +4,7 @@ use Rattle.std.proofs.lemmas.Bool.Decides.{eqb_tells}
 use Rattle.spv_types.specs.Tree.{ValueTree, word}
 use Rattle.traces.specs.Outcomes.{Result, got, with_before, then_get, or_stuck}
 use Rattle.module_semantics.specs.State.{Held, value, pointer, Conf}
+use Rattle.module_semantics.specs.Operands.{as_value}
 use Rattle.glsl_ast.specs.Tree.{Text, Param, param}
 use Rattle.glsl_semantics.specs.Shapes.{Typed, typed, same_shape}
 use Rattle.glsl_semantics.specs.States.{Variable, Frame, State, found, found_in, has_in, put_in, Thing, store}
@@ -11,7 +12,7 @@ use Rattle.glsl_semantics.specs.Expressions.{Argument}
 use Rattle.glsl_semantics.specs.Run.{copied_out, returned}
 use Rattle.region_law.proofs.Flags.{in_found, other_put}
 use Rattle.agree_law.specs.Own.{Own}
-use Rattle.agree_law.specs.Agree.{Naming, is_named, AreApart, variable_with, as_value, IfPointer, IsFar, target_value, Agree, AgreeIn}
+use Rattle.agree_law.specs.Agree.{Naming, is_named, AreApart, variable_with, IfPointer, IsFar, target_value, Agree, AgreeIn}
 use Rattle.agree_law.specs.Outs.{Outs, IsOut, NotOut, AreOnce, AreLent, puts, AreOuts}
 use Rattle.agree_law.proofs.Owned.{own_found, own_put, own_put_other, none_put}
 use Rattle.agree_law.proofs.Braces.{outer_named, local_named, variable_named, lent_named}

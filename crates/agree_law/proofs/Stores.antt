@@ -14,6 +14,7 @@ use Rattle.module_semantics.specs.Setting.{Setting}
 use Rattle.module_semantics.specs.State.{Root, global, own, lent, Held, value, pointer, Frame, Conf, with_variable, with_call, call_at}
 use Rattle.module_semantics.specs.Accesses.{keeping, with_lent}
 use Rattle.module_semantics.specs.Steps.{step_kind, advanced}
+use Rattle.module_semantics.specs.Operands.{as_value}
 use Rattle.glsl_ast.specs.Tree.{Text, Expr, assign, LStep, lvalue}
 use Rattle.glsl_semantics.specs.Shapes.{Shape, Typed, typed, same_shape}
 use Rattle.glsl_semantics.specs.States.{Variable, State, found, found_in, has, has_in, or_outer, put_first, put_in, with_value, Thing, variable, assigned, store}
@@ -21,7 +22,7 @@ use Rattle.glsl_semantics.specs.Expressions.{Program, Argument, named, evaluate,
 use Rattle.glsl_semantics.specs.Statements.{Run, stmt_run}
 use Rattle.list_law.proofs.Numbers.{same_number}
 use Rattle.region_law.proofs.Flags.{none_found, in_found, other_put}
-use Rattle.agree_law.specs.Agree.{Naming, AreApart, variable_with, as_value, IfPointer, IsFar, variable_in, root_value, target_value, AgreeIn}
+use Rattle.agree_law.specs.Agree.{Naming, AreApart, variable_with, IfPointer, IsFar, variable_in, root_value, target_value, AgreeIn}
 use Rattle.agree_law.specs.Blocks.{have_result, has_outcome, Stands, At}
 use Rattle.agree_law.specs.Evaluates.{IsKept}
 use Rattle.agree_law.proofs.Owned.{own_found}

@@ -15,7 +15,6 @@ use Rattle.glsl_semantics.specs.States.{State, Thing, found_in}
 use Rattle.glsl_semantics.specs.Expressions.{Program, Argument, named, then_fetch, evaluate}
 use Rattle.list_law.proofs.Numbers.{none_below}
 use Rattle.region_law.specs.Leads.{In}
-use Rattle.agree_law.specs.Agree as agree
 use Rattle.agree_law.specs.Agree.{Naming, variable_with, value_of}
 use Rattle.agree_law.specs.Blocks.{IsOf, have_result, outcome, has_outcome, reads, Stands}
 use Rattle.agree_law.proofs.Owned.{own_found}
@@ -39,7 +38,7 @@ value_set s c n v own e = by_id (c.top.ids n) refl
     by_id (Some h) is =
         let now : held s c.top n ≡ Some h = ap (λ (o : Option Held). elim o as (λ q. Option Held) [ Some h ↦ Some h | None ↦ of_module s n ]) is in
         let same : Some h ≡ Some (value v) = value_held (Some h) v (sym (ap as_value now) ∙ e) in
-        ap agree.as_value (is ∙ same)
+        ap as_value (is ∙ same)
 
 module _ (p : Program) (calls : Text → List Argument → State → Result (Option Typed × State)) (m : Naming) (s : Setting) (Holds : Conf → Type 0) (f : Function) (b : ℕ) (done : List Inst) (c : Supplied Conf) (z : State) (stands : Stands m s Holds f b done c z) (expr : ℕ → Expr) where
   abbrev pub Says : ℕ → ValueTree → Type 0

@@ -4,6 +4,7 @@ use Rattle.spv_types.specs.Tree.{ValueTree, word}
 use Rattle.op_semantics.specs.Composite.{extracted}
 use Rattle.module_semantics.specs.State.{Root, global, own, lent, Held, value, pointer, Conf, call_at}
 use Rattle.module_semantics.specs.State as module_state
+use Rattle.module_semantics.specs.Operands.{as_value}
 use Rattle.glsl_ast.specs.Tree.{Text}
 use Rattle.glsl_semantics.specs.Shapes.{Shape}
 use Rattle.glsl_semantics.specs.States.{Variable, State, found, found_in, has_in}
@@ -50,10 +51,6 @@ abbrev pub variable_with : Shape → Option ValueTree → Variable
 variable_with t v = record { shape = t; value = v }
 
 -- the value and the pointer that an id of the present call has
-abbrev pub as_value : Option Held → Option ValueTree
-as_value (Some (value v)) = Some v
-as_value _ = None
-
 abbrev pub value_of : Conf → ℕ → Option ValueTree
 value_of c n = as_value (c.top.ids n)
 

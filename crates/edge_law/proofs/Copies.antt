@@ -16,13 +16,14 @@ use Rattle.traces.proofs.Moves.{Never, NeverGives, stays}
 use Rattle.module_semantics.specs.Setting.{Setting}
 use Rattle.module_semantics.specs.State.{Root, global, own, lent, Held, value, pointer, Frame, Conf}
 use Rattle.module_semantics.specs.Steps.{phis, behind_phis, phi_value, present_label, with_phis, gone_to}
+use Rattle.module_semantics.specs.Operands.{as_value}
 use Rattle.glsl_ast.specs.Tree.{Text, Stmt, stmts_in}
 use Rattle.glsl_semantics.specs.Shapes.{Typed, typed}
 use Rattle.glsl_semantics.specs.States.{State}
 use Rattle.glsl_semantics.specs.Expressions.{Program, Argument, type_of, evaluate}
 use Rattle.glsl_semantics.specs.Statements.{Run, stmts_run}
 use Rattle.agree_law.specs.Own.{Own}
-use Rattle.agree_law.specs.Agree.{Naming, AreApart, variable_with, as_value, value_of, IfPointer, IsFar, target_value, Agree, AgreeIn}
+use Rattle.agree_law.specs.Agree.{Naming, AreApart, variable_with, value_of, IfPointer, IsFar, target_value, Agree, AgreeIn}
 use Rattle.agree_law.specs.Blocks.{have_result}
 use Rattle.agree_law.specs.Points.{behind, Body, Starts, Arrives}
 use Rattle.agree_law.proofs.Machine.{machine}

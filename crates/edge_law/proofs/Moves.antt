@@ -10,13 +10,14 @@ use Rattle.phi_copies.specs.Meaning.{State as Values, value as value_by, step, r
 use Rattle.traces.specs.Outcomes.{normal, begun, then_do, Result, got}
 use Rattle.spv_module.specs.declared.inst.Inst.{Inst}
 use Rattle.module_semantics.specs.State.{value, Conf, put}
+use Rattle.module_semantics.specs.Operands.{as_value}
 use Rattle.glsl_ast.specs.Tree.{Text, name, stmts_in}
 use Rattle.glsl_semantics.specs.Shapes.{Shape, Typed, typed}
 use Rattle.glsl_semantics.specs.States.{State, found_in, put_in, declared}
 use Rattle.glsl_semantics.specs.Expressions.{Program, Argument, type_of, evaluate}
 use Rattle.glsl_semantics.specs.Statements.{Run, stmt_run, stmts_run}
 use Rattle.region_law.proofs.Flags.{found_declared, other_declared, other_put}
-use Rattle.agree_law.specs.Agree.{Naming, AreApart, variable_with, as_value, value_of, AgreeIn}
+use Rattle.agree_law.specs.Agree.{Naming, AreApart, variable_with, value_of, AgreeIn}
 use Rattle.agree_law.specs.Blocks.{with_done}
 use Rattle.agree_law.proofs.Owned.{own_found}
 use Rattle.agree_law.proofs.Braces.{outer_named, declares_in}

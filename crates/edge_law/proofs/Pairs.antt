@@ -8,7 +8,8 @@ use Rattle.phi_copies.specs.Sequence.{Pair, target}
 use Rattle.phi_copies.specs.Meaning.{value as value_by}
 use Rattle.module_semantics.specs.State.{Held, value}
 use Rattle.module_semantics.specs.Steps.{with_phis}
-use Rattle.agree_law.specs.Agree.{Naming, as_value}
+use Rattle.module_semantics.specs.Operands.{as_value}
+use Rattle.agree_law.specs.Agree.{Naming}
 use Rattle.edge_law.specs.Copies.{V, ArePairs}
 
 module _ (m : Naming) (constants before : ℕ → V) where

@@ -12,11 +12,10 @@ use Rattle.hoist_plan.specs.declared.form.Form.{Form}
 use Rattle.function_plan.specs.Phis.{is_gone, is_live_phi, is_constant_id, source_by, source_of, pair_with, given_by, pairs_into}
 use Rattle.module_semantics.specs.Setting.{Setting, global_variable}
 use Rattle.module_semantics.specs.State.{Held, global, value, pointer, Conf}
-use Rattle.module_semantics.specs.Operands as operands
-use Rattle.module_semantics.specs.Operands.{of_module, held, value_at}
+use Rattle.module_semantics.specs.Operands.{of_module, value_at, as_value}
 use Rattle.module_semantics.specs.Steps.{is_phi, phis, phi_value}
 use Rattle.fits_law.proofs.Operations.{before_some}
-use Rattle.agree_law.specs.Agree.{Naming, as_value, value_of}
+use Rattle.agree_law.specs.Agree.{Naming, value_of}
 use Rattle.agree_law.specs.Blocks.{IsOf}
 use Rattle.edge_law.specs.Copies.{V, IsPaired, ArePairs}
 use Rattle.function_law.specs.Edges.{IsGiven, AreConstants}
@@ -50,16 +49,16 @@ module _ (m : Naming) (s : Setting) (gs : List Inst) (form : ℕ → Form) (f : 
   source_has : (n : ℕ) (u : ValueTree) → value_at s c.top n ≡ Some u → value_by V constants (value_of c) (source_of gs n) ≡ Some u
   source_has n u e = by_kind (is_constant_id gs n) refl
     where
-      by_variable : (g : Option Inst) → operands.as_value (elim g [ Some v ↦ Some (pointer (global n) []) | None ↦ option_map value (s.constants n) ]) ≡ Some u → s.constants n ≡ Some u
+      by_variable : (g : Option Inst) → as_value (elim g [ Some v ↦ Some (pointer (global n) []) | None ↦ option_map value (s.constants n) ]) ≡ Some u → s.constants n ≡ Some u
       by_variable (Some v) e = cc
       by_variable None e = by_value (s.constants n) e
         where
-          by_value : (k : Option ValueTree) → operands.as_value (option_map value k) ≡ Some u → k ≡ Some u
+          by_value : (k : Option ValueTree) → as_value (option_map value k) ≡ Some u → k ≡ Some u
           by_value None e = cc
           by_value (Some v) e = e
 
       has : Option Held → Option ValueTree
-      has o = operands.as_value (elim o [ Some h ↦ Some h | None ↦ of_module s n ])
+      has o = as_value (elim o [ Some h ↦ Some h | None ↦ of_module s n ])
 
       by_own : (o : Option Held) → s.constants n ≡ None → has o ≡ Some u → as_value o ≡ Some u
       by_own None none e = let never : None ≡ Some u = sym none ∙ by_variable (global_variable s n) e in cc

@@ -12,6 +12,7 @@ use Rattle.module_semantics.specs.State as module_state
 use Rattle.module_semantics.specs.State.{own, Held, value, pointer, Conf}
 use Rattle.module_semantics.specs.Accesses.{initial_in}
 use Rattle.module_semantics.specs.Steps.{with_some, set, variable, variable_step, step_kind, argument_of, first_insts, entered}
+use Rattle.module_semantics.specs.Operands.{as_value}
 use Rattle.glsl_ast.specs.Tree.{Text, Expr, declare, stmts_in}
 use Rattle.glsl_semantics.specs.Shapes.{Shape, Typed}
 use Rattle.glsl_semantics.specs.States.{Variable, Frame, State, found, has}
@@ -19,7 +20,7 @@ use Rattle.glsl_semantics.specs.Expressions.{Program, Argument, type_of}
 use Rattle.glsl_semantics.specs.Statements.{Run, with_variable, stmt_run, stmts_run}
 use Rattle.region_law.proofs.Flags.{own_text, other_text}
 use Rattle.agree_law.specs.Answers.{move}
-use Rattle.agree_law.specs.Agree.{Naming, variable_with, as_value, value_of, IfPointer, IsFar, target_value, Agree}
+use Rattle.agree_law.specs.Agree.{Naming, variable_with, value_of, IfPointer, IsFar, target_value, Agree}
 use Rattle.agree_law.specs.Blocks.{IsOf}
 use Rattle.agree_law.proofs.Machine.{machine, kind_is}
 use Rattle.agree_law.proofs.Steps.{on_known, declare_runs}

@@ -1,13 +1,13 @@
 -- Places in memory: where the parts of a block and of a shared variable lie (GLSL 4.60, section 4.4.5: `offset`, std430 and std140).
 use Rattle.std.specs.Prelude.{ℕ, zero, suc, ◌+◌, ◌*◌, List, [], ◌∷◌, ◌++◌, map, slice_index}
-use Rattle.spv_module.specs.declared.tree.Elem.{Elem}
 use Rattle.spv_module.specs.declared.tree.Elem.TheVariants as elem
-use Rattle.spv_types.specs.Tree.{Tree, boolean, int, uint, vector, array, runtime, struct, Trees, no_trees, tree}
+use Rattle.spv_types.specs.Tree.{Tree, uint, vector, array, runtime, struct, Trees, no_trees, tree}
 use Rattle.layout_rules.specs.declared.Kind.{Kind}
 use Rattle.layout_rules.specs.Sizes.{stride_over, offsets_of}
 use Rattle.value_words.specs.Words.{scalar_paths}
 use Rattle.traces.specs.Events as location
 use Rattle.traces.specs.Events.{Location}
+use Rattle.op_semantics.specs.Fits.{elem_tree}
 
 -- where something begins: at a byte of a buffer or of the push constants, with the layout of its block; or in a shared variable, by the variable's number and the indexes that lead there
 pub data Site : Type 0 where
@@ -28,11 +28,6 @@ abbrev pub part_site : Tree → ℕ → Site → Site
 part_site t i (in_buffer set binding kind byte) = in_buffer set binding kind (byte + part_bytes kind t i)
 part_site t i (in_push kind byte) = in_push kind (byte + part_bytes kind t i)
 part_site t i (in_shared k path) = in_shared k (path ++ i ∷ [])
-
-abbrev pub elem_tree : Elem → Tree
-elem_tree elem.Bool = boolean
-elem_tree elem.Int = int
-elem_tree elem.Uint = uint
 
 -- the type of a part
 abbrev pub nth_tree : Trees → ℕ → Tree

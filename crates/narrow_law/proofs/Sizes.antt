@@ -8,8 +8,9 @@ use Rattle.spv_module.specs.declared.tree.Length.TheVariants.{Fixed, Spec}
 use Rattle.spv_types.specs.Tree.{Tree, boolean, int, uint, vector, array, runtime, struct, Trees, no_trees, tree}
 use Rattle.layout_rules.specs.declared.Kind.{Kind}
 use Rattle.layout_rules.specs.Sizes.{aligned, whole_alignment, alignment_of, greatest_alignment, size_of, end_from, stride_over, offsets_from}
-use Rattle.glsl_semantics.specs.Places.{part_bytes, part_tree, nth_tree, elem_tree}
+use Rattle.glsl_semantics.specs.Places.{part_bytes, part_tree, nth_tree}
 use Rattle.global_law.proofs.Path.Bytes.{bytes_in}
+use Rattle.op_semantics.specs.Fits.{elem_tree}
 use Rattle.narrow_law.specs.Reach.{count_of, IsIn, Reaches}
 
 pub at_least : (n a : ℕ) → n ≤ aligned n a

@@ -13,14 +13,15 @@ use Rattle.expr_forward.specs.Paths.{place_text}
 use Rattle.expr_forward.specs.Statements.{is_void, callee_text, has_result, comparator, atomic_operand, semantics, is_variable_form, inst_text}
 use Rattle.claim_law.specs.Uses.{UsesExpr, UseEach}
 use Rattle.claim_law.specs.Statements.{EachStmt}
-use Rattle.text_law.specs.Walks.{Outer, is_in}
+use Rattle.claim_law.specs.Told.{is_among}
+use Rattle.text_law.specs.Walks.{Outer}
 use Rattle.text_law.specs.Shape.{constant_word}
 use Rattle.text_law.specs.Unseen.{unseen, IsPath}
 
 module _ (s : Source) (o : Outer) (w : Scope) (block : ℕ) where
   -- the result has a variable, which is no memory
   abbrev pub HasVariable : Inst → Type 0
-  HasVariable i = (is_variable_form (w.form i.result) ≡ true) × (is_in o.memory (w.setting.key (Id (id i.result))) ≡ false)
+  HasVariable i = (is_variable_form (w.form i.result) ≡ true) × (is_among o.memory (w.setting.key (Id (id i.result))) ≡ false)
 
   -- an argument of a call: a path to memory, or a value
   abbrev pub IsArgument : ℕ → Bool → Type 0
@@ -35,7 +36,7 @@ module _ (s : Source) (o : Outer) (w : Scope) (block : ℕ) where
   abbrev pub AsksSeen : Inst → InstKind → Type 0
   AsksSeen i kind.Load = HasVariable i × IsPath o (place_text w.setting block (slice_index i.args 0))
   AsksSeen i kind.Store = IsPath o (place_text w.setting block (slice_index i.args 0)) × UsesExpr (unseen o) (value w block (slice_index i.args 1))
-  AsksSeen i kind.Call = (is_void w i.ty ≡ false → HasVariable i) × (is_in o.functions (callee_text w i) ≡ true) × AreArguments (drop 1 i.args)
+  AsksSeen i kind.Call = (is_void w i.ty ≡ false → HasVariable i) × (is_among o.functions (callee_text w i) ≡ true) × AreArguments (drop 1 i.args)
   AsksSeen i (kind.Atomic a) = (has_result a ≡ true → HasVariable i) × IsPath o (place_text w.setting block (slice_index i.args 0)) × UseEach (unseen o) (comparator w block i a) × UsesExpr (unseen o) (atomic_operand w block i a)
   AsksSeen i kind.ControlBarrier = semantics w (slice_index i.args 2) ≡ constant_word s (slice_index i.args 2)
   AsksSeen i kind.MemoryBarrier = semantics w (slice_index i.args 1) ≡ constant_word s (slice_index i.args 1)

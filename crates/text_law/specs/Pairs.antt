@@ -7,12 +7,13 @@ use Rattle.structure_rules.specs.declared.graph.Exit.TheVariants.{Conditional, S
 use Rattle.structure_rules.specs.Graph.{is_value}
 use Rattle.structure_recover.specs.Once.{Around, within, branch}
 use Rattle.name_alloc.specs.declared.claims.Key.{Key}
-use Rattle.name_alloc.specs.declared.claims.Key.TheVariants.{Again, Leave, Fell}
+use Rattle.name_alloc.specs.declared.claims.Key.TheVariants.{Again}
 use Rattle.glsl_ast.specs.Tree.{Text, Expr, name, not}
 use Rattle.text_law.specs.Deeds.{Deed, reads, assigns, calls}
 pub use Rattle.unit_rules.specs.Translation.{Naming}
 use Rattle.text_law.specs.Walks as walks
-use Rattle.text_law.specs.Walks.{Outer, is_in, is_atomic, Token}
+use Rattle.claim_law.specs.Told.{is_among}
+use Rattle.text_law.specs.Walks.{Outer, is_atomic, Token}
 
 -- what a statement is of the module: the `for` of a loop, the `if` of an OpBranchConditional, the `switch` of an OpSwitch; a load, a store, a call of a function, an atomic instruction; a barrier, which is written by this name
 pub data Act : Type 0 where
@@ -104,7 +105,7 @@ is_done o branches p = is_test p
 is_done o selects p = is_choice p
 is_done o loads p = is_one is_read (deeds_in p)
 is_done o stores p = is_one is_assigned (deeds_in p)
-is_done o enters p = begins (is_call (is_in o.functions)) (list_all is_read) (deeds_in p)
+is_done o enters p = begins (is_call (is_among o.functions)) (list_all is_read) (deeds_in p)
 is_done o updates p = begins (is_call is_atomic) (is_one is_read) (deeds_in p)
 is_done o (bars f) p = is_one (is_call (bytes_eq f)) (deeds_in p)
 
@@ -158,12 +159,6 @@ abbrev pub tested : Expr → Option Text
 tested (name x) = Some x
 tested (not (name x)) = Some x
 tested _ = None
-
-abbrev pub is_flag : Key → Bool
-is_flag (Again label) = true
-is_flag (Leave label) = true
-is_flag (Fell label) = true
-is_flag _ = false
 
 abbrev pub is_again : Key → Bool
 is_again (Again label) = true

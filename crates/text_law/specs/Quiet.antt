@@ -3,10 +3,12 @@ use Rattle.std.specs.Prelude.{ℕ, ◌≡◌, Bool, true, false, List, [], ◌++
 use Rattle.name_alloc.specs.declared.claims.Key.{Key}
 use Rattle.glsl_ast.specs.Tree.{Text, Expr, Stmt, stmts_in}
 use Rattle.control_text.specs.Statements.{Blocks}
+use Rattle.claim_law.specs.Told.{is_among}
+use Rattle.safe_law.specs.Flags.{is_flag}
 use Rattle.text_law.specs.Deeds.{Deed, deeds}
 use Rattle.text_law.specs.Walks as walks
-use Rattle.text_law.specs.Walks.{Outer, is_in, is_seen, Token, walk}
-use Rattle.text_law.specs.Pairs.{Naming, is_flag, is_again}
+use Rattle.text_law.specs.Walks.{Outer, is_seen, Token, walk}
+use Rattle.text_law.specs.Pairs.{Naming, is_again}
 
 module _ (o : Outer) where
   -- nothing that it does is seen
@@ -26,9 +28,9 @@ module _ (o : Outer) where
     pub condition : (b : ℕ) → IsHere b → Chooses b → IsQuiet (w.condition b)
     pub value : (b : ℕ) (e : Expr) → IsHere b → w.value b ≡ Some e → IsQuiet e
     pub copies : (b t : ℕ) → IsHere b → Leads b t → AreQuiet (w.copies b t)
-    pub again : (b : ℕ) (x : Text) → w.again b ≡ Some x → is_in o.memory x ≡ false
-    pub leave : (b : ℕ) (x : Text) → w.leave b ≡ Some x → is_in o.memory x ≡ false
-    pub fell : (b : ℕ) (x : Text) → w.fell b ≡ Some x → is_in o.memory x ≡ false
+    pub again : (b : ℕ) (x : Text) → w.again b ≡ Some x → is_among o.memory x ≡ false
+    pub leave : (b : ℕ) (x : Text) → w.leave b ≡ Some x → is_among o.memory x ≡ false
+    pub fell : (b : ℕ) (x : Text) → w.fell b ≡ Some x → is_among o.memory x ≡ false
 
 -- flags have the names of their keys
 abbrev pub IsFlagOf : Naming → (Key → Bool) → Text → Type 0

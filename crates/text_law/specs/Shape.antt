@@ -33,8 +33,9 @@ use Rattle.function_text.specs.Functions.{function_key}
 use Rattle.unit_rules.specs.Unit.{called, source_of}
 use Rattle.claim_law.specs.Bodies.{functions_in}
 use Rattle.claim_law.specs.Told.{built_in_variables}
+use Rattle.safe_law.specs.Flags.{is_flag}
 use Rattle.text_law.specs.Walks.{Outer, walk}
-use Rattle.text_law.specs.Pairs.{Act, repeats, exit_acts, with_round, loads, stores, enters, updates, bars, Pair, token_of, sites, is_of, Naming, is_flag, AreGuards, StandTogether, IsPlaced}
+use Rattle.text_law.specs.Pairs.{Act, repeats, exit_acts, with_round, loads, stores, enters, updates, bars, Pair, token_of, sites, is_of, Naming, AreGuards, StandTogether, IsPlaced}
 
 -- the word of a constant
 abbrev pub constant_word : Source → ℕ → ℕ

@@ -2,13 +2,14 @@
 use Rattle.std.specs.Prelude.{◌≡◌, true, false, List, [], ◌∷◌, filter}
 use Rattle.glsl_ast.specs.Tree.{LValue, lvalue, Stmt, declare, assign, leave, again, give}
 use Rattle.claim_law.specs.Uses.{Words, UseSteps}
+use Rattle.claim_law.specs.Told.{is_among}
 use Rattle.text_law.specs.Deeds.{Deed, calls, own_deeds}
-use Rattle.text_law.specs.Walks.{Outer, is_in, is_seen}
+use Rattle.text_law.specs.Walks.{Outer, is_seen}
 
 -- no path to memory begins with the name, and no call of such a function is seen; other names are no matter, nor is what only `length()` is asked of
 abbrev pub unseen : Outer → Words
 unseen o = record {
-  value = λ x. is_in o.memory x ≡ false;
+  value = λ x. is_among o.memory x ≡ false;
   called = λ x. is_seen o (calls x) ≡ false;
   size = λ x. Unit {0};
   measured = λ x. Unit {0};
@@ -41,7 +42,7 @@ seen_in o (s ∷ ss) = if_some (filter (is_seen o) (own_deeds s)) (seen_in o ss)
 
 -- a path to memory: it begins with such a name, and nothing else of it is seen
 abbrev pub IsPath : Outer → LValue → Type 0
-IsPath o (lvalue x steps) = (is_in o.memory x ≡ true) × UseSteps (unseen o) steps
+IsPath o (lvalue x steps) = (is_among o.memory x ≡ true) × UseSteps (unseen o) steps
 
 -- statements whose own expressions do nothing that is seen
 abbrev pub IsStill : Outer → Stmt → Type 0

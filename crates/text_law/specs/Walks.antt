@@ -1,17 +1,14 @@
 -- The body of a function from its begin to its end: where `for`, `switch` and `if` begin and end, and the statements that access memory, call functions of the text, or are barriers.
-use Rattle.std.specs.Prelude.{◌||◌, Bool, List, [], ◌∷◌, bytes_eq, filter, is_some}
-use Rattle.std.specs.List.{list_any}
+use Rattle.std.specs.Prelude.{◌||◌, Bool, List, [], ◌∷◌, filter, is_some}
 use Rattle.glsl_ast.specs.Tree.{Text, Expr, Stmt, when, either, loop, switch, Stmts, no_stmts, stmt, Arms, no_arms, arm}
 use Rattle.glsl_semantics.specs.Expressions.{atomic_function, barrier_event}
+use Rattle.claim_law.specs.Told.{is_among}
 use Rattle.text_law.specs.Deeds.{Deed, reads, assigns, calls, own_deeds}
 
 -- the names with which paths to memory begin, and the names of the functions of the text
 pub record Outer : Type 0 where
   pub memory : List Text
   pub functions : List Text
-
-abbrev pub is_in : List Text → Text → Bool
-is_in names x = list_any (bytes_eq x) names
 
 -- a function of GLSL that is atomic, and one that is a barrier (GLSL 4.60, sections 8.11 and 8.16)
 abbrev pub is_atomic : Text → Bool
@@ -22,9 +19,9 @@ is_barrier f = is_some (barrier_event f)
 
 -- it could be seen from outside
 abbrev pub is_seen : Outer → Deed → Bool
-is_seen o (reads x) = is_in o.memory x
-is_seen o (assigns x) = is_in o.memory x
-is_seen o (calls f) = is_in o.functions f || (is_atomic f || is_barrier f)
+is_seen o (reads x) = is_among o.memory x
+is_seen o (assigns x) = is_among o.memory x
+is_seen o (calls f) = is_among o.functions f || (is_atomic f || is_barrier f)
 
 -- `for`, `switch`, `if` and the end of one of them; a statement whose own expressions do something that is seen
 pub data Token : Type 0 where

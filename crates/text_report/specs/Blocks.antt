@@ -4,11 +4,10 @@ use Rattle.glsl_ast.specs.Tree as tree
 use Rattle.glsl_ast.specs.Tree.{Text, Member, Decl, block, shared}
 use Rattle.glsl_ast.specs.declared.items.BlockPlace.{BlockPlace}
 use Rattle.glsl_ast.specs.declared.items.BlockPlace.TheVariants.{Set, Push}
-use Rattle.glsl_ast.specs.declared.items.BlockRules.{BlockRules}
-use Rattle.glsl_ast.specs.declared.items.BlockRules.TheVariants.{Std430, Std140}
 use Rattle.glsl_ast.specs.declared.items.Qual.{Qual}
 use Rattle.glsl_ast.specs.declared.items.Qual.TheVariants.{Coherent, Volatile, Restrict, Readonly, Writeonly}
 use Rattle.glsl_grammar.specs.Layout.{type_text}
+use Rattle.glsl_grammar.specs.Token.{rules_word}
 use Rattle.serde_json.specs.Data.{Data, number, unsigned, string, object, member, no_members}
 use Rattle.text_report.specs.Sizes.{number_or_null, array_of}
 use Rattle.text_report.specs.declared.blocks.Told.{Told}
@@ -26,10 +25,6 @@ abbrev pub kind_text : BlockPlace → Bool → Text
 kind_text Push buffer = codes "push"
 kind_text (Set set binding) true = codes "buffer"
 kind_text (Set set binding) false = codes "uniform"
-
-abbrev pub rules_text : BlockRules → Text
-rules_text Std430 = codes "std430"
-rules_text Std140 = codes "std140"
 
 abbrev pub qualifier_text : Qual → Text
 qualifier_text Coherent = codes "coherent"
@@ -49,7 +44,7 @@ member_data (tree.Member.member offset quals ty name) =
 abbrev pub block_data : Decl → Option Data
 block_data (block place rules quals buffer name members instance) =
     Some (object (member (codes "binding") (number_or_null (binding_number place)) (member (codes "kind") (string (kind_text place buffer))
-    (member (codes "layout") (string (rules_text rules)) (member (codes "members") (array_of (map member_data members))
+    (member (codes "layout") (string (rules_word rules)) (member (codes "members") (array_of (map member_data members))
     (member (codes "name") (string name) (member (codes "qualifiers") (array_of (map qualifier_data quals))
     (member (codes "set") (number_or_null (set_number place)) no_members))))))))
 block_data _ = None

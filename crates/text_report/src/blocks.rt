@@ -2,8 +2,9 @@
 ghost use Rattle.std.specs.Prelude.{◌≡◌, map, option_map, IfOk};
 ghost use Rattle.std.specs.List.{filter_map};
 ghost use Rattle.glsl_ast.specs.View.{decl_of, member_of};
-ghost use Rattle.text_report.specs.Blocks.{set_number, binding_number, kind_text, rules_text, qualifier_text, member_data, qualifier_data, block_data, shared_data, item_data};
+ghost use Rattle.text_report.specs.Blocks.{set_number, binding_number, kind_text, qualifier_text, member_data, qualifier_data, block_data, shared_data, item_data};
 ghost use Rattle.serde_json.specs.View.{view};
+ghost use Rattle.glsl_grammar.specs.Token.{rules_word};
 
 use crate::sizes::optional;
 use crate::types::type_name;
@@ -40,7 +41,7 @@ fn kind_of(place: BlockPlace, buffer: bool) -> &'static str
 }
 
 fn rules_of(rules: BlockRules) -> &'static str
-    ensures { result.now ≡ rules_text rules }
+    ensures { result.now ≡ rules_word rules }
 {
     match rules {
         BlockRules::Std430 => "std430",

@@ -17,7 +17,7 @@ use Rattle.traces.specs.Outcomes.{Result, got}
 use Rattle.op_semantics.specs.Component.{each_one}
 use Rattle.module_semantics.specs.Setting.{Setting}
 use Rattle.module_semantics.specs.State.{Held, Conf}
-use Rattle.module_semantics.specs.Operands.{of_module, value_at, word_at}
+use Rattle.module_semantics.specs.Operands.{of_module, value_at, word_at, as_value}
 use Rattle.module_semantics.specs.Steps as steps
 use Rattle.module_semantics.specs.Steps.{is_based_on, without_based}
 use Rattle.access_paths.specs.Ways.{captured_indexes}
@@ -33,7 +33,7 @@ use Rattle.expr_forward.specs.Statements.{captured_of}
 use Rattle.function_text.specs.Functions.{FunctionPlan, written}
 use Rattle.unit_rules.specs.Unit.{IsUnitOf}
 use Rattle.region_law.specs.Leads.{In}
-use Rattle.agree_law.specs.Agree.{Naming, AreApart, variable_with, value_of, as_value, AgreeIn}
+use Rattle.agree_law.specs.Agree.{Naming, AreApart, variable_with, value_of, AgreeIn}
 use Rattle.agree_law.specs.Blocks.{read_ids, reads, IsNew, At, have_result}
 use Rattle.agree_law.specs.Evaluates.{IsKept}
 use Rattle.agree_law.specs.Points.{Body}

@@ -33,13 +33,12 @@ use Rattle.typed_law.proofs.Used.{global_found}
 use Rattle.typed_law.proofs.Values.{typed_is, typed_result, variable_type_is, global_row, global_typed_some, inside, local_row, own_type}
 use Rattle.typed_law.proofs.Others.{typed_some}
 use Rattle.claim_law.specs.Claimed.{IsIn}
-use Rattle.claim_law.specs.Told.{built_in_variables}
+use Rattle.claim_law.specs.Told.{built_in_variables, is_among}
 use Rattle.grammar_law.proofs.Unit.Lists.{in_either, of_filter, as_among, as_parameter}
 use Rattle.grammar_law.proofs.Unit.Shaped.{pointer_none}
 use Rattle.grammar_law.proofs.Unit.Ways.{HaveKinds, F, V, in_module}
 use Rattle.grammar_law.proofs.Meets.ArrayLengths.{variable_typed}
 use Rattle.grammar_law.proofs.Grammar.Listed.{of_mapped}
-use Rattle.text_law.specs.Walks.{is_in}
 use Rattle.text_law.specs.Shape.{is_pointer, memory_ids, names_in}
 use Rattle.text_law.proofs.Shape.Named.{id_unseen}
 
@@ -156,7 +155,7 @@ module _ (s : Setting) (entry : Option (List ℕ)) (right : IsConforming s.of en
 
   -- The laws: no path to memory begins with such a name.
   abbrev pub IsUnseenId : ℕ → Type 0
-  IsUnseenId n = is_in (names_in (name_of u.claimed) (memory_ids Src Fn) ++ built_in_variables) (text_of (name_of u.claimed) (IdOf (id n))) ≡ false
+  IsUnseenId n = is_among (names_in (name_of u.claimed) (memory_ids Src Fn) ++ built_in_variables) (text_of (name_of u.claimed) (IdOf (id n))) ≡ false
 
   pub value_unseen : (n : ℕ) (t : Tree) → type_tree s.of.globals (type_of Where n) ≡ Some t → IsUnseenId n
   value_unseen n t shaped = id_unseen Found u.lawful (memory_ids Src Fn) n (λ there. shaped_apart n t shaped (memory_of n there))

@@ -49,6 +49,7 @@ use Rattle.typed_law.proofs.Lists.{clash}
 use Rattle.typed_law.proofs.Values.{inside, typed_result}
 use Rattle.claim_law.specs.Claimed.{IsIn}
 use Rattle.claim_law.proofs.Claim.Listed.{in_flat, at_place}
+use Rattle.claim_law.specs.Told.{is_among}
 use Rattle.grammar_law.specs.Mentioned.{IsValueIn}
 use Rattle.grammar_law.specs.Words.{words_of, AreOfStructs}
 use Rattle.grammar_law.proofs.Unit.Lists.{as_among, of_filter, of_numbered_first}
@@ -61,7 +62,7 @@ use Rattle.grammar_law.proofs.Unit.Ways.{HaveKinds, F, R, V, in_module, plan_is}
 use Rattle.grammar_law.proofs.Meets.LiveOrGone.{IsRun, is_quiet, pure_quiet, placed_live, run, live_or_gone}
 use Rattle.grammar_law.proofs.Meets.PlaceMeets.{load_way, store_way, atomic_way}
 use Rattle.grammar_law.proofs.Meets.BlocksMade.{AreKnown, is_shaped_kind, inst_meets}
-use Rattle.text_law.specs.Walks.{Outer, is_in}
+use Rattle.text_law.specs.Walks.{Outer}
 use Rattle.text_law.specs.Shape.{outer_of}
 use Rattle.text_law.specs.Unseen.{unseen, IsPath}
 use Rattle.text_law.specs.Asked.{HasVariable, AreArguments, AsksSeen, AllAskSeen}
@@ -131,7 +132,7 @@ word_same A B w pointer n uses = uses
 
 module _ (s : Setting) (entry : Option (List ℕ)) (right : IsConforming s.of entry) (kinds : HaveKinds s.of.globals) (o : Options) (unit : TranslationUnit) (u : IsUnitOf s.of o unit) (p : FunctionPlan) (among : IsIn p u.plans) (words : (g : Inst) → IsIn g s.of.globals → FitWords g.args) (given : AreGivenWords o.overrides) (names : List (List ℕ)) (structs : AreOfStructs s.of.globals (name_of u.claimed) names)
     (k : AreKnown s entry right kinds o unit u p among names structs) (spec_ids : AreSpecIds (source_of s.of o u.entry))
-    (callees : (i : Inst) → IsIn i (insts_of (F s entry right kinds o unit u p among)) → is i.op code.FunctionCall ≡ true → is_in (outer_of (source_of s.of o u.entry) (name_of u.claimed) unit (F s entry right kinds o unit u p among)).functions (callee_text (V s entry right kinds o unit u p among) i) ≡ true) where
+    (callees : (i : Inst) → IsIn i (insts_of (F s entry right kinds o unit u p among)) → is i.op code.FunctionCall ≡ true → is_among (outer_of (source_of s.of o u.entry) (name_of u.claimed) unit (F s entry right kinds o unit u p among)).functions (callee_text (V s entry right kinds o unit u p among) i) ≡ true) where
   abbrev Gs : List Inst
   Gs = s.of.globals
 

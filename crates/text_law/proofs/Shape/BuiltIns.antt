@@ -18,10 +18,11 @@ use Rattle.typed_law.proofs.Lists.{clash}
 use Rattle.claim_law.specs.Bodies.{function_in}
 use Rattle.claim_law.specs.Claimed.{IsIn}
 use Rattle.claim_law.proofs.Claim.Bodies.{bodies_are}
+use Rattle.claim_law.specs.Told.{is_among}
 use Rattle.grammar_law.proofs.Grammar.Held.{any_invocation}
 use Rattle.grammar_law.proofs.Grammar.UnitMade.{in_plans}
 use Rattle.text_law.proofs.Naming.Unit.{named_so}
-use Rattle.text_law.specs.Walks.{is_in, is_atomic, is_barrier, is_seen}
+use Rattle.text_law.specs.Walks.{is_atomic, is_barrier, is_seen}
 use Rattle.text_law.specs.Deeds.{calls}
 use Rattle.text_law.specs.Shape.{outer_of}
 
@@ -53,14 +54,14 @@ module _ (m : ModuleState) (o : Options) (unit : TranslationUnit) (u : IsUnitOf 
         | inr free ↦ clash (sym barred ∙ (ap is_barred same ∙ or_from (is_word (function_name p.scope)) (has_prefix (function_name p.scope)) free.word free.prefix))
       ])
 
-  names_apart : (x : Text) → is_barred x ≡ true → bytes_eq x (codes "main") ≡ false → (ps : List FunctionPlan) → ((p : FunctionPlan) → IsIn p ps → IsIn p u.plans) → is_in (map (λ (d : Text × Stmts). d.0) (flat_map function_in (map function_decl ps))) x ≡ false
+  names_apart : (x : Text) → is_barred x ≡ true → bytes_eq x (codes "main") ≡ false → (ps : List FunctionPlan) → ((p : FunctionPlan) → IsIn p ps → IsIn p u.plans) → is_among (map (λ (d : Text × Stmts). d.0) (flat_map function_in (map function_decl ps))) x ≡ false
   names_apart x barred other [] sub = refl
   names_apart x barred other (p ∷ ps) sub =
-      or_from (bytes_eq x (function_name p.scope)) (is_in (map (λ (d : Text × Stmts). d.0) (flat_map function_in (map function_decl ps))) x) (name_apart x barred other p (sub p (inl refl))) (names_apart x barred other ps (λ q q_in. sub q (inr q_in)))
+      or_from (bytes_eq x (function_name p.scope)) (is_among (map (λ (d : Text × Stmts). d.0) (flat_map function_in (map function_decl ps))) x) (name_apart x barred other p (sub p (inl refl))) (names_apart x barred other ps (λ q q_in. sub q (inr q_in)))
 
   -- The law.
   pub built_unseen : (g : Function) (f : BuiltIn) → is_seen (outer_of (source_of m o u.entry) (name_of u.claimed) unit g) (calls (built_in_name f)) ≡ false
   built_unseen g f =
-      or_from (is_in (outer_of (source_of m o u.entry) (name_of u.claimed) unit g).functions (built_in_name f)) (is_atomic (built_in_name f) || is_barrier (built_in_name f))
-      (ap (λ (ds : List (Text × Stmts)). is_in (map (λ (d : Text × Stmts). d.0) ds) (built_in_name f)) (bodies_are m o unit u) ∙ names_apart (built_in_name f) (built_barred f) (built_other f) (in_order u.order u.plans) (λ p p_in. in_plans u.order u.plans p p_in))
+      or_from (is_among (outer_of (source_of m o u.entry) (name_of u.claimed) unit g).functions (built_in_name f)) (is_atomic (built_in_name f) || is_barrier (built_in_name f))
+      (ap (λ (ds : List (Text × Stmts)). is_among (map (λ (d : Text × Stmts). d.0) ds) (built_in_name f)) (bodies_are m o unit u) ∙ names_apart (built_in_name f) (built_barred f) (built_other f) (in_order u.order u.plans) (λ p p_in. in_plans u.order u.plans p p_in))
       (built_apart f)

@@ -28,6 +28,7 @@ use Rattle.typed_law.specs.Conforms.{IsConforming}
 use Rattle.claim_law.specs.Claimed.{IsIn}
 use Rattle.claim_law.specs.Bodies.{functions_in}
 use Rattle.claim_law.proofs.Claim.Told.{named_is}
+use Rattle.claim_law.specs.Told.{is_among}
 use Rattle.grammar_law.proofs.Unit.Ways.{HaveKinds, F, V}
 use Rattle.grammar_law.proofs.Grammar.Held.{any_invocation, Run}
 use Rattle.grammar_law.proofs.Grammar.Called.{right, kinds}
@@ -35,18 +36,17 @@ use Rattle.grammar_law.proofs.Grammar.Callees.{function, listed, other_entry, ca
 use Rattle.grammar_law.proofs.Grammar.FirstBlocks.{as_function}
 use Rattle.text_law.proofs.Naming.Functions.{has_plan}
 use Rattle.text_law.proofs.Naming.Keys.{some_in, equal}
-use Rattle.text_law.specs.Walks.{is_in}
 use Rattle.text_law.specs.Shape.{name_of, has_name, body_of}
 use Rattle.text_law.proofs.Shape.Found.{in_numbers, body_found}
 
 -- what is found by its name is among the names
-found_name : (ds : List (Text × Stmts)) (x : Text) (b : Stmts) → option_map (λ (d : Text × Stmts). d.1) (find (has_name (Some x)) ds) ≡ Some b → is_in (map (λ (d : Text × Stmts). d.0) ds) x ≡ true
+found_name : (ds : List (Text × Stmts)) (x : Text) (b : Stmts) → option_map (λ (d : Text × Stmts). d.1) (find (has_name (Some x)) ds) ≡ Some b → is_among (map (λ (d : Text × Stmts). d.0) ds) x ≡ true
 found_name [] x b e = cc
 found_name (d ∷ ds) x b e = by_test (bytes_eq d.0 x) refl e (found_name ds x b)
   where
-    by_test : (t : Bool) → bytes_eq d.0 x ≡ t → option_map (λ (c : Text × Stmts). c.1) (if t then Some d else find (has_name (Some x)) ds) ≡ Some b → (option_map (λ (c : Text × Stmts). c.1) (find (has_name (Some x)) ds) ≡ Some b → is_in (map (λ (c : Text × Stmts). c.0) ds) x ≡ true) → is_in (d.0 ∷ map (λ (c : Text × Stmts). c.0) ds) x ≡ true
-    by_test true same e later = or_left (bytes_eq x d.0) (is_in (map (λ (c : Text × Stmts). c.0) ds) x) (subst (λ (y : Text). bytes_eq x y ≡ true) (sym (same_text d.0 x same)) (own_text x))
-    by_test false other e later = or_right (bytes_eq x d.0) (is_in (map (λ (c : Text × Stmts). c.0) ds) x) (later e)
+    by_test : (t : Bool) → bytes_eq d.0 x ≡ t → option_map (λ (c : Text × Stmts). c.1) (if t then Some d else find (has_name (Some x)) ds) ≡ Some b → (option_map (λ (c : Text × Stmts). c.1) (find (has_name (Some x)) ds) ≡ Some b → is_among (map (λ (c : Text × Stmts). c.0) ds) x ≡ true) → is_among (d.0 ∷ map (λ (c : Text × Stmts). c.0) ds) x ≡ true
+    by_test true same e later = or_left (bytes_eq x d.0) (is_among (map (λ (c : Text × Stmts). c.0) ds) x) (subst (λ (y : Text). bytes_eq x y ≡ true) (sym (same_text d.0 x same)) (own_text x))
+    by_test false other e later = or_right (bytes_eq x d.0) (is_among (map (λ (c : Text × Stmts). c.0) ds) x) (later e)
 
 module _ (m : ModuleState) (o : Options) (unit : TranslationUnit) (read : IsRead m) (fine : IsFine m o) (u : IsUnitOf m o unit) (p : FunctionPlan) (among : IsIn p u.plans) where
   abbrev Right : IsConforming m o.entry
@@ -89,5 +89,5 @@ module _ (m : ModuleState) (o : Options) (unit : TranslationUnit) (read : IsRead
         (stmts_in (body_text has.plan), ap (body_of unit) (sym named) ∙ (ap (λ (f : Function). body_of unit (name_of u.entry Found f)) (sym has.of_it) ∙ body_found m o unit u any_invocation n.0 has.plan has.at n.1))
 
     -- The law.
-    pub callee_seen : is_in (map (λ (d : Text × Stmts). d.0) (functions_in unit)) (callee_text (V S o.entry Right Kinds o unit u p among) i) ≡ true
+    pub callee_seen : is_among (map (λ (d : Text × Stmts). d.0) (functions_in unit)) (callee_text (V S o.entry Right Kinds o unit u p among) i) ≡ true
     callee_seen = found_name (functions_in unit) Name has_body.0 has_body.1

@@ -31,8 +31,9 @@ use Rattle.expr_forward.specs.Statements.{set_by, is_void, callee_text, call_arg
 use Rattle.list_law.proofs.Tests.{or_true}
 use Rattle.claim_law.specs.Uses.{UseEach}
 use Rattle.claim_law.specs.Statements.{EachStmt}
+use Rattle.claim_law.specs.Told.{is_among}
 use Rattle.text_law.specs.Deeds.{Deed, reads, assigns, calls, deeds, deeds_of, place_deeds}
-use Rattle.text_law.specs.Walks.{Outer, is_in, is_atomic, is_barrier, is_seen}
+use Rattle.text_law.specs.Walks.{Outer, is_atomic, is_barrier, is_seen}
 use Rattle.text_law.specs.Pairs.{Act, loads, stores, enters, updates, bars, does, is_read, is_done}
 use Rattle.text_law.specs.Shape.{bars_of, acts_in, acts_of}
 use Rattle.text_law.specs.Unseen.{unseen, AreLeaves, if_some, seen_in}
@@ -73,14 +74,14 @@ module _ (o : Outer) (h : ℕ) where
       by_test true p rest = rest p q
       by_test false p rest = cc
 
-  seen-function : (f : Text) → is_in o.functions f ≡ true → is_seen o (calls f) ≡ true
+  seen-function : (f : Text) → is_among o.functions f ≡ true → is_seen o (calls f) ≡ true
   seen-function f on = ap (λ (b : Bool). b || (is_atomic f || is_barrier f)) on
 
   seen-atomic : (f : Text) → is_atomic f ≡ true → is_seen o (calls f) ≡ true
-  seen-atomic f on = ap (λ (b : Bool). is_in o.functions f || (b || is_barrier f)) on ∙ or_true (is_in o.functions f)
+  seen-atomic f on = ap (λ (b : Bool). is_among o.functions f || (b || is_barrier f)) on ∙ or_true (is_among o.functions f)
 
   seen-barrier : (f : Text) → (is_atomic f || is_barrier f) ≡ true → is_seen o (calls f) ≡ true
-  seen-barrier f on = ap (λ (b : Bool). is_in o.functions f || b) on ∙ or_true (is_in o.functions f)
+  seen-barrier f on = ap (λ (b : Bool). is_among o.functions f || b) on ∙ or_true (is_among o.functions f)
 
   atomic-in : (a : AtomicOp) → is_atomic (atomic_name a) ≡ true
   atomic-in atomic.Load = refl
@@ -127,7 +128,7 @@ module _ (o : Outer) (h : ℕ) where
       (done-both (flat_map bars_of (memory_barriers bits)) (bars (codes "barrier") ∷ []) (seen_in o (memory_barrier bits)) (seen_in o (bare_call (codes "barrier"))) (barriers-done bits) (bar-done (codes "barrier") refl refl)))
 
   module _ (s : Source) (w : Scope) (block : ℕ) where
-    set-seen : (i : Inst) (e : Expr) (d : Deed) (ds : List Deed) (form : Form) → is_variable_form form ≡ true → is_in o.memory (w.setting.key (Id (id i.result))) ≡ false → filter (is_seen o) (deeds true e) ≡ d ∷ ds → seen_in o (set_by w i e form) ≡ (d ∷ ds) ∷ []
+    set-seen : (i : Inst) (e : Expr) (d : Deed) (ds : List Deed) (form : Form) → is_variable_form form ≡ true → is_among o.memory (w.setting.key (Id (id i.result))) ≡ false → filter (is_seen o) (deeds true e) ≡ d ∷ ds → seen_in o (set_by w i e form) ≡ (d ∷ ds) ∷ []
     set-seen i e d ds Local is off on = ap (λ l. if_some l []) on
     set-seen i e d ds Hoisted is off on =
         ap (λ l. if_some l []) (ap (λ (b : Bool). if b then assigns (w.setting.key (Id (id i.result))) ∷ filter (is_seen o) (deeds true e) else filter (is_seen o) (deeds true e)) off ∙ on)

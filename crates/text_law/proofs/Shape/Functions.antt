@@ -18,8 +18,9 @@ use Rattle.function_text.specs.Functions.{FunctionPlan, written, blocks_of, body
 use Rattle.claim_law.specs.Uses.{UsesExpr}
 use Rattle.claim_law.specs.Statements.{EachStmt}
 use Rattle.claim_law.specs.Blocks.{IsWhole}
+use Rattle.claim_law.specs.Told.{is_among}
 use Rattle.text_law.specs.Deeds.{Deed}
-use Rattle.text_law.specs.Walks.{Outer, is_in}
+use Rattle.text_law.specs.Walks.{Outer}
 use Rattle.text_law.specs.Pairs.{Act, does, is_done, Naming}
 use Rattle.text_law.specs.Quiet.{AreFlags}
 use Rattle.text_law.specs.Unseen.{unseen, IsLeaf, AreLeaves, seen_in, AreStill}
@@ -60,9 +61,9 @@ module _ (s : Source) (found : Naming) (o : Outer) (p : FunctionPlan) (IsHere : 
     (condition : (b : ℕ) → IsHere b → Chooses b → UsesExpr (unseen o) ((blocks_of p).condition b))
     (value : (b : ℕ) (e : Expr) → IsHere b → (blocks_of p).value b ≡ Some e → UsesExpr (unseen o) e)
     (copies : (b t : ℕ) → IsHere b → Leads b t → EachStmt (unseen o) ((blocks_of p).copies b t))
-    (first : (b : ℕ) (x : Text) → (blocks_of p).again b ≡ Some x → is_in o.memory x ≡ false)
-    (out : (b : ℕ) (x : Text) → (blocks_of p).leave b ≡ Some x → is_in o.memory x ≡ false)
-    (fallen : (b : ℕ) (x : Text) → (blocks_of p).fell b ≡ Some x → is_in o.memory x ≡ false)
+    (first : (b : ℕ) (x : Text) → (blocks_of p).again b ≡ Some x → is_among o.memory x ≡ false)
+    (out : (b : ℕ) (x : Text) → (blocks_of p).leave b ≡ Some x → is_among o.memory x ≡ false)
+    (fallen : (b : ℕ) (x : Text) → (blocks_of p).fell b ≡ Some x → is_among o.memory x ≡ false)
     (again : (h c : ℕ) → IsHere h → continue_block (graph (written p)) h ≡ Some c → (x : Text) × ((blocks_of p).again h ≡ Some x))
     (flags : AreFlags found (blocks_of p))
     (orders : (h : ℕ) → IsHere h → is_switch (nth (graph (written p)) h).exit ≡ true → AreApart (switch_targets (graph (written p)) h) × ((t : ℕ) → In t (switch_targets (graph (written p)) h) → In t ((blocks_of p).order h))) where

@@ -8,8 +8,9 @@ use Rattle.name_alloc.specs.declared.claims.Key.TheVariants.{Again}
 use Rattle.glsl_ast.specs.Tree.{Text, Expr, name}
 use Rattle.control_text.specs.declared.place.Place.{Place}
 use Rattle.control_text.specs.Statements.{Blocks, groups_have_break, inside_loop, inside_switch}
+use Rattle.safe_law.specs.Flags.{is_flag}
 use Rattle.text_law.specs.Deeds.{Deed}
-use Rattle.text_law.specs.Pairs.{Pair, tests, closes, does, tested, Naming, is_flag, is_again, AreGuards}
+use Rattle.text_law.specs.Pairs.{Pair, tests, closes, does, tested, Naming, is_again, AreGuards}
 use Rattle.text_law.specs.Quiet.{IsFlagOf, AreFlags}
 use Rattle.text_law.specs.Paired.{Opened, guard, bare, denied, one_arm, arms_pairs, arms_by, behind_pairs, region_pairs, item_pairs, groups_pairs}
 

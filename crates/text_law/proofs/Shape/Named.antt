@@ -15,10 +15,9 @@ use Rattle.region_law.proofs.Flags.{other_text}
 use Rattle.typed_law.proofs.Lists.{clash}
 use Rattle.claim_law.specs.Claimed.{IsIn}
 use Rattle.claim_law.specs.Apart.{is_flow, IsFlow}
-use Rattle.claim_law.specs.Told.{built_in_variables}
+use Rattle.claim_law.specs.Told.{built_in_variables, is_among}
 use Rattle.claim_law.proofs.Claim.Apart.{main_free, size_reserved}
 use Rattle.grammar_law.proofs.Grammar.FunctionsMade.{flow_own}
-use Rattle.text_law.specs.Walks.{is_in}
 use Rattle.text_law.specs.Pairs.{Naming}
 use Rattle.text_law.specs.Shape.{names_in}
 
@@ -31,10 +30,10 @@ built_reserved : AreReserved built_in_variables
 unfolding has_prefix
 built_reserved = (refl, (refl, (refl, (refl, (refl, tt)))))
 
-none_reserved : (ys : List Text) → AreReserved ys → (x : Text) → has_prefix x ≡ false → is_in ys x ≡ false
+none_reserved : (ys : List Text) → AreReserved ys → (x : Text) → has_prefix x ≡ false → is_among ys x ≡ false
 none_reserved [] reserved x off = refl
 none_reserved (y ∷ ys) reserved x off =
-    or_from (bytes_eq x y) (is_in ys x) (other_text x y (λ same. clash (sym reserved.0 ∙ (ap has_prefix (sym same) ∙ off)))) (none_reserved ys reserved.1 x off)
+    or_from (bytes_eq x y) (is_among ys x) (other_text x y (λ same. clash (sym reserved.0 ∙ (ap has_prefix (sym same) ∙ off)))) (none_reserved ys reserved.1 x off)
 
 empty_free : has_prefix [] ≡ false
 unfolding has_prefix
@@ -49,7 +48,7 @@ abbrev is_id_key : Key → Bool
 is_id_key (IdOf n) = true
 is_id_key _ = false
 
-size_apart : is_in built_in_variables group_size_text ≡ false
+size_apart : is_among built_in_variables group_size_text ≡ false
 size_apart = refl
 
 module _ (found : Naming) (lawful : AreNames found) where
@@ -65,17 +64,17 @@ module _ (found : Naming) (lawful : AreNames found) where
       by_name (Some x) is = free_name key x is
 
   -- a text that none of these ids has as its name
-  other_names : (ns : List ℕ) (x : Text) → ((n : ℕ) → IsIn n ns → found (IdOf (id n)) ≡ Some x → ⊥) → is_in built_in_variables x ≡ false → is_in (names_in found ns ++ built_in_variables) x ≡ false
+  other_names : (ns : List ℕ) (x : Text) → ((n : ℕ) → IsIn n ns → found (IdOf (id n)) ≡ Some x → ⊥) → is_among built_in_variables x ≡ false → is_among (names_in found ns ++ built_in_variables) x ≡ false
   other_names [] x other off = off
   other_names (n ∷ ns) x other off = by_name (found (IdOf (id n))) refl (other_names ns x (λ k k_in. other k (inr k_in)) off)
     where
-      by_name : (q : Option Text) → found (IdOf (id n)) ≡ q → is_in (names_in found ns ++ built_in_variables) x ≡ false → is_in ((option_to_list q ++ names_in found ns) ++ built_in_variables) x ≡ false
+      by_name : (q : Option Text) → found (IdOf (id n)) ≡ q → is_among (names_in found ns ++ built_in_variables) x ≡ false → is_among ((option_to_list q ++ names_in found ns) ++ built_in_variables) x ≡ false
       by_name None is later = later
-      by_name (Some y) is later = or_from (bytes_eq x y) (is_in (names_in found ns ++ built_in_variables) x) (other_text x y (λ same. other n (inl refl) (is ∙ ap (λ (z : Text). Some z) (sym same)))) later
+      by_name (Some y) is later = or_from (bytes_eq x y) (is_among (names_in found ns ++ built_in_variables) x) (other_text x y (λ same. other n (inl refl) (is ∙ ap (λ (z : Text). Some z) (sym same)))) later
 
   -- The law, of a key that is none of what memory is; where it has no name, its text is empty.
   module _ (ns : List ℕ) (key : Key) (space : space_of key ≡ None) (other : (n : ℕ) → IsIn n ns → key ≡ IdOf (id n) → ⊥) where
-    pub key_unseen : is_in (names_in found ns ++ built_in_variables) (text_of found key) ≡ false
+    pub key_unseen : is_among (names_in found ns ++ built_in_variables) (text_of found key) ≡ false
     key_unseen = other_names ns (text_of found key) (λ n n_in is. by_name (found key) refl n n_in is) (none_reserved built_in_variables built_reserved (text_of found key) (free_text key))
       where
         none_empty : (n : ℕ) → found (IdOf (id n)) ≡ Some [] → ⊥
@@ -86,15 +85,15 @@ module _ (found : Naming) (lawful : AreNames found) where
         by_name (Some x) some n n_in is = other n n_in (lawful.apart key (IdOf (id n)) x space some is)
 
   -- of the size of workgroups
-  pub size_unseen : (ns : List ℕ) → is_in (names_in found ns ++ built_in_variables) group_size_text ≡ false
+  pub size_unseen : (ns : List ℕ) → is_among (names_in found ns ++ built_in_variables) group_size_text ≡ false
   size_unseen ns = other_names ns group_size_text (λ n n_in is. clash (sym size_reserved ∙ free_name (IdOf (id n)) group_size_text is)) size_apart
 
   -- of a key of no id
-  pub other_unseen : (ns : List ℕ) (key : Key) → space_of key ≡ None → is_id_key key ≡ false → is_in (names_in found ns ++ built_in_variables) (text_of found key) ≡ false
+  pub other_unseen : (ns : List ℕ) (key : Key) → space_of key ≡ None → is_id_key key ≡ false → is_among (names_in found ns ++ built_in_variables) (text_of found key) ≡ false
   other_unseen ns key space off = key_unseen ns key space (λ n n_in same. clash (ap is_id_key (sym same) ∙ off))
 
   -- and of an id that is none of these
-  pub id_unseen : (ns : List ℕ) (n : ℕ) → (IsIn n ns → ⊥) → is_in (names_in found ns ++ built_in_variables) (text_of found (IdOf (id n))) ≡ false
+  pub id_unseen : (ns : List ℕ) (n : ℕ) → (IsIn n ns → ⊥) → is_among (names_in found ns ++ built_in_variables) (text_of found (IdOf (id n))) ≡ false
   id_unseen ns n other = key_unseen ns (IdOf (id n)) refl (λ k k_in same. other (subst (λ (j : ℕ). IsIn j ns) (ap number_of (sym same)) k_in))
 
   no_id : (key : Key) → is_flow key ≡ true → is_id_key key ≡ false
@@ -102,7 +101,7 @@ module _ (found : Naming) (lawful : AreNames found) where
   no_id key flow = refl
 
   -- flags and spares
-  pub flow_unseen : (ns : List ℕ) (x : Text) → IsFlow found x → is_in (names_in found ns ++ built_in_variables) x ≡ false
+  pub flow_unseen : (ns : List ℕ) (x : Text) → IsFlow found x → is_among (names_in found ns ++ built_in_variables) x ≡ false
   flow_unseen ns x flow =
-      subst (λ (y : Text). is_in (names_in found ns ++ built_in_variables) y ≡ false) (ap (λ (q : Option Text). unwrap_or q []) flow.2)
+      subst (λ (y : Text). is_among (names_in found ns ++ built_in_variables) y ≡ false) (ap (λ (q : Option Text). unwrap_or q []) flow.2)
       (other_unseen ns flow.0 (flow_own [] flow.0 flow.1).0 (no_id flow.0 flow.1))

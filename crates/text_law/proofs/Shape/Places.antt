@@ -42,7 +42,7 @@ use Rattle.typed_law.specs.Conforms.{IsConforming}
 use Rattle.typed_law.specs.Words.{AreGivenWords}
 use Rattle.typed_law.proofs.Values.{inside, typed_result}
 use Rattle.claim_law.specs.Claimed.{IsIn}
-use Rattle.claim_law.specs.Told.{is_among, built_in_variables, built_ins}
+use Rattle.claim_law.specs.Told.{is_among, built_in_variables, built_ins, is_among as is_in}
 use Rattle.claim_law.proofs.Claim.Listed.{in_left, in_right, in_mapped}
 use Rattle.claim_law.proofs.Claim.Variables.{variable_no_constant}
 use Rattle.claim_law.specs.Blocks.{FitWords}
@@ -54,7 +54,7 @@ use Rattle.grammar_law.proofs.Unit.Ruled.{chains, rise}
 use Rattle.grammar_law.proofs.Unit.ResultShapes.{stands_inside}
 use Rattle.grammar_law.proofs.Unit.Ways.{HaveKinds, F, V, in_module, ordered}
 use Rattle.grammar_law.proofs.Meets.PointerStarts.{IsStart, outside, lent, own, pointer_start}
-use Rattle.text_law.specs.Walks.{Outer, is_in}
+use Rattle.text_law.specs.Walks.{Outer}
 use Rattle.text_law.specs.Shape.{is_pointer, memory_ids, names_in, outer_of}
 use Rattle.text_law.specs.Unseen.{unseen, IsPath}
 use Rattle.text_law.proofs.Shape.Named.{other_unseen}

@@ -24,9 +24,10 @@ use Rattle.global_law.specs.Chains.{NoneMakes, ChainsRise}
 use Rattle.global_law.proofs.Path.Ways.{start_way, chain_way}
 use Rattle.global_law.proofs.Path.Based.{rank, base_lower}
 use Rattle.claim_law.specs.Claimed.{IsIn}
+use Rattle.claim_law.specs.Told.{is_among}
 use Rattle.grammar_law.proofs.Unit.Lists.{in_block, as_among}
 use Rattle.grammar_law.proofs.Unit.Places.{makes_in}
-use Rattle.text_law.specs.Walks.{Outer, is_in}
+use Rattle.text_law.specs.Walks.{Outer}
 use Rattle.text_law.specs.Unseen.{unseen}
 
 module _ (gs : List Inst) (f : Function) where
@@ -98,7 +99,7 @@ module _ (gs : List Inst) (f : Function) where
     traced n = traced-below (suc (rank f n)) n (let less : rank f n < suc (rank f n) = omega arith in less)
 
 -- As it is written it does nothing that is seen, where indexes do nothing.
-module _ (o : Outer) (gs : List Inst) (f : Function) (w : Setting) (index : (n : ℕ) → IsIndex gs f n → UsesExpr (unseen o) (index_expr w n)) (kept : (chain : Id) (k : ℕ) → is_in o.memory (w.key (Captured chain k)) ≡ false) where
+module _ (o : Outer) (gs : List Inst) (f : Function) (w : Setting) (index : (n : ℕ) → IsIndex gs f n → UsesExpr (unseen o) (index_expr w n)) (kept : (chain : Id) (k : ℕ) → is_among o.memory (w.key (Captured chain k)) ≡ false) where
   index-unseen : (size n : ℕ) (x : Option ℕ) (rest : List LStep) → UsesExpr (unseen o) (index_expr w n) → UseSteps (unseen o) rest → UseSteps (unseen o) (index_by w size n x ∷ rest)
   index-unseen size n None rest is later = (is, later)
   index-unseen size n (Some k) rest is later = by_test (nat_lt k size)

@@ -32,6 +32,7 @@ use Rattle.grammar_law.proofs.Ruled.Ruled.{contains_of}
 use Rattle.claim_law.specs.Claimed.{IsIn}
 use Rattle.claim_law.specs.Apart.{IsFlow}
 use Rattle.claim_law.proofs.Claim.Flags.{again_is_flow, leave_is_flow, fell_is_flow}
+use Rattle.claim_law.specs.Told.{is_among}
 use Rattle.grammar_law.proofs.Height.Closed.{sound-of}
 use Rattle.grammar_law.specs.Switches.{IsReached, Chooses, Leads}
 use Rattle.grammar_law.proofs.Unit.ArgWords.{args_words}
@@ -46,7 +47,7 @@ use Rattle.grammar_law.proofs.Grammar.Lives.{lives}
 use Rattle.grammar_law.proofs.Grammar.Accepted.{words, few, sound, all_known, made_function, Structs, of_structs, declared_structs}
 use Rattle.text_law.proofs.Naming.Functions.{function_of_plan, planned_of, has_plan}
 use Rattle.text_law.proofs.Naming.Keys.{some_in, equal}
-use Rattle.text_law.specs.Walks.{Outer, is_in}
+use Rattle.text_law.specs.Walks.{Outer}
 use Rattle.text_law.specs.Pairs.{Naming}
 use Rattle.text_law.specs.Unseen.{unseen}
 use Rattle.text_law.specs.Asked.{AllAskSeen}
@@ -87,7 +88,7 @@ module _ (bytes : List ℕ) (m : ModuleState) (o : Options) (read : IsReadFrom b
   abbrev S : Setting
   S = Run m o.entry (right m o unit (record { bytes = bytes; is = read }) fine u) o unit u
 
-  unseen_flow : (p : FunctionPlan) (x : Text) → IsFlow found x → is_in (outer p).memory x ≡ false
+  unseen_flow : (p : FunctionPlan) (x : Text) → IsFlow found x → is_among (outer p).memory x ≡ false
   unseen_flow p x flow = flow_unseen found u.lawful (memory_ids src (written p)) x flow
 
   abbrev Names : List (List ℕ)

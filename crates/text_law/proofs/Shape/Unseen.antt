@@ -8,8 +8,9 @@ use Rattle.control_text.specs.Statements.{Blocks}
 use Rattle.function_text.specs.Functions.{FunctionPlan, move_text}
 use Rattle.claim_law.specs.Uses.{UsesExpr, UsesMeasured, UseExprs, UseSteps, UsesLValue}
 use Rattle.claim_law.specs.Statements.{UsesIfSome, UsesStmt, EachStmt}
+use Rattle.claim_law.specs.Told.{is_among}
 use Rattle.text_law.specs.Deeds.{Deed, reads, assigns, calls, deeds, deeds_of, deeds_if, step_deeds, place_deeds, own_deeds}
-use Rattle.text_law.specs.Walks.{Outer, is_in, is_seen, Token, if_any, walk_stmt, walk}
+use Rattle.text_law.specs.Walks.{Outer, is_seen, Token, if_any, walk_stmt, walk}
 use Rattle.text_law.specs.Quiet.{AreQuiet, Does, AreSeen}
 use Rattle.text_law.specs.Unseen.{unseen, IsLeaf, AreLeaves, AreStill}
 
@@ -125,9 +126,9 @@ pub are-seen : (o : Outer) (w : Blocks) (seen : ℕ → List (List Deed)) (IsHer
     → ((b : ℕ) → IsHere b → Chooses b → UsesExpr (unseen o) (w.condition b))
     → ((b : ℕ) (e : Expr) → IsHere b → w.value b ≡ Some e → UsesExpr (unseen o) e)
     → ((b t : ℕ) → IsHere b → Leads b t → AreLeaves (w.copies b t) × EachStmt (unseen o) (w.copies b t))
-    → ((b : ℕ) (x : Text) → w.again b ≡ Some x → is_in o.memory x ≡ false)
-    → ((b : ℕ) (x : Text) → w.leave b ≡ Some x → is_in o.memory x ≡ false)
-    → ((b : ℕ) (x : Text) → w.fell b ≡ Some x → is_in o.memory x ≡ false)
+    → ((b : ℕ) (x : Text) → w.again b ≡ Some x → is_among o.memory x ≡ false)
+    → ((b : ℕ) (x : Text) → w.leave b ≡ Some x → is_among o.memory x ≡ false)
+    → ((b : ℕ) (x : Text) → w.fell b ≡ Some x → is_among o.memory x ≡ false)
     → AreSeen o w seen IsHere Chooses Leads
 are-seen o w seen IsHere Chooses Leads statements condition value copies first out fallen = record {
   statements = statements;

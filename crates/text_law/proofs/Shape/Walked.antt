@@ -12,9 +12,10 @@ use Rattle.glsl_ast.specs.Tree.{Text, Expr, Stmt, name, give, when, stmts_in, ar
 use Rattle.control_text.specs.declared.place.Place.{Place}
 use Rattle.control_text.specs.Statements.{Blocks, set_flag, declare_flag, flags, conditional, unless_fallen, groups_have_break, plain_block, leave_again, by_target, in_order, turn, inside_loop, inside_switch, leave_loop, edge_text, exit_text, entering, onward, entering_case, behind_switch, labels_text, fell_flags, loop_flags, loop_text, region_text, item_text, groups_text}
 use Rattle.claim_law.specs.Blocks.{IsHereAt, IsEntered, GoesOn, IsWhole, IsWholeItem, AreWhole}
+use Rattle.claim_law.specs.Told.{is_among}
 use Rattle.text_law.specs.Deeds.{Deed, reads, assigns}
 use Rattle.text_law.specs.Walks as walks
-use Rattle.text_law.specs.Walks.{Outer, is_in, Token, if_any, walk_stmt, walk, walk_arms}
+use Rattle.text_law.specs.Walks.{Outer, Token, if_any, walk_stmt, walk, walk_arms}
 use Rattle.text_law.specs.Pairs.{Pair, turns, chooses, tests, closes, does, token_of}
 use Rattle.text_law.specs.Quiet.{IsQuiet, AreQuiet, AreSeen}
 use Rattle.text_law.specs.Paired.{Opened, guard, bare, denied, one_arm, arms_pairs, arms_by, done_pairs, behind_pairs, region_pairs, item_pairs, groups_pairs}
@@ -42,14 +43,14 @@ module _ (o : Outer) where
   unseen true d off = cc
   unseen false d off = refl
 
-  name-quiet : (x : Text) → is_in o.memory x ≡ false → IsQuiet o (name x)
-  name-quiet x off = unseen (is_in o.memory x) (reads x) off
+  name-quiet : (x : Text) → is_among o.memory x ≡ false → IsQuiet o (name x)
+  name-quiet x off = unseen (is_among o.memory x) (reads x) off
 
-  denied-quiet : (x : Text) → is_in o.memory x ≡ false → IsQuiet o (denied x)
-  denied-quiet x off = unseen (is_in o.memory x) (reads x) off
+  denied-quiet : (x : Text) → is_among o.memory x ≡ false → IsQuiet o (denied x)
+  denied-quiet x off = unseen (is_among o.memory x) (reads x) off
 
-  set-quiet : (b : Bool) (x : Text) → is_in o.memory x ≡ false → AreQuiet o (set_flag x b ∷ [])
-  set-quiet b x off ts = ap (λ ds. if_any ds ts) (unseen (is_in o.memory x) (assigns x) off)
+  set-quiet : (b : Bool) (x : Text) → is_among o.memory x ≡ false → AreQuiet o (set_flag x b ∷ [])
+  set-quiet b x off ts = ap (λ ds. if_any ds ts) (unseen (is_among o.memory x) (assigns x) off)
 
   declared-quiet : (x : Text) → AreQuiet o (declare_flag x ∷ [])
   declared-quiet x ts = refl
@@ -149,7 +150,7 @@ module _ (o : Outer) (w : Blocks) (seen : ℕ → List (List Deed)) (IsHere : �
   behind-walked p false ps = refl
   behind-walked p true ps = by_loop p.in_loop
     where
-      by_flag : (x : Option Text) → ((t : Text) → x ≡ Some t → is_in o.memory t ≡ false) → map token_of (guard x name bare ps) ≡ walk o (stmts_in (leave_again x)) (map token_of ps)
+      by_flag : (x : Option Text) → ((t : Text) → x ≡ Some t → is_among o.memory t ≡ false) → map token_of (guard x name bare ps) ≡ walk o (stmts_in (leave_again x)) (map token_of ps)
       by_flag None off = refl
       by_flag (Some t) off = sym (when-walked o (name t) (text.leave ∷ []) (map token_of ps) (name-quiet o t (off t refl)))
 
@@ -157,7 +158,7 @@ module _ (o : Outer) (w : Blocks) (seen : ℕ → List (List Deed)) (IsHere : �
       by_loop None = refl
       by_loop (Some h) = by_flag (w.leave h) (are.leave h)
 
-  unless-walked : (xs : List Stmt) (x : Option Text) (ps : List Pair) → AreQuiet o xs → ((t : Text) → x ≡ Some t → is_in o.memory t ≡ false) → map token_of (guard x denied bare ps) ≡ walk o (stmts_in (unless_fallen xs x)) (map token_of ps)
+  unless-walked : (xs : List Stmt) (x : Option Text) (ps : List Pair) → AreQuiet o xs → ((t : Text) → x ≡ Some t → is_among o.memory t ≡ false) → map token_of (guard x denied bare ps) ≡ walk o (stmts_in (unless_fallen xs x)) (map token_of ps)
   unless-walked xs None ps quiet off = sym (quiet (map token_of ps))
   unless-walked xs (Some t) ps quiet off =
       sym (when-walked o (denied t) xs (map token_of ps) (denied-quiet o t (off t refl)) ∙ ap (λ (ts : List Token). walks.tests (denied t) ∷ ts) (quiet (walks.closes ∷ map token_of ps)))
@@ -191,7 +192,7 @@ module _ (o : Outer) (w : Blocks) (seen : ℕ → List (List Deed)) (IsHere : �
       ∙ sym (walk-both o (loop_flags w h) (text.loop (stmts_in inside) ∷ []) (map token_of ps)
       ∙ quiet-both o (flags (λ flag. declare_flag flag ∷ []) (w.again h)) (flags (λ flag. declare_flag flag ∷ []) (w.leave h)) (declared-flags o (w.again h)) (declared-flags o (w.leave h)) (walks.turns ∷ walk o (stmts_in inside) (walks.closes ∷ map token_of ps)))
 
-  turn-walked : (h : ℕ) (x : Option Text) → ((t : Text) → x ≡ Some t → is_in o.memory t ≡ false) → (z : Region) → IsWalked (inside_loop h true) z → (qs : List Pair)
+  turn-walked : (h : ℕ) (x : Option Text) → ((t : Text) → x ≡ Some t → is_among o.memory t ≡ false) → (z : Region) → IsWalked (inside_loop h true) z → (qs : List Pair)
       → map token_of (guard x name (λ ps. region_pairs w seen (inside_loop h true) z ps) qs) ≡ walk o (stmts_in (turn x (region_text w (inside_loop h true) z))) (map token_of qs)
   turn-walked h None off z walked qs = refl
   turn-walked h (Some t) off z walked qs =
