@@ -26,10 +26,11 @@ use Rattle.op_semantics.specs.Component.{before, each_one}
 use Rattle.op_semantics.specs.Composite.{extracted, inserted}
 use Rattle.op_semantics.specs.Value.{op_value, operation_of, value_of_operation}
 use Rattle.profile_rules.specs.Entry.{function_of}
+use Rattle.profile_rules.specs.Places.{is_variable}
 use Rattle.value_words.specs.Words.{value_from, scalar_paths}
 use Rattle.traces.specs.Events.{Event, event_of, reading, read, control_barrier}
 use Rattle.traces.specs.Runs.{Act, goes}
-use Rattle.module_semantics.specs.Setting.{Setting, global_variable, as_variable, is_variable}
+use Rattle.module_semantics.specs.Setting.{Setting, global_variable, as_variable}
 use Rattle.module_semantics.specs.Memory.{location, locations, shape_along, are_allowed, elements, class_of}
 use Rattle.module_semantics.specs.State.{Root, global, own, lent, Held, value, pointer, Frame, Conf, put, call_at, with_call, with_variable}
 use Rattle.module_semantics.specs.Operands.{of_module, held, as_value, as_pointer, value_at, pointer_at, Target, arg, value_operands, literal_operands, values_at, word_at, words_at}

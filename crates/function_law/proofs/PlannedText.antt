@@ -10,10 +10,11 @@ use Rattle.text_rules.specs.Declarations.{initial, pointee_at, type_at}
 use Rattle.expr_forward.specs.Scope.{Scope, type_of}
 use Rattle.expr_forward.specs.Statements.{captured_of}
 use Rattle.control_text.specs.Statements.{region_text}
-use Rattle.function_text.specs.Functions.{FunctionPlan, written, blocks_of, is_variable, variable_text, is_hoisted_in, hoisted_text, captured_text, in_blocks, body_text}
+use Rattle.function_text.specs.Functions.{FunctionPlan, written, blocks_of, variable_text, is_hoisted_in, hoisted_text, captured_text, in_blocks, body_text}
 use Rattle.function_text.specs.Functions as real
 use Rattle.list_law.proofs.Lists.{map_joined, map_twice}
 use Rattle.agree_law.specs.Agree.{Naming}
+use Rattle.profile_rules.specs.Places.{is_variable}
 use Rattle.function_law.specs.Tops.{Top, top_text}
 
 map_flat : {A B C : Type 0} (f : B → C) (g : A → List B) (xs : List A) → map f (flat_map g xs) ≡ flat_map (λ x. map f (g x)) xs

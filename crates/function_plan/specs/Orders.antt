@@ -1,10 +1,8 @@
 -- In which order the targets of switches are written.
-use Rattle.std.specs.Prelude.{ℕ, ◌==◌, ◌&&◌, not, Bool, true, false, List, [], ◌++◌, filter, if◌then◌else◌}
+use Rattle.std.specs.Prelude.{ℕ, ◌==◌, ◌&&◌, not, Bool, List, [], ◌++◌, filter, if◌then◌else◌}
 use Rattle.std.specs.List.{concat, list_any}
 use Rattle.structure_rules.specs.declared.graph.Node.{Node}
-use Rattle.structure_rules.specs.declared.graph.Exit.{Exit}
-use Rattle.structure_rules.specs.declared.graph.Exit.TheVariants.{Switch}
-use Rattle.structure_rules.specs.Graph.{nth}
+use Rattle.structure_rules.specs.Graph.{nth, is_switch}
 use Rattle.structure_recover.specs.Follows.{switch_targets}
 use Rattle.switch_ladder.specs.Ladder.{chains_of}
 
@@ -23,10 +21,6 @@ abbrev pub order_of : List Node → ℕ → List ℕ
 order_of g h = order_with (concat (chains_of g h)) (switch_targets g h)
 
 -- so it is with each switch that is reached
-abbrev pub is_switch : Exit → Bool
-is_switch Switch = true
-is_switch _ = false
-
 abbrev pub is_reached_switch : Node → Bool
 is_reached_switch n = n.reached && is_switch n.exit
 

@@ -32,10 +32,11 @@ use Rattle.text_rules.specs.Constants.{int_literal}
 use Rattle.text_rules.specs.Declarations.{initial, pointee_at, type_at}
 use Rattle.text_rules.specs.Claims.{label}
 use Rattle.expr_forward.specs.Scope.{Scope, globals, type_of}
-use Rattle.expr_forward.specs.Values.{value}
+use Rattle.expr_forward.specs.Values.{value, variable}
 use Rattle.expr_forward.specs.Statements.{block_text, is_void, captured_of}
 use Rattle.control_text.specs.Statements.{Blocks, function_text}
 use Rattle.function_plan.specs.Targets.{target_of}
+use Rattle.profile_rules.specs.Places.{is_variable}
 use Rattle.function_text.specs.declared.heads.TopKind.{TopKind}
 use Rattle.function_text.specs.declared.heads.TopKind.TheVariants as kind
 
@@ -58,14 +59,11 @@ abbrev pub label_of : FunctionPlan → ℕ → IdOf
 label_of p b = id (label (written p) b)
 
 -- the value that a move gives: of a variable, or of a constant
-abbrev pub name_expr : Scope → ℕ → Expr
-name_expr w n = name (w.setting.key (Id (id n)))
-
 abbrev pub constant_text : Scope → ℕ → Expr
-constant_text w n = unwrap_or (w.setting.global n) (name_expr w n)
+constant_text w n = unwrap_or (w.setting.global n) (variable w n)
 
 abbrev pub source_expr : Scope → Src → Expr
-source_expr w (Variable v) = name_expr w v.0
+source_expr w (Variable v) = variable w v.0
 source_expr w (Constant c) = constant_text w c.0
 
 abbrev pub spare_name : FunctionPlan → ℕ → ℕ → ℕ → Text
@@ -76,7 +74,7 @@ set_variable w v e = assign (lvalue (w.setting.key (Id (id v.0))) []) e
 
 abbrev pub saved_text : FunctionPlan → ℕ → ℕ → ℕ → Var → Stmt
 saved_text p b t k v =
-    declare (type_at p.scope.setting.source p.scope.names (type_of p.scope v.0)) (spare_name p b t k) (Some (name_expr p.scope v.0))
+    declare (type_at p.scope.setting.source p.scope.names (type_of p.scope v.0)) (spare_name p b t k) (Some (variable p.scope v.0))
 
 abbrev pub move_text : FunctionPlan → ℕ → ℕ → Move → Stmt
 move_text p b t (Set v source) = set_variable p.scope v (source_expr p.scope source)
@@ -139,9 +137,6 @@ blocks_of p = record {
 }
 
 -- the variables of a function, each with its initializer or its zero
-abbrev pub is_variable : Inst → Bool
-is_variable i = is i.op code.Variable
-
 abbrev pub variable_text : Scope → Inst → Stmt
 variable_text w i =
     declare (type_at w.setting.source w.names (pointee_at w.setting.source i.ty)) (w.setting.key (Id (id i.result))) (Some (initial w.setting.source w.names i))

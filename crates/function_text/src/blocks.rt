@@ -7,7 +7,8 @@ ghost use Rattle.name_alloc.specs.declared.claims.Key.TheVariants.{Id as IdKey, 
 ghost use Rattle.text_rules.specs.Claims.{label as label_at};
 ghost use Rattle.spv_module.specs.Lists.{id as id_of};
 ghost use Rattle.expr_forward.specs.Context.{key_text, scope_of};
-ghost use Rattle.function_text.specs.Functions.{name_expr, source_expr, set_variable as variable_set, terminator_at, first_operand as operand_of, returned as returned_in, case_by, when, saved_text, move_text as text_of_move};
+ghost use Rattle.expr_forward.specs.Values.{variable as name_expr};
+ghost use Rattle.function_text.specs.Functions.{source_expr, set_variable as variable_set, terminator_at, first_operand as operand_of, returned as returned_in, case_by, when, saved_text, move_text as text_of_move};
 ghost use Rattle.function_text.specs.State.{plan_in};
 
 use crate::scope::PlannedFunction;

@@ -5,7 +5,8 @@ ghost use Rattle.few_law.specs.Short.{HasFewArgs, IsShortBlock};
 ghost use Rattle.glsl_ast.specs.View.{stmt_of};
 ghost use Rattle.expr_forward.specs.Context.{scope_of};
 ghost use Rattle.function_plan.specs.Planned.{is_captured as is_captured_inst};
-ghost use Rattle.function_text.specs.Functions.{is_variable as is_variable_inst, variable_text as text_of_variable, variables_text, is_hoisted as is_hoisted_form, hoisted_texts, index_of, captured_text, captured_texts_of, captured_texts, kind_texts, in_blocks, top_text};
+ghost use Rattle.profile_rules.specs.Places.{is_variable as is_variable_inst};
+ghost use Rattle.function_text.specs.Functions.{variable_text as text_of_variable, variables_text, is_hoisted as is_hoisted_form, hoisted_texts, index_of, captured_text, captured_texts_of, captured_texts, kind_texts, in_blocks, top_text};
 
 use crate::scope::PlannedFunction;
 use function_plan::is_captured;

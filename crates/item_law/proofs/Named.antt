@@ -15,6 +15,7 @@ use Rattle.spv_types.specs.Types.{both, all_trees, tree_before, type_tree}
 use Rattle.spv_index.specs.Pointers.{pointee}
 use Rattle.spv_index.specs.BlockStructs.{is_block, is_some_block}
 use Rattle.profile_rules.specs.declared.given.Given.{Given}
+use Rattle.profile_rules.specs.Places.{is_variable}
 use Rattle.module_semantics.specs.Setting.{Setting}
 use Rattle.list_law.proofs.Tests.{and_left}
 use Rattle.plan_law.specs.InOrder.{IsAmong}
@@ -29,7 +30,7 @@ use Rattle.name_alloc.specs.declared.claims.Key.{Key}
 use Rattle.name_alloc.specs.declared.claims.Key.TheVariants.{Main, Id, Member}
 use Rattle.glsl_ast.specs.Tree.{Text}
 use Rattle.text_rules.specs.Constants.{Source, group_size_text}
-use Rattle.text_rules.specs.Printed.{Reached, is_variable, is_private, is_workgroup, is_block_variable, is_operand_in, has_struct, have_struct, is_written_variable, is_declared_constant, is_written_struct, type_has_struct, written_types}
+use Rattle.text_rules.specs.Printed.{Reached, is_private, is_workgroup, is_block_variable, is_operand_in, has_struct, have_struct, is_written_variable, is_declared_constant, is_written_struct, type_has_struct, written_types}
 use Rattle.text_rules.specs.Claims.{Plan, claims, has_block, is_written_block}
 use Rattle.global_law.specs.Parts.{AreMembersApart, HasMembersApart, HaveMembersApart}
 use Rattle.global_law.specs.Walks.{struct_names}

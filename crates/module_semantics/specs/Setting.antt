@@ -2,7 +2,6 @@
 use Rattle.std.specs.Prelude.{ℕ, zero, suc, ◌==◌, ◌&&◌, Bool, true, false, List, [], ◌∷◌, Option, Some, None, filter, length}
 use Rattle.std.specs.Option.{option_map_or}
 use Rattle.std.specs.List.{list_any, enumerate_from, position_from}
-use Rattle.spv_ops.specs.Opcode.{is}
 use Rattle.spv_ops.specs.Operands.{is_id}
 use Rattle.spv_ops.specs.declared.Op.TheVariants as code
 use Rattle.spv_ops.specs.Enumerants.{class_number}
@@ -18,6 +17,7 @@ use Rattle.spv_index.specs.Locals.{insts_of}
 use Rattle.profile_rules.specs.Calls.{calls_in, callee, id_of, ids_of}
 use Rattle.profile_rules.specs.Constants.{constants}
 use Rattle.profile_rules.specs.declared.given.Given.{Given}
+use Rattle.profile_rules.specs.Places.{is_variable}
 use Rattle.traces.specs.Invocations.{Invocation}
 
 pub record Setting : Type 0 where
@@ -61,10 +61,7 @@ has_operand id i = list_any (λ (p : ℕ × ℕ). (p.1 == id) && is_id i.op i.ar
 abbrev pub is_mentioned : Setting → ℕ → Bool
 is_mentioned s id = list_any (λ (f : Function). list_any (has_operand id) (insts_of f)) (reached_functions s)
 
--- OpVariable, and its storage class
-abbrev pub is_variable : Inst → Bool
-is_variable g = is g.op code.Variable
-
+-- an OpVariable in this storage class
 abbrev pub is_in_class : StorageClass → Inst → Bool
 is_in_class class g = is_variable g && (word g 0 == class_number class)
 

@@ -6,9 +6,9 @@ use Rattle.spv_module.specs.declared.inst.Inst.{Inst}
 use Rattle.spv_module.specs.declared.inst.Function.{Function}
 use Rattle.spv_module.specs.Held.{global}
 use Rattle.spv_index.specs.Locals.{insts_of}
-use Rattle.module_semantics.specs.Setting.{Setting, is_variable, as_variable}
+use Rattle.module_semantics.specs.Setting.{Setting, as_variable, is_listed}
 use Rattle.module_semantics.specs.Accesses.{initial, initial_in, initial_private}
-use Rattle.run_state.specs.Ids.{is_listed}
+use Rattle.profile_rules.specs.Places.{is_variable}
 use Rattle.run_flow.specs.Begun.{variables_among, begun_in}
 
 no_true : true ≡ false → ⊥

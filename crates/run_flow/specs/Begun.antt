@@ -1,8 +1,8 @@
 -- What variables have at the start.
 use Rattle.std.specs.Prelude.{ℕ, ◌==◌, List, Option, map, filter, if◌then◌else◌}
 use Rattle.spv_module.specs.declared.inst.Inst.{Inst}
-use Rattle.module_semantics.specs.Setting.{is_variable}
-use Rattle.run_state.specs.Ids.{is_listed}
+use Rattle.module_semantics.specs.Setting.{is_listed}
+use Rattle.profile_rules.specs.Places.{is_variable}
 
 -- the ids of those that are variables
 abbrev pub variables_among : List Inst → List ℕ

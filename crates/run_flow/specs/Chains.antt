@@ -8,7 +8,7 @@ use Rattle.spv_module.specs.declared.inst.Inst.{Inst}
 use Rattle.spv_module.specs.declared.inst.Function.{Function}
 use Rattle.spv_index.specs.Locals.{insts_of}
 use Rattle.module_semantics.specs.Steps.{base, is_based_on}
-use Rattle.run_state.specs.Ids.{is_listed}
+use Rattle.module_semantics.specs.Setting.{is_listed}
 use Rattle.run_flow.specs.Begun.{variables_among}
 
 -- a chain with this base

@@ -7,7 +7,8 @@ use Rattle.spv_ops.specs.declared.StorageClass.TheVariants as storage
 use Rattle.spv_module.specs.Held.{global as global_inst}
 use Rattle.spv_module.specs.declared.inst.Inst.{Inst}
 use Rattle.profile_rules.proofs.Globals.{found_global}
-use Rattle.module_semantics.specs.Setting.{Setting, is_variable, as_variable, global_variable}
+use Rattle.profile_rules.specs.Places.{is_variable}
+use Rattle.module_semantics.specs.Setting.{Setting, as_variable, global_variable}
 use Rattle.module_semantics.specs.State.{Conf}
 use Rattle.module_semantics.specs.Accesses.{global_value_by}
 

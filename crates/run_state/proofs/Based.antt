@@ -11,7 +11,8 @@ use Rattle.spv_module.specs.declared.inst.Inst.{Inst}
 use Rattle.spv_module.specs.declared.inst.Block.{Block}
 use Rattle.module_semantics.specs.State as state
 use Rattle.module_semantics.specs.Steps.{with_based, based_among}
-use Rattle.run_state.specs.Ids.{is_listed, without, with_held}
+use Rattle.module_semantics.specs.Setting.{is_listed}
+use Rattle.run_state.specs.Ids.{without, with_held}
 
 or_false : (b : Bool) → (b || false) ≡ b
 or_false true = refl

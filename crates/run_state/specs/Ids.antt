@@ -1,7 +1,6 @@
 -- What ids have, as the program keeps it.
 use Rattle.std.specs.Prelude.{ℕ, ◌==◌, Bool, true, false, List, Option, None, option_map, option_and_then, IfSome, IsSome, slice_get, if◌then◌else◌}
 use Rattle.spv_module.specs.declared.inst.Inst.{Inst}
-use Rattle.std.specs.List.{list_any}
 use Rattle.std.specs.BTreeMap.{BTreeMap, get}
 use Rattle.std.specs.Ordering.{nat_cmp}
 use Rattle.spv_module.specs.declared.tree.Value.{Value}
@@ -37,10 +36,6 @@ variables_of m id = option_map value_of (get nat_cmp m id)
 -- the map with this or nothing at an id
 abbrev pub with_held : (ℕ → Option state.Held) → ℕ → Option state.Held → ℕ → Option state.Held
 with_held f n h k = elim (k == n) [ true ↦ h | false ↦ f k ]
-
--- an id is among these
-abbrev pub is_listed : List ℕ → ℕ → Bool
-is_listed list id = list_any (λ x. x == id) list
 
 -- the map with nothing at these ids
 abbrev pub without : (ℕ → Bool) → (ℕ → Option state.Held) → ℕ → Option state.Held

@@ -1,7 +1,8 @@
 // Chains of indexes that are based on others.
 ghost use Rattle.std.specs.Prelude.{◌≡◌, ◌==◌, ℕ, IfOk, OnOk, filter, not, if◌then◌else◌};
 ghost use Rattle.module_semantics.specs.Steps.{with_based, based_among, is_based_on};
-ghost use Rattle.run_state.specs.Ids.{ids_of, is_listed, without, based_by};
+ghost use Rattle.module_semantics.specs.Setting.{is_listed};
+ghost use Rattle.run_state.specs.Ids.{ids_of, without, based_by};
 
 use crate::conf::{Ids, forget};
 use spv_index::Locals;

@@ -3,7 +3,7 @@ ghost use Rattle.std.specs.Prelude.{◌≡◌, ◌+◌, ◌<◌, ◌^◌, ◌++�
 ghost use Rattle.spv_module.specs.declared.inst.Function.{Function};
 ghost use Rattle.traces.specs.Runs.{goes};
 ghost use Rattle.module_semantics.specs.Steps as steps;
-ghost use Rattle.run_state.specs.Ids.{is_listed};
+ghost use Rattle.module_semantics.specs.Setting.{is_listed};
 ghost use Rattle.run_acts.specs.About.{ForEach, held_of, behind, conf_of, frame_of, function_at, IsAct, IsStepOf, IsStill};
 ghost use Rattle.run_values.specs.Chained.{allows as allows_of, chained, led_without};
 

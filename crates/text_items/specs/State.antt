@@ -10,7 +10,8 @@ use Rattle.spv_module.specs.declared.inst.Inst.{Inst}
 use Rattle.spv_module.specs.declared.inst.Function.{Function}
 use Rattle.text_items.specs.declared.live.Live.{Live}
 use Rattle.text_rules.specs.Constants.{Source}
-use Rattle.text_rules.specs.Printed.{Reached, is_private, is_workgroup, is_block_variable, is_operand_in, has_operand, is_length_of, declares, signature_types, is_needed, type_has_struct, written_types}
+use Rattle.text_rules.specs.Printed.{Reached, is_private, is_workgroup, is_block_variable, is_operand_in, has_operand, is_length_of, declares, is_needed, type_has_struct, written_types}
+use Rattle.profile_rules.specs.TypeForm.{signature}
 
 -- what is translated, and what of its functions is written
 pub record WrittenState : Type 0 where
@@ -43,7 +44,7 @@ needed_first s operand_ids mentions id =
 abbrev pub types_by : Source → (ℕ → Bool) → (ℕ → Bool) → List Function → List ℕ → List ℕ
 types_by s operand_ids needed fs types =
     map (λ (g : Inst). g.ty) (filter (λ g. is_written_by operand_ids g || declares s needed g) s.of.globals) ++
-    (flat_map signature_types fs ++ types)
+    (flat_map signature fs ++ types)
 
 -- something that is written has the struct with this id
 abbrev pub has_type : Source → Reached → ℕ → Bool

@@ -1,7 +1,8 @@
 // The types of what is written.
 ghost use Rattle.std.specs.Prelude.{◌≡◌, ◌++◌, ◌||◌, IfOk, OnOk, filter, flat_map, map};
 ghost use Rattle.id_map.specs.Entries.{is_in};
-ghost use Rattle.text_rules.specs.Printed.{declares as declares_constant, signature_types};
+ghost use Rattle.text_rules.specs.Printed.{declares as declares_constant};
+ghost use Rattle.profile_rules.specs.TypeForm.{signature};
 ghost use Rattle.text_items.specs.State.{functions_at, is_written_by, types_by};
 
 use crate::needed::{declares, is_written};
@@ -31,7 +32,7 @@ fn add_globals(
 
 /// Adds those of a function's result and parameters.
 fn add_signature(types: &mut Vec<u32>, function: &Function) -> Result<(), AllocError>
-    ensures { OnOk result (types.new.items ≡ types.old.items ++ signature_types function.now) }
+    ensures { OnOk result (types.new.items ≡ types.old.items ++ signature function.now) }
 {
     types.push(function.result.0)?;
     for (_, ty) in function.params.as_slice() {
@@ -41,7 +42,7 @@ fn add_signature(types: &mut Vec<u32>, function: &Function) -> Result<(), AllocE
 }
 
 fn add_signatures(types: &mut Vec<u32>, functions: &[&Function]) -> Result<(), AllocError>
-    ensures { OnOk result (types.new.items ≡ types.old.items ++ flat_map signature_types (functions_at functions.now)) }
+    ensures { OnOk result (types.new.items ≡ types.old.items ++ flat_map signature (functions_at functions.now)) }
 {
     for function in functions {
         add_signature(types, *function)?;

@@ -19,6 +19,7 @@ use Rattle.structure_rules.specs.Graph.{graph, nth}
 use Rattle.structure_recover.specs.Follows.{heads_loop}
 use Rattle.structure_recover.specs.Once.{Around, round, around}
 use Rattle.profile_rules.specs.Calls.{IsCallOrder, numbers}
+use Rattle.profile_rules.specs.Places.{is_variable}
 use Rattle.conformance.specs.Rules.{Options}
 use Rattle.traces.specs.Events as event
 use Rattle.traces.specs.Events.{Event}
@@ -28,7 +29,6 @@ use Rattle.name_alloc.specs.declared.claims.Key.TheVariants.{Id as IdOf}
 use Rattle.glsl_ast.specs.Tree.{Text, Stmts, TranslationUnit}
 use Rattle.text_rules.specs.Constants.{Source, plain_value}
 use Rattle.text_rules.specs.Declarations.{word_of}
-use Rattle.text_rules.specs.Printed.{is_variable}
 use Rattle.function_text.specs.Functions.{function_key}
 use Rattle.unit_rules.specs.Unit.{called, source_of}
 use Rattle.claim_law.specs.Bodies.{functions_in}

@@ -11,6 +11,7 @@ use Rattle.spv_module.specs.declared.inst.Function.{Function}
 use Rattle.spv_index.specs.Locals.{insts_of}
 use Rattle.structure_rules.specs.Graph.{graph, nth}
 use Rattle.profile_rules.specs.Calls.{IsCallOrder, numbers}
+use Rattle.profile_rules.specs.Places.{is_variable}
 use Rattle.conformance.specs.Rules.{Options}
 use Rattle.module_check.specs.Judged.{IsEntry}
 use Rattle.switch_ladder.specs.Flags.{blocks_that, needs_again, needs_leave, needs_fell}
@@ -25,7 +26,7 @@ use Rattle.glsl_ast.specs.Tree.{Text, Stmts, TranslationUnit}
 use Rattle.text_rules.specs.Claims.{label}
 use Rattle.function_plan.specs.Phis.{is_live_phi, phi_blocks, values_in}
 use Rattle.function_plan.specs.Planned.{is_reached_node}
-use Rattle.function_text.specs.Functions.{is_variable, is_hoisted, function_key}
+use Rattle.function_text.specs.Functions.{is_hoisted, function_key}
 use Rattle.unit_rules.specs.Translation.{Naming, text_of}
 use Rattle.unit_rules.specs.Unit.{called}
 use Rattle.claim_law.specs.Claimed.{IsIn, HasName}

@@ -6,7 +6,6 @@ use Rattle.spv_ops.specs.Opcode.{is}
 use Rattle.spv_ops.specs.declared.Op.TheVariants as code
 use Rattle.spv_ops.specs.declared.StorageClass.TheVariants as storage
 use Rattle.spv_ops.specs.Enumerants.{class_number}
-use Rattle.spv_module.specs.declared.inst.Id.{Id}
 use Rattle.spv_module.specs.declared.inst.Inst.{Inst}
 use Rattle.spv_module.specs.declared.inst.Function.{Function}
 use Rattle.spv_ops.specs.Operands.{is_id}
@@ -16,6 +15,8 @@ use Rattle.spv_types.specs.Types.{type_tree}
 use Rattle.spv_index.specs.Locals.{insts_of}
 use Rattle.spv_index.specs.Pointers.{pointee}
 use Rattle.spv_index.specs.BlockStructs.{is_block}
+use Rattle.profile_rules.specs.Places.{is_variable}
+use Rattle.profile_rules.specs.TypeForm.{signature}
 use Rattle.text_rules.specs.declared.readings.Reading.{Reading}
 use Rattle.text_rules.specs.declared.readings.Reading.TheVariants.{Named}
 use Rattle.text_rules.specs.Constants.{Source, is_constant, reading, free_spec_id}
@@ -34,10 +35,7 @@ has_operand_from ids id k words = list_any (λ (p : ℕ × ℕ). ids p.0 && (p.1
 abbrev pub has_operand : Inst → ℕ → Bool
 has_operand i id = has_operand_from (is_id i.op i.args) id 0 i.args
 
--- OpVariable in a storage class
-abbrev pub is_variable : Inst → Bool
-is_variable g = is g.op code.Variable
-
+-- the storage class of an OpVariable
 abbrev pub class : Inst → ℕ
 class g = slice_index g.args 0
 
@@ -112,13 +110,10 @@ abbrev pub type_has_struct : List Inst → ℕ → ℕ → Bool
 type_has_struct gs id ty = option_map_or (has_struct id) (type_tree gs (pointee_or_self gs ty)) false
 
 -- the types of what is written: of variables and constants, of the parameters and results of functions, of what live instructions give
-abbrev pub signature_types : Function → List ℕ
-signature_types f = f.result.0 ∷ map (λ (p : Id × Id). p.1.0) f.params
-
 abbrev pub written_types : Source → Reached → List ℕ
 written_types s r =
     map (λ (g : Inst). g.ty) (filter (λ g. is_written_variable r g || is_declared_constant s r g) s.of.globals) ++
-    (flat_map signature_types r.functions ++ r.types)
+    (flat_map signature r.functions ++ r.types)
 
 -- a struct is written where something that is written has it; one with Block or BufferBlock is written with its block alone
 abbrev pub is_written_struct : Source → Reached → Inst → Bool

@@ -16,7 +16,7 @@ use Rattle.spv_types.specs.Types.{kind, elem_of, length_by, sized_vector, vector
 use Rattle.spv_ops.specs.declared.StorageClass.{StorageClass}
 use Rattle.spv_index.specs.Locals.{typed, global_type}
 use Rattle.spv_index.specs.Pointers.{pointee}
-use Rattle.module_semantics.specs.Setting.{Setting, is_variable, as_variable, global_variable}
+use Rattle.module_semantics.specs.Setting.{Setting, as_variable, global_variable}
 use Rattle.module_semantics.specs.Memory.{part_by, part_type, type_along, variable_type, shape_along, class_of}
 use Rattle.module_semantics.specs.State.{global}
 use Rattle.module_semantics.specs.Accesses.{seen, seen_if, if_seen, is_seen}
@@ -24,6 +24,7 @@ use Rattle.list_law.proofs.Options.{some_part, none_some}
 use Rattle.fits_law.specs.Takes.{numbers, nth_of}
 use Rattle.fits_law.specs.State.{global_shape, element_shape, place_shape, LeadsTo}
 use Rattle.profile_rules.specs.TypeRows.{is_int}
+use Rattle.profile_rules.specs.Places.{is_variable}
 use Rattle.type_law.proofs.Rows.{int_has}
 use Rattle.type_law.proofs.Scalars.{before_row}
 use Rattle.type_law.proofs.Choices.{scalar_elem}

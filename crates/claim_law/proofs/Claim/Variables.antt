@@ -18,10 +18,11 @@ use Rattle.name_alloc.specs.declared.claims.Key.TheVariants.{Id, Block}
 use Rattle.name_alloc.specs.Naming.{name_of}
 use Rattle.glsl_ast.specs.Tree.{TranslationUnit}
 use Rattle.text_rules.specs.Constants.{is_constant}
-use Rattle.text_rules.specs.Printed.{Reached, has_operand, is_variable, is_private, is_workgroup, is_block_variable, is_operand_in, is_written_variable, is_declared_constant}
+use Rattle.text_rules.specs.Printed.{Reached, has_operand, is_private, is_workgroup, is_block_variable, is_operand_in, is_written_variable, is_declared_constant}
 use Rattle.function_text.specs.Functions.{FunctionPlan, written}
 use Rattle.unit_rules.specs.Unit.{reached_of, source_of, IsUnitOf}
 use Rattle.list_law.proofs.Tests.{common}
+use Rattle.profile_rules.specs.Places.{is_variable}
 use Rattle.claim_law.specs.Claimed.{IsIn, HasName}
 use Rattle.claim_law.proofs.Claim.Listed.{any_in, in_mapped}
 use Rattle.claim_law.proofs.Claim.Keys.{variable_claimed, block_claimed}

@@ -18,12 +18,13 @@ use Rattle.spv_types.specs.Types.{kind, all_trees, tree_by_kind, tree_before, tr
 use Rattle.spv_index.specs.Pointers.{pointee, as_pointer}
 use Rattle.spv_index.specs.BlockStructs.{is_block}
 use Rattle.profile_rules.specs.declared.given.Given.{Given}
+use Rattle.profile_rules.specs.TypeForm.{signature}
 use Rattle.module_semantics.specs.Setting.{Setting}
 use Rattle.list_law.proofs.Options.{none_some}
 use Rattle.plan_law.specs.InOrder.{IsAmong}
 use Rattle.fits_law.proofs.Steps.{named}
 use Rattle.text_rules.specs.Constants.{Source}
-use Rattle.text_rules.specs.Printed.{Reached, has_struct, have_struct, is_written_variable, is_declared_constant, is_written_struct, pointee_or_self, type_has_struct, signature_types, written_types}
+use Rattle.text_rules.specs.Printed.{Reached, has_struct, have_struct, is_written_variable, is_declared_constant, is_written_struct, pointee_or_self, type_has_struct, written_types}
 use Rattle.typed_law.specs.Conforms.{IsConforming}
 use Rattle.typed_law.proofs.Lists.{clash}
 use Rattle.global_law.specs.Sources.{source_of}
@@ -126,7 +127,7 @@ module _ (s : Setting) (entry : Option (List ℕ)) (right : IsConforming s.of en
 
   pub held_by : (g : Inst) (k : ℕ) → IsAmong g Gs → (is_written_variable r g || is_declared_constant source r g) ≡ true → type_has_struct Gs k g.ty ≡ true → IsHeld k
   held_by g k there on has =
-      any_left (type_has_struct Gs k) (map (λ (x : Inst). x.ty) (filter (λ x. is_written_variable r x || is_declared_constant source r x) Gs)) (flat_map signature_types r.functions ++ r.types)
+      any_left (type_has_struct Gs k) (map (λ (x : Inst). x.ty) (filter (λ x. is_written_variable r x || is_declared_constant source r x) Gs)) (flat_map signature r.functions ++ r.types)
       (any_kept (λ x. is_written_variable r x || is_declared_constant source r x) (type_has_struct Gs k) Gs g there on has)
 
   -- so it is written, where it is no block

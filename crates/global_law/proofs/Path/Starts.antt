@@ -18,9 +18,10 @@ use Rattle.spv_decor.specs.Rows.{word}
 use Rattle.op_semantics.specs.Composite.{extracted}
 use Rattle.layout_rules.specs.declared.Kind.{Kind}
 use Rattle.profile_rules.specs.declared.given.Given.{Given}
+use Rattle.profile_rules.specs.Places.{is_variable}
 use Rattle.traces.specs.Events as event
 use Rattle.traces.specs.Outcomes.{Result}
-use Rattle.module_semantics.specs.Setting.{Setting, is_variable, as_variable, global_variable, shared_number}
+use Rattle.module_semantics.specs.Setting.{Setting, as_variable, global_variable, shared_number}
 use Rattle.module_semantics.specs.Memory.{decorated, member_offset, part_type, bytes_by, bytes_along, variable_type, class_of, location_by}
 use Rattle.module_semantics.specs.Memory as module_memory
 use Rattle.module_semantics.specs.State.{Root, global, own, lent, Frame, Conf, call_at}

@@ -28,11 +28,12 @@ use Rattle.glsl_grammar.specs.Read.{is_declared}
 use Rattle.text_rules.specs.Declarations.{type_at}
 use Rattle.text_rules.specs.Printed.{is_written_struct}
 use Rattle.expr_forward.specs.Scope.{Scope, type_of}
+use Rattle.expr_forward.specs.Values.{variable}
 use Rattle.function_plan.specs.Phis.{is_gone, pairs_into, pairs}
 use Rattle.function_plan.specs.Once.{once, itself}
 use Rattle.function_plan.specs.Targets.{targets_in}
 use Rattle.function_plan.specs.Planned.{spares_in}
-use Rattle.function_text.specs.Functions.{FunctionPlan, label_of, source_expr, spare_name, set_variable, name_expr, move_text, copies_text}
+use Rattle.function_text.specs.Functions.{FunctionPlan, label_of, source_expr, spare_name, set_variable, move_text, copies_text}
 use Rattle.unit_rules.specs.Translation.{Naming, text_of, id_text}
 use Rattle.unit_rules.specs.Unit.{source_of, IsUnitOf}
 use Rattle.list_law.proofs.Numbers.{same_number}
@@ -157,7 +158,7 @@ module _ (s : Setting) (entry : Option (List ℕ)) (right : IsConforming s.of en
           let own = target_pair v w.1 in (
             subst (λ (y : Scope). UsesType X (type_at y.setting.source y.names (type_of y v.0))) (sym scope_is) own.1,
             spare k w.0,
-            subst (λ (y : Scope). UsesExpr X (name_expr y v.0)) (sym scope_is) own.0,
+            subst (λ (y : Scope). UsesExpr X (variable y v.0)) (sym scope_is) own.0,
           )
       move_made (Restore v k) w =
           ((subst (λ (y : Scope). X.value (y.setting.key (Id (id v.0)))) (sym scope_is) (target_pair v w.1).0, tt), spare k w.0)

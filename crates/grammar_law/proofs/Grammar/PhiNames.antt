@@ -50,8 +50,9 @@ use Rattle.text_rules.specs.Declarations.{type_at}
 use Rattle.text_rules.specs.Printed.{is_named, is_written_struct}
 use Rattle.text_items.specs.Globals.{built_in_text, is_input, global_by}
 use Rattle.expr_forward.specs.Scope.{Scope, type_of}
+use Rattle.expr_forward.specs.Values.{variable as name_expr}
 use Rattle.function_plan.specs.Phis.{is_gone, is_constant_id, source_by, source_of}
-use Rattle.function_text.specs.Functions.{FunctionPlan, written, name_expr, constant_text, source_expr}
+use Rattle.function_text.specs.Functions.{FunctionPlan, written, constant_text, source_expr}
 use Rattle.unit_rules.specs.Translation.{Naming, text_of, id_text, names_of}
 use Rattle.unit_rules.specs.Unit as unit_rules
 use Rattle.unit_rules.specs.Unit.{claims_by, liveness_of, IsUnitOf}

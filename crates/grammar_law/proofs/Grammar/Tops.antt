@@ -30,7 +30,7 @@ use Rattle.spv_index.specs.Locals.{insts_of, type_in}
 use Rattle.spv_index.specs.Pointers.{pointee}
 use Rattle.structure_rules.specs.declared.graph.Node.{Node}
 use Rattle.structure_rules.specs.Graph.{graph, nth}
-use Rattle.profile_rules.specs.Places.{is_among, body_insts, is_defined_elsewhere}
+use Rattle.profile_rules.specs.Places.{is_among, body_insts, is_defined_elsewhere, is_variable}
 use Rattle.profile_rules.specs.TypeForm.{parts_of, pointee_by, pointees, value_types, signature_types, block_misuses}
 use Rattle.profile_rules.specs.TypeRows.{is_type, if_type, is_int, fails, value_fails}
 use Rattle.profile_rules.specs.TypeRules.{is_value_broken}
@@ -54,7 +54,7 @@ use Rattle.expr_forward.specs.Scope.{Scope, type_of}
 use Rattle.expr_forward.specs.Statements.{captured_of}
 use Rattle.function_plan.specs.Phis.{is_gone}
 use Rattle.function_plan.specs.Planned.{is_live, has_name_by, captured_numbers}
-use Rattle.function_text.specs.Functions.{FunctionPlan, written, is_variable, variable_text, is_hoisted, hoisted_text, is_hoisted_in, captured_text, captured_texts_of, variables_text, hoisted_texts, captured_texts, in_blocks, top_text}
+use Rattle.function_text.specs.Functions.{FunctionPlan, written, variable_text, is_hoisted, hoisted_text, is_hoisted_in, captured_text, captured_texts_of, variables_text, hoisted_texts, captured_texts, in_blocks, top_text}
 use Rattle.function_text.specs.Live.{is_composite_type, is_composite, is_wanted}
 use Rattle.unit_rules.specs.Translation.{Naming, text_of, id_text, names_of}
 use Rattle.unit_rules.specs.Unit.{claims_by, liveness_of, source_of, IsUnitOf}

@@ -24,7 +24,7 @@ use Rattle.spv_decor.specs.Decorations.{local_insts}
 use Rattle.spv_index.specs.BlockStructs.{is_block_struct, is_some_block}
 use Rattle.spv_index.specs.Pointers.{pointee}
 use Rattle.layout_rules.specs.Blocks.{is_block_class, as_struct, block_of}
-use Rattle.profile_rules.specs.Places.{body_insts, is_defined_elsewhere}
+use Rattle.profile_rules.specs.Places.{body_insts, is_defined_elsewhere, is_variable}
 use Rattle.profile_rules.specs.TypeRows.{is_type, type_row}
 use Rattle.profile_rules.specs.Variables.{is_pointee, is_no_block, is_unbound, is_other_block, is_of_other_type, is_other_value}
 use Rattle.profile_rules.specs.Variables as rules
@@ -37,7 +37,7 @@ use Rattle.glsl_ast.specs.declared.items.BlockPlace.TheVariants.{Set, Push}
 use Rattle.glsl_grammar.specs.Spelled.{IsSpelledPlace}
 use Rattle.text_rules.specs.Constants.{constant_expr}
 use Rattle.text_rules.specs.Declarations.{Names, members, pointee_at, zero_at, type_at, expr_at, initial, place_of, block_decl, variable_decl}
-use Rattle.text_rules.specs.Printed.{class, is_variable, is_private, is_workgroup, is_block_variable, is_operand_in, is_written_variable, is_declared_constant, is_length_of, needs_constant, has_operand, has_struct, have_struct}
+use Rattle.text_rules.specs.Printed.{class, is_private, is_workgroup, is_block_variable, is_operand_in, is_written_variable, is_declared_constant, is_length_of, needs_constant, has_operand, has_struct, have_struct}
 use Rattle.unit_rules.specs.Unit.{source_of, IsUnitOf}
 use Rattle.list_law.proofs.Numbers.{same_number, less_is}
 use Rattle.list_law.proofs.Lists.{second_at}

@@ -24,8 +24,9 @@ use Rattle.expr_forward.specs.Scope.{type_of}
 use Rattle.expr_forward.specs.Values.{value}
 use Rattle.expr_forward.specs.Statements.{is_void, captured_of}
 use Rattle.control_text.specs.Statements.{function_text}
-use Rattle.function_text.specs.Functions.{FunctionPlan, written, source_expr, move_text, first_operand, returned, result_text, blocks_of, is_variable, variable_text, hoisted_text, is_hoisted_in, captured_text, variables_text, hoisted_texts, captured_texts_of, captured_texts, in_blocks, top_text, param_text, body_text, function_decl}
+use Rattle.function_text.specs.Functions.{FunctionPlan, written, source_expr, move_text, first_operand, returned, result_text, blocks_of, variable_text, hoisted_text, is_hoisted_in, captured_text, variables_text, hoisted_texts, captured_texts_of, captured_texts, in_blocks, top_text, param_text, body_text, function_decl}
 use Rattle.list_law.proofs.Numbers.{le_on}
+use Rattle.profile_rules.specs.Places.{is_variable}
 use Rattle.grammar_law.specs.Shallow.{IsShallow}
 use Rattle.grammar_law.specs.Nest.{nest}
 use Rattle.grammar_law.specs.Written.{AreLow}

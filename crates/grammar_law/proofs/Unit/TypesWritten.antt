@@ -12,7 +12,7 @@ use Rattle.hoist_plan.specs.declared.form.Form.{Form}
 use Rattle.hoist_plan.specs.declared.form.Form.TheVariants.{Hoisted}
 use Rattle.glsl_ast.specs.Tree.{TranslationUnit}
 use Rattle.text_rules.specs.Constants.{Source}
-use Rattle.text_rules.specs.Printed.{is_written_variable, is_declared_constant, signature_types, written_types}
+use Rattle.text_rules.specs.Printed.{is_written_variable, is_declared_constant, written_types}
 use Rattle.function_plan.specs.Phis.{is_gone}
 use Rattle.function_plan.specs.Planned.{is_live, is_captured}
 use Rattle.function_text.specs.Functions.{FunctionPlan, written, is_hoisted}
@@ -20,6 +20,7 @@ use Rattle.function_text.specs.Live.{is_composite, is_wanted, has_type_written, 
 use Rattle.unit_rules.specs.Unit.{claims_by, liveness_of, live_of, source_of, IsUnitOf}
 use Rattle.claim_law.specs.Claimed.{IsIn, IsOf}
 use Rattle.claim_law.proofs.Claim.Listed.{in_left, in_right, in_flat, in_mapped}
+use Rattle.profile_rules.specs.TypeForm.{signature}
 use Rattle.grammar_law.proofs.Unit.Lists.{numbered_first, in_filter}
 use Rattle.grammar_law.proofs.Unit.Structs.{Written}
 
@@ -41,27 +42,27 @@ module _ (m : ModuleState) (o : Options) (unit : TranslationUnit) (u : IsUnitOf 
 
   of_live : (ty : ℕ) → IsIn ty (flat_map (live_of types_of S) u.plans) → IsIn ty Types
   of_live ty among =
-      in_right ty (map (λ (g : Inst). g.ty) (filter (λ g. is_written_variable (Written m o unit u) g || is_declared_constant S (Written m o unit u) g) m.globals)) (flat_map signature_types (map written u.plans) ++ flat_map (live_of types_of S) u.plans)
-      (in_right ty (flat_map signature_types (map written u.plans)) (flat_map (live_of types_of S) u.plans) among)
+      in_right ty (map (λ (g : Inst). g.ty) (filter (λ g. is_written_variable (Written m o unit u) g || is_declared_constant S (Written m o unit u) g) m.globals)) (flat_map signature (map written u.plans) ++ flat_map (live_of types_of S) u.plans)
+      (in_right ty (flat_map signature (map written u.plans)) (flat_map (live_of types_of S) u.plans) among)
 
-  of_signature : (ty : ℕ) → IsIn ty (flat_map signature_types (map written u.plans)) → IsIn ty Types
+  of_signature : (ty : ℕ) → IsIn ty (flat_map signature (map written u.plans)) → IsIn ty Types
   of_signature ty among =
-      in_right ty (map (λ (g : Inst). g.ty) (filter (λ g. is_written_variable (Written m o unit u) g || is_declared_constant S (Written m o unit u) g) m.globals)) (flat_map signature_types (map written u.plans) ++ flat_map (live_of types_of S) u.plans)
-      (in_left ty (flat_map signature_types (map written u.plans)) (flat_map (live_of types_of S) u.plans) among)
+      in_right ty (map (λ (g : Inst). g.ty) (filter (λ g. is_written_variable (Written m o unit u) g || is_declared_constant S (Written m o unit u) g) m.globals)) (flat_map signature (map written u.plans) ++ flat_map (live_of types_of S) u.plans)
+      (in_left ty (flat_map signature (map written u.plans)) (flat_map (live_of types_of S) u.plans) among)
 
   -- of variables and constants that are written
   pub global_type_written : (g : Inst) → IsIn g m.globals → (is_written_variable (Written m o unit u) g || is_declared_constant S (Written m o unit u) g) ≡ true → IsIn g.ty Types
   global_type_written g among on =
-      in_left g.ty (map (λ (h : Inst). h.ty) (filter (λ h. is_written_variable (Written m o unit u) h || is_declared_constant S (Written m o unit u) h) m.globals)) (flat_map signature_types (map written u.plans) ++ flat_map (live_of types_of S) u.plans)
+      in_left g.ty (map (λ (h : Inst). h.ty) (filter (λ h. is_written_variable (Written m o unit u) h || is_declared_constant S (Written m o unit u) h) m.globals)) (flat_map signature (map written u.plans) ++ flat_map (live_of types_of S) u.plans)
       (in_mapped (λ (h : Inst). h.ty) (filter (λ h. is_written_variable (Written m o unit u) h || is_declared_constant S (Written m o unit u) h) m.globals) g (in_filter (λ h. is_written_variable (Written m o unit u) h || is_declared_constant S (Written m o unit u) h) m.globals g among on))
 
   module _ (p : FunctionPlan) (among : IsIn p u.plans) where
     pub parameter_type_written : (q : IdOf × IdOf) → IsIn q (written p).params → IsIn q.1.0 Types
     parameter_type_written q there =
-        of_signature q.1.0 (in_flat signature_types (map written u.plans) (written p) q.1.0 (in_mapped written u.plans p among) (inr (in_mapped (λ (r : IdOf × IdOf). r.1.0) (written p).params q there)))
+        of_signature q.1.0 (in_flat signature (map written u.plans) (written p) q.1.0 (in_mapped written u.plans p among) (inr (in_mapped (λ (r : IdOf × IdOf). r.1.0) (written p).params q there)))
 
     pub return_type_written : IsIn (written p).result.0 Types
-    return_type_written = of_signature (written p).result.0 (in_flat signature_types (map written u.plans) (written p) (written p).result.0 (in_mapped written u.plans p among) (inl refl))
+    return_type_written = of_signature (written p).result.0 (in_flat signature (map written u.plans) (written p) (written p).result.0 (in_mapped written u.plans p among) (inl refl))
 
     pub type_written : (i : Inst) (of_it : IsOf (claims_by S p) i) → has_type_written (liveness_of S p) (slice_index_or (liveness_of S p).reached of_it.number false) i ≡ true → IsIn i.ty Types
     type_written i of_it on =

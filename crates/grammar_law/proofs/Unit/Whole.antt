@@ -26,19 +26,12 @@ use Rattle.structure_recover.specs.Follows.{heads_loop, is_plain, target, Carrie
 use Rattle.structure_recover.proofs.Shape.{first_reached}
 use Rattle.switch_ladder.specs.Ladder.{chains_of}
 use Rattle.control_text.specs.Statements.{Blocks}
-use Rattle.function_plan.specs.Orders as orders
 use Rattle.function_plan.specs.Orders.{order_of, order_by}
 use Rattle.list_law.proofs.Numbers.{number_same}
 use Rattle.region_law.specs.Leads.{In}
 use Rattle.tree_law.proofs.SwitchOrder.{in_list, list_in, in_range, order_is}
 use Rattle.claim_law.specs.Blocks.{IsTarget, HasLabel, FitWords, IsHereAt, IsEntered, GoesOn, IsWhole, IsWholeItem, AreWhole}
 use Rattle.grammar_law.specs.Switches.{IsSwitchAt, IsReached, Chooses, Leads, by_condition, by_selector}
-
-same_switch : (x : Terminator) → orders.is_switch x ≡ is_switch x
-same_switch terminator.Branch = refl
-same_switch terminator.Conditional = refl
-same_switch terminator.Switch = refl
-same_switch terminator.Leave = refl
 
 -- labels of the target of a case
 some_labels : (index : ℕ → ℕ) (t : ℕ) (ws : List ℕ) → list_any (λ (x : ℕ). x == t) (map index (seconds ws)) ≡ true → 1 ≤ length (labels_to (zip (map index (seconds ws)) (firsts ws)) t)
@@ -229,7 +222,7 @@ module _ (f : Function) (sound : IsSound (graph f)) (switches : (h : ℕ) → (n
     -- the order in which the groups are written has a first
     order_chains : w.order h ≡ concat (chains_of g h) ++ filter (λ t. not (list_any (λ u. u == t) (concat (chains_of g h)))) (switch_targets g h)
     order_chains =
-        written h ∙ ap (λ (b : Bool). if b then order_of g h else []) (and_from (nth g h).reached (orders.is_switch (nth g h).exit) here (same_switch (nth g h).exit ∙ on))
+        written h ∙ ap (λ (b : Bool). if b then order_of g h else []) (and_from (nth g h).reached (is_switch (nth g h).exit) here on)
 
     default_in : In (index_of f at.default) (switch_targets g h)
     default_in =

@@ -20,7 +20,7 @@ use Rattle.glsl_ast.specs.Tree.{Text, TypeName, TranslationUnit}
 use Rattle.glsl_semantics.specs.Shapes.{Shape, same_shape}
 use Rattle.glsl_semantics.specs.Expressions.{Program, type_of}
 use Rattle.glsl_semantics.specs.Run.{result_shape}
-use Rattle.text_rules.specs.Printed.{is_private, is_variable, is_written_variable}
+use Rattle.text_rules.specs.Printed.{is_private, is_written_variable}
 use Rattle.text_rules.specs.Declarations.{spelling, type_at, pointee_at}
 use Rattle.expr_forward.specs.Scope.{Scope}
 use Rattle.expr_forward.specs.Statements.{is_void_in}
@@ -44,6 +44,7 @@ use Rattle.typed_law.proofs.Values.{inside, global_typed_some, typed_is}
 use Rattle.grammar_law.proofs.Ruled.Ruled.{contains_of, variable_has}
 use Rattle.claim_law.specs.Claimed.{IsIn}
 use Rattle.claim_law.proofs.Claim.Flags.{planned_as}
+use Rattle.profile_rules.specs.Places.{is_variable}
 use Rattle.text_law.specs.Names.{is_written_private, shape_of, text_of_plan}
 use Rattle.text_law.specs.Types.{IsTypeOfText, HasTypesOfText}
 use Rattle.text_law.proofs.Naming.Alone.{are_alone}

@@ -15,7 +15,7 @@ use Rattle.conformance.specs.Rules.{Options}
 use Rattle.traces.specs.Invocations.{Invocation}
 use Rattle.glsl_ast.specs.Tree.{Expr, TranslationUnit}
 use Rattle.expr_forward.specs.Statements.{captured_of}
-use Rattle.function_text.specs.Functions.{FunctionPlan, written, is_variable, is_hoisted_in}
+use Rattle.function_text.specs.Functions.{FunctionPlan, written, is_hoisted_in}
 use Rattle.unit_rules.specs.Unit.{IsUnitOf}
 use Rattle.module_semantics.specs.Setting.{Setting}
 use Rattle.module_semantics.specs.Accesses.{initial_in}
@@ -31,6 +31,7 @@ use Rattle.text_law.proofs.Naming.Keys.{S, names}
 use Rattle.grammar_law.proofs.Unit.Lists.{in_either, of_filter, of_flat}
 use Rattle.grammar_law.proofs.Meets.LiveOrGone.{of_mapped}
 use Rattle.grammar_law.proofs.Grammar.FirstBlocks.{none_in}
+use Rattle.profile_rules.specs.Places.{is_variable}
 use Rattle.text_law.proofs.Naming.Tops.{tops as tops_in}
 
 pub no_phi : (o : Op) → is o code.Variable ≡ true → is o code.Phi ≡ false

@@ -16,6 +16,7 @@ use Rattle.spv_index.specs.Locals.{insts_of, inst_in}
 use Rattle.structure_rules.specs.Graph.{nth}
 use Rattle.conformance.specs.Rules.{Options}
 use Rattle.profile_rules.specs.MemoryRules.{is_pointer}
+use Rattle.profile_rules.specs.Places.{is_variable}
 use Rattle.traces.specs.Invocations.{Invocation}
 use Rattle.hoist_plan.specs.declared.form.Form.{Form}
 use Rattle.access_paths.specs.Ways.{captured_indexes}
@@ -25,7 +26,7 @@ use Rattle.name_alloc.specs.Naming.{name_of}
 use Rattle.name_alloc.specs.Reserved.{has_prefix}
 use Rattle.glsl_ast.specs.Tree.{Text, TranslationUnit}
 use Rattle.text_rules.specs.Constants.{Source, is_constant}
-use Rattle.text_rules.specs.Printed.{Reached, is_private, is_workgroup, is_block_variable, is_variable, is_operand_in, is_written_variable, is_declared_constant}
+use Rattle.text_rules.specs.Printed.{Reached, is_private, is_workgroup, is_block_variable, is_operand_in, is_written_variable, is_declared_constant}
 use Rattle.function_plan.specs.Planned.{has_name_by, has_name, is_named_in}
 use Rattle.function_text.specs.Functions.{FunctionPlan, written, is_hoisted}
 use Rattle.unit_rules.specs.Translation.{text_of}

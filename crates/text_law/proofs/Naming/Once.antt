@@ -30,7 +30,7 @@ use Rattle.name_alloc.specs.declared.claims.Key.TheVariants.{Id, Captured}
 use Rattle.glsl_ast.specs.Tree.{Text, TranslationUnit}
 use Rattle.expr_forward.specs.Scope.{Scope, globals}
 use Rattle.expr_forward.specs.Statements.{captured_of}
-use Rattle.function_text.specs.Functions.{FunctionPlan, written, is_variable, is_hoisted_in}
+use Rattle.function_text.specs.Functions.{FunctionPlan, written, is_hoisted_in}
 use Rattle.unit_rules.specs.Translation.{plan_scope}
 use Rattle.unit_rules.specs.Unit.{source_of, IsUnitOf}
 use Rattle.module_semantics.specs.Setting.{Setting}
@@ -50,6 +50,7 @@ use Rattle.claim_law.proofs.Claim.Listed.{in_flat}
 use Rattle.claim_law.proofs.Claim.Apart.{same_number}
 use Rattle.grammar_law.proofs.Unit.Lists.{in_either, of_filter, of_flat, as_among}
 use Rattle.grammar_law.proofs.Meets.LiveOrGone.{of_mapped}
+use Rattle.profile_rules.specs.Places.{is_variable}
 use Rattle.text_law.specs.Alone.{AreAlone}
 use Rattle.text_law.proofs.Naming.Alone.{are_alone}
 use Rattle.text_law.proofs.Naming.Keys.{S, found as names_found, names, hoisted_is}

@@ -15,6 +15,7 @@ use Rattle.spv_index.specs.Locals.{insts_of, inst_in}
 use Rattle.structure_rules.specs.Graph.{nth}
 use Rattle.conformance.specs.Rules.{Options}
 use Rattle.profile_rules.specs.MemoryRules.{is_pointer}
+use Rattle.profile_rules.specs.Places.{is_variable}
 use Rattle.traces.specs.Invocations.{Invocation}
 use Rattle.hoist_plan.specs.declared.form.Form.{Form}
 use Rattle.access_paths.specs.Ways.{captured_indexes}
@@ -24,7 +25,7 @@ use Rattle.glsl_ast.specs.Tree.{Text, TranslationUnit}
 use Rattle.expr_forward.specs.Scope.{Scope, globals}
 use Rattle.expr_forward.specs.Statements.{captured_of}
 use Rattle.function_plan.specs.Planned.{has_name_by, has_name}
-use Rattle.function_text.specs.Functions.{FunctionPlan, written, is_variable, is_hoisted, is_hoisted_in}
+use Rattle.function_text.specs.Functions.{FunctionPlan, written, is_hoisted, is_hoisted_in}
 use Rattle.unit_rules.specs.Translation.{IsPlanOf}
 use Rattle.unit_rules.specs.Unit.{called, source_of, IsUnitOf}
 use Rattle.module_semantics.specs.Setting.{Setting}

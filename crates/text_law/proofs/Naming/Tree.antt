@@ -13,7 +13,7 @@ use Rattle.spv_index.specs.Locals.{insts_of}
 use Rattle.structure_rules.specs.declared.graph.Node.{Node}
 use Rattle.structure_rules.specs.declared.graph.Exit.{Exit}
 use Rattle.structure_rules.specs.declared.graph.Exit.TheVariants.{Branch, Conditional, Switch, Leave}
-use Rattle.structure_rules.specs.Graph.{graph, nth}
+use Rattle.structure_rules.specs.Graph.{graph, nth, is_switch as is_plan_switch}
 use Rattle.structure_recover.specs.declared.region.Exit.TheVariants.{Return, Lost}
 use Rattle.structure_recover.specs.Follows.{target, left, left_by, last_inst}
 use Rattle.block_graph.proofs.Within.{graph_sized}
@@ -21,7 +21,7 @@ use Rattle.nest_place.proofs.Outward.{reached_inside}
 use Rattle.switch_ladder.specs.Ladder.{fallen_from}
 use Rattle.switch_ladder.specs.Flags.{needs_again, needs_leave, needs_fell}
 use Rattle.function_plan.specs.Phis.{phi_blocks}
-use Rattle.function_plan.specs.Orders.{is_among, order_of, is_switch as is_plan_switch, is_reached_switch}
+use Rattle.function_plan.specs.Orders.{is_among, order_of, is_reached_switch}
 use Rattle.function_plan.specs.Targets.{target_of}
 use Rattle.name_alloc.specs.declared.claims.Key.TheVariants.{Again, Leave as LeaveKey, Fell}
 use Rattle.glsl_ast.specs.Tree.{Text}

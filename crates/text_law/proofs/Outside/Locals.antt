@@ -28,13 +28,13 @@ use Rattle.conformance.specs.Rules.{Options}
 use Rattle.module_check.specs.Judged.{IsFine}
 use Rattle.module_check.specs.ReadFrom.{IsReadFrom}
 use Rattle.profile_rules.specs.Places.{is_variable, body_insts}
-use Rattle.profile_rules.specs.TypeForm.{is_no_variable, is_workgroup}
+use Rattle.profile_rules.specs.TypeForm.{is_no_variable, is_workgroup, signature}
 use Rattle.traces.specs.Invocations.{Invocation, IsInvocation}
 use Rattle.module_semantics.specs.Setting.{Setting}
 use Rattle.name_alloc.specs.declared.claims.Key.{Key}
 use Rattle.glsl_ast.specs.Tree.{Text, TranslationUnit}
 use Rattle.text_rules.specs.Constants.{Source}
-use Rattle.text_rules.specs.Printed.{Reached, has_struct, pointee_or_self, type_has_struct, signature_types, is_written_variable, is_declared_constant, written_types}
+use Rattle.text_rules.specs.Printed.{Reached, has_struct, pointee_or_self, type_has_struct, is_written_variable, is_declared_constant, written_types}
 use Rattle.function_plan.specs.Phis.{is_gone}
 use Rattle.function_plan.specs.Planned.{is_live}
 use Rattle.function_text.specs.Functions.{FunctionPlan, written}
@@ -150,8 +150,8 @@ module _ (bytes : List ℕ) (m : ModuleState) (o : Options) (read : IsReadFrom b
     listed =
         let type_on : has_type_written (liveness_of src p) (slice_index_or (liveness_of src p).reached of_it.number false) i ≡ true =
         ap (λ (b : Bool). if b then is_live p.scope.form i else is_wanted m.globals p.scope.form p.scope.carried i) variable_reached ∙ variable_live in
-        in_right i.ty (map (λ (g : Inst). g.ty) (filter (λ g. is_written_variable r g || is_declared_constant src r g) Gs)) (flat_map signature_types r.functions ++ r.types)
-        (in_right i.ty (flat_map signature_types r.functions) r.types
+        in_right i.ty (map (λ (g : Inst). g.ty) (filter (λ g. is_written_variable r g || is_declared_constant src r g) Gs)) (flat_map signature r.functions ++ r.types)
+        (in_right i.ty (flat_map signature r.functions) r.types
         (in_flat (live_of types_of src) u.plans p i.ty planned
         (in_flat (in_block types_of (liveness_of src p)) (enumerate_from 0 f.blocks) (of_it.number, of_it.block) i.ty (numbered_first f.blocks of_it.number of_it.block of_it.there)
         (in_flat (types_of (liveness_of src p) (slice_index_or (liveness_of src p).reached of_it.number false)) of_it.block.insts i i.ty of_it.among

@@ -28,7 +28,7 @@ use Rattle.access_paths.specs.Ways.{captured_indexes, is_constant_index}
 use Rattle.conformance.specs.Rules.{Options}
 use Rattle.module_check.specs.Judged.{IsFine}
 use Rattle.module_check.specs.ReadFrom.{IsReadFrom}
-use Rattle.profile_rules.specs.Places.{is_among}
+use Rattle.profile_rules.specs.Places.{is_among, is_variable}
 use Rattle.profile_rules.specs.TypeForm.{block_misuses}
 use Rattle.traces.specs.Invocations.{Invocation, IsInvocation}
 use Rattle.traces.specs.Outcomes.{Result}
@@ -49,7 +49,7 @@ use Rattle.text_rules.specs.Printed.{Reached, has_struct, is_private, is_written
 use Rattle.text_rules.specs.Declarations.{Names, shape_at, type_at, pointee_at, initial}
 use Rattle.expr_forward.specs.Scope.{Scope, globals, type_of as type_of_value}
 use Rattle.expr_forward.specs.Statements.{captured_of}
-use Rattle.function_text.specs.Functions.{FunctionPlan, written, is_variable, is_hoisted, is_hoisted_in}
+use Rattle.function_text.specs.Functions.{FunctionPlan, written, is_hoisted, is_hoisted_in}
 use Rattle.function_text.specs.Live.{is_composite_type}
 use Rattle.unit_rules.specs.Translation.{names_of, IsPlanOf}
 use Rattle.unit_rules.specs.Unit.{called, source_of, IsUnitOf}

@@ -20,7 +20,6 @@ use Rattle.name_alloc.specs.declared.claims.Key.TheVariants.{Id as IdOf}
 use Rattle.name_alloc.specs.Naming.{name_of}
 use Rattle.glsl_ast.specs.Tree.{TranslationUnit}
 use Rattle.text_rules.specs.Constants.{Source}
-use Rattle.text_rules.specs.Printed.{is_variable}
 use Rattle.expr_forward.specs.Scope.{Scope, type_of}
 use Rattle.function_text.specs.Functions.{FunctionPlan}
 use Rattle.unit_rules.specs.Translation.{Naming, text_of}
@@ -39,6 +38,7 @@ use Rattle.grammar_law.proofs.Unit.Shaped.{pointer_none}
 use Rattle.grammar_law.proofs.Unit.Ways.{HaveKinds, F, V, in_module}
 use Rattle.grammar_law.proofs.Meets.ArrayLengths.{variable_typed}
 use Rattle.grammar_law.proofs.Grammar.Listed.{of_mapped}
+use Rattle.profile_rules.specs.Places.{is_variable}
 use Rattle.text_law.specs.Shape.{is_pointer, memory_ids, names_in}
 use Rattle.text_law.proofs.Shape.Named.{id_unseen}
 

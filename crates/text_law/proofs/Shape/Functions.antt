@@ -14,11 +14,12 @@ use Rattle.region_law.specs.Leads.{In, AreApart}
 use Rattle.text_rules.specs.Constants.{Source}
 use Rattle.expr_forward.specs.Scope.{Scope}
 use Rattle.expr_forward.specs.Statements.{insts_at, block_text, inst_text, kind_of, captured_of}
-use Rattle.function_text.specs.Functions.{FunctionPlan, written, blocks_of, body_text, top_text, in_blocks, variables_text, hoisted_texts, captured_texts, variable_text, hoisted_text, captured_text, captured_texts_of, is_variable, is_hoisted_in}
+use Rattle.function_text.specs.Functions.{FunctionPlan, written, blocks_of, body_text, top_text, in_blocks, variables_text, hoisted_texts, captured_texts, variable_text, hoisted_text, captured_text, captured_texts_of, is_hoisted_in}
 use Rattle.claim_law.specs.Uses.{UsesExpr}
 use Rattle.claim_law.specs.Statements.{EachStmt}
 use Rattle.claim_law.specs.Blocks.{IsWhole}
 use Rattle.claim_law.specs.Told.{is_among}
+use Rattle.profile_rules.specs.Places.{is_variable}
 use Rattle.text_law.specs.Deeds.{Deed}
 use Rattle.text_law.specs.Walks.{Outer}
 use Rattle.text_law.specs.Pairs.{Act, does, is_done, Naming}

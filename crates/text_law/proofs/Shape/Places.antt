@@ -27,7 +27,6 @@ use Rattle.name_alloc.specs.declared.claims.Key.TheVariants.{Id, Captured}
 use Rattle.name_alloc.specs.Naming.{name_of}
 use Rattle.glsl_ast.specs.Tree.{Text, Expr, name, TranslationUnit}
 use Rattle.text_rules.specs.Constants.{Source, is_constant, constant_expr}
-use Rattle.text_rules.specs.Printed.{is_variable}
 use Rattle.text_items.specs.Globals.{built_in_name, built_in_text, is_input, global_by}
 use Rattle.expr_forward.specs.Scope.{Scope}
 use Rattle.expr_forward.specs.Paths.{index_expr, name_in, base_text, steps_text, place_text}
@@ -54,6 +53,7 @@ use Rattle.grammar_law.proofs.Unit.Ruled.{chains, rise}
 use Rattle.grammar_law.proofs.Unit.ResultShapes.{stands_inside}
 use Rattle.grammar_law.proofs.Unit.Ways.{HaveKinds, F, V, in_module, ordered}
 use Rattle.grammar_law.proofs.Meets.PointerStarts.{IsStart, outside, lent, own, pointer_start}
+use Rattle.profile_rules.specs.Places.{is_variable}
 use Rattle.text_law.specs.Walks.{Outer}
 use Rattle.text_law.specs.Shape.{is_pointer, memory_ids, names_in, outer_of}
 use Rattle.text_law.specs.Unseen.{unseen, IsPath}

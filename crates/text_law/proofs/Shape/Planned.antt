@@ -18,7 +18,6 @@ use Rattle.name_alloc.specs.Naming.{name_of}
 use Rattle.glsl_ast.specs.Tree.{Text, TranslationUnit}
 use Rattle.text_rules.specs.Constants.{Source}
 use Rattle.function_plan.specs.Orders.{order_of, is_reached_switch}
-use Rattle.function_plan.specs.Orders as orders
 use Rattle.function_plan.specs.Targets.{target_of}
 use Rattle.function_text.specs.Functions.{FunctionPlan, label_of, when, blocks_of}
 use Rattle.unit_rules.specs.Translation.{Naming, IsPlanOf}
@@ -31,7 +30,6 @@ use Rattle.claim_law.specs.Claimed.{IsIn}
 use Rattle.claim_law.proofs.Claim.Flags.{again_key, leave_key, fell_key}
 use Rattle.grammar_law.specs.Switches.{IsSwitchAt, IsReached, Chooses, Leads}
 use Rattle.grammar_law.proofs.Unit.Whole.{tree-whole}
-use Rattle.grammar_law.proofs.Unit.Switching.{switch_exit}
 use Rattle.text_law.proofs.Naming.Tree.{among_that}
 use Rattle.text_law.specs.Quiet.{AreFlags}
 
@@ -59,7 +57,7 @@ module _ (src : Source) (found : Naming) (f : Function) (plan : FunctionPlan) (p
   pub orders_whole : (h : ℕ) → IsReached g h → is_switch (nth g h).exit ≡ true → AreApart (switch_targets g h) × ((t : ℕ) → In t (switch_targets g h) → In t ((blocks_of plan).order h))
   orders_whole h here on =
       let order = order_is g sound h here on in
-      let test : is_reached_switch (nth g h) ≡ true = ap (λ (r : Bool). r && orders.is_switch (nth g h).exit) here ∙ ap orders.is_switch (switch_exit (nth g h).exit on) in
+      let test : is_reached_switch (nth g h) ≡ true = ap (λ (r : Bool). r && is_switch (nth g h).exit) here ∙ on in
       let same : plan.order h ≡ concat (chains_of g h) ++ filter (λ t. not (list_any (λ u. u == t) (concat (chains_of g h)))) (switch_targets g h) = planned.order_is h ∙ ap (λ (t : Bool). if t then order_of g h else []) test in
       (order.all_apart, λ t there. subst (In t) (sym same) (order.in_order t there))
 

@@ -22,8 +22,9 @@ use Rattle.text_rules.specs.Constants.{Source}
 use Rattle.text_rules.specs.Declarations.{type_at}
 use Rattle.text_rules.specs.Printed.{is_written_struct}
 use Rattle.expr_forward.specs.Scope.{Scope, type_of}
+use Rattle.expr_forward.specs.Values.{variable as name_expr}
 use Rattle.function_plan.specs.Phis.{is_gone, is_constant_id, source_by, pairs}
-use Rattle.function_text.specs.Functions.{FunctionPlan, label_of, name_expr, constant_text, source_expr, spare_name, copies_text}
+use Rattle.function_text.specs.Functions.{FunctionPlan, label_of, constant_text, source_expr, spare_name, copies_text}
 use Rattle.unit_rules.specs.Translation.{Naming, text_of, id_text}
 use Rattle.unit_rules.specs.Unit.{source_of, IsUnitOf}
 use Rattle.claim_law.specs.Uses.{Words, UsesType, UsesExpr}

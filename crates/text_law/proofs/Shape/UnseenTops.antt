@@ -20,7 +20,7 @@ use Rattle.text_rules.specs.Declarations.{pointee_at, zero_at, expr_at, initial}
 use Rattle.text_rules.specs.Printed.{is_written_struct}
 use Rattle.expr_forward.specs.Scope.{Scope}
 use Rattle.expr_forward.specs.Statements.{captured_of}
-use Rattle.function_text.specs.Functions.{FunctionPlan, is_variable, variable_text, variables_text, is_hoisted_in, hoisted_text, hoisted_texts, captured_text, captured_texts_of, captured_texts, in_blocks, top_text}
+use Rattle.function_text.specs.Functions.{FunctionPlan, variable_text, variables_text, is_hoisted_in, hoisted_text, hoisted_texts, captured_text, captured_texts_of, captured_texts, in_blocks, top_text}
 use Rattle.unit_rules.specs.Translation.{Naming, id_text, names_of}
 use Rattle.unit_rules.specs.Unit.{source_of, IsUnitOf}
 use Rattle.claim_law.specs.Uses.{Words, UsesExpr}
@@ -37,6 +37,7 @@ use Rattle.grammar_law.proofs.Meets.BlocksMade.{AreKnown}
 use Rattle.grammar_law.proofs.Grammar.Listed.{of_mapped}
 use Rattle.grammar_law.proofs.Grammar.Readings.{none_fits}
 use Rattle.grammar_law.proofs.Grammar.Tops.{points, shaped, first_constant}
+use Rattle.profile_rules.specs.Places.{is_variable}
 use Rattle.text_law.specs.Walks.{Outer}
 use Rattle.text_law.specs.Shape.{outer_of}
 use Rattle.text_law.specs.Unseen.{unseen, IsStill, AreStill}

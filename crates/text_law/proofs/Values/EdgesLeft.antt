@@ -29,9 +29,10 @@ use Rattle.glsl_semantics.specs.Shapes.{Typed, typed}
 use Rattle.glsl_semantics.specs.States.{State}
 use Rattle.glsl_semantics.specs.Expressions.{Program, Argument, evaluate}
 use Rattle.expr_forward.specs.Scope.{Scope}
+use Rattle.expr_forward.specs.Values.{variable}
 use Rattle.function_plan.specs.Phis.{is_gone}
 use Rattle.function_plan.specs.Planned.{is_reached_node}
-use Rattle.function_text.specs.Functions.{FunctionPlan, written, constant_text, name_expr}
+use Rattle.function_text.specs.Functions.{FunctionPlan, written, constant_text}
 use Rattle.unit_rules.specs.Unit.{source_of, claims_by, liveness_of, IsUnitOf}
 use Rattle.plan_law.specs.InOrder.{IsAmong}
 use Rattle.plan_law.proofs.Order.{among_right as body_right}
@@ -87,7 +88,7 @@ module _ (bytes : List ℕ) (m : ModuleState) (o : Options) (read : IsReadFrom b
   constant_text_says calls n v mentioned has c z agree =
       let w = constant_says bytes m o read fine unit u inv told left p n v has mentioned calls c z agree in
       ap (λ (x : Scope). evaluate P calls (constant_text x n) z) (plan_is s o.entry right kinds o unit u p among).scope_is
-      ∙ (ap (λ (q : Option Expr). evaluate P calls (unwrap_or q (name_expr Where n)) z) w.1 ∙ w.2)
+      ∙ (ap (λ (q : Option Expr). evaluate P calls (unwrap_or q (variable Where n)) z) w.1 ∙ w.2)
 
   module _ (lives : (c place : ℕ) (i : Inst) → inst_at Fn c place ≡ Some i → is_gone (Where.form i.result) ≡ false → IsLive Fn (R s o.entry right kinds o unit u p among) c place) where
     declared : (t : ℕ) → AreDeclaredAt m o right kinds unit u inv p among lives P t

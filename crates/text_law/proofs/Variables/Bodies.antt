@@ -21,8 +21,9 @@ use Rattle.expr_forward.specs.Scope.{Scope, globals}
 use Rattle.expr_forward.specs.Kinds.{kind_of}
 use Rattle.expr_forward.specs.Values.{value}
 use Rattle.expr_forward.specs.Statements.{set_by, set, is_void, has_result, semantics, bare_call, when_bit, memory_barrier, capture, captured_of, insert_text, is_variable_form, insert_where_named, inst_text, insts_at}
-use Rattle.function_text.specs.Functions.{FunctionPlan, written, is_variable, is_hoisted_in, move_text, blocks_of, top_text, body_text}
+use Rattle.function_text.specs.Functions.{FunctionPlan, written, is_hoisted_in, move_text, blocks_of, top_text, body_text}
 use Rattle.list_law.proofs.Lists.{map_joined}
+use Rattle.profile_rules.specs.Places.{is_variable}
 use Rattle.text_law.specs.Declarations.{valued, unset, opened, occurs, AreSame}
 use Rattle.text_law.specs.Variables.{of_result, variables, hoisted, locals, index_key, kept_of, kept, all_flags, with_value, without_value}
 use Rattle.text_law.proofs.Variables.Texts.{declared_both, times_in, times_both}

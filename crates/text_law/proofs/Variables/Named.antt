@@ -32,7 +32,7 @@ use Rattle.name_alloc.specs.Naming.{name_of}
 use Rattle.glsl_ast.specs.Tree.{TranslationUnit}
 use Rattle.function_plan.specs.Phis.{phi_blocks}
 use Rattle.function_plan.specs.Planned.{has_name_by}
-use Rattle.function_text.specs.Functions.{FunctionPlan, written, is_variable}
+use Rattle.function_text.specs.Functions.{FunctionPlan, written}
 use Rattle.unit_rules.specs.Translation.{Naming}
 use Rattle.unit_rules.specs.Unit.{IsUnitOf}
 use Rattle.region_law.specs.Leads.{In}
@@ -42,6 +42,7 @@ use Rattle.claim_law.proofs.Claim.Named.{result_named, again_named, leave_named,
 use Rattle.text_law.proofs.Naming.Keys.{placed, hoisted_is}
 use Rattle.grammar_law.proofs.Unit.Lists.{of_filter, of_numbered_first}
 use Rattle.grammar_law.proofs.Meets.Roots.{named_variable}
+use Rattle.profile_rules.specs.Places.{is_variable}
 use Rattle.text_law.specs.Variables.{of_result, is_spare, is_local, is_local_here, is_hoisted_here, variables, hoisted, locals_of, locals, index_key, kept_of, kept, flag_key, flags, all_flags, with_value, without_value}
 use Rattle.text_law.proofs.Variables.Plans.{IsKnown, spare_of_move, edge_spares, to_spares, exit_spares, block_spares, spares}
 

@@ -30,7 +30,7 @@ use Rattle.expr_forward.specs.declared.kinds.InstKind.TheVariants as kind
 use Rattle.expr_forward.specs.Scope.{Scope, globals}
 use Rattle.expr_forward.specs.Kinds.{kind_of}
 use Rattle.function_plan.specs.Phis.{phi_blocks}
-use Rattle.function_text.specs.Functions.{FunctionPlan, written, is_variable, is_hoisted, body_text}
+use Rattle.function_text.specs.Functions.{FunctionPlan, written, is_hoisted, body_text}
 use Rattle.unit_rules.specs.Translation.{text_of, IsPlanOf}
 use Rattle.unit_rules.specs.Unit.{source_of, IsUnitOf}
 use Rattle.list_law.proofs.Tests.{not_both}
@@ -48,6 +48,7 @@ use Rattle.text_law.specs.Declarations.{valued, unset, occurs}
 use Rattle.text_law.specs.Variables.{of_result, is_spare, is_local, is_local_here, is_hoisted_here, variables, hoisted, locals, index_key, kept_of, kept, flag_key, flags, all_flags, with_value, without_value}
 use Rattle.text_law.proofs.Variables.Texts.{occurs_both}
 use Rattle.tree_law.proofs.SwitchOrder.{range_apart}
+use Rattle.profile_rules.specs.Places.{is_variable}
 use Rattle.text_law.proofs.Variables.Blocks.{IsSet}
 use Rattle.text_law.proofs.Variables.Plans.{IsKnown, spares, count_both}
 use Rattle.text_law.proofs.Variables.Bodies.{body_unset, body_valued}

@@ -11,7 +11,8 @@ use Rattle.name_alloc.specs.declared.claims.Key.TheVariants.{Id, Captured}
 use Rattle.glsl_ast.specs.Tree.{Text, Expr, Stmt, declare, Stmts, stmt, stmts_in}
 use Rattle.expr_forward.specs.Scope.{Scope}
 use Rattle.expr_forward.specs.Statements.{captured_of}
-use Rattle.function_text.specs.Functions.{is_variable, is_hoisted_in, variable_text, hoisted_text, captured_text, captured_texts_of, variables_text, hoisted_texts, captured_texts, in_blocks, top_text}
+use Rattle.function_text.specs.Functions.{is_hoisted_in, variable_text, hoisted_text, captured_text, captured_texts_of, variables_text, hoisted_texts, captured_texts, in_blocks, top_text}
+use Rattle.profile_rules.specs.Places.{is_variable}
 use Rattle.text_law.specs.Declarations.{declared, valued, unset, opened}
 use Rattle.text_law.proofs.Variables.Texts.{declared_both}
 

@@ -1,5 +1,5 @@
 use Rattle.std.proofs.Common.{◌∙◌}
-use Rattle.run_state.specs.Ids.{is_listed}
+use Rattle.module_semantics.specs.Setting.{is_listed}
 use Rattle.run_state.proofs.Based.{based_more}
 use Rattle.run_state.proofs.chain.add_based_in.Goals as goal
 

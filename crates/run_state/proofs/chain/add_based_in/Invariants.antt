@@ -1,6 +1,6 @@
 use Rattle.std.proofs.Common.{◌≡◌, drop}
 use Rattle.module_semantics.specs.Steps.{based_among}
-use Rattle.run_state.specs.Ids.{is_listed}
+use Rattle.module_semantics.specs.Setting.{is_listed}
 use Rattle.run_state.proofs.chain.add_based_in.Given as goal
 
 abbrev pub invariant-loop-inst : goal.invariant-loop-inst

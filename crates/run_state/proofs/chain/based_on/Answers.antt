@@ -1,7 +1,7 @@
 use Rattle.std.proofs.Common.{◌≡◌, ◌+◌, ◌∙◌, ap, subst, drop}
 use Rattle.spv_module.specs.declared.inst.Function.{Function}
 use Rattle.module_semantics.specs.Steps.{based_among}
-use Rattle.run_state.specs.Ids.{is_listed}
+use Rattle.module_semantics.specs.Setting.{is_listed}
 use Rattle.run_state.proofs.Based.{insts_in, blocks_more}
 use Rattle.run_state.proofs.chain.based_on.Goals as goal
 

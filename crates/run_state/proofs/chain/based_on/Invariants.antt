@@ -1,6 +1,6 @@
 use Rattle.std.proofs.Common.{◌≡◌, false, drop}
 use Rattle.module_semantics.specs.Steps.{based_among}
-use Rattle.run_state.specs.Ids.{is_listed}
+use Rattle.module_semantics.specs.Setting.{is_listed}
 use Rattle.run_state.proofs.Based.{insts_in}
 use Rattle.run_state.proofs.chain.based_on.Given as goal
 

@@ -1,9 +1,10 @@
 use Rattle.std.proofs.Common.{ap, refl, sym, subst, ◌∙◌}
 use Rattle.std.specs.Prelude.{IfOk, option_map}
 use Rattle.module_semantics.specs.Steps.{is_based_on}
+use Rattle.module_semantics.specs.Setting.{is_listed}
 use Rattle.memory_places.specs.Kernel.{setting_for}
 use Rattle.spv_module.specs.declared.inst.Function.{Function}
-use Rattle.run_state.specs.Ids.{held_of, is_listed}
+use Rattle.run_state.specs.Ids.{held_of}
 use Rattle.run_state.specs.Confs.{conf_of, behind}
 use Rattle.run_acts.specs.Acts.{IsAct}
 use Rattle.run_values.proofs.Led.{chain_goes, chain_fails}

@@ -1,6 +1,7 @@
 use Rattle.std.proofs.Common.{[], ap, sym}
 use Rattle.traces.specs.Runs.{goes}
-use Rattle.run_state.specs.Ids.{held_of, is_listed}
+use Rattle.run_state.specs.Ids.{held_of}
+use Rattle.module_semantics.specs.Setting.{is_listed}
 use Rattle.run_values.proofs.Led.{led_conf}
 use Rattle.run_values.proofs.chains.lead.Goals as goal
 

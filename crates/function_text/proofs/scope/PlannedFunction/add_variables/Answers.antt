@@ -5,7 +5,8 @@ use Rattle.glsl_ast.specs.Tree as text
 use Rattle.glsl_ast.specs.View.{stmt_of}
 use Rattle.glsl_ast.specs.declared.statements.Stmt.{Stmt}
 use Rattle.expr_forward.specs.Context.{scope_of}
-use Rattle.function_text.specs.Functions.{is_variable, variable_text, variables_text}
+use Rattle.profile_rules.specs.Places.{is_variable}
+use Rattle.function_text.specs.Functions.{variable_text, variables_text}
 use Rattle.function_text.proofs.Pushed.{pushed_more}
 use Rattle.function_text.proofs.scope.PlannedFunction.add_variables.Goals as goal
 use Rattle.function_text.proofs.scope.PlannedFunction.add_variables.Goals.{then-is_variable+in_ok-variable_text+in_ok-push, else-is_variable}
