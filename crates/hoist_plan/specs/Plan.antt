@@ -21,7 +21,7 @@ use Rattle.op_semantics.specs.declared.operation.Operation.TheVariants as operat
 use Rattle.op_semantics.specs.Value.{extended_opcodes, operation_in}
 use Rattle.use_chains.specs.declared.slot.SlotPlace.{SlotPlace}
 use Rattle.use_chains.specs.Links.{Link, chain}
-use Rattle.use_chains.specs.Slots.{inst_at}
+use Rattle.use_chains.specs.Slots.{inst_at, base_place}
 use Rattle.hoist_plan.specs.declared.form.Form.{Form}
 use Rattle.hoist_plan.specs.declared.form.Form.TheVariants.{Gone, Forwarded, Local, Hoisted}
 
@@ -137,7 +137,7 @@ repeats_operands gs f i =
 -- a mention that asks for a variable: in another block, by a phi, as an index of a chain, or as an operand that stands more than once
 abbrev pub wants_by : List Inst → Function → ℕ → SlotPlace → Inst → Bool
 wants_by gs f block at i =
-    is_elsewhere_by f block at i || (is i.op code.Phi || ((is_chain i.op && not (at.arg == 0)) || repeats_operands gs f i))
+    is_elsewhere_by f block at i || (is i.op code.Phi || ((is_chain i.op && not (at.arg == base_place)) || repeats_operands gs f i))
 
 abbrev pub wants_variable : List Inst → Function → ℕ → SlotPlace → Bool
 wants_variable gs f block at = option_map_or (wants_by gs f block at) (user f at) false
@@ -206,7 +206,7 @@ form s id = unwrap_or ((known s.globals s.function (results s.links s.function))
 
 -- a chain that another block needs: a mention of it stands there, or is the base of a chain that another block needs
 abbrev pub carries_by : Function → (ℕ → Bool) → ℕ → SlotPlace → Inst → Bool
-carries_by f carried block at i = is_elsewhere_by f block at i || ((at.arg == 0) && (is_chain i.op && carried i.result))
+carries_by f carried block at i = is_elsewhere_by f block at i || ((at.arg == base_place) && (is_chain i.op && carried i.result))
 
 abbrev pub carries : Function → (ℕ → Bool) → ℕ → SlotPlace → Bool
 carries f carried block at = option_map_or (carries_by f carried block at) (user f at) false

@@ -13,7 +13,7 @@ use spv_module::Inst;
 use spv_words::Memory;
 use std::alloc::{AllocError, Global};
 use std::collections::BTreeSet;
-use use_chains::SlotPlace;
+use use_chains::{BASE, SlotPlace};
 
 /// Whether another block needs a chain because of the instruction that mentions it.
 fn carries_by(
@@ -26,7 +26,7 @@ fn carries_by(
     ensures { result ≡ carries_by_in locals.now (contains nat_cmp carried.now) block at inst.now }
 {
     stands_elsewhere(locals, block, at, inst)
-        || at.arg == 0 && inst.op.is_chain() && carried.contains(&inst.result)
+        || at.arg == BASE && inst.op.is_chain() && carried.contains(&inst.result)
 }
 
 fn carries(locals: &Locals, carried: &BTreeSet<u32>, block: usize, at: SlotPlace) -> bool

@@ -7,7 +7,7 @@ use op_semantics::{Operation, Unary, extended_operation_of};
 use spv_index::{Locals, type_in};
 use spv_module::{Function, Id, Inst, Module};
 use spv_ops::{Op, OpGroup};
-use use_chains::SlotPlace;
+use use_chains::{BASE, SlotPlace};
 
 /// The instruction that mentions a value at a place.
 pub fn user(f: &Function, at: SlotPlace) -> Option<&Inst>
@@ -165,7 +165,7 @@ fn wants_by(module: &Module, locals: &Locals, block: usize, at: SlotPlace, inst:
 {
     stands_elsewhere(locals, block, at, inst)
         || inst.op == Op::Phi
-        || inst.op.is_chain() && at.arg != 0
+        || inst.op.is_chain() && at.arg != BASE
         || repeats_operands(module, locals, inst)
 }
 

@@ -1,5 +1,6 @@
 // The edges between the blocks of a function.
 ghost use Rattle.std.specs.Prelude.{◌≡◌, ◌==◌, ◌&&◌, ◌||◌, ◌++◌, ◌∷◌, [], ◌<◌, true, IfOk, OnOk, is_some, length};
+ghost use Rattle.spv_module.specs.Counts.{is_odd as is_odd_place};
 ghost use Rattle.spv_index.specs.Locals.{block_in};
 ghost use Rattle.profile_rules.specs.FlowRules.{is_target as is_target_of, goes, goes_to};
 ghost use Rattle.type_rules.specs.Edges.{list_of, sources_of, ends_at as ends_at_place, with_source, IsAddedAt, AreEmpty, AreSources, Adds};
@@ -59,14 +60,27 @@ impl<'a> Model for Edges<'a> {
     ghost invariant = { λ e. AreSources e.function.now e.function.now.blocks e.sources.items };
 }
 
+// Where an OpBranch names its label, and an OpBranchConditional its two.
+const TARGET_LABEL: usize = 0;
+
+const TRUE_LABEL: usize = 1;
+
+const FALSE_LABEL: usize = 2;
+
+fn is_odd(k: usize) -> bool
+    ensures { result ≡ is_odd_place k }
+{
+    k % 2 == 1
+}
+
 /// Whether operand k is a label to which an instruction goes.
 fn is_target(op: Op, k: usize) -> bool
     ensures { result ≡ is_target_of op k }
 {
     match op {
-        Op::Branch => k == 0,
-        Op::BranchConditional => k == 1 || k == 2,
-        Op::Switch => k % 2 == 1,
+        Op::Branch => k == TARGET_LABEL,
+        Op::BranchConditional => k == TRUE_LABEL || k == FALSE_LABEL,
+        Op::Switch => is_odd(k),
         _ => false,
     }
 }
