@@ -4,7 +4,7 @@ use Rattle.spv_module.specs.Lists.{id}
 use Rattle.spv_module.specs.declared.inst.Inst.{Inst}
 use Rattle.hoist_plan.specs.declared.form.Form.TheVariants.{Forwarded}
 use Rattle.name_alloc.specs.declared.claims.Key.TheVariants.{Id}
-use Rattle.op_semantics.specs.Value.{operation_of}
+use Rattle.op_semantics.specs.Value.{operation_of, not_extended}
 use Rattle.glsl_ast.specs.Tree.{Expr}
 use Rattle.vec_lowering.specs.Named.{Naming}
 use Rattle.vec_lowering.specs.Lowered.{lowered_vector}
@@ -37,9 +37,9 @@ module _ (W : Words) (names : Naming) (w : Scope) (IsUsable : ℕ → Type 0) wh
   MeetsKind block i kind.ArrayLength = UsesExpr W (length_text w block i)
   MeetsKind block i kind.CompositeExtract = IsUsable (slice_index i.args 0) × UseSteps W (part_steps w.setting (type_of w (slice_index i.args 0)) (drop 1 i.args))
   MeetsKind block i kind.CompositeConstruct = UsesType W (type_at w.setting.source w.names i.ty) × AreUsable i.args
-  MeetsKind block i kind.CopyLogical = IsUsable (slice_index i.args 0) × ((value : ℕ → Expr) → AsksIfAny W names i.op (operation_of i.op (0 ∷ [])) (shape_at w.setting.source i.ty) [] (map operand (whole_argument w value (slice_index i.args 0) ∷ [])))
+  MeetsKind block i kind.CopyLogical = IsUsable (slice_index i.args 0) × ((value : ℕ → Expr) → AsksIfAny W names i.op (operation_of i.op (not_extended ∷ [])) (shape_at w.setting.source i.ty) [] (map operand (whole_argument w value (slice_index i.args 0) ∷ [])))
   MeetsKind block i kind.Extended = AreUsable (value_words i.op (drop 2 i.args)) × AsksOf (slice_index i.args 1) i (drop 2 i.args)
-  MeetsKind block i kind.Plain = AreUsable (value_words i.op i.args) × AsksOf 0 i i.args
+  MeetsKind block i kind.Plain = AreUsable (value_words i.op i.args) × AsksOf not_extended i i.args
   MeetsKind block i kind.Other = W.value (w.setting.key (Id (id i.result)))
 
   abbrev pub Meets : ℕ → Inst → Type 0

@@ -8,7 +8,7 @@ use Rattle.std.proofs.lemmas.List.Elements.{All-nil, All-cons, All-head, All-tai
 use Rattle.std.proofs.lemmas.Bool.Decides.{eqb_tells, nat_tests}
 use Rattle.std.proofs.lemmas.Bool.{false_from_ne_true, or_parts}
 use Rattle.list_law.proofs.Tests.{but_not}
-use Rattle.spv_words.specs.Words.{words, insts, slice, first_fault}
+use Rattle.spv_words.specs.Words.{words, insts, no_inst, slice, first_fault}
 use Rattle.spv_words.specs.Breaks.{AreWords}
 use Rattle.spv_words.specs.declared.words.Inst1.{Inst1}
 use Rattle.spv_words.specs.declared.rule.Rule.TheVariants.{T1, P2, P8}
@@ -141,14 +141,11 @@ functions_full ws (i ∷ is) h =
     let later : AreFull ws is = All-tail (λ (i : Inst1). IsFull (inst_of ws i)) i is h in
     functions_step (function ws i is) (functions_from ws is) (kind_of ws i) (blocks_full ws is later) (functions_full ws is later)
 
-abbrev none_inst : Inst1
-none_inst = record { opcode = 0; start = 0; len = 0 }
-
 -- the instructions of words that break no rule on words and on numbers of words
 all_full : (ws : List ℕ) → first_fault ws ≡ None → IsUnbroken ws P2 → AreFull ws (insts ws)
-all_full ws whole fine = All-from_get_or (λ (i : Inst1). IsFull (inst_of ws i)) (insts ws) none_inst
-    (λ k inside. full_inst ws (get_or (insts ws) k none_inst) (whole_at (length ws) (insts ws) k none_inst whole inside)
-    (false_from_ne_true (is_misfit ws (get_or (insts ws) k none_inst)) (λ bad. fine (get_or (insts ws) k none_inst).start (k, inside, refl, bad))))
+all_full ws whole fine = All-from_get_or (λ (i : Inst1). IsFull (inst_of ws i)) (insts ws) no_inst
+    (λ k inside. full_inst ws (get_or (insts ws) k no_inst) (whole_at (length ws) (insts ws) k no_inst whole inside)
+    (false_from_ne_true (is_misfit ws (get_or (insts ws) k no_inst)) (λ bad. fine (get_or (insts ws) k no_inst).start (k, inside, refl, bad))))
 
 -- what breaks nothing has parts that break nothing
 append_nil : {X : Type 0} (xs ys : List X) → xs ++ ys ≡ [] → (xs ≡ []) × (ys ≡ [])

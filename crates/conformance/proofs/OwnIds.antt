@@ -5,7 +5,7 @@ use Rattle.std.specs.Option.{option_map_or, unwrap_or}
 use Rattle.std.proofs.lemmas.List.{get_or_default}
 use Rattle.std.proofs.lemmas.Bool.Decides.{eqb_tells, nat_tests}
 use Rattle.std.proofs.lemmas.Bool.{or_right, and_from, false_from_ne_true}
-use Rattle.spv_words.specs.Words.{insts, nth_inst}
+use Rattle.spv_words.specs.Words.{insts, no_inst, nth_inst}
 use Rattle.spv_words.specs.declared.words.Inst1.{Inst1}
 use Rattle.spv_words.specs.declared.rule.Rule.TheVariants.{P2, P3}
 use Rattle.spv_ops.specs.Opcode.{number, op_of}
@@ -142,6 +142,6 @@ own_ids ws counted fine =
     let good : (k : ℕ) → k < length (insts ws) → HasBadId ws k → ⊥ = λ k inside bad. fine (nth_inst ws k).start (k, inside, refl, bad) in
     own ws (insts ws)
     (λ k d inside is.
-    let same : nth_inst ws k ≡ get_or (insts ws) k d = get_or_default (insts ws) k (record { opcode = 0; start = 0; len = 0 }) d inside in
+    let same : nth_inst ws k ≡ get_or (insts ws) k d = get_or_default (insts ws) k no_inst d inside in
     positive ws (get_or (insts ws) k d) is (subst (λ (i : Inst1). is_misfit ws i ≡ false) same (fits k inside)) (λ out. good k inside (rw same (inl out))))
     (λ j k before inside above same. good k inside (inr (above, (j, before, same))))

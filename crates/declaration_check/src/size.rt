@@ -56,8 +56,9 @@ pub fn is_no_uvec3(context: &Context, inst: &Inst) -> bool
 fn is_no_size(context: &Context, inst: &Inst) -> bool
     ensures { result ≡ is_no_size_in context.now.globals inst.now }
 {
-    !((inst.op == Op::Constant || inst.op == Op::SpecConstant) && 0 < inst.operand(0))
-        || is_no_uint(context, inst.ty)
+    let is_number = inst.op == Op::Constant || inst.op == Op::SpecConstant;
+    let extent = inst.operand(0);
+    !(is_number && 0 < extent) || is_no_uint(context, inst.ty)
 }
 
 /// Whether an id is that of no such constant, where `missing` says so of one that nothing global has.

@@ -5,7 +5,7 @@ ghost use Rattle.std.specs.List.{list_any};
 ghost use Rattle.id_map.specs.Entries.{is_in};
 ghost use Rattle.spv_module.specs.Held.{global};
 ghost use Rattle.spv_words.specs.declared.rule.Rule.TheVariants.{P17, P18, P19};
-ghost use Rattle.profile_rules.specs.TypeForm.{is_misused as is_misused_in, is_other_int as is_other_int_row, is_no_scalar as is_no_scalar_in, is_other_vector as is_other_vector_in, is_signed as is_signed_in, is_above_zero as is_above_zero_in, is_no_int as is_no_int_in, is_workgroup_length as is_workgroup_length_in, is_length as is_length_in, is_other_array as is_other_array_in, is_empty_struct as is_empty_struct_row, is_no_data as is_no_data_in, parts_of as parts_in, is_misformed as is_misformed_in, is_other_pointer as is_other_pointer_in, is_no_variable as is_no_variable_in, is_other_parameter as is_other_parameter_in, is_other_result as is_other_result_in, is_other_function as is_other_function_in, p17, p18, p19};
+ghost use Rattle.profile_rules.specs.TypeForm.{is_misused as is_misused_in, is_other_int as is_other_int_row, is_no_scalar as is_no_scalar_in, is_vector_size as is_vector_size_in, is_other_vector as is_other_vector_in, is_signed as is_signed_in, is_above_zero as is_above_zero_in, is_no_int as is_no_int_in, is_workgroup_length as is_workgroup_length_in, is_length as is_length_in, is_other_array as is_other_array_in, is_empty_struct as is_empty_struct_row, is_no_data as is_no_data_in, parts_of as parts_in, is_misformed as is_misformed_in, is_other_pointer as is_other_pointer_in, is_no_variable as is_no_variable_in, is_other_parameter as is_other_parameter_in, is_other_result as is_other_result_in, is_other_function as is_other_function_in, p17, p18, p19};
 ghost use Rattle.profile_rules.specs.Places.{is_defined_elsewhere};
 ghost use Rattle.declaration_check.specs.Checked.{IsChecked};
 ghost use Rattle.declaration_check.specs.Classes.{AreMisuses};
@@ -67,13 +67,19 @@ fn is_no_scalar(context: &Context, id: u32) -> bool
     }
 }
 
+/// Whether a vector may have so many components.
+fn is_vector_size(n: u32) -> bool
+    ensures { result ≡ is_vector_size_in n }
+{
+    2 <= n && n <= 4
+}
+
 /// OpTypeVector without two to four bool or int components.
 fn is_other_vector(context: &Context, inst: &Inst) -> bool
     ensures { result ≡ is_other_vector_in context.now inst.now }
 {
     inst.op == Op::TypeVector
-        && (!(2 <= inst.operand(1) && inst.operand(1) <= 4)
-            || is_no_scalar(context, inst.operand(0)))
+        && (!is_vector_size(inst.operand(1)) || is_no_scalar(context, inst.operand(0)))
 }
 
 /// Whether a type is OpTypeInt with a sign.
@@ -83,12 +89,15 @@ fn is_signed(context: &Context, id: u32) -> bool
     context.global(id).map_or(false, |inst| inst.has_sign())
 }
 
+// The word of the least int: this one and all above are negative.
+const LEAST_INT: u32 = 0x8000_0000;
+
 /// Whether OpConstant is above 0.
 fn is_above_zero(context: &Context, constant: &Inst) -> bool
     ensures { result ≡ is_above_zero_in context.now.globals constant.now }
 {
-    0 < constant.operand(0)
-        && !(is_signed(context, constant.ty) && 0x8000_0000 <= constant.operand(0))
+    let word = constant.operand(0);
+    0 < word && !(is_signed(context, constant.ty) && LEAST_INT <= word)
 }
 
 /// Whether a constant is of another type than int and uint.

@@ -4,6 +4,7 @@ use Rattle.spv_ops.specs.declared.Op.{Op}
 use Rattle.spv_ops.specs.declared.Op.TheVariants as code
 use Rattle.spv_module.specs.Lists.{id}
 use Rattle.spv_module.specs.declared.inst.Inst.{Inst}
+use Rattle.op_semantics.specs.Value.{not_extended}
 use Rattle.profile_rules.specs.MemoryRules.{pointee_of}
 use Rattle.name_alloc.specs.declared.claims.Key.TheVariants.{Id, Member}
 use Rattle.hoist_plan.specs.declared.form.Form.{Form}
@@ -61,7 +62,7 @@ whole_argument w value n = record { expr = value n; shape = shape_at w.setting.s
 
 abbrev pub logical_copy_text : Scope → (ℕ → Expr) → Inst → Expr
 logical_copy_text w value i =
-    w.lowered i.op 0 (shape_at w.setting.source i.ty) (whole_argument w value (slice_index i.args 0) ∷ []) []
+    w.lowered i.op not_extended (shape_at w.setting.source i.ty) (whole_argument w value (slice_index i.args 0) ∷ []) []
 
 abbrev pub by_kind : Scope → (ℕ → Expr) → ℕ → Inst → OperationKind → Expr
 by_kind w value block i kind.Undef = zero_at w.setting.source w.names i.ty
@@ -71,7 +72,7 @@ by_kind w value block i kind.CompositeExtract = extraction_text w value i
 by_kind w value block i kind.CompositeConstruct = construction_text w value i
 by_kind w value block i kind.CopyLogical = logical_copy_text w value i
 by_kind w value block i kind.Extended = operation_text w value (slice_index i.args 1) i (drop 2 i.args)
-by_kind w value block i kind.Plain = operation_text w value 0 i i.args
+by_kind w value block i kind.Plain = operation_text w value not_extended i i.args
 by_kind w value block i kind.Other = variable w i.result
 
 abbrev pub expression : Scope → (ℕ → Expr) → ℕ → Inst → Expr

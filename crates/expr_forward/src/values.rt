@@ -3,6 +3,7 @@ ghost use Rattle.std.specs.Prelude.{◌≡◌, ◌∷◌, [], IfOk, map};
 ghost use Rattle.glsl_ast.specs.Tree.{build, exprs_in, length_of as length_tree, type_name, uint};
 ghost use Rattle.glsl_ast.specs.View.{expr_of};
 ghost use Rattle.spv_index.specs.Locals.{inst_in};
+ghost use Rattle.op_semantics.specs.Value.{not_extended};
 ghost use Rattle.int_lowering.specs.Operand.{as_elem};
 ghost use Rattle.int_lowering.specs.Operator.{operated as operated_on, shift_amount};
 ghost use Rattle.vec_lowering.specs.Composite.{argument_of};
@@ -17,6 +18,7 @@ use glsl_ast::{Base, Expr, LStep, TypeName};
 use hoist_plan::Form;
 use int_lowering::{Arg, BasicType, Operator, basic_type, convert, literal, modulo_32};
 use name_alloc::Key;
+use op_semantics::NOT_EXTENDED;
 use spv_module::{Elem, Id, Inst};
 use spv_words::Memory;
 use std::alloc::Global;
@@ -132,7 +134,7 @@ impl BlockContext<'_, '_, '_> {
             OperationKind::Extended => self.lowered(deep, inst.operand(1), inst, after_two(args)),
             OperationKind::Plain => match args {
                 [a, b] => self.on_two(deep, inst, Id(*a), Id(*b)),
-                _ => self.lowered(deep, 0, inst, args),
+                _ => self.lowered(deep, NOT_EXTENDED, inst, args),
             },
             OperationKind::Other => self.variable(Id(inst.result)),
         }
@@ -200,7 +202,15 @@ impl BlockContext<'_, '_, '_> {
         let operands = self.whole_argument(deep, Id(inst.operand(0)))?;
         let shape = self.context.shape_at(self.alloc, inst.ty)?;
         let names = self.context.names();
-        lower_vector(self.alloc, inst.op, 0, shape, operands, &[], names)
+        lower_vector(
+            self.alloc,
+            inst.op,
+            NOT_EXTENDED,
+            shape,
+            operands,
+            &[],
+            names,
+        )
     }
 
     /// An operand of any shape.
@@ -247,13 +257,13 @@ impl BlockContext<'_, '_, '_> {
     #[cycle(value)]
     #[inline(always)]
     fn on_two(&self, deep: u32, inst: &Inst, a: Id, b: Id) -> Result<Expr, Memory>
-        ensures { IfOk result (λ e. expr_of e ≡ operation_text (scope_of self.now.context.now) (value_in_of (scope_of self.now.context.now) self.now.block deep) 0 inst.now (a.0 ∷ b.0 ∷ [])) }
+        ensures { IfOk result (λ e. expr_of e ≡ operation_text (scope_of self.now.context.now) (value_in_of (scope_of self.now.context.now) self.now.block deep) not_extended inst.now (a.0 ∷ b.0 ∷ [])) }
     {
         let ty = inst.ty;
         let basic = basic_type(&self.context.basic_shape(ty));
         match operator(inst.op, basic) {
             Some(by) => self.operated(deep, by, Known { ty, basic }, a, b),
-            None => self.lowered(deep, 0, inst, &[a.0, b.0]),
+            None => self.lowered(deep, NOT_EXTENDED, inst, &[a.0, b.0]),
         }
     }
 

@@ -1,15 +1,13 @@
 -- A space after a claim.
-use Rattle.std.proofs.Common.{◌≡◌, ◌<◌, ◌≤◌, ◌+◌, ◌-◌, ◌^◌, ◌||◌, ℕ, true, false, List, Bor, Option, None, Some, IsSome, is_some, option_map, refl, ap, sym, ◌∙◌, inl, inr, arith, subst, bytes_eq}
+use Rattle.std.proofs.Common.{◌≡◌, ◌<◌, ◌≤◌, ◌+◌, ◌-◌, ◌^◌, ◌||◌, ℕ, true, false, List, None, Some, refl, ap, sym, ◌∙◌, inl, inr, arith, subst, bytes_eq}
 use Rattle.std.specs.Map.{update}
-use Rattle.std.proofs.lemmas.Bool.{cases_Bool, false_from_ne_true, false≢true}
+use Rattle.std.proofs.lemmas.Bool.{cases_Bool, false_from_ne_true}
 use Rattle.std.proofs.lemmas.Bool.Decides.{eqb_tells}
 use Rattle.std.proofs.lemmas.Slice.Eq.{bytes_eq-Decides}
 use Rattle.std.proofs.Math.Bool.{or-true}
 use Rattle.std.proofs.lemmas.Option.{same_Some}
-use Rattle.glsl_ast.specs.View.{name_text}
-use Rattle.glsl_ast.specs.declared.names.Name.{Name}
 use Rattle.name_alloc.specs.Naming.{numbered, first_free, free_name}
-use Rattle.name_alloc.specs.Taken.{number_at, Held, is_held, held_count, claimed_name, IsNext, IsPut, IsSkipping, IsClaimed, KeepsPlaces}
+use Rattle.name_alloc.specs.Taken.{number_at, Held, is_held, held_count, claimed_name, IsNext, IsPut, IsSkipping, IsClaimed}
 use Rattle.name_alloc.proofs.First.{skips_taken, first_bounds, below_taken, all_taken}
 use Rattle.name_alloc.proofs.Crowd.{numbered_apart, one_free}
 
@@ -66,7 +64,6 @@ claimed_base old new base skips free put =
       skipping = skips_put old new base 2 skips put.puts (omega (arith, count)) (record { least = omega arith; most = omega arith; below = λ k low high. absurd (omega (arith, low, high)) });
       fresh = open_base;
       form = inl refl;
-      places = put.places;
     }
 
 -- the number that is found is the first free one, and it is free
@@ -82,10 +79,6 @@ number_free : (old : Held) (base : List ℕ) (number : ℕ) → held_count old <
 number_free old base number small found =
     false_from_ne_true (is_held old (numbered base number)) (λ h.
     one_free old base small (λ k low high. all_taken (λ k. is_held old (numbered base k)) (held_count old) 2 k (subst (λ n. is_held old (numbered base n) ≡ true) found h) low high))
-
--- what keeps its place twice keeps it
-keeps_both : (old mid new : Held) → KeepsPlaces old mid → KeepsPlaces mid new → KeepsPlaces old new
-keeps_both old mid new first second = record { each = λ place text h. second.each place text (first.each place text h) }
 
 -- the base was taken
 claimed_number : (old mid new : Held) (base name : List ℕ) (start number : ℕ) → IsSkipping old → held_count old < 2 ^ 63 → number_at old base ≡ Some start
@@ -131,7 +124,6 @@ claimed_number old mid new base name start number skips small at found is name_p
       });
       fresh = open_name;
       form = inr (number, is);
-      places = keeps_both old mid new name_put.places base_put.places;
     }
 
 -- what is held stays so where a base that is held is put again
@@ -172,17 +164,8 @@ claimed_again old first mid new base name start number skips small at again foun
       skipping = got.skipping;
       fresh = sym (held_again old first base 2 again.puts taken name) ∙ got.fresh;
       form = got.form;
-      places = keeps_both old first new again.places got.places;
     }
 
 -- the name is the one that the base takes
 pub claimed_is_name : (old new : Held) (base name : List ℕ) → IsClaimed old new base name → IsClaimed old new base (claimed_name old base)
 claimed_is_name old new base name c = subst (IsClaimed old new base) c.name_is c
-
--- a text that is found is there
-pub some_text : (found : Option (Bor Name)) (text : List ℕ) → option_map (λ t. name_text t.now) found ≡ Some text → IsSome found
-some_text None text h = absurd (false≢true (ap is_some h))
-some_text (Some t) text h = refl
-
-pub some_same_text : (a b : List ℕ) → Some a ≡ Some b → a ≡ b
-some_same_text a b e = cc

@@ -3,6 +3,7 @@ use Rattle.std.proofs.Common.{◌≡◌, ◌||◌, ◌⊎◌, ℕ, Bool, true, f
 use Rattle.std.proofs.lemmas.Bool.{cases_Bool, false≢true, or_parts}
 use Rattle.std.proofs.Math.Bool.{or-true}
 use Rattle.list_law.proofs.Lists.{same_bytes}
+use Rattle.glsl_ast.specs.declared.names.Name.{Name}
 use Rattle.name_alloc.specs.declared.claims.Claim.{Claim}
 use Rattle.name_alloc.specs.declared.claims.Key.{Key}
 use Rattle.name_alloc.specs.Base.{Text, base_of}
@@ -101,9 +102,9 @@ module _ (taken : AllTaken) (found : Key → Option Text) (held : AreHeld taken 
 no_name : {A : Type 0} (x : Text) → None ≡ Some x → A
 no_name x h = absurd (false≢true (ap is_some h))
 
-pub given_none : (spaces : Spaces) (places : Places) → ((key : Key) → place_in places key ≡ None) → AreGiven spaces places
-given_none spaces places e =
-    let nothing : (key : Key) → name_at spaces places key ≡ None = λ key. rw (e key) refl in
+pub given_none : (spaces : Spaces) (names : List Name) (places : Places) → ((key : Key) → place_in places key ≡ None) → AreGiven spaces names places
+given_none spaces names places e =
+    let nothing : (key : Key) → name_at names places key ≡ None = λ key. rw (e key) refl in
     record {
       held = λ key name h. no_name name (sym (nothing key) ∙ h);
       laws = record {
@@ -114,15 +115,15 @@ given_none spaces places e =
     }
 
 -- each claim keeps it
-pub given_step : (old new : Spaces) (places more : Places) (c : Claim) (name : Text) → IsNamed old new c name
-    → ((key : Key) → name_at new more key ≡ with_key (name_at old places) c.key name key) → ((key : Key) → is_some (name_at new more key) ≡ is_some (place_in more key))
-    → AreGiven old places → AreGiven new more
-given_step old new places more c name named found stand given =
-    let same : name_at new more ≡ with_key (name_at old places) c.key name = λ i key. found key i in
-    let held : AreHeld (with_name (taken_of old) (space_of c.key) name) (with_key (name_at old places) c.key name) = held_more (taken_of old) (name_at old places) given.held given.laws c.key name named.fresh named.law in
+pub given_step : (old new : Spaces) (names later : List Name) (places more : Places) (c : Claim) (name : Text) → IsNamed old new c name
+    → ((key : Key) → name_at later more key ≡ with_key (name_at names places) c.key name key) → ((key : Key) → is_some (name_at later more key) ≡ is_some (place_in more key))
+    → AreGiven old names places → AreGiven new later more
+given_step old new names later places more c name named found stand given =
+    let same : name_at later more ≡ with_key (name_at names places) c.key name = λ i key. found key i in
+    let held : AreHeld (with_name (taken_of old) (space_of c.key) name) (with_key (name_at names places) c.key name) = held_more (taken_of old) (name_at names places) given.held given.laws c.key name named.fresh named.law in
     record {
-      held = subst (λ t. AreHeld t (name_at new more)) (sym named.taken) (subst (AreHeld (with_name (taken_of old) (space_of c.key) name)) (sym same) held);
-      laws = subst AreNames (sym same) (names_more (taken_of old) (name_at old places) given.held given.laws c.key name named.fresh named.law);
+      held = subst (λ t. AreHeld t (name_at later more)) (sym named.taken) (subst (AreHeld (with_name (taken_of old) (space_of c.key) name)) (sym same) held);
+      laws = subst AreNames (sym same) (names_more (taken_of old) (name_at names places) given.held given.laws c.key name named.fresh named.law);
       stand = stand;
     }
 

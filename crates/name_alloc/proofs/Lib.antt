@@ -5,7 +5,6 @@ pub mod Words
 pub mod Lettered
 pub mod Lawful
 pub mod Crowd
-pub mod Standing
 pub mod Updated
 pub mod Claimed
 pub mod Placed

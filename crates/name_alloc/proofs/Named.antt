@@ -1,23 +1,24 @@
 -- Spaces and names after a claim.
-use Rattle.std.proofs.Common.{◌≡◌, ◌+◌, ◌||◌, ◌==◌, ◌⊎◌, ℕ, Bool, true, false, cond, List, [], ◌∷◌, Option, None, Some, is_some, option_map, refl, ap, sym, ◌∙◌, inl, inr, subst, bytes_eq, option_and_then}
+use Rattle.std.proofs.Common.{◌≡◌, ◌+◌, ◌||◌, ◌==◌, ◌⊎◌, ◌++◌, ℕ, zero, suc, length, Bool, true, false, cond, List, [], ◌∷◌, Option, None, Some, is_some, option_map, refl, ap, sym, ◌∙◌, inl, inr, subst, bytes_eq, option_and_then}
 use Rattle.std.specs.Ordering.{nat_cmp, is_eq}
 use Rattle.std.specs.BTreeMap.{get}
 use Rattle.std.proofs.lemmas.Bool.{cases_Bool, false≢true}
 use Rattle.std.proofs.lemmas.Bool.Decides.{eqb_tells}
 use Rattle.list_law.proofs.Numbers.{order_same}
+use Rattle.glsl_ast.specs.View.{name_text}
+use Rattle.glsl_ast.specs.declared.names.Name.{Name}
 use Rattle.name_alloc.specs.declared.claims.Claim.{Claim}
 use Rattle.name_alloc.specs.declared.claims.Key.{Key}
 use Rattle.name_alloc.specs.Base.{Text}
 use Rattle.name_alloc.specs.Naming.{space_of, same_space, free_name, claim_base, claim_name, with_name, with_key, none_taken, names_from, name_of, numbered}
 use Rattle.name_alloc.specs.Keys.{same_key}
 use Rattle.name_alloc.specs.Law.{IsNameFor}
-use Rattle.name_alloc.proofs.Lawful.{name_for, own_space}
-use Rattle.name_alloc.specs.Taken.{Held, number_at, is_held, held_count, text_at, IsSkipping, IsClaimed}
+use Rattle.name_alloc.proofs.Lawful.{name_for}
+use Rattle.name_alloc.specs.Taken.{Held, number_at, is_held, held_count, claimed_name, IsSkipping, IsClaimed}
 use Rattle.name_alloc.specs.declared.space.Spaces.{Spaces}
 use Rattle.name_alloc.specs.declared.places.Places.{Places}
 use Rattle.name_alloc.specs.Places.{place_in}
-use Rattle.name_alloc.specs.Given.{Members, held_at, text_in, taken_of, AreSkipping, IsSpaceOf, IsHeldOut, IsNamed, name_at}
-use Rattle.name_alloc.proofs.Keyed.{key_tells}
+use Rattle.name_alloc.specs.Given.{Members, held_at, taken_of, AreSkipping, IsSpaceOf, IsHeldOut, IsNamed, text_at, name_at}
 
 -- the test tells
 same_tells : (s o : Option ℕ) → same_space s o ≡ true → s ≡ o
@@ -45,11 +46,10 @@ space_none held empty = record {
   has = λ text. rw empty refl;
   count = rw empty refl;
   skipping = λ skips. record { next = λ base next h. none_some next (let nothing : number_at held base ≡ None = rw empty refl in sym nothing ∙ h) };
-  texts = λ place. rw empty refl;
 }
 
 pub space_some : (held : Held) → IsSpaceOf (Some held) held
-space_some held = record { has = λ text. refl; count = refl; skipping = λ skips. skips held refl; texts = λ place. refl }
+space_some held = record { has = λ text. refl; count = refl; skipping = λ skips. skips held refl }
 
 pub held_out_none : (old : Members) (block : ℕ) (held : Held) (rest : Members) → held.entries ≡ [] → get nat_cmp old block ≡ None → TakenOut old block rest → IsHeldOut old block held rest
 held_out_none old block held rest empty none out = record { space = subst (λ found. IsSpaceOf found held) (sym none) (space_none held empty); others = out }
@@ -74,6 +74,14 @@ pub back_members : (old : Spaces) (block : ℕ) (held : Held) (rest : Members) (
 back_members old block held rest now new out text put None = ap Some text
 back_members old block held rest now new out text put (Some other) =
     put other ∙ (ap (λ r. cond (is_eq (nat_cmp block other)) (Some now) r) (out.others other) ∙ cond_twice (is_eq (nat_cmp block other)) (block == other) (Some now) (get nat_cmp old.members other) (order_same block other))
+
+-- the name that a base takes in its space is that of the claim
+pub name_now : (old : Spaces) (space : Option ℕ) (held : Held) (base : Text) → IsSpaceOf (held_at old space) held → (c : Claim) → space ≡ space_of c.key → base ≡ claim_base c → claimed_name held base ≡ claim_name (taken_of old) c
+name_now old space held base out c s b =
+    let has : is_held held ≡ (taken_of old).has space = λ i text. out.has text i in
+    let own : claimed_name held base ≡ free_name ((taken_of old).has space) ((taken_of old).count space) base = ap (λ f. free_name f (held_count held) base) has ∙ ap (λ n. free_name ((taken_of old).has space) n base) out.count in
+    let here : claimed_name held base ≡ free_name ((taken_of old).has (space_of c.key)) ((taken_of old).count (space_of c.key)) base = subst (λ o. claimed_name held base ≡ free_name ((taken_of old).has o) ((taken_of old).count o) base) s own in
+    here ∙ ap (λ t. free_name ((taken_of old).has (space_of c.key)) ((taken_of old).count (space_of c.key)) t) b
 
 -- the space with one more name is put back
 module _ (old : Spaces) (space : Option ℕ) (held : Held) (now : Held) (base name : Text) (new : Spaces) (out : IsSpaceOf (held_at old space) held) (claimed : IsClaimed held now base name) (back : Back old space now new) where
@@ -113,26 +121,6 @@ module _ (old : Spaces) (space : Option ℕ) (held : Held) (now : Held) (base na
         ];
   }
 
-  -- each name keeps its place
-  pub places_now : (other : Option ℕ) (place : ℕ) (text : Text) → text_in old other place ≡ Some text → text_in new other place ≡ Some text
-  places_now other place text h =
-      elim (cases_Bool (same_space space other)) [
-        | inl w ↦
-            let was : text_at held place ≡ text_in old other place = subst (λ o. text_at held place ≡ text_in old o place) (same_tells space other w) (out.texts place) in
-            rw (at_same other w) (claimed.places.each place text (was ∙ h))
-        | inr w ↦ rw (at_other other w) h
-      ]
-
-  pub stands_now : (place : ℕ) → text_at now place ≡ Some name → text_in new space place ≡ Some name
-  stands_now place h = rw (at_same space (own_space space)) h
-
-  pub name_now : (c : Claim) → space ≡ space_of c.key → base ≡ claim_base c → name ≡ claim_name (taken_of old) c
-  name_now c s b =
-      let has : is_held held ≡ (taken_of old).has space = λ i text. out.has text i in
-      let own : name ≡ free_name ((taken_of old).has space) ((taken_of old).count space) base = claimed.name_is ∙ (ap (λ f. free_name f (held_count held) base) has ∙ ap (λ n. free_name ((taken_of old).has space) n base) out.count) in
-      let here : name ≡ free_name ((taken_of old).has (space_of c.key)) ((taken_of old).count (space_of c.key)) base = subst (λ o. name ≡ free_name ((taken_of old).has o) ((taken_of old).count o) base) s own in
-      here ∙ ap (λ t. free_name ((taken_of old).has (space_of c.key)) ((taken_of old).count (space_of c.key)) t) b
-
   fresh_now : (taken_of old).has space name ≡ false
   fresh_now = sym (out.has name) ∙ claimed.fresh
 
@@ -145,14 +133,10 @@ module _ (old : Spaces) (space : Option ℕ) (held : Held) (now : Held) (base na
     skipping = skipping_now skips;
     fresh = subst (λ o. (taken_of old).has o name ≡ false) s fresh_now;
     law = law_now c b;
-    places = places_now;
   }
 
   pub named_now : (c : Claim) → AreSkipping old → space ≡ space_of c.key → base ≡ claim_base c → IsNamed old new c (claim_name (taken_of old) c)
-  named_now c skips s b = subst (IsNamed old new c) (name_now c s b) (named_by c skips s b)
-
-  pub named_at : (c : Claim) (place : ℕ) → space ≡ space_of c.key → base ≡ claim_base c → text_at now place ≡ Some name → text_in new (space_of c.key) place ≡ Some (claim_name (taken_of old) c)
-  named_at c place s b h = subst (λ o. text_in new o place ≡ Some (claim_name (taken_of old) c)) s (stands_now place h ∙ ap Some (name_now c s b))
+  named_now c skips s b = subst (IsNamed old new c) (claimed.name_is ∙ name_now old space held base out c s b) (named_by c skips s b)
 
 -- at first nothing is taken or named
 abbrev pub Empty : Spaces → Type 0
@@ -180,59 +164,69 @@ taken_empty spaces e = λ i. record { has = λ s t. first_has spaces e s t i; co
 abbrev NoPlaces : Places → Type 0
 NoPlaces places = (key : Key) → place_in places key ≡ None
 
-pub named_none : (spaces : Spaces) (places : Places) (key : Key) → NoPlaces places → name_at spaces places key ≡ None
-named_none spaces places key none = rw (none key) refl
+pub named_none : (names : List Name) (places : Places) (key : Key) → NoPlaces places → name_at names places key ≡ None
+named_none names places key none = rw (none key) refl
 
-pub names_begin : (spaces : Spaces) (places : Places) (claims : List Claim) → Empty spaces → NoPlaces places → (key : Key) → names_from (taken_of spaces) (name_at spaces places) claims key ≡ name_of claims key
-names_begin spaces places claims e none key =
-    ap (λ t. names_from t (name_at spaces places) claims key) (taken_empty spaces e)
-    ∙ ap (λ g. names_from none_taken g claims key) (λ i k. named_none spaces places k none i)
+pub names_begin : (spaces : Spaces) (names : List Name) (places : Places) (claims : List Claim) → Empty spaces → NoPlaces places → (key : Key) → names_from (taken_of spaces) (name_at names places) claims key ≡ name_of claims key
+names_begin spaces names places claims e none key =
+    ap (λ t. names_from t (name_at names places) claims key) (taken_empty spaces e)
+    ∙ ap (λ g. names_from none_taken g claims key) (λ i k. named_none names places k none i)
+
+-- what stands at a place stays there when one more is put behind, and that one stands there
+stays_at : (names : List Name) (more : Name) (place : ℕ) (text : Text) → text_at names place ≡ Some text → text_at (names ++ more ∷ []) place ≡ Some text
+stays_at [] more place text h = none_some text h
+stays_at (n ∷ names) more zero text h = h
+stays_at (n ∷ names) more (suc place) text h = stays_at names more place text h
+
+stands_at : (names : List Name) (more : Name) → text_at (names ++ more ∷ []) (length names) ≡ Some (name_text more)
+stands_at [] more = refl
+stands_at (n ∷ names) more = stands_at names more
 
 -- each claim adds its name
-module _ (old new : Spaces) (places more : Places) (key : Key) (name : Text) (place : ℕ)
-    (put : (k : Key) → place_in more k ≡ cond (same_key key k) (Some place) (place_in places k))
-    (stand : (k : Key) → is_some (name_at old places k) ≡ is_some (place_in places k))
-    (keeps : (space : Option ℕ) (at : ℕ) (text : Text) → text_in old space at ≡ Some text → text_in new space at ≡ Some text)
-    (stands : text_in new (space_of key) place ≡ Some name) where
-  found_own : (k : Key) → key ≡ k → place_in more k ≡ Some place → name_at new more k ≡ Some name
-  found_own k same at = rw at (subst (λ q. text_in new (space_of q) place ≡ Some name) same stands)
+module _ (names : List Name) (places more : Places) (key : Key) (name : Name)
+    (put : (k : Key) → place_in more k ≡ cond (same_key key k) (Some (length names)) (place_in places k))
+    (stand : (k : Key) → is_some (name_at names places k) ≡ is_some (place_in places k)) where
+  abbrev now : List Name
+  now = names ++ name ∷ []
+
+  found_own : (k : Key) → place_in more k ≡ Some (length names) → name_at now more k ≡ Some (name_text name)
+  found_own k at = rw at (stands_at names name)
 
   -- a name that stood at its place stands there
-  kept_at : (k : Key) (at : ℕ) (found : Option Text) → text_in old (space_of k) at ≡ found → is_some found ≡ true → text_in new (space_of k) at ≡ found
-  kept_at k at None e h = absurd (false≢true h)
-  kept_at k at (Some text) e h = keeps (space_of k) at text e
+  kept_at : (place : ℕ) (found : Option Text) → text_at names place ≡ found → is_some found ≡ true → text_at now place ≡ found
+  kept_at place None e h = absurd (false≢true h)
+  kept_at place (Some text) e h = stays_at names name place text e
 
-  kept_by : (k : Key) (found : Option ℕ) → is_some (option_and_then (text_in old (space_of k)) found) ≡ is_some found → option_and_then (text_in new (space_of k)) found ≡ option_and_then (text_in old (space_of k)) found
-  kept_by k None h = refl
-  kept_by k (Some at) h = kept_at k at (text_in old (space_of k) at) refl h
+  kept_by : (found : Option ℕ) → is_some (option_and_then (text_at names) found) ≡ is_some found → option_and_then (text_at now) found ≡ option_and_then (text_at names) found
+  kept_by None h = refl
+  kept_by (Some place) h = kept_at place (text_at names place) refl h
 
-  pub found_put : (k : Key) → name_at new more k ≡ with_key (name_at old places) key name k
+  pub found_put : (k : Key) → name_at now more k ≡ with_key (name_at names places) key (name_text name) k
   found_put k =
       elim (cases_Bool (same_key key k)) [
         | inl w ↦
-            let at : place_in more k ≡ Some place = rw (put k, w) refl in
-            rw w (found_own k (key_tells key k w) at)
+            let at : place_in more k ≡ Some (length names) = rw (put k, w) refl in
+            rw w (found_own k at)
         | inr w ↦
             let at : place_in more k ≡ place_in places k = rw (put k, w) refl in
-            rw w (ap (option_and_then (text_in new (space_of k))) at ∙ kept_by k (place_in places k) (stand k))
+            rw w (ap (option_and_then (text_at now)) at ∙ kept_by (place_in places k) (stand k))
       ]
 
-  pub stand_put : (k : Key) → is_some (name_at new more k) ≡ is_some (place_in more k)
+  pub stand_put : (k : Key) → is_some (name_at now more k) ≡ is_some (place_in more k)
   stand_put k =
       elim (cases_Bool (same_key key k)) [
         | inl w ↦
-            let at : place_in more k ≡ Some place = rw (put k, w) refl in
-            let found : name_at new more k ≡ Some name = found_own k (key_tells key k w) at in
-            ap is_some found ∙ sym (ap is_some at)
+            let at : place_in more k ≡ Some (length names) = rw (put k, w) refl in
+            ap is_some (found_own k at) ∙ sym (ap is_some at)
         | inr w ↦
             let at : place_in more k ≡ place_in places k = rw (put k, w) refl in
-            let found : name_at new more k ≡ name_at old places k = ap (option_and_then (text_in new (space_of k))) at ∙ kept_by k (place_in places k) (stand k) in
+            let found : name_at now more k ≡ name_at names places k = ap (option_and_then (text_at now)) at ∙ kept_by (place_in places k) (stand k) in
             ap is_some found ∙ (stand k ∙ sym (ap is_some at))
       ]
 
-pub names_step : (old new : Spaces) (places more : Places) (c : Claim) (rest : List Claim) → IsNamed old new c (claim_name (taken_of old) c)
-    → ((k : Key) → name_at new more k ≡ with_key (name_at old places) c.key (claim_name (taken_of old) c) k)
-    → (key : Key) → names_from (taken_of old) (name_at old places) (c ∷ rest) key ≡ names_from (taken_of new) (name_at new more) rest key
-names_step old new places more c rest named found key =
-    ap (λ t. names_from t (with_key (name_at old places) c.key (claim_name (taken_of old) c)) rest key) (sym named.taken)
+pub names_step : (old new : Spaces) (names later : List Name) (places more : Places) (c : Claim) (rest : List Claim) → IsNamed old new c (claim_name (taken_of old) c)
+    → ((k : Key) → name_at later more k ≡ with_key (name_at names places) c.key (claim_name (taken_of old) c) k)
+    → (key : Key) → names_from (taken_of old) (name_at names places) (c ∷ rest) key ≡ names_from (taken_of new) (name_at later more) rest key
+names_step old new names later places more c rest named found key =
+    ap (λ t. names_from t (with_key (name_at names places) c.key (claim_name (taken_of old) c)) rest key) (sym named.taken)
     ∙ ap (λ f. names_from (taken_of new) f rest key) (λ i k. sym (found k) i)

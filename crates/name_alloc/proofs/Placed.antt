@@ -2,7 +2,7 @@
 use Rattle.std.proofs.Common.{◌≡◌, ℕ, false, cond, Some, refl}
 use Rattle.std.specs.declared.hash.BuildHasherDefault.{BuildHasherDefault}
 use Rattle.std.specs.declared.hash.FoldHasher.{FoldHasher}
-use Rattle.indexmap.specs.IndexMap.{IndexMap, get}
+use Rattle.std.specs.HashMap.{HashMap, get}
 use Rattle.spv_module.specs.declared.inst.Id.{Id as Number}
 use Rattle.name_alloc.specs.Keys.{same_key}
 use Rattle.name_alloc.specs.Places.{place_in}
@@ -23,7 +23,7 @@ apart (Captured a b) other id = refl
 apart (Spare a b c) other id = refl
 
 -- the places after one is put for a key that is no id
-pub put_other : (old : Places) (more : IndexMap Key ℕ (BuildHasherDefault FoldHasher)) (key : Key) (place : ℕ) → ((id : Number) → key ≡ Id id → ⊥)
+pub put_other : (old : Places) (more : HashMap Key ℕ (BuildHasherDefault FoldHasher)) (key : Key) (place : ℕ) → ((id : Number) → key ≡ Id id → ⊥)
     → ((k : Key) → get same_key more k ≡ cond (same_key key k) (Some place) (get same_key old.others k))
     → (k : Key) → place_in (record { ids = old.ids; others = more }) k ≡ cond (same_key key k) (Some place) (place_in old k)
 put_other old more key place other put (Id id) = rw (apart key other id) refl

@@ -1,8 +1,10 @@
--- The names of keys, and what is taken, as maps hold them.
-use Rattle.std.specs.Prelude.{ℕ, ◌≡◌, Option, Some, None, true, false, is_some, option_and_then, if◌then◌else◌}
+-- The names of keys, and what is taken, as maps and lists hold them.
+use Rattle.std.specs.Prelude.{ℕ, ◌≡◌, List, Option, Some, None, true, false, is_some, option_and_then, option_map, slice_get, if◌then◌else◌}
 use Rattle.std.specs.Option.{option_map_or}
 use Rattle.std.specs.BTreeMap.{BTreeMap, get}
 use Rattle.std.specs.Ordering.{is_eq, nat_cmp}
+use Rattle.glsl_ast.specs.View.{name_text}
+use Rattle.glsl_ast.specs.declared.names.Name.{Name}
 use Rattle.name_alloc.specs.Law.{IsNameFor, AreNames}
 use Rattle.name_alloc.specs.declared.claims.Claim.{Claim}
 use Rattle.name_alloc.specs.declared.claims.Key.{Key}
@@ -11,7 +13,7 @@ use Rattle.name_alloc.specs.declared.places.Places.{Places}
 use Rattle.name_alloc.specs.Places.{place_in}
 use Rattle.name_alloc.specs.Base.{Text}
 use Rattle.name_alloc.specs.Naming.{Taken as AllTaken, space_of, with_name}
-use Rattle.name_alloc.specs.Taken.{Held, is_held, held_count, text_at, IsSkipping}
+use Rattle.name_alloc.specs.Taken.{Held, is_held, held_count, IsSkipping}
 
 -- the spaces of structs
 abbrev pub Members : Type 0
@@ -20,10 +22,6 @@ Members = BTreeMap ℕ Held
 abbrev pub held_at : Spaces → Option ℕ → Option Held
 held_at spaces None = Some spaces.text
 held_at spaces (Some block) = get nat_cmp spaces.members block
-
--- the name at a place in a space
-abbrev pub text_in : Spaces → Option ℕ → ℕ → Option Text
-text_in spaces space place = option_and_then (λ held. text_at held place) (held_at spaces space)
 
 -- what the spaces hold
 abbrev pub taken_of : Spaces → AllTaken
@@ -40,7 +38,6 @@ pub record AreSkipping (spaces : Spaces) : Type 0 where
 pub record IsSpaceOf (found : Option Held) (held : Held) : Type 0 where
   pub has : (text : Text) → is_held held text ≡ option_map_or (λ h. is_held h text) found false
   pub count : held_count held ≡ option_map_or held_count found 0
-  pub texts : (place : ℕ) → text_at held place ≡ option_and_then (λ h. text_at h place) found
   pub skipping : ((h : Held) → found ≡ Some h → IsSkipping h) → IsSkipping held
 
 -- the space of a struct is taken out: what it held, or an empty one
@@ -54,14 +51,17 @@ pub record IsNamed (old new : Spaces) (c : Claim) (name : Text) : Type 0 where
   pub skipping : AreSkipping new
   pub fresh : (taken_of old).has (space_of c.key) name ≡ false
   pub law : IsNameFor c.key name
-  pub places : (space : Option ℕ) (place : ℕ) (text : Text) → text_in old space place ≡ Some text → text_in new space place ≡ Some text
+
+-- the name at a place
+abbrev pub text_at : List Name → ℕ → Option Text
+text_at names place = option_map name_text (slice_get names place)
 
 -- the name of a key
-abbrev pub name_at : Spaces → Places → Key → Option Text
-name_at spaces places key = option_and_then (text_in spaces (space_of key)) (place_in places key)
+abbrev pub name_at : List Name → Places → Key → Option Text
+name_at names places key = option_and_then (text_at names) (place_in places key)
 
 -- the names that were given are held, and are as the law asks; each place is that of a name
-pub record AreGiven (spaces : Spaces) (places : Places) : Type 0 where
-  pub held : (key : Key) (name : Text) → name_at spaces places key ≡ Some name → (taken_of spaces).has (space_of key) name ≡ true
-  pub laws : AreNames (name_at spaces places)
-  pub stand : (key : Key) → is_some (name_at spaces places key) ≡ is_some (place_in places key)
+pub record AreGiven (spaces : Spaces) (names : List Name) (places : Places) : Type 0 where
+  pub held : (key : Key) (name : Text) → name_at names places key ≡ Some name → (taken_of spaces).has (space_of key) name ≡ true
+  pub laws : AreNames (name_at names places)
+  pub stand : (key : Key) → is_some (name_at names places key) ≡ is_some (place_in places key)

@@ -6,4 +6,4 @@ use Rattle.name_alloc.specs.Base.{Text}
 use Rattle.name_alloc.specs.Given.{name_at}
 
 unfoldable pub name_in : Names → Key → Option Text
-name_in names key = name_at names.spaces names.places key
+name_in names key = name_at names.names.items names.places key

@@ -1,7 +1,7 @@
 -- The places of names, as maps hold them.
 use Rattle.std.specs.Prelude.{ℕ, Option}
 use Rattle.id_map.specs.Entries.{id_place}
-use Rattle.indexmap.specs.IndexMap.{get}
+use Rattle.std.specs.HashMap.{get}
 use Rattle.name_alloc.specs.Keys.{same_key}
 use Rattle.name_alloc.specs.declared.claims.Key.{Key}
 use Rattle.name_alloc.specs.declared.claims.Key.TheVariants.{Id}

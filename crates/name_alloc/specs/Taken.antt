@@ -1,7 +1,7 @@
 -- The names that a space holds.
-use Rattle.std.specs.Prelude.{ℕ, ◌≡◌, ◌+◌, ◌<◌, ◌≤◌, ◌||◌, ◌⊎◌, Bool, true, false, List, Option, Some, is_some, bytes_eq, option_map, slice_get, if◌then◌else◌}
+use Rattle.std.specs.Prelude.{ℕ, ◌≡◌, ◌+◌, ◌<◌, ◌≤◌, ◌||◌, ◌⊎◌, Bool, true, false, List, Option, Some, is_some, bytes_eq, if◌then◌else◌}
 use Rattle.std.specs.Map.{update}
-use Rattle.indexmap.specs.IndexMap.{IndexMap, get_by, index_map_len}
+use Rattle.std.specs.HashMap.{HashMap, get_by, hash_map_len}
 use Rattle.glsl_ast.specs.View.{name_text}
 use Rattle.glsl_ast.specs.declared.names.Name.{Name}
 use Rattle.std.specs.declared.hash.BuildHasherDefault.{BuildHasherDefault}
@@ -9,7 +9,7 @@ use Rattle.std.specs.declared.hash.FoldHasher.{FoldHasher}
 use Rattle.name_alloc.specs.Naming.{numbered, free_name}
 
 abbrev pub Held : Type 0
-Held = IndexMap Name ℕ (BuildHasherDefault FoldHasher)
+Held = HashMap Name ℕ (BuildHasherDefault FoldHasher)
 
 -- the number that is tried first behind a name that is held
 abbrev pub number_at : Held → List ℕ → Option ℕ
@@ -19,21 +19,12 @@ abbrev pub is_held : Held → List ℕ → Bool
 is_held space text = is_some (number_at space text)
 
 abbrev pub held_count : Held → ℕ
-held_count space = index_map_len space
-
--- the name at a place
-abbrev pub text_at : Held → ℕ → Option (List ℕ)
-text_at space place = option_map (λ e. name_text e.0) (slice_get space.entries place)
-
--- each name keeps its place
-pub record KeepsPlaces (old new : Held) : Type 0 where
-  pub each : (place : ℕ) (text : List ℕ) → text_at old place ≡ Some text → text_at new place ≡ Some text
+held_count space = hash_map_len space
 
 -- the number is put at the text
 pub record IsPut (old new : Held) (text : List ℕ) (number : ℕ) : Type 0 where
   pub puts : (t : List ℕ) → number_at new t ≡ update bytes_eq (number_at old) text (Some number) t
   pub count : held_count new ≡ held_count old + (if is_held old text then 0 else 1)
-  pub places : KeepsPlaces old new
 
 -- the numbers from 2 on and below this one are taken behind the base
 pub record IsNext (taken : List ℕ → Bool) (count : ℕ) (base : List ℕ) (next : ℕ) : Type 0 where
@@ -57,4 +48,3 @@ pub record IsClaimed (old new : Held) (base name : List ℕ) : Type 0 where
   pub skipping : IsSkipping new
   pub fresh : is_held old name ≡ false
   pub form : (name ≡ base) ⊎ ((n : ℕ) × (name ≡ numbered base n))
-  pub places : KeepsPlaces old new

@@ -6,7 +6,6 @@ ghost use Rattle.name_alloc.specs.declared.claims.Key.TheVariants.{Id as IdOf};
 ghost use Rattle.name_alloc.specs.Naming.{space_of as space_of_key};
 
 use crate::places::Places;
-use crate::space::Spaces;
 use glsl_ast::Name;
 use spv_module::Id;
 use std::hash::{Hash, Hasher};
@@ -82,10 +81,10 @@ pub(crate) fn space_of(key: Key) -> Option<u32>
     }
 }
 
-/// The names of keys: those of each space, and where each key's name stands.
+/// The names of keys in the order of their claims, and where each key's name stands.
 #[derive(Drop)]
 pub struct Names {
-    pub(crate) spaces: Spaces,
+    pub(crate) names: Vec<Name>,
     pub(crate) places: Places,
 }
 
@@ -107,21 +106,15 @@ impl Names {
     fn of_id(&self, id: Id) -> Option<&Name>
         ensures { option_map (λ name. name_text name.now) result ≡ name_in self.now (IdOf id) }
     {
-        match self.places.of_id(id) {
-            None => None,
-            Some(place) => self.spaces.name(None, place),
-        }
+        self.names.get(self.places.of_id(id)?)
     }
 
-    /// The name of a key, by its space.
+    /// The name of any key.
     #[inline(never)]
     #[tactic(auto, unfolding(crate::specs::Lookup::name_in))]
     fn of_other(&self, key: Key) -> Option<&Name>
         ensures { option_map (λ name. name_text name.now) result ≡ name_in self.now key }
     {
-        match self.places.of(key) {
-            None => None,
-            Some(place) => self.spaces.name(space_of(key), place),
-        }
+        self.names.get(self.places.of(key)?)
     }
 }

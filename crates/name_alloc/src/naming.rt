@@ -1,16 +1,18 @@
 // The names of claims in their order.
-ghost use Rattle.std.specs.Prelude.{◌≡◌, ◌++◌, false, List, Some, IfOk, OnOk, is_some};
+ghost use Rattle.std.specs.Prelude.{◌≡◌, ◌++◌, false, List, IfOk, OnOk, is_some};
+ghost use Rattle.glsl_ast.specs.View.{name_text};
 ghost use Rattle.name_alloc.specs.declared.claims.Claim.{Claim};
 ghost use Rattle.name_alloc.specs.declared.claims.Key.{Key};
-ghost use Rattle.name_alloc.specs.Naming.{name_of, claim_name, is_claimed, space_of as space_of_key};
+ghost use Rattle.name_alloc.specs.Naming.{name_of, claim_name, is_claimed};
 ghost use Rattle.name_alloc.specs.Law.{AreNames};
-ghost use Rattle.name_alloc.specs.Given.{taken_of, text_in, AreSkipping, IsHeldOut, IsNamed};
+ghost use Rattle.name_alloc.specs.Given.{taken_of, AreSkipping, IsHeldOut, IsNamed};
 ghost use Rattle.name_alloc.specs.Lookup.{name_in};
 
 use crate::base::base;
 use crate::claims::{Claim, Names, space_of};
 use crate::places::Places;
 use crate::space::{Members, Space, Spaces, claim};
+use glsl_ast::Name;
 use spv_words::Memory;
 use std::alloc::Global;
 use std::collections::BTreeMap;
@@ -25,20 +27,20 @@ fn held_in(alloc: Global, members: &mut Members, block: u32) -> Space
     }
 }
 
-/// Takes the name of a claim in its space, and gives the name's place there.
-fn name_claim(alloc: Global, spaces: &mut Spaces, claimed: &Claim) -> Result<usize, Memory>
+/// Takes the name of a claim in its space, and gives it.
+fn name_claim(alloc: Global, spaces: &mut Spaces, claimed: &Claim) -> Result<Name, Memory>
     requires { AreSkipping spaces.old }
     ensures named { OnOk result (IsNamed spaces.old spaces.new claimed.now (claim_name (taken_of spaces.old) claimed.now)) }
-    ensures stands { IfOk result (λ place. text_in spaces.new (space_of_key claimed.now.key) place ≡ Some (claim_name (taken_of spaces.old) claimed.now)) }
+    ensures name { IfOk result (λ name. name_text name ≡ claim_name (taken_of spaces.old) claimed.now) }
 {
     let base = base(alloc, claimed.key, &claimed.given)?;
     match space_of(claimed.key) {
         None => claim(alloc, &mut spaces.text, base),
         Some(block) => {
             let mut held = held_in(alloc, &mut spaces.members, block);
-            let place = claim(alloc, &mut held, base)?;
+            let name = claim(alloc, &mut held, base)?;
             spaces.members.insert(block, held)?;
-            Ok(place)
+            Ok(name)
         }
     }
 }
@@ -61,10 +63,11 @@ pub fn names(alloc: Global, claims: &[Claim]) -> Result<Names, Memory>
         text: Space::with_capacity(alloc, claims.len())?,
         members: BTreeMap::new(alloc),
     };
+    let mut names = Vec::with_capacity(alloc, claims.len())?;
     let mut places = Places::for_claims(alloc, claims)?;
     for claimed in claims {
-        let place = name_claim(alloc, &mut spaces, claimed)?;
-        places.put(claimed.key, place)?;
+        places.put(claimed.key, names.len())?;
+        names.push(name_claim(alloc, &mut spaces, claimed)?)?;
     }
-    Ok(Names { spaces, places })
+    Ok(Names { names, places })
 }

@@ -7,16 +7,16 @@ ghost use Rattle.name_alloc.specs.Places.{place_in};
 
 use crate::claims::{Claim, Key};
 use id_map::{PlaceMap, Span};
-use indexmap::IndexMap;
 use spv_module::Id;
 use spv_words::Memory;
 use std::alloc::Global;
+use std::collections::HashMap;
 
-/// The place of each key's name among the names of its space. Most keys are ids, whose places are found at once.
+/// The place of each key's name among the names. Most keys are ids, whose places are found at once.
 #[derive(Drop)]
 pub struct Places {
     ids: PlaceMap,
-    others: IndexMap<Key, usize>,
+    others: HashMap<Key, usize>,
 }
 
 /// The ids that are claimed.
@@ -37,7 +37,7 @@ impl Places {
     {
         Ok(Places {
             ids: PlaceMap::spanning(alloc, span(claims))?,
-            others: IndexMap::new(alloc),
+            others: HashMap::new(alloc),
         })
     }
 

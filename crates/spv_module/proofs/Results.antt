@@ -2,13 +2,12 @@
 use Rattle.std.proofs.Common.{◌≡◌, ◌<◌, ◌∙◌, ◌==◌, ◌⊎◌, ◌≢◌, ℕ, Bool, true, false, List, ap, sym, refl, inl, inr, length, get_or, set, arith}
 use Rattle.std.proofs.lemmas.List.{get_or-map, get_or-set_same, get_or-set_other}
 use Rattle.std.proofs.lemmas.Bool.Decides.{nat_tests}
-use Rattle.spv_words.specs.Words.{insts, nth_inst}
+use Rattle.spv_words.specs.Words.{insts, no_inst, nth_inst}
 use Rattle.spv_module.specs.Ids.{result_by, result_of, results}
 use Rattle.spv_module.specs.Inst.{inst_of}
 use Rattle.spv_module.specs.Kinds.{kind_of}
 use Rattle.spv_module.specs.declared.kind.Kind.{Kind}
 use Rattle.spv_module.specs.declared.kind.Kind.TheVariants.{Debug}
-use Rattle.spv_module.proofs.Behind.{no_inst}
 
 pub result_at : (ws : List ℕ) (i : ℕ) → i < length (insts ws) → get_or (results ws) i 0 ≡ result_of ws (nth_inst ws i)
 result_at ws i inside = get_or-map (result_of ws) (insts ws) i no_inst 0 inside

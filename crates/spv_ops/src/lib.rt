@@ -19,5 +19,5 @@ pub use enumerants::{
 };
 pub use op_group::{AtomicOp, OpGroup, Takes, Terminator};
 pub use opcode::Op;
-pub use operands::{IdWords, Operands, id_words, inner_op};
+pub use operands::{IdWords, Operands, id_words, inner_op, is_odd};
 pub use shape::shape_of;

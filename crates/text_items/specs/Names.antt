@@ -10,6 +10,7 @@ use Rattle.spv_module.specs.declared.tree.Elem.{Elem}
 use Rattle.spv_module.specs.declared.tree.Elem.TheVariants as elem
 use Rattle.spv_types.specs.Tree as shape
 use Rattle.spv_types.specs.Types.{type_tree, elem_of}
+use Rattle.op_semantics.specs.Value.{not_extended}
 use Rattle.profile_rules.specs.Constants.{inner_operands, inner_literals}
 use Rattle.name_alloc.specs.declared.claims.Key.{Key}
 use Rattle.name_alloc.specs.declared.claims.Key.TheVariants.{Block, Member}
@@ -61,7 +62,7 @@ inner_opcode g = inner_of (slice_index g.args 0)
 -- the expression of an operation of constants, where keys and ids have these names
 abbrev pub calculated_by : Source → Naming → (ℕ → Text) → Inst → List ℕ → Op → Expr
 calculated_by s keys ids g args op =
-    lowered_vector keys op 0 (shape_at s g.ty) (inner_literals op args) (map (operand s ids) (inner_operands op args))
+    lowered_vector keys op not_extended (shape_at s g.ty) (inner_literals op args) (map (operand s ids) (inner_operands op args))
 
 -- where there is no operation, it is a zero
 abbrev pub calculated_with : Source → Naming → (ℕ → Text) → Inst → Expr

@@ -15,6 +15,7 @@ use constant_text::{Reading, Readings, scalar_type};
 use glsl_ast::{Expr, Literal};
 use int_lowering::{Arg, basic_type, literal};
 use name_alloc::Names;
+use op_semantics::NOT_EXTENDED;
 use spv_module::{Elem, Id, Inst, Shape};
 use spv_ops::{Op, inner_op};
 use spv_words::Memory;
@@ -124,7 +125,7 @@ fn calculated_by(
     let literals = inner_literals(op, words);
     let args = operands(alloc, readings, names, ids)?;
     let shape = shape_at(alloc, readings.module(), inst.ty)?;
-    lower_vector(alloc, op, 0, shape, args, literals, names)
+    lower_vector(alloc, op, NOT_EXTENDED, shape, args, literals, names)
 }
 
 /// The expression of a calculated constant. Where there is no operation, it is a zero.

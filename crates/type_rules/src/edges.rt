@@ -1,13 +1,12 @@
 // The edges between the blocks of a function.
 ghost use Rattle.std.specs.Prelude.{◌≡◌, ◌==◌, ◌&&◌, ◌||◌, ◌++◌, ◌∷◌, [], ◌<◌, true, IfOk, OnOk, is_some, length};
-ghost use Rattle.spv_module.specs.Counts.{is_odd as is_odd_place};
 ghost use Rattle.spv_index.specs.Locals.{block_in};
 ghost use Rattle.profile_rules.specs.FlowRules.{is_target as is_target_of, goes, goes_to};
 ghost use Rattle.type_rules.specs.Edges.{list_of, sources_of, ends_at as ends_at_place, with_source, IsAddedAt, AreEmpty, AreSources, Adds};
 
 use spv_index::Locals;
 use spv_module::{Block, Function, Inst};
-use spv_ops::Op;
+use spv_ops::{Op, is_odd};
 use std::alloc::{AllocError, Global};
 use std::marker::Model;
 use std::slice::from_ref;
@@ -66,12 +65,6 @@ const TARGET_LABEL: usize = 0;
 const TRUE_LABEL: usize = 1;
 
 const FALSE_LABEL: usize = 2;
-
-fn is_odd(k: usize) -> bool
-    ensures { result ≡ is_odd_place k }
-{
-    k % 2 == 1
-}
 
 /// Whether operand k is a label to which an instruction goes.
 fn is_target(op: Op, k: usize) -> bool

@@ -5,7 +5,7 @@ ghost use Rattle.profile_rules.specs.NumberRules.{are_unlike_ints as are_unlike,
 ghost use Rattle.type_rules.specs.Scopes.{types, scalars, scalars_of};
 ghost use Rattle.std.specs.List.{list_any};
 
-use crate::scope::Scope;
+use crate::scope::{NO_SCALAR, Scope};
 use spv_module::Inst;
 use spv_ops::Op;
 
@@ -73,7 +73,7 @@ fn are_unlike_ints(scope: &Scope, ty: u32, ids: &[u32]) -> bool
     ensures { result ≡ are_unlike scope.now.m.globals (types scope.now) ty ids.now }
 {
     match scope.count(Op::TypeInt, ty) {
-        Some(n) => n == 0 || has_count_unlike(scope, Op::TypeInt, n, ty, ids),
+        Some(n) => n == NO_SCALAR || has_count_unlike(scope, Op::TypeInt, n, ty, ids),
         None => false,
     }
 }
@@ -90,7 +90,7 @@ pub fn is_comparison_broken(scope: &Scope, inst: &Inst) -> bool
     ensures { result ≡ breaks_t14 scope.now.m.globals (types scope.now) inst.now }
 {
     match scope.count(Op::TypeBool, inst.ty) {
-        Some(n) => n == 0 || has_other_count(scope, Op::TypeInt, n, inst.args.as_slice()),
+        Some(n) => n == NO_SCALAR || has_other_count(scope, Op::TypeInt, n, inst.args.as_slice()),
         None => false,
     }
 }
@@ -100,7 +100,7 @@ pub fn is_logical_broken(scope: &Scope, inst: &Inst) -> bool
     ensures { result ≡ breaks_t15 scope.now.m.globals (types scope.now) inst.now }
 {
     match scope.count(Op::TypeBool, inst.ty) {
-        Some(n) => n == 0
+        Some(n) => n == NO_SCALAR
             || has_count_unlike(scope, Op::TypeBool, n, inst.ty, inst.args.as_slice()),
         None => false,
     }
@@ -109,7 +109,7 @@ pub fn is_logical_broken(scope: &Scope, inst: &Inst) -> bool
 fn is_no_bool_vector(scope: &Scope, id: u32) -> bool
     ensures { result ≡ is_none scope.now.m.globals (types scope.now) id }
 {
-    scope.value_fails(Op::TypeVector, id) || scope.count_of(Op::TypeBool, id) == Some(0)
+    scope.value_fails(Op::TypeVector, id) || scope.count_of(Op::TypeBool, id) == Some(NO_SCALAR)
 }
 
 /// T16: OpAny and OpAll.

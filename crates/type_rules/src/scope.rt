@@ -16,6 +16,9 @@ use spv_module::{Id, Inst};
 use spv_ops::Op;
 use std::marker::Model;
 
+/// The number of scalars of a kind in a type that is made of none.
+pub const NO_SCALAR: u32 = 0;
+
 /// A module, and the function in which ids are looked up, if any. Contracts see both.
 #[derive(Drop)]
 pub struct Scope<'a, 'b> {
@@ -178,8 +181,8 @@ impl<'a, 'b> Scope<'a, 'b> {
         vector_word(self.type_row(ty)?, 1)
     }
 
-    /// How many scalars that this opcode declares a scalar or vector type is made of, and 0 of every
-    /// other type.
+    /// How many scalars that this opcode declares a scalar or vector type is made of, and `NO_SCALAR`
+    /// of every other type.
     #[inline(always)]
     pub fn count(&self, op: Op, ty: u32) -> Option<u32>
         ensures { result ≡ scalars op self.now ty }
@@ -187,7 +190,11 @@ impl<'a, 'b> Scope<'a, 'b> {
         let row = self.type_row(ty)?;
         if row.op == Op::TypeVector {
             let part = self.type_row(row.operand(0))?;
-            Some(if part.op == op { row.operand(1) } else { 0 })
+            Some(if part.op == op {
+                row.operand(1)
+            } else {
+                NO_SCALAR
+            })
         } else {
             Some(u32::from(row.op == op))
         }

@@ -4,7 +4,7 @@ ghost use Rattle.profile_rules.specs.NumberRules.{has_other_size as has_another_
 ghost use Rattle.type_rules.specs.Scopes.{types};
 
 use crate::numbers::is_not;
-use crate::scope::Scope;
+use crate::scope::{NO_SCALAR, Scope};
 use spv_module::Inst;
 use spv_ops::Op;
 
@@ -19,7 +19,8 @@ fn is_no_condition(scope: &Scope, ty: u32, condition: u32) -> bool
     ensures { result ≡ is_none scope.now.m.globals ty condition }
 {
     match scope.count(Op::TypeBool, condition) {
-        Some(n) => n == 0 || (scope.fails(Op::TypeBool, condition) && has_other_size(scope, ty, n)),
+        Some(n) => n == NO_SCALAR
+            || (scope.fails(Op::TypeBool, condition) && has_other_size(scope, ty, n)),
         None => false,
     }
 }

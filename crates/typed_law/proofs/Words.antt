@@ -4,7 +4,7 @@ use Rattle.std.specs.Prelude.{◌⊎◌, ◌-◌, find, nat_le, nat_lt, unwrap_o
 use Rattle.std.specs.Option.{option_map_or}
 use Rattle.std.proofs.lemmas.Bool.Decides.{eqb_tells, nat_tests}
 use Rattle.std.proofs.lemmas.Bool.{and_from, false_from_ne_true, not-false, or_right as or_right_on}
-use Rattle.spv_words.specs.Words.{insts, nth_inst, slice, is_at_fault}
+use Rattle.spv_words.specs.Words.{insts, no_inst, nth_inst, slice, is_at_fault}
 use Rattle.spv_words.specs.declared.rule.Rule.TheVariants.{T1}
 use Rattle.spv_words.specs.declared.words.Inst1.{Inst1}
 use Rattle.spv_ops.specs.Opcode.{number, op_of}
@@ -312,15 +312,12 @@ found_param (q ∷ ps) p stands alone = by_test (q.0.0 == p.0.0) (eqb_tells q.0.
     by_test false (inr w) (inr there) later = later there
 
 module _ (ws : List ℕ) (entry : Option (List ℕ)) (right : BreakNone ws entry) where
-  abbrev nowhere : Inst1
-  nowhere = record { opcode = 0; start = 0; len = 0 }
-
   of_all : (x : Inst1) → IsOne x (insts ws) → (kind_of ws x ≡ Debug → ⊥) → IsFormed (inst_of ws x)
   of_all x one is_there =
       formed ws x (none_found (is_at_fault (length ws)) (insts ws) x right.uncut one)
-      (by_place (λ y. is_unknown ws y ≡ false) nowhere (insts ws) (λ k less. false_from_ne_true (is_unknown ws (nth_inst ws k)) (λ on. right.form.0 (nth_inst ws k).start (k, less, refl, on))) x one)
-      (by_place (λ y. is_misfit ws y ≡ false) nowhere (insts ws) (λ k less. false_from_ne_true (is_misfit ws (nth_inst ws k)) (λ on. right.form.1.0 (nth_inst ws k).start (k, less, refl, on))) x one)
-      (by_place (λ y. HasIdOut ws y → ⊥) nowhere (insts ws) (λ k less out. right.form.1.1.0 (nth_inst ws k).start (k, less, refl, inl out)) x one) is_there
+      (by_place (λ y. is_unknown ws y ≡ false) no_inst (insts ws) (λ k less. false_from_ne_true (is_unknown ws (nth_inst ws k)) (λ on. right.form.0 (nth_inst ws k).start (k, less, refl, on))) x one)
+      (by_place (λ y. is_misfit ws y ≡ false) no_inst (insts ws) (λ k less. false_from_ne_true (is_misfit ws (nth_inst ws k)) (λ on. right.form.1.0 (nth_inst ws k).start (k, less, refl, on))) x one)
+      (by_place (λ y. HasIdOut ws y → ⊥) no_inst (insts ws) (λ k less out. right.form.1.1.0 (nth_inst ws k).start (k, less, refl, inl out)) x one) is_there
 
   apart : AreDistinct (results ws)
   apart = distinct ws right.form.1.1.0

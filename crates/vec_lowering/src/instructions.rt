@@ -146,7 +146,7 @@ fn write_operation(
 /// OpCompositeConstruct, OpVectorShuffle and OpCopyLogical as constructors; OpCompositeExtract and OpVectorExtractDynamic as
 /// selections; OpSelect by one bool of any shape.
 ///
-/// `op` is the opcode, `ext`, of OpExtInst, the number in GLSL.std.450, and `extra` the literals of the instruction. A struct and
+/// `op` is the opcode, `ext`, of OpExtInst, the number in GLSL.std.450 (`NOT_EXTENDED` of another), and `extra` the literals of the instruction. A struct and
 /// a member have the names of their keys. An operand that is not there counts as `0u`, and of an opcode that is none of these
 /// operations the expression is a zero. A struct in the shape has fewer than 2^32 members. There is an error only for want of memory.
 #[inline(always)]

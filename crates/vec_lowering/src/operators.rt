@@ -1,10 +1,10 @@
 // The operations on scalars and vectors that are one operator.
 ghost use Rattle.std.specs.Prelude.{◌≡◌, ◌∷◌, []};
-ghost use Rattle.op_semantics.specs.Value.{operation_of as operation_by};
+ghost use Rattle.op_semantics.specs.Value.{not_extended, operation_of as operation_by};
 ghost use Rattle.vec_lowering.specs.Operators as operators;
 
 use int_lowering::{BasicType, Operator, arithmetic_operator, comparison_operator, operation};
-use op_semantics::Operation;
+use op_semantics::{NOT_EXTENDED, Operation};
 use spv_ops::Op;
 
 /// The operator that an operation is written with, by the type of its result.
@@ -27,7 +27,7 @@ fn operator_of(operation: Operation, ty: BasicType) -> Option<Operator>
 /// any other instruction.
 #[inline(always)]
 pub fn operator(op: Op, ty: BasicType) -> Option<Operator>
-    ensures { result ≡ operators.operator_if_any (operation_by op (0 ∷ [])) ty }
+    ensures { result ≡ operators.operator_if_any (operation_by op (not_extended ∷ [])) ty }
 {
-    operator_of(operation(op, 0)?, ty)
+    operator_of(operation(op, NOT_EXTENDED)?, ty)
 }

@@ -3,7 +3,7 @@ use Rattle.std.proofs.Common.{◌≡◌, ◌<◌, ◌+◌, ◌==◌, ◌&&◌, n
 use Rattle.std.specs.Prelude.{◌⊎◌, flat_map, slice_index_or, unwrap_or}
 use Rattle.std.specs.Option.{option_map_or}
 use Rattle.std.proofs.lemmas.Bool.{false_from_ne_true}
-use Rattle.spv_words.specs.Words.{words, insts, nth_inst}
+use Rattle.spv_words.specs.Words.{words, insts, no_inst, nth_inst}
 use Rattle.spv_words.specs.declared.rule.Rule.TheVariants.{P1, P4}
 use Rattle.spv_words.specs.declared.words.Inst1.{Inst1}
 use Rattle.spv_ops.specs.Opcode.{number, op_of}
@@ -27,7 +27,6 @@ use Rattle.spv_module.specs.Form.{after, is_stray, is_function, are_blocks}
 use Rattle.spv_module.specs.Broken.{IsUnbroken}
 use Rattle.spv_module.specs.Lists.{with_inst, block_insts, block, with_block, blocks, function, with_function, functions_from, functions}
 use Rattle.spv_module.specs.State.{ModuleState}
-use Rattle.spv_module.proofs.Behind.{no_inst}
 use Rattle.spv_index.specs.Locals.{insts_of}
 use Rattle.module_check.specs.ReadFrom.{IsReadFrom}
 use Rattle.list_law.proofs.Tests.{no_flip, and_off}

@@ -4,7 +4,7 @@ use Rattle.std.specs.Prelude.{slice_get, slice_index_or, unwrap_or}
 use Rattle.std.specs.Option.{option_map_or}
 use Rattle.std.specs.List.{position_from}
 use Rattle.std.proofs.lemmas.Bool.{false_from_ne_true}
-use Rattle.spv_words.specs.Words.{words, insts, nth_inst, is_at_fault}
+use Rattle.spv_words.specs.Words.{words, insts, no_inst, nth_inst, is_at_fault}
 use Rattle.spv_words.specs.declared.words.Inst1.{Inst1}
 use Rattle.spv_ops.specs.Opcode.{number, op_of}
 use Rattle.spv_ops.specs.Shape.{shape, count_of}
@@ -20,7 +20,6 @@ use Rattle.spv_module.specs.Counts.{is_unknown, is_misfit}
 use Rattle.spv_module.specs.Ids.{result_by, result_of, HasIdOut}
 use Rattle.spv_module.specs.State.{ModuleState}
 use Rattle.spv_module.specs.Lists.{block, with_block, blocks, function, with_function, functions_from, functions}
-use Rattle.spv_module.proofs.Behind.{no_inst}
 use Rattle.spv_index.specs.Locals.{block_in}
 use Rattle.conformance.specs.Rules.{Options}
 use Rattle.module_check.specs.Judged.{IsFine}

@@ -5,4 +5,4 @@ use Rattle.name_alloc.specs.Given.{AreSkipping, AreGiven, taken_of, name_at}
 use Rattle.name_alloc.proofs.naming.names.Given as goal
 
 abbrev pub invariant-loop-claimed : goal.invariant-loop-claimed
-invariant-loop-claimed l = AreSkipping l.spaces × AreGiven l.spaces l.places × ((key : Key) → names_from (taken_of l.spaces) (name_at l.spaces l.places) (drop l.claimed-index l.claims) key ≡ name_of l.claims key)
+invariant-loop-claimed l = AreSkipping l.spaces × AreGiven l.spaces l.names.items l.places × ((key : Key) → names_from (taken_of l.spaces) (name_at l.names.items l.places) (drop l.claimed-index l.claims) key ≡ name_of l.claims key)

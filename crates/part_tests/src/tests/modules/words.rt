@@ -26,7 +26,8 @@ fn has_entry(words: &Words) -> bool {
         return false;
     }
     let entry = words.at(2);
-    if entry.len != 6 || entry.opcode != Op::EntryPoint.number() || entry.start != 10 {
+    let is_entry_point = entry.opcode == Op::EntryPoint.number();
+    if !is_entry_point || entry.len != 6 || entry.start != 10 {
         return false;
     }
     let name = words

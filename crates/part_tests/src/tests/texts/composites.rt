@@ -7,6 +7,7 @@ use super::names::{is_name, named};
 use glsl_ast::{Base, Expr, Extent, Name, TypeName};
 use int_lowering::Arg;
 use name_alloc::{Key, Names};
+use op_semantics::NOT_EXTENDED;
 use spv_module::{Id, Length, Shape};
 use spv_ops::Op;
 use spv_words::Memory;
@@ -39,7 +40,7 @@ fn variable(alloc: Global, name: &str, shape: Shape) -> Result<Vec<Arg>, Memory>
 // The struct %3 in the variable `v53`, made into a struct with this id.
 fn lowered(alloc: Global, names: &Names, op: Op, id: u32) -> Result<Expr, Memory> {
     let args = variable(alloc, "v53", item(alloc, 3)?)?;
-    lower_vector(alloc, op, 0, item(alloc, id)?, args, &[], names)
+    lower_vector(alloc, op, NOT_EXTENDED, item(alloc, id)?, args, &[], names)
 }
 
 fn is_struct(ty: &TypeName, wanted: &str) -> bool {
