@@ -11,8 +11,8 @@ use Rattle.glsl_grammar.specs.Reading.{glsl_read}
 use Rattle.glsl_grammar.proofs.ReadsBack.{reads_back}
 use Rattle.serde_json.specs.Data.{Data}
 use Rattle.serde_json.specs.Written.{compact_text, has_float}
-use Rattle.reflection.specs.Report.{IsReport}
-use Rattle.reflection.proofs.Floats.{no_float}
+use Rattle.text_report.specs.Report.{IsReportBy}
+use Rattle.text_report.proofs.Floats.{no_float}
 use Rattle.command_line.specs.State.{Task, prints, judges, reports, sums, runs, CommandState}
 use Rattle.command_line.specs.declared.endings.Ending.{Ending}
 use Rattle.command_line.specs.declared.endings.Ending.TheVariants.{Done, Usage, Refused, Limit, RunLimit, ReadFault, WriteFault, Memory}
@@ -68,8 +68,8 @@ glsl_answer o m u text of same = record {
 }
 
 -- the line of a report
-pub report_answer : (o : Options) (m : ModuleState) (d : Data) (line text : List ℕ) → IsReport m o d → (has_float d ≡ false → line ≡ compact_text d ++ codes "\n") → text ≡ line → IsAnswerBy reports o (Some m) text
-report_answer o m d line text report is same = (d, same ∙ is (no_float m o d report), report)
+pub report_answer : (o : Options) (m : ModuleState) (d : Data) (line text : List ℕ) → IsReportBy m o.entry (IsOfModule m o) d → (has_float d ≡ false → line ≡ compact_text d ++ codes "\n") → text ≡ line → IsAnswerBy reports o (Some m) text
+report_answer o m d line text report is same = (d, same ∙ is (no_float m o.entry (IsOfModule m o) d report), report)
 
 -- what is said of the module that was read is said of that in what was left, where that is told
 module_told : (left : Option (List ℕ)) (read : List ℕ) (P : ModuleState → Type 0) → IfSome left (λ b. read ≡ b) → P (module_in read) → IfSome (option_map module_in left) P
@@ -97,7 +97,7 @@ module _ (o : Options) (left : Option (List ℕ)) (read : List ℕ) (same : IfSo
   answer_told : (task : Task) (text : List ℕ) → IsAnswerBy task o (Some (module_in read)) text → IsAnswerBy task o (option_map module_in left) text
   answer_told prints text of = text_told text of
   answer_told judges text h = h
-  answer_told reports text (d, is, report) = (d, is, module_told left read (λ m. IsReport m o d) same report)
+  answer_told reports text (d, is, report) = (d, is, module_told left read (λ m. IsReportBy m o.entry (IsOfModule m o) d) same report)
   answer_told sums text (listing, of, is) = (listing, text_told listing of, module_told left read (λ m. text ≡ summary m listing) same is)
   answer_told (runs c) text of = run_told c text of
 

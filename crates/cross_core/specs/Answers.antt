@@ -4,7 +4,7 @@ use Rattle.spv_module.specs.State.{ModuleState}
 use Rattle.conformance.specs.Rules.{Options, module_in}
 use Rattle.serde_json.specs.Data.{Data}
 use Rattle.serde_json.specs.Written.{compact_text}
-use Rattle.reflection.specs.Report.{IsReport}
+use Rattle.text_report.specs.Report.{IsReportBy}
 use Rattle.glsl_ast.specs.Tree.{TranslationUnit}
 use Rattle.glsl_grammar.specs.Layout.{unit_text}
 use Rattle.glsl_grammar.specs.Reading.{glsl_read}
@@ -37,7 +37,7 @@ pub record IsRunText (c : CaseParts) (o : Options) (told : Option ModuleState) (
 abbrev pub IsAnswerBy : Task → Options → Option ModuleState → List ℕ → Type 0
 IsAnswerBy prints o told text = IsTextOf o told text
 IsAnswerBy judges o told text = text ≡ codes "ok\n"
-IsAnswerBy reports o told text = (d : Data) × (text ≡ compact_text d ++ codes "\n") × IfSome told (λ m. IsReport m o d)
+IsAnswerBy reports o told text = (d : Data) × (text ≡ compact_text d ++ codes "\n") × IfSome told (λ m. IsReportBy m o.entry (IsOfModule m o) d)
 IsAnswerBy sums o told text = (listing : List ℕ) × IsTextOf o told listing × IfSome told (λ m. text ≡ summary m listing)
 IsAnswerBy (runs c) o told text = IsRunText c o told text
 

@@ -21,12 +21,12 @@ use emit_glsl::translate;
 use glsl_ast::Unit;
 use glsl_print::print;
 use profile_check::Options;
-use reflection::report;
 use serde_json::Value;
 use spv_decor::Decor;
 use spv_module::Module;
 use spv_words::Fault;
 use std::alloc::{AllocError, Global};
+use text_report::report_of;
 
 /// A module that was read, its decorations, and what is asked of it.
 #[derive(Clone, Copy)]
@@ -78,7 +78,9 @@ impl<'a> Subject<'a> {
         ensures line { IfOk result (λ line. IsAnswerBy reports (asked self.now.options.now) (Some self.now.«module».now) (string_bytes line)) }
         ensures refused { IfErr result (IsFault self.now.«module».now (asked self.now.options.now)) }
     {
-        let report = report(self.alloc, self.module, self.decor, self.options)?;
+        let unit = self.tree()?;
+        let name = self.options.entry_name();
+        let report = report_of(self.alloc, &unit, self.module, self.decor, name)?;
         Ok(line_of(self.alloc, &report)?)
     }
 

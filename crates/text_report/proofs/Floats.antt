@@ -1,5 +1,5 @@
 -- A report has no number with a fraction, so that its text is determined.
-use Rattle.std.proofs.Common.{◌≡◌, ℕ, false, List, [], ◌∷◌, map, Option, None, Some, IfSome, option_map, refl}
+use Rattle.std.proofs.Common.{◌≡◌, ℕ, false, List, [], ◌∷◌, map, Option, None, Some, IfSome, option_map, refl, ◌∙◌, ap}
 use Rattle.std.specs.Prelude.{ℤ, pos, negsuc, option_and_then}
 use Rattle.std.specs.Option.{option_or}
 use Rattle.std.specs.Int.{w32, cast_signed}
@@ -22,7 +22,7 @@ use Rattle.serde_json.specs.Written.{has_float, items_have_float}
 use Rattle.text_report.specs.Sizes.{number_or_null, number_at, id_at, axes, size_data, size_ids_data}
 use Rattle.text_report.specs.Blocks.{binding_number, set_number, member_data, qualifier_data, block_data, shared_data}
 use Rattle.text_report.specs.Constants.{literal_data, default_data, declares, declared_data, is_part, part_data, spec_data, spec_by, spec}
-use Rattle.text_report.specs.Report.{report_data}
+use Rattle.text_report.specs.Report.{report_data, IsReportBy}
 
 -- the data, where there are some, have no float
 abbrev IsWhole : Option Data → Type 0
@@ -124,3 +124,6 @@ whole_report m name (translation_unit ss ds) =
     (or_from (has_float (size_ids_data ss)) _ (whole_size_ids ss)
     (or_from (items_have_float (items_of (spec m (translation_unit ss ds)))) _
     (whole_some (spec_by m (translation_unit ss ds)) (λ g. whole_then (spec_data (translation_unit ss ds)) (whole_spec (translation_unit ss ds)) (value_of m.heads g.result (decoration_number decoration.SpecId))) m.globals) refl))))
+
+pub no_float : (m : ModuleState) (name : Option Text) (IsText : TranslationUnit → Type 0) (d : Data) → IsReportBy m name IsText d → has_float d ≡ false
+no_float m name IsText d report = ap has_float report.is ∙ whole_report m name report.unit

@@ -1,5 +1,5 @@
 -- The report on a module by its text.
-use Rattle.std.specs.Prelude.{Bool, List, [], Option, Some, None, codes, drop, find}
+use Rattle.std.specs.Prelude.{◌≡◌, Bool, List, [], Option, Some, None, codes, drop, find}
 use Rattle.std.specs.Option.{option_map_or}
 use Rattle.std.specs.List.{filter_map}
 use Rattle.std.specs.Str.Lossy.{utf8_lossy}
@@ -32,3 +32,9 @@ report_data m name (translation_unit ss ds) =
     object (member (codes "blocks") (array_of (filter_map block_data ds)) (member (codes "entry") (string (entry_name name m.heads))
     (member (codes "shared") (array_of (filter_map shared_data ds)) (member (codes "size") (size_data ss) (member (codes "size_ids") (size_ids_data ss)
     (member (codes "spec") (array_of (spec m (translation_unit ss ds))) no_members))))))
+
+-- the data are the report on a module by one of these texts, for an entry point
+pub record IsReportBy (m : ModuleState) (name : Option Text) (IsText : TranslationUnit → Type 0) (data' : Data) : Type 0 where
+  pub unit : TranslationUnit
+  pub text : IsText unit
+  pub is : data' ≡ report_data m name unit
