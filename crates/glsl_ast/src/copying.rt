@@ -3,7 +3,7 @@ ghost use Rattle.std.specs.Prelude.{◌≡◌, IfOk, map};
 ghost use Rattle.glsl_ast.specs.View.{base_of, extent_of, type_of, expr_of};
 
 use crate::{Base, Expr, Extent, TypeName};
-use spv_words::Memory;
+use out_of_memory::Memory;
 use std::alloc::Global;
 
 impl Base {

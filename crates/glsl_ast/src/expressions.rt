@@ -4,7 +4,7 @@ ghost use Rattle.glsl_ast.specs.Tree.{build};
 ghost use Rattle.glsl_ast.specs.View.{name_text, expr_of, exprs_of, type_of};
 
 use crate::{Name, TypeName};
-use spv_words::Memory;
+use out_of_memory::Memory;
 use std::alloc::Global;
 
 /// A literal: `5`, `5u`, `0x00000005` or `true` (GLSL 4.60, section 4.1.3).

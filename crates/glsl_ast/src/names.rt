@@ -3,7 +3,7 @@ ghost use Rattle.std.specs.Prelude.{◌≡◌, ◌++◌, ◌∷◌, [], IfOk, by
 ghost use Rattle.glsl_ast.specs.View.{name_text};
 
 use crate::short::{ROOM, ShortText};
-use spv_words::Memory;
+use out_of_memory::Memory;
 use std::alloc::Global;
 use std::hash::{Hash, Hasher};
 use std::rc::RcStr;

@@ -8,7 +8,7 @@ use Rattle.glsl_ast.specs.Tree as tree
 use Rattle.glsl_ast.specs.Tree.{Expr}
 use Rattle.glsl_ast.specs.View.{expr_of}
 use Rattle.glsl_ast.specs.declared.expressions.Expr.{Expr as Code}
-use Rattle.spv_words.specs.declared.rule.Memory.{Memory}
+use Rattle.out_of_memory.specs.declared.Memory.{Memory}
 use Rattle.glsl_ast.specs.Height.{height, base_height}
 use Rattle.glsl_ast.specs.declared.expressions.BinOp.{BinOp}
 use Rattle.glsl_ast.specs.declared.expressions.BinOp.TheVariants.{Add, Sub, Mul, Div, Rem, Shl, Shr, And, Or, Xor, Less, LessEqual, Greater, GreaterEqual, Equal, NotEqual}

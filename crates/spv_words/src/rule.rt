@@ -4,6 +4,7 @@ ghost use Rattle.spv_words.specs.declared.rule.Fault.TheVariants.{Memory};
 ghost use Rattle.spv_words.specs.Rule.{letter_of, number_of, name_of};
 ghost use Rattle.spv_words.specs.Limit.{limit_number, limit_name};
 
+use out_of_memory::Memory;
 use std::alloc::{AllocError, AllocFailed};
 
 /// A rule of the profile.
@@ -260,22 +261,6 @@ impl Limit {
             Limit::Calls => "calls",
             Limit::Leaves => "leaves",
         }
-    }
-}
-
-/// There was no memory.
-#[derive(Clone, Copy, Debug, PartialEq, Eq)]
-pub struct Memory;
-
-impl From<AllocError> for Memory {
-    fn from(_: AllocError) -> Memory {
-        Memory
-    }
-}
-
-impl<T: Drop> From<AllocFailed<T>> for Memory {
-    fn from(_: AllocFailed<T>) -> Memory {
-        Memory
     }
 }
 

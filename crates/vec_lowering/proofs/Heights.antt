@@ -8,7 +8,7 @@ use Rattle.spv_module.specs.declared.tree.Elem.{Elem}
 use Rattle.spv_module.specs.declared.tree.Length.{Length}
 use Rattle.spv_module.specs.declared.tree.Length.TheVariants.{Fixed, Spec}
 use Rattle.spv_types.specs.Tree.{Tree, boolean, int, uint, vector, array, runtime, struct, Trees, no_trees, tree}
-use Rattle.spv_words.specs.declared.rule.Memory.{Memory}
+use Rattle.out_of_memory.specs.declared.Memory.{Memory}
 use Rattle.glsl_ast.specs.Tree as ast
 use Rattle.glsl_ast.specs.Tree.{Expr, TypeName, type_name, Extent, exprs_in}
 use Rattle.glsl_ast.specs.View.{expr_of}
